@@ -1,0 +1,10 @@
+pub mod Assembly
+pub mod ByTable
+pub mod Division
+pub mod EntryBytes
+pub mod HeaderBytes
+pub mod NameText
+pub mod Numbers
+pub mod Ranges
+pub mod Runs
+mod Vectors

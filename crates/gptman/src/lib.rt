@@ -1,0 +1,12 @@
+//! GUID partition tables that survive a crash.
+#![tactic(auto)]
+
+pub mod codec;
+pub mod crc;
+pub mod disk;
+pub mod error;
+
+pub use codec::entry::GPTPartitionEntry;
+pub use codec::header::GPTHeader;
+pub use codec::name::PartitionName;
+pub use error::{Error, Result};
