@@ -3,25 +3,15 @@ use Rattle.std.proofs.Common.{take-add, ◌≡◌, ℕ, zero, suc, ◌+◌, ◌-
 use Rattle.std.specs.List.{range_with_len}
 use Rattle.std.specs.Prelude.{slice_range, slice_index}
 use Rattle.byteorder.specs.Endian.{little_bytes}
-use Rattle.std.proofs.lemmas.List.{drop_at, drop-drop, append-nil, take_all}
+use Rattle.std.proofs.lemmas.List.{drop_at, drop-drop, append_assoc, append-nil, length-append, length-take-le, take_all, take_at, take_more}
 use Rattle.std.proofs.lemmas.List.Concat.{flat_map-append}
 use mathlib.Core.Path.{ap₂}
 use Rattle.std.proofs.lemmas.List.FromFn.{fill_by_all, map-range_with_len_more}
 use Rattle.gptman.specs.Bytes.{le, AreBytes}
-use Rattle.gptman.specs.Coding.{IsEntryCoding, units_at, entry_bytes}
+use Rattle.gptman.specs.Coding.{FitsEntry, IsEntryCoding, units_at, entry_bytes}
 use Rattle.gptman.specs.declared.codec.entry.GPTPartitionEntry.{GPTPartitionEntry}
 use Rattle.gptman.proofs.Assembly.{cells, taken_more}
 use Rattle.gptman.proofs.Numbers.{le_of, le_back}
-
--- the fields fit their types
-pub record Fits (e : GPTPartitionEntry) : Type 0 where
-  pub partition_type_guid : length e.partition_type_guid ≡ 16
-  pub unique_partition_guid : length e.unique_partition_guid ≡ 16
-  pub starting_lba : e.starting_lba < 2 ^ 64
-  pub ending_lba : e.ending_lba < 2 ^ 64
-  pub attribute_bits : e.attribute_bits < 2 ^ 64
-  pub units : length e.partition_name.units ≡ 36
-  pub unit : (k : ℕ) → slice_index e.partition_name.units k < 2 ^ 16
 
 -- the k-th unit's bytes
 unit_bytes : (us : List ℕ) (k : ℕ) → k < length us → take 2 (drop (2 * k) (flat_map (little_bytes 2) us)) ≡ little_bytes 2 (get_or us k 0)
@@ -43,6 +33,7 @@ unit_at front us k len h =
 -- the units behind a front are read back
 units_back : (front us : List ℕ) → length front ≡ 56 → length us ≡ 36 → ((k : ℕ) → slice_index us k < 2 ^ 16)
     → us ≡ units_at (front ++ flat_map (little_bytes 2) us)
+unfolding units_at
 units_back front us len size fits =
     let b : List ℕ = front ++ flat_map (little_bytes 2) us in
     fill_by_all (λ (k : ℕ). le (slice_range b (56 + 2 * k) (56 + 2 * k + 2))) us 36 0 size
@@ -83,7 +74,7 @@ front_at t q s d a rest lt lq fs fd fa =
     subst P (sym (cells t 16 lt)) (subst Q (sym (cells q 16 lq)) (front_listed (elements t) (elements q) s d a rest fs fd fa))
 
 -- an entry corresponds to its bytes
-pub spelled_corresponds : (e : GPTPartitionEntry) → Fits e → IsEntryCoding e (entry_bytes e)
+pub spelled_corresponds : (e : GPTPartitionEntry) → FitsEntry e → IsEntryCoding e (entry_bytes e)
 unfolding entry_bytes
 spelled_corresponds e fits =
     let front = front_at e.partition_type_guid e.unique_partition_guid e.starting_lba e.ending_lba e.attribute_bits
@@ -117,7 +108,7 @@ units_taken b (suc n) h bytes =
 
 -- what corresponds to an entry is its bytes
 pub spelling_is : (e : GPTPartitionEntry) (b : List ℕ) → length b ≡ 128 → AreBytes b → IsEntryCoding e b → b ≡ entry_bytes e
-unfolding entry_bytes
+unfolding entry_bytes units_at
 spelling_is e b len bytes c =
     let t1 = c.partition_type_guid in
     let t2 = taken_more b 16 16 t1 c.unique_partition_guid in
@@ -130,3 +121,15 @@ spelling_is e b len bytes c =
 -- an entry has one spelling
 pub one_spelling : (e : GPTPartitionEntry) (b c : List ℕ) → length b ≡ 128 → length c ≡ 128 → AreBytes b → AreBytes c → IsEntryCoding e b → IsEntryCoding e c → b ≡ c
 one_spelling e b c lb lc hb hc eb ec = spelling_is e b lb hb eb ∙ sym (spelling_is e c lc hc ec)
+
+-- the bytes of one unit more, behind those of the units before it
+pub units_written : (old new us : List ℕ) (k : ℕ) → take (2 * k) old ≡ flat_map (little_bytes 2) (take k us) → 2 * k + 2 ≤ length old → k < length us
+    → new ≡ take (2 * k) old ++ (little_bytes 2 (get_or us k 0) ++ drop (2 * k + 2) old) → take (2 * (k + 1)) new ≡ flat_map (little_bytes 2) (take (k + 1) us)
+units_written old new us k before room lt put =
+    let front : List ℕ = take (2 * k) old ++ little_bytes 2 (get_or us k 0) in
+    let long : length front ≡ 2 * (k + 1) = omega (arith, length-append (take (2 * k) old) (little_bytes 2 (get_or us k 0)), length-take-le (2 * k) old (omega arith)) in
+    ap (take (2 * (k + 1))) (put ∙ sym (append_assoc (take (2 * k) old) (little_bytes 2 (get_or us k 0)) (drop (2 * k + 2) old)))
+    ∙ take_at front (drop (2 * k + 2) old) (2 * (k + 1)) long
+    ∙ ap (λ (xs : List ℕ). xs ++ little_bytes 2 (get_or us k 0)) before
+    ∙ sym (ap (flat_map (little_bytes 2)) (take_more us k 0 lt) ∙ flat_map-append (little_bytes 2) (take k us) (get_or us k 0 ∷ [])
+    ∙ ap (λ (xs : List ℕ). flat_map (little_bytes 2) (take k us) ++ xs) (append-nil (little_bytes 2 (get_or us k 0))))

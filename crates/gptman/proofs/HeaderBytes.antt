@@ -4,27 +4,10 @@ use Rattle.std.specs.List.{range_with_len}
 use Rattle.std.proofs.lemmas.List.{take_all}
 use Rattle.byteorder.specs.Endian.{little_bytes}
 use Rattle.gptman.specs.Bytes.{AreBytes}
-use Rattle.gptman.specs.Coding.{IsHeaderCoding, header_bytes, header_of}
+use Rattle.gptman.specs.Coding.{FitsHeader, IsHeaderCoding, header_bytes, header_of}
 use Rattle.gptman.specs.declared.codec.header.GPTHeader.{GPTHeader}
 use Rattle.gptman.proofs.Assembly.{cells, taken_more}
 use Rattle.gptman.proofs.Numbers.{le_of, le_back}
-
--- the fields fit their types
-pub record Fits (h : GPTHeader) : Type 0 where
-  pub signature : length h.signature ≡ 8
-  pub revision : length h.revision ≡ 4
-  pub header_size : h.header_size < 2 ^ 32
-  pub crc32_checksum : h.crc32_checksum < 2 ^ 32
-  pub reserved : length h.reserved ≡ 4
-  pub primary_lba : h.primary_lba < 2 ^ 64
-  pub backup_lba : h.backup_lba < 2 ^ 64
-  pub first_usable_lba : h.first_usable_lba < 2 ^ 64
-  pub last_usable_lba : h.last_usable_lba < 2 ^ 64
-  pub disk_guid : length h.disk_guid ≡ 16
-  pub partition_entry_lba : h.partition_entry_lba < 2 ^ 64
-  pub number_of_partition_entries : h.number_of_partition_entries < 2 ^ 32
-  pub size_of_partition_entry : h.size_of_partition_entry < 2 ^ 32
-  pub partition_entry_array_crc32 : h.partition_entry_array_crc32 < 2 ^ 32
 
 -- a header whose byte fields are given element by element
 abbrev listed : GPTHeader → (ℕ → ℕ) → (ℕ → ℕ) → (ℕ → ℕ) → (ℕ → ℕ) → GPTHeader
@@ -35,7 +18,7 @@ listed h s r z g = record h {
   disk_guid = map g (range_with_len 0 16);
 }
 
-listed_corresponds : (h : GPTHeader) (s r z g : ℕ → ℕ) → Fits h → IsHeaderCoding (listed h s r z g) (header_bytes (listed h s r z g))
+listed_corresponds : (h : GPTHeader) (s r z g : ℕ → ℕ) → FitsHeader h → IsHeaderCoding (listed h s r z g) (header_bytes (listed h s r z g))
 unfolding header_bytes
 listed_corresponds h s r z g fits = record {
   signature = refl;
@@ -57,7 +40,7 @@ listed_corresponds h s r z g fits = record {
 abbrev elements : List ℕ → ℕ → ℕ
 elements xs k = get_or xs k 0
 
-listed_same : (h : GPTHeader) → Fits h → h ≡ listed h (elements h.signature) (elements h.revision) (elements h.reserved) (elements h.disk_guid)
+listed_same : (h : GPTHeader) → FitsHeader h → h ≡ listed h (elements h.signature) (elements h.revision) (elements h.reserved) (elements h.disk_guid)
 listed_same h fits =
     let s : List ℕ = map (elements h.signature) (range_with_len 0 8) in
     let r : List ℕ = map (elements h.revision) (range_with_len 0 4) in
@@ -68,7 +51,7 @@ listed_same h fits =
     ∙ ap (λ (xs : List ℕ). record h { signature = s; revision = r; reserved = z; disk_guid = xs }) (cells h.disk_guid 16 fits.disk_guid)
 
 -- a header corresponds to its bytes
-pub spelled_corresponds : (h : GPTHeader) → Fits h → IsHeaderCoding h (header_bytes h)
+pub spelled_corresponds : (h : GPTHeader) → FitsHeader h → IsHeaderCoding h (header_bytes h)
 spelled_corresponds h fits =
     let P : GPTHeader → Type 0 = λ k. IsHeaderCoding k (header_bytes k) in
     subst P (sym (listed_same h fits)) (listed_corresponds h (elements h.signature) (elements h.revision) (elements h.reserved) (elements h.disk_guid) fits)

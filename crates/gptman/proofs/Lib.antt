@@ -1,6 +1,7 @@
 pub mod Assembly
 pub mod ByTable
 pub mod Division
+pub mod Fitting
 pub mod EntryBytes
 pub mod HeaderBytes
 pub mod NameText

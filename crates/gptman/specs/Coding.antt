@@ -1,5 +1,5 @@
 -- A header and an entry as bytes: numbers are little endian, and each field stands at its place.
-use Rattle.std.specs.Prelude.{◌≡◌, ℕ, ◌+◌, ◌*◌, ◌<◌, List, [], ◌∷◌, ◌++◌, take, drop, map, flat_map, slice_range, slice_index, replicate, encode_utf8_all}
+use Rattle.std.specs.Prelude.{◌≡◌, ℕ, ◌+◌, ◌*◌, ◌^◌, ◌<◌, List, [], ◌∷◌, ◌++◌, take, drop, map, flat_map, slice_range, slice_index, length, replicate, encode_utf8_all}
 use Rattle.std.specs.List.{range_with_len}
 use Rattle.byteorder.specs.Endian.{little_bytes}
 use Rattle.gptman.specs.Bytes.{le, part}
@@ -25,7 +25,7 @@ pub record IsHeaderCoding (h : GPTHeader) (b : List ℕ) : Type 0 where
   pub partition_entry_array_crc32 : h.partition_entry_array_crc32 ≡ le (slice_range b 88 92)
 
 -- the 36 units of two bytes from byte 56 on
-abbrev pub units_at : List ℕ → List ℕ
+unfoldable pub units_at : List ℕ → List ℕ
 units_at b = map (λ k. le (slice_range b (56 + 2 * k) (56 + 2 * k + 2))) (range_with_len 0 36)
 
 -- the same for an entry; of the name only the units
@@ -100,3 +100,30 @@ empty_entry = record {
   attribute_bits = 0;
   partition_name = record { text = []; units = replicate 36 0 };
 }
+
+-- each field of the header is a value of its type
+pub record FitsHeader (h : GPTHeader) : Type 0 where
+  pub signature : length h.signature ≡ 8
+  pub revision : length h.revision ≡ 4
+  pub header_size : h.header_size < 2 ^ 32
+  pub crc32_checksum : h.crc32_checksum < 2 ^ 32
+  pub reserved : length h.reserved ≡ 4
+  pub primary_lba : h.primary_lba < 2 ^ 64
+  pub backup_lba : h.backup_lba < 2 ^ 64
+  pub first_usable_lba : h.first_usable_lba < 2 ^ 64
+  pub last_usable_lba : h.last_usable_lba < 2 ^ 64
+  pub disk_guid : length h.disk_guid ≡ 16
+  pub partition_entry_lba : h.partition_entry_lba < 2 ^ 64
+  pub number_of_partition_entries : h.number_of_partition_entries < 2 ^ 32
+  pub size_of_partition_entry : h.size_of_partition_entry < 2 ^ 32
+  pub partition_entry_array_crc32 : h.partition_entry_array_crc32 < 2 ^ 32
+
+-- each field of the entry is
+pub record FitsEntry (e : GPTPartitionEntry) : Type 0 where
+  pub partition_type_guid : length e.partition_type_guid ≡ 16
+  pub unique_partition_guid : length e.unique_partition_guid ≡ 16
+  pub starting_lba : e.starting_lba < 2 ^ 64
+  pub ending_lba : e.ending_lba < 2 ^ 64
+  pub attribute_bits : e.attribute_bits < 2 ^ 64
+  pub units : length e.partition_name.units ≡ 36
+  pub unit : (k : ℕ) → slice_index e.partition_name.units k < 2 ^ 16

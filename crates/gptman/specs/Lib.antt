@@ -1,7 +1,15 @@
 pub mod Bytes
+pub mod Calls
 pub mod Coding
+pub mod Copy
 pub mod Crc
 pub mod Disk
 pub mod Fault
+pub mod Fit
+pub mod Layout
 pub mod Name
+pub mod Reading
 pub mod Register
+pub mod Stop
+pub mod Table
+pub mod Write

@@ -5,8 +5,12 @@ pub mod codec;
 pub mod crc;
 pub mod disk;
 pub mod error;
+pub mod header;
+pub mod table;
 
 pub use codec::entry::GPTPartitionEntry;
 pub use codec::header::GPTHeader;
 pub use codec::name::PartitionName;
+pub use disk::Disk;
 pub use error::{Error, Result};
+pub use table::GPT;

@@ -3,7 +3,7 @@
 ghost use Rattle.std.specs.Prelude.{◌≡◌, ℕ, ◌^◌, ◌<◌, [], length, flat_map, slice_index, IfOk, IfErr};
 ghost use Rattle.byteorder.specs.Endian.{little_bytes};
 ghost use Rattle.gptman.specs.Bytes.{AreBytes};
-ghost use Rattle.gptman.specs.Coding.{IsEntryCoding, HasReadName, units_at, entry_bytes, empty_entry};
+ghost use Rattle.gptman.specs.Coding.{FitsEntry, IsEntryCoding, HasReadName, units_at, entry_bytes, empty_entry};
 ghost use Rattle.gptman.specs.Fault.{fault_of, out_of_memory};
 
 use crate::codec::cells::{note_bytes, part_at, put, put_u16, put_u64, u16_at, u64_at};
@@ -70,6 +70,7 @@ impl GPTPartitionEntry {
         ensures spelled { result ≡ entry_bytes self.now }
         ensures coding { IsEntryCoding self.now result }
         ensures bytes { AreBytes result }
+        ensures fits { FitsEntry self.now }
     {
         let mut bytes = [0; 128];
         put(&mut bytes, 0, &self.partition_type_guid);

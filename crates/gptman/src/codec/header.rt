@@ -2,7 +2,7 @@
 
 ghost use Rattle.std.specs.Prelude.{◌≡◌};
 ghost use Rattle.gptman.specs.Bytes.{AreBytes};
-ghost use Rattle.gptman.specs.Coding.{IsHeaderCoding, header_bytes};
+ghost use Rattle.gptman.specs.Coding.{FitsHeader, IsHeaderCoding, header_bytes};
 
 use crate::codec::cells::{note_bytes, part_at, put, put_u32, put_u64, u32_at, u64_at};
 
@@ -70,6 +70,7 @@ impl GPTHeader {
         ensures spelled { result ≡ header_bytes self.now }
         ensures coding { IsHeaderCoding self.now result }
         ensures bytes { AreBytes result }
+        ensures fits { FitsHeader self.now }
         ensures only { (h : GPTHeader) → IsHeaderCoding h result → h ≡ self.now }
     {
         let mut bytes = [0; 92];

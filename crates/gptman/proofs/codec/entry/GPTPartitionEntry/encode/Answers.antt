@@ -1,11 +1,11 @@
 use Rattle.std.proofs.Common.{◌≡◌, ℕ, ◌^◌, ◌<◌, ◌++◌, length, List, replicate, flat_map, slice_index, arith, refl, sym, ap, ◌∙◌, subst}
 use Rattle.byteorder.specs.Endian.{little_bytes}
-use Rattle.gptman.specs.Coding.{IsEntryCoding, entry_bytes}
+use Rattle.gptman.specs.Coding.{FitsEntry, IsEntryCoding, entry_bytes}
 use Rattle.gptman.proofs.Assembly.{written_none, written_more, written_all}
-use Rattle.gptman.proofs.EntryBytes.{Fits, front_of, spelled_corresponds}
+use Rattle.gptman.proofs.EntryBytes.{front_of, spelled_corresponds}
 use Rattle.gptman.proofs.codec.entry.GPTPartitionEntry.encode.Goals as goal
 
-fits_of : (c : goal.After-note_bytes) → Fits c.args.self.now
+fits_of : (c : goal.After-note_bytes) → FitsEntry c.args.self.now
 fits_of c =
     let e = c.args.self.now in
     let same : c.units.result.now ≡ e.partition_name.units = c.units.ensures in
@@ -35,3 +35,6 @@ returns-clause-spelled c =
 
 pub returns-clause-coding : goal.returns-clause-coding
 returns-clause-coding c = subst (IsEntryCoding c.args.self.now) (sym (returns-clause-spelled c)) (spelled_corresponds c.args.self.now (fits_of c))
+
+pub returns-clause-fits : goal.returns-clause-fits
+returns-clause-fits c = fits_of c

@@ -1,11 +1,11 @@
 use Rattle.std.proofs.Common.{replicate, arith, refl, sym, subst}
 use Rattle.byteorder.specs.Endian.{little_bytes}
-use Rattle.gptman.specs.Coding.{IsHeaderCoding, header_bytes}
+use Rattle.gptman.specs.Coding.{FitsHeader, IsHeaderCoding, header_bytes}
 use Rattle.gptman.proofs.Assembly.{written_none, written_more, written_all}
-use Rattle.gptman.proofs.HeaderBytes.{Fits, spelled_corresponds, one_header}
+use Rattle.gptman.proofs.HeaderBytes.{spelled_corresponds, one_header}
 use Rattle.gptman.proofs.codec.header.GPTHeader.encode.Goals as goal
 
-fits_of : (c : goal.After-note_bytes) → Fits c.args.self.now
+fits_of : (c : goal.After-note_bytes) → FitsHeader c.args.self.now
 fits_of c = record {
   signature = omega arith;
   revision = omega arith;
@@ -48,3 +48,6 @@ returns-clause-coding c = subst (IsHeaderCoding c.args.self.now) (sym (returns-c
 
 pub returns-clause-only : goal.returns-clause-only
 returns-clause-only c = λ h e. one_header h c.args.self.now _ e (returns-clause-coding c)
+
+pub returns-clause-fits : goal.returns-clause-fits
+returns-clause-fits c = fits_of c

@@ -1,0 +1,100 @@
+-- What the calls answer, and what they leave.
+use Rattle.std.specs.Prelude.{◌≡◌, ◌≢◌, ◌≤◌, ◌<◌, ◌⊎◌, ◌+◌, ◌*◌, ◌^◌, ℕ, Bool, true, false, List, [], length, Option, Some, None, Result, Ok, Err, IsTrue}
+use Rattle.gptman.specs.Disk.{DiskState, Rose, Wrote, overlay}
+use Rattle.gptman.specs.Bytes.{part}
+use Rattle.gptman.specs.Coding.{header_bytes, array_bytes}
+use Rattle.gptman.specs.Fault.{Fault, io, invalid_signature, invalid_revision, invalid_header_size, invalid_checksum, invalid_array_checksum, overflow, out_of_memory, invalid_entry_size, fault_of}
+use Rattle.gptman.specs.Copy.{Copy, entries_start}
+use Rattle.gptman.specs.Table.{entries_in, sealed}
+use Rattle.gptman.specs.declared.error.Error.{Error}
+use Rattle.gptman.specs.declared.codec.header.GPTHeader.{GPTHeader}
+use Rattle.gptman.specs.declared.codec.entry.GPTPartitionEntry.{GPTPartitionEntry}
+use Rattle.gptman.specs.declared.table.GPT.{GPT}
+
+-- the answer, with what f sees of a value and with the kind of an error
+abbrev pub answer_of : {T A : Type 0} → (T → A) → Result T Error → Result A Fault
+answer_of f (Ok x) = Ok (f x)
+answer_of f (Err e) = Err (fault_of e)
+
+-- the refusal alone
+abbrev pub refusal_of : {T : Type 0} → Result T Error → Option Fault
+refusal_of (Ok x) = None
+refusal_of (Err e) = Some (fault_of e)
+
+-- it is this refusal
+abbrev pub Refuses : {T : Type 0} → Result T Error → Fault → Type 0
+Refuses (Ok x) fault = ⊥
+Refuses (Err e) fault = fault_of e ≡ fault
+
+-- it refuses, if at all, with one of these
+abbrev pub RefusesOnly : {T : Type 0} → (Fault → Bool) → Result T Error → Type 0
+RefusesOnly p (Ok x) = Unit {0}
+RefusesOnly p (Err e) = IsTrue (p (fault_of e))
+
+-- the disk failed, and the answer says so
+abbrev pub Fails : {T : Type 0} → Result T Error → DiskState → DiskState → Type 0
+Fails result old new = Refuses result io × Rose old new
+
+-- The answer is this refusal, or Ok where there is none; or the disk failed.
+abbrev pub Settles : {T : Type 0} → Option Fault → Result T Error → DiskState → DiskState → Type 0
+Settles fault result old new = (refusal_of result ≡ fault) ⊎ Fails result old new
+
+-- what reading a header may refuse with
+abbrev pub is_header_fault : Fault → Bool
+is_header_fault io = true
+is_header_fault invalid_signature = true
+is_header_fault invalid_revision = true
+is_header_fault invalid_header_size = true
+is_header_fault (invalid_checksum stored computed) = true
+is_header_fault _ = false
+
+-- what reading the entries may refuse with
+abbrev pub is_array_fault : Fault → Bool
+is_array_fault io = true
+is_array_fault overflow = true
+is_array_fault out_of_memory = true
+is_array_fault (invalid_entry_size size) = true
+is_array_fault (invalid_array_checksum stored computed) = true
+is_array_fault _ = false
+
+-- On an honest disk, calls that only read.
+pub record OnlyRead (old new : DiskState) : Type 0 where
+  pub view : new.view ≡ old.view
+  pub pending : new.pending ≡ old.pending
+  pub wrote : Wrote [] old new
+
+-- nothing was written
+pub record Untouched (old new : DiskState) : Type 0 where
+  pub view : new.view ≡ old.view
+  pub pending : new.pending ≡ old.pending
+
+-- the copy that a value stands for
+abbrev pub copy_of : GPT → Copy
+copy_of g = record { header = g.header; entries = entries_in g }
+
+-- at most the checksums differ
+abbrev pub SameButSums : GPTHeader → GPTHeader → Type 0
+SameButSums old new = new ≡ record old { crc32_checksum = new.crc32_checksum; partition_entry_array_crc32 = new.partition_entry_array_crc32 }
+
+-- the value with its checksums made
+abbrev pub sealed_value : GPT → GPT
+sealed_value g = record g { header = sealed g.header (entries_in g) }
+
+-- what a block of so many bytes may be refused with: there is no memory, or the disk failed or ends before
+abbrev pub IsBlockFault : ℕ → Fault → DiskState → DiskState → Type 0
+IsBlockFault len fault old new = (fault ≡ out_of_memory) ⊎ ((fault ≡ io) × (Rose old new ⊎ (old.size < old.position + len)))
+
+-- what going to the entries may be refused with: their size or their place is wrong, or the disk failed
+abbrev pub IsSeekFault : GPTHeader → ℕ → Fault → DiskState → DiskState → Type 0
+IsSeekFault h ss fault old new =
+    ((fault ≡ invalid_entry_size h.size_of_partition_entry) × (h.size_of_partition_entry ≢ 128))
+    ⊎ (((fault ≡ overflow) × (h.size_of_partition_entry ≡ 128) × (2 ^ 64 ≤ entries_start h ss)) ⊎ ((fault ≡ io) × Rose old new))
+
+-- new is old with the header's bytes laid over it, and then those of the entries
+abbrev pub IsCopyLaid : GPTHeader → List GPTPartitionEntry → ℕ → List ℕ → List ℕ → Type 0
+IsCopyLaid h es ss old new = new ≡ overlay (overlay old (h.primary_lba * ss) (header_bytes h)) (h.partition_entry_lba * ss) (array_bytes es)
+
+-- The view has the bytes of a header and of its entries in their places.
+pub record HasBytes (b : List ℕ) (h : GPTHeader) (es : List GPTPartitionEntry) (ss : ℕ) : Type 0 where
+  pub header : part b (h.primary_lba * ss) 92 ≡ header_bytes h
+  pub entries : part b (h.partition_entry_lba * ss) (length (array_bytes es)) ≡ array_bytes es

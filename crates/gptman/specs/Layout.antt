@@ -1,0 +1,72 @@
+-- The stated layout of a disk, and where a table stands in it.
+use Rattle.std.specs.Prelude.{◌≡◌, ◌≤◌, ◌<◌, ◌⊎◌, ◌+◌, ◌-◌, ◌*◌, ◌/◌, ◌^◌, ℕ, List, [], ◌∷◌, ◌++◌, length, get_or, min, max, Ok}
+use Rattle.gptman.specs.Copy.{Copy, right_signature, right_revision}
+use Rattle.gptman.specs.Reading.{Place, primary, backup, place_start, copy_in}
+use Rattle.gptman.specs.Table.{Table, IsForm, IsHeaderForm}
+use Rattle.gptman.specs.declared.codec.header.GPTHeader.{GPTHeader}
+
+-- where the entries of a table in the form of a place begin
+abbrev pub array_start : Place → Table → ℕ → ℕ
+array_start primary t ss = 2 * ss
+array_start backup t ss = (t.last_usable_lba + 1) * ss
+
+-- The two ranges of a table at a place of a disk of len bytes, each a start and a length: its header, its entries.
+abbrev pub ranges_at : Place → Table → ℕ → ℕ → List (ℕ × ℕ)
+ranges_at place t ss len = (place_start place len ss, 92) ∷ (array_start place t ss, 128 * t.count) ∷ []
+
+-- all four
+abbrev pub four_ranges : Table → ℕ → ℕ → List (ℕ × ℕ)
+four_ranges t ss len = ranges_at primary t ss len ++ ranges_at backup t ss len
+
+-- k is in one of the ranges
+abbrev pub Inside : List (ℕ × ℕ) → ℕ → Type 0
+Inside [] k = ⊥
+Inside (r ∷ ranges) k = ((r.0 ≤ k) × (k < r.0 + r.1)) ⊎ Inside ranges k
+
+-- Two byte lists of one length are the same in the ranges.
+pub record AgreesIn (ranges : List (ℕ × ℕ)) (a b : List ℕ) : Type 0 where
+  pub long : length b ≡ length a
+  pub same : (k : ℕ) → Inside ranges k → get_or b k 0 ≡ get_or a k 0
+
+-- two ranges have no byte in common
+abbrev pub IsApart : ℕ × ℕ → ℕ × ℕ → Type 0
+IsApart r s = (r.1 ≡ 0) ⊎ ((s.1 ≡ 0) ⊎ ((r.0 + r.1 ≤ s.0) ⊎ (s.0 + s.1 ≤ r.0)))
+
+abbrev pub IsApartFromAll : ℕ × ℕ → List (ℕ × ℕ) → Type 0
+IsApartFromAll r [] = Unit {0}
+IsApartFromAll r (s ∷ ranges) = IsApart r s × IsApartFromAll r ranges
+
+-- no two of them have a byte in common
+abbrev pub AreApart : List (ℕ × ℕ) → Type 0
+AreApart [] = Unit {0}
+AreApart (r ∷ ranges) = IsApartFromAll r ranges × AreApart ranges
+
+-- each lies on a disk of that length; a range of no bytes does
+abbrev pub AreInside : List (ℕ × ℕ) → ℕ → Type 0
+AreInside [] len = Unit {0}
+AreInside (r ∷ ranges) len = ((r.1 ≡ 0) ⊎ (r.0 + r.1 ≤ len)) × AreInside ranges len
+
+-- The stated layout, of a table and hence of both its forms.
+pub record IsLaidOut (t : Table) (ss len : ℕ) : Type 0 where
+  pub sector : 92 ≤ ss
+  pub signature : t.signature ≡ right_signature
+  pub revision : t.revision ≡ right_revision
+  pub header_size : t.header_size ≡ 92
+  pub entry_size : t.entry_size ≡ 128
+  pub entries : length t.entries ≡ t.count
+  pub low_sector : t.low_sector ≡ min 1 (len / ss - 1)
+  pub high_sector : t.high_sector ≡ max 1 (len / ss - 1)
+  pub inside : AreInside (four_ranges t ss len) len
+  pub apart : AreApart (four_ranges t ss len)
+  pub fits : t.last_usable_lba + 1 < 2 ^ 64
+
+-- The stated layout of a header's table, with the header in one of the two forms.
+pub record HasLayout (h : GPTHeader) (t : Table) (ss len : ℕ) : Type 0 where
+  pub table : IsLaidOut t ss len
+  pub form : IsHeaderForm primary h ⊎ IsHeaderForm backup h
+
+-- The copy at that place is accepted and is the table in that place's form.
+pub record Holds (b : List ℕ) (ss : ℕ) (place : Place) (t : Table) : Type 0 where
+  pub copy : Copy
+  pub accepted : copy_in place b ss ≡ Ok copy
+  pub form : IsForm place t copy

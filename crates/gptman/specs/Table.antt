@@ -1,0 +1,103 @@
+-- What a table is, whichever of its two forms one looks at.
+use Rattle.std.specs.Prelude.{◌≡◌, ◌⊎◌, ◌+◌, ◌&&◌, ◌||◌, ℕ, Bool, true, not, List, [], ◌∷◌, length, map, min, max, filter, nat_eq, nat_le, nat_lt, bytes_eq, IsTrue, Option, encode_utf8_all, if◌then◌else◌}
+use Rattle.std.specs.List.{list_all, list_any}
+use Rattle.gptman.specs.Name.{text_of}
+use Rattle.gptman.specs.Coding.{header_bytes, array_bytes}
+use Rattle.gptman.specs.Crc.{crc_of}
+use Rattle.gptman.specs.Copy.{Copy, header_crc}
+use Rattle.gptman.specs.Reading.{Place, primary, backup}
+use Rattle.gptman.specs.declared.codec.header.GPTHeader.{GPTHeader}
+use Rattle.gptman.specs.declared.codec.entry.GPTPartitionEntry.{GPTPartitionEntry}
+use Rattle.gptman.specs.declared.table.GPT.{GPT}
+
+-- an entry, without the text that its name has in memory
+pub record TableEntry : Type 0 where
+  pub partition_type_guid : List ℕ
+  pub unique_partition_guid : List ℕ
+  pub starting_lba : ℕ
+  pub ending_lba : ℕ
+  pub attribute_bits : ℕ
+  pub units : List ℕ
+
+-- A table, without what its two forms differ in and without checksums. The sectors of its headers are a pair in no order, kept with the lower first.
+pub record Table : Type 0 where
+  pub signature : List ℕ
+  pub revision : List ℕ
+  pub header_size : ℕ
+  pub reserved : List ℕ
+  pub low_sector : ℕ
+  pub high_sector : ℕ
+  pub first_usable_lba : ℕ
+  pub last_usable_lba : ℕ
+  pub disk_guid : List ℕ
+  pub count : ℕ
+  pub entry_size : ℕ
+  pub entries : List TableEntry
+
+abbrev pub content_of : GPTPartitionEntry → TableEntry
+content_of e = record {
+  partition_type_guid = e.partition_type_guid;
+  unique_partition_guid = e.unique_partition_guid;
+  starting_lba = e.starting_lba;
+  ending_lba = e.ending_lba;
+  attribute_bits = e.attribute_bits;
+  units = e.partition_name.units;
+}
+
+-- the table of a header and entries
+abbrev pub table_of : GPTHeader → List GPTPartitionEntry → Table
+table_of h es = record {
+  signature = h.signature;
+  revision = h.revision;
+  header_size = h.header_size;
+  reserved = h.reserved;
+  low_sector = min h.primary_lba h.backup_lba;
+  high_sector = max h.primary_lba h.backup_lba;
+  first_usable_lba = h.first_usable_lba;
+  last_usable_lba = h.last_usable_lba;
+  disk_guid = h.disk_guid;
+  count = h.number_of_partition_entries;
+  entry_size = h.size_of_partition_entry;
+  entries = map content_of es;
+}
+
+-- the entries of a value, in order
+abbrev pub entries_in : GPT → List GPTPartitionEntry
+entries_in g = g.partitions
+
+-- the table of a value
+abbrev pub table_in : GPT → Table
+table_in g = table_of g.header (entries_in g)
+
+-- A header stands in this form: in sector 1 with its entries from sector 2, or in the other sector with its entries behind the last usable one.
+abbrev pub IsHeaderForm : Place → GPTHeader → Type 0
+IsHeaderForm primary h = (h.primary_lba ≡ 1) × (h.partition_entry_lba ≡ 2)
+IsHeaderForm backup h = (h.backup_lba ≡ 1) × (h.partition_entry_lba ≡ h.last_usable_lba + 1)
+
+-- the copy is the table in the form of that place
+pub record IsForm (place : Place) (t : Table) (copy : Copy) : Type 0 where
+  pub table : table_of copy.header copy.entries ≡ t
+  pub form : IsHeaderForm place copy.header
+
+-- an entry as it is read back: its text is that of its units
+abbrev pub entry_in : TableEntry → GPTPartitionEntry
+entry_in e = record {
+  partition_type_guid = e.partition_type_guid;
+  unique_partition_guid = e.unique_partition_guid;
+  starting_lba = e.starting_lba;
+  ending_lba = e.ending_lba;
+  attribute_bits = e.attribute_bits;
+  partition_name = record { text = encode_utf8_all (text_of e.units); units = e.units };
+}
+
+-- a header with both checksums made for these entries
+unfoldable pub sealed : GPTHeader → List GPTPartitionEntry → GPTHeader
+sealed h es =
+    let summed : GPTHeader = record h { partition_entry_array_crc32 = crc_of (array_bytes es) } in
+    record summed { crc32_checksum = header_crc (header_bytes summed) }
+
+-- The header size is 92, and the list of entries is as the header says.
+pub record IsCoherent (h : GPTHeader) (es : List GPTPartitionEntry) : Type 0 where
+  pub header_size : h.header_size ≡ 92
+  pub count : length es ≡ h.number_of_partition_entries
+  pub entry_size : (h.size_of_partition_entry ≡ 128) ⊎ (h.number_of_partition_entries ≡ 0)
