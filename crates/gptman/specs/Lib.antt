@@ -2,6 +2,9 @@ pub mod Bytes
 pub mod Coding
 pub mod Crc
 pub mod Disk
+pub mod Fate
 pub mod Fault
+pub mod File
+pub mod Memory
 pub mod Name
 pub mod Register
