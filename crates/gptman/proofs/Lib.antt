@@ -3,9 +3,12 @@ pub mod ByTable
 pub mod Division
 pub mod Fitting
 pub mod EntryBytes
+pub mod Events
 pub mod HeaderBytes
 pub mod NameText
 pub mod Numbers
+pub mod Overlays
 pub mod Ranges
 pub mod Runs
+pub mod Stops
 mod Vectors

@@ -4,9 +4,12 @@ pub mod Coding
 pub mod Copy
 pub mod Crc
 pub mod Disk
+pub mod Fate
 pub mod Fault
 pub mod Fit
 pub mod Layout
+pub mod File
+pub mod Memory
 pub mod Name
 pub mod Reading
 pub mod Register

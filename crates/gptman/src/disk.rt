@@ -8,6 +8,8 @@ ghost use Rattle.gptman.specs.Disk.{DiskState, IsSound, Keeps, Rose, Wrote, over
 
 use std::io;
 
+pub mod file;
+pub mod memory;
 
 /// A disk of a fixed length in bytes, with a position at which it reads and writes.
 ///
@@ -87,4 +89,12 @@ pub trait Disk {
     /// What a stop may leave now counts as left since any time up to now, and since now there is no
     /// other.
     ghost sound: { (disk : Self) → IsTrue (state disk).is_honest → IsSound (state disk) };
+}
+
+// One failure more, up to the greatest number of 64 bits.
+fn count_failure(failures: &mut u64)
+    ensures later { failures.old ≤ failures.new }
+    ensures rose { (failures.old < failures.new) ⊎ (18446744073709551615 ≤ failures.new) }
+{
+    *failures = failures.saturating_add(1);
 }

@@ -12,5 +12,7 @@ pub use codec::entry::GPTPartitionEntry;
 pub use codec::header::GPTHeader;
 pub use codec::name::PartitionName;
 pub use disk::Disk;
+pub use disk::file::FileDisk;
+pub use disk::memory::{Fate, MemoryDisk};
 pub use error::{Error, Result};
 pub use table::GPT;

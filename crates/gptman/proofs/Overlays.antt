@@ -1,0 +1,77 @@
+-- Bytes that are laid over a list.
+use Rattle.std.proofs.Common.{◌≡◌, ⊎_elim, ◌<◌, ◌≤◌, ℕ, ◌+◌, ◌-◌, List, [], ◌∷◌, ◌++◌, length, get_or, take, drop, refl, sym, ◌∙◌, ap, arith, length-append, length-take, length-drop, append_assoc}
+use Rattle.std.proofs.lemmas.List.{take_at, drop_at, get_or-take, get_or-drop, get_or_append_left, get_or-append_right, length-take-le}
+use Rattle.std.proofs.lemmas.Grind.{same_number_lists}
+use Rattle.std.proofs.lemmas.Bool.{cases_lt}
+use Rattle.gptman.specs.Disk.{Agrees, overlay}
+use Rattle.gptman.specs.Bytes.{part}
+
+module _ (old : List ℕ) (at : ℕ) (bytes : List ℕ) (fits : at + length bytes ≤ length old) where
+  front : length (take at old) ≡ at
+  front = length-take-le at old (omega (arith, fits))
+
+  pub length-overlay : length (overlay old at bytes) ≡ length old
+  length-overlay = simp (length-append, length-take, length-drop) (omega (arith, fits))
+
+  front_and_bytes : length (take at old ++ bytes) ≡ at + length bytes
+  front_and_bytes = simp (length-append) (omega (arith, front))
+
+  pub overlay_below : (k : ℕ) → k < at → get_or (overlay old at bytes) k 0 ≡ get_or old k 0
+  overlay_below k below =
+      get_or_append_left (take at old ++ bytes) (drop (at + length bytes) old) 0 k (omega (arith, front_and_bytes, below))
+      ∙ get_or_append_left (take at old) bytes 0 k (omega (arith, front, below))
+      ∙ get_or-take at old k 0 below
+
+  pub overlay_above : (k : ℕ) → at + length bytes ≤ k → get_or (overlay old at bytes) k 0 ≡ get_or old k 0
+  overlay_above k above =
+      get_or-append_right (take at old ++ bytes) (drop (at + length bytes) old) (at + length bytes) k 0 front_and_bytes above
+      ∙ get_or-drop (at + length bytes) old (k - (at + length bytes)) 0
+      ∙ ap (λ (i : ℕ). get_or old i 0) (omega (arith, above))
+
+  pub agrees_overlay : Agrees ((at, length bytes) ∷ []) old (overlay old at bytes)
+  agrees_overlay = record { long = length-overlay; same = λ k o. ⊎_elim (overlay_below k) (overlay_above k) o.0 }
+
+  pub part-overlay : part (overlay old at bytes) at (length bytes) ≡ bytes
+  part-overlay =
+      ap (λ (l : List ℕ). take (length bytes) (drop at l)) (append_assoc (take at old) bytes (drop (at + length bytes) old))
+      ∙ ap (λ (l : List ℕ). take (length bytes) l) (drop_at (take at old) (bytes ++ drop (at + length bytes) old) at front)
+      ∙ take_at bytes (drop (at + length bytes) old) (length bytes) refl
+
+pub overlay_inside : (old : List ℕ) (at : ℕ) (bytes : List ℕ) → at + length bytes ≤ length old → (k : ℕ) → at ≤ k → k < at + length bytes → get_or (overlay old at bytes) k 0 ≡ get_or bytes (k - at) 0
+overlay_inside old at bytes fits k low high =
+    get_or_append_left (take at old ++ bytes) (drop (at + length bytes) old) 0 k (omega (arith, front_and_bytes old at bytes fits, high))
+    ∙ get_or-append_right (take at old) bytes at k 0 (front old at bytes fits) low
+
+-- two writes, the second where the first ends
+pub overlay_more : (old : List ℕ) (at : ℕ) (xs ys : List ℕ) → at + length xs + length ys ≤ length old → overlay (overlay old at xs) (at + length xs) ys ≡ overlay old at (xs ++ ys)
+overlay_more old at xs ys fits = same_number_lists (overlay first (at + length xs) ys) (overlay old at (xs ++ ys)) (length-overlay first (at + length xs) ys second_fits ∙ length-overlay old at xs first_fits ∙ sym (length-overlay old at (xs ++ ys) both_fit))
+    (λ k below. ⊎_elim (below_at k) (λ low. ⊎_elim (in_first k low) (λ mid. ⊎_elim (in_second k mid) (λ high. above k high) (cases_lt k (at + length xs + length ys))) (cases_lt k (at + length xs))) (cases_lt k at))
+  where
+    first : List ℕ
+    first = overlay old at xs
+
+    first_fits : at + length xs ≤ length old
+    first_fits = omega (arith, fits)
+
+    second_fits : at + length xs + length ys ≤ length (overlay old at xs)
+    second_fits = omega (arith, fits, length-overlay old at xs first_fits)
+
+    joined : length (xs ++ ys) ≡ length xs + length ys
+    joined = length-append xs ys
+
+    both_fit : at + length (xs ++ ys) ≤ length old
+    both_fit = omega (arith, fits, joined)
+
+    below_at : (k : ℕ) → k < at → get_or (overlay (overlay old at xs) (at + length xs) ys) k 0 ≡ get_or (overlay old at (xs ++ ys)) k 0
+    below_at k low = overlay_below (overlay old at xs) (at + length xs) ys second_fits k (omega (arith, low)) ∙ overlay_below old at xs first_fits k low ∙ sym (overlay_below old at (xs ++ ys) both_fit k low)
+
+    in_first : (k : ℕ) → at ≤ k → k < at + length xs → get_or (overlay (overlay old at xs) (at + length xs) ys) k 0 ≡ get_or (overlay old at (xs ++ ys)) k 0
+    in_first k low high = overlay_below (overlay old at xs) (at + length xs) ys second_fits k high ∙ overlay_inside old at xs first_fits k low high
+        ∙ sym (overlay_inside old at (xs ++ ys) both_fit k low (omega (arith, high, joined)) ∙ get_or_append_left xs ys 0 (k - at) (omega (arith, low, high)))
+
+    in_second : (k : ℕ) → at + length xs ≤ k → k < at + length xs + length ys → get_or (overlay (overlay old at xs) (at + length xs) ys) k 0 ≡ get_or (overlay old at (xs ++ ys)) k 0
+    in_second k low high = overlay_inside (overlay old at xs) (at + length xs) ys second_fits k low high
+        ∙ sym (overlay_inside old at (xs ++ ys) both_fit k (omega (arith, low)) (omega (arith, high, joined)) ∙ get_or-append_right xs ys (length xs) (k - at) 0 refl (omega (arith, low)) ∙ ap (λ i. get_or ys i 0) (omega (arith, low)))
+
+    above : (k : ℕ) → at + length xs + length ys ≤ k → get_or (overlay (overlay old at xs) (at + length xs) ys) k 0 ≡ get_or (overlay old at (xs ++ ys)) k 0
+    above k high = overlay_above (overlay old at xs) (at + length xs) ys second_fits k high ∙ overlay_above old at xs first_fits k (omega (arith, high)) ∙ sym (overlay_above old at (xs ++ ys) both_fit k (omega (arith, high, joined)))
