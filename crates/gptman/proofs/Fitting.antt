@@ -1,5 +1,5 @@
 -- What the code of fitting a header computes is what the definition says.
-use Rattle.std.proofs.Common.{◌≡◌, ◌≢◌, ◌/◌, ◌||◌, ℕ, Bool, true, false, Option, Some, None, eqb, sym, ap, ◌∙◌, absurd, inl, inr}
+use Rattle.std.proofs.Common.{◌≡◌, ◌≢◌, ◌/◌, ◌||◌, ℕ, Bool, true, false, Option, Some, None, eqb, sym, ap, ◌∙◌, inl, inr}
 use Rattle.std.specs.Prelude.{if◌then◌else◌}
 use Rattle.std.proofs.lemmas.Bool.Decides.{eqb_tells}
 use Rattle.gptman.specs.Fault.{Fault, overflow}

@@ -1,5 +1,5 @@
 -- What the calls answer, and what they leave.
-use Rattle.std.specs.Prelude.{◌≡◌, ◌≢◌, ◌≤◌, ◌<◌, ◌⊎◌, ◌+◌, ◌*◌, ◌^◌, ℕ, Bool, true, false, List, [], length, Option, Some, None, Result, Ok, Err, IsTrue}
+use Rattle.std.specs.Prelude.{◌≡◌, ◌≢◌, ◌≤◌, ◌<◌, ◌⊎◌, ◌+◌, ◌*◌, ◌^◌, ◌||◌, ℕ, Bool, true, false, List, [], length, Option, Some, None, Result, Ok, Err, IsTrue}
 use Rattle.gptman.specs.Disk.{DiskState, Rose, Wrote, overlay}
 use Rattle.gptman.specs.Bytes.{part}
 use Rattle.gptman.specs.Coding.{header_bytes, array_bytes}
@@ -56,6 +56,10 @@ is_array_fault out_of_memory = true
 is_array_fault (invalid_entry_size size) = true
 is_array_fault (invalid_array_checksum stored computed) = true
 is_array_fault _ = false
+
+-- what reading a copy may refuse with
+abbrev pub is_copy_fault : Fault → Bool
+is_copy_fault fault = is_header_fault fault || is_array_fault fault
 
 -- On an honest disk, calls that only read.
 pub record OnlyRead (old new : DiskState) : Type 0 where

@@ -1,8 +1,9 @@
 -- What a table is, whichever of its two forms one looks at.
-use Rattle.std.specs.Prelude.{◌≡◌, ◌⊎◌, ◌+◌, ◌&&◌, ◌||◌, ℕ, Bool, true, not, List, [], ◌∷◌, length, map, min, max, filter, nat_eq, nat_le, nat_lt, bytes_eq, IsTrue, Option, encode_utf8_all, if◌then◌else◌}
+use Rattle.std.specs.Prelude.{◌≡◌, ◌≤◌, ◌⊎◌, ◌+◌, ℕ, true, List, replicate, [], ◌∷◌, length, map, min, max, filter, nat_eq, nat_le, nat_lt, bytes_eq, IsTrue, Option, encode_utf8_all, if◌then◌else◌}
 use Rattle.std.specs.List.{list_all, list_any}
 use Rattle.gptman.specs.Name.{text_of}
-use Rattle.gptman.specs.Coding.{header_bytes, array_bytes}
+use Rattle.gptman.specs.Coding.{header_bytes, array_bytes, empty_entry}
+use Rattle.gptman.specs.Fit.{new_header, fitted}
 use Rattle.gptman.specs.Crc.{crc_of}
 use Rattle.gptman.specs.Copy.{Copy, header_crc}
 use Rattle.gptman.specs.Reading.{Place, primary, backup}
@@ -101,3 +102,17 @@ pub record IsCoherent (h : GPTHeader) (es : List GPTPartitionEntry) : Type 0 whe
   pub header_size : h.header_size ≡ 92
   pub count : length es ≡ h.number_of_partition_entries
   pub entry_size : (h.size_of_partition_entry ≡ 128) ⊎ (h.number_of_partition_entries ≡ 0)
+
+-- an unused entry that starts at or before its end
+pub record IsUnusedAndOrdered (e : GPTPartitionEntry) : Type 0 where
+  pub unused : list_all (λ x. nat_eq x 0) e.partition_type_guid ≡ true
+  pub ordered : e.starting_lba ≤ e.ending_lba
+
+-- the value of a new table on a disk of that length: 128 unused entries
+abbrev pub new_table : List ℕ → ℕ → ℕ → GPT
+new_table guid ss len = record {
+  sector_size = ss;
+  header = fitted (new_header guid) ss len;
+  partitions = replicate 128 empty_entry;
+  align = 2048;
+}

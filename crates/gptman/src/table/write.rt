@@ -1,0 +1,135 @@
+//! Writing a table: checks first, then two copies, the other one before the own one.
+//!
+//! Each copy is synced before the next is begun, so at any moment one of them is whole.
+
+ghost use Rattle.std.specs.Prelude.{◌≡◌, ◌<◌, ◌⊎◌, ◌*◌, [], ℕ, true, false, None, MatchOption, IsTrue, IfOk, IfErr, OnOk, OnErr, Contains, All};
+ghost use Rattle.gptman.specs.Coding.{FitsHeader, FitsEntry};
+ghost use Rattle.gptman.specs.Disk.{Keeps, Rose, Wrote};
+ghost use Rattle.gptman.specs.Fault.{fault_of, io as io_fault, overflow};
+ghost use Rattle.gptman.specs.Layout.{HasLayout, AreApart};
+ghost use Rattle.gptman.specs.Stop.{IsStored};
+ghost use Rattle.gptman.specs.Table.{entries_in, table_in, IsCoherent, IsUnusedAndOrdered, sealed};
+ghost use Rattle.gptman.specs.Write.{other_header, both_ranges, write_ranges, copy_write_fault, write_fault, has_other_header};
+ghost use Rattle.gptman.specs.Calls.{Refuses, Settles, OnlyRead, SameButSums, Untouched, IsCopyLaid, HasBytes, sealed_value};
+
+use crate::codec::entry::GPTPartitionEntry;
+use crate::codec::header::GPTHeader;
+use crate::disk::Disk;
+use crate::error::{Error, Result};
+use crate::table::GPT;
+
+impl GPT {
+    /// Writes the table to the disk, in two copies with a sync after each, and answers the header of
+    /// the other copy as it was written. No memory is taken.
+    ///
+    /// The checks come before anything changes: `InvalidPartitionBoundaries` where the first usable
+    /// sector is behind the one after the last; `Overflow` where a sector or a byte to be written does
+    /// not fit in 64 bits; `Io` where the length cannot be taken; `NoSpaceLeft` where a copy ends past
+    /// the disk. After them only `Io` is answered: the disk failed in the middle, and is to be opened
+    /// again. Then at most the two checksums of the value's header differ.
+    pub fn write_into<D: Disk>(&mut self, disk: &mut D) -> Result<GPTHeader>
+        requires sector { 0 < self.old.sector_size }
+        requires coherent { IsCoherent self.old.header (entries_in self.old) }
+        requires unused { All IsUnusedAndOrdered (entries_in self.old) }
+        ensures keeps { Keeps (D.state disk.old) (D.state disk.new) }
+
+        // What is refused.
+        ensures answer { Settles (write_fault self.old.header self.old.sector_size (D.state disk.old).size) result (D.state disk.old) (D.state disk.new) }
+        ensures cause { Refuses result io_fault → Rose (D.state disk.old) (D.state disk.new) }
+
+        // What becomes of the value, and what is answered.
+        ensures value { OnOk result (self.new ≡ sealed_value self.old) }
+        ensures kept { IfErr result (λ e. (fault_of e ≡ io_fault) ⊎ (self.new ≡ self.old)) }
+        ensures sums { (self.new ≡ record self.old { header = self.new.header }) × SameButSums self.old.header self.new.header }
+        ensures other { IfOk result (λ h. h ≡ sealed (other_header self.old.header) (entries_in self.old)) }
+
+        // What becomes of the disk.
+        ensures wrote { IsTrue (D.state disk.old).is_honest → Wrote (both_ranges self.old.header self.old.sector_size) (D.state disk.old) (D.state disk.new) }
+        ensures synced { IsTrue (D.state disk.old).is_honest → OnOk result ((D.state disk.new).pending ≡ []) }
+        ensures laid { IsTrue (D.state disk.old).is_honest → AreApart (both_ranges self.old.header self.old.sector_size)
+            → IfOk result (λ h. HasBytes (D.state disk.new).view self.new.header (entries_in self.old) self.old.sector_size
+            × HasBytes (D.state disk.new).view h (entries_in self.old) self.old.sector_size) }
+        ensures stored { IsTrue (D.state disk.old).is_honest
+            → HasLayout self.old.header (table_in self.old) self.old.sector_size (D.state disk.old).size
+            → OnOk result (IsStored (D.state disk.new) self.old.sector_size (table_in self.old)) }
+        ensures untouched { IsTrue (D.state disk.old).is_honest
+            → IfErr result (λ e. (fault_of e ≡ io_fault) ⊎ Untouched (D.state disk.old) (D.state disk.new)) }
+    {
+        let sector_size = self.sector_size;
+        let mut other = self.checked(disk)?;
+        write_copy(disk, &mut other, sector_size, self.partitions.as_slice())?;
+        write_copy(disk, &mut self.header, sector_size, self.partitions.as_slice())?;
+        Ok(other)
+    }
+
+    // The other header, where the table may be written to the disk.
+    fn checked<D: Disk>(&self, disk: &mut D) -> Result<GPTHeader>
+        ensures keeps { Keeps (D.state disk.old) (D.state disk.new) }
+        ensures reads { IsTrue (D.state disk.old).is_honest → OnlyRead (D.state disk.old) (D.state disk.new) }
+        ensures answer { Settles (write_fault self.now.header self.now.sector_size (D.state disk.old).size) result (D.state disk.old) (D.state disk.new) }
+        ensures other { IfOk result (λ h. h ≡ other_header self.now.header) }
+        ensures cause { Refuses result io_fault → Rose (D.state disk.old) (D.state disk.new) }
+    {
+        let own = &self.header;
+        if own.first_usable_lba.saturating_sub(1) > own.last_usable_lba {
+            return Err(Error::InvalidPartitionBoundaries);
+        }
+        let Some(other) = own.other() else {
+            return Err(Error::Overflow);
+        };
+        if !own.is_addressable(self.sector_size) || !other.is_addressable(self.sector_size) {
+            return Err(Error::Overflow);
+        }
+        let size = disk.seek_end()?;
+        if !own.is_inside(self.sector_size, size) || !other.is_inside(self.sector_size, size) {
+            return Err(Error::NoSpaceLeft);
+        }
+        Ok(other)
+    }
+}
+
+impl GPTHeader {
+    // The header of the other copy, unless its first entry sector does not fit in 64 bits.
+    fn other(&self) -> Option<GPTHeader>
+        ensures { MatchOption result (has_other_header self.now ≡ false) (λ h. (has_other_header self.now ≡ true) × (h ≡ other_header self.now)) }
+    {
+        let entries = if self.partition_entry_lba == 2 {
+            self.last_usable_lba.checked_add(1)?
+        } else {
+            2
+        };
+        Some(GPTHeader {
+            primary_lba: self.backup_lba,
+            backup_lba: self.primary_lba,
+            partition_entry_lba: entries,
+            ..*self
+        })
+    }
+}
+
+// Writes one copy and syncs it. After an error nothing was written, or the header's range is pending.
+fn write_copy<D: Disk>(
+    disk: &mut D,
+    header: &mut GPTHeader,
+    sector_size: u64,
+    partitions: &[GPTPartitionEntry],
+) -> Result<()>
+    requires sector { 0 < sector_size }
+    requires coherent { IsCoherent header.old partitions.now }
+    requires allowed { copy_write_fault header.old sector_size (D.state disk.old).size ≡ None }
+    ensures keeps { Keeps (D.state disk.old) (D.state disk.new) }
+    ensures cause { IfErr result (λ e. (fault_of e ≡ io_fault) × Rose (D.state disk.old) (D.state disk.new)) }
+    ensures sealed { OnOk result (header.new ≡ sealed header.old partitions.now) }
+    ensures sums { SameButSums header.old header.new }
+    ensures fits { OnOk result (FitsHeader header.new × All FitsEntry partitions.now) }
+    ensures wrote { IsTrue (D.state disk.old).is_honest → Wrote (write_ranges header.old sector_size) (D.state disk.old) (D.state disk.new) }
+    ensures synced { IsTrue (D.state disk.old).is_honest → OnOk result ((D.state disk.new).pending ≡ []) }
+    ensures laid { IsTrue (D.state disk.old).is_honest
+        → OnOk result (IsCopyLaid header.new partitions.now sector_size (D.state disk.old).view (D.state disk.new).view) }
+    ensures failed { IsTrue (D.state disk.old).is_honest → OnErr result (Untouched (D.state disk.old) (D.state disk.new)
+        ⊎ Contains (D.state disk.new).pending (header.old.primary_lba * sector_size, 92)) }
+{
+    header.write_into(disk, sector_size, partitions)?;
+    disk.sync()?;
+    Ok(())
+}
