@@ -1,13 +1,26 @@
-// A library with one function.
+//! The tests of `gptman` against values that come from elsewhere: vectors of the format, worked
+//! examples, and checksums of another program. It has no call of its own.
 #![tactic(auto)]
 
-ghost use Rattle.std.specs.Prelude.{◌≡◌};
-ghost use Rattle.gptman_bench.specs.Echo.{echo_of};
-
-// The `ensures` clause is the contract: what `echo` returns is `echo_of` of its argument, a definition
-// in `specs/Echo.antt`, which a caller's clause can cite too.
-pub fn echo(x: usize) -> usize
-    ensures { result ≡ echo_of x }
-{
-    x
-}
+#[cfg(test)]
+mod codec;
+#[cfg(test)]
+mod errors;
+#[cfg(test)]
+mod files;
+#[cfg(test)]
+mod fitting;
+#[cfg(test)]
+mod fixtures;
+#[cfg(test)]
+mod growths;
+#[cfg(test)]
+mod headers;
+#[cfg(test)]
+mod names;
+#[cfg(test)]
+mod reading;
+#[cfg(test)]
+mod stops;
+#[cfg(test)]
+mod writing;

@@ -1,0 +1,144 @@
+//! Fitting a header to a disk: a new one, and one that comes to a disk of another length.
+
+use crate::fixtures::{DISK_GUID, answer, disk_of, new_table};
+use gptman::{GPT, GPTHeader};
+use std::alloc::Global;
+use std::test::Fail;
+
+#[test]
+fn a_new_table_is_fitted_to_the_disk(rt: HostRuntime) -> Result<(), Fail> {
+    for (sector_size, first, last) in [(512_u16, 34, 66), (4096, 6, 94), (3000, 8, 92)] {
+        assert!(rt; 0 < sector_size);
+        let mut disk = disk_of(rt.alloc(), 0, 100 * usize::from(sector_size))?;
+        let table = GPT::new_from(rt.alloc(), &mut disk, u64::from(sector_size), DISK_GUID)?;
+        let header = &table.header;
+        assert_eq!(rt; header.first_usable_lba, first, "at {sector_size}");
+        assert_eq!(rt; header.last_usable_lba, last, "at {sector_size}");
+        assert_eq!(rt; header.backup_lba, 99, "at {sector_size}");
+        assert_eq!(rt; table.sector_size, u64::from(sector_size));
+        assert_eq!(rt; table.align, 2048);
+        assert!(rt; table.is_coherent() && table.is_primary() && !table.is_backup());
+    }
+    Ok(())
+}
+
+#[test]
+fn a_disk_may_be_too_small_for_a_table(rt: HostRuntime) -> Result<(), Fail> {
+    let alloc = rt.alloc();
+    for sectors in [0, 1, 2, 33] {
+        let mut disk = disk_of(alloc, 2, 512 * sectors)?;
+        let said = answer(alloc, &GPT::new_from(alloc, &mut disk, 512, DISK_GUID))?;
+        assert_eq!(rt;
+            said.as_str(),
+            "an arithmetic operation overflowed",
+            "{sectors} sectors"
+        );
+    }
+    Ok(())
+}
+
+#[test]
+fn a_small_disk_may_leave_no_usable_sector(rt: HostRuntime) -> Result<(), Fail> {
+    let alloc = rt.alloc();
+    for (sectors, last) in [(34_u16, 0), (66, 32)] {
+        let mut disk = disk_of(alloc, 2, 512 * usize::from(sectors))?;
+        let mut table = new_table(alloc, &mut disk, 512, DISK_GUID)?;
+        assert_eq!(rt; table.header.first_usable_lba, 34);
+        assert_eq!(rt; table.header.last_usable_lba, last);
+        assert_eq!(rt; table.header.backup_lba, u64::from(sectors) - 1);
+        let said = answer(alloc, &table.write_into(&mut disk))?;
+        assert!(rt;
+            said.as_str().starts_with("invalid partition boundaries: "),
+            "{sectors} sectors"
+        );
+        assert!(rt;
+            disk.bytes().iter().all(|byte| *byte == 2),
+            "{sectors} sectors"
+        );
+        assert_eq!(rt; table, new_table(alloc, &mut disk, 512, DISK_GUID)?);
+    }
+    let mut disk = disk_of(alloc, 2, 512 * 67)?;
+    let mut table = new_table(alloc, &mut disk, 512, DISK_GUID)?;
+    assert_eq!(rt; table.header.first_usable_lba, 34);
+    assert_eq!(rt; table.header.last_usable_lba, 33);
+    assert_eq!(rt; table.header.backup_lba, 66);
+    table.write_into(&mut disk)?;
+    assert_eq!(rt; GPT::read_from(alloc, &mut disk, 512)?, table);
+    Ok(())
+}
+
+// A new header for 100 sectors of 512 bytes.
+fn new_header(alloc: Global) -> gptman::Result<GPTHeader> {
+    GPTHeader::new_from(&mut disk_of(alloc, 0, 51_200)?, 512, DISK_GUID)
+}
+
+#[test]
+fn a_header_is_fitted_to_a_longer_disk(rt: HostRuntime) -> Result<(), Fail> {
+    let alloc = rt.alloc();
+    let mut disk = disk_of(alloc, 0, 512 * 200)?;
+    let primary = new_header(alloc)?;
+    let mut fitted = primary;
+    fitted.update_from(&mut disk, 512)?;
+    let wanted = GPTHeader {
+        first_usable_lba: 34,
+        last_usable_lba: 166,
+        backup_lba: 199,
+        ..primary
+    };
+    assert_eq!(rt; fitted, wanted);
+    assert_eq!(rt; fitted.partition_entry_lba, 2);
+    assert!(rt; fitted.is_primary() && !fitted.is_backup());
+    let backup = GPTHeader {
+        primary_lba: 99,
+        backup_lba: 1,
+        partition_entry_lba: 67,
+        ..primary
+    };
+    let mut fitted = backup;
+    fitted.update_from(&mut disk, 512)?;
+    let wanted = GPTHeader {
+        first_usable_lba: 34,
+        last_usable_lba: 166,
+        primary_lba: 199,
+        partition_entry_lba: 167,
+        ..backup
+    };
+    assert_eq!(rt; fitted, wanted);
+    assert!(rt; fitted.is_backup() && !fitted.is_primary());
+    Ok(())
+}
+
+#[test]
+fn a_header_that_does_not_fit_stays_as_it_is(rt: HostRuntime) -> Result<(), Fail> {
+    let alloc = rt.alloc();
+    let header = new_header(alloc)?;
+    let rows = [
+        (200, 0, 128),
+        (200, 128, 0),
+        (65, 128, 256),
+        (33, 128, 128),
+        (0, 1, 1),
+    ];
+    for (sectors, count, size) in rows {
+        let given = GPTHeader {
+            number_of_partition_entries: count,
+            size_of_partition_entry: size,
+            ..header
+        };
+        let mut fitted = given;
+        let mut disk = disk_of(alloc, 0, 512 * sectors)?;
+        let said = answer(alloc, &fitted.update_from(&mut disk, 512))?;
+        assert_eq!(rt;
+            said.as_str(),
+            "an arithmetic operation overflowed",
+            "{sectors} sectors"
+        );
+        assert_eq!(rt; fitted, given, "{sectors} sectors");
+    }
+    let mut fitted = header;
+    fitted.size_of_partition_entry = 256;
+    fitted.update_from(&mut disk_of(alloc, 0, 512 * 66)?, 512)?;
+    assert_eq!(rt; fitted.first_usable_lba, 66);
+    assert_eq!(rt; fitted.last_usable_lba, 0);
+    Ok(())
+}

@@ -1,0 +1,95 @@
+//! Disks, tables and entries of which the tests make their cases.
+
+ghost use Rattle.std.specs.Prelude.{◌≡◌, ◌<◌, All, IfOk};
+ghost use Rattle.gptman.specs.Table.{entries_in, IsCoherent, IsUnusedAndOrdered};
+
+use gptman::{Disk, GPT, GPTPartitionEntry, MemoryDisk, PartitionName, Result};
+use std::alloc::{AllocError, Global};
+use std::io;
+
+/// The GUID of most disks.
+pub(crate) const DISK_GUID: [u8; 16] = [0xff; 16];
+
+/// A disk of so many bytes, all of them this one.
+pub(crate) fn disk_of(alloc: Global, byte: u8, len: usize) -> Result<MemoryDisk> {
+    MemoryDisk::new(alloc, vec![in alloc; byte; len]?)
+}
+
+/// A new table for this disk, with sectors of so many bytes.
+pub(crate) fn new_table<D: Disk>(
+    alloc: Global,
+    disk: &mut D,
+    sector_size: u64,
+    disk_guid: [u8; 16],
+) -> Result<GPT>
+    requires { 0 < sector_size }
+    ensures sector { IfOk result (λ g. g.sector_size ≡ sector_size) }
+    ensures coherent { IfOk result (λ g. IsCoherent g.header (entries_in g)) }
+    ensures unused { IfOk result (λ g. All IsUnusedAndOrdered (entries_in g)) }
+{
+    GPT::new_from(alloc, disk, sector_size, disk_guid)
+}
+
+/// The bytes of a disk of 100 sectors of 512, all of them this one, after a new table was written.
+pub(crate) fn image_of_new_table(alloc: Global, byte: u8) -> Result<Vec<u8>> {
+    let mut disk = disk_of(alloc, byte, 51_200)?;
+    new_table(alloc, &mut disk, 512, DISK_GUID)?.write_into(&mut disk)?;
+    Ok(disk.bytes().to_vec(alloc)?)
+}
+
+/// So many bytes of the disk, from this one on.
+pub(crate) fn bytes_at<const N: usize>(disk: &mut MemoryDisk, at: u64) -> io::Result<[u8; N]> {
+    let mut bytes = [0; N];
+    disk.seek_start(at)?;
+    disk.read_exact(&mut bytes)?;
+    Ok(bytes)
+}
+
+/// Puts these bytes over those from `at` on, as far as there are any.
+pub(crate) fn put(bytes: &mut [u8], at: usize, over: &[u8]) {
+    for (byte, new) in bytes.iter_mut().skip(at).zip(over) {
+        *byte = *new;
+    }
+}
+
+/// Complements the byte at this place.
+pub(crate) fn complement(bytes: &mut [u8], at: usize) {
+    if let Some(byte) = bytes.get_mut(at) {
+        *byte = !*byte;
+    }
+}
+
+/// What a call answered, to be compared: "ok", or the text of its error.
+pub(crate) fn answer<T>(
+    alloc: Global,
+    outcome: &Result<T>,
+) -> std::result::Result<String, AllocError> {
+    match outcome {
+        Ok(_) => String::from_str(alloc, "ok"),
+        Err(error) => error.to_string(alloc),
+    }
+}
+
+/// Used entries with the numbers from 1 on, each with a GUID, a place and a name of its own.
+pub(crate) fn used_entries(alloc: Global, count: u32) -> Result<Vec<GPTPartitionEntry>> {
+    let mut entries = Vec::new(alloc);
+    for number in 1..=count {
+        entries.push(used_entry(alloc, number)?)?;
+    }
+    Ok(entries)
+}
+
+// The used entry with this number.
+fn used_entry(alloc: Global, number: u32) -> Result<GPTPartitionEntry> {
+    let name = format!(in alloc; "part {number}")?;
+    let mut unique_partition_guid = [0x0b; 16];
+    put(&mut unique_partition_guid, 0, &number.to_le_bytes());
+    Ok(GPTPartitionEntry {
+        partition_type_guid: [0x0a; 16],
+        unique_partition_guid,
+        starting_lba: 1000 * u64::from(number),
+        ending_lba: 1000 * u64::from(number) + 9,
+        attribute_bits: u64::from(number),
+        partition_name: PartitionName::new(alloc, name.as_str())?,
+    })
+}

@@ -1,0 +1,113 @@
+//! A whole table written to a disk, in both of its places.
+
+use crate::fixtures::{DISK_GUID, answer, bytes_at, disk_of, new_table};
+use gptman::{Disk, GPT, GPTHeader};
+use std::test::Fail;
+
+#[test]
+fn a_new_table_is_written_and_read_back(rt: HostRuntime) -> Result<(), Fail> {
+    let alloc = rt.alloc();
+    let mut disk = disk_of(alloc, 2, 51_200)?;
+    let mut table = new_table(alloc, &mut disk, 512, DISK_GUID)?;
+    let new = table.header;
+    let other = table.write_into(&mut disk)?;
+    assert_eq!(rt; other.primary_lba, 99);
+    assert_eq!(rt; other.backup_lba, 1);
+    assert_eq!(rt; other.partition_entry_lba, 67);
+    assert_eq!(rt; other.crc32_checksum, 0x18ff_8a28);
+    let wanted = GPTHeader {
+        crc32_checksum: 0xa4fd_9f64,
+        partition_entry_array_crc32: 0xab54_d286,
+        ..new
+    };
+    assert_eq!(rt; table.header, wanted);
+    let read = GPT::read_from(alloc, &mut disk, 512)?;
+    assert_eq!(rt; read, table);
+    assert_eq!(rt; read.sector_size, 512);
+    assert_eq!(rt; read.align, 2048);
+    assert!(rt; read.is_coherent() && read.is_primary());
+    Ok(())
+}
+
+#[test]
+fn both_places_hold_the_table_and_nothing_else_changes(rt: HostRuntime) -> Result<(), Fail> {
+    let alloc = rt.alloc();
+    let mut disk = disk_of(alloc, 2, 51_200)?;
+    let mut table = new_table(alloc, &mut disk, 512, DISK_GUID)?;
+    let other = table.write_into(&mut disk)?;
+    for (at, entries_at, header) in [(512, 1024, &table.header), (50_688, 34_304, &other)] {
+        assert_eq!(rt; bytes_at::<92>(&mut disk, at)?, header.encode(), "at {at}");
+        disk.seek_start(at)?;
+        assert_eq!(rt; GPTHeader::read_from(&mut disk)?, *header, "at {at}");
+        assert_eq!(rt; header.partition_entry_lba * 512, entries_at);
+        assert_eq!(rt; header.read_partitions(alloc, &mut disk, 512)?.len(), 128);
+        assert!(rt;
+            bytes_at::<16384>(&mut disk, entries_at)? == [0; 16384],
+            "at {at}"
+        );
+    }
+    let gaps = [(0, 512), (604, 1024), (17_408, 34_304), (50_780, 51_200)];
+    for (start, end) in gaps {
+        let gap = disk.bytes().get(start..end);
+        assert!(rt;
+            gap.is_some_and(|bytes| bytes.iter().all(|byte| *byte == 2)),
+            "from {start}"
+        );
+    }
+    Ok(())
+}
+
+#[test]
+fn a_written_table_is_stored(rt: HostRuntime) -> Result<(), Fail> {
+    let alloc = rt.alloc();
+    let mut disk = disk_of(alloc, 2, 51_200)?;
+    new_table(alloc, &mut disk, 512, DISK_GUID)?.write_into(&mut disk)?;
+    let written = disk.bytes().to_vec(alloc)?;
+    let stopped = disk.stop(&[])?;
+    assert!(rt; stopped.bytes() == written.as_slice());
+    Ok(())
+}
+
+#[test]
+fn a_table_for_a_longer_disk_is_not_written(rt: HostRuntime) -> Result<(), Fail> {
+    let alloc = rt.alloc();
+    let mut longer = disk_of(alloc, 0, 51_200)?;
+    let mut table = new_table(alloc, &mut longer, 512, DISK_GUID)?;
+    let mut disk = disk_of(alloc, 2, 512 * 99)?;
+    let said = answer(alloc, &table.write_into(&mut disk))?;
+    assert_eq!(rt; said.as_str(), "no space left");
+    assert!(rt; disk.bytes().iter().all(|byte| *byte == 2));
+    assert_eq!(rt; table, new_table(alloc, &mut longer, 512, DISK_GUID)?);
+    Ok(())
+}
+
+#[test]
+fn a_table_with_sectors_past_64_bits_is_not_written(rt: HostRuntime) -> Result<(), Fail> {
+    let alloc = rt.alloc();
+    let mut disk = disk_of(alloc, 2, 51_200)?;
+    let mut table = new_table(alloc, &mut disk, 512, DISK_GUID)?;
+    for (primary_lba, last_usable_lba) in [(u64::MAX, 66), (1, u64::MAX)] {
+        table.header.primary_lba = primary_lba;
+        table.header.last_usable_lba = last_usable_lba;
+        let given = table.header;
+        let said = answer(alloc, &table.write_into(&mut disk))?;
+        assert_eq!(rt; said.as_str(), "an arithmetic operation overflowed");
+        assert_eq!(rt; table.header, given);
+        assert!(rt; disk.bytes().iter().all(|byte| *byte == 2));
+    }
+    Ok(())
+}
+
+#[test]
+fn sectors_of_one_byte_leave_no_room_for_a_header(rt: HostRuntime) -> Result<(), Fail> {
+    let alloc = rt.alloc();
+    let mut disk = disk_of(alloc, 2, 51_200)?;
+    let mut table = new_table(alloc, &mut disk, 1, DISK_GUID)?;
+    assert_eq!(rt; table.header.first_usable_lba, 16_386);
+    assert_eq!(rt; table.header.last_usable_lba, 34_814);
+    assert_eq!(rt; table.header.backup_lba, 51_199);
+    let said = answer(alloc, &table.write_into(&mut disk))?;
+    assert_eq!(rt; said.as_str(), "no space left");
+    assert!(rt; disk.bytes().iter().all(|byte| *byte == 2));
+    Ok(())
+}
