@@ -1,5 +1,7 @@
+pub mod ArrayOutcomes
 pub mod Assembly
 pub mod ByTable
+pub mod CopyParts
 pub mod CopyTests
 pub mod Division
 pub mod Fitting

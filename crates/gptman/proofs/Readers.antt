@@ -1,6 +1,6 @@
 -- Runs of calls that only read.
 use Rattle.std.proofs.Common.{◌≡◌, true, refl, ◌∙◌, []}
-use Rattle.gptman.specs.Disk.{DiskState, IsSound}
+use Rattle.gptman.specs.Disk.{DiskState, IsSound, Wrote}
 use Rattle.gptman.specs.Calls.{OnlyRead}
 use Rattle.gptman.proofs.Ranges.{within_none}
 use Rattle.gptman.proofs.Runs.{wrote_not, wrote_then}
@@ -16,3 +16,7 @@ reads_then ab bc = record {
   pending = bc.pending ∙ ab.pending;
   wrote = wrote_then within_none ab.wrote bc.wrote;
 }
+
+-- one call of the disk
+pub reads_seek : {a b : DiskState} → b.view ≡ a.view → b.pending ≡ a.pending → Wrote [] a b → OnlyRead a b
+reads_seek view pending wrote = record { view = view; pending = pending; wrote = wrote }
