@@ -1,7 +1,7 @@
 -- Indexes outside of ranges, and lists that agree there.
 use Rattle.std.proofs.Common.{inl, inr, ⊎_elim, ◌≡◌, ◌⊎◌, ◌<◌, ◌≤◌, ℕ, suc, ◌+◌, List, [], ◌∷◌, ◌++◌, refl, sym, ◌∙◌, subst, arith}
 use Rattle.std.specs.List.{Contains}
-use Rattle.std.specs.Prelude.{Result, Ok, Err, OnErr}
+use Rattle.std.specs.Prelude.{Result, Ok, Err, OnOk, OnErr}
 use Rattle.gptman.specs.Disk.{Outside, Agrees, Within}
 
 abbrev pub Ranges : Type 0
@@ -72,3 +72,10 @@ within_range {p} {n} {at} {m} low high = record { covers = λ k o. (⊎_elim (λ
 
 pub contains_pushed : (r x : ℕ × ℕ) (old new : Ranges) → new ≡ x ∷ old → Contains old r → Contains new r
 contains_pushed r x old new is has = subst (λ ps. Contains ps r) (sym is) (contains_later r x old has)
+
+-- what was pending still is after one write, whether it was served or refused
+pub contains_written : {T E : Type 0} (r : Result T E) (V : Type 0) (range x : ℕ × ℕ) (old new : Ranges) → OnOk r (new ≡ x ∷ old) → OnErr r ((V × (new ≡ old)) ⊎ (new ≡ x ∷ old))
+    → Contains old range → Contains new range
+contains_written (Ok v) V range x old new served refused has = contains_pushed range x old new served has
+contains_written (Err e) V range x old new served refused has =
+    ⊎_elim (λ same. subst (λ ps. Contains ps range) (sym same.1) has) (λ more. contains_pushed range x old new more has) refused

@@ -1,0 +1,1 @@
+use Rattle.gptman.proofs.header.write.write_entries.Goals as goal
