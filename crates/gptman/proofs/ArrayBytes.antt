@@ -1,5 +1,5 @@
 -- The bytes of entries, one after the other.
-use Rattle.std.proofs.Common.{◌≡◌, ℕ, ◌+◌, ◌*◌, ◌<◌, ◌≤◌, List, [], ◌∷◌, ◌++◌, length, get_or, take, drop, flat_map, arith, refl, sym, ap, ◌∙◌}
+use Rattle.std.proofs.Common.{take-add, ◌≡◌, ℕ, ◌+◌, ◌-◌, ◌*◌, ◌<◌, ◌≤◌, List, [], ◌∷◌, ◌++◌, length, get_or, take, drop, flat_map, arith, refl, sym, ap, ◌∙◌}
 use Rattle.byteorder.specs.Endian.{little_bytes}
 use Rattle.std.specs.List.{All, AllByRecursion}
 use Rattle.std.proofs.lemmas.List.{append_assoc, append-nil, length-append, length-take-le, take_at, take_more}
@@ -43,3 +43,13 @@ array_written old new es k e before room lt is size put =
     ∙ ap (λ (xs : List ℕ). xs ++ entry_bytes e) before
     ∙ sym (ap array_bytes more ∙ flat_map-append entry_bytes (take k es) (e ∷ [])
     ∙ ap (λ (xs : List ℕ). array_bytes (take k es) ++ xs) (append-nil (entry_bytes e)))
+
+-- the first entries, and a block of n behind them
+pub entries_more : (es : List GPTPartitionEntry) (i end : ℕ) → i ≤ end → take end es ≡ take i es ++ take (end - i) (drop i es)
+entries_more es i end le =
+    let cut : i + (end - i) ≡ end = omega arith in
+    ap (λ (n : ℕ). take n es) (sym cut) ∙ take-add i (end - i) es
+
+-- their bytes
+pub array_more : (es : List GPTPartitionEntry) (i end : ℕ) → i ≤ end → array_bytes (take end es) ≡ array_bytes (take i es) ++ array_bytes (take (end - i) (drop i es))
+array_more es i end le = ap array_bytes (entries_more es i end le) ∙ flat_map-append entry_bytes (take i es) (take (end - i) (drop i es))
