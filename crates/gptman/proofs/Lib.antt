@@ -13,3 +13,4 @@ pub mod Ranges
 pub mod Runs
 pub mod Stops
 mod Vectors
+pub mod WriteRanges

@@ -1,6 +1,6 @@
 -- Bytes that are laid over a list.
-use Rattle.std.proofs.Common.{◌≡◌, ⊎_elim, ◌<◌, ◌≤◌, ℕ, ◌+◌, ◌-◌, List, [], ◌∷◌, ◌++◌, length, get_or, take, drop, refl, sym, ◌∙◌, ap, arith, length-append, length-take, length-drop, append_assoc}
-use Rattle.std.proofs.lemmas.List.{take_at, drop_at, get_or-take, get_or-drop, get_or_append_left, get_or-append_right, length-take-le}
+use Rattle.std.proofs.Common.{add-zero, ◌≡◌, ⊎_elim, ◌<◌, ◌≤◌, ℕ, ◌+◌, ◌-◌, List, [], ◌∷◌, ◌++◌, length, get_or, take, drop, refl, sym, ◌∙◌, ap, arith, length-append, length-take, length-drop, append_assoc}
+use Rattle.std.proofs.lemmas.List.{append-nil, take-append-drop, take_at, drop_at, get_or-take, get_or-drop, get_or_append_left, get_or-append_right, length-take-le}
 use Rattle.std.proofs.lemmas.Grind.{same_number_lists}
 use Rattle.std.proofs.lemmas.Bool.{cases_lt}
 use Rattle.gptman.specs.Disk.{Agrees, overlay}
@@ -75,3 +75,8 @@ overlay_more old at xs ys fits = same_number_lists (overlay first (at + length x
 
     above : (k : ℕ) → at + length xs + length ys ≤ k → get_or (overlay (overlay old at xs) (at + length xs) ys) k 0 ≡ get_or (overlay old at (xs ++ ys)) k 0
     above k high = overlay_above (overlay old at xs) (at + length xs) ys second_fits k high ∙ overlay_above old at xs first_fits k (omega (arith, high)) ∙ sym (overlay_above old at (xs ++ ys) both_fit k (omega (arith, high, joined)))
+
+-- no bytes change nothing
+pub overlay_nothing : (old : List ℕ) (at : ℕ) → overlay old at [] ≡ old
+overlay_nothing old at =
+    ap (λ (xs : List ℕ). xs ++ drop (at + 0) old) (append-nil (take at old)) ∙ ap (λ (k : ℕ). take at old ++ drop k old) (add-zero at) ∙ take-append-drop at old

@@ -1,5 +1,5 @@
 -- Indexes outside of ranges, and lists that agree there.
-use Rattle.std.proofs.Common.{inl, inr, ⊎_elim, ◌≡◌, ◌⊎◌, ◌<◌, ◌≤◌, ℕ, suc, ◌+◌, List, [], ◌∷◌, ◌++◌, refl, sym, ◌∙◌, subst, arith}
+use Rattle.std.proofs.Common.{inl, inr, ⊎_elim, ◌≡◌, ◌⊎◌, ◌<◌, ◌≤◌, ℕ, suc, ◌+◌, List, [], ◌∷◌, ◌++◌, refl, sym, ap, ◌∙◌, subst, arith}
 use Rattle.std.specs.List.{Contains}
 use Rattle.std.specs.Prelude.{Result, Ok, Err, OnOk, OnErr}
 use Rattle.gptman.specs.Disk.{Outside, Agrees, Within}
@@ -79,3 +79,9 @@ pub contains_written : {T E : Type 0} (r : Result T E) (V : Type 0) (range x : �
 contains_written (Ok v) V range x old new served refused has = contains_pushed range x old new served has
 contains_written (Err e) V range x old new served refused has =
     ⊎_elim (λ same. subst (λ ps. Contains ps range) (sym same.1) has) (λ more. contains_pushed range x old new more has) refused
+
+-- the range that became pending last
+pub contains_new : (p n at m : ℕ) (old new : Ranges) → p ≡ at → n ≡ m → new ≡ (p, n) ∷ old → Contains new (at, m)
+contains_new p n at m old new at_is size is =
+    let range : ◌≡◌ {A = ℕ × ℕ} (p, n) (at, m) = λ i. (at_is i, size i) in
+    subst (λ ps. Contains ps (at, m)) (sym (is ∙ ap (λ (r : ℕ × ℕ). r ∷ old) range)) (contains_first (at, m) old)
