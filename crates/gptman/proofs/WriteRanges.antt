@@ -29,3 +29,11 @@ within_array h ss p n at count some =
     let low : h.partition_entry_lba * ss ≤ p = omega arith in
     let high : p + 128 * n ≤ h.partition_entry_lba * ss + 128 * h.number_of_partition_entries = omega arith in
     within_later (subst (λ (rs : Ranges). Within ((p, 128 * n) ∷ []) rs) (sym (array_range_is h ss (λ none. some (count ∙ none)))) (within_range low high))
+
+-- checksums are not in the ranges
+pub ranges_still : (old summed new : GPTHeader) (array own ss : ℕ) → summed ≡ record old { partition_entry_array_crc32 = array } → new ≡ record summed { crc32_checksum = own } → write_ranges new ss ≡ write_ranges old ss
+ranges_still old summed new array own ss is_summed is =
+    let at : GPTHeader → Ranges = λ h. write_ranges h ss in
+    let first : at summed ≡ at old = ap at is_summed in
+    let second : at new ≡ at summed = ap at is in
+    second ∙ first
