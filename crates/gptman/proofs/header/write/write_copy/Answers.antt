@@ -1,4 +1,4 @@
-use Rattle.std.proofs.Common.{◌≡◌, ◌≢◌, ◌⊎◌, ◌*◌, ◌+◌, inl, inr, ⊎_elim, ℕ, [], length, arith, subst, sym, ap, ◌∙◌}
+use Rattle.std.proofs.Common.{◌≡◌, ◌≢◌, ◌⊎◌, ◌*◌, ◌+◌, inl, inr, ⊎_elim, ℕ, [], length, IsTrue, arith, subst, sym, ap, ◌∙◌}
 use Rattle.std.specs.List.{Contains}
 use Rattle.std.proofs.lemmas.List.{nil_from_length}
 use Rattle.gptman.specs.Calls.{Untouched}
@@ -6,9 +6,10 @@ use Rattle.gptman.specs.Coding.{header_bytes, array_bytes}
 use Rattle.gptman.specs.Disk.{DiskState, Wrote, overlay}
 use Rattle.gptman.specs.Write.{write_ranges}
 use Rattle.gptman.proofs.Overlays.{overlay_nothing}
-use Rattle.gptman.proofs.Ranges.{contains_new, on_err_of, within_none}
+use Rattle.gptman.proofs.Ranges.{contains_new, on_err_of, on_ok_of, within_none}
 use Rattle.gptman.proofs.Runs.{wrote_then, wrote_wider}
 use Rattle.gptman.proofs.WriteRanges.{within_array, within_header}
+use Rattle.gptman.proofs.header.write.write_copy.Given.{Over}
 use Rattle.gptman.proofs.header.write.write_copy.Goals as goal
 
 pub returns-in_err-write_all-clause-wrote : goal.returns-in_err-write_all-clause-wrote
@@ -80,8 +81,10 @@ returns-clause-wrote g c = λ honest.
     let r3 = wrote_then within_none r2 w3 in
     wrote_then (within_array c.args.header.now c.args.sector_size _ _ c.in_ok-seek_start-2.ensures.moves.1 c.requires.count some) r3 w4
 
-pub returns-clause-failed : goal.returns-clause-failed
-returns-clause-failed g c = λ honest.
+-- the header's range became pending, and still is once the entries are written
+header_pending : (g : Over) (c : goal.After-write_entries g) → IsTrue (g.D.Disk.state c.args.disk.now).is_honest
+    → Contains (g.D.Disk.state c.write_entries.new.disk).pending (c.args.header.now.primary_lba * c.args.sector_size, 92)
+header_pending g c honest =
     let w1 = c.seek_start.ensures.wrote honest in
     let w2 = c.write_all.ensures.wrote w1.honest in
     let w3 = c.seek_start-2.ensures.wrote w2.honest in
@@ -89,4 +92,16 @@ returns-clause-failed g c = λ honest.
     let size : length c.encode.result ≡ 92 = omega arith in
     let first = contains_new _ _ _ _ _ _ c.in_ok-seek_start.ensures.moves.1 size (c.in_ok-write_all.ensures.pending w1.honest) in
     let then_first = subst (λ ps. Contains ps range) (sym (c.seek_start-2.ensures.pending w2.honest)) first in
-    on_err_of _ (inr (c.write_entries.ensures.still_pending w3.honest range then_first))
+    c.write_entries.ensures.still_pending w3.honest range then_first
+
+pub returns-clause-failed : goal.returns-clause-failed
+returns-clause-failed g c = λ honest. on_err_of _ (inr (header_pending g c honest))
+
+pub returns-clause-pending : goal.returns-clause-pending
+returns-clause-pending g c = λ honest. on_ok_of _ (header_pending g c honest)
+
+pub returns-then-is_empty-clause-pending : goal.returns-then-is_empty-clause-pending
+returns-then-is_empty-clause-pending g c = λ honest.
+    let w1 = c.seek_start.ensures.wrote honest in
+    let size : length c.encode.result ≡ 92 = omega arith in
+    contains_new _ _ _ _ _ _ c.in_ok-seek_start.ensures.moves.1 size (c.in_ok-write_all.ensures.pending w1.honest)
