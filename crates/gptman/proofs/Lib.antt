@@ -1,5 +1,6 @@
 pub mod ArrayBytes
 pub mod Assembly
+pub mod BlockBytes
 pub mod ByTable
 pub mod Division
 pub mod Fitting

@@ -3,7 +3,8 @@ use Rattle.std.proofs.lemmas.List.{get_or_read}
 use Rattle.std.proofs.lemmas.List.Elements.{All-more}
 use Rattle.gptman.specs.Coding.{FitsEntry, entry_bytes}
 use Rattle.gptman.specs.declared.codec.entry.GPTPartitionEntry.{GPTPartitionEntry}
-use Rattle.gptman.proofs.ArrayBytes.{entry_long, array_written}
+use Rattle.gptman.proofs.ArrayBytes.{entry_long}
+use Rattle.gptman.proofs.BlockBytes.{entry_put}
 use Rattle.gptman.proofs.header.write.encode_block.Goals as goal
 
 pub loop-k-preserved : goal.loop-k-preserved
@@ -17,6 +18,6 @@ loop-k-preserved c =
     let put : c.put.new.bytes ≡ take (128 * k) old ++ (entry_bytes e ++ drop (128 * k + length (entry_bytes e)) old) =
     subst (λ (part : List ℕ). c.put.new.bytes ≡ take (128 * k) old ++ (part ++ drop (128 * k + length part) old)) c.encode.ensures.spelled c.put.ensures in
     record {
-      bytes = array_written old c.put.new.bytes es k e c.loop-k.invariant.bytes room lt c.index-block-k.is (entry_long e c.encode.ensures.fits) put;
+      bytes = entry_put old c.put.new.bytes es k e c.loop-k.invariant.bytes room lt c.index-block-k.is (entry_long e c.encode.ensures.fits) put;
       fits = All-more FitsEntry es k e lt c.loop-k.invariant.fits (subst FitsEntry c.index-block-k.is c.encode.ensures.fits);
     }

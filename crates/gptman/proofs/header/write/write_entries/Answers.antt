@@ -4,7 +4,8 @@ use Rattle.std.proofs.lemmas.List.Elements.{All-append, All-same}
 use Rattle.gptman.specs.Coding.{FitsEntry, array_bytes}
 use Rattle.gptman.specs.Disk.{DiskState, overlay}
 use Rattle.gptman.specs.declared.codec.entry.GPTPartitionEntry.{GPTPartitionEntry}
-use Rattle.gptman.proofs.ArrayBytes.{array_long, array_more, entries_more}
+use Rattle.gptman.proofs.ArrayBytes.{array_long}
+use Rattle.gptman.proofs.BlockBytes.{block_more, entries_more}
 use Rattle.gptman.proofs.Overlays.{overlay_more}
 use Rattle.gptman.proofs.Ranges.{within_range}
 use Rattle.gptman.proofs.Runs.{wrote_then}
@@ -42,6 +43,6 @@ loop-done-preserved g c =
           ∙ ap (λ v. overlay v before.position (array_bytes block)) (inv.laid honest)
           ∙ ap (λ p. overlay (overlay start.view start.position xs) p (array_bytes block)) here
           ∙ overlay_more start.view start.position xs (array_bytes block) fits
-          ∙ ap (λ l. overlay start.view start.position l) (sym (array_more es done end upto));
+          ∙ ap (λ l. overlay start.view start.position l) (sym (block_more es done end upto));
       still_pending = λ honest range has. next.still_pending (inv.wrote honest).honest range (inv.still_pending honest range has);
     }
