@@ -1,3 +1,4 @@
+pub mod ArrayBytes
 pub mod Assembly
 pub mod ByTable
 pub mod Division
