@@ -9,6 +9,7 @@ pub mod HeaderBytes
 pub mod NameText
 pub mod Numbers
 pub mod Overlays
+pub mod Pieces
 pub mod Ranges
 pub mod Runs
 pub mod Stops
