@@ -1,6 +1,8 @@
+pub mod Apart
 pub mod ArrayBytes
 pub mod Assembly
 pub mod ByTable
+pub mod CopyThere
 pub mod Division
 pub mod Fitting
 pub mod EntryBytes
