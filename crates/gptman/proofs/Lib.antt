@@ -10,9 +10,11 @@ pub mod Events
 pub mod HeaderBytes
 pub mod NameText
 pub mod Numbers
+pub mod OtherHeader
 pub mod Overlays
 pub mod Pieces
 pub mod Ranges
 pub mod Runs
+pub mod Sealing
 pub mod Stops
 mod Vectors
