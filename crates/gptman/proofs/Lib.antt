@@ -18,3 +18,4 @@ pub mod Runs
 pub mod Sealing
 pub mod Stops
 mod Vectors
+pub mod WrittenCopy

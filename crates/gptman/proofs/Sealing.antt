@@ -1,10 +1,12 @@
--- Sealing a header makes both checksums right.
+-- Sealing a header makes both checksums right, and changes nothing else.
 use Rattle.std.proofs.Common.{◌≡◌, ◌++◌, ℕ, List, length, take, drop, map, get_or, replicate, refl, sym, ap, ◌∙◌}
 use Rattle.std.specs.List.{range_with_len}
 use Rattle.gptman.specs.Coding.{header_bytes, array_bytes}
 use Rattle.gptman.specs.Crc.{crc_of}
 use Rattle.gptman.specs.Copy.{header_crc}
-use Rattle.gptman.specs.Table.{table_of, sealed}
+use Rattle.gptman.specs.Reading.{Place, primary, backup}
+use Rattle.gptman.specs.Table.{table_of, IsHeaderForm, sealed}
+use Rattle.gptman.specs.Write.{write_ranges}
 use Rattle.gptman.specs.declared.codec.header.GPTHeader.{GPTHeader}
 use Rattle.gptman.specs.declared.codec.entry.GPTPartitionEntry.{GPTPartitionEntry}
 use Rattle.gptman.proofs.Assembly.{cells}
@@ -47,3 +49,24 @@ sealed_is h es long_s long_r =
       array = refl;
       header = sym (cleared_same summed (header_crc (header_bytes summed)) long_s long_r);
     }
+
+-- a sealed header is of the same table
+pub sealed_table : (h : GPTHeader) (es : List GPTPartitionEntry) → table_of (sealed h es) es ≡ table_of h es
+unfolding sealed
+sealed_table h es = refl
+
+-- in the same form
+pub sealed_form : (place : Place) (h : GPTHeader) (es : List GPTPartitionEntry) → IsHeaderForm place h → IsHeaderForm place (sealed h es)
+unfolding sealed
+sealed_form primary h es form = form
+sealed_form backup h es form = form
+
+-- and is written to the same ranges
+pub sealed_ranges : (h : GPTHeader) (es : List GPTPartitionEntry) (ss : ℕ) → write_ranges (sealed h es) ss ≡ write_ranges h ss
+unfolding sealed
+sealed_ranges h es ss = refl
+
+-- with the same number of entries
+pub sealed_count : (h : GPTHeader) (es : List GPTPartitionEntry) → (sealed h es).number_of_partition_entries ≡ h.number_of_partition_entries
+unfolding sealed
+sealed_count h es = refl
