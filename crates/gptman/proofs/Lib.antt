@@ -8,6 +8,7 @@ pub mod Fitting
 pub mod EntryBytes
 pub mod Events
 pub mod HeaderBytes
+pub mod LaidCopies
 pub mod NameText
 pub mod Numbers
 pub mod OtherHeader
