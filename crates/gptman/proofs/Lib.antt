@@ -1,17 +1,24 @@
+pub mod Apart
 pub mod ArrayBytes
 pub mod Assembly
 pub mod BlockBytes
 pub mod ByTable
+pub mod CopyThere
 pub mod Division
-pub mod Fitting
 pub mod EntryBytes
 pub mod Events
+pub mod Fitting
 pub mod HeaderBytes
+pub mod LaidCopies
 pub mod NameText
 pub mod Numbers
+pub mod OtherHeader
 pub mod Overlays
+pub mod Pieces
 pub mod Ranges
 pub mod Runs
+pub mod Sealing
 pub mod Stops
 mod Vectors
 pub mod WriteRanges
+pub mod WrittenCopy
