@@ -18,5 +18,6 @@ pub mod Ranges
 pub mod Runs
 pub mod Sealing
 pub mod Stops
+pub mod Stored
 mod Vectors
 pub mod WrittenCopy
