@@ -19,6 +19,7 @@ pub mod Ranges
 pub mod Runs
 pub mod Sealing
 pub mod Stops
+pub mod Stored
 mod Vectors
 pub mod WriteRanges
 pub mod WrittenCopy
