@@ -21,5 +21,6 @@ pub mod Sealing
 pub mod Stops
 pub mod Stored
 mod Vectors
+pub mod TwoCopies
 pub mod WriteRanges
 pub mod WrittenCopy
