@@ -20,7 +20,7 @@ pub mod Runs
 pub mod Sealing
 pub mod Stops
 pub mod Stored
-mod Vectors
 pub mod TwoCopies
+mod Vectors
 pub mod WriteRanges
 pub mod WrittenCopy

@@ -1,5 +1,5 @@
 -- Both copies of a table, written one after the other.
-use Rattle.std.proofs.Common.{◌≡◌, ℕ, Bool, true, false, List, [], ◌∷◌, ◌++◌, Option, Some, None, refl, sym, ap, ◌∙◌, subst}
+use Rattle.std.proofs.Common.{◌≡◌, ℕ, Bool, true, false, List, [], ◌∷◌, None, refl, ap, ◌∙◌, subst}
 use Rattle.std.specs.List.{All, list_all}
 use Rattle.gptman.specs.Coding.{FitsHeader, FitsEntry}
 use Rattle.gptman.specs.Disk.{DiskState, Wrote}

@@ -1,11 +1,11 @@
 -- The ranges of a copy that is written.
-use Rattle.std.proofs.Common.{◌≡◌, ◌≢◌, ◌≤◌, ◌<◌, ◌+◌, ◌*◌, inl, inr, ⊎_elim, ℕ, Bool, true, false, List, [], ◌∷◌, eqb, arith, refl, sym, ap, ◌∙◌, subst}
+use Rattle.std.proofs.Common.{◌≡◌, ◌≢◌, ◌≤◌, ◌+◌, ◌*◌, inl, inr, ℕ, Bool, [], ◌∷◌, arith, sym, ap, ◌∙◌, subst}
 use Rattle.std.specs.Prelude.{if◌then◌else◌}
 use Rattle.std.proofs.lemmas.Bool.Decides.{eqb_tells}
 use Rattle.gptman.specs.Disk.{Within}
 use Rattle.gptman.specs.Write.{write_ranges, array_range}
 use Rattle.gptman.specs.declared.codec.header.GPTHeader.{GPTHeader}
-use Rattle.gptman.proofs.Ranges.{Ranges, within_range, within_later, within_self}
+use Rattle.gptman.proofs.Ranges.{Ranges, within_range, within_later}
 
 -- where there are entries, they have a range
 pub array_range_is : (h : GPTHeader) (ss : ℕ) → h.number_of_partition_entries ≢ 0 → array_range h ss ≡ (h.partition_entry_lba * ss, 128 * h.number_of_partition_entries) ∷ []

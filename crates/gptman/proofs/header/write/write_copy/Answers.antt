@@ -1,10 +1,9 @@
-use Rattle.std.proofs.Common.{◌≡◌, ◌≢◌, ◌⊎◌, ◌*◌, ◌+◌, inl, inr, ⊎_elim, ℕ, [], length, IsTrue, arith, subst, sym, ap, ◌∙◌}
+use Rattle.std.proofs.Common.{◌≡◌, ◌≢◌, ◌⊎◌, ◌*◌, inl, inr, ⊎_elim, ℕ, [], length, IsTrue, arith, subst, sym, ap, ◌∙◌}
 use Rattle.std.specs.List.{Contains}
 use Rattle.std.proofs.lemmas.List.{nil_from_length}
 use Rattle.gptman.specs.Calls.{Untouched}
 use Rattle.gptman.specs.Coding.{header_bytes, array_bytes}
-use Rattle.gptman.specs.Disk.{DiskState, Wrote, overlay}
-use Rattle.gptman.specs.Write.{write_ranges}
+use Rattle.gptman.specs.Disk.{overlay}
 use Rattle.gptman.proofs.Overlays.{overlay_nothing}
 use Rattle.gptman.proofs.Ranges.{contains_new, on_err_of, on_ok_of, within_none}
 use Rattle.gptman.proofs.Runs.{wrote_then, wrote_wider}

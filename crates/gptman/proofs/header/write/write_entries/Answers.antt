@@ -1,8 +1,8 @@
-use Rattle.std.proofs.Common.{◌≡◌, ◌≤◌, ◌<◌, ◌+◌, ◌-◌, ◌*◌, ◌++◌, List, ℕ, length, take, drop, arith, sym, ap, ◌∙◌}
-use Rattle.std.proofs.lemmas.List.{length-take-le, length-take, length-drop}
+use Rattle.std.proofs.Common.{◌≡◌, ◌≤◌, ◌+◌, ◌-◌, ◌*◌, List, ℕ, length, take, drop, arith, sym, ap, ◌∙◌}
+use Rattle.std.proofs.lemmas.List.{length-take-le, length-drop}
 use Rattle.std.proofs.lemmas.List.Elements.{All-append, All-same}
 use Rattle.gptman.specs.Coding.{FitsEntry, array_bytes}
-use Rattle.gptman.specs.Disk.{DiskState, overlay}
+use Rattle.gptman.specs.Disk.{overlay}
 use Rattle.gptman.specs.declared.codec.entry.GPTPartitionEntry.{GPTPartitionEntry}
 use Rattle.gptman.proofs.ArrayBytes.{array_long}
 use Rattle.gptman.proofs.BlockBytes.{block_more, entries_more}

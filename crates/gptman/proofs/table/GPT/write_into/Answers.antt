@@ -1,4 +1,4 @@
-use Rattle.std.proofs.Common.{◌≡◌, ⊎_elim, ℕ, true, List, None, IsTrue, length, ◌<◌, ◌^◌, sym, ap, ◌∙◌, subst}
+use Rattle.std.proofs.Common.{◌≡◌, ⊎_elim, ℕ, List, None, IsTrue, length, ◌<◌, ◌^◌, sym, ap, ◌∙◌, subst}
 use Rattle.gptman.specs.Calls.{HasBytes}
 use Rattle.gptman.specs.Layout.{HasLayout}
 use Rattle.gptman.specs.Table.{entries_in, sealed, table_of}
