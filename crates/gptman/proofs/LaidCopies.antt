@@ -96,6 +96,14 @@ copy_inside h ss len inside =
     ] in
     (inr (leb-true (h.primary_lba * ss + 92) len parts.0), (entries, tt))
 
+-- two copies that are apart, their empty arrays counted in
+pub copies_apart : (g h : GPTHeader) (ss : ℕ) → h.number_of_partition_entries ≡ g.number_of_partition_entries → AreApart (write_ranges g ss ++ write_ranges h ss)
+    → AreApart (copy_ranges g ss ++ copy_ranges h ss)
+copies_apart g h ss same apart =
+    let P : ℕ → Type 0 = λ n. AreApart (write_ranges g ss ++ ((h.primary_lba * ss, 92) ∷ entries_range n (nat_eq n 0) (h.partition_entry_lba * ss))) in
+    let Q : ℕ → Type 0 = λ n. AreApart (copy_ranges g ss ++ ((h.primary_lba * ss, 92) ∷ (h.partition_entry_lba * ss, 128 * n) ∷ [])) in
+    subst Q (sym same) (with_empty (g.primary_lba * ss) (g.partition_entry_lba * ss) (h.primary_lba * ss) (h.partition_entry_lba * ss) g.number_of_partition_entries (subst P same apart))
+
 -- Two copies that are apart and on the disk stand there once both are laid.
 pub laid_both : (old mid new : List ℕ) (g h : GPTHeader) (es : List GPTPartitionEntry) (ss : ℕ) → AreApart (write_ranges g ss ++ write_ranges h ss)
     → list_all (is_inside (length old)) (write_ranges g ss) ≡ true → list_all (is_inside (length old)) (write_ranges h ss) ≡ true
@@ -103,11 +111,7 @@ pub laid_both : (old mid new : List ℕ) (g h : GPTHeader) (es : List GPTPartiti
     → IsCopyLaid g es ss old mid → IsCopyLaid h es ss mid new → HasBytes new g es ss × HasBytes new h es ss
 laid_both old mid new g h es ss apart inside_g inside_h fits_g fits_h fits count_g count_h laid_g laid_h =
     let len : ℕ = length old in
-    let same : h.number_of_partition_entries ≡ g.number_of_partition_entries = sym count_h ∙ count_g in
-    let P : ℕ → Type 0 = λ n. AreApart (write_ranges g ss ++ ((h.primary_lba * ss, 92) ∷ entries_range n (nat_eq n 0) (h.partition_entry_lba * ss))) in
-    let Q : ℕ → Type 0 = λ n. AreApart (copy_ranges g ss ++ ((h.primary_lba * ss, 92) ∷ (h.partition_entry_lba * ss, 128 * n) ∷ [])) in
-    let all_apart : AreApart (copy_ranges g ss ++ copy_ranges h ss) =
-    subst Q (sym same) (with_empty (g.primary_lba * ss) (g.partition_entry_lba * ss) (h.primary_lba * ss) (h.partition_entry_lba * ss) g.number_of_partition_entries (subst P same apart)) in
+    let all_apart = copies_apart g h ss (sym count_h ∙ count_g) apart in
     let ins_g = copy_inside g ss len inside_g in
     let ins_h = copy_inside h ss len inside_h in
     let both = both_stand old mid new g h es ss fits_g fits_h fits count_g count_h all_apart (ins_g.0, (ins_g.1.0, ins_h)) laid_g laid_h in

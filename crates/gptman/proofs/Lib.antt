@@ -16,6 +16,7 @@ pub mod HeaderBytes
 pub mod LaidCopies
 pub mod NameText
 pub mod Numbers
+pub mod OneWhole
 pub mod OtherHeader
 pub mod Overlays
 pub mod Pieces
