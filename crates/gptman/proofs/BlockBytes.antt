@@ -1,6 +1,6 @@
 -- The bytes of entries that are put one behind the other, and block by block.
 use Rattle.std.proofs.Common.{take-add, ◌≡◌, ℕ, ◌+◌, ◌-◌, ◌*◌, ◌<◌, ◌≤◌, List, [], ◌∷◌, ◌++◌, length, get_or, take, drop, arith, sym, ap, ◌∙◌}
-use Rattle.std.proofs.lemmas.List.{append_assoc, append-nil, length-append, length-take-le, take_at, take_more}
+use Rattle.std.proofs.lemmas.List.{append_assoc, append-nil, length-append, length-drop, length-take-le, take_at, take_more}
 use Rattle.std.proofs.lemmas.List.Concat.{flat_map-append}
 use Rattle.gptman.specs.Coding.{entry_bytes, array_bytes}
 use Rattle.gptman.specs.declared.codec.entry.GPTPartitionEntry.{GPTPartitionEntry}
@@ -20,7 +20,11 @@ entry_put old new es k e before room lt is size put =
     ∙ sym (ap array_bytes more ∙ flat_map-append entry_bytes (take k es) (e ∷ [])
     ∙ ap (λ (xs : List ℕ). array_bytes (take k es) ++ xs) (append-nil (entry_bytes e)))
 
--- the first entries, and a block of n behind them
+-- how many entries a block has
+pub block_count : (es : List GPTPartitionEntry) (i end : ℕ) → end ≤ length es → length (take (end - i) (drop i es)) ≡ end - i
+block_count es i end within = length-take-le (end - i) (drop i es) (omega (arith, length-drop i es))
+
+-- the first entries, and a block behind them
 pub entries_more : (es : List GPTPartitionEntry) (i end : ℕ) → i ≤ end → take end es ≡ take i es ++ take (end - i) (drop i es)
 entries_more es i end le =
     let cut : i + (end - i) ≡ end = omega arith in

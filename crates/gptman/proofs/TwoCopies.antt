@@ -1,15 +1,17 @@
 -- Both copies of a table, written one after the other.
-use Rattle.std.proofs.Common.{◌≡◌, ℕ, Bool, true, false, List, [], ◌∷◌, None, refl, ap, ◌∙◌, subst}
+use Rattle.std.proofs.Common.{◌≡◌, ℕ, Bool, true, false, List, [], ◌∷◌, ◌++◌, None, refl, sym, ap, ◌∙◌, subst}
 use Rattle.std.specs.List.{All, list_all}
+use Rattle.std.proofs.lemmas.Bool.{and_parts}
+use Rattle.std.proofs.lemmas.List.Folds.{list_all-append}
 use Rattle.gptman.specs.Coding.{FitsHeader, FitsEntry}
 use Rattle.gptman.specs.Disk.{DiskState, Wrote}
 use Rattle.gptman.specs.Fault.{Fault, invalid_partition_boundaries, overflow, no_space_left, first_failing}
 use Rattle.gptman.specs.Table.{sealed}
-use Rattle.gptman.specs.Write.{other_header, write_ranges, both_ranges, write_fault, is_inside}
+use Rattle.gptman.specs.Write.{other_header, write_ranges, both_ranges, copy_write_fault, write_fault, has_other_header, is_addressable, is_inside}
 use Rattle.gptman.specs.Calls.{IsCopyLaid}
 use Rattle.gptman.specs.declared.codec.header.GPTHeader.{GPTHeader}
 use Rattle.gptman.specs.declared.codec.entry.GPTPartitionEntry.{GPTPartitionEntry}
-use Rattle.gptman.proofs.Ranges.{within_left, within_none, within_right}
+use Rattle.gptman.proofs.Ranges.{Ranges, within_left, within_none, within_right}
 use Rattle.gptman.proofs.Runs.{wrote_then, wrote_wider}
 
 -- the other copy is written after calls that only read
@@ -22,15 +24,36 @@ wrote_other {a} {b} {c} h other ss is read wrote =
 pub wrote_own : {a b c : DiskState} (h : GPTHeader) (ss : ℕ) → Wrote (both_ranges h ss) a b → Wrote (write_ranges h ss) b c → Wrote (both_ranges h ss) a c
 wrote_own h ss other own = wrote_then (within_left (write_ranges h ss) (write_ranges (other_header h) ss)) other own
 
-last_passes : (a b c : Bool) (x y z : Fault) → first_failing ((a, x) ∷ (b, y) ∷ (c, z) ∷ []) ≡ None → c ≡ true
-last_passes true true true x y z none = refl
-last_passes true true false x y z none = cc
-last_passes true false c x y z none = cc
-last_passes false b c x y z none = cc
+later_pass : (a b c : Bool) (x y z : Fault) → first_failing ((a, x) ∷ (b, y) ∷ (c, z) ∷ []) ≡ None → (b ≡ true) × (c ≡ true)
+later_pass true true true x y z none = (refl, refl)
+later_pass true true false x y z none = (refl, cc)
+later_pass true false c x y z none = (cc, cc)
+later_pass false b c x y z none = (cc, cc)
 
--- where nothing is refused, both copies lie on the disk
-pub both_inside : (h : GPTHeader) (ss len : ℕ) → write_fault h ss len ≡ None → list_all (is_inside len) (both_ranges h ss) ≡ true
-both_inside h ss len none = last_passes _ _ (list_all (is_inside len) (both_ranges h ss)) invalid_partition_boundaries overflow no_space_left none
+both_pass : (a b : Bool) (x y : Fault) → a ≡ true → b ≡ true → first_failing ((a, x) ∷ (b, y) ∷ []) ≡ None
+both_pass true b x y is_a is_b = ap (λ (t : Bool). first_failing ((true, x) ∷ (t, y) ∷ [])) is_b
+both_pass false b x y is_a is_b = cc
+
+-- Neither copy is refused by itself, and both lie on the disk.
+pub record AreAllowed (h : GPTHeader) (ss len : ℕ) : Type 0 where
+  pub own : copy_write_fault h ss len ≡ None
+  pub other : copy_write_fault (other_header h) ss len ≡ None
+  pub inside : list_all (is_inside len) (both_ranges h ss) ≡ true
+
+-- That is so where the table is not refused.
+pub both_allowed : (h : GPTHeader) (ss len : ℕ) → write_fault h ss len ≡ None → AreAllowed h ss len
+both_allowed h ss len none =
+    let own : Ranges = write_ranges h ss in
+    let other : Ranges = write_ranges (other_header h) ss in
+    let pass = later_pass _ _ (list_all (is_inside len) (both_ranges h ss)) invalid_partition_boundaries overflow no_space_left none in
+    let fit = and_parts (has_other_header h) (list_all is_addressable (own ++ other)) pass.0 in
+    let fits = and_parts (list_all is_addressable own) (list_all is_addressable other) (sym (list_all-append is_addressable own other) ∙ fit.1) in
+    let lie = and_parts (list_all (is_inside len) own) (list_all (is_inside len) other) (sym (list_all-append (is_inside len) own other) ∙ pass.1) in
+    record {
+      own = both_pass (list_all is_addressable own) (list_all (is_inside len) own) overflow no_space_left fits.0 lie.0;
+      other = both_pass (list_all is_addressable other) (list_all (is_inside len) other) overflow no_space_left fits.1 lie.1;
+      inside = pass.1;
+    }
 
 -- The other copy was laid over old, and then the own one.
 pub record BothLaid (old new : List ℕ) (h : GPTHeader) (es : List GPTPartitionEntry) (ss : ℕ) : Type 0 where

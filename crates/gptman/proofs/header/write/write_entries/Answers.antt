@@ -1,15 +1,29 @@
 use Rattle.std.proofs.Common.{◌≡◌, ◌≤◌, ◌+◌, ◌-◌, ◌*◌, List, ℕ, length, take, drop, arith, sym, ap, ◌∙◌}
-use Rattle.std.proofs.lemmas.List.{length-take-le, length-drop}
+use Rattle.std.proofs.lemmas.List.{length-take-le}
 use Rattle.std.proofs.lemmas.List.Elements.{All-append, All-same}
 use Rattle.gptman.specs.Coding.{FitsEntry, array_bytes}
 use Rattle.gptman.specs.Disk.{overlay}
 use Rattle.gptman.specs.declared.codec.entry.GPTPartitionEntry.{GPTPartitionEntry}
 use Rattle.gptman.proofs.ArrayBytes.{array_long}
-use Rattle.gptman.proofs.BlockBytes.{block_more, entries_more}
+use Rattle.gptman.proofs.BlockBytes.{block_count, block_more, entries_more}
 use Rattle.gptman.proofs.Overlays.{overlay_more}
 use Rattle.gptman.proofs.Ranges.{within_range}
 use Rattle.gptman.proofs.Runs.{wrote_then}
 use Rattle.gptman.proofs.header.write.write_entries.Goals as goal
+
+pub returns-in_err-write_block-clause-wrote : goal.returns-in_err-write_block-clause-wrote
+returns-in_err-write_block-clause-wrote g c = λ honest.
+    let inv = c.loop-done.invariant in
+    let start = g.D.Disk.state c.args.disk.now in
+    let before = g.D.Disk.state c.loop-done.disk in
+    let es : List GPTPartitionEntry = c.args.partitions.now in
+    let done : ℕ = c.loop-done.done in
+    let end : ℕ = c.min-end.result in
+    let block : List GPTPartitionEntry = take (end - done) (drop done es) in
+    let count : length block ≡ end - done = block_count es done end (omega arith) in
+    let low : start.position ≤ before.position = omega (arith, inv.position) in
+    let high : before.position + 128 * length block ≤ start.position + 128 * length es = omega (arith, inv.position, inv.within, count) in
+    wrote_then (within_range low high) (inv.wrote honest) (c.write_block.ensures.wrote (inv.wrote honest).honest)
 
 pub loop-done-preserved : goal.loop-done-preserved
 loop-done-preserved g c =
@@ -23,7 +37,7 @@ loop-done-preserved g c =
     let upto : done ≤ end = omega arith in
     let within : end ≤ length es = omega arith in
     let block : List GPTPartitionEntry = take (end - done) (drop done es) in
-    let count : length block ≡ end - done = length-take-le (end - done) (drop done es) (omega (arith, length-drop done es)) in
+    let count : length block ≡ end - done = block_count es done end within in
     let xs : List ℕ = array_bytes (take done es) in
     let long : length xs ≡ 128 * done = omega (arith, array_long (take done es) inv.fits, length-take-le done es inv.within) in
     let size : length (array_bytes block) ≡ 128 * (end - done) = omega (arith, array_long block next.fits, count) in

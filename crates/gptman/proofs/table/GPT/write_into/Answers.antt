@@ -2,13 +2,35 @@ use Rattle.std.proofs.Common.{◌≡◌, ⊎_elim, ℕ, List, None, IsTrue, leng
 use Rattle.gptman.specs.Calls.{HasBytes}
 use Rattle.gptman.specs.Layout.{HasLayout}
 use Rattle.gptman.specs.Table.{entries_in, sealed, table_of}
-use Rattle.gptman.specs.Write.{other_header, write_fault}
+use Rattle.gptman.specs.Write.{other_header, copy_write_fault, write_fault}
 use Rattle.gptman.specs.declared.codec.header.GPTHeader.{GPTHeader}
 use Rattle.gptman.specs.declared.codec.entry.GPTPartitionEntry.{GPTPartitionEntry}
+use Rattle.gptman.proofs.Ranges.{within_none}
+use Rattle.gptman.proofs.Runs.{wrote_wider}
 use Rattle.gptman.proofs.Stored.{laid_from, stored_from}
-use Rattle.gptman.proofs.TwoCopies.{BothLaid, both_inside, both_laid, wrote_other, wrote_own}
+use Rattle.gptman.proofs.TwoCopies.{BothLaid, both_allowed, both_laid, wrote_other, wrote_own}
 use Rattle.gptman.proofs.table.GPT.write_into.Given.{Over}
 use Rattle.gptman.proofs.table.GPT.write_into.Goals as goal
+
+pub returns-in_err-other-clause-wrote : goal.returns-in_err-other-clause-wrote
+returns-in_err-other-clause-wrote g c = λ honest. wrote_wider within_none (c.in_err-other.ensures.reads honest).wrote
+
+pub write_copy-requires-clause-allowed : goal.write_copy-requires-clause-allowed
+write_copy-requires-clause-allowed g c =
+    let h : GPTHeader = c.args.self.now.header in
+    let ss : ℕ = c.args.self.now.sector_size in
+    let old = g.D.Disk.state c.args.disk.now in
+    let none : write_fault h ss old.size ≡ None = ⊎_elim (λ is. sym is) (λ fails. absurd fails.0) c.in_ok-other.ensures.answer in
+    ap (copy_write_fault c.in_ok-other.other ss) c.in_ok-other.ensures.keeps.size
+    ∙ ap (λ (x : GPTHeader). copy_write_fault x ss old.size) c.in_ok-other.ensures.other ∙ (both_allowed h ss old.size none).other
+
+pub write_copy-requires-2-clause-allowed : goal.write_copy-requires-2-clause-allowed
+write_copy-requires-2-clause-allowed g c =
+    let h : GPTHeader = c.args.self.now.header in
+    let ss : ℕ = c.args.self.now.sector_size in
+    let old = g.D.Disk.state c.args.disk.now in
+    let none : write_fault h ss old.size ≡ None = ⊎_elim (λ is. sym is) (λ fails. absurd fails.0) c.in_ok-other.ensures.answer in
+    ap (copy_write_fault h ss) (c.write_copy.ensures.keeps.size ∙ c.in_ok-other.ensures.keeps.size) ∙ (both_allowed h ss old.size none).own
 
 pub returns-in_err-write_copy-clause-wrote : goal.returns-in_err-write_copy-clause-wrote
 returns-in_err-write_copy-clause-wrote g c = λ honest.
@@ -48,7 +70,7 @@ returns-clause-laid g c = λ honest apart.
     let both = laid g c honest in
     let long : length old.view ≡ old.size = (g.met.D.Disk.sound c.args.disk.now honest).size in
     let none : write_fault h ss old.size ≡ None = ⊎_elim (λ is. sym is) (λ fails. absurd fails.0) c.in_ok-other.ensures.answer in
-    let inside = both_inside h ss (length old.view) (ap (write_fault h ss) long ∙ none) in
+    let inside = (both_allowed h ss (length old.view) (ap (write_fault h ss) long ∙ none)).inside in
     let stand = laid_from old.view both.mid new.view h es ss apart inside c.requires.coherent.count both.fits_other both.fits_own both.fits both.other both.own in
     let own_is : c.write_copy-2.new.header ≡ sealed h es = c.in_ok-write_copy-2.ensures.sealed ∙ ap (sealed h) c.as_slice-2.ensures.items in
     let other_is : c.write_copy.new.header ≡ sealed (other_header h) es = c.in_ok-write_copy.ensures.sealed ∙ (λ i. sealed (c.in_ok-other.ensures.other i) (c.as_slice.ensures.items i)) in
