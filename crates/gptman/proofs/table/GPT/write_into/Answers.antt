@@ -7,6 +7,7 @@ use Rattle.gptman.specs.declared.codec.header.GPTHeader.{GPTHeader}
 use Rattle.gptman.specs.declared.codec.entry.GPTPartitionEntry.{GPTPartitionEntry}
 use Rattle.gptman.proofs.Ranges.{within_none}
 use Rattle.gptman.proofs.Runs.{wrote_wider}
+use Rattle.gptman.proofs.OneWhole.{first_run, leaves_first, whole_after}
 use Rattle.gptman.proofs.Stored.{laid_from, stored_from}
 use Rattle.gptman.proofs.TwoCopies.{BothLaid, both_allowed, both_laid, wrote_other, wrote_own}
 use Rattle.gptman.proofs.table.GPT.write_into.Given.{Over}
@@ -90,3 +91,41 @@ returns-clause-stored g c = λ honest layout.
     let small = subst (λ (n : ℕ). n < 2 ^ 64) (sym long) (g.met.D.Disk.bounded c.args.disk.now) in
     let held = stored_from old.view both.mid new.view h es ss (subst (HasLayout h (table_of h es) ss) (sym long) layout) small both.fits_other both.fits_own both.fits both.other both.own in
     record { synced = c.in_ok-write_copy-2.ensures.synced w2.honest; at_primary = held.0; at_backup = held.1 }
+
+pub returns-in_err-write_copy-clause-one_whole : goal.returns-in_err-write_copy-clause-one_whole
+returns-in_err-write_copy-clause-one_whole g c = λ honest nothing apart.
+    let h : GPTHeader = c.args.self.now.header in
+    let ss : ℕ = c.args.self.now.sector_size in
+    let read = c.in_ok-other.ensures.reads honest in
+    leaves_first h _ ss (g.D.Disk.state c.args.disk.now) (g.D.Disk.state c.write_copy.new.disk) nothing
+    (first_run h _ ss _ (g.D.Disk.state c.checked.new.disk) _ c.in_ok-other.ensures.other read (c.write_copy.ensures.wrote read.wrote.honest))
+
+pub returns-in_err-write_copy-2-clause-one_whole : goal.returns-in_err-write_copy-2-clause-one_whole
+returns-in_err-write_copy-2-clause-one_whole g c = λ honest nothing apart.
+    let h : GPTHeader = c.args.self.now.header in
+    let ss : ℕ = c.args.self.now.sector_size in
+    let old = g.D.Disk.state c.args.disk.now in
+    let read = c.in_ok-other.ensures.reads honest in
+    let long : length old.view ≡ old.size = (g.met.D.Disk.sound c.args.disk.now honest).size in
+    let none : write_fault h ss old.size ≡ None = ⊎_elim (λ is. sym is) (λ fails. absurd fails.0) c.in_ok-other.ensures.answer in
+    let inside = (both_allowed h ss (length old.view) (ap (write_fault h ss) long ∙ none)).inside in
+    let first = c.in_ok-write_copy.ensures in
+    let run = c.write_copy.ensures.wrote read.wrote.honest in
+    whole_after h _ c.write_copy.new.header _ _ ss old (g.D.Disk.state c.checked.new.disk) (g.D.Disk.state c.write_copy.new.disk) (g.D.Disk.state c.write_copy-2.new.disk) nothing apart inside c.requires.coherent.count read
+    c.in_ok-other.ensures.other c.as_slice.ensures.items first.sealed first.fits (first.laid read.wrote.honest) run (first.synced read.wrote.honest)
+    (c.write_copy-2.ensures.wrote run.honest)
+
+pub returns-clause-one_whole : goal.returns-clause-one_whole
+returns-clause-one_whole g c = λ honest nothing apart.
+    let h : GPTHeader = c.args.self.now.header in
+    let ss : ℕ = c.args.self.now.sector_size in
+    let old = g.D.Disk.state c.args.disk.now in
+    let read = c.in_ok-other.ensures.reads honest in
+    let long : length old.view ≡ old.size = (g.met.D.Disk.sound c.args.disk.now honest).size in
+    let none : write_fault h ss old.size ≡ None = ⊎_elim (λ is. sym is) (λ fails. absurd fails.0) c.in_ok-other.ensures.answer in
+    let inside = (both_allowed h ss (length old.view) (ap (write_fault h ss) long ∙ none)).inside in
+    let first = c.in_ok-write_copy.ensures in
+    let run = c.write_copy.ensures.wrote read.wrote.honest in
+    whole_after h _ c.write_copy.new.header _ _ ss old (g.D.Disk.state c.checked.new.disk) (g.D.Disk.state c.write_copy.new.disk) (g.D.Disk.state c.write_copy-2.new.disk) nothing apart inside c.requires.coherent.count read
+    c.in_ok-other.ensures.other c.as_slice.ensures.items first.sealed first.fits (first.laid read.wrote.honest) run (first.synced read.wrote.honest)
+    (c.write_copy-2.ensures.wrote run.honest)
