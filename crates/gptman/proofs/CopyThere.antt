@@ -1,6 +1,6 @@
 -- A header and entries that stand at a place are accepted there.
-use Rattle.std.proofs.Common.{◌≡◌, ◌≤◌, ◌<◌, ◌⊎◌, ◌+◌, ◌*◌, ◌^◌, ◌||◌, ℕ, Bool, true, false, List, [], ◌∷◌, length, get_or, eqb, ltb, leb, Option, Some, None, Result, Ok, Err, refl, sym, ap, ◌∙◌, subst, inl, inr, arith}
-use Rattle.std.specs.Prelude.{if◌then◌else◌, encode_utf8_all}
+use Rattle.std.proofs.Common.{◌≡◌, ◌≤◌, ◌<◌, ◌⊎◌, ◌+◌, ◌*◌, ◌^◌, ◌||◌, ℕ, Bool, true, List, [], length, get_or, eqb, ltb, leb, Option, Some, None, Result, Ok, Err, refl, sym, ap, ◌∙◌, subst, inl, inr, arith}
+use Rattle.std.specs.Prelude.{encode_utf8_all}
 use Rattle.std.proofs.lemmas.Bool.{le-leb, lt-ltb, eq-eqb, or_left, or_right}
 use Rattle.std.proofs.lemmas.Bool.Decides.{eqb_tells}
 use Rattle.std.proofs.lemmas.List.FromFn.{fill_by_all}
@@ -13,18 +13,9 @@ use Rattle.gptman.specs.Fault.{Fault, first_failing}
 use Rattle.gptman.specs.Copy.{CopyAt, Copy, copy_tests, copy_fault, copy_there, copy_at, entries_of, entries_part, entries_start, entries_length, right_signature, right_revision, header_crc}
 use Rattle.gptman.specs.declared.codec.header.GPTHeader.{GPTHeader}
 use Rattle.gptman.specs.declared.codec.entry.GPTPartitionEntry.{GPTPartitionEntry}
+use Rattle.gptman.proofs.FirstFailing.{none_from_tests}
 use Rattle.gptman.proofs.HeaderBytes.{header_is}
 use Rattle.gptman.proofs.Overlays.{part-part}
-
--- each test passes
-abbrev pub AllTests : List (Bool × Fault) → Type 0
-AllTests [] = Unit {0}
-AllTests (test ∷ tests) = (test.0 ≡ true) × AllTests tests
-
--- tests that pass find no fault
-pub none_from_tests : (tests : List (Bool × Fault)) → AllTests tests → first_failing tests ≡ None
-none_from_tests [] h = refl
-none_from_tests (test ∷ tests) h = ap (λ (b : Bool). if b then first_failing tests else Some test.1) h.0 ∙ none_from_tests tests h.1
 
 -- an entry that was read is the one that its bytes hold
 pub entry_is : (e : GPTPartitionEntry) (x : List ℕ) → IsEntryCoding e x → HasReadName e → e ≡ entry_of x

@@ -4,6 +4,7 @@ pub mod Assembly
 pub mod ByTable
 pub mod CopyThere
 pub mod Division
+pub mod FirstFailing
 pub mod Fitting
 pub mod EntryBytes
 pub mod Events
