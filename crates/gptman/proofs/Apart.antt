@@ -1,5 +1,5 @@
 -- Ranges that have no byte in common, in another order.
-use Rattle.std.proofs.Common.{◌⊎◌, inl, inr, ℕ, [], ◌∷◌, ◌++◌, sym, subst}
+use Rattle.std.proofs.Common.{inl, inr, ℕ, [], ◌∷◌, ◌++◌, sym, subst}
 use Rattle.std.proofs.lemmas.List.{append-nil}
 use Rattle.gptman.specs.Layout.{IsApart, IsApartFromAll, AreApart}
 use Rattle.gptman.proofs.Ranges.{Ranges}

@@ -1,15 +1,13 @@
 -- What reading the entries of a header answers, one outcome at a time.
-use Rattle.std.proofs.Common.{◌≡◌, ◌≢◌, ◌≤◌, ◌<◌, ◌⊎◌, ◌+◌, ◌*◌, ◌^◌, ⊎_elim, ℕ, List, length, Result, Ok, Err, refl, sym, ap, ◌∙◌, inl, inr, arith}
-use Rattle.std.proofs.lemmas.Bool.Decides.{eqb_tells}
+use Rattle.std.proofs.Common.{◌≡◌, ◌≢◌, ◌≤◌, ◌<◌, ◌⊎◌, ◌+◌, ◌*◌, ⊎_elim, ℕ, List, length, Err, sym, ap, ◌∙◌, inl, inr, arith}
 use Rattle.gptman.specs.Bytes.{part}
-use Rattle.gptman.specs.Crc.{crc_of}
-use Rattle.gptman.specs.Copy.{array_result, entries_of, entries_start, entries_length}
+use Rattle.gptman.specs.Copy.{array_result, entries_start, entries_length}
 use Rattle.gptman.specs.Disk.{DiskState, Rose, Keeps}
-use Rattle.gptman.specs.Fault.{Fault, io, out_of_memory, invalid_array_checksum}
+use Rattle.gptman.specs.Fault.{Fault, io, out_of_memory}
 use Rattle.gptman.specs.Calls.{IsBlockFault, IsSeekFault, wrong_size, wrong_place, disk_failed, IsReadyFor, empty, there}
 use Rattle.gptman.specs.declared.codec.header.GPTHeader.{GPTHeader}
 use Rattle.gptman.proofs.Runs.{rose_since}
-use Rattle.gptman.proofs.CopyTests.{IsInPlace, array_size_wrong, array_beyond, array_short, array_changed, array_good}
+use Rattle.gptman.proofs.CopyTests.{IsInPlace, array_size_wrong, array_beyond, array_short}
 
 -- a refusal is that of a disk that failed, of want of memory, or the one by definition
 abbrev pub IsOutcome : List ℕ → ℕ → GPTHeader → Fault → DiskState → DiskState → Type 0

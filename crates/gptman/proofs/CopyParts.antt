@@ -1,30 +1,12 @@
 -- A copy is told by its header and then by its entries.
-use Rattle.std.proofs.Common.{◌≡◌, ◌++◌, ℕ, Bool, true, false, List, [], ◌∷◌, length, Option, Some, None, Result, Ok, Err, refl, sym, ap, ◌∙◌}
-use Rattle.std.specs.Prelude.{if◌then◌else◌}
+use Rattle.std.proofs.Common.{◌≡◌, ℕ, List, length, Option, Some, None, Result, Ok, Err, refl, ap, ◌∙◌}
 use Rattle.gptman.specs.Bytes.{part}
 use Rattle.gptman.specs.Coding.{header_of}
 use Rattle.gptman.specs.Fault.{Fault, first_failing}
 use Rattle.gptman.specs.Copy.{Copy, header_tests, array_tests, copy_tests, copy_fault, copy_there, copy_at, header_result, array_result, unless, entries_of, entries_part, entries_start, entries_length}
 use Rattle.gptman.specs.declared.codec.header.GPTHeader.{GPTHeader}
 use Rattle.gptman.specs.declared.codec.entry.GPTPartitionEntry.{GPTPartitionEntry}
-
--- further tests count where the first all pass
-later_tests : (xs ys : List (Bool × Fault)) → first_failing xs ≡ None → first_failing (xs ++ ys) ≡ first_failing ys
-later_tests [] ys none = refl
-later_tests (x ∷ xs) ys none =
-    (elim x.0 as (λ b. (if b then first_failing xs else Some x.1) ≡ None → (if b then first_failing (xs ++ ys) else Some x.1) ≡ first_failing ys) [
-      | true ↦ λ e. later_tests xs ys e
-      | false ↦ λ e. absurd (cc)
-    ]) none
-
--- and not where one of them fails
-first_tests : (xs ys : List (Bool × Fault)) (fault : Fault) → first_failing xs ≡ Some fault → first_failing (xs ++ ys) ≡ Some fault
-first_tests [] ys fault some = absurd (cc)
-first_tests (x ∷ xs) ys fault some =
-    (elim x.0 as (λ b. (if b then first_failing xs else Some x.1) ≡ Some fault → (if b then first_failing (xs ++ ys) else Some x.1) ≡ Some fault) [
-      | true ↦ λ e. first_tests xs ys fault e
-      | false ↦ λ e. e
-    ]) some
+use Rattle.gptman.proofs.FirstFailing.{first_tests, later_tests}
 
 refused_by : {X : Type 0} (o : Option Fault) (x : X) (fault : Fault) → unless o x ≡ Err fault → o ≡ Some fault
 refused_by None x fault is = absurd (cc)

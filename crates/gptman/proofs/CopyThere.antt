@@ -1,50 +1,20 @@
 -- A header and entries that stand at a place are accepted there.
-use Rattle.std.proofs.Common.{◌≡◌, ◌≤◌, ◌<◌, ◌⊎◌, ◌+◌, ◌*◌, ◌^◌, ◌||◌, ℕ, Bool, true, false, List, [], ◌∷◌, length, get_or, eqb, ltb, leb, Option, Some, None, Result, Ok, Err, refl, sym, ap, ◌∙◌, subst, inl, inr, arith}
-use Rattle.std.specs.Prelude.{if◌then◌else◌, encode_utf8_all}
-use Rattle.std.proofs.lemmas.Bool.{le-leb, lt-ltb, eq-eqb, or_left, or_right}
+use Rattle.std.proofs.Common.{◌≡◌, ◌≤◌, ◌<◌, ◌⊎◌, ◌+◌, ◌*◌, ◌^◌, ℕ, List, [], length, get_or, eqb, ltb, leb, Option, Some, None, Result, Ok, Err, refl, sym, ap, ◌∙◌, subst, inl, inr, arith}
+use Rattle.std.proofs.lemmas.Bool.{le-leb, lt-ltb, eq-eqb}
 use Rattle.std.proofs.lemmas.Bool.Decides.{eqb_tells}
 use Rattle.std.proofs.lemmas.List.FromFn.{fill_by_all}
 use lib.Pointwise.{bytes_decides}
 use Rattle.gptman.specs.Bytes.{part}
-use Rattle.gptman.specs.Name.{text_of}
-use Rattle.gptman.specs.Coding.{IsEntryCoding, HasReadName, header_of, entry_of}
+use Rattle.gptman.specs.Coding.{header_of, entry_of}
 use Rattle.gptman.specs.Crc.{crc_of}
 use Rattle.gptman.specs.Fault.{Fault, first_failing}
 use Rattle.gptman.specs.Copy.{CopyAt, Copy, copy_tests, copy_fault, copy_there, copy_at, entries_of, entries_part, entries_start, entries_length, right_signature, right_revision, header_crc}
 use Rattle.gptman.specs.declared.codec.header.GPTHeader.{GPTHeader}
 use Rattle.gptman.specs.declared.codec.entry.GPTPartitionEntry.{GPTPartitionEntry}
+use Rattle.gptman.proofs.EntryBytes.{entry_is}
+use Rattle.gptman.proofs.FirstFailing.{none_from_tests, none_or}
 use Rattle.gptman.proofs.HeaderBytes.{header_is}
 use Rattle.gptman.proofs.Overlays.{part-part}
-
--- each test passes
-abbrev pub AllTests : List (Bool × Fault) → Type 0
-AllTests [] = Unit {0}
-AllTests (test ∷ tests) = (test.0 ≡ true) × AllTests tests
-
--- tests that pass find no fault
-pub none_from_tests : (tests : List (Bool × Fault)) → AllTests tests → first_failing tests ≡ None
-none_from_tests [] h = refl
-none_from_tests (test ∷ tests) h = ap (λ (b : Bool). if b then first_failing tests else Some test.1) h.0 ∙ none_from_tests tests h.1
-
--- an entry that was read is the one that its bytes hold
-pub entry_is : (e : GPTPartitionEntry) (x : List ℕ) → IsEntryCoding e x → HasReadName e → e ≡ entry_of x
-unfolding entry_of
-entry_is e x c name = λ i. record {
-  partition_type_guid = c.partition_type_guid i;
-  unique_partition_guid = c.unique_partition_guid i;
-  starting_lba = c.starting_lba i;
-  ending_lba = c.ending_lba i;
-  attribute_bits = c.attribute_bits i;
-  partition_name = record { text = (name ∙ ap text_bytes c.units) i; units = c.units i };
-}
-  where
-    text_bytes : List ℕ → List ℕ
-    text_bytes us = encode_utf8_all (text_of us)
-
--- there are no entries, or the test passes
-none_or : (n : ℕ) (t : Bool) (P : Type 0) → (P → t ≡ true) → (n ≡ 0) ⊎ P → (eqb n 0 || t) ≡ true
-none_or n t P passes (inl zero) = or_left (eqb n 0) t (eq-eqb n 0 zero)
-none_or n t P passes (inr p) = or_right (eqb n 0) t (passes p)
 
 -- entries that lie on the disk begin below its end
 start_below : (n start size len : ℕ) → size ≡ 128 * n → (n ≡ 0) ⊎ (start + size ≤ len) → (n ≡ 0) ⊎ (start < len)

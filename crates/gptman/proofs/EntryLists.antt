@@ -1,21 +1,13 @@
 -- Entries that are read in blocks are those of all the bytes.
-use Rattle.std.proofs.Common.{◌≡◌, ◌≤◌, ◌<◌, ◌+◌, ◌-◌, ◌*◌, ℕ, zero, suc, List, [], ◌∷◌, ◌++◌, length, take, drop, map, refl, sym, ap, ◌∙◌, arith, append_assoc, take-add, add-zero}
-use Rattle.std.specs.Prelude.{slice_range, encode_utf8_all}
-use Rattle.gptman.specs.Name.{text_of}
-use Rattle.std.specs.List.{range_with_len}
-use Rattle.std.proofs.lemmas.List.{append-nil, drop-drop, drop-take, take-take}
+use Rattle.std.proofs.Common.{◌≡◌, ◌≤◌, ◌+◌, ◌-◌, ◌*◌, ℕ, zero, suc, List, [], ◌∷◌, ◌++◌, length, take, drop, refl, sym, ap, ◌∙◌, arith, append_assoc, take-add}
+use Rattle.std.specs.Prelude.{slice_range}
+use Rattle.std.proofs.lemmas.List.{append-nil, drop-drop}
 use Rattle.std.proofs.lemmas.List.FromFn.{map-range_with_len_more, length-map-range_with_len}
 use Rattle.gptman.specs.Bytes.{part}
-use Rattle.gptman.specs.Coding.{IsEntryCoding, HasReadName, entry_of}
+use Rattle.gptman.specs.Coding.{entry_of}
 use Rattle.gptman.specs.Copy.{entries_of}
 use Rattle.gptman.specs.declared.codec.entry.GPTPartitionEntry.{GPTPartitionEntry}
-
--- a part of a part
-pub part-part : (b : List ℕ) (at n k m : ℕ) → k + m ≤ n → part (part b at n) k m ≡ part b (at + k) m
-part-part b at n k m h =
-    let whole : n ≡ k + (n - k) = omega arith in
-    ap (λ (j : ℕ). take m (drop k (take j (drop at b)))) whole ∙ ap (take m) (drop-take k (n - k) (drop at b))
-    ∙ take-take m (n - k) (drop k (drop at b)) (omega arith) ∙ ap (take m) (drop-drop k at b)
+use Rattle.gptman.proofs.Overlays.{part-part}
 
 -- two parts that adjoin
 pub part-more : (b : List ℕ) (at n m : ℕ) → part b at n ++ part b (at + n) m ≡ part b at (n + m)
@@ -69,18 +61,3 @@ entries_of-blocks b at n (suc m) =
       (entries_of-blocks b at n m ∙ sym (entries_of-front b at (n + suc m) (n + m) (omega arith)))
     ∙ ap (λ (x : List ℕ). entries_of (part b at (128 * (n + suc m))) (n + m) ++ entry_of x ∷ []) here
     ∙ sym (ap (entries_of (part b at (128 * (n + suc m)))) all ∙ entries_of-more (part b at (128 * (n + suc m))) (n + m))
-
--- an entry that was read is the one that its bytes hold
-pub entry_is : (e : GPTPartitionEntry) (x : List ℕ) → IsEntryCoding e x → HasReadName e → e ≡ entry_of x
-unfolding entry_of
-entry_is e x c name = λ i. record {
-  partition_type_guid = c.partition_type_guid i;
-  unique_partition_guid = c.unique_partition_guid i;
-  starting_lba = c.starting_lba i;
-  ending_lba = c.ending_lba i;
-  attribute_bits = c.attribute_bits i;
-  partition_name = record { text = (name ∙ ap text_bytes c.units) i; units = c.units i };
-}
-  where
-    text_bytes : List ℕ → List ℕ
-    text_bytes us = encode_utf8_all (text_of us)

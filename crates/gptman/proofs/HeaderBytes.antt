@@ -1,5 +1,5 @@
 -- A header as bytes.
-use Rattle.std.proofs.Common.{◌≡◌, ℕ, ◌^◌, ◌<◌, List, length, get_or, arith, refl, sym, ap, subst, ◌∙◌, map, length-append}
+use Rattle.std.proofs.Common.{◌≡◌, ℕ, List, length, get_or, arith, refl, sym, ap, subst, ◌∙◌, map, length-append}
 use Rattle.std.specs.List.{range_with_len}
 use Rattle.std.proofs.lemmas.List.{take_all}
 use Rattle.byteorder.specs.Endian.{little_bytes}

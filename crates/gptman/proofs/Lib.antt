@@ -11,6 +11,7 @@ pub mod Division
 pub mod EntryBytes
 pub mod EntryLists
 pub mod Events
+pub mod FirstFailing
 pub mod Fitting
 pub mod HeaderBytes
 pub mod LaidCopies

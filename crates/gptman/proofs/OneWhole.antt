@@ -1,5 +1,5 @@
 -- At any moment of a write of two copies the other one is whole, or nothing but its ranges has changed.
-use Rattle.std.proofs.Common.{◌≡◌, ◌⊎◌, inl, inr, ℕ, ◌*◌, ◌++◌, Bool, true, false, List, [], ◌∷◌, length, refl, sym, ap, ◌∙◌, subst, arith}
+use Rattle.std.proofs.Common.{◌≡◌, inl, inr, ℕ, ◌*◌, ◌++◌, Bool, true, List, [], ◌∷◌, length, sym, ap, ◌∙◌, subst, arith}
 use Rattle.std.specs.Prelude.{if◌then◌else◌}
 use Rattle.std.specs.List.{All, list_all}
 use Rattle.std.proofs.lemmas.Bool.{and_parts}
@@ -8,7 +8,7 @@ use Rattle.std.proofs.lemmas.List.Folds.{list_all-append}
 use Rattle.std.proofs.lemmas.Bool.Decides.{eqb_tells}
 use Rattle.gptman.specs.Bytes.{part}
 use Rattle.gptman.specs.Coding.{FitsHeader, FitsEntry, header_bytes, array_bytes}
-use Rattle.gptman.specs.Disk.{DiskState, Agrees, Within, LeavesOnly, Wrote, overlay}
+use Rattle.gptman.specs.Disk.{DiskState, Agrees, Within, LeavesOnly, Wrote}
 use Rattle.gptman.specs.Layout.{AreApart, AreInside}
 use Rattle.gptman.specs.Table.{sealed}
 use Rattle.gptman.specs.Write.{other_header, write_ranges, both_ranges, is_inside}
@@ -19,7 +19,7 @@ use Rattle.gptman.proofs.ArrayBytes.{array_long}
 use Rattle.gptman.proofs.HeaderBytes.{header_long}
 use Rattle.gptman.proofs.LaidCopies.{copy_ranges, copies_apart, copy_inside}
 use Rattle.gptman.proofs.Overlays.{part_same}
-use Rattle.gptman.proofs.Pieces.{laid_over, ranges_of, AllStand, laid_stand}
+use Rattle.gptman.proofs.Pieces.{ranges_of, AllStand, laid_stand}
 use Rattle.gptman.proofs.Ranges.{Ranges, agrees_wider, within_none, within_self}
 use Rattle.gptman.proofs.Runs.{leaves_then, wrote_then, wrote_wider}
 use Rattle.gptman.proofs.Apart.{apart_exchanged}

@@ -3,7 +3,7 @@ use Rattle.std.proofs.Common.{◌≡◌, ◌⊎◌, inl, inr, ◌≤◌, ℕ, �
 use Rattle.std.proofs.lemmas.List.{append-nil, take-append-drop}
 use Rattle.gptman.specs.Disk.{Agrees, overlay}
 use Rattle.gptman.specs.Bytes.{part}
-use Rattle.gptman.specs.Layout.{IsApart, IsApartFromAll, AreApart, AreInside}
+use Rattle.gptman.specs.Layout.{AreApart, AreInside}
 use Rattle.gptman.proofs.Ranges.{Ranges, agrees_self, agrees_then, agrees_wider, within_self, within_first, within_later}
 use Rattle.gptman.proofs.Overlays.{agrees_overlay, part-overlay, part_same}
 

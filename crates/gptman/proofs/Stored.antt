@@ -1,5 +1,5 @@
 -- Both copies of a table, the other one written before the own one.
-use Rattle.std.proofs.Common.{◌≡◌, ◌<◌, ◌≤◌, ◌+◌, ◌*◌, ◌^◌, ◌++◌, ℕ, true, List, [], ◌∷◌, length, refl, sym, ap, ◌∙◌, subst, inl, inr, arith}
+use Rattle.std.proofs.Common.{◌≡◌, ◌<◌, ◌*◌, ◌^◌, ◌++◌, ℕ, true, List, [], ◌∷◌, length, refl, sym, ap, ◌∙◌, subst, inl, inr, arith}
 use Rattle.std.specs.List.{All, list_all}
 use Rattle.std.proofs.lemmas.Bool.{and_parts}
 use Rattle.std.proofs.lemmas.List.{length-map}
@@ -13,11 +13,11 @@ use Rattle.gptman.specs.Calls.{IsCopyLaid, HasBytes}
 use Rattle.gptman.specs.declared.codec.header.GPTHeader.{GPTHeader}
 use Rattle.gptman.specs.declared.codec.entry.GPTPartitionEntry.{GPTPartitionEntry}
 use Rattle.gptman.proofs.Apart.{apart_exchanged}
-use Rattle.gptman.proofs.LaidCopies.{copy_ranges, BothStand, both_stand, laid_both}
-use Rattle.gptman.proofs.OtherHeader.{other_table, other_place, other_form}
+use Rattle.gptman.proofs.LaidCopies.{copy_ranges, both_stand, laid_both}
+use Rattle.gptman.proofs.OtherHeader.{other_table, other_form}
 use Rattle.gptman.proofs.Ranges.{Ranges}
 use Rattle.gptman.proofs.Sealing.{IsSealed, sealed_is, sealed_table, sealed_form, sealed_ranges, sealed_count}
-use Rattle.gptman.proofs.WrittenCopy.{written_start, array_written, written_holds}
+use Rattle.gptman.proofs.WrittenCopy.{written_start, written_array, written_holds}
 
 -- A sealed header of the table, in the form of a place.
 record IsHeaderOf (t : Table) (place : Place) (h : GPTHeader) (es : List GPTPartitionEntry) : Type 0 where
@@ -36,7 +36,7 @@ header_count t place h es ss len is laid = sym (length-map es content_of) ∙ (h
 header_ranges : (t : Table) (place : Place) (h : GPTHeader) (es : List GPTPartitionEntry) (ss len : ℕ) → IsHeaderOf t place h es → IsLaidOut t ss len → ranges_at place t ss len ≡ copy_ranges h ss
 header_ranges t place h es ss len is laid =
     let start = written_start place h es ss len is.form (header_laid t place h es ss len is laid) in
-    let array = array_written place h es ss is.form in
+    let array = written_array place h es ss is.form in
     ap (λ (u : Table). ranges_at place u ss len) (sym is.table)
     ∙ (λ i. (sym start i, 92) ∷ (sym array i, 128 * h.number_of_partition_entries) ∷ [])
 
@@ -94,20 +94,21 @@ stored_from old mid new h es ss layout small fits_other fits_own fits laid_other
           laid.apart inside laid_other laid_own
     ]
 
--- Also off the layout, both copies stand there where their ranges are apart.
+-- Also off the layout, both copies stand there where their ranges are apart and nothing was refused.
 pub laid_from : (old mid new : List ℕ) (h : GPTHeader) (es : List GPTPartitionEntry) (ss : ℕ) → AreApart (both_ranges h ss) → list_all (is_inside (length old)) (both_ranges h ss) ≡ true
     → length es ≡ h.number_of_partition_entries → FitsHeader (sealed (other_header h) es) → FitsHeader (sealed h es) → All FitsEntry es
     → IsCopyLaid (sealed (other_header h) es) es ss old mid → IsCopyLaid (sealed h es) es ss mid new
     → HasBytes new (sealed h es) es ss × HasBytes new (sealed (other_header h) es) es ss
-laid_from old mid new h es ss apart inside count fits_other fits_own fits laid_other laid_own =
+laid_from old mid new h es ss apart lies count fits_other fits_own fits laid_other laid_own =
+    let len : ℕ = length old in
     let own : Ranges = write_ranges h ss in
     let other : Ranges = write_ranges (other_header h) ss in
     let own_is = sealed_ranges h es ss in
     let other_is = sealed_ranges (other_header h) es ss in
-    let parts = and_parts (list_all (is_inside (length old)) own) (list_all (is_inside (length old)) other) (sym (list_all-append (is_inside (length old)) own other) ∙ inside) in
-    let P : Ranges → Type 0 = λ rs. list_all (is_inside (length old)) rs ≡ true in
+    let inside = and_parts (list_all (is_inside len) own) (list_all (is_inside len) other) (sym (list_all-append (is_inside len) own other) ∙ lies) in
+    let P : Ranges → Type 0 = λ rs. list_all (is_inside len) rs ≡ true in
     let ranges : other ++ own ≡ write_ranges (sealed (other_header h) es) ss ++ write_ranges (sealed h es) ss = λ i. sym other_is i ++ sym own_is i in
     let both = laid_both old mid new (sealed (other_header h) es) (sealed h es) es ss (subst AreApart ranges (apart_exchanged own other apart))
-    (subst P (sym other_is) parts.1) (subst P (sym own_is) parts.0) fits_other fits_own fits
+    (subst P (sym other_is) inside.1) (subst P (sym own_is) inside.0) fits_other fits_own fits
     (count ∙ sym (sealed_count (other_header h) es)) (count ∙ sym (sealed_count h es)) laid_other laid_own in
     (both.1, both.0)

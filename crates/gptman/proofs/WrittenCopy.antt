@@ -1,5 +1,5 @@
 -- The bytes of a header and entries, where they stand, are a copy that is accepted.
-use Rattle.std.proofs.Common.{◌≡◌, ◌≤◌, ◌<◌, ◌⊎◌, ◌+◌, ◌-◌, ◌*◌, ◌/◌, ◌^◌, ℕ, Bool, true, false, List, [], ◌∷◌, length, map, get_or, ltb, Result, Ok, Err, refl, sym, ap, ◌∙◌, subst, inl, inr, arith}
+use Rattle.std.proofs.Common.{◌≡◌, ◌≤◌, ◌<◌, ◌⊎◌, ◌+◌, ◌-◌, ◌*◌, ◌/◌, ◌^◌, ℕ, Bool, true, false, List, [], ◌∷◌, length, map, get_or, ltb, Result, Err, refl, sym, ap, ◌∙◌, subst, inl, inr, arith}
 use Rattle.std.specs.List.{All}
 use Rattle.std.proofs.lemmas.Bool.{ltb-true}
 use Rattle.std.proofs.lemmas.List.{get_or-map, length-map}
@@ -95,19 +95,20 @@ written_start backup h es ss len form laid =
     ap (λ (n : ℕ). n * ss) sector
 
 -- and its entries where theirs do
-pub array_written : (place : Place) (h : GPTHeader) (es : List GPTPartitionEntry) (ss : ℕ) → IsHeaderForm place h → h.partition_entry_lba * ss ≡ array_start place (table_of h es) ss
-array_written primary h es ss form = ap (λ (n : ℕ). n * ss) form.1
-array_written backup h es ss form = ap (λ (n : ℕ). n * ss) form.1
+pub written_array : (place : Place) (h : GPTHeader) (es : List GPTPartitionEntry) (ss : ℕ) → IsHeaderForm place h → h.partition_entry_lba * ss ≡ array_start place (table_of h es) ss
+written_array primary h es ss form = ap (λ (n : ℕ). n * ss) form.1
+written_array backup h es ss form = ap (λ (n : ℕ). n * ss) form.1
 
 on_disk : (at len : ℕ) → ((let n : ℕ = 92 in n ≡ 0) ⊎ (at + 92 ≤ len)) → at + 92 ≤ len
 on_disk at len (inl e) = absurd (omega arith)
 on_disk at len (inr h) = h
 
--- a table's parts at a place lie on the disk
+-- a table's header at a place lies on the disk
 pub header_inside : (place : Place) (t : Table) (ss len : ℕ) → IsLaidOut t ss len → place_start place len ss + 92 ≤ len
 header_inside primary t ss len laid = on_disk ss len laid.inside.0
 header_inside backup t ss len laid = on_disk (place_start backup len ss) len laid.inside.1.1.0
 
+-- and so do its entries
 pub array_inside : (place : Place) (t : Table) (ss len : ℕ) → IsLaidOut t ss len → (128 * t.count ≡ 0) ⊎ (array_start place t ss + 128 * t.count ≤ len)
 array_inside primary t ss len laid = laid.inside.1.0
 array_inside backup t ss len laid = laid.inside.1.1.1.0
@@ -136,7 +137,7 @@ written_holds b ss place h es small laid form header_fits fits sums has =
       entry_size = inr laid.entry_size;
       count = count;
     } in
-    let start : entries_start h ss ≡ array_start place t ss = array_written place h es ss form in
+    let start : entries_start h ss ≡ array_start place t ss = written_array place h es ss form in
     let in_array : (h.number_of_partition_entries ≡ 0) ⊎ (entries_start h ss + entries_length h ≤ length b) =
     elim (array_inside place t ss (length b) laid) as (λ _. (h.number_of_partition_entries ≡ 0) ⊎ (entries_start h ss + entries_length h ≤ length b)) [
       | inl none ↦ inl (omega (arith, none))

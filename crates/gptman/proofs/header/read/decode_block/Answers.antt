@@ -1,10 +1,11 @@
-use Rattle.std.proofs.Common.{◌≡◌, ◌+◌, ◌*◌, ◌++◌, [], ◌∷◌, List, sym, ap, ◌∙◌, arith, rules, refl}
+use Rattle.std.proofs.Common.{◌≡◌, ◌*◌, ◌++◌, [], ◌∷◌, List, sym, ap, ◌∙◌, rules}
 use Rattle.std.proofs.lemmas.List.{append-nil, append_assoc}
 use Rattle.gptman.specs.Bytes.{part}
 use Rattle.gptman.specs.Coding.{entry_of}
 use Rattle.gptman.specs.Copy.{entries_of}
 use Rattle.gptman.specs.declared.codec.entry.GPTPartitionEntry.{GPTPartitionEntry}
-use Rattle.gptman.proofs.EntryLists.{entries_of-more, entry_is, part-slice}
+use Rattle.gptman.proofs.EntryBytes.{entry_is}
+use Rattle.gptman.proofs.EntryLists.{entries_of-more, part-slice}
 use Rattle.gptman.proofs.header.read.decode_block.Goals as goal
 
 pub loop-k-init : goal.loop-k-init

@@ -1,4 +1,4 @@
-use Rattle.std.proofs.Common.{◌≡◌, ◌≤◌, ◌<◌, ◌+◌, ◌-◌, ◌*◌, ◌++◌, ℕ, List, length, true, refl, inl, inr, sym, ap, ◌∙◌, subst, arith, rules}
+use Rattle.std.proofs.Common.{◌≡◌, ◌≤◌, ◌+◌, ◌-◌, ◌*◌, ◌++◌, ℕ, List, refl, inl, inr, ap, ◌∙◌, subst, arith, rules}
 use Rattle.gptman.specs.Bytes.{part}
 use Rattle.gptman.specs.Copy.{entries_of}
 use Rattle.gptman.specs.Register.{HasTaken}

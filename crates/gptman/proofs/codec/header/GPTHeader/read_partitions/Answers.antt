@@ -1,10 +1,10 @@
-use Rattle.std.proofs.Common.{◌≡◌, ◌*◌, ℕ, List, length, Ok, Err, inr, sym, ap, ◌∙◌, arith}
+use Rattle.std.proofs.Common.{◌≡◌, ◌*◌, ℕ, List, length, Ok, Err, inr, sym, ap, ◌∙◌}
 use Rattle.std.proofs.lemmas.Result.{err_from_is_err_and}
 use Rattle.gptman.specs.Bytes.{part}
 use Rattle.gptman.specs.Copy.{entries_of, entries_start, entries_length}
 use Rattle.gptman.specs.Crc.{crc_of}
 use Rattle.gptman.specs.Fault.{invalid_array_checksum}
-use Rattle.gptman.proofs.ArrayOutcomes.{seek_refused, block_refused, block_cause, in_place, array_read}
+use Rattle.gptman.proofs.ArrayOutcomes.{seek_refused, block_refused, in_place, array_read}
 use Rattle.gptman.proofs.CopyTests.{array_changed, array_good}
 use Rattle.gptman.proofs.codec.header.GPTHeader.read_partitions.Goals as goal
 
