@@ -89,10 +89,15 @@ abbrev pub IsBlockFault : ℕ → Fault → DiskState → DiskState → Type 0
 IsBlockFault len fault old new = (fault ≡ out_of_memory) ⊎ ((fault ≡ io) × (Rose old new ⊎ (old.size < old.position + len)))
 
 -- what going to the entries may be refused with: their size or their place is wrong, or the disk failed
-abbrev pub IsSeekFault : GPTHeader → ℕ → Fault → DiskState → DiskState → Type 0
-IsSeekFault h ss fault old new =
-    ((fault ≡ invalid_entry_size h.size_of_partition_entry) × (h.size_of_partition_entry ≢ 128))
-    ⊎ (((fault ≡ overflow) × (h.size_of_partition_entry ≡ 128) × (2 ^ 64 ≤ entries_start h ss)) ⊎ ((fault ≡ io) × Rose old new))
+pub data IsSeekFault (h : GPTHeader) (ss : ℕ) (fault : Fault) (old new : DiskState) : Type 0 where
+  wrong_size : h.number_of_partition_entries ≢ 0 → h.size_of_partition_entry ≢ 128 → fault ≡ invalid_entry_size h.size_of_partition_entry → IsSeekFault h ss fault old new
+  wrong_place : h.number_of_partition_entries ≢ 0 → h.size_of_partition_entry ≡ 128 → 2 ^ 64 ≤ entries_start h ss → fault ≡ overflow → IsSeekFault h ss fault old new
+  disk_failed : fault ≡ io → Rose old new → IsSeekFault h ss fault old new
+
+-- there are no entries to read, or the disk stands where they begin
+pub data IsReadyFor (h : GPTHeader) (ss : ℕ) (disk : DiskState) : Type 0 where
+  empty : h.number_of_partition_entries ≡ 0 → IsReadyFor h ss disk
+  there : h.size_of_partition_entry ≡ 128 → entries_start h ss < 2 ^ 64 → disk.position ≡ entries_start h ss → IsReadyFor h ss disk
 
 -- new is old with the header's bytes laid over it, and then those of the entries
 abbrev pub IsCopyLaid : GPTHeader → List GPTPartitionEntry → ℕ → List ℕ → List ℕ → Type 0

@@ -58,7 +58,12 @@ impl GPT {
         let sector_size = self.sector_size;
         let mut other = self.checked(disk)?;
         write_copy(disk, &mut other, sector_size, self.partitions.as_slice())?;
-        write_copy(disk, &mut self.header, sector_size, self.partitions.as_slice())?;
+        write_copy(
+            disk,
+            &mut self.header,
+            sector_size,
+            self.partitions.as_slice(),
+        )?;
         Ok(other)
     }
 
