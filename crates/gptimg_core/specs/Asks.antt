@@ -5,7 +5,6 @@ use Rattle.gptman.specs.Table.{Table, new_table, table_in}
 use Rattle.gptman.specs.declared.codec.header.GPTHeader.{GPTHeader}
 use Rattle.gptimg_core.specs.Words.{request_in, texts_of}
 use Rattle.gptimg_core.specs.declared.words.Command.TheVariants.{New, Show}
-use Rattle.gptimg_core.specs.declared.words.Request.{Request}
 
 -- the words ask for a new table with this disk GUID, on a disk with sectors of so many bytes
 abbrev pub AskForNew : {A : Type 0} → List (String A) → ℕ → List ℕ → Type 0

@@ -25,3 +25,7 @@ variant_name (invalid_entry_size size) = codes "InvalidPartitionEntrySize"
 abbrev pub fault_name : Fault → List ℕ
 fault_name (read_error first second) = codes "ReadError(" ++ fault_name first ++ codes ", " ++ fault_name second ++ codes ")"
 fault_name fault = variant_name fault
+
+-- the line of a refused command
+abbrev pub fault_line : Fault → List ℕ
+fault_line fault = codes "fault: " ++ fault_name fault ++ codes "\n"

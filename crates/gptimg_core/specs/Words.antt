@@ -1,5 +1,5 @@
 -- What the words of a command line ask for. A text is the list of its bytes.
-use Rattle.std.specs.Prelude.{◌≡◌, ℕ, ◌^◌, ◌&&◌, Bool, List, [], ◌∷◌, length, map, codes, nat_eq, nat_lt, bytes_eq, Option, Some, None, String, string_bytes, if◌then◌else◌}
+use Rattle.std.specs.Prelude.{ℕ, ◌^◌, ◌&&◌, List, [], ◌∷◌, length, map, codes, nat_eq, nat_lt, bytes_eq, Option, Some, None, String, string_bytes, if◌then◌else◌}
 use Rattle.std.specs.Option.{option_map, option_and_then}
 use Rattle.std.specs.Result.{result_ok}
 use Rattle.std.specs.List.{list_all}

@@ -1,6 +1,6 @@
 //! What the commands do to a disk. Nothing is printed here.
 
-ghost use Rattle.std.specs.Prelude.{◌≡◌, ◌⊎◌, ◌<◌, ℕ, List, IsTrue, OnOk, OnErr};
+ghost use Rattle.std.specs.Prelude.{◌≡◌, ◌⊎◌, ◌<◌, ℕ, List, IsTrue, IfOk, OnOk, OnErr};
 ghost use Rattle.gptman.specs.Disk.{Keeps, Rose, Wrote};
 ghost use Rattle.gptman.specs.Calls.{OnlyRead, Untouched};
 ghost use Rattle.gptman.specs.Layout.{HasLayout};
@@ -38,6 +38,7 @@ pub fn perform<D: Disk>(alloc: Global, request: &Request, disk: &mut D) -> Resul
         → OnOk result (IsStored (D.state disk.new) ss (made_table guid ss size)) }
     ensures kept { IsTrue (D.state disk.old).is_honest
         → OnErr result (Rose (D.state disk.old) (D.state disk.new) ⊎ Untouched (D.state disk.old) (D.state disk.new)) }
+    ensures written { (guid : List ℕ) → request.now.command ≡ Command.New guid → IfOk result (λ report. report ≡ Report.Written) }
 {
     match request.command {
         Command::New { guid } => {

@@ -4,14 +4,16 @@
 //! standard output.
 #![tactic(auto)]
 
-ghost use Rattle.std.specs.Prelude.{◌≡◌, ◌≤◌, ◌↔◌, ◌⊎◌, ℕ, List, Ok, None, IsTrue, IfOk, IfErr};
+ghost use Rattle.std.specs.Prelude.{◌≡◌, ◌≤◌, ◌↔◌, ◌⊎◌, ℕ, List, Ok, None, codes, IsTrue, IfOk, IfErr, OnOk};
+ghost use Rattle.std.specs.Io.KnownBytes.{Appends};
 ghost use Rattle.gptman.specs.Disk.{Keeps, Rose, Wrote};
-ghost use Rattle.gptman.specs.Fault.{fault_of, io as io_fault};
+ghost use Rattle.gptman.specs.Fault.{Fault, fault_of, io as io_fault};
 ghost use Rattle.gptman.specs.Calls.{OnlyRead, Untouched};
 ghost use Rattle.gptman.specs.Layout.{HasLayout};
 ghost use Rattle.gptman.specs.Stop.{IsStored};
 ghost use Rattle.gptman.specs.Write.{both_ranges};
 ghost use Rattle.gptimg_core.specs.Asks.{AskForNew, AskToShow, made_header, made_table};
+ghost use Rattle.gptimg_core.specs.Names.{fault_line};
 ghost use Rattle.gptimg_core.specs.Words.{request_in, texts_of};
 
 use gptman::{Disk, Result};
@@ -59,6 +61,12 @@ pub fn run<D: Disk, W: Write>(
     ensures status { IfOk result (λ status. status ≤ 2) }
     ensures asks { IfOk result (λ status. (status ≡ 2) ↔ (request_in (texts_of words.now) ≡ None)) }
     ensures refused { IfErr result (λ e. fault_of e ≡ io_fault) }
+
+    // What is printed.
+    ensures prints_usage { request_in (texts_of words.now) ≡ None → OnOk result (Appends (W.contents out.old) (W.contents out.new) USAGE.now) }
+    ensures prints_fault { result ≡ Ok 1 → (fault : Fault) × Appends (W.contents out.old) (W.contents out.new) (fault_line fault) }
+    ensures prints_ok { (ss : ℕ) (guid : List ℕ) → AskForNew words.now ss guid
+        → result ≡ Ok 0 → Appends (W.contents out.old) (W.contents out.new) (codes "ok\n") }
 
     // Words of no command leave the disk alone.
     ensures usage { result ≡ Ok 2 → disk.new ≡ disk.old }

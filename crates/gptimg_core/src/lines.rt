@@ -4,17 +4,21 @@ ghost use Rattle.std.specs.Prelude.{◌≡◌, ◌++◌, codes, OnOk};
 ghost use Rattle.std.specs.Io.KnownBytes.{Appends};
 ghost use Rattle.hex.specs.Hex.{encode_lower};
 ghost use Rattle.gptman.specs.Fault.{fault_of};
-ghost use Rattle.gptimg_core.specs.Names.{fault_name, variant_name};
+ghost use Rattle.gptimg_core.specs.Names.{fault_line, fault_name, variant_name};
+ghost use Rattle.gptimg_core.specs.Lines.{form_name as form_name_of, table_line};
 
 use crate::commands::Report;
-use gptman::{Error, GPT};
+use gptman::{Error, GPT, GPTHeader};
 use std::io;
 use std::io::Write;
 
 /// Prints what a command did.
 ///
 /// An error comes only where `out` failed.
-pub fn print_report<W: Write>(out: &mut W, report: &Report) -> io::Result<()> {
+pub fn print_report<W: Write>(out: &mut W, report: &Report) -> io::Result<()>
+    ensures written { report.now ≡ Report.Written → OnOk result (Appends (W.contents out.old) (W.contents out.new) (codes "ok\n")) }
+    ensures table { (table : GPT) → report.now ≡ Report.Table table → OnOk result (Appends (W.contents out.old) (W.contents out.new) (table_line table)) }
+{
     match report {
         Report::Written => out.write_all(b"ok\n"),
         Report::Table(table) => print_table(out, table),
@@ -22,13 +26,11 @@ pub fn print_report<W: Write>(out: &mut W, report: &Report) -> io::Result<()> {
 }
 
 // Prints the table's own line. GUIDs are printed as 32 lower-case hexadecimal digits.
-fn print_table<W: Write>(out: &mut W, table: &GPT) -> io::Result<()> {
+fn print_table<W: Write>(out: &mut W, table: &GPT) -> io::Result<()>
+    ensures { OnOk result (Appends (W.contents out.old) (W.contents out.new) (table_line table.now)) }
+{
     let header = &table.header;
-    let form = if header.is_primary() {
-        "primary"
-    } else {
-        "backup"
-    };
+    let form = form_name(header);
     let sector_size = table.sector_size;
     write!(out, "sector {sector_size} form {form} disk ")?;
     out.write_all(&guid_text(&header.disk_guid))?;
@@ -37,6 +39,17 @@ fn print_table<W: Write>(out: &mut W, table: &GPT) -> io::Result<()> {
     let count = header.number_of_partition_entries;
     let align = table.align;
     writeln!(out, " usable {first}..{last} entries {count} align {align}")
+}
+
+// The form that the header is in.
+fn form_name(header: &GPTHeader) -> &'static str
+    ensures { result.now ≡ form_name_of header.now }
+{
+    if header.is_primary() {
+        "primary"
+    } else {
+        "backup"
+    }
 }
 
 // The 16 bytes as hexadecimal digits.
@@ -52,7 +65,7 @@ fn guid_text(guid: &[u8; 16]) -> [u8; 32]
 ///
 /// An error comes only where `out` failed.
 pub fn print_fault<W: Write>(out: &mut W, fault: &Error) -> io::Result<()>
-    ensures { OnOk result (Appends (W.contents out.old) (W.contents out.new) (codes "fault: " ++ fault_name (fault_of fault.now) ++ codes "\n")) }
+    ensures { OnOk result (Appends (W.contents out.old) (W.contents out.new) (fault_line (fault_of fault.now))) }
 {
     out.write_all(b"fault: ")?;
     print_name(out, fault)?;

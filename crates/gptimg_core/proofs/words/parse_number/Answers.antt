@@ -5,7 +5,7 @@ use Rattle.std.specs.Prelude.{Result, Ok, Err}
 use Rattle.std.specs.Char.{is_ascii_digit}
 use Rattle.std.specs.List.{list_all}
 use Rattle.std.specs.Result.{OkIff, result_ok}
-use Rattle.std.specs.Str.Parse.{ParsesUnsigned, digits_value}
+use Rattle.std.specs.Str.Parse.{digits_value}
 use Rattle.gptimg_core.specs.Words.{number_in}
 use Rattle.gptimg_core.proofs.words.parse_number.Goals as goal
 
