@@ -1,9 +1,9 @@
 -- Records put together part by part.
-use Rattle.std.proofs.Common.{lit<, take-add, ◌≡◌, ℕ, zero, suc, ◌+◌, ◌-◌, ◌/◌, ◌^◌, ◌<◌, ◌≤◌, List, [], ◌∷◌, ◌++◌, length, get_or, take, drop, arith, refl, sym, ap, ◌∙◌, map}
+use Rattle.std.proofs.Common.{take-add, ◌≡◌, ℕ, ◌+◌, ◌-◌, List, [], ◌++◌, length, get_or, take, drop, arith, refl, sym, ap, ◌∙◌, map}
 use Rattle.std.specs.List.{range_with_len}
 use Rattle.std.specs.Prelude.{slice_range}
 use mathlib.Core.Path.{ap₂}
-use Rattle.std.proofs.lemmas.List.{take_at, drop_at, drop-drop, append_assoc, append-nil, length-append, length-take, length-drop}
+use Rattle.std.proofs.lemmas.List.{take_at, drop_at, drop-drop, append_assoc, append-nil, length-append}
 use Rattle.std.proofs.lemmas.List.FromFn.{fill_by_all}
 
 -- the bytes so far are those of front, which end at a place, and then the rest

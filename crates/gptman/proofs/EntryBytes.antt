@@ -1,14 +1,15 @@
 -- An entry as bytes.
 use Rattle.std.proofs.Common.{take-add, ◌≡◌, ℕ, zero, suc, ◌+◌, ◌-◌, ◌*◌, ◌^◌, ◌<◌, ◌≤◌, List, [], ◌∷◌, ◌++◌, length, get_or, take, drop, flat_map, arith, refl, sym, ap, subst, ◌∙◌, map}
 use Rattle.std.specs.List.{range_with_len}
-use Rattle.std.specs.Prelude.{slice_range, slice_index}
+use Rattle.std.specs.Prelude.{slice_range, slice_index, encode_utf8_all}
+use Rattle.gptman.specs.Name.{text_of}
 use Rattle.byteorder.specs.Endian.{little_bytes}
 use Rattle.std.proofs.lemmas.List.{drop_at, drop-drop, append_assoc, append-nil, length-append, length-take-le, take_all, take_at, take_more}
 use Rattle.std.proofs.lemmas.List.Concat.{flat_map-append}
 use mathlib.Core.Path.{ap₂}
 use Rattle.std.proofs.lemmas.List.FromFn.{fill_by_all, map-range_with_len_more}
 use Rattle.gptman.specs.Bytes.{le, AreBytes}
-use Rattle.gptman.specs.Coding.{FitsEntry, IsEntryCoding, units_at, entry_bytes}
+use Rattle.gptman.specs.Coding.{FitsEntry, HasReadName, entry_of, IsEntryCoding, units_at, entry_bytes}
 use Rattle.gptman.specs.declared.codec.entry.GPTPartitionEntry.{GPTPartitionEntry}
 use Rattle.gptman.proofs.Assembly.{cells, taken_more}
 use Rattle.gptman.proofs.Numbers.{le_of, le_back}
@@ -133,3 +134,18 @@ units_written old new us k before room lt put =
     ∙ ap (λ (xs : List ℕ). xs ++ little_bytes 2 (get_or us k 0)) before
     ∙ sym (ap (flat_map (little_bytes 2)) (take_more us k 0 lt) ∙ flat_map-append (little_bytes 2) (take k us) (get_or us k 0 ∷ [])
     ∙ ap (λ (xs : List ℕ). flat_map (little_bytes 2) (take k us) ++ xs) (append-nil (little_bytes 2 (get_or us k 0))))
+
+-- an entry that was read is the one that its bytes hold
+pub entry_is : (e : GPTPartitionEntry) (x : List ℕ) → IsEntryCoding e x → HasReadName e → e ≡ entry_of x
+unfolding entry_of
+entry_is e x c name = λ i. record {
+  partition_type_guid = c.partition_type_guid i;
+  unique_partition_guid = c.unique_partition_guid i;
+  starting_lba = c.starting_lba i;
+  ending_lba = c.ending_lba i;
+  attribute_bits = c.attribute_bits i;
+  partition_name = record { text = (name ∙ ap text_bytes c.units) i; units = c.units i };
+}
+  where
+    text_bytes : List ℕ → List ℕ
+    text_bytes us = encode_utf8_all (text_of us)

@@ -1,9 +1,9 @@
 -- What the code of fitting a header computes is what the definition says.
-use Rattle.std.proofs.Common.{◌≡◌, ◌≢◌, ◌/◌, ◌||◌, ℕ, Bool, true, false, Option, Some, None, eqb, sym, ap, ◌∙◌, inl, inr}
+use Rattle.std.proofs.Common.{◌≡◌, ◌≢◌, ◌/◌, ◌||◌, ℕ, Bool, Option, Some, None, eqb, sym, ap, inl, inr}
 use Rattle.std.specs.Prelude.{if◌then◌else◌}
 use Rattle.std.proofs.lemmas.Bool.Decides.{eqb_tells}
 use Rattle.gptman.specs.Fault.{Fault, overflow}
-use Rattle.gptman.specs.Fit.{array_size, array_sectors, is_too_small, fit_fault, fitted, fitted_to}
+use Rattle.gptman.specs.Fit.{array_size, array_sectors, is_too_small, fit_fault}
 use Rattle.gptman.specs.declared.codec.header.GPTHeader.{GPTHeader}
 
 -- a header with an array is refused for the sectors alone

@@ -1,5 +1,5 @@
 -- A header as bytes.
-use Rattle.std.proofs.Common.{◌≡◌, ℕ, ◌^◌, ◌<◌, List, length, get_or, arith, refl, sym, ap, subst, ◌∙◌, map}
+use Rattle.std.proofs.Common.{◌≡◌, ℕ, List, length, get_or, arith, refl, sym, ap, subst, ◌∙◌, map, length-append}
 use Rattle.std.specs.List.{range_with_len}
 use Rattle.std.proofs.lemmas.List.{take_all}
 use Rattle.byteorder.specs.Endian.{little_bytes}
@@ -102,3 +102,8 @@ spelling_is h b len bytes e =
 -- a header has one spelling
 pub one_spelling : (h : GPTHeader) (b c : List ℕ) → length b ≡ 92 → length c ≡ 92 → AreBytes b → AreBytes c → IsHeaderCoding h b → IsHeaderCoding h c → b ≡ c
 one_spelling h b c lb lc hb hc eb ec = spelling_is h b lb hb eb ∙ sym (spelling_is h c lc hc ec)
+
+-- a header is 92 bytes long
+pub header_long : (h : GPTHeader) → FitsHeader h → length (header_bytes h) ≡ 92
+unfolding header_bytes
+header_long h fits = simp length-append (omega (arith, fits.signature, fits.revision, fits.reserved, fits.disk_guid))

@@ -1,10 +1,47 @@
--- Bytes that are laid over a list.
-use Rattle.std.proofs.Common.{◌≡◌, ⊎_elim, ◌<◌, ◌≤◌, ℕ, ◌+◌, ◌-◌, List, [], ◌∷◌, ◌++◌, length, get_or, take, drop, refl, sym, ◌∙◌, ap, arith, length-append, length-take, length-drop, append_assoc}
-use Rattle.std.proofs.lemmas.List.{take_at, drop_at, get_or-take, get_or-drop, get_or_append_left, get_or-append_right, length-take-le}
+-- Bytes that are laid over a list, and parts of lists.
+use Rattle.std.proofs.Common.{add-zero, ◌≡◌, ◌⊎◌, inl, inr, ⊎_elim, ◌<◌, ◌≤◌, min, ℕ, ◌+◌, ◌-◌, List, [], ◌∷◌, ◌++◌, length, get_or, take, drop, refl, sym, ◌∙◌, ap, arith, length-append, length-take, length-drop, append_assoc}
+use Rattle.std.proofs.lemmas.List.{append-nil, take-append-drop, take_at, drop_at, get_or-take, get_or-drop, get_or_append_left, get_or-append_right, length-take-le, drop-take, take-take, drop-drop}
 use Rattle.std.proofs.lemmas.Grind.{same_number_lists}
 use Rattle.std.proofs.lemmas.Bool.{cases_lt}
-use Rattle.gptman.specs.Disk.{Agrees, overlay}
+use Rattle.gptman.specs.Disk.{Outside, Agrees, overlay}
 use Rattle.gptman.specs.Bytes.{part}
+use Rattle.gptman.specs.Layout.{IsApart, IsApartFromAll}
+use Rattle.gptman.proofs.Ranges.{Ranges}
+
+-- a part of a part
+pub part-part : (b : List ℕ) (at n k m : ℕ) → k + m ≤ n → part (part b at n) k m ≡ part b (at + k) m
+part-part b at n k m h =
+    let whole : n ≡ k + (n - k) = omega arith in
+    ap (λ (j : ℕ). take m (drop k (take j (drop at b)))) whole ∙ ap (take m) (drop-take k (n - k) (drop at b))
+    ∙ take-take m (n - k) (drop k (drop at b)) (omega arith) ∙ ap (take m) (drop-drop k at b)
+
+-- an index of a range is outside of one that it is apart from
+pub one_apart : (at n start long k : ℕ) → IsApart (at, n) (start, long) → at ≤ k → k < at + n → (k < start) ⊎ (start + long ≤ k)
+one_apart at n start long k (inl none) low high = absurd (omega (arith, none, low, high))
+one_apart at n start long k (inr (inl none)) low high = ⊎_elim (λ below. inl below) (λ above. inr (omega (arith, none, above))) (cases_lt k start)
+one_apart at n start long k (inr (inr (inl before))) low high = inl (omega (arith, before, low, high))
+one_apart at n start long k (inr (inr (inr after))) low high = inr (omega (arith, after, low, high))
+
+-- and outside of all that it is apart from
+pub outside_apart : (r : ℕ × ℕ) (rs : Ranges) (k : ℕ) → IsApartFromAll r rs → r.0 ≤ k → k < r.0 + r.1 → Outside rs k
+outside_apart r [] k apart low high = tt
+outside_apart r (s ∷ rs) k apart low high = (one_apart r.0 r.1 s.0 s.1 k apart.0 low high, outside_apart r rs k apart.1 low high)
+
+-- a part that is apart from where two lists may differ
+pub part_same : (rs : Ranges) (a b : List ℕ) (at n : ℕ) → Agrees rs a b → IsApartFromAll (at, n) rs → part b at n ≡ part a at n
+part_same rs a b at n agrees apart = same_number_lists (part b at n) (part a at n) long (λ k below. here k (short k below))
+  where
+    long : length (part b at n) ≡ length (part a at n)
+    long = simp (length-take, length-drop) (ap (λ (m : ℕ). min n (m - at)) agrees.long)
+
+    short : (k : ℕ) → k < length (part b at n) → k < n
+    short k below = omega (arith, below, length-take n (drop at b))
+
+    here : (k : ℕ) → k < n → get_or (part b at n) k 0 ≡ get_or (part a at n) k 0
+    here k below =
+        get_or-take n (drop at b) k 0 below ∙ get_or-drop at b k 0
+        ∙ agrees.same (at + k) (outside_apart (at, n) rs (at + k) apart (omega arith) (omega (arith, below)))
+        ∙ sym (get_or-take n (drop at a) k 0 below ∙ get_or-drop at a k 0)
 
 module _ (old : List ℕ) (at : ℕ) (bytes : List ℕ) (fits : at + length bytes ≤ length old) where
   front : length (take at old) ≡ at
@@ -75,3 +112,8 @@ overlay_more old at xs ys fits = same_number_lists (overlay first (at + length x
 
     above : (k : ℕ) → at + length xs + length ys ≤ k → get_or (overlay (overlay old at xs) (at + length xs) ys) k 0 ≡ get_or (overlay old at (xs ++ ys)) k 0
     above k high = overlay_above (overlay old at xs) (at + length xs) ys second_fits k high ∙ overlay_above old at xs first_fits k (omega (arith, high)) ∙ sym (overlay_above old at (xs ++ ys) both_fit k (omega (arith, high, joined)))
+
+-- no bytes change nothing
+pub overlay_nothing : (old : List ℕ) (at : ℕ) → overlay old at [] ≡ old
+overlay_nothing old at =
+    ap (λ (xs : List ℕ). xs ++ drop (at + 0) old) (append-nil (take at old)) ∙ ap (λ (k : ℕ). take at old ++ drop k old) (add-zero at) ∙ take-append-drop at old

@@ -1,7 +1,7 @@
 -- Indexes outside of ranges, and lists that agree there.
-use Rattle.std.proofs.Common.{inl, inr, ⊎_elim, ◌≡◌, ◌⊎◌, ◌<◌, ◌≤◌, ℕ, suc, ◌+◌, List, [], ◌∷◌, ◌++◌, refl, sym, ◌∙◌, subst, arith}
+use Rattle.std.proofs.Common.{inl, inr, ⊎_elim, ◌≡◌, ◌⊎◌, ◌<◌, ◌≤◌, ℕ, suc, ◌+◌, List, [], ◌∷◌, ◌++◌, refl, sym, ap, ◌∙◌, subst, arith}
 use Rattle.std.specs.List.{Contains}
-use Rattle.std.specs.Prelude.{Result, Ok, Err, OnErr}
+use Rattle.std.specs.Prelude.{Result, Ok, Err, OnOk, OnErr}
 use Rattle.gptman.specs.Disk.{Outside, Agrees, Within}
 
 abbrev pub Ranges : Type 0
@@ -72,3 +72,20 @@ within_range {p} {n} {at} {m} low high = record { covers = λ k o. (⊎_elim (λ
 
 pub contains_pushed : (r x : ℕ × ℕ) (old new : Ranges) → new ≡ x ∷ old → Contains old r → Contains new r
 contains_pushed r x old new is has = subst (λ ps. Contains ps r) (sym is) (contains_later r x old has)
+
+-- what was pending still is after one write, whether it was served or refused
+pub contains_written : {T E : Type 0} (r : Result T E) (V : Type 0) (range x : ℕ × ℕ) (old new : Ranges) → OnOk r (new ≡ x ∷ old) → OnErr r ((V × (new ≡ old)) ⊎ (new ≡ x ∷ old))
+    → Contains old range → Contains new range
+contains_written (Ok v) V range x old new served refused has = contains_pushed range x old new served has
+contains_written (Err e) V range x old new served refused has =
+    ⊎_elim (λ same. subst (λ ps. Contains ps range) (sym same.1) has) (λ more. contains_pushed range x old new more has) refused
+
+-- the range that became pending last
+pub contains_new : (p n at m : ℕ) (old new : Ranges) → p ≡ at → n ≡ m → new ≡ (p, n) ∷ old → Contains new (at, m)
+contains_new p n at m old new at_is size is =
+    let range : ◌≡◌ {A = ℕ × ℕ} (p, n) (at, m) = λ i. (at_is i, size i) in
+    subst (λ ps. Contains ps (at, m)) (sym (is ∙ ap (λ (r : ℕ × ℕ). r ∷ old) range)) (contains_first (at, m) old)
+
+pub on_ok_of : {T E P : Type 0} (r : Result T E) → P → OnOk r P
+on_ok_of (Ok x) p = p
+on_ok_of (Err e) p = tt

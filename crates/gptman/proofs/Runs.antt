@@ -1,6 +1,6 @@
 -- How a run of disk calls goes on.
-use Rattle.std.proofs.Common.{◌≡◌, true, inl, inr, ⊎_elim, ℕ, List, ◌++◌, arith}
-use Rattle.gptman.specs.Disk.{DiskState, IsSound, Agrees, Within, Elapses, LeavesOnly, Wrote}
+use Rattle.std.proofs.Common.{◌≡◌, true, inl, inr, ⊎_elim, ℕ, List, ◌++◌, ◌∙◌, arith}
+use Rattle.gptman.specs.Disk.{DiskState, IsSound, Agrees, Within, Elapses, Keeps, LeavesOnly, Rose, Wrote}
 use Rattle.gptman.proofs.Ranges.{Ranges, agrees_self, agrees_then, agrees_wider, within_then, within_left, within_right, within_both}
 
 -- before the first call
@@ -59,3 +59,11 @@ wrote_then {outer} {inner} {a} {b} {c} within ab next = record {
 
     through : Within (outer ++ b.pending) (outer ++ a.pending)
     through = within_both (within_left outer a.pending) ab.pending
+
+-- a failure since a later moment is one since an earlier one
+pub rose_since : (a b c : DiskState) → Keeps a b → Rose b c → Rose a c
+rose_since a b c first (inl more) = inl (omega (arith, more, first.failures))
+rose_since a b c first (inr top) = inr top
+
+pub keeps_then : {a b c : DiskState} → Keeps a b → Keeps b c → Keeps a c
+keeps_then ab bc = record { size = bc.size ∙ ab.size; honest = bc.honest ∙ ab.honest; failures = omega (arith, ab.failures, bc.failures) }

@@ -1,11 +1,12 @@
 -- What the calls answer, and what they leave.
 use Rattle.std.specs.Prelude.{◌≡◌, ◌≢◌, ◌≤◌, ◌<◌, ◌⊎◌, ◌+◌, ◌*◌, ◌^◌, ◌||◌, ℕ, Bool, true, false, List, [], length, Option, Some, None, Result, Ok, Err, IsTrue}
-use Rattle.gptman.specs.Disk.{DiskState, Rose, Wrote, overlay}
+use Rattle.gptman.specs.Disk.{DiskState, Agrees, Rose, Wrote, overlay}
 use Rattle.gptman.specs.Bytes.{part}
 use Rattle.gptman.specs.Coding.{header_bytes, array_bytes}
 use Rattle.gptman.specs.Fault.{Fault, io, invalid_signature, invalid_revision, invalid_header_size, invalid_checksum, invalid_array_checksum, overflow, out_of_memory, invalid_entry_size, fault_of}
 use Rattle.gptman.specs.Copy.{Copy, entries_start}
 use Rattle.gptman.specs.Table.{entries_in, sealed}
+use Rattle.gptman.specs.Write.{other_header, write_ranges}
 use Rattle.gptman.specs.declared.error.Error.{Error}
 use Rattle.gptman.specs.declared.codec.header.GPTHeader.{GPTHeader}
 use Rattle.gptman.specs.declared.codec.entry.GPTPartitionEntry.{GPTPartitionEntry}
@@ -89,10 +90,15 @@ abbrev pub IsBlockFault : ℕ → Fault → DiskState → DiskState → Type 0
 IsBlockFault len fault old new = (fault ≡ out_of_memory) ⊎ ((fault ≡ io) × (Rose old new ⊎ (old.size < old.position + len)))
 
 -- what going to the entries may be refused with: their size or their place is wrong, or the disk failed
-abbrev pub IsSeekFault : GPTHeader → ℕ → Fault → DiskState → DiskState → Type 0
-IsSeekFault h ss fault old new =
-    ((fault ≡ invalid_entry_size h.size_of_partition_entry) × (h.size_of_partition_entry ≢ 128))
-    ⊎ (((fault ≡ overflow) × (h.size_of_partition_entry ≡ 128) × (2 ^ 64 ≤ entries_start h ss)) ⊎ ((fault ≡ io) × Rose old new))
+pub data IsSeekFault (h : GPTHeader) (ss : ℕ) (fault : Fault) (old new : DiskState) : Type 0 where
+  wrong_size : h.number_of_partition_entries ≢ 0 → h.size_of_partition_entry ≢ 128 → fault ≡ invalid_entry_size h.size_of_partition_entry → IsSeekFault h ss fault old new
+  wrong_place : h.number_of_partition_entries ≢ 0 → h.size_of_partition_entry ≡ 128 → 2 ^ 64 ≤ entries_start h ss → fault ≡ overflow → IsSeekFault h ss fault old new
+  disk_failed : fault ≡ io → Rose old new → IsSeekFault h ss fault old new
+
+-- there are no entries to read, or the disk stands where they begin
+pub data IsReadyFor (h : GPTHeader) (ss : ℕ) (disk : DiskState) : Type 0 where
+  empty : h.number_of_partition_entries ≡ 0 → IsReadyFor h ss disk
+  there : h.size_of_partition_entry ≡ 128 → entries_start h ss < 2 ^ 64 → disk.position ≡ entries_start h ss → IsReadyFor h ss disk
 
 -- new is old with the header's bytes laid over it, and then those of the entries
 abbrev pub IsCopyLaid : GPTHeader → List GPTPartitionEntry → ℕ → List ℕ → List ℕ → Type 0
@@ -102,3 +108,7 @@ IsCopyLaid h es ss old new = new ≡ overlay (overlay old (h.primary_lba * ss) (
 pub record HasBytes (b : List ℕ) (h : GPTHeader) (es : List GPTPartitionEntry) (ss : ℕ) : Type 0 where
   pub header : part b (h.primary_lba * ss) 92 ≡ header_bytes h
   pub entries : part b (h.partition_entry_lba * ss) (length (array_bytes es)) ≡ array_bytes es
+
+-- Outside of the other copy's ranges it is as it was, or the other copy stands there whole.
+abbrev pub IsOneWhole : GPTHeader → List GPTPartitionEntry → ℕ → List ℕ → List ℕ → Type 0
+IsOneWhole h es ss old b = Agrees (write_ranges (other_header h) ss) old b ⊎ HasBytes b (sealed (other_header h) es) es ss

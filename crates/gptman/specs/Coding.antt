@@ -1,8 +1,8 @@
 -- A header and an entry as bytes: numbers are little endian, and each field stands at its place.
-use Rattle.std.specs.Prelude.{◌≡◌, ℕ, ◌+◌, ◌*◌, ◌^◌, ◌<◌, List, [], ◌∷◌, ◌++◌, take, drop, map, flat_map, slice_range, slice_index, length, replicate, encode_utf8_all}
+use Rattle.std.specs.Prelude.{◌≡◌, ℕ, ◌+◌, ◌*◌, ◌^◌, ◌<◌, List, [], ◌++◌, map, flat_map, slice_range, slice_index, length, replicate, encode_utf8_all}
 use Rattle.std.specs.List.{range_with_len}
 use Rattle.byteorder.specs.Endian.{little_bytes}
-use Rattle.gptman.specs.Bytes.{le, part}
+use Rattle.gptman.specs.Bytes.{le}
 use Rattle.gptman.specs.Name.{text_of}
 use Rattle.gptman.specs.declared.codec.header.GPTHeader.{GPTHeader}
 use Rattle.gptman.specs.declared.codec.entry.GPTPartitionEntry.{GPTPartitionEntry}

@@ -1,5 +1,5 @@
 -- The two places of a table on a disk, and the copy that stands at one.
-use Rattle.std.specs.Prelude.{ℕ, ◌-◌, ◌*◌, ◌/◌, true, false, List, length, nat_lt, Result, Ok, Err}
+use Rattle.std.specs.Prelude.{ℕ, ◌-◌, ◌*◌, ◌/◌, true, false, List, length, nat_lt, Result, Err}
 use Rattle.gptman.specs.Fault.{Fault, invalid_signature}
 use Rattle.gptman.specs.Copy.{Copy, copy_at}
 

@@ -1,6 +1,6 @@
 -- What a table is, whichever of its two forms one looks at.
-use Rattle.std.specs.Prelude.{◌≡◌, ◌≤◌, ◌⊎◌, ◌+◌, ℕ, true, List, replicate, [], ◌∷◌, length, map, min, max, filter, nat_eq, nat_le, nat_lt, bytes_eq, IsTrue, Option, encode_utf8_all, if◌then◌else◌}
-use Rattle.std.specs.List.{list_all, list_any}
+use Rattle.std.specs.Prelude.{◌≡◌, ◌≤◌, ◌⊎◌, ◌+◌, ℕ, true, List, replicate, length, map, min, max, nat_eq, encode_utf8_all}
+use Rattle.std.specs.List.{list_all}
 use Rattle.gptman.specs.Name.{text_of}
 use Rattle.gptman.specs.Coding.{header_bytes, array_bytes, empty_entry}
 use Rattle.gptman.specs.Fit.{new_header, fitted}

@@ -49,7 +49,8 @@ pub enum Error {
     /// No used entry covers the sector.
     #[error("partition not found")]
     PartitionNotFound,
-    /// A position or a count does not fit in 64 bits, or the disk has too few sectors.
+    /// A position does not fit in 64 bits, or a header cannot be fitted: its entries take no bytes, or
+    /// the disk has too few sectors.
     #[error("an arithmetic operation overflowed")]
     Overflow,
     /// There was no memory.

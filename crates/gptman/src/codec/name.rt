@@ -110,7 +110,7 @@ impl Display for PartitionName {
     ghost output = { λ n. Some n.text };
 
     fn fmt<W: Write>(&self, f: &mut Formatter<W>) -> fmt::Result {
-        f.write_str(self.text.as_str())
+        f.write_str(self.as_str())
     }
 }
 
@@ -121,7 +121,7 @@ impl PartialEq for PartitionName {
     ghost laws = { partial_equiv_from_equiv name_equiv };
 
     fn eq(&self, other: &Self) -> bool {
-        self.text.as_str() == other.text.as_str() && self.units == other.units
+        self.as_str() == other.as_str() && self.units == other.units
     }
 }
 

@@ -3,7 +3,7 @@
 //! Entries come in blocks of up to 32, in a fixed array. No memory is asked for by the count that
 //! the header gives.
 
-ghost use Rattle.std.specs.Prelude.{◌≡◌, ◌≤◌, ◌<◌, ◌+◌, ◌*◌, ◌^◌, ◌⊎◌, ◌++◌, ℕ, List, length, IsTrue, IfOk, IfErr, OnOk};
+ghost use Rattle.std.specs.Prelude.{◌≡◌, ◌≢◌, ◌≤◌, ◌<◌, ◌+◌, ◌*◌, ◌^◌, ◌⊎◌, ◌++◌, ℕ, List, length, IsTrue, IfOk, IfErr, OnOk, OnErr};
 ghost use Rattle.gptman.specs.Bytes.{part};
 ghost use Rattle.gptman.specs.Coding.{header_bytes};
 ghost use Rattle.gptman.specs.Copy.{value_tests, array_tests, header_result, array_result, unless, entries_of, entries_start, entries_length};
@@ -11,7 +11,7 @@ ghost use Rattle.gptman.specs.Crc.{crc_of};
 ghost use Rattle.gptman.specs.Disk.{Keeps, Rose};
 ghost use Rattle.gptman.specs.Fault.{fault_of, first_failing, io as io_fault, out_of_memory};
 ghost use Rattle.gptman.specs.Register.{HasTaken};
-ghost use Rattle.gptman.specs.Calls.{answer_of, Refuses, RefusesOnly, Fails, OnlyRead, is_header_fault, is_array_fault, IsBlockFault, IsSeekFault};
+ghost use Rattle.gptman.specs.Calls.{answer_of, Refuses, RefusesOnly, Fails, OnlyRead, is_header_fault, is_array_fault, IsBlockFault, IsSeekFault, IsReadyFor};
 
 use crate::codec::entry::GPTPartitionEntry;
 use crate::codec::header::GPTHeader;
@@ -90,9 +90,7 @@ impl GPTHeader {
         ensures cause { Refuses result io_fault → Rose (D.state disk.old) (D.state disk.new)
             ⊎ ((D.state disk.old).size < entries_start self.now sector_size + entries_length self.now) }
     {
-        if self.number_of_partition_entries != 0 {
-            self.seek_entries(disk, sector_size)?;
-        }
+        self.seek_entries(disk, sector_size)?;
         let array = read_array(alloc, disk, self.number_of_partition_entries)?;
         if self.partition_entry_array_crc32 != array.checksum {
             return Err(Error::InvalidPartitionEntryArrayChecksum(
@@ -103,15 +101,16 @@ impl GPTHeader {
         Ok(array.partitions)
     }
 
-    // Goes to the first byte of the entries.
+    // Goes to the first byte of the entries, where there are some.
     fn seek_entries<D: Disk>(&self, disk: &mut D, sector_size: u64) -> Result<()>
         ensures keeps { Keeps (D.state disk.old) (D.state disk.new) }
         ensures reads { IsTrue (D.state disk.old).is_honest → OnlyRead (D.state disk.old) (D.state disk.new) }
-        ensures size { OnOk result (self.now.size_of_partition_entry ≡ 128) }
-        ensures fits { OnOk result (entries_start self.now sector_size < 2 ^ 64) }
-        ensures moves { OnOk result ((D.state disk.new).position ≡ entries_start self.now sector_size) }
+        ensures ready { OnOk result (IsReadyFor self.now sector_size (D.state disk.new)) }
         ensures refused { IfErr result (λ e. IsSeekFault self.now sector_size (fault_of e) (D.state disk.old) (D.state disk.new)) }
     {
+        if self.number_of_partition_entries == 0 {
+            return Ok(());
+        }
         if self.size_of_partition_entry != ENTRY_SIZE {
             return Err(Error::InvalidPartitionEntrySize(
                 self.size_of_partition_entry,
@@ -143,6 +142,7 @@ fn read_array<D: Disk>(alloc: Global, disk: &mut D, count: u32) -> Result<EntryA
     ensures checksum { IsTrue (D.state disk.old).is_honest
         → IfOk result (λ a. a.checksum ≡ crc_of (part (D.state disk.old).view (D.state disk.old).position (128 * count))) }
     ensures refused { IfErr result (λ e. IsBlockFault (128 * count) (fault_of e) (D.state disk.old) (D.state disk.new)) }
+    ensures some { OnErr result (count ≢ 0) }
 {
     let mut partitions = Vec::new(alloc);
     let mut checksum = Checksum::new();

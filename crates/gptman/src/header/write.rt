@@ -50,6 +50,8 @@ impl GPTHeader {
         ensures wrote { IsTrue (D.state disk.old).is_honest → Wrote (write_ranges self.old sector_size) (D.state disk.old) (D.state disk.new) }
         ensures laid { IsTrue (D.state disk.old).is_honest
             → OnOk result (IsCopyLaid self.new partitions.now sector_size (D.state disk.old).view (D.state disk.new).view) }
+        ensures pending { IsTrue (D.state disk.old).is_honest
+            → OnOk result (Contains (D.state disk.new).pending (self.old.primary_lba * sector_size, 92)) }
         ensures untouched { IsTrue (D.state disk.old).is_honest
             → IfErr result (λ e. (fault_of e ≡ io_fault) ⊎ Untouched (D.state disk.old) (D.state disk.new)) }
         ensures failed { IsTrue (D.state disk.old).is_honest → OnErr result (Untouched (D.state disk.old) (D.state disk.new)
@@ -119,6 +121,8 @@ fn write_copy<D: Disk>(
     ensures wrote { IsTrue (D.state disk.old).is_honest → Wrote (write_ranges header.now sector_size) (D.state disk.old) (D.state disk.new) }
     ensures laid { IsTrue (D.state disk.old).is_honest
         → OnOk result (IsCopyLaid header.now partitions.now sector_size (D.state disk.old).view (D.state disk.new).view) }
+    ensures pending { IsTrue (D.state disk.old).is_honest
+        → OnOk result (Contains (D.state disk.new).pending (header.now.primary_lba * sector_size, 92)) }
     ensures failed { IsTrue (D.state disk.old).is_honest → OnErr result (Untouched (D.state disk.old) (D.state disk.new)
         ⊎ Contains (D.state disk.new).pending (header.now.primary_lba * sector_size, 92)) }
 {

@@ -4,13 +4,13 @@
 
 ghost use Rattle.std.specs.Prelude.{◌≡◌, ◌<◌, ◌⊎◌, ◌*◌, [], ℕ, true, false, None, MatchOption, IsTrue, IfOk, IfErr, OnOk, OnErr, Contains, All};
 ghost use Rattle.gptman.specs.Coding.{FitsHeader, FitsEntry};
-ghost use Rattle.gptman.specs.Disk.{Keeps, Rose, Wrote};
+ghost use Rattle.gptman.specs.Disk.{Keeps, LeavesOnly, Rose, Wrote};
 ghost use Rattle.gptman.specs.Fault.{fault_of, io as io_fault, overflow};
 ghost use Rattle.gptman.specs.Layout.{HasLayout, AreApart};
 ghost use Rattle.gptman.specs.Stop.{IsStored};
 ghost use Rattle.gptman.specs.Table.{entries_in, table_in, IsCoherent, IsUnusedAndOrdered, sealed};
 ghost use Rattle.gptman.specs.Write.{other_header, both_ranges, write_ranges, copy_write_fault, write_fault, has_other_header};
-ghost use Rattle.gptman.specs.Calls.{Refuses, Settles, OnlyRead, SameButSums, Untouched, IsCopyLaid, HasBytes, sealed_value};
+ghost use Rattle.gptman.specs.Calls.{Refuses, Settles, OnlyRead, SameButSums, Untouched, IsCopyLaid, IsOneWhole, HasBytes, sealed_value};
 
 use crate::codec::entry::GPTPartitionEntry;
 use crate::codec::header::GPTHeader;
@@ -54,11 +54,22 @@ impl GPT {
             → OnOk result (IsStored (D.state disk.new) self.old.sector_size (table_in self.old)) }
         ensures untouched { IsTrue (D.state disk.old).is_honest
             → IfErr result (λ e. (fault_of e ≡ io_fault) ⊎ Untouched (D.state disk.old) (D.state disk.new)) }
+
+        // A stop at any moment leaves all but the other copy's ranges as it was, or the other copy whole.
+        ensures one_whole { IsTrue (D.state disk.old).is_honest → (D.state disk.old).pending ≡ []
+            → AreApart (both_ranges self.old.header self.old.sector_size)
+            → LeavesOnly (D.state disk.old) (D.state disk.new)
+            (IsOneWhole self.old.header (entries_in self.old) self.old.sector_size (D.state disk.old).view) }
     {
         let sector_size = self.sector_size;
         let mut other = self.checked(disk)?;
         write_copy(disk, &mut other, sector_size, self.partitions.as_slice())?;
-        write_copy(disk, &mut self.header, sector_size, self.partitions.as_slice())?;
+        write_copy(
+            disk,
+            &mut self.header,
+            sector_size,
+            self.partitions.as_slice(),
+        )?;
         Ok(other)
     }
 

@@ -1,5 +1,4 @@
-use Rattle.std.proofs.Common.{◌≡◌, ◌∙◌, arith}
-use Rattle.gptman.specs.Coding.{IsEntryCoding}
+use Rattle.std.proofs.Common.{◌∙◌, arith}
 use Rattle.gptman.proofs.EntryBytes.{spelling_is}
 use Rattle.gptman.proofs.codec.entry.GPTPartitionEntry.decode.Goals as goal
 

@@ -1,5 +1,4 @@
-use Rattle.std.proofs.Common.{◌≡◌, arith, rules}
-use Rattle.gptman.specs.Coding.{IsHeaderCoding}
+use Rattle.std.proofs.Common.{arith, rules}
 use Rattle.gptman.proofs.HeaderBytes.{spelling_is}
 use Rattle.gptman.proofs.codec.header.GPTHeader.decode.Goals as goal
 

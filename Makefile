@@ -1,0 +1,15 @@
+# Needs `rt` of the Rattle kit on the PATH, and nothing else.
+
+.PHONY: gptimg demo test
+
+# Proves and builds the program, and leaves it at ./gptimg.
+gptimg:
+	@scripts/build
+
+# Makes an empty disk image, writes a table to it and shows it.
+demo: gptimg
+	@scripts/demo
+
+# Proves every crate from nothing, and runs all tests. The last line is 'N passed, M failed'.
+test:
+	@rt ci

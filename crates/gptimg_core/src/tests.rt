@@ -1,0 +1,155 @@
+//! The program over a disk in memory.
+
+use crate::{USAGE, run};
+use gptman::{Error, MemoryDisk};
+use std::alloc::Global;
+use std::io;
+use std::io::Write;
+use std::process::Abort;
+use std::test::Fail;
+
+const GUID: &str = "ffffffffffffffffffffffffffffffff";
+
+// What a call answered, and what it printed.
+#[derive(Drop)]
+struct Outcome {
+    status: u8,
+    printed: Vec<u8>,
+}
+
+fn strings(alloc: Global, words: &[&str]) -> Result<Vec<String>, Fail> {
+    let mut strings = Vec::new(alloc);
+    for word in words {
+        strings.push(String::from_str(alloc, word)?)?;
+    }
+    Ok(strings)
+}
+
+fn call(alloc: Global, disk: &mut MemoryDisk, words: &[&str]) -> Result<Outcome, Fail> {
+    let words = strings(alloc, words)?;
+    let mut printed = Vec::new(alloc);
+    let status = run(alloc, words.as_slice(), disk, &mut printed)?;
+    Ok(Outcome { status, printed })
+}
+
+fn assert_prints<R: Abort>(rt: &R, outcome: &Outcome, status: u8, text: &str) {
+    assert_eq!(rt; outcome.status, status);
+    assert_eq!(rt; outcome.printed.as_slice(), text.as_bytes());
+}
+
+#[test]
+fn a_new_table_is_shown(rt: HostRuntime) -> Result<(), Fail> {
+    let alloc = rt.alloc();
+    let mut disk = MemoryDisk::new(alloc, vec![in alloc; 0; 51_200]?)?;
+    let made = call(alloc, &mut disk, &["512", "new", GUID])?;
+    assert_prints(&rt, &made, 0, "ok\n");
+    let shown = call(alloc, &mut disk, &["512", "show"])?;
+    let line =
+        "sector 512 form primary disk ffffffffffffffffffffffffffffffff usable 34..66 entries 128 align 2048\n";
+    assert_prints(&rt, &shown, 0, line);
+    Ok(())
+}
+
+#[test]
+fn refusals_are_named(rt: HostRuntime) -> Result<(), Fail> {
+    let alloc = rt.alloc();
+    let mut small = MemoryDisk::new(alloc, vec![in alloc; 0; 33 * 512]?)?;
+    let refused = call(alloc, &mut small, &["512", "new", GUID])?;
+    assert_prints(&rt, &refused, 1, "fault: Overflow\n");
+    let mut zeros = MemoryDisk::new(alloc, vec![in alloc; 0; 51_200]?)?;
+    let unsigned = call(alloc, &mut zeros, &["512", "show"])?;
+    assert_prints(&rt, &unsigned, 1, "fault: InvalidSignature\n");
+    let mut broken = MemoryDisk::with_fuse(alloc, vec![in alloc; 0; 51_200]?, 0)?;
+    let failed = call(alloc, &mut broken, &["512", "show"])?;
+    assert_prints(&rt, &failed, 1, "fault: Io\n");
+    Ok(())
+}
+
+#[test]
+fn other_words_are_usage(rt: HostRuntime) -> Result<(), Fail> {
+    let alloc = rt.alloc();
+    let mut disk = MemoryDisk::new(alloc, vec![in alloc; 7; 51_200]?)?;
+    let lines: [&[&str]; 20] = [
+        &[],
+        &["512"],
+        &["0", "show"],
+        &["+512", "show"],
+        &["-512", "show"],
+        &["512 ", "show"],
+        &[" 512", "show"],
+        &["", "show"],
+        &["0x200", "show"],
+        &["18446744073709551616", "show"],
+        &["auto", "show"],
+        &["512", "shows"],
+        &["512", "check"],
+        &["512", "show", "show"],
+        &["512", "new"],
+        &["512", "new", "fffffffffffffffffffffffffffffff"],
+        &["512", "new", "fffffffffffffffffffffffffffffffff"],
+        &["512", "new", "fffffffffffffffffffffffffffffffg"],
+        &["512", "new", GUID, GUID],
+        &["auto", "new", GUID],
+    ];
+    for words in lines {
+        let outcome = call(alloc, &mut disk, words)?;
+        assert_prints(&rt, &outcome, 2, USAGE);
+        assert!(rt; disk.bytes().iter().all(|byte| *byte == 7));
+    }
+    Ok(())
+}
+
+#[test]
+fn a_guid_may_have_any_case(rt: HostRuntime) -> Result<(), Fail> {
+    let alloc = rt.alloc();
+    let mut disk = MemoryDisk::new(alloc, vec![in alloc; 0; 51_200]?)?;
+    let guid = "00112233445566778899aAbBcCdDeEfF";
+    call(alloc, &mut disk, &["00512", "new", guid])?;
+    let shown = call(alloc, &mut disk, &["512", "show"])?;
+    let line =
+        "sector 512 form primary disk 00112233445566778899aabbccddeeff usable 34..66 entries 128 align 2048\n";
+    assert_prints(&rt, &shown, 0, line);
+    Ok(())
+}
+
+// A writer that takes so many bytes, and then fails.
+#[derive(Drop)]
+struct Short {
+    room: usize,
+}
+
+impl Write for Short {
+    fn write(&mut self, buf: &[u8]) -> io::Result<usize> {
+        if self.room == 0 {
+            return Err(io::Error::from(io::ErrorKind::Other));
+        }
+        let taken = self.room.min(buf.len());
+        self.room -= taken;
+        Ok(taken)
+    }
+
+    fn flush(&mut self) -> io::Result<()> {
+        Ok(())
+    }
+}
+
+#[test]
+fn a_failing_writer_is_an_error(rt: HostRuntime) -> Result<(), Fail> {
+    let alloc = rt.alloc();
+    let mut disk = MemoryDisk::new(alloc, vec![in alloc; 0; 51_200]?)?;
+    let lines: [&[&str]; 4] = [
+        &[],
+        &["512", "show"],
+        &["512", "new", GUID],
+        &["512", "show"],
+    ];
+    for words in lines {
+        let words = strings(alloc, words)?;
+        let outcome = run(alloc, words.as_slice(), &mut disk, &mut Short { room: 2 });
+        assert!(rt; matches!(outcome, Err(Error::Io(_))));
+    }
+    // The table was written before its `ok` could not be printed.
+    let shown = call(alloc, &mut disk, &["512", "show"])?;
+    assert_eq!(rt; shown.status, 0);
+    Ok(())
+}

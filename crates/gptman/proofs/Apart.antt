@@ -1,0 +1,35 @@
+-- Ranges that have no byte in common, in another order.
+use Rattle.std.proofs.Common.{inl, inr, ℕ, [], ◌∷◌, ◌++◌, sym, subst}
+use Rattle.std.proofs.lemmas.List.{append-nil}
+use Rattle.gptman.specs.Layout.{IsApart, IsApartFromAll, AreApart}
+use Rattle.gptman.proofs.Ranges.{Ranges}
+
+apart_back : (r s : ℕ × ℕ) → IsApart r s → IsApart s r
+apart_back r s (inl none) = inr (inl none)
+apart_back r s (inr (inl none)) = inl none
+apart_back r s (inr (inr (inl before))) = inr (inr (inr before))
+apart_back r s (inr (inr (inr after))) = inr (inr (inl after))
+
+from_both : (r : ℕ × ℕ) (rs ss : Ranges) → IsApartFromAll r rs → IsApartFromAll r ss → IsApartFromAll r (rs ++ ss)
+from_both r [] ss left right = right
+from_both r (x ∷ rs) ss left right = (left.0, from_both r rs ss left.1 right)
+
+from_left : (r : ℕ × ℕ) (rs ss : Ranges) → IsApartFromAll r (rs ++ ss) → IsApartFromAll r rs
+from_left r [] ss apart = tt
+from_left r (x ∷ rs) ss apart = (apart.0, from_left r rs ss apart.1)
+
+from_right : (r : ℕ × ℕ) (rs ss : Ranges) → IsApartFromAll r (rs ++ ss) → IsApartFromAll r ss
+from_right r [] ss apart = apart
+from_right r (x ∷ rs) ss apart = from_right r rs ss apart.1
+
+-- one range put between others
+put_between : (r : ℕ × ℕ) (rs ss : Ranges) → IsApartFromAll r (rs ++ ss) → AreApart (rs ++ ss) → AreApart (rs ++ r ∷ ss)
+put_between r [] ss here apart = (here, apart)
+put_between r (x ∷ rs) ss here apart =
+    (from_both x rs (r ∷ ss) (from_left x rs ss apart.0) (apart_back r x here.0, from_right x rs ss apart.0), put_between r rs ss here.1 apart.1)
+
+-- Ranges are apart in whichever order the first and the last of them stand.
+pub apart_exchanged : (rs ss : Ranges) → AreApart (rs ++ ss) → AreApart (ss ++ rs)
+apart_exchanged [] ss apart = subst AreApart (sym (append-nil ss)) apart
+apart_exchanged (r ∷ rs) ss apart =
+    put_between r ss rs (from_both r ss rs (from_right r rs ss apart.0) (from_left r rs ss apart.0)) (apart_exchanged rs ss apart.1)

@@ -1,0 +1,109 @@
+-- At any moment of a write of two copies the other one is whole, or nothing but its ranges has changed.
+use Rattle.std.proofs.Common.{◌≡◌, inl, inr, ℕ, ◌*◌, ◌++◌, Bool, true, List, [], ◌∷◌, length, sym, ap, ◌∙◌, subst, arith}
+use Rattle.std.specs.Prelude.{if◌then◌else◌}
+use Rattle.std.specs.List.{All, list_all}
+use Rattle.std.proofs.lemmas.Bool.{and_parts}
+use Rattle.std.proofs.lemmas.List.{append-nil}
+use Rattle.std.proofs.lemmas.List.Folds.{list_all-append}
+use Rattle.std.proofs.lemmas.Bool.Decides.{eqb_tells}
+use Rattle.gptman.specs.Bytes.{part}
+use Rattle.gptman.specs.Coding.{FitsHeader, FitsEntry, header_bytes, array_bytes}
+use Rattle.gptman.specs.Disk.{DiskState, Agrees, Within, LeavesOnly, Wrote}
+use Rattle.gptman.specs.Layout.{AreApart, AreInside}
+use Rattle.gptman.specs.Table.{sealed}
+use Rattle.gptman.specs.Write.{other_header, write_ranges, both_ranges, is_inside}
+use Rattle.gptman.specs.Calls.{IsCopyLaid, IsOneWhole, HasBytes, OnlyRead}
+use Rattle.gptman.specs.declared.codec.header.GPTHeader.{GPTHeader}
+use Rattle.gptman.specs.declared.codec.entry.GPTPartitionEntry.{GPTPartitionEntry}
+use Rattle.gptman.proofs.ArrayBytes.{array_long}
+use Rattle.gptman.proofs.HeaderBytes.{header_long}
+use Rattle.gptman.proofs.LaidCopies.{copy_ranges, copies_apart, copy_inside}
+use Rattle.gptman.proofs.Overlays.{part_same}
+use Rattle.gptman.proofs.Pieces.{ranges_of, AllStand, laid_stand}
+use Rattle.gptman.proofs.Ranges.{Ranges, agrees_wider, within_none, within_self}
+use Rattle.gptman.proofs.Runs.{leaves_then, wrote_then, wrote_wider}
+use Rattle.gptman.proofs.Apart.{apart_exchanged}
+use Rattle.gptman.proofs.Sealing.{sealed_ranges, sealed_count}
+
+-- the ranges that are written are among those of the copy
+within_copy : (h : GPTHeader) (ss : ℕ) → Within (write_ranges h ss) (copy_ranges h ss)
+within_copy h ss =
+    let start : ℕ = h.partition_entry_lba * ss in
+    let n : ℕ = h.number_of_partition_entries in
+    let at : Bool → Ranges = λ b. if b then [] else ((start, 128 * n) ∷ []) in
+    let P : Bool → Type 0 = λ b. Within ((h.primary_lba * ss, 92) ∷ at b) (copy_ranges h ss) in
+    elim (eqb_tells n 0) as (λ _. Within (write_ranges h ss) (copy_ranges h ss)) [
+      | inl zero ↦ subst P (sym zero.0) (record { covers = λ k o. (o.0, tt) })
+      | inr some ↦ subst P (sym some.0) (within_self (copy_ranges h ss))
+    ]
+
+-- A copy that was laid stands, whatever the ranges of another one hold since.
+pub other_stays : (old mid new : List ℕ) (g h : GPTHeader) (es : List GPTPartitionEntry) (ss : ℕ) → AreApart (write_ranges g ss ++ write_ranges h ss)
+    → list_all (is_inside (length old)) (write_ranges g ss) ≡ true → FitsHeader g → All FitsEntry es
+    → length es ≡ g.number_of_partition_entries → length es ≡ h.number_of_partition_entries
+    → IsCopyLaid g es ss old mid → Agrees (write_ranges h ss) mid new → HasBytes new g es ss
+other_stays old mid new g h es ss apart inside fits_g fits count_g count_h laid agrees =
+    let all = copies_apart g h ss (sym count_h ∙ count_g) apart in
+    let pieces : List (ℕ × List ℕ) = (g.primary_lba * ss, header_bytes g) ∷ (g.partition_entry_lba * ss, array_bytes es) ∷ [] in
+    let long_g = header_long g fits_g in
+    let array_g : length (array_bytes es) ≡ 128 * g.number_of_partition_entries = omega (arith, array_long es fits, count_g) in
+    let ranges : ranges_of pieces ≡ copy_ranges g ss = λ i. (g.primary_lba * ss, long_g i) ∷ (g.partition_entry_lba * ss, array_g i) ∷ [] in
+    let own : AreApart (copy_ranges g ss) = ((all.0.0, tt), (tt, tt)) in
+    let room : AreInside (ranges_of pieces) (length old) = subst (λ (rs : Ranges). AreInside rs (length old)) (sym ranges) (copy_inside g ss (length old) inside) in
+    let stand : AllStand pieces mid = subst (AllStand pieces) (sym laid) (laid_stand old pieces (subst AreApart (sym ranges) own) room) in
+    let wide = agrees_wider (within_copy h ss) agrees in
+    record {
+      header = part_same (copy_ranges h ss) mid new (g.primary_lba * ss) 92 wide (all.0.1.0, (all.0.1.1.0, tt))
+          ∙ ap (λ (n : ℕ). part mid (g.primary_lba * ss) n) (sym long_g) ∙ stand.0;
+      entries = ap (part new (g.partition_entry_lba * ss)) array_g
+          ∙ part_same (copy_ranges h ss) mid new (g.partition_entry_lba * ss) (128 * g.number_of_partition_entries) wide (all.1.0.0, (all.1.0.1.0, tt))
+          ∙ ap (part mid (g.partition_entry_lba * ss)) (sym array_g) ∙ stand.1.0;
+    }
+
+-- what a stop leaves of a run that began with nothing pending
+leaves_ranges : (rs : Ranges) (a b : DiskState) → Wrote rs a b → a.pending ≡ [] → LeavesOnly a b (Agrees rs a.view)
+leaves_ranges rs a b run nothing = λ x left.
+    subst (λ (ps : Ranges). Agrees ps a.view x) (ap (λ (ps : Ranges). rs ++ ps) nothing ∙ append-nil rs) (run.crash x left)
+
+-- while the other copy is written
+pub leaves_first : (h : GPTHeader) (es : List GPTPartitionEntry) (ss : ℕ) (a b : DiskState) → a.pending ≡ [] → Wrote (write_ranges (other_header h) ss) a b
+    → LeavesOnly a b (IsOneWhole h es ss a.view)
+leaves_first h es ss a b nothing run = λ x left. inl (leaves_ranges (write_ranges (other_header h) ss) a b run nothing x left)
+
+-- the other copy is written after calls that only read
+pub first_run : (h other : GPTHeader) (ss : ℕ) (a s b : DiskState) → other ≡ other_header h → OnlyRead a s → Wrote (write_ranges other ss) s b → Wrote (write_ranges (other_header h) ss) a b
+first_run h other ss a s b is read run =
+    wrote_then (within_self (write_ranges (other_header h) ss)) (wrote_wider within_none read.wrote) (subst (λ (x : GPTHeader). Wrote (write_ranges x ss) s b) is run)
+
+-- and while the own one is
+pub leaves_second : (h : GPTHeader) (es : List GPTPartitionEntry) (ss : ℕ) (a b c : DiskState) → a.pending ≡ [] → Wrote (write_ranges (other_header h) ss) a b → b.pending ≡ []
+    → ((x : List ℕ) → Agrees (write_ranges h ss) b.view x → HasBytes x (sealed (other_header h) es) es ss) → Wrote (write_ranges h ss) b c
+    → LeavesOnly a c (IsOneWhole h es ss a.view)
+leaves_second h es ss a b c nothing first synced stays second =
+    leaves_then (IsOneWhole h es ss a.view) first.time second.time (leaves_first h es ss a b nothing first)
+    (λ x left. inr (stays x (leaves_ranges (write_ranges h ss) b c second synced x left)))
+
+-- the same of the calls of a write, in order: reading, the other copy with its sync, the own one
+pub whole_after : (h other first : GPTHeader) (es fs : List GPTPartitionEntry) (ss : ℕ) (a s b c : DiskState) → a.pending ≡ [] → AreApart (both_ranges h ss)
+    → list_all (is_inside (length a.view)) (both_ranges h ss) ≡ true → length es ≡ h.number_of_partition_entries → OnlyRead a s
+    → other ≡ other_header h → fs ≡ es → first ≡ sealed other fs → FitsHeader first × All FitsEntry fs → IsCopyLaid first fs ss s.view b.view
+    → Wrote (write_ranges other ss) s b → b.pending ≡ [] → Wrote (write_ranges h ss) b c → LeavesOnly a c (IsOneWhole h es ss a.view)
+whole_after h other first es fs ss a s b c nothing apart inside count read other_is fs_is first_is fits laid run synced last =
+    let own_ranges : Ranges = write_ranges h ss in
+    let ranges : Ranges = write_ranges (other_header h) ss in
+    let sealed_is = sealed_ranges (other_header h) es ss in
+    let to : first ≡ sealed (other_header h) es = first_is ∙ (λ i. sealed (other_is i) (fs_is i)) in
+    let parts = and_parts (list_all (is_inside (length a.view)) own_ranges) (list_all (is_inside (length a.view)) ranges)
+    (sym (list_all-append (is_inside (length a.view)) own_ranges ranges) ∙ inside) in
+    let here : list_all (is_inside (length a.view)) (write_ranges (sealed (other_header h) es) ss) ≡ true =
+    ap (list_all (is_inside (length a.view))) sealed_is ∙ parts.1 in
+    let separate : AreApart (write_ranges (sealed (other_header h) es) ss ++ own_ranges) =
+    subst (λ (rs : Ranges). AreApart (rs ++ own_ranges)) (sym sealed_is) (apart_exchanged own_ranges ranges apart) in
+    let laid_here : IsCopyLaid (sealed (other_header h) es) es ss a.view b.view =
+    subst (λ (v : List ℕ). IsCopyLaid (sealed (other_header h) es) es ss v b.view) read.view
+    (subst (λ (xs : List GPTPartitionEntry). IsCopyLaid (sealed (other_header h) es) xs ss s.view b.view) fs_is
+    (subst (λ (x : GPTHeader). IsCopyLaid x fs ss s.view b.view) to laid)) in
+    leaves_second h es ss a b c nothing (first_run h other ss a s b other_is read run) synced
+    (λ x agrees. other_stays a.view b.view x (sealed (other_header h) es) h es ss separate here (subst FitsHeader to fits.0)
+    (subst (λ (xs : List GPTPartitionEntry). All FitsEntry xs) fs_is fits.1) (count ∙ sym (sealed_count (other_header h) es)) count laid_here agrees)
+    last

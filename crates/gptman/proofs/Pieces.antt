@@ -1,0 +1,62 @@
+-- Pieces of bytes that are laid over a list, one after the other.
+use Rattle.std.proofs.Common.{◌≡◌, ◌⊎◌, inl, inr, ◌≤◌, ℕ, ◌+◌, List, [], ◌∷◌, ◌++◌, length, take, drop, refl, sym, ◌∙◌, ap, subst, arith}
+use Rattle.std.proofs.lemmas.List.{append-nil, take-append-drop}
+use Rattle.gptman.specs.Disk.{Agrees, overlay}
+use Rattle.gptman.specs.Bytes.{part}
+use Rattle.gptman.specs.Layout.{AreApart, AreInside}
+use Rattle.gptman.proofs.Ranges.{Ranges, agrees_self, agrees_then, agrees_wider, within_self, within_first, within_later}
+use Rattle.gptman.proofs.Overlays.{agrees_overlay, part-overlay, part_same}
+
+-- the list with the pieces laid over it, each a start and its bytes, the first of them first
+abbrev pub laid_over : List ℕ → List (ℕ × List ℕ) → List ℕ
+laid_over old [] = old
+laid_over old (piece ∷ pieces) = laid_over (overlay old piece.0 piece.1) pieces
+
+-- the ranges of the pieces
+abbrev pub ranges_of : List (ℕ × List ℕ) → Ranges
+ranges_of [] = []
+ranges_of (piece ∷ pieces) = (piece.0, length piece.1) ∷ ranges_of pieces
+
+-- each piece stands in the list
+abbrev pub AllStand : List (ℕ × List ℕ) → List ℕ → Type 0
+AllStand [] b = Unit {0}
+AllStand (piece ∷ pieces) b = (part b piece.0 (length piece.1) ≡ piece.1) × AllStand pieces b
+
+-- to lay nothing changes nothing, wherever it is laid
+overlay_none : (old : List ℕ) (at : ℕ) → overlay old at [] ≡ old
+overlay_none old at =
+    ap (λ (xs : List ℕ). xs ++ drop (at + 0) old) (append-nil (take at old))
+    ∙ ap (λ (k : ℕ). take at old ++ drop k old) (let e : at + 0 ≡ at = omega arith in e)
+    ∙ take-append-drop at old
+
+-- one piece, of no bytes or within the list
+piece_agrees : (old : List ℕ) (at : ℕ) (bytes : List ℕ) → (length bytes ≡ 0) ⊎ (at + length bytes ≤ length old) → Agrees ((at, length bytes) ∷ []) old (overlay old at bytes)
+piece_agrees old at bytes (inr fits) = agrees_overlay old at bytes fits
+piece_agrees old at [] (inl none) = subst (Agrees ((at, 0) ∷ []) old) (sym (overlay_none old at)) (agrees_self ((at, 0) ∷ []) old)
+piece_agrees old at (x ∷ bytes) (inl none) = absurd (omega arith)
+
+piece_stands : (old : List ℕ) (at : ℕ) (bytes : List ℕ) → (length bytes ≡ 0) ⊎ (at + length bytes ≤ length old) → part (overlay old at bytes) at (length bytes) ≡ bytes
+piece_stands old at bytes (inr fits) = part-overlay old at bytes fits
+piece_stands old at [] (inl none) = refl
+piece_stands old at (x ∷ bytes) (inl none) = absurd (omega arith)
+
+rest_inside : (old : List ℕ) (at : ℕ) (bytes : List ℕ) (rs : Ranges) → AreInside ((at, length bytes) ∷ rs) (length old) → AreInside rs (length (overlay old at bytes))
+rest_inside old at bytes rs inside = subst (AreInside rs) (sym (piece_agrees old at bytes inside.0).long) inside.1
+
+-- Outside of the pieces nothing changes.
+pub laid_agrees : (old : List ℕ) (pieces : List (ℕ × List ℕ)) → AreInside (ranges_of pieces) (length old) → Agrees (ranges_of pieces) old (laid_over old pieces)
+laid_agrees old [] inside = agrees_self [] old
+laid_agrees old (piece ∷ pieces) inside =
+    agrees_then (agrees_wider (within_first refl) (piece_agrees old piece.0 piece.1 inside.0))
+    (agrees_wider (within_later (within_self (ranges_of pieces))) (laid_agrees (overlay old piece.0 piece.1) pieces (rest_inside old piece.0 piece.1 (ranges_of pieces) inside)))
+
+-- Pieces that are apart all stand there in the end.
+pub laid_stand : (old : List ℕ) (pieces : List (ℕ × List ℕ)) → AreApart (ranges_of pieces) → AreInside (ranges_of pieces) (length old) → AllStand pieces (laid_over old pieces)
+laid_stand old [] apart inside = tt
+laid_stand old (piece ∷ pieces) apart inside =
+    let first : List ℕ = overlay old piece.0 piece.1 in
+    let left : AreInside (ranges_of pieces) (length first) = rest_inside old piece.0 piece.1 (ranges_of pieces) inside in (
+      part_same (ranges_of pieces) first (laid_over first pieces) piece.0 (length piece.1) (laid_agrees first pieces left) apart.0
+          ∙ piece_stands old piece.0 piece.1 inside.0,
+      laid_stand first pieces apart.1 left,
+    )
