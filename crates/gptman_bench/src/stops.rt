@@ -116,6 +116,7 @@ fn the_other_copy_is_stored_before_the_own_one(rt: HostRuntime) -> Result<(), Fa
 }
 
 // Writes the table on disks that fail after each number of calls, and stops them with these fates.
+// They are as many as the writes of both copies.
 fn stop_anywhere(
     rt: &impl Abort,
     alloc: Global,
@@ -148,7 +149,7 @@ fn stop_anywhere(
 fn a_stop_at_any_call_leaves_a_whole_copy(rt: HostRuntime) -> Result<(), Fail> {
     for is_backup in [false, true] {
         for fate in [Fate::Old, Fate::New, Fate::Garbage(7)] {
-            stop_anywhere(&rt, rt.alloc(), is_backup, &[fate; 5])?;
+            stop_anywhere(&rt, rt.alloc(), is_backup, &[fate; 10])?;
         }
     }
     Ok(())
@@ -158,7 +159,7 @@ fn a_stop_at_any_call_leaves_a_whole_copy(rt: HostRuntime) -> Result<(), Fail> {
 fn a_write_that_is_torn_leaves_a_whole_copy(rt: HostRuntime) -> Result<(), Fail> {
     for fate in [Fate::Old, Fate::New] {
         for torn in [0_usize, 3] {
-            let mut fates = [fate; 5];
+            let mut fates = [fate; 10];
             fates[torn] = Fate::Garbage(7);
             stop_anywhere(&rt, rt.alloc(), false, &fates)?;
         }
