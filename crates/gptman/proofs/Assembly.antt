@@ -41,4 +41,3 @@ pub taken_more : (b : List ℕ) (at n : ℕ) {front part : List ℕ} → front �
 taken_more b at n {front} {part} f p =
     let size : at + n - at ≡ n = omega arith in
     ap₂ (λ (x y : List ℕ). x ++ y) f (p ∙ ap (λ (k : ℕ). take k (drop at b)) size) ∙ sym (take-add at n b)
-

@@ -34,9 +34,9 @@ entries_of-front b at k (suc n) h =
     let more : suc n ≡ n + 1 = omega arith in
     ap (entries_of (part b at (128 * k))) more ∙ entries_of-more (part b at (128 * k)) n
     ∙ ap (λ (es : List GPTPartitionEntry). es ++ entry_of (part (part b at (128 * k)) (128 * n) 128) ∷ [])
-      (entries_of-front b at k n (omega arith) ∙ sym (entries_of-front b at (suc n) n (omega arith)))
+    (entries_of-front b at k n (omega arith) ∙ sym (entries_of-front b at (suc n) n (omega arith)))
     ∙ ap (λ (x : List ℕ). entries_of (part b at (128 * suc n)) n ++ entry_of x ∷ [])
-      (part-part b at (128 * k) (128 * n) 128 (omega arith) ∙ sym (part-part b at (128 * suc n) (128 * n) 128 (omega arith)))
+    (part-part b at (128 * k) (128 * n) 128 (omega arith) ∙ sym (part-part b at (128 * suc n) (128 * n) 128 (omega arith)))
     ∙ sym (ap (entries_of (part b at (128 * suc n))) more ∙ entries_of-more (part b at (128 * suc n)) n)
 
 -- a block behind others
@@ -58,6 +58,6 @@ entries_of-blocks b at n (suc m) =
     ∙ sym (append_assoc front (entries_of (part b next (128 * suc m)) m) (entry_of (part (part b next (128 * suc m)) (128 * m) 128) ∷ []))
     ∙ ap (λ (es : List GPTPartitionEntry). (front ++ es) ++ entry_of (part (part b next (128 * suc m)) (128 * m) 128) ∷ []) (entries_of-front b next (suc m) m (omega arith))
     ∙ ap (λ (es : List GPTPartitionEntry). es ++ entry_of (part (part b next (128 * suc m)) (128 * m) 128) ∷ [])
-      (entries_of-blocks b at n m ∙ sym (entries_of-front b at (n + suc m) (n + m) (omega arith)))
+    (entries_of-blocks b at n m ∙ sym (entries_of-front b at (n + suc m) (n + m) (omega arith)))
     ∙ ap (λ (x : List ℕ). entries_of (part b at (128 * (n + suc m))) (n + m) ++ entry_of x ∷ []) here
     ∙ sym (ap (entries_of (part b at (128 * (n + suc m)))) all ∙ entries_of-more (part b at (128 * (n + suc m))) (n + m))

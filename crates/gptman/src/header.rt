@@ -22,7 +22,6 @@ use crate::error::{Error, Result};
 mod read;
 mod write;
 
-
 /// The size of a header in bytes.
 pub(crate) const HEADER_SIZE: u32 = 92;
 

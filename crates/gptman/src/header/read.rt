@@ -112,9 +112,7 @@ impl GPTHeader {
             return Ok(());
         }
         if self.size_of_partition_entry != ENTRY_SIZE {
-            return Err(Error::InvalidPartitionEntrySize(
-                self.size_of_partition_entry,
-            ));
+            return Err(Error::InvalidPartitionEntrySize(self.size_of_partition_entry));
         }
         let Some(start) = self.partition_entry_lba.checked_mul(sector_size) else {
             return Err(Error::Overflow);

@@ -16,9 +16,9 @@ returns-clause-answer g c =
     let length_is : c.in_ok-sectors.field-0 ≡ size = c.in_ok-sectors.ensures.moves.0 in
     let sectors_is : c.div_ceil.result ≡ array_sectors h ss = c.div_ceil.ensures ∙ ap (λ (n : ℕ). div_ceil n ss) array in
     inl (c.fit.ensures.answer
-      ∙ ap (λ (n : ℕ). if is_too_small (n / ss) c.div_ceil.result then Some overflow else None) length_is
-      ∙ ap (λ (n : ℕ). if is_too_small (size / ss) n then Some overflow else None) sectors_is
-      ∙ fit_fault_is h ss size some)
+    ∙ ap (λ (n : ℕ). if is_too_small (n / ss) c.div_ceil.result then Some overflow else None) length_is
+    ∙ ap (λ (n : ℕ). if is_too_small (size / ss) n then Some overflow else None) sectors_is
+    ∙ fit_fault_is h ss size some)
 
 pub returns-clause-fits : goal.returns-clause-fits
 returns-clause-fits g c =
