@@ -1,1 +1,2 @@
 mod NewTable
+pub mod ReadBack

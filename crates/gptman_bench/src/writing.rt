@@ -1,8 +1,30 @@
 //! A whole table written to a disk, in both of its places.
 
+ghost use Rattle.std.specs.Prelude.{◌≡◌, ◌<◌, All, IfOk, IsTrue};
+ghost use Rattle.gptman.specs.Calls.{copy_of};
+ghost use Rattle.gptman.specs.Layout.{HasLayout};
+ghost use Rattle.gptman.specs.Reading.{primary};
+ghost use Rattle.gptman.specs.Table.{entries_in, table_in, IsCoherent, IsForm, IsUnusedAndOrdered};
+
 use crate::fixtures::{DISK_GUID, answer, bytes_at, disk_of, new_table};
 use gptman::{Disk, GPT, GPTHeader};
+use std::alloc::Global;
 use std::test::Fail;
+
+// Writes the table and reads it back. What is read from an honest disk of the stated layout is the
+// table in primary form.
+fn write_and_read<D: Disk>(alloc: Global, table: &mut GPT, disk: &mut D) -> gptman::Result<GPT>
+    requires sector { 0 < table.old.sector_size }
+    requires coherent { IsCoherent table.old.header (entries_in table.old) }
+    requires unused { All IsUnusedAndOrdered (entries_in table.old) }
+    ensures { IsTrue (D.state disk.old).is_honest
+        → HasLayout table.old.header (table_in table.old) table.old.sector_size (D.state disk.old).size
+        → IfOk result (λ g. IsForm primary (table_in table.old) (copy_of g)) }
+{
+    let sector_size = table.sector_size;
+    table.write_into(disk)?;
+    GPT::read_from(alloc, disk, sector_size)
+}
 
 #[test]
 fn a_new_table_is_written_and_read_back(rt: HostRuntime) -> Result<(), Fail> {
@@ -26,6 +48,8 @@ fn a_new_table_is_written_and_read_back(rt: HostRuntime) -> Result<(), Fail> {
     assert_eq!(rt; read.sector_size, 512);
     assert_eq!(rt; read.align, 2048);
     assert!(rt; read.is_coherent() && read.is_primary());
+    let mut again = new_table(alloc, &mut disk, 512, DISK_GUID)?;
+    assert_eq!(rt; write_and_read(alloc, &mut again, &mut disk)?, table);
     Ok(())
 }
 
