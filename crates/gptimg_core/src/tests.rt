@@ -1,12 +1,12 @@
 //! The program over a disk in memory.
 
 use crate::{USAGE, run};
-use gptman::{Error, MemoryDisk};
+use gptman::{Disk, Error, FileDisk, MemoryDisk};
 use std::alloc::Global;
-use std::io;
 use std::io::Write;
 use std::process::Abort;
 use std::test::Fail;
+use std::{fs, io};
 
 const GUID: &str = "ffffffffffffffffffffffffffffffff";
 
@@ -25,7 +25,7 @@ fn strings(alloc: Global, words: &[&str]) -> Result<Vec<String>, Fail> {
     Ok(strings)
 }
 
-fn call(alloc: Global, disk: &mut MemoryDisk, words: &[&str]) -> Result<Outcome, Fail> {
+fn call<D: Disk>(alloc: Global, disk: &mut D, words: &[&str]) -> Result<Outcome, Fail> {
     let words = strings(alloc, words)?;
     let mut printed = Vec::new(alloc);
     let status = run(alloc, words.as_slice(), disk, &mut printed)?;
@@ -37,16 +37,33 @@ fn assert_prints<R: Abort>(rt: &R, outcome: &Outcome, status: u8, text: &str) {
     assert_eq!(rt; outcome.printed.as_slice(), text.as_bytes());
 }
 
+// Makes a new table on a disk of 100 sectors of 512 bytes and shows it.
+fn new_and_show<R: Abort, D: Disk>(rt: &R, alloc: Global, disk: &mut D) -> Result<(), Fail> {
+    let made = call(alloc, disk, &["512", "new", GUID])?;
+    assert_prints(rt, &made, 0, "ok\n");
+    let shown = call(alloc, disk, &["512", "show"])?;
+    let line =
+        "sector 512 form primary disk ffffffffffffffffffffffffffffffff usable 34..66 entries 128 align 2048\n";
+    assert_prints(rt, &shown, 0, line);
+    Ok(())
+}
+
 #[test]
 fn a_new_table_is_shown(rt: HostRuntime) -> Result<(), Fail> {
     let alloc = rt.alloc();
     let mut disk = MemoryDisk::new(alloc, vec![in alloc; 0; 51_200]?)?;
-    let made = call(alloc, &mut disk, &["512", "new", GUID])?;
-    assert_prints(&rt, &made, 0, "ok\n");
-    let shown = call(alloc, &mut disk, &["512", "show"])?;
-    let line =
-        "sector 512 form primary disk ffffffffffffffffffffffffffffffff usable 34..66 entries 128 align 2048\n";
-    assert_prints(&rt, &shown, 0, line);
+    new_and_show(&rt, alloc, &mut disk)
+}
+
+#[test]
+fn a_new_table_in_a_file_is_shown(rt: HostRuntime) -> Result<(), Fail> {
+    let alloc = rt.alloc();
+    let path = "shown.img";
+    let zeros = vec![in alloc; 0_u8; 51_200]?;
+    fs::write(&rt, path, zeros.as_slice())?;
+    let mut disk = FileDisk::open(&rt, path)?;
+    new_and_show(&rt, alloc, &mut disk)?;
+    fs::remove_file(&rt, path)?;
     Ok(())
 }
 
