@@ -22,8 +22,6 @@ use std::io::Write;
 
 mod commands;
 mod lines;
-#[cfg(test)]
-mod tests;
 mod words;
 
 /// The line that says how the program is used, with its newline.

@@ -64,33 +64,3 @@ fn take_in(register: u32, byte: u8) -> u32
     let place = (register ^ byte as u32) & 0xff;
     TABLE[place as usize] ^ (register >> 8)
 }
-
-#[cfg(test)]
-mod tests {
-    use super::{Checksum, crc32};
-    use crate::crc::table::TABLE;
-
-    #[test]
-    fn words_of_the_table(rt: HostRuntime) {
-        let rows = [
-            (0usize, 0u32),
-            (1, 0x7707_3096),
-            (2, 0xee0e_612c),
-            (128, 0xedb8_8320),
-            (255, 0x2d02_ef8d),
-        ];
-        for (at, word) in rows {
-            assert_eq!(rt; TABLE.get(at).copied(), Some(word));
-        }
-    }
-
-    #[test]
-    fn pieces_make_the_whole(rt: HostRuntime) {
-        let mut checksum = Checksum::new();
-        checksum.update(b"1234");
-        checksum.update(b"");
-        checksum.update(b"56789");
-        assert_eq!(rt; checksum.finish(), 0xcbf4_3926);
-        assert_eq!(rt; crc32(b"123456789"), 0xcbf4_3926);
-    }
-}

@@ -1,6 +1,6 @@
 //! The disk over a file. Each test has a file of its own in the folder that it runs in.
 
-use crate::fixtures::{DISK_GUID, answer, image_of_new_table, new_table};
+use crate::fixtures::{DISK_GUID, answer, are_all, image_of_new_table, new_table};
 use gptman::{Disk, FileDisk, GPT};
 use std::fs;
 use std::test::Fail;
@@ -57,7 +57,7 @@ fn a_file_that_is_open_for_reading_is_not_written(rt: HostRuntime) -> Result<(),
     assert_eq!(rt; said.as_str(), "generic I/O error");
     let bytes = fs::read(&rt, path)?;
     assert_eq!(rt; bytes.len(), 51_200);
-    assert!(rt; bytes.iter().all(|byte| *byte == 2));
+    assert!(rt; are_all(bytes.as_slice(), 2));
     fs::remove_file(&rt, path)?;
     Ok(())
 }

@@ -1,6 +1,6 @@
 //! Fitting a header to a disk: a new one, and one that comes to a disk of another length.
 
-use crate::fixtures::{DISK_GUID, answer, disk_of, new_table};
+use crate::fixtures::{DISK_GUID, answer, are_all, disk_of, new_table};
 use gptman::{GPT, GPTHeader};
 use std::alloc::Global;
 use std::test::Fail;
@@ -51,10 +51,7 @@ fn a_small_disk_may_leave_no_usable_sector(rt: HostRuntime) -> Result<(), Fail> 
             said.as_str().starts_with("invalid partition boundaries: "),
             "{sectors} sectors"
         );
-        assert!(rt;
-            disk.bytes().iter().all(|byte| *byte == 2),
-            "{sectors} sectors"
-        );
+        assert!(rt; are_all(disk.bytes(), 2), "{sectors} sectors");
         assert_eq!(rt; table, new_table(alloc, &mut disk, 512, DISK_GUID)?);
     }
     let mut disk = disk_of(alloc, 2, 512 * 67)?;

@@ -37,6 +37,11 @@ pub(crate) fn image_of_new_table(alloc: Global, byte: u8) -> Result<Vec<u8>> {
     Ok(disk.bytes().to_vec(alloc)?)
 }
 
+/// Whether all bytes are this one.
+pub(crate) fn are_all(bytes: &[u8], byte: u8) -> bool {
+    bytes.iter().all(|it| *it == byte)
+}
+
 /// So many bytes of the disk, from this one on.
 pub(crate) fn bytes_at<const N: usize>(disk: &mut MemoryDisk, at: u64) -> io::Result<[u8; N]> {
     let mut bytes = [0; N];

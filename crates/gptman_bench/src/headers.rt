@@ -1,6 +1,6 @@
 //! One copy of a table, header and entries, written to a disk and read from it.
 
-use crate::fixtures::{DISK_GUID, answer, bytes_at, disk_of, used_entries};
+use crate::fixtures::{DISK_GUID, answer, are_all, bytes_at, disk_of, used_entries};
 use gptman::crc::crc32;
 use gptman::{Disk, GPTHeader, GPTPartitionEntry};
 use std::alloc::Global;
@@ -53,7 +53,7 @@ fn entries_stand_one_after_the_other(rt: HostRuntime) -> Result<(), Fail> {
     );
     let before = bytes_at::<420>(&mut disk, 604)?;
     let behind = bytes_at::<45952>(&mut disk, 5248)?;
-    assert!(rt; before.iter().chain(&behind).all(|byte| *byte == 2));
+    assert!(rt; are_all(&before, 2) && are_all(&behind, 2));
     Ok(())
 }
 
@@ -105,7 +105,7 @@ fn a_copy_that_has_no_place_is_not_written(rt: HostRuntime) -> Result<(), Fail> 
         let said = answer(alloc, &header.write_into(&mut disk, 512, &entries))?;
         assert_eq!(rt; said.as_str(), refusal);
         assert_eq!(rt; header, given);
-        assert!(rt; disk.bytes().iter().all(|byte| *byte == 2), "{refusal}");
+        assert!(rt; are_all(disk.bytes(), 2), "{refusal}");
     }
     Ok(())
 }

@@ -27,17 +27,15 @@ fn new_in_form(alloc: Global, is_backup: bool) -> gptman::Result<GPT>
     Ok(table)
 }
 
-// Writes that table over the image, on a disk that fails after so many calls.
-fn write_over(
-    alloc: Global,
-    image: &[u8],
-    is_backup: bool,
-    calls: u64,
-) -> Result<(MemoryDisk, String), Fail> {
+// A disk of these bytes that fails after so many calls.
+fn failing(alloc: Global, image: &[u8], calls: u64) -> Result<MemoryDisk, Fail> {
+    Ok(MemoryDisk::with_fuse(alloc, image.to_vec(alloc)?, calls)?)
+}
+
+// What writing that table to the disk answers.
+fn write_over(alloc: Global, disk: &mut MemoryDisk, is_backup: bool) -> Result<String, Fail> {
     let mut table = new_in_form(alloc, is_backup)?;
-    let mut disk = MemoryDisk::with_fuse(alloc, image.to_vec(alloc)?, calls)?;
-    let said = answer(alloc, &table.write_into(&mut disk))?;
-    Ok((disk, said))
+    Ok(answer(alloc, &table.write_into(disk))?)
 }
 
 // The disk GUID of the copy whose header is at this byte, where the copy is whole.
@@ -60,7 +58,8 @@ fn a_table_is_written_and_read_in_few_calls(rt: HostRuntime) -> Result<(), Fail>
     let alloc = rt.alloc();
     let image = image_of_new_table(alloc, 2)?;
     for is_backup in [false, true] {
-        let (disk, said) = write_over(alloc, &image, is_backup, 32)?;
+        let mut disk = failing(alloc, &image, 32)?;
+        let said = write_over(alloc, &mut disk, is_backup)?;
         assert_eq!(rt; said.as_str(), "ok");
         let both = guids(alloc, &mut disk.stop(&[])?);
         assert_eq!(rt; both, (Some(NEW_GUID), Some(NEW_GUID)));
@@ -76,7 +75,8 @@ fn a_disk_that_fails_at_once_is_not_changed(rt: HostRuntime) -> Result<(), Fail>
     let alloc = rt.alloc();
     let image = image_of_new_table(alloc, 2)?;
     for is_backup in [false, true] {
-        let (disk, said) = write_over(alloc, &image, is_backup, 0)?;
+        let mut disk = failing(alloc, &image, 0)?;
+        let said = write_over(alloc, &mut disk, is_backup)?;
         assert_eq!(rt; said.as_str(), "generic I/O error");
         assert!(rt; disk.bytes() == image.as_slice());
     }
@@ -96,7 +96,8 @@ fn the_other_copy_is_stored_before_the_own_one(rt: HostRuntime) -> Result<(), Fa
     for (is_backup, between) in [(false, (old, new)), (true, (new, old))] {
         let mut seen = Vec::new(alloc);
         for calls in 0..=32 {
-            let (disk, said) = write_over(alloc, &image, is_backup, calls)?;
+            let mut disk = failing(alloc, &image, calls)?;
+            let said = write_over(alloc, &mut disk, is_backup)?;
             let stored = guids(alloc, &mut disk.stop(&[])?);
             assert_eq!(rt;
                 said.as_str() == "ok",
@@ -125,7 +126,8 @@ fn stop_anywhere(
 ) -> Result<(), Fail> {
     let image = image_of_new_table(alloc, 2)?;
     for calls in 0..=32 {
-        let (disk, said) = write_over(alloc, &image, is_backup, calls)?;
+        let mut disk = failing(alloc, &image, calls)?;
+        let said = write_over(alloc, &mut disk, is_backup)?;
         if said.as_str() == "ok" {
             break;
         }

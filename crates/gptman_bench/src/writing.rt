@@ -6,7 +6,7 @@ ghost use Rattle.gptman.specs.Layout.{HasLayout};
 ghost use Rattle.gptman.specs.Reading.{primary};
 ghost use Rattle.gptman.specs.Table.{entries_in, table_in, IsCoherent, IsForm, IsUnusedAndOrdered};
 
-use crate::fixtures::{DISK_GUID, answer, bytes_at, disk_of, new_table};
+use crate::fixtures::{DISK_GUID, answer, are_all, bytes_at, disk_of, new_table};
 use gptman::{Disk, GPT, GPTHeader};
 use std::alloc::Global;
 use std::test::Fail;
@@ -73,10 +73,7 @@ fn both_places_hold_the_table_and_nothing_else_changes(rt: HostRuntime) -> Resul
     let gaps = [(0, 512), (604, 1024), (17_408, 34_304), (50_780, 51_200)];
     for (start, end) in gaps {
         let gap = disk.bytes().get(start..end);
-        assert!(rt;
-            gap.is_some_and(|bytes| bytes.iter().all(|byte| *byte == 2)),
-            "from {start}"
-        );
+        assert!(rt; gap.is_some_and(|bytes| are_all(bytes, 2)), "from {start}");
     }
     Ok(())
 }
@@ -100,7 +97,7 @@ fn a_table_for_a_longer_disk_is_not_written(rt: HostRuntime) -> Result<(), Fail>
     let mut disk = disk_of(alloc, 2, 512 * 99)?;
     let said = answer(alloc, &table.write_into(&mut disk))?;
     assert_eq!(rt; said.as_str(), "no space left");
-    assert!(rt; disk.bytes().iter().all(|byte| *byte == 2));
+    assert!(rt; are_all(disk.bytes(), 2));
     assert_eq!(rt; table, new_table(alloc, &mut longer, 512, DISK_GUID)?);
     Ok(())
 }
@@ -117,7 +114,7 @@ fn a_table_with_sectors_past_64_bits_is_not_written(rt: HostRuntime) -> Result<(
         let said = answer(alloc, &table.write_into(&mut disk))?;
         assert_eq!(rt; said.as_str(), "an arithmetic operation overflowed");
         assert_eq!(rt; table.header, given);
-        assert!(rt; disk.bytes().iter().all(|byte| *byte == 2));
+        assert!(rt; are_all(disk.bytes(), 2));
     }
     Ok(())
 }
@@ -132,6 +129,6 @@ fn sectors_of_one_byte_leave_no_room_for_a_header(rt: HostRuntime) -> Result<(),
     assert_eq!(rt; table.header.backup_lba, 51_199);
     let said = answer(alloc, &table.write_into(&mut disk))?;
     assert_eq!(rt; said.as_str(), "no space left");
-    assert!(rt; disk.bytes().iter().all(|byte| *byte == 2));
+    assert!(rt; are_all(disk.bytes(), 2));
     Ok(())
 }

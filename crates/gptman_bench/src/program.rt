@@ -1,6 +1,7 @@
-//! The program over a disk in memory.
+//! The program over a disk in memory and over a file.
 
-use crate::{USAGE, run};
+use crate::fixtures::are_all;
+use gptimg_core::{USAGE, run};
 use gptman::{Disk, Error, FileDisk, MemoryDisk};
 use std::alloc::Global;
 use std::io::Write;
@@ -111,7 +112,7 @@ fn other_words_are_usage(rt: HostRuntime) -> Result<(), Fail> {
     for words in lines {
         let outcome = call(alloc, &mut disk, words)?;
         assert_prints(&rt, &outcome, 2, USAGE);
-        assert!(rt; disk.bytes().iter().all(|byte| *byte == 7));
+        assert!(rt; are_all(disk.bytes(), 7));
     }
     Ok(())
 }
