@@ -32,9 +32,13 @@ written_more {old} {front} {rest} {at} w part n size {new} put =
 pub written_all : {bytes front rest : List ℕ} {at : ℕ} → Written bytes front rest at → rest ≡ [] → bytes ≡ front
 written_all {bytes} {front} w end = w.are ∙ ap (λ (xs : List ℕ). front ++ xs) end ∙ append-nil front
 
+-- the elements of a list by their places
+abbrev pub elements : List ℕ → ℕ → ℕ
+elements xs k = get_or xs k 0
+
 -- a list of n elements, one by one
-pub cells : (xs : List ℕ) (n : ℕ) → length xs ≡ n → xs ≡ map (λ k. get_or xs k 0) (range_with_len 0 n)
-cells xs n len = fill_by_all (λ k. get_or xs k 0) xs n 0 len (λ k h. refl)
+pub cells : (xs : List ℕ) (n : ℕ) → length xs ≡ n → xs ≡ map (elements xs) (range_with_len 0 n)
+cells xs n len = fill_by_all (elements xs) xs n 0 len (λ k h. refl)
 
 -- the first bytes, and one part more
 pub taken_more : (b : List ℕ) (at n : ℕ) {front part : List ℕ} → front ≡ take at b → part ≡ slice_range b at (at + n) → front ++ part ≡ take (at + n) b

@@ -11,7 +11,7 @@ use Rattle.std.proofs.lemmas.List.FromFn.{fill_by_all, map-range_with_len_more}
 use Rattle.gptman.specs.Bytes.{le, AreBytes}
 use Rattle.gptman.specs.Coding.{FitsEntry, HasReadName, entry_of, IsEntryCoding, units_at, entry_bytes}
 use Rattle.gptman.specs.declared.codec.entry.GPTPartitionEntry.{GPTPartitionEntry}
-use Rattle.gptman.proofs.Assembly.{cells, taken_more}
+use Rattle.gptman.proofs.Assembly.{cells, elements, taken_more}
 use Rattle.gptman.proofs.Numbers.{le_of, le_back}
 
 -- the k-th unit's bytes
@@ -51,9 +51,6 @@ record FrontAt (t q : List ℕ) (s d a : ℕ) (b : List ℕ) : Type 0 where
   pub fourth : d ≡ le (slice_range b 40 48)
   pub fifth : a ≡ le (slice_range b 48 56)
   pub long : length (front_of t q s d a) ≡ 56
-
-abbrev elements : List ℕ → ℕ → ℕ
-elements xs k = get_or xs k 0
 
 front_listed : (t q : ℕ → ℕ) (s d a : ℕ) (rest : List ℕ) → s < 2 ^ 64 → d < 2 ^ 64 → a < 2 ^ 64
     → FrontAt (map t (range_with_len 0 16)) (map q (range_with_len 0 16)) s d a
@@ -118,10 +115,6 @@ spelling_is e b len bytes c =
     let t5 = taken_more b 48 8 t4 (ap (little_bytes 8) c.attribute_bits ∙ le_back 8 b 48 (omega (arith, len)) bytes) in
     let t6 = taken_more b 56 72 t5 (ap (flat_map (little_bytes 2)) c.units ∙ units_taken b 36 (omega (arith, len)) bytes) in
     sym (take_all 128 b (omega (arith, len))) ∙ sym t6
-
--- an entry has one spelling
-pub one_spelling : (e : GPTPartitionEntry) (b c : List ℕ) → length b ≡ 128 → length c ≡ 128 → AreBytes b → AreBytes c → IsEntryCoding e b → IsEntryCoding e c → b ≡ c
-one_spelling e b c lb lc hb hc eb ec = spelling_is e b lb hb eb ∙ sym (spelling_is e c lc hc ec)
 
 -- the bytes of one unit more, behind those of the units before it
 pub units_written : (old new us : List ℕ) (k : ℕ) → take (2 * k) old ≡ flat_map (little_bytes 2) (take k us) → 2 * k + 2 ≤ length old → k < length us

@@ -1,12 +1,12 @@
 -- A header as bytes.
-use Rattle.std.proofs.Common.{◌≡◌, ℕ, List, length, get_or, arith, refl, sym, ap, subst, ◌∙◌, map, length-append}
+use Rattle.std.proofs.Common.{◌≡◌, ℕ, List, length, arith, refl, sym, ap, subst, ◌∙◌, map, length-append}
 use Rattle.std.specs.List.{range_with_len}
 use Rattle.std.proofs.lemmas.List.{take_all}
 use Rattle.byteorder.specs.Endian.{little_bytes}
 use Rattle.gptman.specs.Bytes.{AreBytes}
 use Rattle.gptman.specs.Coding.{FitsHeader, IsHeaderCoding, header_bytes, header_of}
 use Rattle.gptman.specs.declared.codec.header.GPTHeader.{GPTHeader}
-use Rattle.gptman.proofs.Assembly.{cells, taken_more}
+use Rattle.gptman.proofs.Assembly.{cells, elements, taken_more}
 use Rattle.gptman.proofs.Numbers.{le_of, le_back}
 
 -- a header whose byte fields are given element by element
@@ -36,9 +36,6 @@ listed_corresponds h s r z g fits = record {
   size_of_partition_entry = sym (le_of 4 h.size_of_partition_entry fits.size_of_partition_entry);
   partition_entry_array_crc32 = sym (le_of 4 h.partition_entry_array_crc32 fits.partition_entry_array_crc32);
 }
-
-abbrev elements : List ℕ → ℕ → ℕ
-elements xs k = get_or xs k 0
 
 listed_same : (h : GPTHeader) → FitsHeader h → h ≡ listed h (elements h.signature) (elements h.revision) (elements h.reserved) (elements h.disk_guid)
 listed_same h fits =
@@ -98,10 +95,6 @@ spelling_is h b len bytes e =
     let t13 = taken_more b 84 4 t12 (ap (little_bytes 4) e.size_of_partition_entry ∙ le_back 4 b 84 (omega (arith, len)) bytes) in
     let t14 = taken_more b 88 4 t13 (ap (little_bytes 4) e.partition_entry_array_crc32 ∙ le_back 4 b 88 (omega (arith, len)) bytes) in
     sym (take_all 92 b (omega (arith, len))) ∙ sym t14
-
--- a header has one spelling
-pub one_spelling : (h : GPTHeader) (b c : List ℕ) → length b ≡ 92 → length c ≡ 92 → AreBytes b → AreBytes c → IsHeaderCoding h b → IsHeaderCoding h c → b ≡ c
-one_spelling h b c lb lc hb hc eb ec = spelling_is h b lb hb eb ∙ sym (spelling_is h c lc hc ec)
 
 -- a header is 92 bytes long
 pub header_long : (h : GPTHeader) → FitsHeader h → length (header_bytes h) ≡ 92

@@ -19,6 +19,7 @@ pub mod NameText
 pub mod Numbers
 pub mod OneWhole
 pub mod OtherHeader
+pub mod Outcomes
 pub mod Overlays
 pub mod Pieces
 pub mod Ranges

@@ -1,11 +1,10 @@
 -- Pieces of bytes that are laid over a list, one after the other.
-use Rattle.std.proofs.Common.{◌≡◌, ◌⊎◌, inl, inr, ◌≤◌, ℕ, ◌+◌, List, [], ◌∷◌, ◌++◌, length, take, drop, refl, sym, ◌∙◌, ap, subst, arith}
-use Rattle.std.proofs.lemmas.List.{append-nil, take-append-drop}
+use Rattle.std.proofs.Common.{◌≡◌, ◌⊎◌, inl, inr, ◌≤◌, ℕ, ◌+◌, List, [], ◌∷◌, length, refl, sym, ◌∙◌, subst, arith}
 use Rattle.gptman.specs.Disk.{Agrees, overlay}
 use Rattle.gptman.specs.Bytes.{part}
 use Rattle.gptman.specs.Layout.{AreApart, AreInside}
 use Rattle.gptman.proofs.Ranges.{Ranges, agrees_self, agrees_then, agrees_wider, within_self, within_first, within_later}
-use Rattle.gptman.proofs.Overlays.{agrees_overlay, part-overlay, part_same}
+use Rattle.gptman.proofs.Overlays.{agrees_overlay, overlay_nothing, part-overlay, part_same}
 
 -- the list with the pieces laid over it, each a start and its bytes, the first of them first
 abbrev pub laid_over : List ℕ → List (ℕ × List ℕ) → List ℕ
@@ -22,17 +21,10 @@ abbrev pub AllStand : List (ℕ × List ℕ) → List ℕ → Type 0
 AllStand [] b = Unit {0}
 AllStand (piece ∷ pieces) b = (part b piece.0 (length piece.1) ≡ piece.1) × AllStand pieces b
 
--- to lay nothing changes nothing, wherever it is laid
-overlay_none : (old : List ℕ) (at : ℕ) → overlay old at [] ≡ old
-overlay_none old at =
-    ap (λ (xs : List ℕ). xs ++ drop (at + 0) old) (append-nil (take at old))
-    ∙ ap (λ (k : ℕ). take at old ++ drop k old) (let e : at + 0 ≡ at = omega arith in e)
-    ∙ take-append-drop at old
-
 -- one piece, of no bytes or within the list
 piece_agrees : (old : List ℕ) (at : ℕ) (bytes : List ℕ) → (length bytes ≡ 0) ⊎ (at + length bytes ≤ length old) → Agrees ((at, length bytes) ∷ []) old (overlay old at bytes)
 piece_agrees old at bytes (inr fits) = agrees_overlay old at bytes fits
-piece_agrees old at [] (inl none) = subst (Agrees ((at, 0) ∷ []) old) (sym (overlay_none old at)) (agrees_self ((at, 0) ∷ []) old)
+piece_agrees old at [] (inl none) = subst (Agrees ((at, 0) ∷ []) old) (sym (overlay_nothing old at)) (agrees_self ((at, 0) ∷ []) old)
 piece_agrees old at (x ∷ bytes) (inl none) = absurd (omega arith)
 
 piece_stands : (old : List ℕ) (at : ℕ) (bytes : List ℕ) → (length bytes ≡ 0) ⊎ (at + length bytes ≤ length old) → part (overlay old at bytes) at (length bytes) ≡ bytes

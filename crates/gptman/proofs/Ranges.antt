@@ -62,10 +62,6 @@ contains_first r rs = (0, omega arith, refl)
 pub contains_later : (r s : ℕ × ℕ) (rs : Ranges) → Contains rs r → Contains (s ∷ rs) r
 contains_later r s rs has = (suc has.0, omega (arith, has.1), has.2)
 
-pub on_err_of : {T E P : Type 0} (r : Result T E) → P → OnErr r P
-on_err_of (Ok x) p = tt
-on_err_of (Err e) p = p
-
 -- a range that lies within the first of others
 pub within_range : {p n at m : ℕ} {more : Ranges} → at ≤ p → p + n ≤ at + m → Within ((p, n) ∷ []) ((at, m) ∷ more)
 within_range {p} {n} {at} {m} low high = record { covers = λ k o. (⊎_elim (λ below. inl (omega (arith, below, low))) (λ above. inr (omega (arith, above, high))) o.0, tt) }
@@ -85,7 +81,3 @@ pub contains_new : (p n at m : ℕ) (old new : Ranges) → p ≡ at → n ≡ m 
 contains_new p n at m old new at_is size is =
     let range : ◌≡◌ {A = ℕ × ℕ} (p, n) (at, m) = λ i. (at_is i, size i) in
     subst (λ ps. Contains ps (at, m)) (sym (is ∙ ap (λ (r : ℕ × ℕ). r ∷ old) range)) (contains_first (at, m) old)
-
-pub on_ok_of : {T E P : Type 0} (r : Result T E) → P → OnOk r P
-on_ok_of (Ok x) p = p
-on_ok_of (Err e) p = tt

@@ -3,7 +3,7 @@
 //! It keeps a record of its writes and syncs. A stop goes through that record and makes of it one
 //! of the disks that a crash may leave. A fuse lets every call from a chosen one on fail.
 
-ghost use Rattle.std.specs.Prelude.{◌≡◌, ◌≤◌, ◌+◌, ◌<◌, ◌^◌, ◌⊎◌, [], Some, None, true, length, take, drop, IfOk, IfErr, OnOk, OnErr, IsErr, IsTrue};
+ghost use Rattle.std.specs.Prelude.{◌≡◌, ◌≤◌, ◌+◌, ◌<◌, ◌^◌, ◌⊎◌, ◌↔◌, [], ◌∷◌, Some, None, true, length, take, drop, IfOk, IfErr, OnOk, OnErr, IsOk, IsErr, IsTrue};
 ghost use Rattle.std.specs.List.{list_all};
 ghost use Rattle.gptman.specs.Disk.{Image, Keeps, Rose, Wrote, overlay};
 ghost use Rattle.gptman.specs.Memory.{memory_state, memory_sound, view_of, event_fits, serves, after_call};
@@ -198,9 +198,21 @@ fn fail(failures: &mut u64) -> io::Error
 }
 
 impl Disk for MemoryDisk {
+    ghost use Rattle.gptman.specs.Fate.{calls_left};
+
     ghost state = { λ d. memory_state d.start.items d.bytes.items d.events.items d.position d.failures };
 
-    fn seek_start(&mut self, at: u64) -> io::Result<u64> {
+    /// As the trait says. It fails where the fuse does not serve the call, and nowhere else.
+    fn seek_start(&mut self, at: u64) -> io::Result<u64>
+        ensures keeps { Keeps (⟦<MemoryDisk as Disk>⟧.state self.old) (⟦<MemoryDisk as Disk>⟧.state self.new) }
+        ensures moves { IfOk result (λ position. (position ≡ at) × ((⟦<MemoryDisk as Disk>⟧.state self.new).position ≡ at)) }
+        ensures cause { OnErr result (Rose (⟦<MemoryDisk as Disk>⟧.state self.old) (⟦<MemoryDisk as Disk>⟧.state self.new)) }
+        ensures wrote { IsTrue (⟦<MemoryDisk as Disk>⟧.state self.old).is_honest → Wrote [] (⟦<MemoryDisk as Disk>⟧.state self.old) (⟦<MemoryDisk as Disk>⟧.state self.new) }
+        ensures view { IsTrue (⟦<MemoryDisk as Disk>⟧.state self.old).is_honest → (⟦<MemoryDisk as Disk>⟧.state self.new).view ≡ (⟦<MemoryDisk as Disk>⟧.state self.old).view }
+        ensures pending { IsTrue (⟦<MemoryDisk as Disk>⟧.state self.old).is_honest → (⟦<MemoryDisk as Disk>⟧.state self.new).pending ≡ (⟦<MemoryDisk as Disk>⟧.state self.old).pending }
+        ensures fuse { calls_left self.new ≡ after_call (calls_left self.old) }
+        ensures served { IsOk result ↔ IsTrue (serves (calls_left self.old)) }
+    {
         if !is_served(&mut self.fuse) {
             return Err(fail(&mut self.failures));
         }
@@ -208,7 +220,17 @@ impl Disk for MemoryDisk {
         Ok(at)
     }
 
-    fn seek_end(&mut self) -> io::Result<u64> {
+    /// As the trait says. It fails where the fuse does not serve the call, and nowhere else.
+    fn seek_end(&mut self) -> io::Result<u64>
+        ensures keeps { Keeps (⟦<MemoryDisk as Disk>⟧.state self.old) (⟦<MemoryDisk as Disk>⟧.state self.new) }
+        ensures moves { IfOk result (λ position. (position ≡ (⟦<MemoryDisk as Disk>⟧.state self.old).size) × ((⟦<MemoryDisk as Disk>⟧.state self.new).position ≡ (⟦<MemoryDisk as Disk>⟧.state self.old).size)) }
+        ensures cause { OnErr result (Rose (⟦<MemoryDisk as Disk>⟧.state self.old) (⟦<MemoryDisk as Disk>⟧.state self.new)) }
+        ensures wrote { IsTrue (⟦<MemoryDisk as Disk>⟧.state self.old).is_honest → Wrote [] (⟦<MemoryDisk as Disk>⟧.state self.old) (⟦<MemoryDisk as Disk>⟧.state self.new) }
+        ensures view { IsTrue (⟦<MemoryDisk as Disk>⟧.state self.old).is_honest → (⟦<MemoryDisk as Disk>⟧.state self.new).view ≡ (⟦<MemoryDisk as Disk>⟧.state self.old).view }
+        ensures pending { IsTrue (⟦<MemoryDisk as Disk>⟧.state self.old).is_honest → (⟦<MemoryDisk as Disk>⟧.state self.new).pending ≡ (⟦<MemoryDisk as Disk>⟧.state self.old).pending }
+        ensures fuse { calls_left self.new ≡ after_call (calls_left self.old) }
+        ensures served { IsOk result ↔ IsTrue (serves (calls_left self.old)) }
+    {
         if !is_served(&mut self.fuse) {
             return Err(fail(&mut self.failures));
         }
@@ -216,7 +238,8 @@ impl Disk for MemoryDisk {
         Ok(self.position)
     }
 
-    /// As the trait says. A read that passes the end is no failure of the device, served or not.
+    /// As the trait says. It fails where the read passes the end, which is no failure of the device,
+    /// and where the fuse does not serve the call, and nowhere else.
     fn read_exact(&mut self, buf: &mut [u8]) -> io::Result<()>
         ensures keeps { Keeps (⟦<MemoryDisk as Disk>⟧.state self.old) (⟦<MemoryDisk as Disk>⟧.state self.new) }
         ensures moves { OnOk result ((⟦<MemoryDisk as Disk>⟧.state self.new).position ≡ (⟦<MemoryDisk as Disk>⟧.state self.old).position + length buf.old) }
@@ -228,6 +251,8 @@ impl Disk for MemoryDisk {
         ensures pending { IsTrue (⟦<MemoryDisk as Disk>⟧.state self.old).is_honest → (⟦<MemoryDisk as Disk>⟧.state self.new).pending ≡ (⟦<MemoryDisk as Disk>⟧.state self.old).pending }
         ensures past_end { (⟦<MemoryDisk as Disk>⟧.state self.old).size < (⟦<MemoryDisk as Disk>⟧.state self.old).position + length buf.old
             → IsErr result × ((⟦<MemoryDisk as Disk>⟧.state self.new).failures ≡ (⟦<MemoryDisk as Disk>⟧.state self.old).failures) }
+        ensures fuse { calls_left self.new ≡ after_call (calls_left self.old) }
+        ensures served { IsOk result ↔ (IsTrue (serves (calls_left self.old)) × ((⟦<MemoryDisk as Disk>⟧.state self.old).position + length buf.old ≤ (⟦<MemoryDisk as Disk>⟧.state self.old).size)) }
     {
         let served = is_served(&mut self.fuse);
         let size = self.bytes.len() as u64;
@@ -244,7 +269,22 @@ impl Disk for MemoryDisk {
         Ok(())
     }
 
-    fn write_all(&mut self, buf: &[u8]) -> io::Result<()> {
+    /// As the trait says. It fails where the fuse does not serve the call, and where there is no memory
+    /// for the record.
+    fn write_all(&mut self, buf: &[u8]) -> io::Result<()>
+        requires { (⟦<MemoryDisk as Disk>⟧.state self.old).position + length buf.now ≤ (⟦<MemoryDisk as Disk>⟧.state self.old).size }
+        ensures keeps { Keeps (⟦<MemoryDisk as Disk>⟧.state self.old) (⟦<MemoryDisk as Disk>⟧.state self.new) }
+        ensures moves { OnOk result ((⟦<MemoryDisk as Disk>⟧.state self.new).position ≡ (⟦<MemoryDisk as Disk>⟧.state self.old).position + length buf.now) }
+        ensures cause { OnErr result (Rose (⟦<MemoryDisk as Disk>⟧.state self.old) (⟦<MemoryDisk as Disk>⟧.state self.new)) }
+        ensures wrote { IsTrue (⟦<MemoryDisk as Disk>⟧.state self.old).is_honest → Wrote (((⟦<MemoryDisk as Disk>⟧.state self.old).position, length buf.now) ∷ []) (⟦<MemoryDisk as Disk>⟧.state self.old) (⟦<MemoryDisk as Disk>⟧.state self.new) }
+        ensures view { IsTrue (⟦<MemoryDisk as Disk>⟧.state self.old).is_honest → OnOk result ((⟦<MemoryDisk as Disk>⟧.state self.new).view ≡ overlay (⟦<MemoryDisk as Disk>⟧.state self.old).view (⟦<MemoryDisk as Disk>⟧.state self.old).position buf.now) }
+        ensures pending { IsTrue (⟦<MemoryDisk as Disk>⟧.state self.old).is_honest → OnOk result ((⟦<MemoryDisk as Disk>⟧.state self.new).pending ≡ ((⟦<MemoryDisk as Disk>⟧.state self.old).position, length buf.now) ∷ (⟦<MemoryDisk as Disk>⟧.state self.old).pending) }
+        ensures refused { IsTrue (⟦<MemoryDisk as Disk>⟧.state self.old).is_honest → OnErr result (
+            (((⟦<MemoryDisk as Disk>⟧.state self.new).view ≡ (⟦<MemoryDisk as Disk>⟧.state self.old).view) × ((⟦<MemoryDisk as Disk>⟧.state self.new).pending ≡ (⟦<MemoryDisk as Disk>⟧.state self.old).pending))
+            ⊎ ((⟦<MemoryDisk as Disk>⟧.state self.new).pending ≡ ((⟦<MemoryDisk as Disk>⟧.state self.old).position, length buf.now) ∷ (⟦<MemoryDisk as Disk>⟧.state self.old).pending)) }
+        ensures fuse { calls_left self.new ≡ after_call (calls_left self.old) }
+        ensures served { OnOk result (IsTrue (serves (calls_left self.old))) }
+    {
         let done = is_served(&mut self.fuse);
         let Ok(bytes) = buf.to_vec(self.alloc) else {
             return Err(fail(&mut self.failures));
@@ -266,7 +306,19 @@ impl Disk for MemoryDisk {
         Ok(())
     }
 
-    fn sync(&mut self) -> io::Result<()> {
+    /// As the trait says. It fails where the fuse does not serve the call, and where there is no memory
+    /// for the record.
+    fn sync(&mut self) -> io::Result<()>
+        ensures keeps { Keeps (⟦<MemoryDisk as Disk>⟧.state self.old) (⟦<MemoryDisk as Disk>⟧.state self.new) }
+        ensures stays { OnOk result ((⟦<MemoryDisk as Disk>⟧.state self.new).position ≡ (⟦<MemoryDisk as Disk>⟧.state self.old).position) }
+        ensures cause { OnErr result (Rose (⟦<MemoryDisk as Disk>⟧.state self.old) (⟦<MemoryDisk as Disk>⟧.state self.new)) }
+        ensures wrote { IsTrue (⟦<MemoryDisk as Disk>⟧.state self.old).is_honest → Wrote [] (⟦<MemoryDisk as Disk>⟧.state self.old) (⟦<MemoryDisk as Disk>⟧.state self.new) }
+        ensures view { IsTrue (⟦<MemoryDisk as Disk>⟧.state self.old).is_honest → (⟦<MemoryDisk as Disk>⟧.state self.new).view ≡ (⟦<MemoryDisk as Disk>⟧.state self.old).view }
+        ensures pending { IsTrue (⟦<MemoryDisk as Disk>⟧.state self.old).is_honest → OnOk result ((⟦<MemoryDisk as Disk>⟧.state self.new).pending ≡ []) }
+        ensures refused { IsTrue (⟦<MemoryDisk as Disk>⟧.state self.old).is_honest → OnErr result ((⟦<MemoryDisk as Disk>⟧.state self.new).pending ≡ (⟦<MemoryDisk as Disk>⟧.state self.old).pending) }
+        ensures fuse { calls_left self.new ≡ after_call (calls_left self.old) }
+        ensures served { OnOk result (IsTrue (serves (calls_left self.old))) }
+    {
         if !is_served(&mut self.fuse) || self.events.push(Event::Sync).is_err() {
             return Err(fail(&mut self.failures));
         }

@@ -88,7 +88,8 @@ impl GPTHeader {
         ensures entry_size { OnOk result ((self.now.number_of_partition_entries ≡ 0) ⊎ (self.now.size_of_partition_entry ≡ 128)) }
         ensures refused { RefusesOnly is_array_fault result }
         ensures cause { Refuses result io_fault → Rose (D.state disk.old) (D.state disk.new)
-            ⊎ ((D.state disk.old).size < entries_start self.now sector_size + entries_length self.now) }
+            ⊎ ((self.now.number_of_partition_entries ≢ 0)
+            × ((D.state disk.old).size < entries_start self.now sector_size + entries_length self.now)) }
     {
         self.seek_entries(disk, sector_size)?;
         let array = read_array(alloc, disk, self.number_of_partition_entries)?;

@@ -2,10 +2,10 @@
 //!
 //! Each copy is synced before the next is begun, so at any moment one of them is whole.
 
-ghost use Rattle.std.specs.Prelude.{◌≡◌, ◌<◌, ◌⊎◌, ◌*◌, [], ℕ, true, false, None, MatchOption, IsTrue, IfOk, IfErr, OnOk, OnErr, Contains, All};
+ghost use Rattle.std.specs.Prelude.{◌≡◌, ◌<◌, ◌⊎◌, ◌*◌, [], ℕ, true, false, Some, None, MatchOption, IsTrue, IfOk, IfErr, OnOk, OnErr, Contains, All};
 ghost use Rattle.gptman.specs.Coding.{FitsHeader, FitsEntry};
 ghost use Rattle.gptman.specs.Disk.{Keeps, LeavesOnly, Rose, Wrote};
-ghost use Rattle.gptman.specs.Fault.{fault_of, io as io_fault, overflow};
+ghost use Rattle.gptman.specs.Fault.{Fault, fault_of, io as io_fault, no_space_left};
 ghost use Rattle.gptman.specs.Layout.{HasLayout, AreApart};
 ghost use Rattle.gptman.specs.Stop.{IsStored};
 ghost use Rattle.gptman.specs.Table.{entries_in, table_in, IsCoherent, IsUnusedAndOrdered, sealed};
@@ -33,7 +33,9 @@ impl GPT {
         requires unused { All IsUnusedAndOrdered (entries_in self.old) }
         ensures keeps { Keeps (D.state disk.old) (D.state disk.new) }
 
-        // What is refused.
+        // What is refused. A refusal other than NoSpaceLeft needs nothing of the disk.
+        ensures at_once { (fault : Fault) → write_fault self.old.header self.old.sector_size (D.state disk.old).size ≡ Some fault
+            → (fault ≡ no_space_left) ⊎ Refuses result fault }
         ensures answer { Settles (write_fault self.old.header self.old.sector_size (D.state disk.old).size) result (D.state disk.old) (D.state disk.new) }
         ensures cause { Refuses result io_fault → Rose (D.state disk.old) (D.state disk.new) }
 
@@ -77,6 +79,8 @@ impl GPT {
     fn checked<D: Disk>(&self, disk: &mut D) -> Result<GPTHeader>
         ensures keeps { Keeps (D.state disk.old) (D.state disk.new) }
         ensures reads { IsTrue (D.state disk.old).is_honest → OnlyRead (D.state disk.old) (D.state disk.new) }
+        ensures at_once { (fault : Fault) → write_fault self.now.header self.now.sector_size (D.state disk.old).size ≡ Some fault
+            → (fault ≡ no_space_left) ⊎ Refuses result fault }
         ensures answer { Settles (write_fault self.now.header self.now.sector_size (D.state disk.old).size) result (D.state disk.old) (D.state disk.new) }
         ensures other { IfOk result (λ h. h ≡ other_header self.now.header) }
         ensures cause { Refuses result io_fault → Rose (D.state disk.old) (D.state disk.new) }

@@ -5,7 +5,8 @@ use Rattle.gptman.specs.Calls.{Untouched}
 use Rattle.gptman.specs.Coding.{header_bytes, array_bytes}
 use Rattle.gptman.specs.Disk.{overlay}
 use Rattle.gptman.proofs.Overlays.{overlay_nothing}
-use Rattle.gptman.proofs.Ranges.{contains_new, on_err_of, on_ok_of, within_none}
+use Rattle.gptman.proofs.Outcomes.{on_err_of, on_ok_of}
+use Rattle.gptman.proofs.Ranges.{contains_new, within_none}
 use Rattle.gptman.proofs.Runs.{wrote_then, wrote_wider}
 use Rattle.gptman.proofs.WriteRanges.{within_array, within_header}
 use Rattle.gptman.proofs.header.write.write_copy.Given.{Over}

@@ -1,6 +1,7 @@
 use Rattle.std.proofs.Common.{◌*◌, inr, ℕ, subst, sym}
 use Rattle.std.specs.List.{Contains}
-use Rattle.gptman.proofs.Ranges.{on_err_of, within_none}
+use Rattle.gptman.proofs.Outcomes.{on_err_of}
+use Rattle.gptman.proofs.Ranges.{within_none}
 use Rattle.gptman.proofs.Runs.{wrote_then}
 use Rattle.gptman.proofs.table.write.write_copy.Goals as goal
 

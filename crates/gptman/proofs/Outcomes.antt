@@ -1,0 +1,10 @@
+-- What holds whatever a call answers.
+use Rattle.std.specs.Prelude.{Result, Ok, Err, OnOk, OnErr}
+
+pub on_ok_of : {T E P : Type 0} (r : Result T E) → P → OnOk r P
+on_ok_of (Ok x) p = p
+on_ok_of (Err e) p = tt
+
+pub on_err_of : {T E P : Type 0} (r : Result T E) → P → OnErr r P
+on_err_of (Ok x) p = tt
+on_err_of (Err e) p = p
