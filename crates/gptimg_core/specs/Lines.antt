@@ -1,7 +1,12 @@
--- The line that shows a table.
-use Rattle.std.specs.Prelude.{ℕ, List, ◌++◌, codes, nat_eq, if◌then◌else◌}
+-- The lines that show a table.
+use Rattle.std.specs.Prelude.{ℕ, ◌||◌, List, [], ◌++◌, codes, flat_map, map, nat_eq, nat_lt, if◌then◌else◌}
 use Rattle.std.specs.Fmt.{decimal}
+use Rattle.std.specs.Int.{to_be_bytes, w64}
+use Rattle.std.specs.List.{enumerate_from}
 use Rattle.hex.specs.Hex.{encode_lower}
+use Rattle.gptman.specs.Entry.{is_used}
+use Rattle.gptman.specs.Table.{entries_in}
+use Rattle.gptman.specs.declared.codec.entry.GPTPartitionEntry.{GPTPartitionEntry}
 use Rattle.gptman.specs.declared.codec.header.GPTHeader.{GPTHeader}
 use Rattle.gptman.specs.declared.table.GPT.{GPT}
 
@@ -15,3 +20,25 @@ table_line g =
     codes "sector " ++ decimal g.sector_size ++ codes " form " ++ form_name g.header ++ codes " disk " ++ encode_lower g.header.disk_guid
     ++ codes " usable " ++ decimal g.header.first_usable_lba ++ codes ".." ++ decimal g.header.last_usable_lba
     ++ codes " entries " ++ decimal g.header.number_of_partition_entries ++ codes " align " ++ decimal g.align ++ codes "\n"
+
+-- a byte of a name as it is shown: of a control character, which is one byte in UTF-8, a question mark
+abbrev pub shown_byte : ℕ → ℕ
+shown_byte b = if nat_lt b 0x20 || nat_eq b 0x7f then 0x3f else b
+
+abbrev pub shown_text : List ℕ → List ℕ
+shown_text text = map shown_byte text
+
+-- the line of an entry under its number
+abbrev pub entry_line : ℕ × GPTPartitionEntry → List ℕ
+entry_line p =
+    decimal p.0 ++ codes " " ++ encode_lower p.1.partition_type_guid ++ codes " " ++ encode_lower p.1.unique_partition_guid
+    ++ codes " " ++ decimal p.1.starting_lba ++ codes ".." ++ decimal p.1.ending_lba
+    ++ codes " " ++ encode_lower (to_be_bytes w64 p.1.attribute_bits) ++ codes " " ++ shown_text p.1.partition_name.text ++ codes "\n"
+
+-- a line for each that is used
+abbrev pub entry_lines : List (ℕ × GPTPartitionEntry) → List ℕ
+entry_lines ps = flat_map (λ p. if is_used p.1 then entry_line p else []) ps
+
+-- the table's own line, and those of its entries
+abbrev pub table_lines : GPT → List ℕ
+table_lines g = table_line g ++ entry_lines (enumerate_from 1 (entries_in g))

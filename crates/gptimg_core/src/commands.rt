@@ -6,7 +6,7 @@ ghost use Rattle.gptman.specs.Calls.{OnlyRead, Untouched};
 ghost use Rattle.gptman.specs.Layout.{HasLayout};
 ghost use Rattle.gptman.specs.Stop.{IsStored};
 ghost use Rattle.gptman.specs.Write.{both_ranges};
-ghost use Rattle.gptimg_core.specs.Asks.{made_header, made_table};
+ghost use Rattle.gptimg_core.specs.Asks.{made_header, made_table, TellsTable};
 
 use crate::words::{Command, Request};
 use gptman::{Disk, GPT, Result};
@@ -29,6 +29,8 @@ pub fn perform<D: Disk>(alloc: Global, request: &Request, disk: &mut D) -> Resul
     ensures keeps { Keeps (D.state disk.old) (D.state disk.new) }
     ensures shown { IsTrue (D.state disk.old).is_honest → request.now.command ≡ Command.Show
         → OnlyRead (D.state disk.old) (D.state disk.new) }
+    ensures told { IsTrue (D.state disk.old).is_honest → request.now.command ≡ Command.Show
+        → IfOk result (λ report. TellsTable (D.state disk.old).view request.now.sector_size report) }
     ensures wrote { IsTrue (D.state disk.old).is_honest → (guid : List ℕ) → request.now.command ≡ Command.New guid
         → let ss = request.now.sector_size in let size = (D.state disk.old).size
         in Wrote (both_ranges (made_header guid ss size) ss) (D.state disk.old) (D.state disk.new) }

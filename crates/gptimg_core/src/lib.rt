@@ -12,7 +12,7 @@ ghost use Rattle.gptman.specs.Calls.{OnlyRead, Untouched};
 ghost use Rattle.gptman.specs.Layout.{HasLayout};
 ghost use Rattle.gptman.specs.Stop.{IsStored};
 ghost use Rattle.gptman.specs.Write.{both_ranges};
-ghost use Rattle.gptimg_core.specs.Asks.{AskForNew, AskToShow, made_header, made_table};
+ghost use Rattle.gptimg_core.specs.Asks.{AskForNew, AskToShow, PrintsTable, made_header, made_table};
 ghost use Rattle.gptimg_core.specs.Names.{fault_line};
 ghost use Rattle.gptimg_core.specs.Words.{request_in, texts_of};
 
@@ -65,6 +65,8 @@ pub fn run<D: Disk, W: Write>(
     ensures prints_fault { result ≡ Ok 1 → (fault : Fault) × Appends (W.contents out.old) (W.contents out.new) (fault_line fault) }
     ensures prints_ok { (ss : ℕ) (guid : List ℕ) → AskForNew words.now ss guid
         → result ≡ Ok 0 → Appends (W.contents out.old) (W.contents out.new) (codes "ok\n") }
+    ensures prints_table { IsTrue (D.state disk.old).is_honest → (ss : ℕ) → AskToShow words.now ss
+        → result ≡ Ok 0 → PrintsTable (D.state disk.old).view ss (W.contents out.old) (W.contents out.new) }
 
     // Words of no command leave the disk alone.
     ensures usage { result ≡ Ok 2 → disk.new ≡ disk.old }

@@ -3,12 +3,15 @@
 ghost use Rattle.std.specs.Prelude.{◌≡◌, ◌++◌, codes, OnOk};
 ghost use Rattle.std.specs.Io.KnownBytes.{Appends};
 ghost use Rattle.hex.specs.Hex.{encode_lower};
+ghost use Rattle.std.specs.Int.{to_be_bytes, w64};
+ghost use Rattle.std.specs.List.{enumerate_from};
 ghost use Rattle.gptman.specs.Fault.{fault_of};
+ghost use Rattle.gptman.specs.Table.{entries_in};
 ghost use Rattle.gptimg_core.specs.Names.{fault_line, fault_name, variant_name};
-ghost use Rattle.gptimg_core.specs.Lines.{form_name as form_name_of, table_line};
+ghost use Rattle.gptimg_core.specs.Lines.{entry_line, entry_lines, form_name as form_name_of, shown_byte, shown_text, table_line, table_lines};
 
 use crate::commands::Report;
-use gptman::{Error, GPT, GPTHeader};
+use gptman::{Error, GPT, GPTHeader, GPTPartitionEntry};
 use std::io;
 use std::io::Write;
 
@@ -17,7 +20,7 @@ use std::io::Write;
 /// An error comes only where `out` failed.
 pub fn print_report<W: Write>(out: &mut W, report: &Report) -> io::Result<()>
     ensures written { report.now ≡ Report.Written → OnOk result (Appends (W.contents out.old) (W.contents out.new) (codes "ok\n")) }
-    ensures table { (table : GPT) → report.now ≡ Report.Table table → OnOk result (Appends (W.contents out.old) (W.contents out.new) (table_line table)) }
+    ensures table { (table : GPT) → report.now ≡ Report.Table table → OnOk result (Appends (W.contents out.old) (W.contents out.new) (table_lines table)) }
 {
     match report {
         Report::Written => out.write_all(b"ok\n"),
@@ -25,8 +28,84 @@ pub fn print_report<W: Write>(out: &mut W, report: &Report) -> io::Result<()>
     }
 }
 
-// Prints the table's own line. GUIDs are printed as 32 lower-case hexadecimal digits.
+// Prints the table's own line, and a line for each used entry. GUIDs are printed as 32 lower-case
+// hexadecimal digits.
 fn print_table<W: Write>(out: &mut W, table: &GPT) -> io::Result<()>
+    ensures { OnOk result (Appends (W.contents out.old) (W.contents out.new) (table_lines table.now)) }
+{
+    print_header(out, table)?;
+    print_entries(out, table)
+}
+
+// Prints a line for each used entry, in order.
+fn print_entries<W: Write>(out: &mut W, table: &GPT) -> io::Result<()>
+    ensures { OnOk result (Appends (W.contents out.old) (W.contents out.new) (entry_lines (enumerate_from 1 (entries_in table.now)))) }
+{
+    for (number, entry) in table.iter() {
+        if entry.is_used() {
+            print_entry(out, number, entry)?;
+        }
+    }
+    Ok(())
+}
+
+// Prints the line of an entry under its number.
+fn print_entry<W: Write>(out: &mut W, number: u32, entry: &GPTPartitionEntry) -> io::Result<()>
+    ensures { OnOk result (Appends (W.contents out.old) (W.contents out.new) (entry_line (number, entry.now))) }
+{
+    write!(out, "{number} ")?;
+    print_guids(out, entry)?;
+    let first = entry.starting_lba;
+    let last = entry.ending_lba;
+    write!(out, " {first}..{last} ")?;
+    out.write_all(&number_text(entry.attribute_bits))?;
+    out.write_all(b" ")?;
+    print_text(out, entry.partition_name.as_str())?;
+    out.write_all(b"\n")
+}
+
+// Prints the type of the entry, and its own GUID.
+fn print_guids<W: Write>(out: &mut W, entry: &GPTPartitionEntry) -> io::Result<()>
+    ensures { OnOk result (Appends (W.contents out.old) (W.contents out.new)
+        (encode_lower entry.now.partition_type_guid ++ (codes " " ++ encode_lower entry.now.unique_partition_guid))) }
+{
+    out.write_all(&guid_text(&entry.partition_type_guid))?;
+    out.write_all(b" ")?;
+    out.write_all(&guid_text(&entry.unique_partition_guid))
+}
+
+// Prints the text of a name.
+fn print_text<W: Write>(out: &mut W, text: &str) -> io::Result<()>
+    ensures { OnOk result (Appends (W.contents out.old) (W.contents out.new) (shown_text text.now)) }
+{
+    for byte in text.as_bytes() {
+        out.write_all(&[shown(*byte)])?;
+    }
+    Ok(())
+}
+
+// A byte of a name as it is shown: of a control character, which is one byte, a question mark.
+fn shown(byte: u8) -> u8
+    ensures { result ≡ shown_byte byte }
+{
+    if byte < 0x20 || byte == 0x7f {
+        b'?'
+    } else {
+        byte
+    }
+}
+
+// The number as 16 hexadecimal digits, the highest first.
+fn number_text(number: u64) -> [u8; 16]
+    ensures { result ≡ encode_lower (to_be_bytes w64 number) }
+{
+    let mut text = [0; 16];
+    hex::encode_to_slice(number.to_be_bytes().as_slice(), &mut text).unwrap();
+    text
+}
+
+// Prints the table's own line.
+fn print_header<W: Write>(out: &mut W, table: &GPT) -> io::Result<()>
     ensures { OnOk result (Appends (W.contents out.old) (W.contents out.new) (table_line table.now)) }
 {
     let header = &table.header;

@@ -7,15 +7,19 @@ pub mod ByTable
 pub mod CopyParts
 pub mod CopyTests
 pub mod CopyThere
+pub mod Covering
 pub mod Division
 pub mod EntryBytes
 pub mod EntryLists
+pub mod Equal
 pub mod Events
 pub mod FirstFailing
 pub mod Fitting
 pub mod HeaderBytes
 pub mod LaidCopies
+pub mod Mapping
 pub mod NameText
+pub mod Numbering
 pub mod Numbers
 pub mod OneWhole
 pub mod OtherHeader
@@ -23,12 +27,15 @@ pub mod Outcomes
 pub mod Overlays
 pub mod Pieces
 pub mod Ranges
+pub mod ReadEntry
 pub mod Readers
 pub mod Runs
 pub mod Sealing
+pub mod Sorting
 pub mod Stops
 pub mod Stored
 pub mod TwoCopies
 mod Vectors
 pub mod WriteRanges
 pub mod WrittenCopy
+pub mod WrittenOver

@@ -1,5 +1,5 @@
 -- A copy: a header and its entries in their places on the disk.
-use Rattle.std.specs.Prelude.{◌≡◌, ◌≤◌, ◌<◌, ◌⊎◌, ◌+◌, ◌*◌, ◌^◌, ◌||◌, ℕ, Bool, List, [], ◌∷◌, ◌++◌, length, take, drop, map, replicate, get_or, nat_eq, nat_le, nat_lt, bytes_eq, Option, Some, None, Result, Ok, Err}
+use Rattle.std.specs.Prelude.{◌≡◌, ◌≤◌, ◌<◌, ◌⊎◌, ◌+◌, ◌*◌, ◌^◌, ◌||◌, ℕ, Bool, List, [], ◌∷◌, ◌++◌, length, take, drop, map, replicate, get_or, nat_eq, nat_le, nat_lt, bytes_eq, Option, Some, None, Result, Ok, Err, if◌then◌else◌}
 use Rattle.std.specs.List.{range_with_len}
 use Rattle.gptman.specs.Bytes.{part}
 use Rattle.gptman.specs.Coding.{IsHeaderCoding, IsEntryCoding, HasReadName, header_of, entry_of}
@@ -110,3 +110,7 @@ unfoldable pub array_result : List ℕ → ℕ → GPTHeader → Result (List GP
 array_result b ss h =
     let y = part b (entries_start h ss) (entries_length h) in
     unless (first_failing (array_tests (length b) ss h y)) (entries_of y h.number_of_partition_entries)
+
+-- the entry at byte p alone, whatever it holds
+unfoldable pub entry_result : List ℕ → ℕ → Result GPTPartitionEntry Fault
+entry_result b p = if nat_le (p + 128) (length b) then Ok (entry_of (part b p 128)) else Err io

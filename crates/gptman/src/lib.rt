@@ -4,6 +4,7 @@
 pub mod codec;
 pub mod crc;
 pub mod disk;
+pub mod edit;
 pub mod error;
 pub mod header;
 pub mod table;
@@ -14,5 +15,7 @@ pub use codec::name::PartitionName;
 pub use disk::Disk;
 pub use disk::file::FileDisk;
 pub use disk::memory::{Fate, MemoryDisk};
+pub use edit::Edit;
 pub use error::{Error, Result};
 pub use table::GPT;
+pub use table::iter::{Iter, IterMut};

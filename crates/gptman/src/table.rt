@@ -1,14 +1,24 @@
 //! The table: a header with its entries, of which a disk holds two copies.
 
-ghost use Rattle.std.specs.Prelude.{◌≡◌, ◌↔◌, IsTrue};
+ghost use Rattle.std.specs.Prelude.{◌≡◌, ◌↔◌, ◌<◌, ◌^◌, length, IsTrue, IfOk, IfErr};
+ghost use Rattle.std.specs.Borrow.{sem};
+ghost use Rattle.std.specs.List.{enumerate_from};
+ghost use Rattle.gptman.specs.Fault.{fault_of, out_of_memory};
+ghost use Rattle.gptman.specs.Lending.{items_left, LendsEntries, LendsIter};
 ghost use Rattle.gptman.specs.Table.{entries_in, IsCoherent};
 
+use crate::codec::entry::GPTPartitionEntry;
 use crate::codec::header::GPTHeader;
+use crate::error::Result;
 use crate::header::{ENTRY_SIZE, HEADER_SIZE};
 use crate::table::entries::Entries;
+use crate::table::iter::{Iter, IterMut};
 
 mod entries;
+pub mod iter;
+mod numbers;
 mod read;
+mod sort;
 mod write;
 
 /// A GUID partition table: a header, its entries, and how they are to be placed on a disk.
@@ -48,5 +58,49 @@ impl GPT {
         ensures { IsTrue result ↔ (¬ (self.now.header.primary_lba ≡ 1)) }
     {
         self.header.is_backup()
+    }
+
+    /// The same table again.
+    ///
+    /// `OutOfMemory` where there is no memory for its entries.
+    pub fn clone(&self) -> Result<GPT>
+        ensures ok { IfOk result (λ g. g ≡ self.now) }
+        ensures refused { IfErr result (λ e. fault_of e ≡ out_of_memory) }
+    {
+        Ok(GPT {
+            sector_size: self.sector_size,
+            header: self.header,
+            partitions: self.partitions.clone()?,
+            align: self.align,
+        })
+    }
+
+    /// The entries in order, each with its number, which counts from 1.
+    #[tactic(auto, using(crate::proofs::Numbering::length_numbered))]
+    pub fn iter(&self) -> Iter<'_>
+        ensures items { result ≡ enumerate_from 1 (entries_in self.now) }
+        ensures len { length result ≡ length (entries_in self.now) }
+        ensures few { length result < 2 ^ 32 }
+    {
+        Iter::new(self.partitions.as_slice())
+    }
+
+    /// The entries in order, each for writing and with its number, which counts from 1. The length of
+    /// the list and all else stay.
+    pub fn iter_mut(&mut self) -> IterMut<'_>
+        ensures* writes_back { sem 𝓛 (LendsIter self.entry result) }
+        ensures items { items_left result ≡ enumerate_from 1 (entries_in self.old) }
+    {
+        let entries = self.entries_mut();
+        IterMut::new(entries)
+    }
+
+    // The entries, for writing.
+    fn entries_mut(&mut self) -> &mut [GPTPartitionEntry]
+        ensures* writes_back { sem 𝓛 (LendsEntries self.entry result) }
+        ensures items { result.now ≡ entries_in self.old }
+        ensures few { length result.now < 2 ^ 32 }
+    {
+        self.partitions.as_mut_slice()
     }
 }

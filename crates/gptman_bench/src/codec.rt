@@ -83,7 +83,18 @@ fn an_entry_is_the_vector(rt: HostRuntime) -> Result<(), Fail> {
     assert_eq!(rt; hex::encode(alloc, entry.encode())?.as_str(), ENTRY);
     let mut bytes = [0; 128];
     hex::decode_to_slice(ENTRY, &mut bytes)?;
-    assert_eq!(rt; GPTPartitionEntry::decode(alloc, &bytes)?, entry);
+    let decoded = GPTPartitionEntry::decode(alloc, &bytes)?;
+    assert_eq!(rt; decoded, entry);
+    assert_eq!(rt; decoded.partition_name.as_str(), "Foo");
+    assert_eq!(rt;
+        &decoded.partition_name.units()[..3],
+        [0x46, 0x6f, 0x6f].as_slice()
+    );
+    assert!(rt;
+        decoded.partition_name.units()[3..]
+            .iter()
+            .all(|unit| *unit == 0)
+    );
     assert_eq!(rt; entry.clone()?, entry);
     Ok(())
 }

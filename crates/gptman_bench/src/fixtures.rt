@@ -3,7 +3,7 @@
 ghost use Rattle.std.specs.Prelude.{◌≡◌, ◌<◌, All, IfOk};
 ghost use Rattle.gptman.specs.Table.{entries_in, IsCoherent, IsUnusedAndOrdered};
 
-use gptman::{Disk, GPT, GPTPartitionEntry, MemoryDisk, PartitionName, Result};
+use gptman::{Disk, Edit, GPT, GPTPartitionEntry, MemoryDisk, PartitionName, Result};
 use std::alloc::{AllocError, Global};
 use std::io;
 
@@ -97,4 +97,53 @@ fn used_entry(alloc: Global, number: u32) -> Result<GPTPartitionEntry> {
         attribute_bits: u64::from(number),
         partition_name: PartitionName::new(alloc, name.as_str())?,
     })
+}
+
+/// A used entry with this name, unique GUID and place. Its type is 16 bytes 0a.
+pub(crate) fn partition(
+    alloc: Global,
+    name: &str,
+    unique_partition_guid: [u8; 16],
+    starting_lba: u64,
+    ending_lba: u64,
+) -> Result<GPTPartitionEntry> {
+    Ok(GPTPartitionEntry {
+        partition_type_guid: [0x0a; 16],
+        unique_partition_guid,
+        starting_lba,
+        ending_lba,
+        attribute_bits: 0,
+        partition_name: PartitionName::new(alloc, name)?,
+    })
+}
+
+/// A table for 100 sectors of 512 bytes, with "Foo" from 34 to 43 and "Bar" from 48 to 52.
+pub(crate) fn disk_1(alloc: Global) -> Result<GPT> {
+    let mut table = GPT::new_from(alloc, &mut disk_of(alloc, 0, 51_200)?, 512, [0x0d; 16])?;
+    let foo = partition(alloc, "Foo", [0x0b; 16], 34, 43)?;
+    let bar = partition(alloc, "Bar", [0x0c; 16], 48, 52)?;
+    table.apply(Edit::Put(1, foo))?;
+    table.apply(Edit::Put(2, bar))?;
+    Ok(table)
+}
+
+/// That table with "Baz" under number 10, from 44 to 47.
+pub(crate) fn disk_1_unsorted(alloc: Global) -> Result<GPT> {
+    let mut table = disk_1(alloc)?;
+    let mut baz = partition(alloc, "Baz", [1; 16], 44, 47)?;
+    baz.partition_type_guid = [1; 16];
+    table.apply(Edit::Put(10, baz))?;
+    Ok(table)
+}
+
+/// The number and the name of each used entry, in order.
+pub(crate) fn used_names(alloc: Global, table: &GPT) -> std::result::Result<String, AllocError> {
+    let mut names = String::new(alloc);
+    for (number, entry) in table.iter() {
+        if entry.is_used() {
+            let name = format!(in alloc; "{number} {}, ", entry.partition_name)?;
+            names.push_str(name.as_str())?;
+        }
+    }
+    Ok(names)
 }

@@ -3,7 +3,11 @@
 #![tactic(auto)]
 
 #[cfg(test)]
+mod callers;
+#[cfg(test)]
 mod codec;
+#[cfg(test)]
+mod entries;
 #[cfg(test)]
 mod errors;
 #[cfg(test)]
@@ -16,6 +20,8 @@ mod fixtures;
 mod growths;
 #[cfg(test)]
 mod headers;
+#[cfg(test)]
+mod list;
 #[cfg(test)]
 mod memory;
 #[cfg(test)]

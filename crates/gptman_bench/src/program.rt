@@ -1,8 +1,8 @@
 //! The program over a disk in memory and over a file.
 
-use crate::fixtures::are_all;
+use crate::fixtures::{are_all, disk_of, partition};
 use gptimg_core::{USAGE, run};
-use gptman::{Disk, Error, FileDisk, MemoryDisk};
+use gptman::{Disk, Error, FileDisk, GPTHeader, GPTPartitionEntry, MemoryDisk};
 use std::alloc::Global;
 use std::io::Write;
 use std::process::Abort;
@@ -65,6 +65,50 @@ fn a_new_table_in_a_file_is_shown(rt: HostRuntime) -> Result<(), Fail> {
     let mut disk = FileDisk::open(&rt, path)?;
     new_and_show(&rt, alloc, &mut disk)?;
     fs::remove_file(&rt, path)?;
+    Ok(())
+}
+
+// A disk of 100 sectors of 512 with this one entry in its primary copy.
+fn disk_with(alloc: Global, entry: GPTPartitionEntry) -> Result<MemoryDisk, Fail> {
+    let mut disk = disk_of(alloc, 0, 51_200)?;
+    let mut header = GPTHeader::new_from(&mut disk, 512, [0xff; 16])?;
+    let entries = vec![in alloc; GPTPartitionEntry::empty(alloc), entry]?;
+    header.number_of_partition_entries = 2;
+    if entries.len() == 2 && header.header_size == 92 && header.size_of_partition_entry == 128 {
+        header.write_into(&mut disk, 512, &entries)?;
+    }
+    Ok(disk)
+}
+
+#[test]
+fn used_entries_are_shown(rt: HostRuntime) -> Result<(), Fail> {
+    let alloc = rt.alloc();
+    let mut entry = partition(alloc, "a\tb", [0x22; 16], 34, 43)?;
+    entry.attribute_bits = 4;
+    let shown = call(alloc, &mut disk_with(alloc, entry)?, &["512", "show"])?;
+    let lines =
+        "sector 512 form primary disk ffffffffffffffffffffffffffffffff usable 34..66 entries 2 align 2048\n2 0a0a0a0a0a0a0a0a0a0a0a0a0a0a0a0a 22222222222222222222222222222222 34..43 0000000000000004 a?b\n";
+    assert_prints(&rt, &shown, 0, lines);
+    let mut entry = partition(
+        alloc,
+        "\u{1f}\u{20}\u{7e}\u{7f}\u{80}é\u{1f600}",
+        [0x22; 16],
+        0,
+        u64::MAX,
+    )?;
+    entry.attribute_bits = u64::MAX;
+    let shown = call(alloc, &mut disk_with(alloc, entry)?, &["512", "show"])?;
+    let lines =
+        "sector 512 form primary disk ffffffffffffffffffffffffffffffff usable 34..66 entries 2 align 2048\n2 0a0a0a0a0a0a0a0a0a0a0a0a0a0a0a0a 22222222222222222222222222222222 0..18446744073709551615 ffffffffffffffff ? ~?\u{80}é\u{1f600}\n";
+    assert_prints(&rt, &shown, 0, lines);
+    let unnamed = partition(alloc, "", [0x22; 16], 34, 43)?;
+    let shown = call(alloc, &mut disk_with(alloc, unnamed)?, &["512", "show"])?;
+    assert!(rt;
+        shown
+            .printed
+            .as_slice()
+            .ends_with(b" 34..43 0000000000000000 \n")
+    );
     Ok(())
 }
 

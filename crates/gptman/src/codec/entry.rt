@@ -4,12 +4,15 @@ ghost use Rattle.std.specs.Prelude.{◌≡◌, ℕ, ◌^◌, ◌<◌, [], length
 ghost use Rattle.byteorder.specs.Endian.{little_bytes};
 ghost use Rattle.gptman.specs.Bytes.{AreBytes};
 ghost use Rattle.gptman.specs.Coding.{FitsEntry, IsEntryCoding, HasReadName, units_at, entry_bytes, empty_entry};
+ghost use Rattle.gptman.specs.Calls.{answer_of};
+ghost use Rattle.gptman.specs.Entry.{ends_of, is_unused, is_used, sectors_of, size_of};
 ghost use Rattle.gptman.specs.Fault.{fault_of, out_of_memory};
 
 use crate::codec::cells::{note_bytes, part_at, put, put_u16, put_u64, u16_at, u64_at};
 use crate::codec::name::PartitionName;
-use crate::error::Result;
+use crate::error::{Error, Result};
 use std::alloc::Global;
+use std::ops::RangeInclusive;
 
 /// An entry of the table: a partition, or an unused place for one.
 ///
@@ -81,6 +84,51 @@ impl GPTPartitionEntry {
         put(&mut bytes, 56, &bytes_of(self.partition_name.units()));
         note_bytes(&bytes);
         bytes
+    }
+
+    /// Whether the entry is not used: its type is all zero.
+    pub fn is_unused(&self) -> bool
+        ensures { result ≡ is_unused self.now }
+    {
+        self.partition_type_guid.iter().all(|byte| *byte == 0)
+    }
+
+    /// Whether the entry is used: its type is not all zero.
+    pub fn is_used(&self) -> bool
+        ensures { result ≡ is_used self.now }
+    {
+        !self.is_unused()
+    }
+
+    /// How many sectors the partition has, used or not.
+    ///
+    /// `InvalidPartitionBoundaries` where it ends before it starts, `Overflow` where it has 2^64.
+    pub fn size(&self) -> Result<u64>
+        ensures { answer_of (λ n. n) result ≡ size_of self.now }
+    {
+        let Some(distance) = self.ending_lba.checked_sub(self.starting_lba) else {
+            return Err(Error::InvalidPartitionBoundaries);
+        };
+        match distance.checked_add(1) {
+            Some(size) => Ok(size),
+            None => Err(Error::Overflow),
+        }
+    }
+
+    /// The sectors of the partition, from the first to the last.
+    ///
+    /// `UnusedPartition` where the entry is not used, then `InvalidPartitionBoundaries` where it ends
+    /// before it starts.
+    pub fn range(&self) -> Result<RangeInclusive<u64>>
+        ensures { answer_of ends_of result ≡ sectors_of self.now }
+    {
+        if self.is_unused() {
+            return Err(Error::UnusedPartition);
+        }
+        if self.ending_lba < self.starting_lba {
+            return Err(Error::InvalidPartitionBoundaries);
+        }
+        Ok(self.starting_lba..=self.ending_lba)
     }
 
     /// The same entry again.

@@ -6,7 +6,7 @@
 ghost use Rattle.std.specs.Prelude.{◌≡◌, ◌≢◌, ◌≤◌, ◌<◌, ◌+◌, ◌*◌, ◌^◌, ◌⊎◌, ◌++◌, ℕ, List, length, IsTrue, IfOk, IfErr, OnOk, OnErr};
 ghost use Rattle.gptman.specs.Bytes.{part};
 ghost use Rattle.gptman.specs.Coding.{header_bytes};
-ghost use Rattle.gptman.specs.Copy.{value_tests, array_tests, header_result, array_result, unless, entries_of, entries_start, entries_length};
+ghost use Rattle.gptman.specs.Copy.{value_tests, array_tests, header_result, array_result, entry_result, unless, entries_of, entries_start, entries_length};
 ghost use Rattle.gptman.specs.Crc.{crc_of};
 ghost use Rattle.gptman.specs.Disk.{Keeps, Rose};
 ghost use Rattle.gptman.specs.Fault.{fault_of, first_failing, io as io_fault, out_of_memory};
@@ -120,6 +120,28 @@ impl GPTHeader {
         };
         disk.seek_start(start)?;
         Ok(())
+    }
+}
+
+impl GPTPartitionEntry {
+    /// The entry in the 128 bytes at the disk's position, which then is behind them. The name has the
+    /// text of its units. No value is tested.
+    ///
+    /// `Io` where the disk failed or ends before, `OutOfMemory` where there is no memory for the text.
+    pub fn read_from<D: Disk>(alloc: Global, disk: &mut D) -> Result<GPTPartitionEntry>
+        ensures keeps { Keeps (D.state disk.old) (D.state disk.new) }
+        ensures reads { IsTrue (D.state disk.old).is_honest → OnlyRead (D.state disk.old) (D.state disk.new) }
+        ensures moves { OnOk result ((D.state disk.new).position ≡ (D.state disk.old).position + 128) }
+        ensures answer { IsTrue (D.state disk.old).is_honest → Fails result (D.state disk.old) (D.state disk.new)
+            ⊎ (Refuses result out_of_memory
+            ⊎ (answer_of (λ e. e) result ≡ entry_result (D.state disk.old).view (D.state disk.old).position)) }
+        ensures refused { IfErr result (λ e. (fault_of e ≡ out_of_memory) ⊎ (fault_of e ≡ io_fault)) }
+        ensures cause { Refuses result io_fault → Rose (D.state disk.old) (D.state disk.new)
+            ⊎ ((D.state disk.old).size < (D.state disk.old).position + 128) }
+    {
+        let mut bytes = [0; 128];
+        disk.read_exact(&mut bytes)?;
+        GPTPartitionEntry::decode(alloc, &bytes)
     }
 }
 

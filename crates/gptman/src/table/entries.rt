@@ -1,12 +1,17 @@
 //! The list of a table's entries, of which contracts see the list alone.
 
-ghost use Rattle.std.specs.Prelude.{◌≡◌, ◌↔◌, ◌<◌, ◌^◌, length, vec_len, IsTrue};
+ghost use Rattle.std.specs.Prelude.{◌≡◌, ◌↔◌, ◌<◌, ◌^◌, Some, length, slice_get, vec_len, IsTrue, IfOk, IfErr};
+ghost use Rattle.std.specs.Borrow.{sem};
 ghost use Rattle.std.specs.Cmp.{partial_equiv_from_equiv};
 ghost use Rattle.std.specs.Cmp.Lexicographic.{lists_equiv};
+ghost use Rattle.gptman.specs.Coding.{empty_entry};
+ghost use Rattle.gptman.specs.Fault.{fault_of, out_of_memory};
 ghost use Rattle.gptman.specs.contracts.codec.entry.GPTPartitionEntryEq.TheImpl.Laws.{laws-law};
 ghost use lib.Pointwise.{pointwise};
 
 use crate::codec::entry::GPTPartitionEntry;
+use crate::error::Result;
+use std::alloc::Global;
 use std::marker::Model;
 
 /// The entries of a table, in order. There are fewer than 2^32.
@@ -27,6 +32,8 @@ impl Model for Entries {
 }
 
 impl Entries {
+    ghost use Rattle.gptman.specs.Lending.{LendsItem, LendsItems};
+
     /// The list with these entries. It takes no memory.
     pub(crate) fn new(items: Vec<GPTPartitionEntry>) -> Self
         requires { vec_len items < 2 ^ 32 }
@@ -42,6 +49,64 @@ impl Entries {
     {
         self.items.as_slice()
     }
+
+    /// The entries as a slice, for writing.
+    pub(crate) fn as_mut_slice(&mut self) -> &mut [GPTPartitionEntry]
+        ensures* writes_back { sem 𝓛 (LendsItems self.entry result) }
+        ensures items { result.now ≡ self.old }
+        ensures few { length self.old < 2 ^ 32 }
+    {
+        self.items.as_mut_slice()
+    }
+
+    /// The entry at place `k`, for writing. Places count from 0.
+    pub(crate) fn at_mut(&mut self, k: usize) -> &mut GPTPartitionEntry
+        requires { k < length self.old }
+        ensures* writes_back { sem 𝓛 (LendsItem self.entry k result) }
+        ensures value { slice_get self.old k ≡ Some result.now }
+    {
+        &mut self.items[k]
+    }
+
+    /// How many entries there are.
+    pub(crate) fn len(&self) -> u32
+        ensures { result ≡ length self.now }
+    {
+        self.items.len() as u32
+    }
+
+    /// The allocator that the list takes its memory from.
+    pub(crate) fn alloc(&self) -> Global {
+        *self.items.allocator()
+    }
+
+    /// The unused entry. It takes no memory.
+    pub(crate) fn empty_entry(&self) -> GPTPartitionEntry
+        ensures { result ≡ empty_entry }
+    {
+        GPTPartitionEntry::empty(self.alloc())
+    }
+
+    /// The same list again, where there is memory for it.
+    pub(crate) fn clone(&self) -> Result<Self>
+        ensures ok { IfOk result (λ es. es ≡ self.now) }
+        ensures refused { IfErr result (λ e. fault_of e ≡ out_of_memory) }
+    {
+        let items = clone_all(self.alloc(), self.items.as_slice())?;
+        Ok(Entries { items })
+    }
+}
+
+// The same entries again.
+fn clone_all(alloc: Global, entries: &[GPTPartitionEntry]) -> Result<Vec<GPTPartitionEntry>>
+    ensures ok { IfOk result (λ v. v.items ≡ entries.now) }
+    ensures refused { IfErr result (λ e. fault_of e ≡ out_of_memory) }
+{
+    let mut all = Vec::new(alloc);
+    for entry in entries {
+        all.push(entry.clone()?)?;
+    }
+    Ok(all)
 }
 
 /// Lists are equal where all their entries are.

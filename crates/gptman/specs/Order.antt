@@ -1,0 +1,18 @@
+-- The order of entries: the used ones by their start, then the unused ones. Entries that tie keep their order.
+use Rattle.std.specs.Prelude.{ℕ, ◌^◌, nat_lt, if◌then◌else◌, List, [], ◌∷◌}
+use Rattle.gptman.specs.Entry.{is_used}
+use Rattle.gptman.specs.declared.codec.entry.GPTPartitionEntry.{GPTPartitionEntry}
+
+-- where an entry belongs: the unused ones after every sector
+abbrev pub rank : GPTPartitionEntry → ℕ
+rank e = if is_used e then e.starting_lba else 2 ^ 64
+
+-- x put before the first of no lower rank
+unfoldable pub put_in : {X : Type 0} → (X → ℕ) → X → List X → List X
+put_in r x [] = x ∷ []
+put_in r x (y ∷ ys) = if nat_lt (r y) (r x) then y ∷ put_in r x ys else x ∷ y ∷ ys
+
+-- the whole list by rank, the last put in first, so that those that tie keep their order
+unfoldable pub by_rank : {X : Type 0} → (X → ℕ) → List X → List X
+by_rank r [] = []
+by_rank r (x ∷ xs) = put_in r x (by_rank r xs)

@@ -1,0 +1,67 @@
+//! Putting a table's entries in order.
+
+ghost use Rattle.std.specs.Prelude.{◌≡◌, OnOk, OnErr, IfErr};
+ghost use Rattle.std.specs.List.Sorted.{IsPermutation, IsNonDecreasingBy, IsStableByKey};
+ghost use Rattle.std.specs.Ordering.{nat_cmp};
+ghost use Rattle.gptman.specs.Fault.{fault_of, out_of_memory};
+ghost use Rattle.gptman.specs.Number.{with_entries};
+ghost use Rattle.gptman.specs.Order.{rank, by_rank};
+ghost use Rattle.gptman.specs.Table.{entries_in};
+
+use crate::codec::entry::GPTPartitionEntry;
+use crate::error::Result;
+use crate::table::GPT;
+use std::alloc::{AllocError, Global};
+
+impl GPT {
+    /// Puts the entries in order: the used ones by their first sector, then the unused ones. Entries
+    /// that tie keep their order. It takes time in O(n log n).
+    ///
+    /// `OutOfMemory` where there is no memory to sort them; nothing changes then.
+    #[tactic(auto, using(crate::proofs::WrittenOver::written_over_same))]
+    pub fn sort(&mut self) -> Result<()>
+        ensures sorted { OnOk result (self.new ≡ with_entries self.old (by_rank rank (entries_in self.old))) }
+        ensures kept { OnErr result (self.new ≡ self.old) }
+        ensures refused { IfErr result (λ e. fault_of e ≡ out_of_memory) }
+    {
+        let alloc = self.partitions.alloc();
+        let entries = self.entries_mut();
+        sort_list(alloc, entries)?;
+        Ok(())
+    }
+}
+
+// The whole list in order.
+fn sort_list(
+    alloc: Global,
+    entries: &mut [GPTPartitionEntry],
+) -> std::result::Result<(), AllocError>
+    ensures sorted { OnOk result (entries.new ≡ by_rank rank entries.old) }
+    ensures kept { OnErr result (entries.new ≡ entries.old) }
+{
+    sort_stably(alloc, entries)
+}
+
+// A stable rearrangement of the whole list, by rank.
+fn sort_stably(
+    alloc: Global,
+    entries: &mut [GPTPartitionEntry],
+) -> std::result::Result<(), AllocError>
+    ensures whole { IsPermutation entries.old entries.new }
+    ensures sorted { OnOk result (IsNonDecreasingBy rank entries.new) }
+    ensures stable { IsStableByKey rank nat_cmp entries.old entries.new }
+    ensures kept { OnErr result (entries.new ≡ entries.old) }
+{
+    entries.sort_by_key(alloc, |entry| rank(entry))
+}
+
+// Where an entry belongs: the unused ones after every sector.
+fn rank(entry: &GPTPartitionEntry) -> u128
+    ensures { result ≡ rank entry.now }
+{
+    if entry.is_used() {
+        u128::from(entry.starting_lba)
+    } else {
+        1 << 64
+    }
+}

@@ -1,0 +1,99 @@
+//! Callers that know a table by the library's contracts alone. What each ensures is proved from them.
+
+ghost use Rattle.std.specs.Prelude.{◌≡◌, ◌≤◌, ◌-◌, ◌↔◌, Some, count_by, filter, length, map, slice_get, IsTrue, IfOk, OnOk, OnErr};
+ghost use Rattle.std.specs.List.{enumerate_from};
+ghost use Rattle.gptman.specs.Entry.{is_used};
+ghost use Rattle.gptman.specs.Number.{with_entries, with_entry, IsNumber};
+ghost use Rattle.gptman.specs.Order.{by_rank, rank};
+ghost use Rattle.gptman.specs.Table.{entries_in, IsCoherent};
+ghost use Rattle.gptman.specs.declared.codec.entry.GPTPartitionEntry.{GPTPartitionEntry};
+ghost use Rattle.gptman_bench.specs.Cleared.{cleared};
+
+use gptman::{GPT, Result};
+use std::alloc::{AllocError, Global};
+
+/// Whether two tables are equal in all their fields.
+pub(crate) fn are_equal(a: &GPT, b: &GPT) -> bool
+    ensures { IsTrue result ↔ (a.now ≡ b.now) }
+{
+    a == b
+}
+
+/// Whether two entries are equal in all their fields, texts and units included.
+pub(crate) fn are_equal_entries(
+    a: &gptman::GPTPartitionEntry,
+    b: &gptman::GPTPartitionEntry,
+) -> bool
+    ensures { IsTrue result ↔ (a.now ≡ b.now) }
+{
+    a == b
+}
+
+/// Sorts the entries twice, which is sorting them once.
+pub(crate) fn sort_twice(table: &mut GPT) -> Result<()>
+    ensures { OnOk result (table.new ≡ with_entries table.old (by_rank rank (entries_in table.old))) }
+{
+    table.sort()?;
+    table.sort()
+}
+
+/// Exchanges two entries.
+pub(crate) fn exchange(table: &mut GPT, i: u32, j: u32) -> Result<()>
+    requires first { IsNumber table.old i }
+    requires second { IsNumber table.old j }
+    ensures exchanged { OnOk result ((a b : GPTPartitionEntry) → slice_get (entries_in table.old) (i - 1) ≡ Some a
+        → slice_get (entries_in table.old) (j - 1) ≡ Some b → table.new ≡ with_entry (with_entry table.old i b) j a) }
+    ensures kept { OnErr result (table.new ≡ table.old) }
+{
+    let a = table[i].clone()?;
+    let b = table[j].clone()?;
+    table[i] = b;
+    table[j] = a;
+    Ok(())
+}
+
+/// Clears the attributes of each entry, by the numbers. The whole list is known after it.
+pub(crate) fn clear_by_number(table: &mut GPT)
+    requires { IsCoherent table.old.header (entries_in table.old) }
+    ensures { table.new ≡ with_entries table.old (map cleared (entries_in table.old)) }
+{
+    let count = table.header.number_of_partition_entries;
+    for k in 0..count {
+        table[k + 1].attribute_bits = 0;
+    }
+}
+
+/// Clears the attributes of each entry, by the iterator. All but the entries is as it was.
+pub(crate) fn clear_by_iterator(table: &mut GPT)
+    ensures rest { table.new ≡ with_entries table.old (entries_in table.new) }
+    ensures len { length (entries_in table.new) ≡ length (entries_in table.old) }
+{
+    for (_, entry) in table.iter_mut() {
+        entry.attribute_bits = 0;
+    }
+}
+
+/// How many entries are used, by a loop.
+#[tactic(auto, using(gptman::proofs::Numbering::count_numbered))]
+pub(crate) fn count_used(table: &GPT) -> u64
+    ensures { result ≡ count_by is_used (entries_in table.now) }
+{
+    let mut count = 0;
+    for (_, entry) in table.iter() {
+        if entry.is_used() {
+            count += 1;
+        }
+    }
+    count
+}
+
+/// The numbers of the used entries, by a chain.
+pub(crate) fn used_numbers(alloc: Global, table: &GPT) -> std::result::Result<Vec<u32>, AllocError>
+    ensures { IfOk result (λ v. v.items ≡ map (λ p. p.0) (filter (λ p. is_used p.1) (enumerate_from 1 (entries_in table.now)))) }
+{
+    table
+        .iter()
+        .filter(|(_, entry)| entry.is_used())
+        .map(|(number, _)| number)
+        .collect(alloc)
+}

@@ -1,0 +1,230 @@
+//! The list of a table's entries: looked at, changed, put in order.
+
+use crate::callers::{
+    are_equal, clear_by_iterator, clear_by_number, count_used, exchange, sort_twice, used_numbers,
+};
+use crate::fixtures::{answer, disk_1, disk_1_unsorted, partition, used_names};
+use gptman::{Edit, GPT, GPTPartitionEntry, PartitionName};
+use std::alloc::Global;
+use std::process::Abort;
+use std::test::Fail;
+
+#[test]
+fn entries_are_numbered_from_one(rt: HostRuntime) -> Result<(), Fail> {
+    let alloc = rt.alloc();
+    let mut table = disk_1_unsorted(alloc)?;
+    let mut last = 0;
+    for (number, _) in table.iter() {
+        assert!(rt; last < 128 && number == last + 1);
+        last = number;
+    }
+    assert_eq!(rt; last, 128);
+    assert_eq!(rt; count_used(&table), 3);
+    assert_eq!(rt;
+        used_numbers(alloc, &table)?.as_slice(),
+        [1, 2, 10].as_slice()
+    );
+    let mut last = 0;
+    for (number, entry) in table.iter_mut() {
+        assert!(rt; last < 128 && number == last + 1);
+        entry.attribute_bits = u64::from(number);
+        last = number;
+    }
+    assert_eq!(rt; last, 128);
+    assert!(rt; table.iter().all(|(number, entry)| entry.attribute_bits == u64::from(number)));
+    Ok(())
+}
+
+#[test]
+fn each_entry_can_be_written(rt: HostRuntime) -> Result<(), Fail> {
+    let alloc = rt.alloc();
+    let mut table = disk_1(alloc)?;
+    for (_, entry) in table.iter_mut() {
+        entry.attribute_bits = 7;
+    }
+    let mut other = table.clone()?;
+    assert!(rt; table.is_coherent());
+    assert_eq!(rt; table.header.number_of_partition_entries, 128);
+    clear_by_iterator(&mut table);
+    assert!(rt; !are_equal(&table, &other));
+    other = table.clone()?;
+    clear_by_iterator(&mut other);
+    assert!(rt; are_equal(&table, &other));
+    assert!(rt; are_equal(&table, &disk_1(alloc)?));
+    Ok(())
+}
+
+// Clears the attributes by the numbers, where the table is coherent.
+fn clear(rt: &impl Abort, table: &mut GPT) {
+    assert!(rt; table.is_coherent());
+    clear_by_number(table);
+}
+
+#[test]
+fn each_entry_can_be_written_by_its_number(rt: HostRuntime) -> Result<(), Fail> {
+    let alloc = rt.alloc();
+    let mut table = disk_1(alloc)?;
+    for (_, entry) in table.iter_mut() {
+        entry.attribute_bits = 7;
+    }
+    clear(&rt, &mut table);
+    assert!(rt; are_equal(&table, &disk_1(alloc)?));
+    Ok(())
+}
+
+#[test]
+fn the_entry_of_a_sector_is_found(rt: HostRuntime) -> Result<(), Fail> {
+    let alloc = rt.alloc();
+    let mut table = disk_1(alloc)?;
+    let rows = [
+        (33, None),
+        (34, Some(1)),
+        (43, Some(1)),
+        (44, None),
+        (48, Some(2)),
+        (53, None),
+    ];
+    for (sector, number) in rows {
+        assert_eq!(rt; table.find_at_sector(sector), number, "sector {sector}");
+    }
+    table.apply(Edit::Put(5, partition(alloc, "A", [2; 16], 40, 50)?))?;
+    table.apply(Edit::Put(4, partition(alloc, "B", [3; 16], 45, 60)?))?;
+    assert_eq!(rt; table.find_at_sector(47), Some(4));
+    Ok(())
+}
+
+#[test]
+fn an_entry_is_removed(rt: HostRuntime) -> Result<(), Fail> {
+    let alloc = rt.alloc();
+    let mut table = disk_1_unsorted(alloc)?;
+    table.remove(1)?;
+    assert_eq!(rt; used_names(alloc, &table)?.as_str(), "2 Bar, 10 Baz, ");
+    table.remove_at_sector(52)?;
+    assert_eq!(rt; used_names(alloc, &table)?.as_str(), "10 Baz, ");
+    assert_eq!(rt; table.iter().count(), 128);
+    Ok(())
+}
+
+#[test]
+fn a_refused_change_leaves_the_table(rt: HostRuntime) -> Result<(), Fail> {
+    let alloc = rt.alloc();
+    let mut table = disk_1(alloc)?;
+    let said = answer(alloc, &table.remove(0))?;
+    assert_eq!(rt; said.as_str(), "invalid partition number: 0");
+    let said = answer(alloc, &table.remove_at_sector(44))?;
+    assert_eq!(rt; said.as_str(), "partition not found");
+    let foo = partition(alloc, "Foo", [9; 16], 1, 2)?;
+    let said = answer(alloc, &table.apply(Edit::Put(0, foo)))?;
+    assert_eq!(rt; said.as_str(), "invalid partition number: 0");
+    let said = answer(alloc, &table.apply(Edit::Remove(129)))?;
+    assert_eq!(rt; said.as_str(), "invalid partition number: 129");
+    assert!(rt; are_equal(&table, &disk_1(alloc)?));
+    table.header.number_of_partition_entries = 1;
+    let said = answer(alloc, &table.remove(2))?;
+    assert_eq!(rt; said.as_str(), "invalid partition number: 2");
+    let said = answer(alloc, &table.remove_at_sector(48))?;
+    assert_eq!(rt; said.as_str(), "invalid partition number: 2");
+    Ok(())
+}
+
+#[test]
+fn entries_are_put_in_order(rt: HostRuntime) -> Result<(), Fail> {
+    let alloc = rt.alloc();
+    let mut table = disk_1_unsorted(alloc)?;
+    let mut edited = table.clone()?;
+    table.sort()?;
+    assert_eq!(rt;
+        used_names(alloc, &table)?.as_str(),
+        "1 Foo, 2 Baz, 3 Bar, "
+    );
+    let sorted = table.clone()?;
+    sort_twice(&mut table)?;
+    assert!(rt; are_equal(&table, &sorted));
+    edited.apply(Edit::SortEntries)?;
+    assert!(rt; are_equal(&edited, &sorted));
+    Ok(())
+}
+
+#[test]
+fn entries_that_tie_keep_their_order(rt: HostRuntime) -> Result<(), Fail> {
+    let alloc = rt.alloc();
+    let mut table = disk_1(alloc)?;
+    table.apply(Edit::Put(7, partition(alloc, "Second", [2; 16], 34, 40)?))?;
+    table.apply(Edit::Put(9, partition(alloc, "First", [3; 16], 0, 1)?))?;
+    let mut named = GPTPartitionEntry::empty(alloc);
+    named.partition_name = PartitionName::new(alloc, "unused")?;
+    table.apply(Edit::Put(3, named.clone()?))?;
+    table.sort()?;
+    let names = used_names(alloc, &table)?;
+    assert_eq!(rt; names.as_str(), "1 First, 2 Foo, 3 Second, 4 Bar, ");
+    let fifth = table.iter().nth(4);
+    assert!(rt; fifth.is_some_and(|(_, entry)| *entry == named));
+    assert_eq!(rt; table.iter().count(), 128);
+    Ok(())
+}
+
+#[test]
+fn entries_are_exchanged(rt: HostRuntime) -> Result<(), Fail> {
+    let alloc = rt.alloc();
+    let mut table = disk_1(alloc)?;
+    assert!(rt; table.is_coherent() && table.header.number_of_partition_entries == 128);
+    exchange(&mut table, 1, 2)?;
+    assert_eq!(rt; used_names(alloc, &table)?.as_str(), "1 Bar, 2 Foo, ");
+    Ok(())
+}
+
+// The bytes of a partition, as text.
+fn bytes_of(rt: &impl Abort, alloc: Global, table: &GPT, number: u32) -> Result<String, Fail> {
+    assert!(rt; 0 < table.sector_size);
+    match table.get_partition_byte_range(number) {
+        Ok(bytes) => Ok(format!(in alloc; "{bytes:?}")?),
+        Err(error) => Ok(error.to_string(alloc)?),
+    }
+}
+
+#[test]
+fn a_partition_has_its_bytes(rt: HostRuntime) -> Result<(), Fail> {
+    let alloc = rt.alloc();
+    let mut table = disk_1(alloc)?;
+    table.apply(Edit::Put(1, partition(alloc, "A", [2; 16], 2048, 2048)?))?;
+    table.apply(Edit::Put(2, partition(alloc, "B", [3; 16], 40, u64::MAX)?))?;
+    let last = u64::MAX / 512;
+    table.apply(Edit::Put(4, partition(alloc, "C", [4; 16], last, last)?))?;
+    table.apply(Edit::Put(5, partition(alloc, "D", [5; 16], 5, 4)?))?;
+    let rows = [
+        (1, "1048576..=1049087"),
+        (2, "an arithmetic operation overflowed"),
+        (3, "unused partition"),
+        (4, "18446744073709551104..=18446744073709551615"),
+        (0, "invalid partition number: 0"),
+        (129, "invalid partition number: 129"),
+    ];
+    for (number, said) in rows {
+        assert_eq!(rt; bytes_of(&rt, alloc, &table, number)?.as_str(), said);
+    }
+    let reversed = bytes_of(&rt, alloc, &table, 5)?;
+    assert!(rt;
+        reversed
+            .as_str()
+            .starts_with("invalid partition boundaries: ")
+    );
+    Ok(())
+}
+
+#[test]
+fn clones_are_equal(rt: HostRuntime) -> Result<(), Fail> {
+    let alloc = rt.alloc();
+    let table = disk_1(alloc)?;
+    assert!(rt; are_equal(&table, &table.clone()?));
+    let first = table.iter().next();
+    let Some((_, entry)) = first else {
+        return Err(Fail::new("the table has no entry"));
+    };
+    assert_eq!(rt; entry.clone()?, *entry);
+    assert_eq!(rt; entry.partition_name.clone()?, entry.partition_name);
+    let mut other = table.clone()?;
+    other.apply(Edit::DiskGuid([5; 16]))?;
+    assert_eq!(rt; other.header.disk_guid, [5; 16]);
+    assert!(rt; !are_equal(&table, &other));
+    Ok(())
+}
