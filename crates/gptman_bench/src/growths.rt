@@ -3,8 +3,8 @@
 //! In a plain run no growth is refused. `rt try --test --fail-alloc N` refuses the Nth one of each
 //! test, and these pass with any N.
 
-use crate::fixtures::{DISK_GUID, image_of_new_table, used_entries};
-use gptman::{Error, GPT, GPTPartitionEntry, MemoryDisk, PartitionName, Result};
+use crate::fixtures::{DISK_GUID, disk_1_unsorted, image_of_new_table, used_entries};
+use gptman::{Edit, Error, GPT, GPTPartitionEntry, MemoryDisk, PartitionName, Result};
 use std::alloc::Global;
 use std::process::Abort;
 
@@ -35,6 +35,37 @@ fn copy_entries(rt: &impl Abort, alloc: Global) -> Option<()> {
 #[test]
 fn entries_are_copied_or_there_is_no_memory(rt: HostRuntime) {
     copy_entries(&rt, rt.alloc());
+}
+
+fn sort_tables(rt: &impl Abort, alloc: Global) -> Option<()> {
+    let mut table = made(rt, disk_1_unsorted(alloc))?;
+    let mut copy = made(rt, table.clone())?;
+    assert!(rt; copy == table);
+    let sorted = table.sort();
+    assert!(rt; (table == copy) == sorted.is_err());
+    made(rt, sorted)?;
+    let edited = copy.apply(Edit::SortEntries);
+    assert!(rt; (table == copy) == edited.is_ok());
+    made(rt, edited)
+}
+
+#[test]
+fn tables_are_sorted_or_there_is_no_memory(rt: HostRuntime) {
+    sort_tables(&rt, rt.alloc());
+}
+
+fn read_entry(rt: &impl Abort, alloc: Global) -> Option<()> {
+    let entries = made(rt, used_entries(alloc, 1))?;
+    let bytes = entries.first()?.encode().to_vec(alloc).ok()?;
+    let mut disk = made(rt, MemoryDisk::new(alloc, bytes))?;
+    let read = made(rt, GPTPartitionEntry::read_from(alloc, &mut disk))?;
+    assert!(rt; entries.first() == Some(&read));
+    Some(())
+}
+
+#[test]
+fn an_entry_is_read_or_there_is_no_memory(rt: HostRuntime) {
+    read_entry(&rt, rt.alloc());
 }
 
 fn read_table(rt: &impl Abort, alloc: Global) -> Option<()> {

@@ -4,7 +4,7 @@ use crate::callers::{
     are_equal, clear_by_iterator, clear_by_number, count_used, exchange, sort_twice, used_numbers,
 };
 use crate::fixtures::{answer, disk_1, disk_1_unsorted, partition, used_names};
-use gptman::{Edit, GPT, GPTPartitionEntry, PartitionName};
+use gptman::{Edit, Fate, GPT, GPTPartitionEntry, PartitionName};
 use std::alloc::Global;
 use std::process::Abort;
 use std::test::Fail;
@@ -226,5 +226,34 @@ fn clones_are_equal(rt: HostRuntime) -> Result<(), Fail> {
     other.apply(Edit::DiskGuid([5; 16]))?;
     assert_eq!(rt; other.header.disk_guid, [5; 16]);
     assert!(rt; !are_equal(&table, &other));
+    Ok(())
+}
+
+#[test]
+fn values_are_printed_for_debugging(rt: HostRuntime) -> Result<(), Fail> {
+    let alloc = rt.alloc();
+    let edits = [Edit::Remove(3), Edit::SortEntries, Edit::DiskGuid([5; 16])];
+    let text = format!(in alloc; "{edits:?}")?;
+    assert_eq!(rt;
+        text.as_str(),
+        "[Remove(3), SortEntries, DiskGuid([5, 5, 5, 5, 5, 5, 5, 5, 5, 5, 5, 5, 5, 5, 5, 5])]"
+    );
+    let put = Edit::Put(1, GPTPartitionEntry::empty(alloc));
+    let text = format!(in alloc; "{put:?}")?;
+    assert!(rt;
+        text.as_str()
+            .starts_with("Put(1, GPTPartitionEntry { partition_type_guid: [0, 0, ")
+    );
+    let table = disk_1(alloc)?;
+    let text = format!(in alloc; "{table:?}")?;
+    assert!(rt;
+        text.as_str().starts_with(
+            "GPT { sector_size: 512, header: GPTHeader { signature: [69, 70, "
+        )
+    );
+    assert!(rt; text.as_str().ends_with(", align: 2048 }"));
+    let fates = [Fate::Old, Fate::New, Fate::Garbage(7)];
+    let text = format!(in alloc; "{fates:?}")?;
+    assert_eq!(rt; text.as_str(), "[Old, New, Garbage(7)]");
     Ok(())
 }
