@@ -1,5 +1,5 @@
 -- What the words of a command line ask for. A text is the list of its bytes.
-use Rattle.std.specs.Prelude.{ℕ, ◌^◌, ◌&&◌, List, [], ◌∷◌, length, map, codes, nat_eq, nat_lt, bytes_eq, Option, Some, None, String, string_bytes, if◌then◌else◌}
+use Rattle.std.specs.Prelude.{ℕ, ◌^◌, ◌<◌, ◌&&◌, IfSome, List, [], ◌∷◌, length, map, codes, nat_eq, nat_lt, bytes_eq, Option, Some, None, String, string_bytes, if◌then◌else◌}
 use Rattle.std.specs.Option.{option_map, option_and_then}
 use Rattle.std.specs.Result.{result_ok}
 use Rattle.std.specs.List.{list_all}
@@ -8,7 +8,6 @@ use Rattle.std.specs.Str.Parse.{digits_value}
 use Rattle.hex.specs.Hex.{decode_sized}
 use Rattle.gptimg_core.specs.declared.words.Command.{Command}
 use Rattle.gptimg_core.specs.declared.words.Command.TheVariants.{New, Show}
-use Rattle.gptimg_core.specs.declared.words.Request.{Request}
 
 -- the bytes of each word
 abbrev pub texts_of : {A : Type 0} → List (String A) → List (List ℕ)
@@ -27,26 +26,29 @@ sector_size_in text = option_and_then (λ size. if nat_eq size 0 then None else 
 abbrev pub guid_in : List ℕ → Option (List ℕ)
 guid_in text = result_ok (decode_sized text 16)
 
--- `new GUID`
-abbrev pub new_in : List (List ℕ) → Option Command
-new_in (guid ∷ []) = option_map (λ bytes. New bytes) (guid_in guid)
-new_in _ = None
+-- such a number, or none where the word is `auto`
+abbrev pub sectors_in : List ℕ → Option (Option ℕ)
+sectors_in text = if bytes_eq text (codes "auto") then Some None else option_map (λ size. Some size) (sector_size_in text)
 
--- `show`
-abbrev pub show_in : List (List ℕ) → Option Command
-show_in [] = Some Show
-show_in _ = None
+-- `new GUID`, with the word for the size of a sector
+abbrev pub new_in : List ℕ → List (List ℕ) → Option Command
+new_in sector (guid ∷ []) = option_and_then (λ size. option_map (λ bytes. New size bytes) (guid_in guid)) (sector_size_in sector)
+new_in sector _ = None
 
--- a command's name and its words
-abbrev pub command_in : List (List ℕ) → Option Command
-command_in [] = None
-command_in (name ∷ words) =
-    if bytes_eq name (codes "new") then new_in words
-    else if bytes_eq name (codes "show") then show_in words
-    else None
+-- `show`, with that word
+abbrev pub show_in : List ℕ → List (List ℕ) → Option Command
+show_in sector [] = option_map (λ size. Show size) (sectors_in sector)
+show_in sector _ = None
 
 -- `SECTOR COMMAND ..`
-abbrev pub request_in : List (List ℕ) → Option Request
-request_in [] = None
-request_in (sector ∷ words) =
-    option_and_then (λ size. option_map (λ asked. record { sector_size = size; command = asked }) (command_in words)) (sector_size_in sector)
+abbrev pub command_in : List (List ℕ) → Option Command
+command_in (sector ∷ name ∷ words) =
+    if bytes_eq name (codes "new") then new_in sector words
+    else if bytes_eq name (codes "show") then show_in sector words
+    else None
+command_in _ = None
+
+-- the size of a sector, where there is one, is above 0
+abbrev pub IsSized : Command → Type 0
+IsSized (New size guid) = 0 < size
+IsSized (Show size) = IfSome size (λ n. 0 < n)

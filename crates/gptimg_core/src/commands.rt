@@ -1,14 +1,15 @@
 //! What the commands do to a disk. Nothing is printed here.
 
-ghost use Rattle.std.specs.Prelude.{◌≡◌, ◌⊎◌, ◌<◌, ℕ, List, IsTrue, IfOk, OnOk, OnErr};
+ghost use Rattle.std.specs.Prelude.{◌≡◌, ◌⊎◌, ◌<◌, ℕ, List, Option, IsTrue, IfOk, IfSome, OnOk, OnErr};
 ghost use Rattle.gptman.specs.Disk.{Keeps, Rose, Wrote};
 ghost use Rattle.gptman.specs.Calls.{OnlyRead, Untouched};
 ghost use Rattle.gptman.specs.Layout.{HasLayout};
 ghost use Rattle.gptman.specs.Stop.{IsStored};
 ghost use Rattle.gptman.specs.Write.{both_ranges};
-ghost use Rattle.gptimg_core.specs.Asks.{made_header, made_table, TellsTable};
+ghost use Rattle.gptimg_core.specs.Words.{IsSized};
+ghost use Rattle.gptimg_core.specs.Asks.{made_header, made_table, IsRead, TellsTable};
 
-use crate::words::{Command, Request};
+use crate::words::Command;
 use gptman::{Disk, GPT, Result};
 use std::alloc::Global;
 
@@ -24,30 +25,42 @@ pub enum Report {
 /// Does what is asked for.
 ///
 /// The errors are those of making, reading and writing a table.
-pub fn perform<D: Disk>(alloc: Global, request: &Request, disk: &mut D) -> Result<Report>
-    requires { 0 < request.now.sector_size }
+pub fn perform<D: Disk>(alloc: Global, command: &Command, disk: &mut D) -> Result<Report>
+    requires { IsSized command.now }
     ensures keeps { Keeps (D.state disk.old) (D.state disk.new) }
-    ensures shown { IsTrue (D.state disk.old).is_honest → request.now.command ≡ Command.Show
+    ensures shown { IsTrue (D.state disk.old).is_honest → (size : Option ℕ) → command.now ≡ Command.Show size
         → OnlyRead (D.state disk.old) (D.state disk.new) }
-    ensures told { IsTrue (D.state disk.old).is_honest → request.now.command ≡ Command.Show
-        → IfOk result (λ report. TellsTable (D.state disk.old).view request.now.sector_size report) }
-    ensures wrote { IsTrue (D.state disk.old).is_honest → (guid : List ℕ) → request.now.command ≡ Command.New guid
-        → let ss = request.now.sector_size in let size = (D.state disk.old).size
-        in Wrote (both_ranges (made_header guid ss size) ss) (D.state disk.old) (D.state disk.new) }
-    ensures stored { IsTrue (D.state disk.old).is_honest → (guid : List ℕ) → request.now.command ≡ Command.New guid
-        → let ss = request.now.sector_size in let size = (D.state disk.old).size
-        in HasLayout (made_header guid ss size) (made_table guid ss size) ss size
+    ensures told { IsTrue (D.state disk.old).is_honest → (size : Option ℕ) → command.now ≡ Command.Show size
+        → Rose (D.state disk.old) (D.state disk.new) ⊎ IfOk result (TellsTable (D.state disk.old).view size) }
+    ensures wrote { IsTrue (D.state disk.old).is_honest → (ss : ℕ) (guid : List ℕ) → command.now ≡ Command.New ss guid
+        → Wrote (both_ranges (made_header guid ss (D.state disk.old).size) ss) (D.state disk.old) (D.state disk.new) }
+    ensures stored { IsTrue (D.state disk.old).is_honest → (ss : ℕ) (guid : List ℕ) → command.now ≡ Command.New ss guid
+        → let size = (D.state disk.old).size in HasLayout (made_header guid ss size) (made_table guid ss size) ss size
         → OnOk result (IsStored (D.state disk.new) ss (made_table guid ss size)) }
     ensures kept { IsTrue (D.state disk.old).is_honest
         → OnErr result (Rose (D.state disk.old) (D.state disk.new) ⊎ Untouched (D.state disk.old) (D.state disk.new)) }
-    ensures written { (guid : List ℕ) → request.now.command ≡ Command.New guid → IfOk result (λ report. report ≡ Report.Written) }
+    ensures written { (ss : ℕ) (guid : List ℕ) → command.now ≡ Command.New ss guid → IfOk result (λ report. report ≡ Report.Written) }
 {
-    match request.command {
-        Command::New { guid } => {
-            write_new(alloc, disk, request.sector_size, guid)?;
+    match *command {
+        Command::New { sector_size, guid } => {
+            write_new(alloc, disk, sector_size, guid)?;
             Ok(Report::Written)
         }
-        Command::Show => Ok(Report::Table(GPT::read_from(alloc, disk, request.sector_size)?)),
+        Command::Show { sector_size } => Ok(Report::Table(read_table(alloc, disk, sector_size)?)),
+    }
+}
+
+// The table on the disk, with sectors of so many bytes, or of a size that is found.
+fn read_table<D: Disk>(alloc: Global, disk: &mut D, sector_size: Option<u64>) -> Result<GPT>
+    requires { IfSome sector_size (λ size. 0 < size) }
+    ensures keeps { Keeps (D.state disk.old) (D.state disk.new) }
+    ensures reads { IsTrue (D.state disk.old).is_honest → OnlyRead (D.state disk.old) (D.state disk.new) }
+    ensures read { IsTrue (D.state disk.old).is_honest → Rose (D.state disk.old) (D.state disk.new)
+        ⊎ IfOk result (IsRead (D.state disk.old).view sector_size) }
+{
+    match sector_size {
+        Some(size) => GPT::read_from(alloc, disk, size),
+        None => GPT::find_from(alloc, disk),
     }
 }
 

@@ -4,6 +4,7 @@ pub mod ArrayOutcomes
 pub mod Assembly
 pub mod BlockBytes
 pub mod ByTable
+pub mod CommonDivisor
 pub mod CopyParts
 pub mod CopyTests
 pub mod CopyThere
@@ -13,6 +14,7 @@ pub mod EntryBytes
 pub mod EntryLists
 pub mod Equal
 pub mod Events
+pub mod Fallback
 pub mod FirstFailing
 pub mod Fitting
 pub mod HeaderBytes

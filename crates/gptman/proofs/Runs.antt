@@ -65,5 +65,9 @@ pub rose_since : (a b c : DiskState) → Keeps a b → Rose b c → Rose a c
 rose_since a b c first (inl more) = inl (omega (arith, more, first.failures))
 rose_since a b c first (inr top) = inr top
 
+pub rose_before : (a b c : DiskState) → Rose a b → Keeps b c → Rose a c
+rose_before a b c (inl more) keeps = inl (omega (arith, more, keeps.failures))
+rose_before a b c (inr top) keeps = inr (omega (arith, top, keeps.failures))
+
 pub keeps_then : {a b c : DiskState} → Keeps a b → Keeps b c → Keeps a c
 keeps_then ab bc = record { size = bc.size ∙ ab.size; honest = bc.honest ∙ ab.honest; failures = omega (arith, ab.failures, bc.failures) }

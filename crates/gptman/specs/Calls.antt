@@ -1,10 +1,11 @@
 -- What the calls answer, and what they leave.
-use Rattle.std.specs.Prelude.{◌≡◌, ◌≢◌, ◌≤◌, ◌<◌, ◌⊎◌, ◌+◌, ◌*◌, ◌^◌, ◌||◌, ℕ, Bool, true, false, List, [], length, Option, Some, None, Result, Ok, Err, IsTrue}
+use Rattle.std.specs.Prelude.{◌≡◌, ◌≢◌, ◌≤◌, ◌<◌, ◌⊎◌, ◌+◌, ◌*◌, ◌^◌, ◌||◌, ◌&&◌, ℕ, Bool, true, false, List, [], length, Option, Some, None, Result, Ok, Err, IsErr, IsTrue}
 use Rattle.gptman.specs.Disk.{DiskState, Agrees, Rose, Wrote, overlay}
 use Rattle.gptman.specs.Bytes.{part}
 use Rattle.gptman.specs.Coding.{header_bytes, array_bytes}
-use Rattle.gptman.specs.Fault.{Fault, io, invalid_signature, invalid_revision, invalid_header_size, invalid_checksum, invalid_array_checksum, overflow, out_of_memory, invalid_entry_size, fault_of}
+use Rattle.gptman.specs.Fault.{Fault, io, invalid_signature, invalid_revision, invalid_header_size, invalid_checksum, invalid_array_checksum, read_error, overflow, out_of_memory, invalid_entry_size, fault_of}
 use Rattle.gptman.specs.Copy.{Copy, entries_start}
+use Rattle.gptman.specs.Reading.{Place, primary, backup, copy_in, fallback, reading_of}
 use Rattle.gptman.specs.Table.{entries_in, sealed}
 use Rattle.gptman.specs.Write.{other_header, write_ranges}
 use Rattle.gptman.specs.declared.error.Error.{Error}
@@ -62,6 +63,19 @@ is_array_fault _ = false
 abbrev pub is_copy_fault : Fault → Bool
 is_copy_fault fault = is_header_fault fault || is_array_fault fault
 
+-- the same but for want of memory, which is no fault of a copy
+abbrev pub is_damage : Fault → Bool
+is_damage out_of_memory = false
+is_damage fault = is_copy_fault fault
+
+-- what reading a table may refuse with
+abbrev pub is_reading_fault : Fault → Bool
+is_reading_fault io = true
+is_reading_fault invalid_signature = true
+is_reading_fault out_of_memory = true
+is_reading_fault (read_error first second) = is_damage first && is_damage second
+is_reading_fault _ = false
+
 -- On an honest disk, calls that only read.
 pub record OnlyRead (old new : DiskState) : Type 0 where
   pub view : new.view ≡ old.view
@@ -76,6 +90,35 @@ pub record Untouched (old new : DiskState) : Type 0 where
 -- the copy that a value stands for
 abbrev pub copy_of : GPT → Copy
 copy_of g = record { header = g.header; entries = entries_in g }
+
+-- The copy is accepted at the primary place, or at the backup place where the primary one is not or the disk failed.
+abbrev pub IsTakenCopy : DiskState → DiskState → ℕ → Copy → Type 0
+IsTakenCopy old new ss copy =
+    (copy_in primary old.view ss ≡ Ok copy) ⊎ ((copy_in backup old.view ss ≡ Ok copy) × (IsErr (copy_in primary old.view ss) ⊎ Rose old new))
+
+-- a copy's fault, or that the disk failed
+abbrev pub IsCopyFault : Place → List ℕ → ℕ → Fault → Type 0
+IsCopyFault place b ss fault = (fault ≡ io) ⊎ (copy_in place b ss ≡ Err fault)
+
+-- Both copies' faults.
+pub record AreBothFaults (b : List ℕ) (ss : ℕ) (fault : Fault) : Type 0 where
+  pub first : Fault
+  pub second : Fault
+  pub is : fault ≡ read_error first second
+  pub at_primary : IsCopyFault primary b ss first
+  pub at_backup : IsCopyFault backup b ss second
+
+-- what a reading may refuse with, also where the disk failed
+abbrev pub IsReadingFault : List ℕ → ℕ → Fault → Type 0
+IsReadingFault b ss fault = (fault ≡ io) ⊎ ((fault ≡ out_of_memory) ⊎ ((reading_of b ss ≡ Err fault) ⊎ AreBothFaults b ss fault))
+
+-- What the fallback answers where the primary copy has a fault: the reading's answer, or want of memory; or the disk failed, in a seek or in the
+-- reading of the backup copy.
+pub data FallsBack {T : Type 0} (result : Result T Error) (f : T → Copy) (b : List ℕ) (ss : ℕ) (first : Fault) (old new : DiskState) : Type 0 where
+  read : answer_of f result ≡ fallback b ss first → FallsBack result f b ss first old new
+  no_memory : Refuses result out_of_memory → FallsBack result f b ss first old new
+  no_seek : Refuses result io → Rose old new → FallsBack result f b ss first old new
+  no_backup : Refuses result (read_error first io) → Rose old new → FallsBack result f b ss first old new
 
 -- at most the checksums differ
 abbrev pub SameButSums : GPTHeader → GPTHeader → Type 0

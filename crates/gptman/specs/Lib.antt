@@ -1,3 +1,4 @@
+pub mod Alignment
 pub mod Bytes
 pub mod Calls
 pub mod Coding

@@ -1,6 +1,6 @@
--- The two places of a table on a disk, and the copy that stands at one.
-use Rattle.std.specs.Prelude.{ℕ, ◌-◌, ◌*◌, ◌/◌, true, false, List, length, nat_lt, Result, Err}
-use Rattle.gptman.specs.Fault.{Fault, invalid_signature}
+-- Reading a table: the copy at the primary place, or else the one at the backup place.
+use Rattle.std.specs.Prelude.{ℕ, ◌-◌, ◌*◌, ◌/◌, ◌&&◌, true, false, List, length, nat_lt, Result, Ok, Err, if◌then◌else◌}
+use Rattle.gptman.specs.Fault.{Fault, invalid_signature, read_error, is_signature_fault}
 use Rattle.gptman.specs.Copy.{Copy, copy_at}
 
 pub data Place : Type 0 where
@@ -16,3 +16,28 @@ place_start backup len ss = (len / ss - 1) * ss
 unfoldable pub copy_in : Place → List ℕ → ℕ → Result Copy Fault
 copy_in primary b ss = copy_at b (place_start primary (length b) ss) ss
 copy_in backup b ss = elim (nat_lt (length b) ss) [ true ↦ Err invalid_signature | false ↦ copy_at b (place_start backup (length b) ss) ss ]
+
+-- the one fault that is said of two
+abbrev pub both : Fault → Fault → Fault
+both first second = if is_signature_fault first && is_signature_fault second then invalid_signature else read_error first second
+
+-- the backup copy, or the fault that is said of it and of the first
+abbrev pub second_copy : Fault → Result Copy Fault → Result Copy Fault
+second_copy first (Ok copy) = Ok copy
+second_copy first (Err second) = Err (both first second)
+
+-- what the reading says where the primary copy has this fault
+abbrev pub fallback : List ℕ → ℕ → Fault → Result Copy Fault
+fallback b ss first = elim (nat_lt (length b) ss) [ true ↦ Err invalid_signature | false ↦ second_copy first (copy_in backup b ss) ]
+
+-- The reading of a disk with these bytes: the copy that it takes, or its fault.
+unfoldable pub reading_of : List ℕ → ℕ → Result Copy Fault
+reading_of b ss = elim (copy_in primary b ss) [ Ok copy ↦ Ok copy | Err first ↦ fallback b ss first ]
+
+-- the place from which it takes it
+unfoldable pub taken_from : List ℕ → ℕ → Place
+taken_from b ss = elim (copy_in primary b ss) [ Ok copy ↦ primary | Err fault ↦ backup ]
+
+-- the sector size that is settled on: 4096 only where 512 shows no signature
+unfoldable pub found_sector_size : List ℕ → ℕ
+found_sector_size b = elim (reading_of b 512) [ Ok copy ↦ 512 | Err fault ↦ if is_signature_fault fault then 4096 else 512 ]

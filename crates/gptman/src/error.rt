@@ -1,6 +1,7 @@
 //! What the calls answer where they refuse: sixteen kinds of error, with their numbers and texts.
 
-ghost use Rattle.std.specs.Prelude.{◌≡◌};
+ghost use Rattle.std.specs.Prelude.{◌≡◌, ◌↔◌, IsTrue};
+ghost use Rattle.gptman.specs.Fault.{fault_of, is_signature_fault, out_of_memory};
 ghost use Rattle.gptman.specs.declared.error.Error.{Io, OutOfMemory};
 
 use std::alloc::{AllocError, AllocFailed};
@@ -63,6 +64,22 @@ pub enum Error {
 
 /// What a call answers.
 pub type Result<T> = std::result::Result<T, Error>;
+
+impl Error {
+    // Whether there was no memory, which is no fault of a disk or of a copy.
+    pub(crate) fn is_out_of_memory(&self) -> bool
+        ensures { IsTrue result ↔ (fault_of self.now ≡ out_of_memory) }
+    {
+        matches!(self, Error::OutOfMemory)
+    }
+
+    // Whether it is that of a header which does not begin as a header.
+    pub(crate) fn is_invalid_signature(&self) -> bool
+        ensures { result ≡ is_signature_fault (fault_of self.now) }
+    {
+        matches!(self, Error::InvalidSignature)
+    }
+}
 
 impl From<io::Error> for Error {
     ghost from_gives = { λ e r. r ≡ Io e };

@@ -14,6 +14,7 @@ use crate::header::{ENTRY_SIZE, HEADER_SIZE};
 use crate::table::entries::Entries;
 use crate::table::iter::{Iter, IterMut};
 
+mod align;
 mod entries;
 pub mod iter;
 mod numbers;

@@ -1,22 +1,33 @@
--- A table that a place holds is what a reading of that place answers.
-use Rattle.std.proofs.Common.{◌≡◌, ◌⊎◌, ⊎_elim, ℕ, List, Ok, Err, sym, ◌∙◌, subst}
-use Rattle.std.specs.Prelude.{Result, IfOk}
-use Rattle.gptman.specs.Calls.{answer_of, copy_of, Fails, Refuses}
+-- A table that both places hold is what a reading answers.
+use Rattle.std.proofs.Common.{◌≡◌, ◌⊎◌, ⊎_elim, inl, inr, ℕ, List, Ok, Err, sym, ap, ◌∙◌, subst}
+use Rattle.std.specs.Prelude.{Result, IfOk, IsErr}
+use Rattle.gptman.specs.Calls.{copy_of, IsTakenCopy}
 use Rattle.gptman.specs.Copy.{Copy}
-use Rattle.gptman.specs.Disk.{DiskState}
-use Rattle.gptman.specs.Fault.{Fault, out_of_memory}
+use Rattle.gptman.specs.Disk.{DiskState, Keeps, Rose}
+use Rattle.gptman.specs.Fault.{Fault}
 use Rattle.gptman.specs.Layout.{Holds}
-use Rattle.gptman.specs.Reading.{Place, copy_in}
+use Rattle.gptman.specs.Reading.{Place, primary, backup, copy_in}
 use Rattle.gptman.specs.Table.{Table, IsForm}
 use Rattle.gptman.specs.declared.error.Error.{Error}
 use Rattle.gptman.specs.declared.table.GPT.{GPT}
+use Rattle.gptman.proofs.Runs.{rose_since}
 
 same_copy : (a b : Copy) → ◌≡◌ {A = Result Copy Fault} (Ok a) (Ok b) → a ≡ b
 same_copy a b is = cc
 
-pub read_back : (place : Place) (b : List ℕ) (ss : ℕ) (t : Table) (r : Result GPT Error) (old new : DiskState) → Holds b ss place t
-    → Fails r old new ⊎ (Refuses r out_of_memory ⊎ (answer_of copy_of r ≡ copy_in place b ss)) → IfOk r (λ g. IsForm place t (copy_of g))
-read_back place b ss t (Err e) old new holds answer = tt
-read_back place b ss t (Ok g) old new holds answer =
-    let is : ◌≡◌ {A = Result Copy Fault} (Ok (copy_of g)) (copy_in place b ss) = ⊎_elim (λ fails. absurd fails.0) (λ rest. ⊎_elim (λ memory. absurd memory) (λ e. e) rest) answer in
-    subst (IsForm place t) (sym (same_copy (copy_of g) holds.copy (is ∙ holds.accepted))) holds.form
+held : (place : Place) (b : List ℕ) (ss : ℕ) (t : Table) (copy : Copy) → Holds b ss place t → copy_in place b ss ≡ Ok copy → IsForm place t copy
+held place b ss t copy holds is = subst (IsForm place t) (same_copy holds.copy copy (sym holds.accepted ∙ is)) holds.form
+
+not_refused : (b : List ℕ) (ss : ℕ) (t : Table) → Holds b ss primary t → ¬ IsErr (copy_in primary b ss)
+not_refused b ss t holds refused = let e = subst (λ (r : Result Copy Fault). IsErr r) holds.accepted refused in cc
+
+-- in primary form, or in backup form where the disk failed
+pub read_back : (t : Table) (ss : ℕ) (r : Result GPT Error) (a b c : DiskState) → Keeps a b → Holds b.view ss primary t → Holds b.view ss backup t
+    → IfOk r (λ g. IsTakenCopy b c ss (copy_of g)) → IfOk r (λ g. IsForm primary t (copy_of g) ⊎ (IsForm backup t (copy_of g) × Rose a c))
+read_back t ss (Err e) a b c keeps first second taken = tt
+read_back t ss (Ok g) a b c keeps first second (inl is) = inl (held primary b.view ss t (copy_of g) first is)
+read_back t ss (Ok g) a b c keeps first second (inr is) =
+    inr (
+      held backup b.view ss t (copy_of g) second is.0,
+      ⊎_elim (λ refused. absurd (not_refused b.view ss t first refused)) (λ rose. rose_since a b c keeps rose) is.1,
+    )

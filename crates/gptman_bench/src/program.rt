@@ -1,6 +1,6 @@
 //! The program over a disk in memory and over a file.
 
-use crate::fixtures::{are_all, disk_of, partition};
+use crate::fixtures::{are_all, complement, disk_of, image_of_new_table, partition};
 use gptimg_core::{USAGE, run};
 use gptman::{Disk, Error, FileDisk, GPTHeader, GPTPartitionEntry, MemoryDisk};
 use std::alloc::Global;
@@ -42,10 +42,12 @@ fn assert_prints<R: Abort>(rt: &R, outcome: &Outcome, status: u8, text: &str) {
 fn new_and_show<R: Abort, D: Disk>(rt: &R, alloc: Global, disk: &mut D) -> Result<(), Fail> {
     let made = call(alloc, disk, &["512", "new", GUID])?;
     assert_prints(rt, &made, 0, "ok\n");
-    let shown = call(alloc, disk, &["512", "show"])?;
     let line =
         "sector 512 form primary disk ffffffffffffffffffffffffffffffff usable 34..66 entries 128 align 2048\n";
-    assert_prints(rt, &shown, 0, line);
+    for sector in ["512", "auto"] {
+        let shown = call(alloc, disk, &[sector, "show"])?;
+        assert_prints(rt, &shown, 0, line);
+    }
     Ok(())
 }
 
@@ -87,7 +89,7 @@ fn used_entries_are_shown(rt: HostRuntime) -> Result<(), Fail> {
     entry.attribute_bits = 4;
     let shown = call(alloc, &mut disk_with(alloc, entry)?, &["512", "show"])?;
     let lines =
-        "sector 512 form primary disk ffffffffffffffffffffffffffffffff usable 34..66 entries 2 align 2048\n2 0a0a0a0a0a0a0a0a0a0a0a0a0a0a0a0a 22222222222222222222222222222222 34..43 0000000000000004 a?b\n";
+        "sector 512 form primary disk ffffffffffffffffffffffffffffffff usable 34..66 entries 2 align 1\n2 0a0a0a0a0a0a0a0a0a0a0a0a0a0a0a0a 22222222222222222222222222222222 34..43 0000000000000004 a?b\n";
     assert_prints(&rt, &shown, 0, lines);
     let mut entry = partition(
         alloc,
@@ -99,7 +101,7 @@ fn used_entries_are_shown(rt: HostRuntime) -> Result<(), Fail> {
     entry.attribute_bits = u64::MAX;
     let shown = call(alloc, &mut disk_with(alloc, entry)?, &["512", "show"])?;
     let lines =
-        "sector 512 form primary disk ffffffffffffffffffffffffffffffff usable 34..66 entries 2 align 2048\n2 0a0a0a0a0a0a0a0a0a0a0a0a0a0a0a0a 22222222222222222222222222222222 0..18446744073709551615 ffffffffffffffff ? ~?\u{80}é\u{1f600}\n";
+        "sector 512 form primary disk ffffffffffffffffffffffffffffffff usable 34..66 entries 2 align 1\n2 0a0a0a0a0a0a0a0a0a0a0a0a0a0a0a0a 22222222222222222222222222222222 0..18446744073709551615 ffffffffffffffff ? ~?\u{80}é\u{1f600}\n";
     assert_prints(&rt, &shown, 0, lines);
     let unnamed = partition(alloc, "", [0x22; 16], 34, 43)?;
     let shown = call(alloc, &mut disk_with(alloc, unnamed)?, &["512", "show"])?;
@@ -127,11 +129,48 @@ fn refusals_are_named(rt: HostRuntime) -> Result<(), Fail> {
     Ok(())
 }
 
+// What `512 show` prints where these bytes of an image with a new table are complemented.
+fn shown_with(alloc: Global, damaged: &[usize]) -> Result<Outcome, Fail> {
+    let mut image = image_of_new_table(alloc, 0)?;
+    for at in damaged {
+        complement(&mut image, *at);
+    }
+    call(alloc, &mut MemoryDisk::new(alloc, image)?, &["512", "show"])
+}
+
+#[test]
+fn damage_in_both_copies_is_named(rt: HostRuntime) -> Result<(), Fail> {
+    let alloc = rt.alloc();
+    let rows: [(&[usize], &str); 4] = [
+        (&[512, 50_688], "fault: InvalidSignature\n"),
+        (
+            &[520, 50_688],
+            "fault: ReadError(InvalidRevision, InvalidSignature)\n",
+        ),
+        (
+            &[524, 50_688],
+            "fault: ReadError(InvalidHeaderSize, InvalidSignature)\n",
+        ),
+        (
+            &[536, 50_688],
+            "fault: ReadError(InvalidChecksum, InvalidSignature)\n",
+        ),
+    ];
+    for (damaged, line) in rows {
+        let refused = shown_with(alloc, damaged)?;
+        assert_prints(&rt, &refused, 1, line);
+    }
+    let line =
+        "sector 512 form backup disk ffffffffffffffffffffffffffffffff usable 34..66 entries 128 align 2048\n";
+    assert_prints(&rt, &shown_with(alloc, &[536])?, 0, line);
+    Ok(())
+}
+
 #[test]
 fn other_words_are_usage(rt: HostRuntime) -> Result<(), Fail> {
     let alloc = rt.alloc();
     let mut disk = MemoryDisk::new(alloc, vec![in alloc; 7; 51_200]?)?;
-    let lines: [&[&str]; 20] = [
+    let lines: [&[&str]; 22] = [
         &[],
         &["512"],
         &["0", "show"],
@@ -142,7 +181,9 @@ fn other_words_are_usage(rt: HostRuntime) -> Result<(), Fail> {
         &["", "show"],
         &["0x200", "show"],
         &["18446744073709551616", "show"],
-        &["auto", "show"],
+        &["auto"],
+        &["auto", "show", "show"],
+        &["Auto", "show"],
         &["512", "shows"],
         &["512", "check"],
         &["512", "show", "show"],

@@ -1,9 +1,12 @@
-//! Damaged and crafted copies: the first test of a copy that fails names its fault.
+//! Damaged and crafted copies: the first test of a copy that fails names its fault, and the other copy
+//! is read. What is read has the alignment that its entries give.
 
 ghost use Rattle.std.specs.Prelude.{◌≡◌, IfOk};
 
-use crate::fixtures::{DISK_GUID, answer, complement, disk_of, image_of_new_table, put};
-use gptman::{GPT, GPTHeader, MemoryDisk};
+use crate::fixtures::{
+    DISK_GUID, answer, complement, disk_of, image_of_new_table, new_table, put, used_entries,
+};
+use gptman::{GPT, GPTHeader, GPTPartitionEntry, MemoryDisk};
 use std::alloc::Global;
 use std::test::Fail;
 
@@ -16,27 +19,35 @@ fn reading(alloc: Global, bytes: Vec<u8>) -> Result<String, Fail> {
 #[test]
 fn no_table_is_read_where_there_is_none(rt: HostRuntime) -> Result<(), Fail> {
     let alloc = rt.alloc();
+    let unread =
+        "could not read primary header (generic I/O error) nor backup header (invalid signature)";
     let rows = [
         (0, 51_200, "invalid signature"),
         (0, 604, "invalid signature"),
-        (0, 603, "generic I/O error"),
-        (1, 5, "generic I/O error"),
-        (0, 0, "generic I/O error"),
+        (0, 600, unread),
+        (0, 512, unread),
+        (0, 511, "invalid signature"),
+        (1, 5, "invalid signature"),
+        (0, 0, "invalid signature"),
     ];
     for (byte, len, said) in rows {
         let bytes = vec![in alloc; byte; len]?;
+        let mut disk = MemoryDisk::new(alloc, bytes.clone()?)?;
         assert_eq!(rt; reading(alloc, bytes)?.as_str(), said, "{len} bytes {byte}");
+        let found = answer(alloc, &GPT::find_from(alloc, &mut disk))?;
+        assert_eq!(rt; found.as_str(), said, "{len} bytes {byte}");
     }
     Ok(())
 }
 
-// The checksums are those of a new table's bytes, made by the CRC-32 of another program.
+// The checksums are those of a new table's bytes, made by the CRC-32 of another program. The backup
+// copy is broken too.
 #[test]
 fn a_damaged_byte_names_its_fault(rt: HostRuntime) -> Result<(), Fail> {
     let alloc = rt.alloc();
-    let image = image_of_new_table(alloc, 0)?;
+    let mut image = image_of_new_table(alloc, 0)?;
+    complement(&mut image, 50_688);
     let rows = [
-        (512, "invalid signature"),
         (520, "invalid revision"),
         (524, "invalid header size"),
         (536, "corrupted CRC32 checksum (2768084836 != 1241953933)"),
@@ -44,15 +55,132 @@ fn a_damaged_byte_names_its_fault(rt: HostRuntime) -> Result<(), Fail> {
             1024,
             "corrupted partition entry array CRC32 checksum (2874462854 != 3776038288)",
         ),
-        (17_408, "ok"),
-        (604, "ok"),
-        (511, "ok"),
-        (50_688, "ok"),
     ];
-    for (at, said) in rows {
+    for (at, fault) in rows {
         let mut bytes = image.clone()?;
         complement(&mut bytes, at);
-        assert_eq!(rt; reading(alloc, bytes)?.as_str(), said, "byte {at}");
+        let said = format!(in alloc;
+            "could not read primary header ({fault}) nor backup header (invalid signature)"
+        )?;
+        assert_eq!(rt; reading(alloc, bytes)?.as_str(), said.as_str(), "byte {at}");
+    }
+    complement(&mut image, 512);
+    assert_eq!(rt; reading(alloc, image)?.as_str(), "invalid signature");
+    Ok(())
+}
+
+// The header sectors of the table that is read where this byte of a new table's image is complemented.
+fn sectors_read(alloc: Global, at: usize) -> Result<(u64, u64, u64), Fail> {
+    let mut image = image_of_new_table(alloc, 0)?;
+    complement(&mut image, at);
+    let table = GPT::read_from(alloc, &mut MemoryDisk::new(alloc, image)?, 512)?;
+    let header = &table.header;
+    Ok((
+        header.primary_lba,
+        header.backup_lba,
+        header.partition_entry_lba,
+    ))
+}
+
+#[test]
+fn one_broken_copy_does_not_lose_the_table(rt: HostRuntime) -> Result<(), Fail> {
+    for at in [512, 520, 524, 528, 603, 1024, 17_407] {
+        assert_eq!(rt; sectors_read(rt.alloc(), at)?, (99, 1, 67), "byte {at}");
+    }
+    for at in [511, 604, 1023, 17_408, 34_304, 50_687, 50_688, 50_780] {
+        assert_eq!(rt; sectors_read(rt.alloc(), at)?, (1, 99, 2), "byte {at}");
+    }
+    Ok(())
+}
+
+#[test]
+fn the_backup_is_in_the_last_whole_sector(rt: HostRuntime) -> Result<(), Fail> {
+    let alloc = rt.alloc();
+    let rows = [
+        (
+            1,
+            "could not read primary header (invalid signature) nor backup header (generic I/O error)",
+        ),
+        (u64::MAX, "invalid signature"),
+    ];
+    for (sector_size, said) in rows {
+        let mut zeros = disk_of(alloc, 0, 51_200)?;
+        let read = answer(alloc, &GPT::read_from(alloc, &mut zeros, sector_size))?;
+        assert_eq!(rt; read.as_str(), said);
+    }
+    let mut image = image_of_new_table(alloc, 0)?;
+    complement(&mut image, 512);
+    image.resize(51_200 + 511, 9)?;
+    let mut disk = MemoryDisk::new(alloc, image)?;
+    assert_eq!(rt;
+        GPT::read_from(alloc, &mut disk, 512)?.header.primary_lba,
+        99
+    );
+    Ok(())
+}
+
+// A disk of 100 sectors of 4096 bytes with a new table.
+fn disk_of_4096(alloc: Global) -> Result<MemoryDisk, Fail> {
+    let mut disk = disk_of(alloc, 0, 409_600)?;
+    new_table(alloc, &mut disk, 4096, DISK_GUID)?.write_into(&mut disk)?;
+    Ok(disk)
+}
+
+#[test]
+fn the_sector_size_is_found(rt: HostRuntime) -> Result<(), Fail> {
+    let alloc = rt.alloc();
+    let mut small = MemoryDisk::new(alloc, image_of_new_table(alloc, 0)?)?;
+    assert_eq!(rt; GPT::find_from(alloc, &mut small)?.sector_size, 512);
+    let mut large = disk_of_4096(alloc)?;
+    let table = GPT::find_from(alloc, &mut large)?;
+    assert_eq!(rt; table.sector_size, 4096);
+    assert!(rt; GPT::read_from(alloc, &mut large, 512).is_err());
+    let mut bytes = large.bytes().to_vec(alloc)?;
+    put(&mut bytes, 512, b"EFI PART");
+    let mut both = MemoryDisk::new(alloc, bytes)?;
+    let said = answer(alloc, &GPT::find_from(alloc, &mut both))?;
+    assert_eq!(rt;
+        said.as_str(),
+        "could not read primary header (invalid revision) nor backup header (invalid signature)"
+    );
+    assert_eq!(rt; GPT::read_from(alloc, &mut both, 4096)?, table);
+    Ok(())
+}
+
+// The alignment of a table with used entries that start at these sectors.
+fn align_of(alloc: Global, starts: &[u64]) -> Result<u64, Fail> {
+    let mut disk = disk_of(alloc, 0, 51_200)?;
+    let mut header = GPTHeader::new_from(&mut disk, 512, DISK_GUID)?;
+    let mut entries = used_entries(alloc, 2)?;
+    for (entry, start) in entries.iter_mut().zip(starts) {
+        entry.starting_lba = *start;
+    }
+    entries.truncate(starts.len());
+    header.number_of_partition_entries = 2;
+    if entries.len() < 2 {
+        entries.push(GPTPartitionEntry::empty(alloc))?;
+    }
+    if entries.len() == 2 && header.header_size == 92 && header.size_of_partition_entry == 128 {
+        header.write_into(&mut disk, 512, &entries)?;
+    }
+    Ok(GPT::read_from(alloc, &mut disk, 512)?.align)
+}
+
+#[test]
+fn the_alignment_is_derived(rt: HostRuntime) -> Result<(), Fail> {
+    let rows: [(&[u64], u64); 9] = [
+        (&[34], 1),
+        (&[35], 35),
+        (&[40, 64], 8),
+        (&[32_770], 6554),
+        (&[65_536, 98_304], 16_384),
+        (&[0, 0], 1),
+        (&[0], 1),
+        (&[u64::MAX], 13_107),
+        (&[34, 34], 34),
+    ];
+    for (starts, align) in rows {
+        assert_eq!(rt; align_of(rt.alloc(), starts)?, align, "starts {starts:?}");
     }
     Ok(())
 }
@@ -108,7 +236,10 @@ fn a_crafted_header_is_refused(rt: HostRuntime) -> Result<(), Fail> {
         };
         let mut disk = crafted(alloc, header)?;
         let read = answer(alloc, &GPT::read_from(alloc, &mut disk, 512))?;
-        assert_eq!(rt; read.as_str(), said);
+        let both = format!(in alloc;
+            "could not read primary header ({said}) nor backup header (invalid signature)"
+        )?;
+        assert_eq!(rt; read.as_str(), both.as_str());
     }
     Ok(())
 }

@@ -1,9 +1,10 @@
 //! A whole table written to a disk, in both of its places.
 
-ghost use Rattle.std.specs.Prelude.{◌≡◌, ◌<◌, All, IfOk, IsTrue};
+ghost use Rattle.std.specs.Prelude.{◌≡◌, ◌<◌, ◌⊎◌, All, IfOk, IsTrue};
 ghost use Rattle.gptman.specs.Calls.{copy_of};
 ghost use Rattle.gptman.specs.Layout.{HasLayout};
-ghost use Rattle.gptman.specs.Reading.{primary};
+ghost use Rattle.gptman.specs.Disk.{Rose};
+ghost use Rattle.gptman.specs.Reading.{backup, primary};
 ghost use Rattle.gptman.specs.Table.{entries_in, table_in, IsCoherent, IsForm, IsUnusedAndOrdered};
 
 use crate::fixtures::{DISK_GUID, answer, are_all, bytes_at, disk_of, new_table};
@@ -12,14 +13,15 @@ use std::alloc::Global;
 use std::test::Fail;
 
 // Writes the table and reads it back. What is read from an honest disk of the stated layout is the
-// table in primary form.
+// table in primary form, or in backup form where the disk failed.
 fn write_and_read<D: Disk>(alloc: Global, table: &mut GPT, disk: &mut D) -> gptman::Result<GPT>
     requires sector { 0 < table.old.sector_size }
     requires coherent { IsCoherent table.old.header (entries_in table.old) }
     requires unused { All IsUnusedAndOrdered (entries_in table.old) }
     ensures { IsTrue (D.state disk.old).is_honest
         → HasLayout table.old.header (table_in table.old) table.old.sector_size (D.state disk.old).size
-        → IfOk result (λ g. IsForm primary (table_in table.old) (copy_of g)) }
+        → IfOk result (λ g. IsForm primary (table_in table.old) (copy_of g)
+        ⊎ (IsForm backup (table_in table.old) (copy_of g) × Rose (D.state disk.old) (D.state disk.new))) }
 {
     let sector_size = table.sector_size;
     table.write_into(disk)?;

@@ -1,15 +1,35 @@
-use Rattle.std.proofs.Common.{◌≡◌, sym, subst}
-use Rattle.gptman.specs.Layout.{HasLayout}
-use Rattle.gptman.specs.Stop.{IsStored}
-use Rattle.gptimg_core.specs.Asks.{made_header, made_table}
-use Rattle.gptimg_core.specs.declared.words.Command.TheVariants.{New}
+use Rattle.std.proofs.Common.{◌≡◌, ⊎_elim, inl, inr}
+use Rattle.gptimg_core.specs.declared.words.Command.TheVariants.{New, Show}
 use Rattle.gptimg_core.proofs.run.Goals as goal
 
 pub returns-in_ok-print_report-in-Ok-clause-stored : goal.returns-in_ok-print_report-in-Ok-clause-stored
 returns-in_ok-print_report-in-Ok-clause-stored g c honest ss guid asks layout done =
-    let size = (g.D.Disk.state c.args.disk.now).size in
-    let same : c.in-Some.request.sector_size ≡ ss = cc c.in-Some.ensures.value in
-    let new : c.in-Some.request.command ≡ New guid = cc c.in-Some.ensures.value in
-    subst (λ x. IsStored (g.D.Disk.state c.perform.new.disk) x (made_table guid x size)) same
-    (c.in-Ok.ensures.stored honest guid new
-    (subst (λ x. HasLayout (made_header guid x size) (made_table guid x size) x size) (sym same) layout))
+    let new : c.in-Some.command ≡ New ss guid = cc c.in-Some.ensures.value in
+    c.in-Ok.ensures.stored honest ss guid new layout
+
+pub returns-in_err-print_report-in-Ok-clause-wrote : goal.returns-in_err-print_report-in-Ok-clause-wrote
+returns-in_err-print_report-in-Ok-clause-wrote g c honest ss guid asks =
+    let new : c.in-Some.command ≡ New ss guid = cc c.in-Some.ensures.value in
+    c.perform.ensures.wrote honest ss guid new
+
+pub returns-in_err-print_fault-in-Err-clause-wrote : goal.returns-in_err-print_fault-in-Err-clause-wrote
+returns-in_err-print_fault-in-Err-clause-wrote g c honest ss guid asks =
+    let new : c.in-Some.command ≡ New ss guid = cc c.in-Some.ensures.value in
+    c.perform.ensures.wrote honest ss guid new
+
+pub returns-in_ok-print_report-in-Ok-clause-wrote : goal.returns-in_ok-print_report-in-Ok-clause-wrote
+returns-in_ok-print_report-in-Ok-clause-wrote g c honest ss guid asks =
+    let new : c.in-Some.command ≡ New ss guid = cc c.in-Some.ensures.value in
+    c.perform.ensures.wrote honest ss guid new
+
+pub returns-in_ok-print_fault-in-Err-clause-wrote : goal.returns-in_ok-print_fault-in-Err-clause-wrote
+returns-in_ok-print_fault-in-Err-clause-wrote g c honest ss guid asks =
+    let new : c.in-Some.command ≡ New ss guid = cc c.in-Some.ensures.value in
+    c.perform.ensures.wrote honest ss guid new
+
+pub returns-in_ok-print_report-in-Ok-clause-prints_table : goal.returns-in_ok-print_report-in-Ok-clause-prints_table
+returns-in_ok-print_report-in-Ok-clause-prints_table g c honest size asks done =
+    let show : c.in-Some.command ≡ Show size = cc c.in-Some.ensures.value in
+    ⊎_elim (λ rose. inl rose)
+    (λ tells. inr (record { table = tells.table; read = tells.read; printed = c.in_ok-print_report-in-Ok.ensures.table tells.table tells.told }))
+    (c.in-Ok.ensures.told honest size show)

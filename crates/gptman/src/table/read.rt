@@ -1,24 +1,24 @@
 //! Making a table for a disk, and reading the one that a disk holds.
 
-ghost use Rattle.std.specs.Prelude.{◌≡◌, ◌<◌, ◌⊎◌, replicate, IsTrue, IfOk, IfErr, OnOk};
+ghost use Rattle.std.specs.Prelude.{◌≡◌, ◌≢◌, ◌≤◌, ◌<◌, ◌-◌, ◌*◌, ◌/◌, ◌⊎◌, Ok, Err, replicate, IsTrue, IfOk, IfErr, OnOk};
 ghost use Rattle.gptman.specs.Coding.{empty_entry};
 ghost use Rattle.gptman.specs.Disk.{Keeps, Rose};
-ghost use Rattle.gptman.specs.Fault.{fault_of, io as io_fault, out_of_memory, overflow};
+ghost use Rattle.gptman.specs.Fault.{fault_of, invalid_signature, io as io_fault, out_of_memory};
 ghost use Rattle.gptman.specs.Fit.{new_header, fit_fault};
-ghost use Rattle.gptman.specs.Reading.{copy_in, primary};
+ghost use Rattle.gptman.specs.Alignment.{IsAlignment};
+ghost use Rattle.gptman.specs.Copy.{copy_at};
+ghost use Rattle.gptman.specs.Reading.{both, copy_in, found_sector_size, primary, reading_of, second_copy};
 ghost use Rattle.gptman.specs.Table.{entries_in, IsCoherent, new_table};
-ghost use Rattle.gptman.specs.Calls.{answer_of, Refuses, RefusesOnly, Fails, Settles, OnlyRead, copy_of, is_copy_fault};
+ghost use Rattle.gptman.specs.Calls.{answer_of, Refuses, RefusesOnly, Fails, Settles, OnlyRead, FallsBack, IsTakenCopy, IsReadingFault, copy_of, is_copy_fault, is_damage, is_reading_fault};
 
 use crate::codec::entry::GPTPartitionEntry;
 use crate::codec::header::GPTHeader;
 use crate::disk::Disk;
-use crate::error::Result;
+use crate::error::{Error, Result};
 use crate::table::GPT;
+use crate::table::align::{DEFAULT_ALIGN, find_alignment};
 use crate::table::entries::Entries;
 use std::alloc::Global;
-
-/// The alignment of a table with no used entry, in sectors.
-const DEFAULT_ALIGN: u64 = 2048;
 
 impl GPT {
     /// A new table of 128 unused entries, in primary form, fitted to the disk. The sector size is in
@@ -49,34 +49,201 @@ impl GPT {
         })
     }
 
-    /// The table that the disk holds at its primary place, in sector 1. The sector size is in bytes.
+    /// The table that the disk holds: the copy at its primary place, in sector 1, or where that one
+    /// has a fault the copy at its backup place, in the last whole sector. The sector size is in bytes.
+    /// The value has the header and the entries of the copy that was taken, and the alignment that they
+    /// give.
     ///
-    /// The first test that fails names the error: `Io` where the disk failed or ends before, then
-    /// `InvalidSignature`, `InvalidRevision`, `InvalidHeaderSize`, `InvalidChecksum` of the header, and
-    /// then `InvalidPartitionEntrySize`, `Overflow`, `Io` and `InvalidPartitionEntryArrayChecksum` of
-    /// the entries. `OutOfMemory` where there is no memory for the entries.
+    /// Where both copies have a fault, `InvalidSignature` if that is the fault of both or if the disk is
+    /// shorter than a sector, else `ReadError` with both. The fault of a copy is the first test that
+    /// fails: `Io` where the disk failed or ends before, then `InvalidSignature`, `InvalidRevision`,
+    /// `InvalidHeaderSize`, `InvalidChecksum` of the header, and then `InvalidPartitionEntrySize`,
+    /// `Overflow`, `Io` and `InvalidPartitionEntryArrayChecksum` of the entries. `Io` alone where the
+    /// length cannot be taken or the backup place cannot be gone to. `OutOfMemory`, at once, where there
+    /// is no memory for the entries or for the two faults.
     pub fn read_from<D: Disk>(alloc: Global, disk: &mut D, sector_size: u64) -> Result<GPT>
         requires { 0 < sector_size }
         ensures keeps { Keeps (D.state disk.old) (D.state disk.new) }
         ensures reads { IsTrue (D.state disk.old).is_honest → OnlyRead (D.state disk.old) (D.state disk.new) }
-        ensures answer { IsTrue (D.state disk.old).is_honest → Fails result (D.state disk.old) (D.state disk.new)
+
+        // Where the disk did not fail, the answer is the reading's, or that there is no memory.
+        ensures answer { IsTrue (D.state disk.old).is_honest → Rose (D.state disk.old) (D.state disk.new)
             ⊎ (Refuses result out_of_memory
-            ⊎ (answer_of copy_of result ≡ copy_in primary (D.state disk.old).view sector_size)) }
-        ensures refused { RefusesOnly is_copy_fault result }
+            ⊎ (answer_of copy_of result ≡ reading_of (D.state disk.old).view sector_size)) }
+
+        // Also where it failed, what is read is an accepted copy, and a refusal is the disk's or a copy's own.
+        ensures accepted { IsTrue (D.state disk.old).is_honest
+            → IfOk result (λ g. IsTakenCopy (D.state disk.old) (D.state disk.new) sector_size (copy_of g)) }
+        ensures refused { IsTrue (D.state disk.old).is_honest
+            → IfErr result (λ e. IsReadingFault (D.state disk.old).view sector_size (fault_of e)) }
+        ensures kinds { RefusesOnly is_reading_fault result }
+        ensures cause { Refuses result io_fault → Rose (D.state disk.old) (D.state disk.new) }
+
+        // What is read.
         ensures coherent { IfOk result (λ g. IsCoherent g.header (entries_in g)) }
         ensures sector { IfOk result (λ g. g.sector_size ≡ sector_size) }
-        ensures align { IfOk result (λ g. g.align ≡ 2048) }
+        ensures align { IfOk result (λ g. IsAlignment g.header (entries_in g) g.align) }
     {
-        disk.seek_start(sector_size)?;
-        let header = GPTHeader::read_from(disk)?;
-        let partitions = header.read_partitions(alloc, disk, sector_size)?;
-        Ok(GPT {
-            sector_size,
-            header,
-            partitions: Entries::new(partitions),
-            align: DEFAULT_ALIGN,
-        })
+        let primary = match read_primary(alloc, disk, sector_size) {
+            Ok(table) => return Ok(table),
+            Err(primary) => primary,
+        };
+        if primary.is_out_of_memory() {
+            return Err(primary);
+        }
+        read_backup(alloc, disk, sector_size, primary)
     }
+
+    /// The table that the disk holds, as `read_from` reads it with sectors of 512 bytes, or with
+    /// sectors of 4096 bytes where that one answers `InvalidSignature`.
+    ///
+    /// The errors are those of `read_from`.
+    pub fn find_from<D: Disk>(alloc: Global, disk: &mut D) -> Result<GPT>
+        ensures keeps { Keeps (D.state disk.old) (D.state disk.new) }
+        ensures reads { IsTrue (D.state disk.old).is_honest → OnlyRead (D.state disk.old) (D.state disk.new) }
+
+        // Where the disk did not fail, the answer is that of the reading with one of the sizes, or that there is no memory.
+        ensures answer { IsTrue (D.state disk.old).is_honest → Rose (D.state disk.old) (D.state disk.new)
+            ⊎ (Refuses result out_of_memory
+            ⊎ (answer_of copy_of result ≡ reading_of (D.state disk.old).view (found_sector_size (D.state disk.old).view))) }
+
+        // Also where it failed, 4096 is tried only where 512 shows no signature.
+        ensures accepted { IsTrue (D.state disk.old).is_honest
+            → IfOk result (λ g. IsTakenCopy (D.state disk.old) (D.state disk.new) g.sector_size (copy_of g)) }
+        ensures found { IsTrue (D.state disk.old).is_honest → Rose (D.state disk.old) (D.state disk.new)
+            ⊎ IfOk result (λ g. g.sector_size ≡ found_sector_size (D.state disk.old).view) }
+        ensures second { IsTrue (D.state disk.old).is_honest
+            → IfOk result (λ g. (g.sector_size ≡ 512) ⊎ ((g.sector_size ≡ 4096) × (reading_of (D.state disk.old).view 512 ≡ Err invalid_signature))) }
+        ensures refused { IsTrue (D.state disk.old).is_honest
+            → IfErr result (λ e. IsReadingFault (D.state disk.old).view 512 (fault_of e)
+            ⊎ ((reading_of (D.state disk.old).view 512 ≡ Err invalid_signature) × IsReadingFault (D.state disk.old).view 4096 (fault_of e))) }
+        ensures kinds { RefusesOnly is_reading_fault result }
+        ensures cause { Refuses result io_fault → Rose (D.state disk.old) (D.state disk.new) }
+
+        // What is read.
+        ensures coherent { IfOk result (λ g. IsCoherent g.header (entries_in g)) }
+        ensures sector { IfOk result (λ g. (g.sector_size ≡ 512) ⊎ (g.sector_size ≡ 4096)) }
+        ensures align { IfOk result (λ g. IsAlignment g.header (entries_in g) g.align) }
+    {
+        let fault = match GPT::read_from(alloc, disk, 512) {
+            Ok(table) => return Ok(table),
+            Err(fault) => fault,
+        };
+        if !fault.is_invalid_signature() {
+            return Err(fault);
+        }
+        GPT::read_from(alloc, disk, 4096)
+    }
+}
+
+// The copy at the primary place.
+fn read_primary<D: Disk>(alloc: Global, disk: &mut D, sector_size: u64) -> Result<GPT>
+    requires { 0 < sector_size }
+    ensures keeps { Keeps (D.state disk.old) (D.state disk.new) }
+    ensures reads { IsTrue (D.state disk.old).is_honest → OnlyRead (D.state disk.old) (D.state disk.new) }
+    ensures answer { IsTrue (D.state disk.old).is_honest → Fails result (D.state disk.old) (D.state disk.new)
+        ⊎ (Refuses result out_of_memory
+        ⊎ (answer_of copy_of result ≡ copy_in primary (D.state disk.old).view sector_size)) }
+    ensures refused { RefusesOnly is_copy_fault result }
+    ensures coherent { IfOk result (λ g. IsCoherent g.header (entries_in g)) }
+    ensures sector { IfOk result (λ g. g.sector_size ≡ sector_size) }
+    ensures align { IfOk result (λ g. IsAlignment g.header (entries_in g) g.align) }
+{
+    disk.seek_start(sector_size)?;
+    read_copy(alloc, disk, sector_size)
+}
+
+// The copy at the backup place, where the primary one has this fault.
+fn read_backup<D: Disk>(
+    alloc: Global,
+    disk: &mut D,
+    sector_size: u64,
+    primary: Error,
+) -> Result<GPT>
+    requires sector { 0 < sector_size }
+    requires damage { IsTrue (is_damage (fault_of primary)) }
+    ensures keeps { Keeps (D.state disk.old) (D.state disk.new) }
+    ensures reads { IsTrue (D.state disk.old).is_honest → OnlyRead (D.state disk.old) (D.state disk.new) }
+    ensures answer { IsTrue (D.state disk.old).is_honest
+        → FallsBack result copy_of (D.state disk.old).view sector_size (fault_of primary) (D.state disk.old) (D.state disk.new) }
+    ensures kinds { RefusesOnly is_reading_fault result }
+    ensures cause { Refuses result io_fault → Rose (D.state disk.old) (D.state disk.new) }
+    ensures coherent { IfOk result (λ g. IsCoherent g.header (entries_in g)) }
+    ensures sector_size { IfOk result (λ g. g.sector_size ≡ sector_size) }
+    ensures align { IfOk result (λ g. IsAlignment g.header (entries_in g) g.align) }
+{
+    let size = disk.seek_end()?;
+    if size < sector_size {
+        return Err(Error::InvalidSignature);
+    }
+    disk.seek_start(last_sector(size, sector_size))?;
+    let backup = read_copy(alloc, disk, sector_size);
+    settle(alloc, primary, backup)
+}
+
+// What is answered where the primary copy has this fault, and the backup copy was read so.
+fn settle(alloc: Global, primary: Error, backup: Result<GPT>) -> Result<GPT>
+    requires damage { IsTrue (is_damage (fault_of primary)) }
+    requires faults { RefusesOnly is_copy_fault backup }
+    ensures answer { Refuses result out_of_memory ⊎ (answer_of copy_of result ≡ second_copy (fault_of primary) (answer_of copy_of backup)) }
+    ensures same { IfOk result (λ g. backup ≡ Ok g) }
+    ensures memory { Refuses backup out_of_memory → Refuses result out_of_memory }
+    ensures kinds { IfErr result (λ e. (fault_of e ≢ io_fault) × IsTrue (is_reading_fault (fault_of e))) }
+{
+    let backup = match backup {
+        Ok(table) => return Ok(table),
+        Err(backup) => backup,
+    };
+    if backup.is_out_of_memory() {
+        return Err(backup);
+    }
+    Err(both(alloc, primary, backup)?)
+}
+
+// The first byte of the last whole sector.
+fn last_sector(size: u64, sector_size: u64) -> u64
+    requires sector { 0 < sector_size }
+    requires room { sector_size ≤ size }
+    ensures { result ≡ (size / sector_size - 1) * sector_size }
+{
+    (size / sector_size - 1) * sector_size
+}
+
+// The copy whose header is at the disk's position.
+fn read_copy<D: Disk>(alloc: Global, disk: &mut D, sector_size: u64) -> Result<GPT>
+    requires { 0 < sector_size }
+    ensures keeps { Keeps (D.state disk.old) (D.state disk.new) }
+    ensures reads { IsTrue (D.state disk.old).is_honest → OnlyRead (D.state disk.old) (D.state disk.new) }
+    ensures answer { IsTrue (D.state disk.old).is_honest → Fails result (D.state disk.old) (D.state disk.new)
+        ⊎ (Refuses result out_of_memory
+        ⊎ (answer_of copy_of result ≡ copy_at (D.state disk.old).view (D.state disk.old).position sector_size)) }
+    ensures refused { RefusesOnly is_copy_fault result }
+    ensures coherent { IfOk result (λ g. IsCoherent g.header (entries_in g)) }
+    ensures sector { IfOk result (λ g. g.sector_size ≡ sector_size) }
+    ensures align { IfOk result (λ g. IsAlignment g.header (entries_in g) g.align) }
+{
+    let header = GPTHeader::read_from(disk)?;
+    let partitions = header.read_partitions(alloc, disk, sector_size)?;
+    let align = find_alignment(&partitions, header.first_usable_lba);
+    Ok(GPT {
+        sector_size,
+        header,
+        partitions: Entries::new(partitions),
+        align,
+    })
+}
+
+// The one fault that is said of two.
+fn both(alloc: Global, primary: Error, backup: Error) -> Result<Error>
+    ensures both { IfOk result (λ e. fault_of e ≡ both (fault_of primary) (fault_of backup)) }
+    ensures refused { IfErr result (λ e. fault_of e ≡ out_of_memory) }
+{
+    if primary.is_invalid_signature() && backup.is_invalid_signature() {
+        return Ok(Error::InvalidSignature);
+    }
+    let primary = Box::new(alloc, primary)?;
+    let backup = Box::new(alloc, backup)?;
+    Ok(Error::ReadError(primary, backup))
 }
 
 // 128 unused entries.

@@ -1,0 +1,141 @@
+-- The reading of a disk whose primary copy has a fault.
+use Rattle.std.proofs.Common.{◌≡◌, ◌≢◌, inl, inr, ◌≤◌, ◌<◌, ℕ, ◌-◌, ◌*◌, ◌/◌, ◌&&◌, Bool, true, false, List, length, ltb, Result, Ok, Err, arith, refl, sym, ap, ◌∙◌}
+use Rattle.std.specs.Prelude.{IfErr, IsTrue, if◌then◌else◌}
+use Rattle.std.proofs.lemmas.Bool.{and_from}
+use Rattle.gptman.specs.Calls.{answer_of, copy_of, is_copy_fault, is_damage, is_reading_fault, FallsBack, IsCopyFault, IsReadingFault, Refuses, read, no_memory, no_seek, no_backup}
+use Rattle.gptman.specs.Copy.{Copy, copy_at}
+use Rattle.gptman.specs.Disk.{DiskState}
+use Rattle.gptman.specs.Fault.{Fault, fault_of, is_signature_fault, io, invalid_signature, invalid_revision, invalid_header_size, invalid_checksum, invalid_array_checksum, read_error, no_space_left, conflict_partition_guid, invalid_partition_boundaries, invalid_partition_number, unused_partition, partition_not_found, overflow, out_of_memory, invalid_entry_size}
+use Rattle.gptman.specs.Reading.{primary, backup, both, copy_in, fallback, found_sector_size, reading_of, second_copy}
+use Rattle.gptman.specs.declared.error.Error.{Error}
+use Rattle.gptman.specs.declared.table.GPT.{GPT}
+use Rattle.gptman.proofs.CopyParts.{header_refused}
+use Rattle.gptman.proofs.CopyTests.{header_short}
+
+-- a copy's fault that is no want of memory is damage
+pub damage_from : (f : Fault) → is_copy_fault f ≡ true → f ≢ out_of_memory → is_damage f ≡ true
+damage_from io h known = h
+damage_from invalid_signature h known = h
+damage_from invalid_revision h known = h
+damage_from invalid_header_size h known = h
+damage_from (invalid_checksum s c) h known = h
+damage_from (invalid_array_checksum s c) h known = h
+damage_from (read_error f s) h known = h
+damage_from no_space_left h known = h
+damage_from conflict_partition_guid h known = h
+damage_from invalid_partition_boundaries h known = h
+damage_from (invalid_partition_number n) h known = h
+damage_from unused_partition h known = h
+damage_from partition_not_found h known = h
+damage_from overflow h known = h
+damage_from out_of_memory h known = absurd (known refl)
+damage_from (invalid_entry_size n) h known = h
+
+kinds_by : (first second : Fault) (t : Bool) → is_damage first ≡ true → is_damage second ≡ true → is_signature_fault first && is_signature_fault second ≡ t
+    → (both first second ≢ io) × IsTrue (is_reading_fault (both first second))
+kinds_by first second true d e is = rw is ((λ same. cc), refl)
+kinds_by first second false d e is = rw is ((λ same. cc), and_from (is_damage first) (is_damage second) d e)
+
+-- what is said of two faults is one of a reading, and no failure of the disk
+pub both_kinds : (first second : Fault) → is_damage first ≡ true → is_damage second ≡ true → (both first second ≢ io) × IsTrue (is_reading_fault (both first second))
+both_kinds first second d e = kinds_by first second (is_signature_fault first && is_signature_fault second) d e refl
+
+by_io : (first : Fault) (t : Bool) → is_signature_fault first ≡ t → both first io ≡ read_error first io
+by_io first true is = rw is refl
+by_io first false is = rw is refl
+
+pub both_io : (first : Fault) → both first io ≡ read_error first io
+both_io first = by_io first (is_signature_fault first) refl
+
+pub refused_answer : {T : Type 0} (f : T → Copy) (r : Result T Error) (fault : Fault) → Refuses r fault → answer_of f r ≡ Err fault
+refused_answer f (Ok x) fault refused = absurd refused
+refused_answer f (Err e) fault refused = ap Err refused
+
+pub answer_refused : {T : Type 0} (f : T → Copy) (r : Result T Error) (fault : Fault) → answer_of f r ≡ Err fault → Refuses r fault
+answer_refused f (Ok x) fault is = absurd (cc)
+answer_refused f (Err e) fault is = cc
+
+-- where the primary copy is accepted it is taken
+pub taken_first : (b : List ℕ) (ss : ℕ) (copy : Copy) → copy_in primary b ss ≡ Ok copy → reading_of b ss ≡ Ok copy
+unfolding reading_of
+taken_first b ss copy is =
+    let choose : Result Copy Fault → Result Copy Fault = λ r. elim r [ Ok c ↦ Ok c | Err first ↦ fallback b ss first ] in
+    ap choose is
+
+-- where it is not, the fallback is
+pub refused_first : (b : List ℕ) (ss : ℕ) (fault : Fault) → copy_in primary b ss ≡ Err fault → reading_of b ss ≡ fallback b ss fault
+unfolding reading_of
+refused_first b ss fault is =
+    let choose : Result Copy Fault → Result Copy Fault = λ r. elim r [ Ok c ↦ Ok c | Err first ↦ fallback b ss first ] in
+    ap choose is
+
+pub fallback_short : (b : List ℕ) (ss : ℕ) (first : Fault) → length b < ss → fallback b ss first ≡ Err invalid_signature
+fallback_short b ss first short =
+    let t : ltb (length b) ss ≡ true = grind arith in
+    let choose : Bool → Result Copy Fault = λ small. elim small [ true ↦ Err invalid_signature | false ↦ second_copy first (copy_in backup b ss) ] in
+    ap choose t
+
+pub fallback_long : (b : List ℕ) (ss : ℕ) (first : Fault) → ss ≤ length b → fallback b ss first ≡ second_copy first (copy_in backup b ss)
+fallback_long b ss first long =
+    let t : ltb (length b) ss ≡ false = grind arith in
+    let choose : Bool → Result Copy Fault = λ small. elim small [ true ↦ Err invalid_signature | false ↦ second_copy first (copy_in backup b ss) ] in
+    ap choose t
+
+pub backup_long : (b : List ℕ) (ss : ℕ) → ss ≤ length b → copy_in backup b ss ≡ copy_at b ((length b / ss - 1) * ss) ss
+unfolding copy_in
+backup_long b ss long =
+    let t : ltb (length b) ss ≡ false = grind arith in
+    let choose : Bool → Result Copy Fault = λ small. elim small [ true ↦ Err invalid_signature | false ↦ copy_at b ((length b / ss - 1) * ss) ss ] in
+    ap choose t
+
+primary_at : (b : List ℕ) (ss : ℕ) → copy_in primary b ss ≡ copy_at b ss ss
+unfolding copy_in
+primary_at b ss = refl
+
+-- a disk that is shorter than a sector has no signature
+reading_short : (b : List ℕ) (ss : ℕ) → length b < ss → reading_of b ss ≡ Err invalid_signature
+reading_short b ss short =
+    let far : copy_at b ss ss ≡ Err io = header_refused b ss ss io (header_short b ss (omega (arith, short))) in
+    refused_first b ss io (primary_at b ss ∙ far) ∙ fallback_short b ss io short
+
+-- the fault that it gives where the disk failed at the primary place
+fallback_err : (b : List ℕ) (ss : ℕ) (fault : Fault) → Err fault ≡ fallback b ss io → IsReadingFault b ss fault
+fallback_err b ss fault is = by_length (ltb (length b) ss) refl
+  where
+    second_err : (r : Result Copy Fault) → copy_in backup b ss ≡ r → Err fault ≡ second_copy io r → IsReadingFault b ss fault
+    second_err (Ok copy) at same = absurd (cc)
+    second_err (Err second) at same =
+        let said : fault ≡ read_error io second = cc in
+        inr (inr (inr (record { first = io; second = second; is = said; at_primary = inl refl; at_backup = inr at })))
+
+    by_length : (t : Bool) → ltb (length b) ss ≡ t → IsReadingFault b ss fault
+    by_length true small =
+        let short : length b < ss = grind arith in
+        inr (inr (inl (reading_short b ss short ∙ sym (is ∙ fallback_short b ss io short))))
+    by_length false large = second_err (copy_in backup b ss) refl (is ∙ fallback_long b ss io (grind arith))
+
+-- what a refusal of the whole reading is
+pub reading_refused : (r : Result GPT Error) (b : List ℕ) (ss : ℕ) (first : Fault) (old new : DiskState) → IsCopyFault primary b ss first → FallsBack r copy_of b ss first old new
+    → IfErr r (λ e. IsReadingFault b ss (fault_of e))
+reading_refused (Ok g) b ss first old new at back = tt
+reading_refused (Err e) b ss first old new (inl failed) (read is) = fallback_err b ss (fault_of e) (is ∙ ap (fallback b ss) failed)
+reading_refused (Err e) b ss first old new (inr at) (read is) = inr (inr (inl (refused_first b ss first at ∙ sym is)))
+reading_refused (Err e) b ss first old new at (no_memory out) = inr (inl out)
+reading_refused (Err e) b ss first old new at (no_seek failed rose) = inl failed
+reading_refused (Err e) b ss first old new at (no_backup said rose) = inr (inr (inr (record { first = first; second = io; is = said; at_primary = at; at_backup = inl refl })))
+
+abbrev size_by : Result Copy Fault → ℕ
+size_by r = elim r [ Ok copy ↦ 512 | Err fault ↦ if is_signature_fault fault then 4096 else 512 ]
+
+-- the sector size that is settled on
+pub found_ok : (b : List ℕ) (copy : Copy) → reading_of b 512 ≡ Ok copy → found_sector_size b ≡ 512
+unfolding found_sector_size
+found_ok b copy is = ap size_by is
+
+pub found_first : (b : List ℕ) (fault : Fault) → reading_of b 512 ≡ Err fault → is_signature_fault fault ≡ false → found_sector_size b ≡ 512
+unfolding found_sector_size
+found_first b fault is other = ap size_by is ∙ rw other refl
+
+pub found_second : (b : List ℕ) (fault : Fault) → reading_of b 512 ≡ Err fault → is_signature_fault fault ≡ true → found_sector_size b ≡ 4096
+unfolding found_sector_size
+found_second b fault is none = ap size_by is ∙ rw none refl
