@@ -31,7 +31,9 @@ pub mod Pieces
 pub mod Ranges
 pub mod ReadEntry
 pub mod Readers
+pub mod ReadingLaw
 pub mod Runs
+pub mod SameTable
 pub mod Sealing
 pub mod Sorting
 pub mod Stops

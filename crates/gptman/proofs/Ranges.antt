@@ -56,10 +56,10 @@ within_first {n = n} is = record { covers = λ k o. (subst (λ x. (k < x) ⊎ (x
 pub within_later : {rs ss : Ranges} {s : ℕ × ℕ} → Within rs ss → Within rs (s ∷ ss)
 within_later within = record { covers = λ k o. within.covers k o.1 }
 
-pub contains_first : (r : ℕ × ℕ) (rs : Ranges) → Contains (r ∷ rs) r
+pub contains_first : {X : Type 0} (r : X) (rs : List X) → Contains (r ∷ rs) r
 contains_first r rs = (0, omega arith, refl)
 
-pub contains_later : (r s : ℕ × ℕ) (rs : Ranges) → Contains rs r → Contains (s ∷ rs) r
+pub contains_later : {X : Type 0} (r s : X) (rs : List X) → Contains rs r → Contains (s ∷ rs) r
 contains_later r s rs has = (suc has.0, omega (arith, has.1), has.2)
 
 -- a range that lies within the first of others

@@ -1,8 +1,9 @@
--- What a disk holds once a table is stored on it.
-use Rattle.std.specs.Prelude.{◌≡◌, ℕ, []}
+-- What a disk holds, and what a reading of it gives.
+use Rattle.std.specs.Prelude.{◌≡◌, ℕ, List, [], Ok, Contains}
 use Rattle.gptman.specs.Disk.{DiskState}
-use Rattle.gptman.specs.Reading.{primary, backup}
-use Rattle.gptman.specs.Table.{Table}
+use Rattle.gptman.specs.Copy.{Copy}
+use Rattle.gptman.specs.Reading.{Place, primary, backup, reading_of, taken_from}
+use Rattle.gptman.specs.Table.{Table, IsForm}
 use Rattle.gptman.specs.Layout.{Holds}
 
 -- Nothing is pending, and both places of the view hold the table.
@@ -10,3 +11,28 @@ pub record IsStored (disk : DiskState) (ss : ℕ) (t : Table) : Type 0 where
   pub synced : disk.pending ≡ []
   pub at_primary : Holds disk.view ss primary t
   pub at_backup : Holds disk.view ss backup t
+
+-- The reading takes a copy that is, in its place's form, no table of the list.
+pub record ReadsForeign (b : List ℕ) (ss : ℕ) (tables : List Table) : Type 0 where
+  pub copy : Copy
+  pub taken : reading_of b ss ≡ Ok copy
+  pub foreign : (t : Table) → Contains tables t → ¬ IsForm (taken_from b ss) t copy
+
+-- One place at least holds a table of the list.
+pub record HoldsOneOf (b : List ℕ) (ss : ℕ) (tables : List Table) : Type 0 where
+  pub place : Place
+  pub table : Table
+  pub listed : Contains tables table
+  pub holds : Holds b ss place table
+
+-- The reading gives a table of the list, in the form of the place from which it is taken.
+pub record ReadsOneOf (b : List ℕ) (ss : ℕ) (tables : List Table) : Type 0 where
+  pub copy : Copy
+  pub taken : reading_of b ss ≡ Ok copy
+  pub table : Table
+  pub listed : Contains tables table
+  pub form : IsForm (taken_from b ss) table copy
+
+-- A disk that holds a table of a list at one place at least, and is not read as a foreign one, is read as one of the list.
+abbrev pub ReadsWhatItHolds : Type 0
+ReadsWhatItHolds = (b : List ℕ) (ss : ℕ) (tables : List Table) → HoldsOneOf b ss tables → ¬ ReadsForeign b ss tables → ReadsOneOf b ss tables

@@ -17,6 +17,7 @@ use crate::table::iter::{Iter, IterMut};
 mod align;
 mod entries;
 pub mod iter;
+pub mod laws;
 mod numbers;
 mod read;
 mod sort;

@@ -1,5 +1,5 @@
 -- A table that both places hold is what a reading answers.
-use Rattle.std.proofs.Common.{◌≡◌, ◌⊎◌, ⊎_elim, inl, inr, ℕ, List, Ok, Err, sym, ap, ◌∙◌, subst}
+use Rattle.std.proofs.Common.{◌≡◌, ◌⊎◌, ⊎_elim, inl, inr, ℕ, List, Ok, Err, sym, ◌∙◌, subst}
 use Rattle.std.specs.Prelude.{Result, IfOk, IsErr}
 use Rattle.gptman.specs.Calls.{copy_of, IsTakenCopy}
 use Rattle.gptman.specs.Copy.{Copy}

@@ -7,6 +7,8 @@ mod callers;
 #[cfg(test)]
 mod codec;
 #[cfg(test)]
+mod damage;
+#[cfg(test)]
 mod entries;
 #[cfg(test)]
 mod errors;
@@ -26,6 +28,8 @@ mod list;
 mod memory;
 #[cfg(test)]
 mod names;
+#[cfg(test)]
+mod oracle;
 #[cfg(test)]
 mod program;
 #[cfg(test)]

@@ -1,0 +1,56 @@
+-- A disk that holds a table of a list at one place at least, and whose reading takes no foreign copy, is read as one of the list.
+use Rattle.std.proofs.Common.{◌≡◌, ◌≤◌, ℕ, Bool, true, false, List, length, ltb, Result, Ok, Err, refl, sym, ap, ◌∙◌, subst, inl, inr, arith}
+use Rattle.std.specs.List.{Contains}
+use Rattle.gptman.specs.Fault.{Fault, invalid_signature}
+use Rattle.gptman.specs.Copy.{Copy, copy_at}
+use Rattle.gptman.specs.Layout.{Holds}
+use Rattle.gptman.specs.Reading.{Place, primary, backup, place_start, copy_in, reading_of, second_copy, taken_from}
+use Rattle.gptman.specs.Stop.{HoldsOneOf, ReadsForeign, ReadsOneOf}
+use Rattle.gptman.specs.Table.{Table, IsForm}
+use Rattle.gptman.proofs.Fallback.{fallback_long, refused_first, taken_first}
+use Rattle.gptman.proofs.SameTable.{one_of_decided}
+
+abbrev from : Result Copy Fault → Place
+from r = elim r [ Ok copy ↦ primary | Err fault ↦ backup ]
+
+from_first : (b : List ℕ) (ss : ℕ) (copy : Copy) → copy_in primary b ss ≡ Ok copy → taken_from b ss ≡ primary
+unfolding taken_from
+from_first b ss copy is = ap from is
+
+from_second : (b : List ℕ) (ss : ℕ) (fault : Fault) → copy_in primary b ss ≡ Err fault → taken_from b ss ≡ backup
+unfolding taken_from
+from_second b ss fault is = ap from is
+
+-- a disk that has a backup copy is no shorter than a sector
+long_enough : (b : List ℕ) (ss : ℕ) (copy : Copy) (small : Bool) → ltb (length b) ss ≡ small → copy_in backup b ss ≡ Ok copy → ss ≤ length b
+unfolding copy_in
+long_enough b ss copy true is at =
+    let choose : Bool → Result Copy Fault = λ t. elim t [ true ↦ Err invalid_signature | false ↦ copy_at b (place_start backup (length b) ss) ss ] in
+    let e = sym (ap choose is) ∙ at in
+    absurd (cc)
+long_enough b ss copy false is at = grind arith
+
+-- where the primary copy has a fault the backup one is taken
+taken_second : (b : List ℕ) (ss : ℕ) (fault : Fault) (copy : Copy) → copy_in primary b ss ≡ Err fault → copy_in backup b ss ≡ Ok copy → reading_of b ss ≡ Ok copy
+taken_second b ss fault copy refused at =
+    refused_first b ss fault refused ∙ fallback_long b ss fault (long_enough b ss copy (ltb (length b) ss) refl at) ∙ ap (second_copy fault) at
+
+reads_cases : (b : List ℕ) (ss : ℕ) (tables : List Table) (r : Result Copy Fault) → copy_in primary b ss ≡ r → (place : Place) (t : Table) → Contains tables t → Holds b ss place t
+    → ¬ ReadsForeign b ss tables → ReadsOneOf b ss tables
+reads_cases b ss tables (Ok copy) is place t listed holds known =
+    let taken = taken_first b ss copy is in
+    elim (one_of_decided (taken_from b ss) copy tables) as (λ _. ReadsOneOf b ss tables) [
+      | inl found ↦ record { copy = copy; taken = taken; table = found.table; listed = found.listed; form = found.form }
+      | inr none ↦ absurd (known (record { copy = copy; taken = taken; foreign = none }))
+    ]
+reads_cases b ss tables (Err fault) is primary t listed holds known = let e = sym is ∙ holds.accepted in absurd (cc)
+reads_cases b ss tables (Err fault) is backup t listed holds known = record {
+  copy = holds.copy;
+  taken = taken_second b ss fault holds.copy is holds.accepted;
+  table = t;
+  listed = listed;
+  form = subst (λ (p : Place). IsForm p t holds.copy) (sym (from_second b ss fault is)) holds.form;
+}
+
+pub reads_one_of : (b : List ℕ) (ss : ℕ) (tables : List Table) → HoldsOneOf b ss tables → ¬ ReadsForeign b ss tables → ReadsOneOf b ss tables
+reads_one_of b ss tables holds known = reads_cases b ss tables (copy_in primary b ss) refl holds.place holds.table holds.listed holds.holds known
