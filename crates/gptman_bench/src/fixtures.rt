@@ -3,7 +3,7 @@
 ghost use Rattle.std.specs.Prelude.{◌≡◌, ◌<◌, All, IfOk};
 ghost use Rattle.gptman.specs.Table.{entries_in, IsCoherent, IsUnusedAndOrdered};
 
-use gptman::{Disk, Edit, GPT, GPTPartitionEntry, MemoryDisk, PartitionName, Result};
+use gptman::{Disk, Edit, GPT, GPTHeader, GPTPartitionEntry, MemoryDisk, PartitionName, Result};
 use std::alloc::{AllocError, Global};
 use std::io;
 
@@ -117,14 +117,60 @@ pub(crate) fn partition(
     })
 }
 
-/// A table for 100 sectors of 512 bytes, with "Foo" from 34 to 43 and "Bar" from 48 to 52.
-pub(crate) fn disk_1(alloc: Global) -> Result<GPT> {
-    let mut table = GPT::new_from(alloc, &mut disk_of(alloc, 0, 51_200)?, 512, [0x0d; 16])?;
-    let foo = partition(alloc, "Foo", [0x0b; 16], 34, 43)?;
-    let bar = partition(alloc, "Bar", [0x0c; 16], 48, 52)?;
+// A table for 100 sectors of this size, with "Foo" and "Bar" from and to these sectors.
+fn foo_and_bar(alloc: Global, sector_size: u16, foo: (u64, u64), bar: (u64, u64)) -> Result<GPT> {
+    let size = sector_size.max(1);
+    let mut disk = disk_of(alloc, 0, 100 * usize::from(size))?;
+    let mut table = GPT::new_from(alloc, &mut disk, u64::from(size), [0x0d; 16])?;
+    let foo = partition(alloc, "Foo", [0x0b; 16], foo.0, foo.1)?;
+    let bar = partition(alloc, "Bar", [0x0c; 16], bar.0, bar.1)?;
     table.apply(Edit::Put(1, foo))?;
     table.apply(Edit::Put(2, bar))?;
     Ok(table)
+}
+
+/// A table for 100 sectors of 512 bytes, with "Foo" from 34 to 43 and "Bar" from 48 to 52.
+pub(crate) fn disk_1(alloc: Global) -> Result<GPT> {
+    foo_and_bar(alloc, 512, (34, 43), (48, 52))
+}
+
+/// A table for 100 sectors of 4096 bytes, with "Foo" from 6 to 15 and "Bar" from 70 to 79.
+pub(crate) fn disk_2(alloc: Global) -> Result<GPT> {
+    foo_and_bar(alloc, 4096, (6, 15), (70, 79))
+}
+
+/// The entries of the table, in order.
+pub(crate) fn entries_of(alloc: Global, table: &GPT) -> Result<Vec<GPTPartitionEntry>> {
+    let mut entries = Vec::new(alloc);
+    for (_, entry) in table.iter() {
+        entries.push(entry.clone()?)?;
+    }
+    Ok(entries)
+}
+
+/// The bytes of a zero disk of 100 sectors on which both copies of the table, which is in primary
+/// form, were written.
+pub(crate) fn image_of(alloc: Global, table: &GPT) -> Result<Vec<u8>> {
+    let sector_size = table.sector_size.clamp(1, 4096);
+    let mut disk = disk_of(alloc, 0, 100 * sector_size as usize)?;
+    let entries = entries_of(alloc, table)?;
+    let own = table.header;
+    let other = GPTHeader {
+        primary_lba: own.backup_lba,
+        backup_lba: own.primary_lba,
+        partition_entry_lba: own.last_usable_lba.saturating_add(1),
+        ..own
+    };
+    for mut header in [own, other] {
+        let count = header.number_of_partition_entries as usize;
+        if header.header_size == 92
+            && header.size_of_partition_entry == 128
+            && entries.len() == count
+        {
+            header.write_into(&mut disk, sector_size, &entries)?;
+        }
+    }
+    Ok(disk.bytes().to_vec(alloc)?)
 }
 
 /// That table with "Baz" under number 10, from 44 to 47.

@@ -31,6 +31,8 @@ mod names;
 #[cfg(test)]
 mod oracle;
 #[cfg(test)]
+mod ported;
+#[cfg(test)]
 mod program;
 #[cfg(test)]
 mod reading;

@@ -11,8 +11,8 @@ fn read_back(alloc: Global, name: PartitionName) -> gptman::Result<PartitionName
     Ok(GPTPartitionEntry::decode(alloc, &entry.encode())?.partition_name)
 }
 
-// The name of an entry whose units are these, and then zeros.
-fn name_of_units(alloc: Global, first: &[u16]) -> gptman::Result<PartitionName> {
+/// The name of an entry whose units are these, and then zeros.
+pub(crate) fn name_of_units(alloc: Global, first: &[u16]) -> gptman::Result<PartitionName> {
     let mut bytes = [0; 128];
     let (_, units) = bytes.split_at_mut(56);
     for (pair, unit) in units.chunks_exact_mut(2).zip(first) {

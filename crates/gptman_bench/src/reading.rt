@@ -168,10 +168,12 @@ fn align_of(alloc: Global, starts: &[u64]) -> Result<u64, Fail> {
 
 #[test]
 fn the_alignment_is_derived(rt: HostRuntime) -> Result<(), Fail> {
-    let rows: [(&[u64], u64); 9] = [
+    let rows: [(&[u64], u64); 11] = [
         (&[34], 1),
         (&[35], 35),
         (&[40, 64], 8),
+        (&[10_240, 16_384], 2048),
+        (&[40_960, 65_536], 8192),
         (&[32_770], 6554),
         (&[65_536, 98_304], 16_384),
         (&[0, 0], 1),
