@@ -169,6 +169,20 @@ fn determine_partition_alignment_no_partition(rt: HostRuntime) -> Result<(), Fai
 }
 
 #[test]
+fn determine_partition_alignment(rt: HostRuntime) -> Result<(), Fail> {
+    let alloc = rt.alloc();
+    for align in [8, 2048, 8192] {
+        let mut table = disk_1(alloc)?;
+        let foo = partition(alloc, "Foo", [0x0b; 16], 5 * align, 6 * align)?;
+        let bar = partition(alloc, "Bar", [0x0c; 16], 8 * align, 16 * align)?;
+        table.apply(Edit::Put(1, foo))?;
+        table.apply(Edit::Put(2, bar))?;
+        assert_eq!(rt; read(alloc, &image_of(alloc, &table)?, 512)?.align, align);
+    }
+    Ok(())
+}
+
+#[test]
 fn determine_partition_alignment_full_disk(rt: HostRuntime) -> Result<(), Fail> {
     let alloc = rt.alloc();
     assert_eq!(rt; align_with(alloc, disk_1(alloc)?, Some(34))?, 1);
