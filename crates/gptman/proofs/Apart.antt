@@ -18,7 +18,7 @@ from_left : (r : ℕ × ℕ) (rs ss : Ranges) → IsApartFromAll r (rs ++ ss) �
 from_left r [] ss apart = tt
 from_left r (x ∷ rs) ss apart = (apart.0, from_left r rs ss apart.1)
 
-from_right : (r : ℕ × ℕ) (rs ss : Ranges) → IsApartFromAll r (rs ++ ss) → IsApartFromAll r ss
+pub from_right : (r : ℕ × ℕ) (rs ss : Ranges) → IsApartFromAll r (rs ++ ss) → IsApartFromAll r ss
 from_right r [] ss apart = apart
 from_right r (x ∷ rs) ss apart = from_right r rs ss apart.1
 

@@ -61,7 +61,7 @@ both_stand old mid new g h es ss fits_g fits_h fits count_g count_h apart inside
 -- ---- the ranges of a copy where an empty array has none
 
 -- the range of n entries from a byte on
-abbrev entries_range : ℕ → Bool → ℕ → Ranges
+abbrev pub entries_range : ℕ → Bool → ℕ → Ranges
 entries_range n none start = if none then [] else ((start, 128 * n) ∷ [])
 
 -- ranges that are apart without those of no entries are apart with them

@@ -2,6 +2,7 @@
 use Rattle.std.proofs.Common.{◌≡◌, ◌+◌, ℕ, List, min, max, Bool, sym, ap, ◌∙◌, inl, inr, arith}
 use Rattle.std.proofs.lemmas.Bool.Decides.{eqb_tells}
 use Rattle.std.specs.Prelude.{if◌then◌else◌, nat_eq}
+use Rattle.gptman.specs.Crash.{other_place}
 use Rattle.gptman.specs.Reading.{Place, primary, backup}
 use Rattle.gptman.specs.Table.{table_of, IsHeaderForm}
 use Rattle.gptman.specs.Write.{other_header}
@@ -14,11 +15,6 @@ other_table h es =
     let low : min h.backup_lba h.primary_lba ≡ min h.primary_lba h.backup_lba = omega arith in
     let high : max h.backup_lba h.primary_lba ≡ max h.primary_lba h.backup_lba = omega arith in
     λ i. record (table_of h es) { low_sector = low i; high_sector = high i }
-
--- the place that is not this one
-abbrev pub other_place : Place → Place
-other_place primary = backup
-other_place backup = primary
 
 -- the first sector of the other copy's entries, by that of these
 other_at_2 : (n last : ℕ) → n ≡ 2 → (if nat_eq n 2 then last + 1 else 2) ≡ last + 1

@@ -13,11 +13,11 @@ use Rattle.gptman.proofs.SameTable.{one_of_decided}
 abbrev from : Result Copy Fault → Place
 from r = elim r [ Ok copy ↦ primary | Err fault ↦ backup ]
 
-from_first : (b : List ℕ) (ss : ℕ) (copy : Copy) → copy_in primary b ss ≡ Ok copy → taken_from b ss ≡ primary
+pub from_first : (b : List ℕ) (ss : ℕ) (copy : Copy) → copy_in primary b ss ≡ Ok copy → taken_from b ss ≡ primary
 unfolding taken_from
 from_first b ss copy is = ap from is
 
-from_second : (b : List ℕ) (ss : ℕ) (fault : Fault) → copy_in primary b ss ≡ Err fault → taken_from b ss ≡ backup
+pub from_second : (b : List ℕ) (ss : ℕ) (fault : Fault) → copy_in primary b ss ≡ Err fault → taken_from b ss ≡ backup
 unfolding taken_from
 from_second b ss fault is = ap from is
 
@@ -31,7 +31,7 @@ long_enough b ss copy true is at =
 long_enough b ss copy false is at = grind arith
 
 -- where the primary copy has a fault the backup one is taken
-taken_second : (b : List ℕ) (ss : ℕ) (fault : Fault) (copy : Copy) → copy_in primary b ss ≡ Err fault → copy_in backup b ss ≡ Ok copy → reading_of b ss ≡ Ok copy
+pub taken_second : (b : List ℕ) (ss : ℕ) (fault : Fault) (copy : Copy) → copy_in primary b ss ≡ Err fault → copy_in backup b ss ≡ Ok copy → reading_of b ss ≡ Ok copy
 taken_second b ss fault copy refused at =
     refused_first b ss fault refused ∙ fallback_long b ss fault (long_enough b ss copy (ltb (length b) ss) refl at) ∙ ap (second_copy fault) at
 

@@ -20,7 +20,7 @@ use Rattle.gptman.proofs.Sealing.{IsSealed, sealed_is, sealed_table, sealed_form
 use Rattle.gptman.proofs.WrittenCopy.{written_start, written_array, written_holds}
 
 -- A sealed header of the table, in the form of a place.
-record IsHeaderOf (t : Table) (place : Place) (h : GPTHeader) (es : List GPTPartitionEntry) : Type 0 where
+pub record IsHeaderOf (t : Table) (place : Place) (h : GPTHeader) (es : List GPTPartitionEntry) : Type 0 where
   pub table : table_of h es ≡ t
   pub form : IsHeaderForm place h
   pub fits : FitsHeader h
@@ -41,7 +41,7 @@ header_ranges t place h es ss len is laid =
     ∙ (λ i. (sym start i, 92) ∷ (sym array i, 128 * h.number_of_partition_entries) ∷ [])
 
 -- the place holds the table where its bytes stand
-header_held : (b : List ℕ) (t : Table) (place : Place) (h : GPTHeader) (es : List GPTPartitionEntry) (ss : ℕ) → length b < 2 ^ 64 → IsHeaderOf t place h es → IsLaidOut t ss (length b)
+pub header_held : (b : List ℕ) (t : Table) (place : Place) (h : GPTHeader) (es : List GPTPartitionEntry) (ss : ℕ) → length b < 2 ^ 64 → IsHeaderOf t place h es → IsLaidOut t ss (length b)
     → All FitsEntry es → HasBytes b h es ss → Holds b ss place t
 header_held b t place h es ss small is laid fits has =
     subst (Holds b ss place) is.table
@@ -63,7 +63,7 @@ both_held old mid new t p q g h es ss small laid is_g is_h fits apart inside lai
     let below : length new < 2 ^ 64 = omega (arith, small, both.long) in
     (header_held new t p g es ss below is_g still fits both.first, header_held new t q h es ss below is_h still fits both.second)
 
-sealed_header : (place : Place) (h : GPTHeader) (es : List GPTPartitionEntry) (t : Table) → table_of h es ≡ t → IsHeaderForm place h → FitsHeader (sealed h es) → IsHeaderOf t place (sealed h es) es
+pub sealed_header : (place : Place) (h : GPTHeader) (es : List GPTPartitionEntry) (t : Table) → table_of h es ≡ t → IsHeaderForm place h → FitsHeader (sealed h es) → IsHeaderOf t place (sealed h es) es
 unfolding sealed
 sealed_header place h es t table form fits = record {
   table = sealed_table h es ∙ table;

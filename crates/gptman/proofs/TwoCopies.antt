@@ -1,16 +1,17 @@
 -- Both copies of a table, written one after the other.
-use Rattle.std.proofs.Common.{◌≡◌, ℕ, Bool, true, false, List, [], ◌∷◌, ◌++◌, None, refl, sym, ap, ◌∙◌, subst}
+use Rattle.std.proofs.Common.{◌≡◌, ◌⊎◌, ◌&&◌, ℕ, Bool, true, false, List, [], ◌∷◌, ◌++◌, length, None, refl, sym, ap, ◌∙◌, subst, inl, inr}
 use Rattle.std.specs.List.{All, list_all}
 use Rattle.std.proofs.lemmas.Bool.{and_parts}
 use Rattle.std.proofs.lemmas.List.Folds.{list_all-append}
 use Rattle.gptman.specs.Coding.{FitsHeader, FitsEntry}
 use Rattle.gptman.specs.Disk.{DiskState, Wrote}
-use Rattle.gptman.specs.Fault.{Fault, invalid_partition_boundaries, overflow, no_space_left, first_failing}
+use Rattle.gptman.specs.Fault.{Fault, overflow, no_space_left, first_failing}
 use Rattle.gptman.specs.Table.{sealed}
 use Rattle.gptman.specs.Write.{other_header, write_ranges, both_ranges, copy_write_fault, write_fault, has_other_header, is_addressable, is_inside}
 use Rattle.gptman.specs.Calls.{IsCopyLaid}
 use Rattle.gptman.specs.declared.codec.header.GPTHeader.{GPTHeader}
 use Rattle.gptman.specs.declared.codec.entry.GPTPartitionEntry.{GPTPartitionEntry}
+use Rattle.gptman.proofs.FirstFailing.{tests_pass}
 use Rattle.gptman.proofs.Ranges.{Ranges, within_left, within_none, within_right}
 use Rattle.gptman.proofs.Runs.{wrote_then, wrote_wider}
 
@@ -23,12 +24,6 @@ wrote_other {a} {b} {c} h other ss is read wrote =
 -- and then the own one
 pub wrote_own : {a b c : DiskState} (h : GPTHeader) (ss : ℕ) → Wrote (both_ranges h ss) a b → Wrote (write_ranges h ss) b c → Wrote (both_ranges h ss) a c
 wrote_own h ss other own = wrote_then (within_left (write_ranges h ss) (write_ranges (other_header h) ss)) other own
-
-later_pass : (a b c : Bool) (x y z : Fault) → first_failing ((a, x) ∷ (b, y) ∷ (c, z) ∷ []) ≡ None → (b ≡ true) × (c ≡ true)
-later_pass true true true x y z none = (refl, refl)
-later_pass true true false x y z none = (refl, cc)
-later_pass true false c x y z none = (cc, cc)
-later_pass false b c x y z none = (cc, cc)
 
 both_pass : (a b : Bool) (x y : Fault) → a ≡ true → b ≡ true → first_failing ((a, x) ∷ (b, y) ∷ []) ≡ None
 both_pass true b x y is_a is_b = ap (λ (t : Bool). first_failing ((true, x) ∷ (t, y) ∷ [])) is_b
@@ -45,15 +40,21 @@ pub both_allowed : (h : GPTHeader) (ss len : ℕ) → write_fault h ss len ≡ N
 both_allowed h ss len none =
     let own : Ranges = write_ranges h ss in
     let other : Ranges = write_ranges (other_header h) ss in
-    let pass = later_pass _ _ (list_all (is_inside len) (both_ranges h ss)) invalid_partition_boundaries overflow no_space_left none in
+    let pass = tests_pass ((has_other_header h && list_all is_addressable (both_ranges h ss), overflow) ∷ (list_all (is_inside len) (both_ranges h ss), no_space_left) ∷ []) none in
     let fit = and_parts (has_other_header h) (list_all is_addressable (own ++ other)) pass.0 in
     let fits = and_parts (list_all is_addressable own) (list_all is_addressable other) (sym (list_all-append is_addressable own other) ∙ fit.1) in
-    let lie = and_parts (list_all (is_inside len) own) (list_all (is_inside len) other) (sym (list_all-append (is_inside len) own other) ∙ pass.1) in
+    let lie = and_parts (list_all (is_inside len) own) (list_all (is_inside len) other) (sym (list_all-append (is_inside len) own other) ∙ pass.1.0) in
     record {
       own = both_pass (list_all is_addressable own) (list_all (is_inside len) own) overflow no_space_left fits.0 lie.0;
       other = both_pass (list_all is_addressable other) (list_all (is_inside len) other) overflow no_space_left fits.1 lie.1;
-      inside = pass.1;
+      inside = pass.1.0;
     }
+
+-- and both lie on the disk
+pub allowed_inside : {R : Type 0} (h : GPTHeader) (ss : ℕ) (disk : DiskState) → length disk.view ≡ disk.size → (None ≡ write_fault h ss disk.size) ⊎ (⊥ × R)
+    → list_all (is_inside (length disk.view)) (both_ranges h ss) ≡ true
+allowed_inside h ss disk long (inl is) = (both_allowed h ss (length disk.view) (ap (write_fault h ss) long ∙ sym is)).inside
+allowed_inside h ss disk long (inr fails) = absurd fails.0
 
 -- The other copy was laid over old, and then the own one.
 pub record BothLaid (old new : List ℕ) (h : GPTHeader) (es : List GPTPartitionEntry) (ss : ℕ) : Type 0 where

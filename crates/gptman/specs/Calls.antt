@@ -1,13 +1,14 @@
 -- What the calls answer, and what they leave.
-use Rattle.std.specs.Prelude.{◌≡◌, ◌≢◌, ◌≤◌, ◌<◌, ◌⊎◌, ◌+◌, ◌*◌, ◌^◌, ◌||◌, ◌&&◌, ℕ, Bool, true, false, List, [], length, Option, Some, None, Result, Ok, Err, IsErr, IsTrue}
-use Rattle.gptman.specs.Disk.{DiskState, Agrees, Rose, Wrote, overlay}
+use Rattle.std.specs.Prelude.{◌≡◌, ◌≢◌, ◌≤◌, ◌<◌, ◌⊎◌, ◌+◌, ◌*◌, ◌^◌, ◌||◌, ◌&&◌, ℕ, Bool, true, false, List, [], length, All, Contains, Option, Some, None, Result, Ok, Err, IsErr, IsTrue}
+use Rattle.gptman.specs.Disk.{DiskState, Agrees, Image, Rose, Within, Wrote, overlay}
 use Rattle.gptman.specs.Bytes.{part}
-use Rattle.gptman.specs.Coding.{header_bytes, array_bytes}
+use Rattle.gptman.specs.Coding.{FitsHeader, FitsEntry, header_bytes, array_bytes}
 use Rattle.gptman.specs.Fault.{Fault, io, invalid_signature, invalid_revision, invalid_header_size, invalid_checksum, invalid_array_checksum, read_error, overflow, out_of_memory, invalid_entry_size, fault_of}
 use Rattle.gptman.specs.Copy.{Copy, entries_start}
 use Rattle.gptman.specs.Reading.{Place, primary, backup, copy_in, fallback, reading_of}
 use Rattle.gptman.specs.Table.{entries_in, sealed}
-use Rattle.gptman.specs.Write.{other_header, write_ranges}
+use Rattle.gptman.specs.Valid.{IsValid, IsValidity}
+use Rattle.gptman.specs.Write.{other_header, write_fault, write_ranges}
 use Rattle.gptman.specs.declared.error.Error.{Error}
 use Rattle.gptman.specs.declared.codec.header.GPTHeader.{GPTHeader}
 use Rattle.gptman.specs.declared.codec.entry.GPTPartitionEntry.{GPTPartitionEntry}
@@ -152,6 +153,30 @@ pub record HasBytes (b : List ℕ) (h : GPTHeader) (es : List GPTPartitionEntry)
   pub header : part b (h.primary_lba * ss) 92 ≡ header_bytes h
   pub entries : part b (h.partition_entry_lba * ss) (length (array_bytes es)) ≡ array_bytes es
 
+-- The same where each field of header and entries has room in its bytes, so that they can be read back.
+pub record IsWhole (b : List ℕ) (h : GPTHeader) (es : List GPTPartitionEntry) (ss : ℕ) : Type 0 where
+  pub bytes : HasBytes b h es ss
+  pub header_fits : FitsHeader h
+  pub entries_fit : All FitsEntry es
+
 -- Outside of the other copy's ranges it is as it was, or the other copy stands there whole.
 abbrev pub IsOneWhole : GPTHeader → List GPTPartitionEntry → ℕ → List ℕ → List ℕ → Type 0
-IsOneWhole h es ss old b = Agrees (write_ranges (other_header h) ss) old b ⊎ HasBytes b (sealed (other_header h) es) es ss
+IsOneWhole h es ss old b = Agrees (write_ranges (other_header h) ss) old b ⊎ IsWhole b (sealed (other_header h) es) es ss
+
+-- What a write of two copies leaves where it fails: nothing was written; or the other copy was begun; or it is whole in whatever a stop may leave, and
+-- the own one was not begun or its header is not synced.
+pub data LeavesOnFailure (h : GPTHeader) (es : List GPTPartitionEntry) (ss : ℕ) (old new : DiskState) : Type 0 where
+  nothing : Untouched old new → LeavesOnFailure h es ss old new
+  other_begun : Agrees (write_ranges (other_header h) ss) old.view new.view → Within new.pending (write_ranges (other_header h) ss)
+      → Contains new.pending ((other_header h).primary_lba * ss, 92) → LeavesOnFailure h es ss old new
+  own_not_begun : ((b : List ℕ) → Image new b → IsWhole b (sealed (other_header h) es) es ss)
+      → Agrees (write_ranges (other_header h) ss) old.view new.view → new.pending ≡ [] → LeavesOnFailure h es ss old new
+  own_begun : ((b : List ℕ) → Image new b → IsWhole b (sealed (other_header h) es) es ss)
+      → Contains new.pending (h.primary_lba * ss, 92) → LeavesOnFailure h es ss old new
+
+-- What a write of a table answers: that there was no memory for its checks, the first check that fails, or Ok; or the disk failed.
+pub data AnswersWrite {T : Type 0} (h : GPTHeader) (es : List GPTPartitionEntry) (ss : ℕ) (result : Result T Error) (old new : DiskState) : Type 0 where
+  no_memory : Refuses result out_of_memory → AnswersWrite h es ss result old new
+  not_valid : (fault : Fault) → IsValidity h es (Some fault) → Refuses result fault → AnswersWrite h es ss result old new
+  too_far : IsValid h es → write_fault h ss old.size ≡ Some overflow → Refuses result overflow → AnswersWrite h es ss result old new
+  settled : IsValid h es → write_fault h ss old.size ≢ Some overflow → Settles (write_fault h ss old.size) result old new → AnswersWrite h es ss result old new

@@ -1,5 +1,5 @@
 -- What an entry says: whether it is used, and which sectors and bytes are its own.
-use Rattle.std.specs.Prelude.{ℕ, ◌+◌, ◌-◌, ◌*◌, ◌^◌, Bool, false, ◌&&◌, not, nat_eq, nat_le, nat_lt, if◌then◌else◌, Result, Ok, Err}
+use Rattle.std.specs.Prelude.{ℕ, ◌+◌, ◌-◌, ◌*◌, ◌^◌, Bool, false, ◌&&◌, not, nat_eq, nat_le, nat_lt, if◌then◌else◌, List, Option, Some, None, Result, Ok, Err}
 use Rattle.std.specs.List.{list_all}
 use Rattle.std.specs.Range.{range_inclusive_start, range_inclusive_end, range_inclusive_exhausted}
 use Rattle.std.specs.declared.ops.RangeInclusive.{RangeInclusive}
@@ -16,6 +16,14 @@ is_used e = not (is_unused e)
 -- the entry is used, and the sector is one of its own; an entry that ends before it starts has none
 abbrev pub covers : ℕ → GPTPartitionEntry → Bool
 covers sector e = is_used e && nat_le e.starting_lba sector && nat_le sector e.ending_lba
+
+-- the first and the last sector that it covers, if it covers any
+abbrev pub covered_range : GPTPartitionEntry → Option (ℕ × ℕ)
+covered_range e = if is_used e && nat_le e.starting_lba e.ending_lba then Some (e.starting_lba, e.ending_lba) else None
+
+-- the unique GUID of an entry that is used
+abbrev pub used_guid : GPTPartitionEntry → Option (List ℕ)
+used_guid e = if is_used e then Some e.unique_partition_guid else None
 
 -- a range by its two ends, and whether it has been gone over
 abbrev pub ends_of : RangeInclusive ℕ → ℕ × ℕ × Bool

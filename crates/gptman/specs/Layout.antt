@@ -41,6 +41,11 @@ abbrev pub AreApart : List (ℕ × ℕ) → Type 0
 AreApart [] = Unit {0}
 AreApart (r ∷ ranges) = IsApartFromAll r ranges × AreApart ranges
 
+-- no range of the first has a byte in common with one of the second
+abbrev pub AreClear : List (ℕ × ℕ) → List (ℕ × ℕ) → Type 0
+AreClear [] others = Unit {0}
+AreClear (r ∷ ranges) others = IsApartFromAll r others × AreClear ranges others
+
 -- each lies on a disk of that length; a range of no bytes does
 abbrev pub AreInside : List (ℕ × ℕ) → ℕ → Type 0
 AreInside [] len = Unit {0}

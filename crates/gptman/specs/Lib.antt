@@ -3,6 +3,7 @@ pub mod Bytes
 pub mod Calls
 pub mod Coding
 pub mod Copy
+pub mod Crash
 pub mod Crc
 pub mod Disk
 pub mod Edit

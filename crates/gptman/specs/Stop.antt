@@ -18,6 +18,13 @@ pub record ReadsForeign (b : List ℕ) (ss : ℕ) (tables : List Table) : Type 0
   pub taken : reading_of b ss ≡ Ok copy
   pub foreign : (t : Table) → Contains tables t → ¬ IsForm (taken_from b ss) t copy
 
+-- The reading takes the copy at this place, and it is the table in the place's form.
+pub record ReadsTable (b : List ℕ) (ss : ℕ) (place : Place) (t : Table) : Type 0 where
+  pub copy : Copy
+  pub taken : reading_of b ss ≡ Ok copy
+  pub from : taken_from b ss ≡ place
+  pub form : IsForm place t copy
+
 -- One place at least holds a table of the list.
 pub record HoldsOneOf (b : List ℕ) (ss : ℕ) (tables : List Table) : Type 0 where
   pub place : Place

@@ -1,6 +1,5 @@
 -- What a table is, whichever of its two forms one looks at.
-use Rattle.std.specs.Prelude.{◌≡◌, ◌≤◌, ◌⊎◌, ◌+◌, ℕ, true, List, replicate, length, map, min, max, nat_eq, encode_utf8_all}
-use Rattle.std.specs.List.{list_all}
+use Rattle.std.specs.Prelude.{◌≡◌, ◌⊎◌, ◌+◌, ℕ, List, replicate, length, map, min, max, encode_utf8_all}
 use Rattle.gptman.specs.Name.{text_of}
 use Rattle.gptman.specs.Coding.{header_bytes, array_bytes, empty_entry}
 use Rattle.gptman.specs.Fit.{new_header, fitted}
@@ -102,11 +101,6 @@ pub record IsCoherent (h : GPTHeader) (es : List GPTPartitionEntry) : Type 0 whe
   pub header_size : h.header_size ≡ 92
   pub count : length es ≡ h.number_of_partition_entries
   pub entry_size : (h.size_of_partition_entry ≡ 128) ⊎ (h.number_of_partition_entries ≡ 0)
-
--- an unused entry that starts at or before its end
-pub record IsUnusedAndOrdered (e : GPTPartitionEntry) : Type 0 where
-  pub unused : list_all (λ x. nat_eq x 0) e.partition_type_guid ≡ true
-  pub ordered : e.starting_lba ≤ e.ending_lba
 
 -- the value of a new table on a disk of that length: 128 unused entries
 abbrev pub new_table : List ℕ → ℕ → ℕ → GPT

@@ -1,6 +1,7 @@
 -- When a table may be written.
-use Rattle.std.specs.Prelude.{◌≢◌, ℕ, ◌+◌, ◌≤◌, IsTrue, List, All, AllPairs}
+use Rattle.std.specs.Prelude.{◌≡◌, ◌≢◌, ℕ, ◌+◌, ◌≤◌, ◌<◌, IsTrue, List, All, AllPairs, Option, Some, None}
 use Rattle.gptman.specs.Entry.{is_used, covers}
+use Rattle.gptman.specs.Fault.{Fault, conflict_partition_guid, invalid_partition_boundaries}
 use Rattle.gptman.specs.declared.codec.header.GPTHeader.{GPTHeader}
 use Rattle.gptman.specs.declared.codec.entry.GPTPartitionEntry.{GPTPartitionEntry}
 
@@ -27,3 +28,13 @@ pub record HasGoodBoundaries (h : GPTHeader) (es : List GPTPartitionEntry) : Typ
 pub record IsValid (h : GPTHeader) (es : List GPTPartitionEntry) : Type 0 where
   pub own_guids : HasOwnGuids es
   pub boundaries : HasGoodBoundaries h es
+
+-- What is refused of a table before it is written, if anything is: that two used entries share a unique GUID comes first.
+pub data IsValidity (h : GPTHeader) (es : List GPTPartitionEntry) (fault : Option Fault) : Type 0 where
+  shared_guid : ¬ HasOwnGuids es → fault ≡ Some conflict_partition_guid → IsValidity h es fault
+  bad_boundaries : HasOwnGuids es → ¬ HasGoodBoundaries h es → fault ≡ Some invalid_partition_boundaries → IsValidity h es fault
+  valid : IsValid h es → fault ≡ None → IsValidity h es fault
+
+-- the first range, by its first and last sector, ends before the second begins
+abbrev pub EndsBefore : ℕ × ℕ → ℕ × ℕ → Type 0
+EndsBefore r s = r.1 < s.0

@@ -1,7 +1,7 @@
 -- Writing a table: what is refused, and what is written.
 use Rattle.std.specs.Prelude.{ℕ, ◌+◌, ◌*◌, ◌^◌, ◌&&◌, ◌||◌, Bool, not, List, [], ◌∷◌, ◌++◌, Option, nat_eq, nat_le, nat_lt, if◌then◌else◌}
 use Rattle.std.specs.List.{list_all}
-use Rattle.gptman.specs.Fault.{Fault, invalid_partition_boundaries, overflow, no_space_left, first_failing}
+use Rattle.gptman.specs.Fault.{Fault, overflow, no_space_left, first_failing}
 use Rattle.gptman.specs.declared.codec.header.GPTHeader.{GPTHeader}
 
 -- The other header: its two sectors are exchanged, and its entries are behind the last usable sector where these are in sector 2, or else in sector 2.
@@ -43,10 +43,9 @@ both_ranges h ss = write_ranges h ss ++ write_ranges (other_header h) ss
 abbrev pub has_other_header : GPTHeader → Bool
 has_other_header h = not (nat_eq h.partition_entry_lba 2) || nat_lt (h.last_usable_lba + 1) (2 ^ 64)
 
--- What is refused of a value whose entries are all unused: the first of these tests that fails.
+-- What is refused of a table that is valid: the first of these tests that fails.
 abbrev pub write_fault : GPTHeader → ℕ → ℕ → Option Fault
 write_fault h ss len = first_failing (
-    (nat_le h.first_usable_lba (h.last_usable_lba + 1), invalid_partition_boundaries)
-    ∷ (has_other_header h && list_all is_addressable (both_ranges h ss), overflow)
+    (has_other_header h && list_all is_addressable (both_ranges h ss), overflow)
     ∷ (list_all (is_inside len) (both_ranges h ss), no_space_left)
     ∷ [])

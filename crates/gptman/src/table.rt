@@ -15,6 +15,8 @@ use crate::table::entries::Entries;
 use crate::table::iter::{Iter, IterMut};
 
 mod align;
+mod checks;
+mod covered;
 mod entries;
 pub mod iter;
 pub mod laws;

@@ -1,2 +1,1 @@
-mod NewTable
 pub mod ReadBack

@@ -1,11 +1,15 @@
 //! Disks, tables and entries of which the tests make their cases.
 
-ghost use Rattle.std.specs.Prelude.{◌≡◌, ◌<◌, All, IfOk};
-ghost use Rattle.gptman.specs.Table.{entries_in, IsCoherent, IsUnusedAndOrdered};
+ghost use Rattle.std.specs.Prelude.{◌≡◌, ◌<◌, IfOk};
+ghost use Rattle.gptman.specs.Table.{entries_in, IsCoherent};
 
 use gptman::{Disk, Edit, GPT, GPTHeader, GPTPartitionEntry, MemoryDisk, PartitionName, Result};
 use std::alloc::{AllocError, Global};
 use std::io;
+use std::test::Fail;
+
+/// What a helper of the tests answers, where it may find that the test itself is wrong.
+type TestResult<T> = std::result::Result<T, Fail>;
 
 /// The GUID of most disks.
 pub(crate) const DISK_GUID: [u8; 16] = [0xff; 16];
@@ -25,9 +29,25 @@ pub(crate) fn new_table<D: Disk>(
     requires { 0 < sector_size }
     ensures sector { IfOk result (λ g. g.sector_size ≡ sector_size) }
     ensures coherent { IfOk result (λ g. IsCoherent g.header (entries_in g)) }
-    ensures unused { IfOk result (λ g. All IsUnusedAndOrdered (entries_in g)) }
 {
     GPT::new_from(alloc, disk, sector_size, disk_guid)
+}
+
+/// Writes the table, whatever it holds, and gives back what the write answered.
+pub(crate) fn write<D: Disk>(table: &mut GPT, disk: &mut D) -> TestResult<Result<GPTHeader>> {
+    if table.sector_size == 0 || !table.is_coherent() {
+        return Err(Fail::new("no write takes such a table"));
+    }
+    Ok(table.write_into(disk))
+}
+
+/// The table on a disk of these bytes, with sectors of 512.
+pub(crate) fn read_image(alloc: Global, bytes: &[u8]) -> Result<GPT> {
+    GPT::read_from(
+        alloc,
+        &mut MemoryDisk::new(alloc, bytes.to_vec(alloc)?)?,
+        512,
+    )
 }
 
 /// The bytes of a disk of 100 sectors of 512, all of them this one, after a new table was written.

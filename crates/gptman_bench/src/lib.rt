@@ -5,6 +5,8 @@
 #[cfg(test)]
 mod callers;
 #[cfg(test)]
+mod checks;
+#[cfg(test)]
 mod codec;
 #[cfg(test)]
 mod damage;
@@ -32,6 +34,8 @@ mod names;
 mod oracle;
 #[cfg(test)]
 mod ported;
+#[cfg(test)]
+mod ported_writing;
 #[cfg(test)]
 mod program;
 #[cfg(test)]

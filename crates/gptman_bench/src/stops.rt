@@ -1,170 +1,253 @@
-//! A disk that fails after so many calls, and a stop in the middle of a write: one copy is whole.
+//! A write that is stopped or fails at any call: what is left is read as the table that was there or
+//! as the one that was being written, and so is each copy alone that can be read.
 
-ghost use Rattle.std.specs.Prelude.{◌≡◌, ◌<◌, All, IfOk};
-ghost use Rattle.gptman.specs.Table.{entries_in, IsCoherent, IsUnusedAndOrdered};
-
-use crate::fixtures::{DISK_GUID, answer, disk_of, image_of_new_table, new_table};
-use gptman::{Disk, Fate, GPT, GPTHeader, MemoryDisk};
+use crate::fixtures::{disk_1, image_of, partition, put, read_image, write};
+use gptman::{Edit, Error, Fate, GPT, MemoryDisk};
 use std::alloc::Global;
 use std::process::Abort;
 use std::test::Fail;
 
-// The GUID of the table that is being written, over one with the GUID of most disks.
-const NEW_GUID: [u8; 16] = [5; 16];
+// The first bytes of the two headers.
+const HEADERS: [usize; 2] = [512, 50_688];
 
-// The table that is written, in primary form or in backup form.
-fn new_in_form(alloc: Global, is_backup: bool) -> gptman::Result<GPT>
-    ensures sector { IfOk result (λ g. 0 < g.sector_size) }
-    ensures coherent { IfOk result (λ g. IsCoherent g.header (entries_in g)) }
-    ensures unused { IfOk result (λ g. All IsUnusedAndOrdered (entries_in g)) }
-{
-    let mut table = new_table(alloc, &mut disk_of(alloc, 0, 51_200)?, 512, NEW_GUID)?;
-    if is_backup {
-        table.header.primary_lba = 99;
-        table.header.backup_lba = 1;
-        table.header.partition_entry_lba = 67;
+// The image that both copies of the table stand on, with one header zeroed or none.
+fn image(alloc: Global, zeroed: Option<usize>) -> Result<Vec<u8>, Fail> {
+    let mut image = image_of(alloc, &disk_1(alloc)?)?;
+    if let Some(at) = zeroed {
+        put(&mut image, at, &[0; 92]);
     }
+    Ok(image)
+}
+
+// The table that is read of the image, with one entry more.
+fn edited(alloc: Global, image: &[u8]) -> Result<GPT, Fail> {
+    let mut table = read_image(alloc, image)?;
+    let baz = partition(alloc, "Baz", [3; 16], 54, 60)?;
+    table.apply(Edit::Put(3, baz))?;
     Ok(table)
 }
 
-// A disk of these bytes that fails after so many calls.
-fn failing(alloc: Global, image: &[u8], calls: u64) -> Result<MemoryDisk, Fail> {
-    Ok(MemoryDisk::with_fuse(alloc, image.to_vec(alloc)?, calls)?)
+// The same value in the other form.
+fn in_other_form(mut table: GPT) -> GPT {
+    let header = &mut table.header;
+    let primary_lba = header.primary_lba;
+    header.primary_lba = header.backup_lba;
+    header.backup_lba = primary_lba;
+    header.partition_entry_lba = if primary_lba == 1 { 67 } else { 2 };
+    table
 }
 
-// What writing that table to the disk answers.
-fn write_over(alloc: Global, disk: &mut MemoryDisk, is_backup: bool) -> Result<String, Fail> {
-    let mut table = new_in_form(alloc, is_backup)?;
-    Ok(answer(alloc, &table.write_into(disk))?)
+// Whether two values are one table, in whichever form.
+fn is_same_table(a: &GPT, b: &GPT) -> bool {
+    let (first, second) = (&a.header, &b.header);
+    a.iter().eq(b.iter())
+        && first.disk_guid == second.disk_guid
+        && first.first_usable_lba == second.first_usable_lba
+        && first.last_usable_lba == second.last_usable_lba
+        && first.primary_lba.min(first.backup_lba) == second.primary_lba.min(second.backup_lba)
+        && first.primary_lba.max(first.backup_lba) == second.primary_lba.max(second.backup_lba)
 }
 
-// The disk GUID of the copy whose header is at this byte, where the copy is whole.
-fn guid_at(alloc: Global, disk: &mut MemoryDisk, at: u64) -> gptman::Result<[u8; 16]> {
-    disk.seek_start(at)?;
-    let header = GPTHeader::read_from(disk)?;
-    header.read_partitions(alloc, disk, 512)?;
-    Ok(header.disk_guid)
+// Whether the table could be written. It is not refused but for a failure of the disk.
+fn is_written(disk: &mut MemoryDisk, table: &GPT) -> Result<bool, Fail> {
+    let mut table = table.clone()?;
+    match write(&mut table, disk)? {
+        Ok(_) => Ok(true),
+        Err(Error::Io(_)) => Ok(false),
+        Err(_) => Err(Fail::new("the write was refused, and not for the disk")),
+    }
 }
 
-// The disk GUIDs of the primary and of the backup copy, where they are whole.
-fn guids(alloc: Global, disk: &mut MemoryDisk) -> (Option<[u8; 16]>, Option<[u8; 16]>) {
-    let primary = guid_at(alloc, disk, 512).ok();
-    let backup = guid_at(alloc, disk, 50_688).ok();
-    (primary, backup)
+// The table of the copy whose header is at this byte, if it can be read alone.
+fn read_alone(alloc: Global, bytes: &[u8], at: usize) -> Result<Option<GPT>, Fail> {
+    let mut bytes = bytes.to_vec(alloc)?;
+    for other in HEADERS {
+        if other != at {
+            put(&mut bytes, other, &[0; 8]);
+        }
+    }
+    Ok(read_image(alloc, &bytes).ok())
+}
+
+// The disk is read as one of the two tables, and so is each copy alone that can be read.
+fn assert_reads_one(
+    rt: &impl Abort,
+    alloc: Global,
+    bytes: &[u8],
+    old: &GPT,
+    new: &GPT,
+) -> Result<(), Fail> {
+    let table = read_image(alloc, bytes)?;
+    assert!(rt; is_same_table(&table, old) || is_same_table(&table, new));
+    for at in HEADERS {
+        if let Some(table) = read_alone(alloc, bytes, at)? {
+            assert!(rt; is_same_table(&table, old) || is_same_table(&table, new));
+        }
+    }
+    Ok(())
+}
+
+// Fates of up to six writes: all this one, and one of them, if it is one of the six, torn.
+fn fates(all: Fate, torn: usize) -> [Fate; 6] {
+    let mut fates = [all; 6];
+    if let Some(fate) = fates.get_mut(torn) {
+        *fate = Fate::Garbage(7);
+    }
+    fates
+}
+
+// Stops the write of the new table over this image after so many calls, with all these fates.
+// Answers whether it was done.
+fn stop_after(
+    rt: &impl Abort,
+    alloc: Global,
+    image: &[u8],
+    new: &GPT,
+    calls: u64,
+) -> Result<bool, Fail> {
+    let old = read_image(alloc, image)?;
+    let mut done = false;
+    for all in [Fate::Old, Fate::New, Fate::Garbage(7)] {
+        for torn in 0..=6 {
+            let mut disk = MemoryDisk::with_fuse(alloc, image.to_vec(alloc)?, calls)?;
+            done = is_written(&mut disk, new)?;
+            let left = disk.stop(&fates(all, torn))?;
+            assert_reads_one(rt, alloc, left.bytes(), &old, new)?;
+        }
+    }
+    Ok(done)
+}
+
+// The same after each number of calls, until the write is done.
+fn stop_anywhere(rt: &impl Abort, alloc: Global, image: &[u8], new: &GPT) -> Result<(), Fail> {
+    for calls in 0..=32 {
+        if stop_after(rt, alloc, image, new, calls)? {
+            return Ok(());
+        }
+    }
+    Err(Fail::new("the write takes more than 32 calls"))
 }
 
 #[test]
-fn a_table_is_written_and_read_in_few_calls(rt: HostRuntime) -> Result<(), Fail> {
+fn two_good_copies_survive_a_stop(rt: HostRuntime) -> Result<(), Fail> {
     let alloc = rt.alloc();
-    let image = image_of_new_table(alloc, 2)?;
-    for is_backup in [false, true] {
-        let mut disk = failing(alloc, &image, 32)?;
-        let said = write_over(alloc, &mut disk, is_backup)?;
-        assert_eq!(rt; said.as_str(), "ok");
-        let both = guids(alloc, &mut disk.stop(&[])?);
-        assert_eq!(rt; both, (Some(NEW_GUID), Some(NEW_GUID)));
+    let image = image(alloc, None)?;
+    let new = edited(alloc, &image)?;
+    stop_anywhere(&rt, alloc, &image, &new)?;
+    stop_anywhere(&rt, alloc, &image, &in_other_form(new))
+}
+
+#[test]
+fn one_good_copy_survives_a_stop(rt: HostRuntime) -> Result<(), Fail> {
+    let alloc = rt.alloc();
+    for at in HEADERS {
+        let image = image(alloc, Some(at))?;
+        stop_anywhere(&rt, alloc, &image, &edited(alloc, &image)?)?;
     }
-    let mut disk = MemoryDisk::with_fuse(alloc, image.clone()?, 16)?;
-    let table = GPT::read_from(alloc, &mut disk, 512)?;
-    assert_eq!(rt; table.header.disk_guid, DISK_GUID);
+    Ok(())
+}
+
+// What is left of a write over this image that is stopped after so many calls.
+fn left_of(alloc: Global, image: &[u8], calls: u64, fates: &[Fate]) -> Result<MemoryDisk, Fail> {
+    let mut disk = MemoryDisk::with_fuse(alloc, image.to_vec(alloc)?, calls)?;
+    is_written(&mut disk, &edited(alloc, image)?)?;
+    Ok(disk.stop(fates)?)
+}
+
+// The number of used entries that are read, and whether in primary form. The old table has two, the
+// new one three.
+fn read_of(alloc: Global, disk: &MemoryDisk) -> Result<(usize, bool), Fail> {
+    let table = read_image(alloc, disk.bytes())?;
+    let used = table.iter().filter(|(_, entry)| entry.is_used()).count();
+    Ok((used, table.is_primary()))
+}
+
+// After four calls one write is pending, the header of the other copy; after ten the other copy is
+// synced, and nothing else is pending.
+#[test]
+fn the_other_copy_is_written_first(rt: HostRuntime) -> Result<(), Fail> {
+    let alloc = rt.alloc();
+    let rows = [
+        (None, (2, true), (2, true)),
+        (Some(512), (2, false), (3, true)),
+        (Some(50_688), (2, true), (2, true)),
+    ];
+    for (zeroed, after_a_write, after_a_sync) in rows {
+        let image = image(alloc, zeroed)?;
+        let torn = left_of(alloc, &image, 4, &[Fate::Garbage(7)])?;
+        assert_eq!(rt; read_of(alloc, &torn)?, after_a_write, "{zeroed:?}");
+        let synced = left_of(alloc, &image, 10, &[])?;
+        assert_eq!(rt; read_of(alloc, &synced)?, after_a_sync, "{zeroed:?}");
+    }
+    Ok(())
+}
+
+#[test]
+fn after_ok_each_copy_alone_is_the_new_table(rt: HostRuntime) -> Result<(), Fail> {
+    let alloc = rt.alloc();
+    for zeroed in [None, Some(512), Some(50_688)] {
+        let image = image(alloc, zeroed)?;
+        let new = edited(alloc, &image)?;
+        let done = left_of(alloc, &image, 32, &[])?;
+        for at in HEADERS {
+            let table = read_alone(alloc, done.bytes(), at)?;
+            assert!(rt;
+                table.is_some_and(|table| is_same_table(&table, &new)),
+                "{at}"
+            );
+        }
+    }
     Ok(())
 }
 
 #[test]
 fn a_disk_that_fails_at_once_is_not_changed(rt: HostRuntime) -> Result<(), Fail> {
     let alloc = rt.alloc();
-    let image = image_of_new_table(alloc, 2)?;
-    for is_backup in [false, true] {
-        let mut disk = failing(alloc, &image, 0)?;
-        let said = write_over(alloc, &mut disk, is_backup)?;
-        assert_eq!(rt; said.as_str(), "generic I/O error");
-        assert!(rt; disk.bytes() == image.as_slice());
+    let image = image(alloc, None)?;
+    let new = edited(alloc, &image)?;
+    for calls in 0..=2 {
+        let mut disk = MemoryDisk::with_fuse(alloc, image.clone()?, calls)?;
+        assert!(rt; !is_written(&mut disk, &new)?);
+        assert!(rt; disk.bytes() == image.as_slice(), "{calls} calls");
     }
-    let mut disk = MemoryDisk::with_fuse(alloc, image.clone()?, 0)?;
-    let said = answer(alloc, &GPT::read_from(alloc, &mut disk, 512))?;
-    assert_eq!(rt; said.as_str(), "generic I/O error");
-    assert!(rt; disk.bytes() == image.as_slice());
     Ok(())
 }
 
-// Nothing of what is not synced stays. Each call that fails is answered.
 #[test]
-fn the_other_copy_is_stored_before_the_own_one(rt: HostRuntime) -> Result<(), Fail> {
+fn a_table_is_written_and_read_in_few_calls(rt: HostRuntime) -> Result<(), Fail> {
     let alloc = rt.alloc();
-    let image = image_of_new_table(alloc, 2)?;
-    let (old, new) = (Some(DISK_GUID), Some(NEW_GUID));
-    for (is_backup, between) in [(false, (old, new)), (true, (new, old))] {
-        let mut seen = Vec::new(alloc);
-        for calls in 0..=32 {
-            let mut disk = failing(alloc, &image, calls)?;
-            let said = write_over(alloc, &mut disk, is_backup)?;
-            let stored = guids(alloc, &mut disk.stop(&[])?);
-            assert_eq!(rt;
-                said.as_str() == "ok",
-                stored == (new, new),
-                "{calls} calls"
-            );
-            if seen.last() != Some(&stored) {
-                seen.push(stored)?;
-            }
-        }
-        assert_eq!(rt;
-            seen.as_slice(),
-            [(old, old), between, (new, new)].as_slice()
-        );
-    }
+    let image = image(alloc, None)?;
+    let new = edited(alloc, &image)?;
+    let mut disk = MemoryDisk::with_fuse(alloc, image, 32)?;
+    assert!(rt; is_written(&mut disk, &new)?);
+    let written = disk.bytes().to_vec(alloc)?;
+    let mut disk = MemoryDisk::with_fuse(alloc, written, 16)?;
+    assert!(rt; is_same_table(&GPT::read_from(alloc, &mut disk, 512)?, &new));
     Ok(())
 }
 
-// Writes the table on disks that fail after each number of calls, and stops them with these fates.
-// They are as many as the writes of both copies.
-fn stop_anywhere(
-    rt: &impl Abort,
-    alloc: Global,
-    is_backup: bool,
-    fates: &[Fate],
-) -> Result<(), Fail> {
-    let image = image_of_new_table(alloc, 2)?;
-    for calls in 0..=32 {
-        let mut disk = failing(alloc, &image, calls)?;
-        let said = write_over(alloc, &mut disk, is_backup)?;
-        if said.as_str() == "ok" {
-            break;
-        }
-        assert_eq!(rt; said.as_str(), "generic I/O error", "{calls} calls");
-        let (primary, backup) = guids(alloc, &mut disk.stop(fates)?);
-        assert!(rt;
-            primary.is_some() || backup.is_some(),
-            "{calls} calls, {fates:?}"
-        );
-        for guid in [primary, backup].into_iter().flatten() {
-            assert!(rt;
-                guid == DISK_GUID || guid == NEW_GUID,
-                "{calls} calls, {fates:?}"
-            );
-        }
-    }
-    Ok(())
+// One round of a life: the table is read, gets this disk GUID, and its write is stopped after so many
+// calls, with all that is pending torn.
+fn live(rt: &impl Abort, alloc: Global, image: &[u8], round: u8) -> Result<Vec<u8>, Fail> {
+    let old = read_image(alloc, image)?;
+    let mut new = old.clone()?;
+    new.apply(Edit::DiskGuid([round; 16]))?;
+    let mut disk = MemoryDisk::with_fuse(alloc, image.to_vec(alloc)?, u64::from(round))?;
+    is_written(&mut disk, &new)?;
+    let left = disk.stop(&[Fate::Garbage(7); 6])?;
+    assert_reads_one(rt, alloc, left.bytes(), &old, &new)?;
+    Ok(left.bytes().to_vec(alloc)?)
 }
 
 #[test]
-fn a_stop_at_any_call_leaves_a_whole_copy(rt: HostRuntime) -> Result<(), Fail> {
-    for is_backup in [false, true] {
-        for fate in [Fate::Old, Fate::New, Fate::Garbage(7)] {
-            stop_anywhere(&rt, rt.alloc(), is_backup, &[fate; 10])?;
-        }
+fn a_life_of_stopped_writes_never_loses_the_table(rt: HostRuntime) -> Result<(), Fail> {
+    let alloc = rt.alloc();
+    let mut left = image(alloc, None)?;
+    for round in 0..20 {
+        left = live(&rt, alloc, &left, round)?;
     }
-    Ok(())
-}
-
-#[test]
-fn a_write_that_is_torn_leaves_a_whole_copy(rt: HostRuntime) -> Result<(), Fail> {
-    for fate in [Fate::Old, Fate::New] {
-        for torn in [0_usize, 3] {
-            let mut fates = [fate; 10];
-            fates[torn] = Fate::Garbage(7);
-            stop_anywhere(&rt, rt.alloc(), false, &fates)?;
-        }
-    }
+    let last = read_image(alloc, &left)?;
+    assert_eq!(rt; last.header.disk_guid, [19; 16]);
+    assert_eq!(rt; last.iter().filter(|(_, entry)| entry.is_used()).count(), 2);
     Ok(())
 }

@@ -1,11 +1,11 @@
 //! A whole table written to a disk, in both of its places.
 
-ghost use Rattle.std.specs.Prelude.{◌≡◌, ◌<◌, ◌⊎◌, All, IfOk, IsTrue};
+ghost use Rattle.std.specs.Prelude.{◌≡◌, ◌<◌, ◌⊎◌, IfOk, IsTrue};
 ghost use Rattle.gptman.specs.Calls.{copy_of};
 ghost use Rattle.gptman.specs.Layout.{HasLayout};
 ghost use Rattle.gptman.specs.Disk.{Rose};
 ghost use Rattle.gptman.specs.Reading.{backup, primary};
-ghost use Rattle.gptman.specs.Table.{entries_in, table_in, IsCoherent, IsForm, IsUnusedAndOrdered};
+ghost use Rattle.gptman.specs.Table.{entries_in, table_in, IsCoherent, IsForm};
 
 use crate::fixtures::{DISK_GUID, answer, are_all, bytes_at, disk_of, new_table};
 use gptman::{Disk, GPT, GPTHeader};
@@ -17,7 +17,6 @@ use std::test::Fail;
 fn write_and_read<D: Disk>(alloc: Global, table: &mut GPT, disk: &mut D) -> gptman::Result<GPT>
     requires sector { 0 < table.old.sector_size }
     requires coherent { IsCoherent table.old.header (entries_in table.old) }
-    requires unused { All IsUnusedAndOrdered (entries_in table.old) }
     ensures { IsTrue (D.state disk.old).is_honest
         → HasLayout table.old.header (table_in table.old) table.old.sector_size (D.state disk.old).size
         → IfOk result (λ g. IsForm primary (table_in table.old) (copy_of g)

@@ -1,131 +1,115 @@
-use Rattle.std.proofs.Common.{◌≡◌, ⊎_elim, ℕ, List, None, IsTrue, length, ◌<◌, ◌^◌, sym, ap, ◌∙◌, subst}
-use Rattle.gptman.specs.Calls.{HasBytes}
+use Rattle.std.proofs.Common.{◌≡◌, ◌∙◌, ℕ, List, [], ◌∷◌, length, Err, IsTrue, rules}
+use Rattle.std.proofs.lemmas.Result.{on_err_weaker, on_ok_weaker}
+use Rattle.gptman.specs.Calls.{AnswersWrite, LeavesOnFailure}
+use Rattle.gptman.specs.Crash.{IsKeptFor, IsReadAlone, PlaceAfter}
+use Rattle.gptman.specs.Disk.{LeavesOnly}
 use Rattle.gptman.specs.Layout.{HasLayout}
-use Rattle.gptman.specs.Table.{entries_in, sealed, table_of}
-use Rattle.gptman.specs.Write.{other_header, copy_write_fault, write_fault}
-use Rattle.gptman.specs.declared.codec.header.GPTHeader.{GPTHeader}
+use Rattle.gptman.specs.Reading.{primary, backup}
+use Rattle.gptman.specs.Stop.{HoldsOneOf, IsStored}
+use Rattle.gptman.specs.Table.{Table, entries_in, table_in, table_of}
+use Rattle.gptman.specs.Valid.{IsValid}
 use Rattle.gptman.specs.declared.codec.entry.GPTPartitionEntry.{GPTPartitionEntry}
-use Rattle.gptman.proofs.Ranges.{within_none}
-use Rattle.gptman.proofs.Runs.{wrote_wider}
-use Rattle.gptman.proofs.OneWhole.{first_run, leaves_first, whole_after}
-use Rattle.gptman.proofs.Stored.{laid_from, stored_from}
-use Rattle.gptman.proofs.TwoCopies.{BothLaid, both_allowed, both_laid, wrote_other, wrote_own}
+use Rattle.gptman.specs.declared.codec.header.GPTHeader.{GPTHeader}
 use Rattle.gptman.proofs.table.GPT.write_into.Given.{Over}
+use Rattle.gptman.proofs.Accepted.{accepted, answers_refused, answers_valid, checked_valid, layout_fits}
+use Rattle.gptman.proofs.AfterFailure.{both_after}
+use Rattle.gptman.proofs.OneGood.{layout_apart, leaves_good, leaves_outside, still_good, stored_is_kept}
+use Rattle.gptman.proofs.ReadAlone.{stored_alone}
+use Rattle.gptman.proofs.ReadingLaw.{reads_one_of}
+use Rattle.gptman.proofs.Runs.{wrote_not}
 use Rattle.gptman.proofs.table.GPT.write_into.Goals as goal
 
-pub returns-in_err-other-clause-wrote : goal.returns-in_err-other-clause-wrote
-returns-in_err-other-clause-wrote g c = λ honest. wrote_wider within_none (c.in_err-other.ensures.reads honest).wrote
+-- ---- where the checks refuse, no call was made
 
-pub write_copy-requires-clause-allowed : goal.write_copy-requires-clause-allowed
-write_copy-requires-clause-allowed g c =
-    let h : GPTHeader = c.args.self.now.header in
-    let ss : ℕ = c.args.self.now.sector_size in
+pub returns-in_err-check-clause-answer : goal.returns-in_err-check-clause-answer
+returns-in_err-check-clause-answer g c =
+    let is : c.from_residual.result ≡ Err c.in_err-check.field-0.0 = search rules in
+    answers_refused c.args.self.now.header (entries_in c.args.self.now) _ c.args.self.now.sector_size _ _ _ _ is c.as_slice.ensures.items c.in_err-check.ensures
+
+pub returns-in_err-check-clause-one_good : goal.returns-in_err-check-clause-one_good
+returns-in_err-check-clause-one_good g c = λ honest layout was kept.
+    let disk = c.args.disk.now in
+    still_good c.args.self.now (g.D.Disk.state disk) was (g.met.D.Disk.sound disk honest) honest (g.met.D.Disk.bounded disk) layout.table kept
+
+pub returns-in_err-check-clause-outside : goal.returns-in_err-check-clause-outside
+returns-in_err-check-clause-outside g c = λ honest synced layout.
+    let disk = c.args.disk.now in
+    leaves_outside c.args.self.now (g.D.Disk.state disk) (g.D.Disk.state disk) synced layout (wrote_not _ (g.D.Disk.state disk) honest (g.met.D.Disk.sound disk honest))
+
+pub returns-in_err-check-clause-read : goal.returns-in_err-check-clause-read
+returns-in_err-check-clause-read g c = λ honest layout was kept x left known.
+    let disk = c.args.disk.now in
+    reads_one_of x _ _ (still_good c.args.self.now (g.D.Disk.state disk) was (g.met.D.Disk.sound disk honest) honest (g.met.D.Disk.bounded disk) layout.table kept x left) known
+
+pub returns-in_err-check-clause-crash_safe : goal.returns-in_err-check-clause-crash_safe
+returns-in_err-check-clause-crash_safe g c = λ honest layout was stored same x left known.
+    let disk = c.args.disk.now in
+    let kept = stored_is_kept (g.D.Disk.state disk) c.args.self.now was stored layout same in
+    reads_one_of x _ _ (still_good c.args.self.now (g.D.Disk.state disk) was (g.met.D.Disk.sound disk honest) honest (g.met.D.Disk.bounded disk) layout.table kept x left) known
+
+-- ---- where they pass, both copies were written
+
+-- the table is valid
+passed : (g : Over) (c : goal.After-write_both g) → IsValid c.args.self.now.header (entries_in c.args.self.now)
+passed g c = checked_valid c.args.self.now.header (entries_in c.args.self.now) _ c.as_slice.ensures.items c.in_ok-check.ensures
+
+answer : (g : Over) (c : goal.After-write_both g) → AnswersWrite c.args.self.now.header (entries_in c.args.self.now) c.args.self.now.sector_size c.write_both.result
+    (g.D.Disk.state c.args.disk.now) (g.D.Disk.state c.write_both.new.disk)
+answer g c = answers_valid c.args.self.now.header (entries_in c.args.self.now) c.args.self.now.sector_size _ _ _ (passed g c) c.write_both.ensures.at_once c.write_both.ensures.answer
+
+pub returns-clause-answer : goal.returns-clause-answer
+returns-clause-answer g c = answer g c
+
+pub returns-clause-accepts : goal.returns-clause-accepts
+returns-clause-accepts g c = λ layout valid.
+    let size = (g.D.Disk.state c.args.disk.now).size in
+    let fits = layout_fits c.args.self.now.header (entries_in c.args.self.now) c.args.self.now.sector_size size (g.met.D.Disk.bounded c.args.disk.now) layout in
+    accepted c.args.self.now.header (entries_in c.args.self.now) c.args.self.now.sector_size _ _ _ valid fits (answer g c)
+
+pub returns-clause-alone : goal.returns-clause-alone
+returns-clause-alone g c = λ honest layout. 
     let old = g.D.Disk.state c.args.disk.now in
-    let none : write_fault h ss old.size ≡ None = ⊎_elim (λ is. sym is) (λ fails. absurd fails.0) c.in_ok-other.ensures.answer in
-    ap (copy_write_fault c.in_ok-other.other ss) c.in_ok-other.ensures.keeps.size
-    ∙ ap (λ (x : GPTHeader). copy_write_fault x ss old.size) c.in_ok-other.ensures.other ∙ (both_allowed h ss old.size none).other
-
-pub write_copy-requires-2-clause-allowed : goal.write_copy-requires-2-clause-allowed
-write_copy-requires-2-clause-allowed g c =
-    let h : GPTHeader = c.args.self.now.header in
+    let new = g.D.Disk.state c.write_both.new.disk in
     let ss : ℕ = c.args.self.now.sector_size in
-    let old = g.D.Disk.state c.args.disk.now in
-    let none : write_fault h ss old.size ≡ None = ⊎_elim (λ is. sym is) (λ fails. absurd fails.0) c.in_ok-other.ensures.answer in
-    ap (copy_write_fault h ss) (c.write_copy.ensures.keeps.size ∙ c.in_ok-other.ensures.keeps.size) ∙ (both_allowed h ss old.size none).own
+    let t : Table = table_in c.args.self.now in
+    let each : IsStored new ss t → (b : List ℕ) → IsReadAlone new.view ss t b = λ stored b. stored_alone new ss t b stored in
+    on_ok_weaker _ each (c.write_both.ensures.stored honest layout)
 
-pub returns-in_err-write_copy-clause-wrote : goal.returns-in_err-write_copy-clause-wrote
-returns-in_err-write_copy-clause-wrote g c = λ honest.
-    let read = (c.in_ok-other.ensures.reads honest).wrote in
-    wrote_other c.args.self.now.header _ c.args.self.now.sector_size c.in_ok-other.ensures.other read (c.write_copy.ensures.wrote read.honest)
+-- a stop leaves the old table or the new one
+good : (g : Over) (c : goal.After-write_both g) → (let old = g.D.Disk.state c.args.disk.now in IsTrue old.is_honest
+    → HasLayout c.args.self.now.header (table_in c.args.self.now) c.args.self.now.sector_size old.size → (was : Table) → IsKeptFor old c.args.self.now was
+    → LeavesOnly old (g.D.Disk.state c.write_both.new.disk) (λ b. HoldsOneOf b c.args.self.now.sector_size (was ∷ table_in c.args.self.now ∷ [])))
+good g c = λ honest layout was kept.
+    let disk = c.args.disk.now in
+    let apart = layout_apart c.args.self.now.header (entries_in c.args.self.now) c.args.self.now.sector_size _ layout in
+    leaves_good c.args.self.now (g.D.Disk.state disk) (g.D.Disk.state c.write_both.new.disk) was (g.met.D.Disk.sound disk honest).size (g.met.D.Disk.bounded disk)
+    layout.table kept (c.write_both.ensures.wrote honest) (c.write_both.ensures.one_whole honest kept.synced apart)
 
-pub returns-in_err-write_copy-2-clause-wrote : goal.returns-in_err-write_copy-2-clause-wrote
-returns-in_err-write_copy-2-clause-wrote g c = λ honest.
-    let read = (c.in_ok-other.ensures.reads honest).wrote in
-    let other = wrote_other c.args.self.now.header _ c.args.self.now.sector_size c.in_ok-other.ensures.other read (c.write_copy.ensures.wrote read.honest) in
-    wrote_own c.args.self.now.header c.args.self.now.sector_size other (c.write_copy-2.ensures.wrote other.honest)
+pub returns-clause-one_good : goal.returns-clause-one_good
+returns-clause-one_good g c = good g c
 
-pub returns-clause-wrote : goal.returns-clause-wrote
-returns-clause-wrote g c = λ honest.
-    let read = (c.in_ok-other.ensures.reads honest).wrote in
-    let other = wrote_other c.args.self.now.header _ c.args.self.now.sector_size c.in_ok-other.ensures.other read (c.write_copy.ensures.wrote read.honest) in
-    wrote_own c.args.self.now.header c.args.self.now.sector_size other (c.write_copy-2.ensures.wrote other.honest)
+pub returns-clause-outside : goal.returns-clause-outside
+returns-clause-outside g c = λ honest synced layout. leaves_outside c.args.self.now _ (g.D.Disk.state c.write_both.new.disk) synced layout (c.write_both.ensures.wrote honest)
 
--- both copies are laid
-laid : (g : Over) (c : goal.In_ok-write_copy-2 g) → IsTrue (g.D.Disk.state c.args.disk.now).is_honest
-    → BothLaid (g.D.Disk.state c.args.disk.now).view (g.D.Disk.state c.write_copy-2.new.disk).view c.args.self.now.header (entries_in c.args.self.now) c.args.self.now.sector_size
-laid g c honest =
-    let read = c.in_ok-other.ensures.reads honest in
-    let w2 = c.write_copy.ensures.wrote read.wrote.honest in
-    let first = c.in_ok-write_copy.ensures in
-    let second = c.in_ok-write_copy-2.ensures in
-    both_laid _ _ _ _ _ _ c.write_copy.new.header c.write_copy-2.new.header _ _ _ _ read.view c.in_ok-other.ensures.other c.as_slice.ensures.items c.as_slice-2.ensures.items
-    first.sealed second.sealed first.fits second.fits (first.laid read.wrote.honest) (second.laid w2.honest)
+pub returns-clause-read : goal.returns-clause-read
+returns-clause-read g c = λ honest layout was kept x left known. reads_one_of x _ _ (good g c honest layout was kept x left) known
 
-pub returns-clause-laid : goal.returns-clause-laid
-returns-clause-laid g c = λ honest apart.
+pub returns-clause-crash_safe : goal.returns-clause-crash_safe
+returns-clause-crash_safe g c = λ honest layout was stored same x left known.
+    reads_one_of x _ _ (good g c honest layout was (stored_is_kept _ c.args.self.now was stored layout same) x left) known
+
+pub returns-clause-after : goal.returns-clause-after
+returns-clause-after g c = λ honest synced layout.
+    let disk = c.args.disk.now in
+    let ensures = c.write_both.ensures in
+    let apart = layout_apart c.args.self.now.header (entries_in c.args.self.now) c.args.self.now.sector_size _ layout in
+    
     let h : GPTHeader = c.args.self.now.header in
     let es : List GPTPartitionEntry = entries_in c.args.self.now in
     let ss : ℕ = c.args.self.now.sector_size in
-    let old = g.D.Disk.state c.args.disk.now in
-    let new = g.D.Disk.state c.write_copy-2.new.disk in
-    let both = laid g c honest in
-    let long : length old.view ≡ old.size = (g.met.D.Disk.sound c.args.disk.now honest).size in
-    let none : write_fault h ss old.size ≡ None = ⊎_elim (λ is. sym is) (λ fails. absurd fails.0) c.in_ok-other.ensures.answer in
-    let inside = (both_allowed h ss (length old.view) (ap (write_fault h ss) long ∙ none)).inside in
-    let stand = laid_from old.view both.mid new.view h es ss apart inside c.requires.coherent.count both.fits_other both.fits_own both.fits both.other both.own in
-    let own_is : c.write_copy-2.new.header ≡ sealed h es = c.in_ok-write_copy-2.ensures.sealed ∙ ap (sealed h) c.as_slice-2.ensures.items in
-    let other_is : c.write_copy.new.header ≡ sealed (other_header h) es = c.in_ok-write_copy.ensures.sealed ∙ (λ i. sealed (c.in_ok-other.ensures.other i) (c.as_slice.ensures.items i)) in
-    (subst (λ (x : GPTHeader). HasBytes new.view x es ss) (sym own_is) stand.0, subst (λ (x : GPTHeader). HasBytes new.view x es ss) (sym other_is) stand.1)
-
-pub returns-clause-stored : goal.returns-clause-stored
-returns-clause-stored g c = λ honest layout.
-    let h : GPTHeader = c.args.self.now.header in
-    let es : List GPTPartitionEntry = entries_in c.args.self.now in
-    let ss : ℕ = c.args.self.now.sector_size in
-    let old = g.D.Disk.state c.args.disk.now in
-    let new = g.D.Disk.state c.write_copy-2.new.disk in
-    let both = laid g c honest in
-    let read = (c.in_ok-other.ensures.reads honest).wrote in
-    let w2 = c.write_copy.ensures.wrote read.honest in
-    let long : length old.view ≡ old.size = (g.met.D.Disk.sound c.args.disk.now honest).size in
-    let small = subst (λ (n : ℕ). n < 2 ^ 64) (sym long) (g.met.D.Disk.bounded c.args.disk.now) in
-    let held = stored_from old.view both.mid new.view h es ss (subst (HasLayout h (table_of h es) ss) (sym long) layout) small both.fits_other both.fits_own both.fits both.other both.own in
-    record { synced = c.in_ok-write_copy-2.ensures.synced w2.honest; at_primary = held.0; at_backup = held.1 }
-
-pub returns-in_err-write_copy-clause-one_whole : goal.returns-in_err-write_copy-clause-one_whole
-returns-in_err-write_copy-clause-one_whole g c = λ honest nothing apart.
-    let h : GPTHeader = c.args.self.now.header in
-    let ss : ℕ = c.args.self.now.sector_size in
-    let read = c.in_ok-other.ensures.reads honest in
-    leaves_first h _ ss (g.D.Disk.state c.args.disk.now) (g.D.Disk.state c.write_copy.new.disk) nothing
-    (first_run h _ ss _ (g.D.Disk.state c.checked.new.disk) _ c.in_ok-other.ensures.other read (c.write_copy.ensures.wrote read.wrote.honest))
-
-pub returns-in_err-write_copy-2-clause-one_whole : goal.returns-in_err-write_copy-2-clause-one_whole
-returns-in_err-write_copy-2-clause-one_whole g c = λ honest nothing apart.
-    let h : GPTHeader = c.args.self.now.header in
-    let ss : ℕ = c.args.self.now.sector_size in
-    let old = g.D.Disk.state c.args.disk.now in
-    let read = c.in_ok-other.ensures.reads honest in
-    let long : length old.view ≡ old.size = (g.met.D.Disk.sound c.args.disk.now honest).size in
-    let none : write_fault h ss old.size ≡ None = ⊎_elim (λ is. sym is) (λ fails. absurd fails.0) c.in_ok-other.ensures.answer in
-    let inside = (both_allowed h ss (length old.view) (ap (write_fault h ss) long ∙ none)).inside in
-    let first = c.in_ok-write_copy.ensures in
-    let run = c.write_copy.ensures.wrote read.wrote.honest in
-    whole_after h _ c.write_copy.new.header _ _ ss old (g.D.Disk.state c.checked.new.disk) (g.D.Disk.state c.write_copy.new.disk) (g.D.Disk.state c.write_copy-2.new.disk) nothing apart inside c.requires.coherent.count read
-    c.in_ok-other.ensures.other c.as_slice.ensures.items first.sealed first.fits (first.laid read.wrote.honest) run (first.synced read.wrote.honest)
-    (c.write_copy-2.ensures.wrote run.honest)
-
-pub returns-clause-one_whole : goal.returns-clause-one_whole
-returns-clause-one_whole g c = λ honest nothing apart.
-    let h : GPTHeader = c.args.self.now.header in
-    let ss : ℕ = c.args.self.now.sector_size in
-    let old = g.D.Disk.state c.args.disk.now in
-    let read = c.in_ok-other.ensures.reads honest in
-    let long : length old.view ≡ old.size = (g.met.D.Disk.sound c.args.disk.now honest).size in
-    let none : write_fault h ss old.size ≡ None = ⊎_elim (λ is. sym is) (λ fails. absurd fails.0) c.in_ok-other.ensures.answer in
-    let inside = (both_allowed h ss (length old.view) (ap (write_fault h ss) long ∙ none)).inside in
-    let first = c.in_ok-write_copy.ensures in
-    let run = c.write_copy.ensures.wrote read.wrote.honest in
-    whole_after h _ c.write_copy.new.header _ _ ss old (g.D.Disk.state c.checked.new.disk) (g.D.Disk.state c.write_copy.new.disk) (g.D.Disk.state c.write_copy-2.new.disk) nothing apart inside c.requires.coherent.count read
-    c.in_ok-other.ensures.other c.as_slice.ensures.items first.sealed first.fits (first.laid read.wrote.honest) run (first.synced read.wrote.honest)
-    (c.write_copy-2.ensures.wrote run.honest)
+    let old = g.D.Disk.state disk in
+    let new = g.D.Disk.state c.write_both.new.disk in
+    let long : length new.view ≡ old.size = (g.met.D.Disk.sound c.write_both.new.disk (ensures.wrote honest).honest).size ∙ ensures.keeps.size in
+    let both : LeavesOnFailure h es ss old new → PlaceAfter primary (table_of h es) ss old new × PlaceAfter backup (table_of h es) ss old new =
+    both_after h es ss old new layout synced long (g.met.D.Disk.bounded disk) in
+    on_err_weaker _ both (ensures.failed honest synced apart)

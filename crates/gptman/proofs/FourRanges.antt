@@ -1,0 +1,99 @@
+-- The four ranges of a table on the stated layout, as those of its two headers.
+use Rattle.std.proofs.Common.{◌≡◌, ℕ, ◌+◌, ◌-◌, ◌*◌, ◌/◌, ◌++◌, Bool, List, [], ◌∷◌, inl, inr, sym, ap, ◌∙◌, subst}
+use Rattle.std.specs.Prelude.{nat_eq}
+use Rattle.std.proofs.lemmas.Bool.Decides.{eqb_tells}
+use Rattle.gptman.specs.Crash.{HasRangesOf, other_place}
+use Rattle.gptman.specs.Disk.{Agrees, Outside, Within}
+use Rattle.gptman.specs.Layout.{AgreesIn, AreApart, AreClear, IsLaidOut, Inside, four_ranges, ranges_at}
+use Rattle.gptman.specs.Reading.{Place, primary, backup}
+use Rattle.gptman.specs.Table.{Table, table_of, IsHeaderForm}
+use Rattle.gptman.specs.Write.{other_header, both_ranges, write_ranges}
+use Rattle.gptman.specs.declared.codec.entry.GPTPartitionEntry.{GPTPartitionEntry}
+use Rattle.gptman.specs.declared.codec.header.GPTHeader.{GPTHeader}
+use Rattle.gptman.proofs.Apart.{apart_exchanged, from_right}
+use Rattle.gptman.proofs.LaidCopies.{copy_ranges, entries_range}
+use Rattle.gptman.proofs.OneWhole.{within_copy}
+use Rattle.gptman.proofs.OtherHeader.{other_table, other_form}
+use Rattle.gptman.proofs.Overlays.{outside_apart}
+use Rattle.gptman.proofs.Ranges.{Ranges, within_then, within_both, within_left, within_right}
+use Rattle.gptman.proofs.WrittenCopy.{written_start, written_array}
+
+-- ---- ranges that are clear of others
+
+pub clear_if_apart : (rs ss : Ranges) → AreApart (rs ++ ss) → AreClear rs ss
+clear_if_apart [] ss apart = tt
+clear_if_apart (r ∷ rs) ss apart = (from_right r rs ss apart.0, clear_if_apart rs ss apart.1)
+
+-- an index inside of the ones is outside of the others
+pub inside_clear : (rs ss : Ranges) (k : ℕ) → AreClear rs ss → Inside rs k → Outside ss k
+inside_clear [] ss k clear inside = absurd inside
+inside_clear (r ∷ rs) ss k clear (inl at) = outside_apart r ss k clear.0 at.0 at.1
+inside_clear (r ∷ rs) ss k clear (inr later) = inside_clear rs ss k clear.1 later
+
+-- lists that agree outside of the others agree in the ones
+pub agrees_in : (rs ss : Ranges) (a b : List ℕ) → AreClear rs ss → Agrees ss a b → AgreesIn rs a b
+agrees_in rs ss a b clear agrees = record { long = agrees.long; same = λ k inside. agrees.same k (inside_clear rs ss k clear inside) }
+
+-- ---- a header in a form
+
+module _ (place : Place) (h : GPTHeader) (es : List GPTPartitionEntry) (ss len : ℕ) (form : IsHeaderForm place h) (laid : IsLaidOut (table_of h es) ss len) where
+  -- its ranges are those of its table at the place
+  pub form_ranges : ranges_at place (table_of h es) ss len ≡ copy_ranges h ss
+  form_ranges =
+      let start = written_start place h es ss len form laid in
+      let array = written_array place h es ss form in
+      λ i. (sym start i, 92) ∷ (sym array i, 128 * h.number_of_partition_entries) ∷ []
+
+  pub other_laid : IsLaidOut (table_of (other_header h) es) ss len
+  other_laid = subst (λ (t : Table). IsLaidOut t ss len) (sym (other_table h es)) laid
+
+-- and those of the other header are the table's at the other place
+pub other_ranges : (place : Place) (h : GPTHeader) (es : List GPTPartitionEntry) (ss len : ℕ) → IsHeaderForm place h → IsLaidOut (table_of h es) ss len
+    → ranges_at (other_place place) (table_of h es) ss len ≡ copy_ranges (other_header h) ss
+other_ranges place h es ss len form laid =
+    ap (λ (t : Table). ranges_at (other_place place) t ss len) (sym (other_table h es))
+    ∙ form_ranges (other_place place) (other_header h) es ss len (other_form place h form) (other_laid place h es ss len form laid)
+
+-- a table's ranges at a place and at the other one are apart
+pub places_apart : (place : Place) (t : Table) (ss len : ℕ) → IsLaidOut t ss len → AreApart (ranges_at place t ss len ++ ranges_at (other_place place) t ss len)
+places_apart primary t ss len laid = laid.apart
+places_apart backup t ss len laid = apart_exchanged (ranges_at primary t ss len) (ranges_at backup t ss len) laid.apart
+
+-- ranges that are apart stay so without those of no entries
+without_empty : (a c p q n : ℕ) → AreApart ((a, 92) ∷ (c, 128 * n) ∷ (p, 92) ∷ (q, 128 * n) ∷ [])
+    → AreApart (((a, 92) ∷ entries_range n (nat_eq n 0) c) ++ ((p, 92) ∷ entries_range n (nat_eq n 0) q))
+without_empty a c p q n apart =
+    let P : Bool → Type 0 = λ b. AreApart (((a, 92) ∷ entries_range n b c) ++ ((p, 92) ∷ entries_range n b q)) in
+    elim (eqb_tells n 0) as (λ _. P (nat_eq n 0)) [
+      | inl zero ↦ subst P (sym zero.0) ((apart.0.1.0, tt), (tt, tt))
+      | inr some ↦ subst P (sym some.0) apart
+    ]
+
+-- What a write of a table of the layout writes is apart.
+pub both_apart : (place : Place) (h : GPTHeader) (es : List GPTPartitionEntry) (ss len : ℕ) → IsHeaderForm place h → IsLaidOut (table_of h es) ss len → AreApart (both_ranges h ss)
+both_apart place h es ss len form laid =
+    let own = form_ranges place h es ss len form laid in
+    let other = other_ranges place h es ss len form laid in
+    let apart : AreApart (copy_ranges h ss ++ copy_ranges (other_header h) ss) =
+    subst (λ (rs : Ranges). AreApart rs) (λ i. own i ++ other i) (places_apart place (table_of h es) ss len laid) in
+    without_empty (h.primary_lba * ss) (h.partition_entry_lba * ss) ((other_header h).primary_lba * ss) ((other_header h).partition_entry_lba * ss) h.number_of_partition_entries apart
+
+in_four : (place : Place) (t : Table) (ss len : ℕ) → Within (ranges_at place t ss len ++ ranges_at (other_place place) t ss len) (four_ranges t ss len)
+in_four primary t ss len = record { covers = λ k o. o }
+in_four backup t ss len = within_both (within_right (ranges_at primary t ss len) (ranges_at backup t ss len)) (within_left (ranges_at primary t ss len) (ranges_at backup t ss len))
+
+-- And it lies in the four ranges.
+pub within_four : (place : Place) (h : GPTHeader) (es : List GPTPartitionEntry) (ss len : ℕ) → IsHeaderForm place h → IsLaidOut (table_of h es) ss len
+    → Within (both_ranges h ss) (four_ranges (table_of h es) ss len)
+within_four place h es ss len form laid =
+    let own = form_ranges place h es ss len form laid in
+    let other = other_ranges place h es ss len form laid in
+    let both : Within (both_ranges h ss) (copy_ranges h ss ++ copy_ranges (other_header h) ss) =
+    within_both (within_then (within_copy h ss) (within_left (copy_ranges h ss) (copy_ranges (other_header h) ss)))
+    (within_then (within_copy (other_header h) ss) (within_right (copy_ranges h ss) (copy_ranges (other_header h) ss))) in
+    within_then both (subst (λ (rs : Ranges). Within rs (four_ranges (table_of h es) ss len)) (λ i. own i ++ other i) (in_four place (table_of h es) ss len))
+
+-- Tables of one count and one last usable sector have the same ranges.
+pub same_ranges : (place : Place) (old new : Table) (ss len : ℕ) → HasRangesOf old new → ranges_at place old ss len ≡ ranges_at place new ss len
+same_ranges primary old new ss len same = ap (λ (n : ℕ). (ss, 92) ∷ (2 * ss, 128 * n) ∷ []) (sym same.count)
+same_ranges backup old new ss len same = λ i. ((len / ss - 1) * ss, 92) ∷ ((sym same.last i + 1) * ss, 128 * sym same.count i) ∷ []

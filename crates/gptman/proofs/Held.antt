@@ -1,0 +1,101 @@
+-- What a place holds is told by its two ranges.
+use Rattle.std.proofs.Common.{◌≡◌, ◌≤◌, ◌<◌, ◌+◌, ◌*◌, ◌-◌, min, ℕ, Bool, true, false, List, length, drop, get_or, ltb, Result, Ok, Err, refl, sym, ap, ◌∙◌, inl, inr, arith, length-take, length-drop}
+use Rattle.std.specs.Prelude.{Option, Some, None}
+use Rattle.std.proofs.lemmas.List.{get_or-take, get_or-drop}
+use Rattle.std.proofs.lemmas.Grind.{same_number_lists}
+use Rattle.gptman.specs.Bytes.{part}
+use Rattle.gptman.specs.Coding.{header_of}
+use Rattle.gptman.specs.Copy.{Copy, copy_at, copy_fault, copy_tests, copy_there, entries_of, entries_part, entries_start, entries_length}
+use Rattle.gptman.specs.Fault.{Fault, first_failing, invalid_signature}
+use Rattle.gptman.specs.Layout.{Holds, AgreesIn, ranges_at, array_start}
+use Rattle.gptman.specs.Reading.{Place, primary, backup, place_start, copy_in}
+use Rattle.gptman.specs.Table.{Table, IsForm, IsHeaderForm}
+use Rattle.gptman.specs.declared.codec.header.GPTHeader.{GPTHeader}
+
+-- ---- a copy is told by the length and by its two parts
+
+abbrev given : Option Fault → Copy → Result Copy Fault
+given o copy = elim o [ None ↦ Ok copy | Some fault ↦ Err fault ]
+
+abbrev copy_from : ℕ → ℕ → ℕ → List ℕ → List ℕ → Result Copy Fault
+copy_from len p ss x y = given (first_failing (copy_tests len p ss x y)) (record { header = header_of x; entries = entries_of y (header_of x).number_of_partition_entries })
+
+copy_at-is : (b : List ℕ) (p ss : ℕ) → copy_at b p ss ≡ copy_from (length b) p ss (part b p 92) (entries_part b p ss)
+unfolding copy_at copy_fault copy_there
+copy_at-is b p ss = refl
+
+copy_at-local : (b c : List ℕ) (p ss : ℕ) → length c ≡ length b → part c p 92 ≡ part b p 92 → entries_part c p ss ≡ entries_part b p ss → copy_at c p ss ≡ copy_at b p ss
+copy_at-local b c p ss long header entries =
+    copy_at-is c p ss ∙ (λ i. copy_from (long i) p ss (header i) (entries i)) ∙ sym (copy_at-is b p ss)
+
+accepted_cases : (b : List ℕ) (p ss : ℕ) (copy : Copy) (o : Option Fault) → copy_fault b p ss ≡ o → copy_at b p ss ≡ Ok copy → copy_there b p ss ≡ copy
+unfolding copy_at
+accepted_cases b p ss copy None is ok =
+    let e : ◌≡◌ {A = Result Copy Fault} (Ok (copy_there b p ss)) (Ok copy) = sym (ap (λ (o : Option Fault). given o (copy_there b p ss)) is) ∙ ok in
+    cc
+accepted_cases b p ss copy (Some fault) is ok =
+    let e : ◌≡◌ {A = Result Copy Fault} (Err fault) (Ok copy) = sym (ap (λ (o : Option Fault). given o (copy_there b p ss)) is) ∙ ok in
+    absurd (cc)
+
+-- an accepted copy has the header that stands there
+accepted_header : (b : List ℕ) (p ss : ℕ) (copy : Copy) → copy_at b p ss ≡ Ok copy → header_of (part b p 92) ≡ copy.header
+unfolding copy_there
+accepted_header b p ss copy ok = ap (λ (c : Copy). c.header) (accepted_cases b p ss copy (copy_fault b p ss) refl ok)
+
+-- ---- what two lists agree in
+
+-- a part is told by its elements
+part_in : (b c : List ℕ) (at n : ℕ) → length c ≡ length b → ((k : ℕ) → at ≤ k → k < at + n → get_or c k 0 ≡ get_or b k 0) → part c at n ≡ part b at n
+part_in b c at n len same =
+    same_number_lists (part c at n) (part b at n)
+    (length-take n (drop at c) ∙ ap (λ (m : ℕ). min n m) (length-drop at c ∙ ap (λ (m : ℕ). m - at) len ∙ sym (length-drop at b)) ∙ sym (length-take n (drop at b)))
+    (λ k below.
+    let small : k < n = omega (arith, length-take n (drop at c)) in
+    get_or-take n (drop at c) k 0 small ∙ get_or-drop at c k 0 ∙ same (at + k) (omega arith) (omega arith)
+    ∙ sym (get_or-take n (drop at b) k 0 small ∙ get_or-drop at b k 0))
+
+-- where a header in a place's form says that its entries begin
+form_start : (place : Place) (h : GPTHeader) (ss : ℕ) (t : Table) → h.last_usable_lba ≡ t.last_usable_lba → IsHeaderForm place h → entries_start h ss ≡ array_start place t ss
+form_start primary h ss t last form = ap (λ (n : ℕ). n * ss) form.1
+form_start backup h ss t last form = ap (λ (n : ℕ). n * ss) (form.1 ∙ ap (λ (n : ℕ). n + 1) last)
+
+at_place : (place : Place) (b c : List ℕ) (ss : ℕ) (t : Table) (copy : Copy) → copy_at b (place_start place (length b) ss) ss ≡ Ok copy → IsForm place t copy
+    → AgreesIn (ranges_at place t ss (length b)) b c → copy_at c (place_start place (length b) ss) ss ≡ Ok copy
+at_place place b c ss t copy ok form agrees =
+    let p : ℕ = place_start place (length b) ss in
+    let h : GPTHeader = header_of (part b p 92) in
+    let same_h : h ≡ copy.header = accepted_header b p ss copy ok in
+    let start : entries_start h ss ≡ array_start place t ss =
+    ap (λ (g : GPTHeader). entries_start g ss) same_h ∙ form_start place copy.header ss t (ap (λ (u : Table). u.last_usable_lba) form.table) form.form in
+    let size : entries_length h ≡ 128 * t.count =
+    ap (λ (g : GPTHeader). entries_length g) same_h ∙ ap (λ (u : Table). 128 * u.count) form.table in
+    let header : part c p 92 ≡ part b p 92 = part_in b c p 92 agrees.long (λ k low high. agrees.same k (inl (low, high))) in
+    let entries : part c (entries_start h ss) (entries_length h) ≡ part b (entries_start h ss) (entries_length h) =
+    part_in b c (entries_start h ss) (entries_length h) agrees.long (λ k low high. agrees.same k (inr (inl (omega (arith, low, start), omega (arith, high, start, size))))) in
+    copy_at-local b c p ss agrees.long header (ap (λ (x : List ℕ). part c (entries_start (header_of x) ss) (entries_length (header_of x))) header ∙ entries) ∙ ok
+
+-- What agrees with a list in the two ranges that a table has at a place holds it there too.
+pub holds_local : (b c : List ℕ) (ss : ℕ) (place : Place) (t : Table) → Holds b ss place t → AgreesIn (ranges_at place t ss (length b)) b c → Holds c ss place t
+unfolding copy_in
+holds_local b c ss primary t holds agrees = record {
+  copy = holds.copy;
+  accepted = at_place primary b c ss t holds.copy holds.accepted holds.form agrees;
+  form = holds.form;
+}
+holds_local b c ss backup t holds agrees = record {
+  copy = holds.copy;
+  accepted = by_length (ltb (length b) ss) refl;
+  form = holds.form;
+}
+  where
+    choose : List ℕ → ℕ → Bool → Result Copy Fault
+    choose x n short = elim short [ true ↦ Err invalid_signature | false ↦ copy_at x (place_start backup n ss) ss ]
+
+    by_length : (short : Bool) → ltb (length b) ss ≡ short → copy_in backup c ss ≡ Ok holds.copy
+    by_length true is =
+        let e : ◌≡◌ {A = Result Copy Fault} (Err invalid_signature) (Ok holds.copy) = sym (ap (choose b (length b)) is) ∙ holds.accepted in
+        absurd (cc)
+    by_length false is =
+        ap (choose c (length c)) (ap (λ (n : ℕ). ltb n ss) agrees.long ∙ is)
+        ∙ ap (λ (n : ℕ). copy_at c (place_start backup n ss) ss) agrees.long
+        ∙ at_place backup b c ss t holds.copy (sym (ap (choose b (length b)) is) ∙ holds.accepted) holds.form agrees

@@ -1,0 +1,155 @@
+use Rattle.std.proofs.Common.{◌≡◌, ⊎_elim, ℕ, List, None, IsTrue, length, ◌<◌, ◌^◌, sym, ap, ◌∙◌, subst}
+use Rattle.gptman.specs.Calls.{HasBytes}
+use Rattle.gptman.specs.Calls.LeavesOnFailure.{nothing}
+use Rattle.gptman.specs.Layout.{AreApart, HasLayout}
+use Rattle.gptman.specs.Table.{entries_in, sealed, table_of}
+use Rattle.gptman.specs.Write.{other_header, both_ranges, copy_write_fault, write_fault}
+use Rattle.gptman.specs.declared.codec.header.GPTHeader.{GPTHeader}
+use Rattle.gptman.specs.declared.codec.entry.GPTPartitionEntry.{GPTPartitionEntry}
+use Rattle.gptman.proofs.Ranges.{within_none}
+use Rattle.gptman.proofs.Runs.{wrote_wider}
+use Rattle.gptman.proofs.OneWhole.{IsFirstDone, failed_first, failed_second, first_done, first_run, leaves_first, leaves_second}
+use Rattle.gptman.proofs.Outcomes.{on_err_of}
+use Rattle.gptman.proofs.Stored.{laid_from, stored_from}
+use Rattle.gptman.proofs.TwoCopies.{BothLaid, allowed_inside, both_allowed, both_laid, wrote_other, wrote_own}
+use Rattle.gptman.proofs.table.GPT.write_both.Given.{Over}
+use Rattle.gptman.proofs.table.GPT.write_both.Goals as goal
+
+pub returns-in_err-other-clause-wrote : goal.returns-in_err-other-clause-wrote
+returns-in_err-other-clause-wrote g c = λ honest. wrote_wider within_none (c.in_err-other.ensures.reads honest).wrote
+
+pub write_copy-requires-clause-allowed : goal.write_copy-requires-clause-allowed
+write_copy-requires-clause-allowed g c =
+    let h : GPTHeader = c.args.self.now.header in
+    let ss : ℕ = c.args.self.now.sector_size in
+    let old = g.D.Disk.state c.args.disk.now in
+    let none : write_fault h ss old.size ≡ None = ⊎_elim (λ is. sym is) (λ fails. absurd fails.0) c.in_ok-other.ensures.answer in
+    ap (copy_write_fault c.in_ok-other.other ss) c.in_ok-other.ensures.keeps.size
+    ∙ ap (λ (x : GPTHeader). copy_write_fault x ss old.size) c.in_ok-other.ensures.other ∙ (both_allowed h ss old.size none).other
+
+pub write_copy-requires-2-clause-allowed : goal.write_copy-requires-2-clause-allowed
+write_copy-requires-2-clause-allowed g c =
+    let h : GPTHeader = c.args.self.now.header in
+    let ss : ℕ = c.args.self.now.sector_size in
+    let old = g.D.Disk.state c.args.disk.now in
+    let none : write_fault h ss old.size ≡ None = ⊎_elim (λ is. sym is) (λ fails. absurd fails.0) c.in_ok-other.ensures.answer in
+    ap (copy_write_fault h ss) (c.write_copy.ensures.keeps.size ∙ c.in_ok-other.ensures.keeps.size) ∙ (both_allowed h ss old.size none).own
+
+pub returns-in_err-write_copy-clause-wrote : goal.returns-in_err-write_copy-clause-wrote
+returns-in_err-write_copy-clause-wrote g c = λ honest.
+    let read = (c.in_ok-other.ensures.reads honest).wrote in
+    wrote_other c.args.self.now.header _ c.args.self.now.sector_size c.in_ok-other.ensures.other read (c.write_copy.ensures.wrote read.honest)
+
+pub returns-in_err-write_copy-2-clause-wrote : goal.returns-in_err-write_copy-2-clause-wrote
+returns-in_err-write_copy-2-clause-wrote g c = λ honest.
+    let read = (c.in_ok-other.ensures.reads honest).wrote in
+    let other = wrote_other c.args.self.now.header _ c.args.self.now.sector_size c.in_ok-other.ensures.other read (c.write_copy.ensures.wrote read.honest) in
+    wrote_own c.args.self.now.header c.args.self.now.sector_size other (c.write_copy-2.ensures.wrote other.honest)
+
+pub returns-clause-wrote : goal.returns-clause-wrote
+returns-clause-wrote g c = λ honest.
+    let read = (c.in_ok-other.ensures.reads honest).wrote in
+    let other = wrote_other c.args.self.now.header _ c.args.self.now.sector_size c.in_ok-other.ensures.other read (c.write_copy.ensures.wrote read.honest) in
+    wrote_own c.args.self.now.header c.args.self.now.sector_size other (c.write_copy-2.ensures.wrote other.honest)
+
+-- both copies are laid
+laid : (g : Over) (c : goal.In_ok-write_copy-2 g) → IsTrue (g.D.Disk.state c.args.disk.now).is_honest
+    → BothLaid (g.D.Disk.state c.args.disk.now).view (g.D.Disk.state c.write_copy-2.new.disk).view c.args.self.now.header (entries_in c.args.self.now) c.args.self.now.sector_size
+laid g c honest =
+    let read = c.in_ok-other.ensures.reads honest in
+    let w2 = c.write_copy.ensures.wrote read.wrote.honest in
+    let first = c.in_ok-write_copy.ensures in
+    let second = c.in_ok-write_copy-2.ensures in
+    both_laid _ _ _ _ _ _ c.write_copy.new.header c.write_copy-2.new.header _ _ _ _ read.view c.in_ok-other.ensures.other c.as_slice.ensures.items c.as_slice-2.ensures.items
+    first.sealed second.sealed first.fits second.fits (first.laid read.wrote.honest) (second.laid w2.honest)
+
+pub returns-clause-laid : goal.returns-clause-laid
+returns-clause-laid g c = λ honest apart.
+    let h : GPTHeader = c.args.self.now.header in
+    let es : List GPTPartitionEntry = entries_in c.args.self.now in
+    let ss : ℕ = c.args.self.now.sector_size in
+    let old = g.D.Disk.state c.args.disk.now in
+    let new = g.D.Disk.state c.write_copy-2.new.disk in
+    let both = laid g c honest in
+    let inside = allowed_inside h ss old (g.met.D.Disk.sound c.args.disk.now honest).size c.in_ok-other.ensures.answer in
+    let stand = laid_from old.view both.mid new.view h es ss apart inside c.requires.coherent.count both.fits_other both.fits_own both.fits both.other both.own in
+    let own_is : c.write_copy-2.new.header ≡ sealed h es = c.in_ok-write_copy-2.ensures.sealed ∙ ap (sealed h) c.as_slice-2.ensures.items in
+    let other_is : c.write_copy.new.header ≡ sealed (other_header h) es = c.in_ok-write_copy.ensures.sealed ∙ (λ i. sealed (c.in_ok-other.ensures.other i) (c.as_slice.ensures.items i)) in
+    (subst (λ (x : GPTHeader). HasBytes new.view x es ss) (sym own_is) stand.0, subst (λ (x : GPTHeader). HasBytes new.view x es ss) (sym other_is) stand.1)
+
+pub returns-clause-stored : goal.returns-clause-stored
+returns-clause-stored g c = λ honest layout.
+    let h : GPTHeader = c.args.self.now.header in
+    let es : List GPTPartitionEntry = entries_in c.args.self.now in
+    let ss : ℕ = c.args.self.now.sector_size in
+    let old = g.D.Disk.state c.args.disk.now in
+    let new = g.D.Disk.state c.write_copy-2.new.disk in
+    let both = laid g c honest in
+    let read = (c.in_ok-other.ensures.reads honest).wrote in
+    let w2 = c.write_copy.ensures.wrote read.honest in
+    let long : length old.view ≡ old.size = (g.met.D.Disk.sound c.args.disk.now honest).size in
+    let small = subst (λ (n : ℕ). n < 2 ^ 64) (sym long) (g.met.D.Disk.bounded c.args.disk.now) in
+    let held = stored_from old.view both.mid new.view h es ss (subst (HasLayout h (table_of h es) ss) (sym long) layout) small both.fits_other both.fits_own both.fits both.other both.own in
+    record { synced = c.in_ok-write_copy-2.ensures.synced w2.honest; at_primary = held.0; at_backup = held.1 }
+
+pub returns-in_err-write_copy-clause-one_whole : goal.returns-in_err-write_copy-clause-one_whole
+returns-in_err-write_copy-clause-one_whole g c = λ honest nothing apart.
+    let h : GPTHeader = c.args.self.now.header in
+    let ss : ℕ = c.args.self.now.sector_size in
+    let read = c.in_ok-other.ensures.reads honest in
+    leaves_first h _ ss (g.D.Disk.state c.args.disk.now) (g.D.Disk.state c.write_copy.new.disk) nothing
+    (first_run h _ ss _ (g.D.Disk.state c.checked.new.disk) _ c.in_ok-other.ensures.other read (c.write_copy.ensures.wrote read.wrote.honest))
+
+-- the other copy is done before the own one is begun
+done_then_failed : (g : Over) (c : goal.After-from_residual-in_err-write_copy-2 g) → IsTrue (g.D.Disk.state c.args.disk.now).is_honest → AreApart (both_ranges c.args.self.now.header c.args.self.now.sector_size)
+    → IsFirstDone c.args.self.now.header (entries_in c.args.self.now) c.args.self.now.sector_size (g.D.Disk.state c.args.disk.now) (g.D.Disk.state c.write_copy.new.disk)
+done_then_failed g c honest apart =
+    let h : GPTHeader = c.args.self.now.header in
+    let ss : ℕ = c.args.self.now.sector_size in
+    let old = g.D.Disk.state c.args.disk.now in
+    let read = c.in_ok-other.ensures.reads honest in
+    let first = c.in_ok-write_copy.ensures in
+    let inside = allowed_inside h ss old (g.met.D.Disk.sound c.args.disk.now honest).size c.in_ok-other.ensures.answer in
+    first_done h _ c.write_copy.new.header _ _ ss old (g.D.Disk.state c.checked.new.disk) (g.D.Disk.state c.write_copy.new.disk) apart inside c.requires.coherent.count read
+    c.in_ok-other.ensures.other c.as_slice.ensures.items first.sealed first.fits (first.laid read.wrote.honest) (c.write_copy.ensures.wrote read.wrote.honest) (first.synced read.wrote.honest)
+
+done : (g : Over) (c : goal.In_ok-write_copy-2 g) → IsTrue (g.D.Disk.state c.args.disk.now).is_honest → AreApart (both_ranges c.args.self.now.header c.args.self.now.sector_size)
+    → IsFirstDone c.args.self.now.header (entries_in c.args.self.now) c.args.self.now.sector_size (g.D.Disk.state c.args.disk.now) (g.D.Disk.state c.write_copy.new.disk)
+done g c honest apart =
+    let h : GPTHeader = c.args.self.now.header in
+    let ss : ℕ = c.args.self.now.sector_size in
+    let old = g.D.Disk.state c.args.disk.now in
+    let read = c.in_ok-other.ensures.reads honest in
+    let first = c.in_ok-write_copy.ensures in
+    let inside = allowed_inside h ss old (g.met.D.Disk.sound c.args.disk.now honest).size c.in_ok-other.ensures.answer in
+    first_done h _ c.write_copy.new.header _ _ ss old (g.D.Disk.state c.checked.new.disk) (g.D.Disk.state c.write_copy.new.disk) apart inside c.requires.coherent.count read
+    c.in_ok-other.ensures.other c.as_slice.ensures.items first.sealed first.fits (first.laid read.wrote.honest) (c.write_copy.ensures.wrote read.wrote.honest) (first.synced read.wrote.honest)
+
+pub returns-in_err-write_copy-2-clause-one_whole : goal.returns-in_err-write_copy-2-clause-one_whole
+returns-in_err-write_copy-2-clause-one_whole g c = λ honest clean apart.
+    let first = done_then_failed g c honest apart in
+    leaves_second c.args.self.now.header _ c.args.self.now.sector_size _ (g.D.Disk.state c.write_copy.new.disk) (g.D.Disk.state c.write_copy-2.new.disk) clean first
+    (c.write_copy-2.ensures.wrote first.run.honest)
+
+pub returns-clause-one_whole : goal.returns-clause-one_whole
+returns-clause-one_whole g c = λ honest clean apart.
+    let first = done g c honest apart in
+    leaves_second c.args.self.now.header _ c.args.self.now.sector_size _ (g.D.Disk.state c.write_copy.new.disk) (g.D.Disk.state c.write_copy-2.new.disk) clean first
+    (c.write_copy-2.ensures.wrote first.run.honest)
+
+pub returns-in_err-other-clause-failed : goal.returns-in_err-other-clause-failed
+returns-in_err-other-clause-failed g c = λ honest clean apart.
+    let read = c.in_err-other.ensures.reads honest in
+    on_err_of _ (nothing (record { view = read.view; pending = read.pending }))
+
+pub returns-in_err-write_copy-clause-failed : goal.returns-in_err-write_copy-clause-failed
+returns-in_err-write_copy-clause-failed g c = λ honest clean apart.
+    let read = c.in_ok-other.ensures.reads honest in
+    on_err_of _ (failed_first c.args.self.now.header c.in_ok-other.other (entries_in c.args.self.now) c.args.self.now.sector_size (g.D.Disk.state c.args.disk.now) (g.D.Disk.state c.checked.new.disk)
+    (g.D.Disk.state c.write_copy.new.disk) clean read c.in_ok-other.ensures.other (c.write_copy.ensures.wrote read.wrote.honest) (c.in_err-write_copy.ensures.failed read.wrote.honest))
+
+pub returns-in_err-write_copy-2-clause-failed : goal.returns-in_err-write_copy-2-clause-failed
+returns-in_err-write_copy-2-clause-failed g c = λ honest clean apart.
+    let first = done_then_failed g c honest apart in
+    on_err_of _ (failed_second c.args.self.now.header (entries_in c.args.self.now) c.args.self.now.sector_size (g.D.Disk.state c.args.disk.now) (g.D.Disk.state c.write_copy.new.disk)
+    (g.D.Disk.state c.write_copy-2.new.disk) first (c.write_copy-2.ensures.wrote first.run.honest) (c.in_err-write_copy-2.ensures.failed first.run.honest))
