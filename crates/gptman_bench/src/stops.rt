@@ -3,6 +3,7 @@
 ghost use Rattle.std.specs.Prelude.{◌≡◌, ◌<◌, All, IfOk};
 ghost use Rattle.gptman.specs.Table.{entries_in, IsCoherent, IsUnusedAndOrdered};
 
+use crate::faulty::FaultyDisk;
 use crate::fixtures::{DISK_GUID, answer, disk_of, image_of_new_table, new_table};
 use gptman::{Disk, Fate, GPT, GPTHeader, MemoryDisk};
 use std::alloc::Global;
@@ -33,7 +34,7 @@ fn failing(alloc: Global, image: &[u8], calls: u64) -> Result<MemoryDisk, Fail> 
 }
 
 // What writing that table to the disk answers.
-fn write_over(alloc: Global, disk: &mut MemoryDisk, is_backup: bool) -> Result<String, Fail> {
+fn write_over<D: Disk>(alloc: Global, disk: &mut D, is_backup: bool) -> Result<String, Fail> {
     let mut table = new_in_form(alloc, is_backup)?;
     Ok(answer(alloc, &table.write_into(disk))?)
 }
@@ -112,6 +113,23 @@ fn the_other_copy_is_stored_before_the_own_one(rt: HostRuntime) -> Result<(), Fa
             seen.as_slice(),
             [(old, old), between, (new, new)].as_slice()
         );
+    }
+    Ok(())
+}
+
+// A call that fails once is answered too, though all later ones are served.
+#[test]
+fn a_write_of_which_one_call_fails_is_refused(rt: HostRuntime) -> Result<(), Fail> {
+    let alloc = rt.alloc();
+    let image = image_of_new_table(alloc, 2)?;
+    for call in 0..=32 {
+        let mut disk = FaultyDisk::new(failing(alloc, &image, u64::MAX)?, call);
+        let said = write_over(alloc, &mut disk, false)?;
+        let stored = guids(alloc, &mut disk.into_inner().stop(&[])?);
+        let is_stored = stored == (Some(NEW_GUID), Some(NEW_GUID));
+        assert_eq!(rt; said.as_str() == "ok", is_stored, "call {call}");
+        assert!(rt; is_stored || stored.0 == Some(DISK_GUID), "call {call}");
+        assert!(rt; is_stored || call < 32);
     }
     Ok(())
 }
