@@ -37,8 +37,9 @@ const FAULT: u8 = 1;
 const NO_COMMAND: u8 = 2;
 
 /// Does on the disk what the words `SECTOR COMMAND ..` ask for, and prints the outcome to `out`.
-/// SECTOR is the size of a sector in bytes, or for `show` the word `auto`: then it is found. Answers the status to end with: 0 where the command is
-/// done, 1 where it was refused, 2 where the words are none of a command.
+/// SECTOR is the size of a sector in bytes, or for `show` the word `auto`: then it is found.
+/// Answers the status to end with: 0 where the command is done, 1 where it was refused, 2 where the
+/// words are none of a command.
 ///
 /// - `new GUID` writes a new table with this disk GUID, in both places, and prints `ok`.
 /// - `show` prints a line that says what the table on the disk is, and a line for each used entry.

@@ -87,6 +87,18 @@ pub(crate) fn count_used(table: &GPT) -> u64
     count
 }
 
+/// The number of the last entry, by a loop. It is how many entries there are.
+#[tactic(auto, using(gptman::proofs::Numbering::at_end))]
+pub(crate) fn last_number(table: &GPT) -> u32
+    ensures { result ≡ length (entries_in table.now) }
+{
+    let mut last = 0;
+    for (number, _) in table.iter() {
+        last = number;
+    }
+    last
+}
+
 /// The numbers of the used entries, by a chain.
 pub(crate) fn used_numbers(alloc: Global, table: &GPT) -> std::result::Result<Vec<u32>, AllocError>
     ensures { IfOk result (λ v. v.items ≡ map (λ p. p.0) (filter (λ p. is_used p.1) (enumerate_from 1 (entries_in table.now)))) }

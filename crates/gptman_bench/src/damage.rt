@@ -1,8 +1,8 @@
 //! Images that are damaged, cut, zeroed and crafted, each read by the library and by a plain reader.
 
-use crate::fixtures::{DISK_GUID, complement, disk_of, partition, put};
+use crate::fixtures::{DISK_GUID, complement, disk_of, partition, put, used_names};
 use crate::oracle::{header_checksum, is_read_alike};
-use gptman::{GPTHeader, GPTPartitionEntry};
+use gptman::{GPT, GPTHeader, GPTPartitionEntry, MemoryDisk};
 use std::alloc::Global;
 use std::process::Abort;
 use std::test::Fail;
@@ -36,11 +36,26 @@ fn image(alloc: Global) -> Result<Vec<u8>, Fail> {
             number_of_partition_entries: 4,
             ..GPTHeader::new_from(&mut disk_of(alloc, 0, 51_200)?, 512, DISK_GUID)?
         };
-        if entries.len() == 4 && header.header_size == 92 && header.size_of_partition_entry == 128 {
-            header.write_into(&mut disk, 512, &entries)?;
+        if entries.len() != 4 || header.header_size != 92 || header.size_of_partition_entry != 128 {
+            return Err(Fail::new("the header does not fit the entries"));
         }
+        header.write_into(&mut disk, 512, &entries)?;
     }
     Ok(disk.bytes().to_vec(alloc)?)
+}
+
+#[test]
+fn each_copy_of_the_image_is_whole(rt: HostRuntime) -> Result<(), Fail> {
+    let alloc = rt.alloc();
+    let image = image(alloc)?;
+    for (broken, primary_lba) in [(19_968, 1), (512, 39)] {
+        let mut bytes = image.clone()?;
+        complement(&mut bytes, broken);
+        let table = GPT::read_from(alloc, &mut MemoryDisk::new(alloc, bytes)?, 512)?;
+        assert_eq!(rt; table.header.primary_lba, primary_lba);
+        assert_eq!(rt; used_names(alloc, &table)?.as_str(), "1 Foo, 3 Bar, ");
+    }
+    Ok(())
 }
 
 // Both readers agree on these bytes.

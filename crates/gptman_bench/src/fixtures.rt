@@ -170,7 +170,7 @@ pub(crate) fn entries_of(alloc: Global, table: &GPT) -> Result<Vec<GPTPartitionE
 
 /// The bytes of a zero disk of 100 sectors on which both copies of the table, which is in primary
 /// form, were written.
-pub(crate) fn image_of(alloc: Global, table: &GPT) -> Result<Vec<u8>> {
+pub(crate) fn image_of(alloc: Global, table: &GPT) -> std::result::Result<Vec<u8>, Fail> {
     let sector_size = table.sector_size.clamp(1, 4096);
     let mut disk = disk_of(alloc, 0, 100 * sector_size as usize)?;
     let entries = entries_of(alloc, table)?;
@@ -183,12 +183,13 @@ pub(crate) fn image_of(alloc: Global, table: &GPT) -> Result<Vec<u8>> {
     };
     for mut header in [own, other] {
         let count = header.number_of_partition_entries as usize;
-        if header.header_size == 92
-            && header.size_of_partition_entry == 128
-            && entries.len() == count
+        if entries.len() != count
+            || header.header_size != 92
+            || header.size_of_partition_entry != 128
         {
-            header.write_into(&mut disk, sector_size, &entries)?;
+            return Err(Fail::new("the header does not fit the entries"));
         }
+        header.write_into(&mut disk, sector_size, &entries)?;
     }
     Ok(disk.bytes().to_vec(alloc)?)
 }

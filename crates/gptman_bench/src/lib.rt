@@ -15,6 +15,10 @@ mod entries;
 #[cfg(test)]
 mod errors;
 #[cfg(test)]
+mod failures;
+#[cfg(test)]
+mod faulty;
+#[cfg(test)]
 mod files;
 #[cfg(test)]
 mod fitting;

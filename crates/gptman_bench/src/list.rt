@@ -1,7 +1,8 @@
 //! The list of a table's entries: looked at, changed, put in order.
 
 use crate::callers::{
-    are_equal, clear_by_iterator, clear_by_number, count_used, exchange, sort_twice, used_numbers,
+    are_equal, clear_by_iterator, clear_by_number, count_used, exchange, last_number, sort_twice,
+    used_numbers,
 };
 use crate::fixtures::{answer, disk_1, disk_1_unsorted, partition, used_names};
 use gptman::{Edit, Fate, GPT, GPTPartitionEntry, PartitionName};
@@ -19,6 +20,7 @@ fn entries_are_numbered_from_one(rt: HostRuntime) -> Result<(), Fail> {
         last = number;
     }
     assert_eq!(rt; last, 128);
+    assert_eq!(rt; last_number(&table), 128);
     assert_eq!(rt; count_used(&table), 3);
     assert_eq!(rt;
         used_numbers(alloc, &table)?.as_slice(),

@@ -13,8 +13,8 @@ fn twice_written(alloc: Global) -> Result<MemoryDisk, Fail> {
     Ok(disk)
 }
 
-// Three calls: the length, the position and the write.
-fn put(disk: &mut MemoryDisk, at: u64, bytes: &[u8]) -> io::Result<()> {
+/// Writes the bytes from `at` on. Three calls: the length, the position and the write.
+pub(crate) fn put<D: Disk>(disk: &mut D, at: u64, bytes: &[u8]) -> io::Result<()> {
     let size = disk.seek_end()?;
     disk.seek_start(at)?;
     if at <= size && bytes.len() as u64 <= size - at {

@@ -76,9 +76,10 @@ fn disk_with(alloc: Global, entry: GPTPartitionEntry) -> Result<MemoryDisk, Fail
     let mut header = GPTHeader::new_from(&mut disk, 512, [0xff; 16])?;
     let entries = vec![in alloc; GPTPartitionEntry::empty(alloc), entry]?;
     header.number_of_partition_entries = 2;
-    if entries.len() == 2 && header.header_size == 92 && header.size_of_partition_entry == 128 {
-        header.write_into(&mut disk, 512, &entries)?;
+    if entries.len() != 2 || header.header_size != 92 || header.size_of_partition_entry != 128 {
+        return Err(Fail::new("the header does not fit the entries"));
     }
+    header.write_into(&mut disk, 512, &entries)?;
     Ok(disk)
 }
 

@@ -4,7 +4,7 @@
 ghost use Rattle.std.specs.Prelude.{◌≡◌, IfOk};
 
 use crate::fixtures::{
-    DISK_GUID, answer, complement, disk_of, image_of_new_table, new_table, put, used_entries,
+    DISK_GUID, answer, complement, disk_2, disk_of, image_of, image_of_new_table, put, used_entries,
 };
 use gptman::{GPT, GPTHeader, GPTPartitionEntry, MemoryDisk};
 use std::alloc::Global;
@@ -119,23 +119,22 @@ fn the_backup_is_in_the_last_whole_sector(rt: HostRuntime) -> Result<(), Fail> {
     Ok(())
 }
 
-// A disk of 100 sectors of 4096 bytes with a new table.
-fn disk_of_4096(alloc: Global) -> Result<MemoryDisk, Fail> {
-    let mut disk = disk_of(alloc, 0, 409_600)?;
-    new_table(alloc, &mut disk, 4096, DISK_GUID)?.write_into(&mut disk)?;
-    Ok(disk)
-}
-
 #[test]
 fn the_sector_size_is_found(rt: HostRuntime) -> Result<(), Fail> {
     let alloc = rt.alloc();
     let mut small = MemoryDisk::new(alloc, image_of_new_table(alloc, 0)?)?;
     assert_eq!(rt; GPT::find_from(alloc, &mut small)?.sector_size, 512);
-    let mut large = disk_of_4096(alloc)?;
-    let table = GPT::find_from(alloc, &mut large)?;
-    assert_eq!(rt; table.sector_size, 4096);
+    let mut large = MemoryDisk::new(alloc, image_of(alloc, &disk_2(alloc)?)?)?;
+    assert_eq!(rt; GPT::find_from(alloc, &mut large)?.sector_size, 4096);
     assert!(rt; GPT::read_from(alloc, &mut large, 512).is_err());
-    let mut bytes = large.bytes().to_vec(alloc)?;
+    Ok(())
+}
+
+#[test]
+fn sectors_of_4096_are_not_tried_after_a_signature(rt: HostRuntime) -> Result<(), Fail> {
+    let alloc = rt.alloc();
+    let mut bytes = image_of(alloc, &disk_2(alloc)?)?;
+    let table = GPT::find_from(alloc, &mut MemoryDisk::new(alloc, bytes.clone()?)?)?;
     put(&mut bytes, 512, b"EFI PART");
     let mut both = MemoryDisk::new(alloc, bytes)?;
     let said = answer(alloc, &GPT::find_from(alloc, &mut both))?;
@@ -160,9 +159,10 @@ fn align_of(alloc: Global, starts: &[u64]) -> Result<u64, Fail> {
     if entries.len() < 2 {
         entries.push(GPTPartitionEntry::empty(alloc))?;
     }
-    if entries.len() == 2 && header.header_size == 92 && header.size_of_partition_entry == 128 {
-        header.write_into(&mut disk, 512, &entries)?;
+    if entries.len() != 2 || header.header_size != 92 || header.size_of_partition_entry != 128 {
+        return Err(Fail::new("the header does not fit the entries"));
     }
+    header.write_into(&mut disk, 512, &entries)?;
     Ok(GPT::read_from(alloc, &mut disk, 512)?.align)
 }
 

@@ -1,8 +1,9 @@
 //! A write that is stopped or fails at any call: what is left is read as the table that was there or
 //! as the one that was being written, and so is each copy alone that can be read.
 
+use crate::faulty::FaultyDisk;
 use crate::fixtures::{disk_1, image_of, partition, put, read_image, write};
-use gptman::{Edit, Error, Fate, GPT, MemoryDisk};
+use gptman::{Disk, Edit, Error, Fate, GPT, MemoryDisk};
 use std::alloc::Global;
 use std::process::Abort;
 use std::test::Fail;
@@ -49,7 +50,7 @@ fn is_same_table(a: &GPT, b: &GPT) -> bool {
 }
 
 // Whether the table could be written. It is not refused but for a failure of the disk.
-fn is_written(disk: &mut MemoryDisk, table: &GPT) -> Result<bool, Fail> {
+fn is_written<D: Disk>(disk: &mut D, table: &GPT) -> Result<bool, Fail> {
     let mut table = table.clone()?;
     match write(&mut table, disk)? {
         Ok(_) => Ok(true),
@@ -107,8 +108,8 @@ fn stop_after(
 ) -> Result<bool, Fail> {
     let old = read_image(alloc, image)?;
     let mut done = false;
-    for all in [Fate::Old, Fate::New, Fate::Garbage(7)] {
-        for torn in 0..=6 {
+    for (all, most) in [(Fate::Old, 6), (Fate::New, 6), (Fate::Garbage(7), 0)] {
+        for torn in 0..=most {
             let mut disk = MemoryDisk::with_fuse(alloc, image.to_vec(alloc)?, calls)?;
             done = is_written(&mut disk, new)?;
             let left = disk.stop(&fates(all, torn))?;
@@ -223,6 +224,26 @@ fn a_table_is_written_and_read_in_few_calls(rt: HostRuntime) -> Result<(), Fail>
     let written = disk.bytes().to_vec(alloc)?;
     let mut disk = MemoryDisk::with_fuse(alloc, written, 16)?;
     assert!(rt; is_same_table(&GPT::read_from(alloc, &mut disk, 512)?, &new));
+    Ok(())
+}
+
+// A call that fails once is answered too, though all later ones are served, and what it leaves is read
+// as one of the two tables.
+#[test]
+fn a_write_of_which_one_call_fails_is_refused(rt: HostRuntime) -> Result<(), Fail> {
+    let alloc = rt.alloc();
+    for zeroed in [None, Some(512), Some(50_688)] {
+        let image = image(alloc, zeroed)?;
+        let (old, new) = (read_image(alloc, &image)?, edited(alloc, &image)?);
+        for call in 0..=19 {
+            let below = MemoryDisk::new(alloc, image.clone()?)?;
+            let mut disk = FaultyDisk::new(below, call);
+            assert_eq!(rt; is_written(&mut disk, &new)?, call == 19, "call {call}");
+            let left = disk.into_inner();
+            assert_reads_one(&rt, alloc, left.bytes(), &old, &new)?;
+            assert_reads_one(&rt, alloc, left.stop(&[])?.bytes(), &old, &new)?;
+        }
+    }
     Ok(())
 }
 

@@ -1,0 +1,145 @@
+//! A disk of which one call fails.
+
+ghost use Rattle.std.specs.Prelude.{◌≡◌, ◌+◌, OnOk, OnErr};
+ghost use Rattle.gptman_bench.specs.Faulty.{faulty_sound, faulty_state, own_failures};
+
+use crate::memory::put;
+use gptman::{Disk, MemoryDisk};
+use std::alloc::Global;
+use std::io;
+use std::test::Fail;
+
+/// A disk that passes its calls on to the one below, but for one, which fails. A write that fails
+/// so is passed on as well.
+#[derive(Drop)]
+pub(crate) struct FaultyDisk<D> {
+    below: D,
+    // How many calls come before the one that fails. None once it has failed.
+    calls_left: Option<u64>,
+}
+
+impl<D: Disk> FaultyDisk<D> {
+    /// Over this disk, with the failure at the call of this number, counted from 0.
+    pub(crate) fn new(below: D, failing: u64) -> FaultyDisk<D>
+        ensures { result ≡ record { below = below; calls_left = Some failing } }
+    {
+        FaultyDisk {
+            below,
+            calls_left: Some(failing),
+        }
+    }
+
+    /// The disk below, with all that was passed on to it.
+    pub(crate) fn into_inner(self) -> D
+        ensures { result ≡ self.below }
+    {
+        self.below
+    }
+}
+
+// Counts a call. An error where it is the one that fails.
+fn count_call(calls_left: &mut Option<u64>) -> io::Result<()>
+    ensures passes { OnOk result (own_failures calls_left.new ≡ own_failures calls_left.old) }
+    ensures fails { OnErr result (own_failures calls_left.new ≡ own_failures calls_left.old + 1) }
+{
+    match *calls_left {
+        None => {}
+        Some(0) => {
+            *calls_left = None;
+            return Err(io::Error::other("the call was chosen to fail"));
+        }
+        Some(calls) => *calls_left = Some(calls - 1),
+    }
+    Ok(())
+}
+
+impl<D: Disk> Disk for FaultyDisk<D> {
+    ghost state = { λ d. faulty_state (D.state d.below) d.calls_left };
+
+    fn seek_start(&mut self, at: u64) -> io::Result<u64> {
+        count_call(&mut self.calls_left)?;
+        self.below.seek_start(at)
+    }
+
+    fn seek_end(&mut self) -> io::Result<u64> {
+        count_call(&mut self.calls_left)?;
+        self.below.seek_end()
+    }
+
+    fn read_exact(&mut self, buf: &mut [u8]) -> io::Result<()> {
+        count_call(&mut self.calls_left)?;
+        self.below.read_exact(buf)
+    }
+
+    fn write_all(&mut self, buf: &[u8]) -> io::Result<()> {
+        let counted = count_call(&mut self.calls_left);
+        self.below.write_all(buf)?;
+        counted
+    }
+
+    fn sync(&mut self) -> io::Result<()> {
+        count_call(&mut self.calls_left)?;
+        self.below.sync()
+    }
+
+    ghost bounded = { λ d. D.bounded d.below };
+
+    ghost sound = { λ d honest. faulty_sound (D.state d.below) d.calls_left (D.sound d.below honest) };
+}
+
+// A disk of the bytes 1 to 4, of which one call fails.
+fn failing(alloc: Global, call: u64) -> Result<FaultyDisk<MemoryDisk>, Fail> {
+    let below = MemoryDisk::new(alloc, [1, 2, 3, 4].to_vec(alloc)?)?;
+    Ok(FaultyDisk::new(below, call))
+}
+
+#[test]
+fn a_write_that_fails_is_passed_on(rt: HostRuntime) -> Result<(), Fail> {
+    let mut disk = failing(rt.alloc(), 2)?;
+    assert!(rt; put(&mut disk, 1, &[7, 7]).is_err());
+    assert_eq!(rt; disk.into_inner().bytes(), [1, 7, 7, 4].as_slice());
+    Ok(())
+}
+
+// The two bytes at the disk's position.
+fn pair(disk: &mut FaultyDisk<MemoryDisk>) -> io::Result<[u8; 2]> {
+    let mut bytes = [0; 2];
+    disk.read_exact(&mut bytes)?;
+    Ok(bytes)
+}
+
+#[test]
+fn a_seek_that_fails_is_not_passed_on(rt: HostRuntime) -> Result<(), Fail> {
+    let alloc = rt.alloc();
+    let mut disk = failing(alloc, 0)?;
+    assert!(rt; disk.seek_start(2).is_err());
+    assert_eq!(rt; pair(&mut disk)?, [1, 2]);
+    let mut disk = failing(alloc, 0)?;
+    assert!(rt; disk.seek_end().is_err());
+    assert_eq!(rt; pair(&mut disk)?, [1, 2]);
+    Ok(())
+}
+
+#[test]
+fn a_read_that_fails_is_not_passed_on(rt: HostRuntime) -> Result<(), Fail> {
+    let mut disk = failing(rt.alloc(), 1)?;
+    assert_eq!(rt; pair(&mut disk)?, [1, 2]);
+    assert!(rt; pair(&mut disk).is_err());
+    assert_eq!(rt; pair(&mut disk)?, [3, 4]);
+    Ok(())
+}
+
+#[test]
+fn a_sync_that_fails_is_not_passed_on(rt: HostRuntime) -> Result<(), Fail> {
+    let alloc = rt.alloc();
+    for (is_synced_again, left) in [(false, [1, 2, 3, 4]), (true, [1, 7, 7, 4])] {
+        let mut disk = failing(alloc, 3)?;
+        put(&mut disk, 1, &[7, 7])?;
+        assert!(rt; disk.sync().is_err());
+        if is_synced_again {
+            disk.sync()?;
+        }
+        assert_eq!(rt; disk.into_inner().stop(&[])?.bytes(), left.as_slice());
+    }
+    Ok(())
+}
