@@ -18,6 +18,7 @@ mod align;
 mod entries;
 pub mod iter;
 pub mod laws;
+mod mbr;
 mod numbers;
 mod read;
 mod sort;
