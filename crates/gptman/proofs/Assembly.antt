@@ -28,6 +28,13 @@ written_more {old} {front} {rest} {at} w part n size {new} put =
       long = length-append front part ∙ rw (w.long, size) refl;
     }
 
+-- a part that stays as it stands
+pub written_kept : {bytes front rest : List ℕ} {at : ℕ} → Written bytes front rest at → (part more : List ℕ) (n : ℕ) → rest ≡ part ++ more → length part ≡ n → Written bytes (front ++ part) more (at + n)
+written_kept {front = front} w part more n is size = record {
+  are = w.are ∙ ap (λ (xs : List ℕ). front ++ xs) is ∙ sym (append_assoc front part more);
+  long = length-append front part ∙ rw (w.long, size) refl;
+}
+
 -- all is written
 pub written_all : {bytes front rest : List ℕ} {at : ℕ} → Written bytes front rest at → rest ≡ [] → bytes ≡ front
 written_all {bytes} {front} w end = w.are ∙ ap (λ (xs : List ℕ). front ++ xs) end ∙ append-nil front

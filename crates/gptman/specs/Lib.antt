@@ -14,6 +14,7 @@ pub mod File
 pub mod Fit
 pub mod Layout
 pub mod Lending
+pub mod Mbr
 pub mod Memory
 pub mod Name
 pub mod Number

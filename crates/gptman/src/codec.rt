@@ -8,4 +8,4 @@ pub mod entry;
 pub mod header;
 pub mod name;
 
-pub(crate) use cells::{note_bytes, part_at, put};
+pub(crate) use cells::{note_bytes, part_at, put, put_u32};

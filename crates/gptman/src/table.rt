@@ -20,6 +20,7 @@ mod covered;
 mod entries;
 pub mod iter;
 pub mod laws;
+mod mbr;
 mod numbers;
 mod read;
 mod sort;

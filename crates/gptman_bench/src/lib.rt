@@ -31,6 +31,8 @@ mod headers;
 #[cfg(test)]
 mod list;
 #[cfg(test)]
+mod mbr;
+#[cfg(test)]
 mod memory;
 #[cfg(test)]
 mod names;

@@ -1,0 +1,140 @@
+//! The protective MBR: 66 bytes in the first 512, which show the whole disk as one partition to a
+//! program that knows no GUID partition tables.
+
+ghost use Rattle.std.specs.Prelude.{◌≡◌, ◌≤◌, ◌<◌, ◌⊎◌, ◌∷◌, [], ℕ, true, false};
+ghost use Rattle.std.specs.Prelude.{Contains, IsTrue, IfErr, OnOk, OnErr};
+ghost use Rattle.gptman.specs.Disk.{Keeps, Rose, Wrote, overlay};
+ghost use Rattle.gptman.specs.Fault.{fault_of, io as io_fault};
+ghost use Rattle.gptman.specs.Mbr.{mbr_bytes, mbr_fault};
+ghost use Rattle.gptman.specs.Calls.{Refuses, Settles, Untouched};
+
+use crate::codec::{put, put_u32};
+use crate::disk::Disk;
+use crate::error::{Error, Result};
+use crate::table::GPT;
+
+// The byte of the disk at which the 66 bytes begin.
+const MBR_START: u64 = 446;
+
+// The byte behind them.
+const MBR_END: u64 = 512;
+
+impl GPT {
+    /// Writes a protective MBR: the 66 bytes from byte 446 of the disk on, and no other. Its one
+    /// partition begins at sector 1 and has all whole sectors from there on, at most 0xFFFFFFFF.
+    /// The sector size is in bytes; with 512 or more the 66 bytes lie in sector 0. Nothing is
+    /// synced, and no memory is taken.
+    ///
+    /// `Io` where the length cannot be taken, then `Overflow` where the disk is shorter than a
+    /// sector, then `NoSpaceLeft` where it is shorter than 512 bytes; nothing is written then.
+    /// `Io` also where the seek or the write failed: then nothing was written, or the 66 bytes are
+    /// not synced.
+    pub fn write_protective_mbr_into<D: Disk>(disk: &mut D, sector_size: u64) -> Result<()>
+        requires { 0 < sector_size }
+        ensures keeps { Keeps (D.state disk.old) (D.state disk.new) }
+
+        // What is answered.
+        ensures answer { Settles (mbr_fault sector_size (D.state disk.old).size) result
+            (D.state disk.old) (D.state disk.new) }
+        ensures cause { Refuses result io_fault → Rose (D.state disk.old) (D.state disk.new) }
+
+        // What becomes of the disk.
+        ensures wrote { IsTrue (D.state disk.old).is_honest
+            → Wrote ((446, 66) ∷ []) (D.state disk.old) (D.state disk.new) }
+        ensures laid { IsTrue (D.state disk.old).is_honest
+            → OnOk result ((D.state disk.new).view ≡ overlay (D.state disk.old).view 446
+            (mbr_bytes false sector_size (D.state disk.old).size)) }
+        ensures pending { IsTrue (D.state disk.old).is_honest
+            → OnOk result ((D.state disk.new).pending ≡ (446, 66) ∷ (D.state disk.old).pending) }
+        ensures untouched { IsTrue (D.state disk.old).is_honest
+            → IfErr result (λ e. (fault_of e ≡ io_fault)
+            ⊎ Untouched (D.state disk.old) (D.state disk.new)) }
+        ensures failed { IsTrue (D.state disk.old).is_honest
+            → OnErr result (Untouched (D.state disk.old) (D.state disk.new)
+            ⊎ Contains (D.state disk.new).pending (446, 66)) }
+    {
+        write_mbr(disk, sector_size, false)
+    }
+
+    /// Writes a protective MBR whose partition is marked as bootable: byte 446 is 0x80, and all
+    /// else is as `write_protective_mbr_into` writes it. The sector size is in bytes.
+    ///
+    /// The errors are the same: `Io` where the length cannot be taken, then `Overflow` where the
+    /// disk is shorter than a sector, then `NoSpaceLeft` where it is shorter than 512 bytes, then
+    /// `Io` where the seek or the write failed.
+    pub fn write_bootable_protective_mbr_into<D: Disk>(disk: &mut D, sector_size: u64) -> Result<()>
+        requires { 0 < sector_size }
+        ensures keeps { Keeps (D.state disk.old) (D.state disk.new) }
+
+        // What is answered.
+        ensures answer { Settles (mbr_fault sector_size (D.state disk.old).size) result
+            (D.state disk.old) (D.state disk.new) }
+        ensures cause { Refuses result io_fault → Rose (D.state disk.old) (D.state disk.new) }
+
+        // What becomes of the disk.
+        ensures wrote { IsTrue (D.state disk.old).is_honest
+            → Wrote ((446, 66) ∷ []) (D.state disk.old) (D.state disk.new) }
+        ensures laid { IsTrue (D.state disk.old).is_honest
+            → OnOk result ((D.state disk.new).view ≡ overlay (D.state disk.old).view 446
+            (mbr_bytes true sector_size (D.state disk.old).size)) }
+        ensures pending { IsTrue (D.state disk.old).is_honest
+            → OnOk result ((D.state disk.new).pending ≡ (446, 66) ∷ (D.state disk.old).pending) }
+        ensures untouched { IsTrue (D.state disk.old).is_honest
+            → IfErr result (λ e. (fault_of e ≡ io_fault)
+            ⊎ Untouched (D.state disk.old) (D.state disk.new)) }
+        ensures failed { IsTrue (D.state disk.old).is_honest
+            → OnErr result (Untouched (D.state disk.old) (D.state disk.new)
+            ⊎ Contains (D.state disk.new).pending (446, 66)) }
+    {
+        write_mbr(disk, sector_size, true)
+    }
+}
+
+// Writes a protective MBR, whose partition is marked as bootable or not.
+fn write_mbr<D: Disk>(disk: &mut D, sector_size: u64, bootable: bool) -> Result<()>
+    requires { 0 < sector_size }
+    ensures keeps { Keeps (D.state disk.old) (D.state disk.new) }
+    ensures answer { Settles (mbr_fault sector_size (D.state disk.old).size) result
+        (D.state disk.old) (D.state disk.new) }
+    ensures cause { Refuses result io_fault → Rose (D.state disk.old) (D.state disk.new) }
+    ensures wrote { IsTrue (D.state disk.old).is_honest
+        → Wrote ((446, 66) ∷ []) (D.state disk.old) (D.state disk.new) }
+    ensures laid { IsTrue (D.state disk.old).is_honest
+        → OnOk result ((D.state disk.new).view ≡ overlay (D.state disk.old).view 446
+        (mbr_bytes bootable sector_size (D.state disk.old).size)) }
+    ensures pending { IsTrue (D.state disk.old).is_honest
+        → OnOk result ((D.state disk.new).pending ≡ (446, 66) ∷ (D.state disk.old).pending) }
+    ensures untouched { IsTrue (D.state disk.old).is_honest
+        → IfErr result (λ e. (fault_of e ≡ io_fault)
+        ⊎ Untouched (D.state disk.old) (D.state disk.new)) }
+    ensures failed { IsTrue (D.state disk.old).is_honest
+        → OnErr result (Untouched (D.state disk.old) (D.state disk.new)
+        ⊎ Contains (D.state disk.new).pending (446, 66)) }
+{
+    let size = disk.seek_end()?;
+    if size < sector_size {
+        return Err(Error::Overflow);
+    }
+    if size < MBR_END {
+        return Err(Error::NoSpaceLeft);
+    }
+    disk.seek_start(MBR_START)?;
+    disk.write_all(&mbr_bytes(bootable, sector_size, size))?;
+    Ok(())
+}
+
+// The bytes of a protective MBR for a disk of so many bytes.
+fn mbr_bytes(bootable: bool, sector_size: u64, size: u64) -> [u8; 66]
+    requires sector { 0 < sector_size }
+    requires room { sector_size ≤ size }
+    ensures { result ≡ mbr_bytes bootable sector_size size }
+{
+    let status = if bootable { 0x80 } else { 0 };
+    let sectors = (size / sector_size - 1).min(u64::from(u32::MAX));
+    let mut bytes = [0; 66];
+    put(&mut bytes, 0, &[status, 0, 2, 0, 0xee, 0xff, 0xff, 0xff]);
+    put_u32(&mut bytes, 8, 1);
+    put_u32(&mut bytes, 12, sectors as u32);
+    put(&mut bytes, 64, &[0x55, 0xaa]);
+    bytes
+}
