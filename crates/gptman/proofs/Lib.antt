@@ -7,6 +7,8 @@ pub mod Assembly
 pub mod BlockBytes
 pub mod Boundaries
 pub mod ByTable
+pub mod CommitLoop
+pub mod Commits
 pub mod CommonDivisor
 pub mod CopyParts
 pub mod CopyTests

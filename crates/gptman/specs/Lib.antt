@@ -2,6 +2,7 @@ pub mod Alignment
 pub mod Bytes
 pub mod Calls
 pub mod Coding
+pub mod Commit
 pub mod Copy
 pub mod Crash
 pub mod Crc

@@ -1,13 +1,21 @@
 //! Edits of a table as values, made one after the other.
 
-ghost use Rattle.std.specs.Prelude.{◌≡◌, ◌⊎◌, OnOk, OnErr};
-ghost use Rattle.gptman.specs.Calls.{refusal_of, Refuses};
-ghost use Rattle.gptman.specs.Edit.{edited, edit_fault};
-ghost use Rattle.gptman.specs.Fault.{out_of_memory};
+ghost use Rattle.std.specs.Prelude.{◌≡◌, ◌≤◌, ◌<◌, ◌⊎◌, ◌+◌, [], ◌∷◌, ℕ, List, length, IsTrue, IfErr, IfNone, IfSome, OnOk, OnErr};
+ghost use Rattle.gptman.specs.Calls.{refusal_of, OnlyRead, Refuses};
+ghost use Rattle.gptman.specs.Commit.{reached, tables_to, DiskFailed, IsAccepted, IsAcceptedAt, IsButSums, IsRefusedAt, RefusesEdit, Stands};
+ghost use Rattle.gptman.specs.Crash.{IsKeptFor};
+ghost use Rattle.gptman.specs.Disk.{Agrees, Image, Keeps, LeavesOnly, Wrote};
+ghost use Rattle.gptman.specs.Edit.{edited, edit_fault, table_after};
+ghost use Rattle.gptman.specs.Fault.{fault_of, io as io_fault, out_of_memory};
+ghost use Rattle.gptman.specs.Layout.{four_ranges, HasLayout};
+ghost use Rattle.gptman.specs.Stop.{HoldsOneOf, IsStored, ReadsForeign, ReadsOneOf};
+ghost use Rattle.gptman.specs.Table.{entries_in, table_in, IsCoherent};
+ghost use Rattle.gptman.specs.Write.{both_ranges};
 ghost use Rattle.gptman.specs.declared.edit.Edit.TheVariants.{SortEntries};
 
 use crate::codec::entry::GPTPartitionEntry;
-use crate::error::Result;
+use crate::disk::Disk;
+use crate::error::{Error, Result};
 use crate::table::GPT;
 
 /// A change of a table. Numbers of entries count from 1.
@@ -21,6 +29,15 @@ pub enum Edit {
     SortEntries,
     /// Gives the disk this GUID, as its 16 bytes stand on it.
     DiskGuid([u8; 16]),
+}
+
+/// How far a list of edits came.
+#[derive(Drop, Debug)]
+pub struct Progress {
+    /// How many edits were made and written.
+    pub done: usize,
+    /// Why the next one was not, unless all were.
+    pub fault: Option<Error>,
 }
 
 impl GPT {
@@ -42,5 +59,97 @@ impl GPT {
                 Ok(())
             }
         }
+    }
+
+    /// Makes the edits one after the other and writes the table after each. Stops at the first that is
+    /// refused, or whose write is.
+    ///
+    /// `done` counts the edits that were made and written. `fault` says why the next one was not:
+    /// `InvalidPartitionNumber` of `apply`, or what `write_into` refuses the edited table with. Where
+    /// the number was refused the value holds the table after `done` edits, and where the write was
+    /// the one after `done + 1`. After a fault other than `Io` both places of the disk still hold the
+    /// table after `done` edits, or the disk is as it was where `done` is 0. Without an edit nothing
+    /// is written.
+    pub fn commit_all<D: Disk>(&mut self, disk: &mut D, edits: Vec<Edit>) -> Progress
+        requires sector { 0 < self.old.sector_size }
+        requires coherent { IsCoherent self.old.header (entries_in self.old) }
+        ensures keeps { Keeps (D.state disk.old) (D.state disk.new) }
+
+        // Which edits were made, and why the next one was not.
+        ensures count { result.done ≤ length edits.items }
+        ensures all { IfNone result.fault (result.done ≡ length edits.items) }
+        ensures accepted { (k : ℕ) → k < result.done → IsAcceptedAt self.old edits.items k }
+        ensures refused { HasLayout self.old.header (table_in self.old) self.old.sector_size (D.state disk.old).size
+            → IfSome result.fault (λ e. IsRefusedAt self.old edits.items result.done (fault_of e) self.new (D.state disk.old) (D.state disk.new)) }
+        ensures value { IfNone result.fault (IsButSums (table_after self.old edits.items result.done) self.new) }
+
+        // What becomes of the disk. Unless it failed, both places hold the last table, or nothing was written where there is none.
+        ensures wrote { IsTrue (D.state disk.old).is_honest → Wrote (both_ranges self.old.header self.old.sector_size) (D.state disk.old) (D.state disk.new) }
+        ensures stands { IsTrue (D.state disk.old).is_honest
+            → HasLayout self.old.header (table_in self.old) self.old.sector_size (D.state disk.old).size
+            → DiskFailed result.fault ⊎ Stands self.old edits.items result.done (D.state disk.old) (D.state disk.new) }
+
+        // From one good copy of the value's own table, a stop at any moment leaves the table after some of the edits at one place at least.
+        ensures one_good { IsTrue (D.state disk.old).is_honest
+            → HasLayout self.old.header (table_in self.old) self.old.sector_size (D.state disk.old).size
+            → IsKeptFor (D.state disk.old) self.old (table_in self.old)
+            → LeavesOnly (D.state disk.old) (D.state disk.new) (λ b. HoldsOneOf b self.old.sector_size (tables_to self.old edits.items (reached result.done result.fault))) }
+        ensures read { IsTrue (D.state disk.old).is_honest
+            → HasLayout self.old.header (table_in self.old) self.old.sector_size (D.state disk.old).size
+            → IsKeptFor (D.state disk.old) self.old (table_in self.old)
+            → LeavesOnly (D.state disk.old) (D.state disk.new)
+            (λ b. ¬ ReadsForeign b self.old.sector_size (tables_to self.old edits.items (reached result.done result.fault))
+            → ReadsOneOf b self.old.sector_size (tables_to self.old edits.items (reached result.done result.fault))) }
+        ensures outside { IsTrue (D.state disk.old).is_honest → (D.state disk.old).pending ≡ []
+            → HasLayout self.old.header (table_in self.old) self.old.sector_size (D.state disk.old).size
+            → LeavesOnly (D.state disk.old) (D.state disk.new) (Agrees (four_ranges (table_in self.old) self.old.sector_size (D.state disk.old).size) (D.state disk.old).view) }
+        ensures last { IsTrue (D.state disk.old).is_honest
+            → HasLayout self.old.header (table_in self.old) self.old.sector_size (D.state disk.old).size
+            → IsKeptFor (D.state disk.old) self.old (table_in self.old)
+            → IfSome result.fault (λ e. (b : List ℕ) → Image (D.state disk.new) b → HoldsOneOf b self.old.sector_size
+            (table_in (table_after self.old edits.items result.done) ∷ table_in (table_after self.old edits.items (result.done + 1)) ∷ [])) }
+    {
+        let mut done = 0;
+        for edit in edits {
+            if let Err(fault) = self.commit(disk, edit) {
+                return Progress {
+                    done,
+                    fault: Some(fault),
+                };
+            }
+            done += 1;
+        }
+        Progress { done, fault: None }
+    }
+
+    // Makes the edit and writes the table.
+    fn commit<D: Disk>(&mut self, disk: &mut D, edit: Edit) -> Result<()>
+        requires sector { 0 < self.old.sector_size }
+        requires coherent { IsCoherent self.old.header (entries_in self.old) }
+        ensures keeps { Keeps (D.state disk.old) (D.state disk.new) }
+        ensures sector { self.new.sector_size ≡ self.old.sector_size }
+        ensures coherent { IsCoherent self.new.header (entries_in self.new) }
+
+        // What is answered, and what becomes of the value.
+        ensures accepted { OnOk result (IsAccepted self.old edit) }
+        ensures value { OnOk result (IsButSums (edited self.old edit) self.new) }
+        ensures refused { HasLayout self.old.header (table_in self.old) self.old.sector_size (D.state disk.old).size
+            → IfErr result (λ e. RefusesEdit self.old edit (fault_of e) self.new (D.state disk.old) (D.state disk.new)) }
+
+        // What becomes of the disk.
+        ensures wrote { IsTrue (D.state disk.old).is_honest → Wrote (both_ranges self.old.header self.old.sector_size) (D.state disk.old) (D.state disk.new) }
+        ensures untouched { IsTrue (D.state disk.old).is_honest → IfErr result (λ e. (fault_of e ≡ io_fault) ⊎ OnlyRead (D.state disk.old) (D.state disk.new)) }
+        ensures stored { IsTrue (D.state disk.old).is_honest
+            → HasLayout self.old.header (table_in self.old) self.old.sector_size (D.state disk.old).size
+            → OnOk result (IsStored (D.state disk.new) self.old.sector_size (table_in (edited self.old edit))) }
+        ensures one_good { IsTrue (D.state disk.old).is_honest
+            → HasLayout self.old.header (table_in self.old) self.old.sector_size (D.state disk.old).size
+            → IsKeptFor (D.state disk.old) self.old (table_in self.old)
+            → LeavesOnly (D.state disk.old) (D.state disk.new)
+            (λ b. HoldsOneOf b self.old.sector_size (table_in self.old ∷ table_in (edited self.old edit) ∷ [])) }
+    {
+        self.apply(edit)?;
+        self.write_into(disk)?;
+        Ok(())
     }
 }

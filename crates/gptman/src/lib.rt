@@ -15,7 +15,7 @@ pub use codec::name::PartitionName;
 pub use disk::Disk;
 pub use disk::file::FileDisk;
 pub use disk::memory::{Fate, MemoryDisk};
-pub use edit::Edit;
+pub use edit::{Edit, Progress};
 pub use error::{Error, Result};
 pub use table::GPT;
 pub use table::iter::{Iter, IterMut};

@@ -61,7 +61,7 @@ impl GPT {
             → IfOk result (λ h. HasBytes (D.state disk.new).view self.new.header (entries_in self.old) self.old.sector_size
             × HasBytes (D.state disk.new).view h (entries_in self.old) self.old.sector_size) }
         ensures untouched { IsTrue (D.state disk.old).is_honest
-            → IfErr result (λ e. (fault_of e ≡ io_fault) ⊎ Untouched (D.state disk.old) (D.state disk.new)) }
+            → IfErr result (λ e. (fault_of e ≡ io_fault) ⊎ OnlyRead (D.state disk.old) (D.state disk.new)) }
 
         // Acknowledged, on the stated layout: both places hold the table, and each copy alone is read as it.
         ensures stored { IsTrue (D.state disk.old).is_honest
@@ -136,7 +136,7 @@ impl GPT {
             → HasLayout self.old.header (table_in self.old) self.old.sector_size (D.state disk.old).size
             → OnOk result (IsStored (D.state disk.new) self.old.sector_size (table_in self.old)) }
         ensures untouched { IsTrue (D.state disk.old).is_honest
-            → IfErr result (λ e. (fault_of e ≡ io_fault) ⊎ Untouched (D.state disk.old) (D.state disk.new)) }
+            → IfErr result (λ e. (fault_of e ≡ io_fault) ⊎ OnlyRead (D.state disk.old) (D.state disk.new)) }
 
         // A stop at any moment leaves all but the other copy's ranges as it was, or the other copy whole.
         ensures one_whole { IsTrue (D.state disk.old).is_honest → (D.state disk.old).pending ≡ []

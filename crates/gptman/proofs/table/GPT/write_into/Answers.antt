@@ -1,6 +1,6 @@
-use Rattle.std.proofs.Common.{◌≡◌, ◌∙◌, ℕ, List, [], ◌∷◌, length, Err, IsTrue, rules}
+use Rattle.std.proofs.Common.{◌≡◌, ◌∙◌, inr, refl, ℕ, List, [], ◌∷◌, length, Err, IsTrue, rules}
 use Rattle.std.proofs.lemmas.Result.{on_err_weaker, on_ok_weaker}
-use Rattle.gptman.specs.Calls.{AnswersWrite, LeavesOnFailure}
+use Rattle.gptman.specs.Calls.{AnswersWrite, LeavesOnFailure, OnlyRead}
 use Rattle.gptman.specs.Crash.{IsKeptFor, IsReadAlone, PlaceAfter}
 use Rattle.gptman.specs.Disk.{LeavesOnly}
 use Rattle.gptman.specs.Layout.{HasLayout}
@@ -14,6 +14,7 @@ use Rattle.gptman.proofs.table.GPT.write_into.Given.{Over}
 use Rattle.gptman.proofs.Accepted.{accepted, answers_refused, answers_valid, checked_valid, layout_fits}
 use Rattle.gptman.proofs.AfterFailure.{both_after}
 use Rattle.gptman.proofs.OneGood.{layout_apart, leaves_good, leaves_outside, still_good, stored_is_kept}
+use Rattle.gptman.proofs.Outcomes.{if_err_of}
 use Rattle.gptman.proofs.ReadAlone.{stored_alone}
 use Rattle.gptman.proofs.ReadingLaw.{reads_one_of}
 use Rattle.gptman.proofs.Runs.{wrote_not}
@@ -46,6 +47,12 @@ returns-in_err-check-clause-crash_safe g c = λ honest layout was stored same x 
     let disk = c.args.disk.now in
     let kept = stored_is_kept (g.D.Disk.state disk) c.args.self.now was stored layout same in
     reads_one_of x _ _ (still_good c.args.self.now (g.D.Disk.state disk) was (g.met.D.Disk.sound disk honest) honest (g.met.D.Disk.bounded disk) layout.table kept x left) known
+
+pub returns-in_err-check-clause-untouched : goal.returns-in_err-check-clause-untouched
+returns-in_err-check-clause-untouched g c = λ honest.
+    let disk = g.D.Disk.state c.args.disk.now in
+    let still : OnlyRead disk disk = record { view = refl; pending = refl; wrote = wrote_not [] disk honest (g.met.D.Disk.sound c.args.disk.now honest) } in
+    if_err_of _ (λ e. inr still)
 
 -- ---- where they pass, both copies were written
 

@@ -1,0 +1,397 @@
+-- Edits that are made and written one after the other.
+use Rattle.std.proofs.Common.{◌≡◌, ◌≢◌, ◌⊎◌, ◌<◌, ◌≤◌, ◌+◌, ◌^◌, ◌++◌, ⊎_elim, inl, inr, ℕ, zero, suc, true, List, [], ◌∷◌, length, get_or, Some, None, Ok, Err, Option, refl, sym, ap, ◌∙◌, subst, arith, length-append, append_assoc, Bool, false}
+use Rattle.std.specs.Prelude.{fold, slice_get, if◌then◌else◌, Contains}
+use Rattle.std.proofs.lemmas.Bool.{cases_lt}
+use Rattle.std.proofs.lemmas.List.{take-append-le, take_all}
+use Rattle.std.proofs.lemmas.List.FromFn.{length-map-range_with_len, get_or-map-range_with_len}
+use Rattle.std.proofs.lemmas.List.Sums.{fold-append}
+use Rattle.gptman.specs.Calls.{OnlyRead, SameButSums}
+use Rattle.gptman.specs.Commit.{is_io, tables_to, IsAccepted, IsAcceptedAt, IsButSums, IsRefusedAt, RefusesEdit, Stands}
+use Rattle.gptman.specs.Commit.RefusesEdit.{not_applied, not_valid, not_written}
+use Rattle.gptman.specs.Crash.{IsKeptFor}
+use Rattle.gptman.specs.Disk.{DiskState, Image, IsSound, Keeps, LeavesOnly, Rose, Wrote}
+use Rattle.gptman.specs.Edit.{edited, edit_fault, table_after}
+use Rattle.gptman.specs.Fault.{Fault, io}
+use Rattle.gptman.specs.Layout.{HasLayout, Holds}
+use Rattle.gptman.specs.Reading.{Place, primary, backup}
+use Rattle.gptman.specs.Stop.{HoldsOneOf, IsStored}
+use Rattle.gptman.specs.Table.{Table, table_of, entries_in, table_in, IsCoherent}
+use Rattle.gptman.specs.Valid.{HasGoodBoundaries, IsValid, IsValidity}
+use Rattle.gptman.specs.Valid.IsValidity.{shared_guid, bad_boundaries, valid}
+use Rattle.gptman.specs.Write.{both_ranges}
+use Rattle.gptman.specs.declared.codec.entry.GPTPartitionEntry.{GPTPartitionEntry}
+use Rattle.gptman.specs.declared.codec.header.GPTHeader.{GPTHeader}
+use Rattle.gptman.specs.declared.edit.Edit.{Edit}
+use Rattle.gptman.specs.declared.edit.Edit.TheVariants.{Put, Remove, SortEntries, DiskGuid}
+use Rattle.gptman.specs.declared.table.GPT.{GPT}
+use Rattle.gptman.proofs.Commits.{KeepsPlaces, edited_keeps, keeps_both, layout_still, leaves_kept, ranges_still, sums_keep}
+use Rattle.gptman.proofs.OneGood.{stored_is_kept}
+use Rattle.gptman.proofs.Runs.{keeps_then, leaves_then, rose_since, wrote_not, wrote_then}
+use Rattle.gptman.proofs.Ranges.{Ranges, within_self}
+use Rattle.gptman.proofs.SameTable.{contains_cases}
+
+-- ---- a value with other checksums
+
+-- the value with these two checksums
+abbrev pub summed : GPT → ℕ → ℕ → GPT
+summed g own array = record g { header = record g.header { crc32_checksum = own; partition_entry_array_crc32 = array } }
+
+is_summed : (g new : GPT) → IsButSums g new → new ≡ summed g new.header.crc32_checksum new.header.partition_entry_array_crc32
+is_summed g new is = is.0 ∙ (λ i. record g { header = is.1 i })
+
+sums_of : (g : GPT) (own array : ℕ) → IsButSums g (summed g own array)
+sums_of g own array = (refl, refl)
+
+pub sums_then : (g mid new : GPT) → IsButSums g mid → IsButSums mid new → IsButSums g new
+sums_then g mid new first second =
+    let a = is_summed g mid first in
+    let b = is_summed mid new second in
+    let c : new ≡ summed g new.header.crc32_checksum new.header.partition_entry_array_crc32 =
+    b ∙ ap (λ (x : GPT). summed x new.header.crc32_checksum new.header.partition_entry_array_crc32) a in
+    subst (IsButSums g) (sym c) (sums_of g new.header.crc32_checksum new.header.partition_entry_array_crc32)
+
+-- an edit of it is the edited value with these checksums
+edited_summed : (g : GPT) (edit : Edit) (own array : ℕ) → edited (summed g own array) edit ≡ summed (edited g edit) own array
+edited_summed g (Put i e) own array = refl
+edited_summed g (Remove i) own array = refl
+edited_summed g SortEntries own array = refl
+edited_summed g (DiskGuid guid) own array = refl
+
+fault_summed : (g : GPT) (edit : Edit) (own array : ℕ) → edit_fault (summed g own array) edit ≡ edit_fault g edit
+fault_summed g (Put i e) own array = refl
+fault_summed g (Remove i) own array = refl
+fault_summed g SortEntries own array = refl
+fault_summed g (DiskGuid guid) own array = refl
+
+pub edited_sums : (g new : GPT) (edit : Edit) → IsButSums g new → IsButSums (edited g edit) (edited new edit)
+edited_sums g new edit is =
+    let own : ℕ = new.header.crc32_checksum in
+    let array : ℕ = new.header.partition_entry_array_crc32 in
+    subst (IsButSums (edited g edit)) (sym (ap (λ (x : GPT). edited x edit) (is_summed g new is) ∙ edited_summed g edit own array)) (sums_of (edited g edit) own array)
+
+pub fault_sums : (g new : GPT) (edit : Edit) → IsButSums g new → edit_fault new edit ≡ edit_fault g edit
+fault_sums g new edit is = ap (λ (x : GPT). edit_fault x edit) (is_summed g new is) ∙ fault_summed g edit new.header.crc32_checksum new.header.partition_entry_array_crc32
+
+pub table_sums : (g new : GPT) → IsButSums g new → table_in new ≡ table_in g
+table_sums g new is = ap table_in (is_summed g new is)
+
+-- validity asks nothing of checksums
+valid_summed : (g : GPT) (own array : ℕ) → IsValid (summed g own array).header (entries_in g) → IsValid g.header (entries_in g)
+valid_summed g own array is =
+    let b = is.boundaries in
+    record { own_guids = is.own_guids; boundaries = record { ordered = b.ordered; disjoint = b.disjoint; within = b.within; bounds = b.bounds } }
+
+good_summed : (g : GPT) (own array : ℕ) → HasGoodBoundaries g.header (entries_in g) → HasGoodBoundaries (summed g own array).header (entries_in g)
+good_summed g own array b = record { ordered = b.ordered; disjoint = b.disjoint; within = b.within; bounds = b.bounds }
+
+validity_summed : (g : GPT) (own array : ℕ) (fault : Option Fault) → IsValidity (summed g own array).header (entries_in g) fault → IsValidity g.header (entries_in g) fault
+validity_summed g own array fault (shared_guid shared said) = shared_guid shared said
+validity_summed g own array fault (bad_boundaries own_guids bad said) = bad_boundaries own_guids (λ good. bad (good_summed g own array good)) said
+validity_summed g own array fault (valid is said) = valid (valid_summed g own array is) said
+
+pub accepted_sums : (g new : GPT) (edit : Edit) → IsButSums g new → IsAccepted new edit → IsAccepted g edit
+accepted_sums g new edit is accepted =
+    let own : ℕ = new.header.crc32_checksum in
+    let array : ℕ = new.header.partition_entry_array_crc32 in
+    let moved : edited new edit ≡ summed (edited g edit) own array = ap (λ (x : GPT). edited x edit) (is_summed g new is) ∙ edited_summed g edit own array in
+    record {
+      number = sym (fault_sums g new edit is) ∙ accepted.number;
+      valid = valid_summed (edited g edit) own array (subst (λ (x : GPT). IsValid x.header (entries_in x)) moved accepted.valid);
+    }
+
+pub refused_sums : (g new last : GPT) (edit : Edit) (fault : Fault) (a b c : DiskState) → IsButSums g new → Keeps a b → RefusesEdit new edit fault last b c → RefusesEdit g edit fault last a c
+refused_sums g new last edit fault a b c is keeps (not_applied why sums) =
+    not_applied (⊎_elim (λ said. inl (sym (fault_sums g new edit is) ∙ said)) (λ out. inr out) why) (sums_then g new last is sums)
+refused_sums g new last edit fault a b c is keeps (not_valid none validity sums) =
+    let own : ℕ = new.header.crc32_checksum in
+    let array : ℕ = new.header.partition_entry_array_crc32 in
+    let moved : edited new edit ≡ summed (edited g edit) own array = ap (λ (x : GPT). edited x edit) (is_summed g new is) ∙ edited_summed g edit own array in
+    not_valid (sym (fault_sums g new edit is) ∙ none)
+    (validity_summed (edited g edit) own array (Some fault) (subst (λ (x : GPT). IsValidity x.header (entries_in x) (Some fault)) moved validity))
+    (sums_then (edited g edit) (edited new edit) last (edited_sums g new edit is) sums)
+refused_sums g new last edit fault a b c is keeps (not_written none why sums) =
+    not_written (sym (fault_sums g new edit is) ∙ none) (⊎_elim (λ out. inl out) (λ failed. inr (failed.0, rose_since a b c keeps failed.1)) why)
+    (sums_then (edited g edit) (edited new edit) last (edited_sums g new edit is) sums)
+
+-- ---- the tables after some of the edits
+
+-- what comes after the first edits does not count for them
+pub after_append : (g : GPT) (made more : List Edit) (k : ℕ) → k ≤ length made → table_after g (made ++ more) k ≡ table_after g made k
+after_append g made more k within = ap (fold edited g) (take-append-le k made more within)
+
+pub after_all : (g : GPT) (made : List Edit) → table_after g made (length made) ≡ fold edited g made
+after_all g made = ap (fold edited g) (take_all (length made) made (omega arith))
+
+-- one place holds the table after some of these edits
+pub record HoldsSome (g : GPT) (made : List Edit) (b : List ℕ) : Type 0 where
+  pub k : ℕ
+  pub within : k ≤ length made
+  pub place : Place
+  pub holds : Holds b g.sector_size place (table_in (table_after g made k))
+
+pub some_more : (g : GPT) (made more : List Edit) (b : List ℕ) → HoldsSome g made b → HoldsSome g (made ++ more) b
+some_more g made more b some =
+    let within = some.within in
+    record {
+      k = some.k;
+      within = omega (arith, within, length-append made more);
+      place = some.place;
+      holds = subst (λ (x : GPT). Holds b g.sector_size some.place (table_in x)) (sym (after_append g made more some.k some.within)) some.holds;
+    }
+
+listed : (g : GPT) (edits : List Edit) (n k : ℕ) → k ≤ n → Contains (tables_to g edits n) (table_in (table_after g edits k))
+listed g edits n k within =
+    let at : ℕ → Table = λ j. table_in (table_after g edits j) in
+    (k, omega (arith, within, length-map-range_with_len at 0 (n + 1)), get_or-map-range_with_len at 0 (n + 1) k k (table_in (table_after g edits k)) (omega (arith, within)) (let e : 0 + k ≡ k = omega arith in e))
+
+-- so one of the listed tables is held
+pub some_listed : (g : GPT) (made more edits : List Edit) (n : ℕ) (b : List ℕ) → edits ≡ made ++ more → length made ≤ n → HoldsSome g made b → HoldsOneOf b g.sector_size (tables_to g edits n)
+some_listed g made more edits n b is within some =
+    let low = some.within in
+    let same : table_after g made some.k ≡ table_after g edits some.k = sym (after_append g made more some.k some.within) ∙ ap (λ (es : List Edit). table_after g es some.k) (sym is) in
+    record {
+      place = some.place;
+      table = table_in (table_after g edits some.k);
+      listed = listed g edits n some.k (omega (arith, within, low));
+      holds = subst (λ (x : GPT). Holds b g.sector_size some.place (table_in x)) same some.holds;
+    }
+
+-- an element of a longer list
+slice_get-append : {X : Type 0} (xs ys : List X) (k : ℕ) → k < length xs → slice_get (xs ++ ys) k ≡ slice_get xs k
+slice_get-append [] ys k below = absurd (omega arith)
+slice_get-append (x ∷ xs) ys zero below = refl
+slice_get-append (x ∷ xs) ys (suc k) below = slice_get-append xs ys k (omega (arith, below))
+
+last_is : {X : Type 0} (xs : List X) (x : X) (k : ℕ) (y : X) → k ≡ length xs → slice_get (xs ++ x ∷ []) k ≡ Some y → y ≡ x
+last_is [] x zero y at is = cc
+last_is [] x (suc k) y at is = absurd (omega (arith, at))
+last_is (z ∷ xs) x zero y at is = absurd (omega (arith, at))
+last_is (z ∷ xs) x (suc k) y at is = last_is xs x k y (omega (arith, at)) is
+
+-- ---- the loop
+
+-- These edits were made and written one after the other, from the value g on the disk a to the value now on the disk b.
+pub record AreMade (g : GPT) (made : List Edit) (now : GPT) (a b : DiskState) : Type 0 where
+  pub coherent : IsCoherent now.header (entries_in now)
+  pub places : KeepsPlaces g now
+  pub value : IsButSums (fold edited g made) now
+  pub accepted : (k : ℕ) → k < length made → IsAcceptedAt g made k
+  pub keeps : Keeps a b
+  pub wrote : a.is_honest ≡ true → Wrote (both_ranges g.header g.sector_size) a b
+  pub stands : a.is_honest ≡ true → HasLayout g.header (table_in g) g.sector_size a.size → ((length made ≡ 0) × OnlyRead a b) ⊎ IsStored b g.sector_size (table_in now)
+  pub kept : a.is_honest ≡ true → HasLayout g.header (table_in g) g.sector_size a.size → IsKeptFor a g (table_in g) → IsKeptFor b now (table_in now)
+  pub leaves : a.is_honest ≡ true → HasLayout g.header (table_in g) g.sector_size a.size → IsKeptFor a g (table_in g) → LeavesOnly a b (HoldsSome g made)
+
+-- What the next edit does where it is made and written.
+pub record IsMade (g : GPT) (edit : Edit) (new : GPT) (a b : DiskState) : Type 0 where
+  pub coherent : IsCoherent new.header (entries_in new)
+  pub accepted : IsAccepted g edit
+  pub value : IsButSums (edited g edit) new
+  pub keeps : Keeps a b
+  pub wrote : a.is_honest ≡ true → Wrote (both_ranges g.header g.sector_size) a b
+  pub stored : a.is_honest ≡ true → HasLayout g.header (table_in g) g.sector_size a.size → IsStored b g.sector_size (table_in (edited g edit))
+  pub good : a.is_honest ≡ true → HasLayout g.header (table_in g) g.sector_size a.size → IsKeptFor a g (table_in g)
+      → LeavesOnly a b (λ x. HoldsOneOf x g.sector_size (table_in g ∷ table_in (edited g edit) ∷ []))
+
+module _ (g : GPT) (made : List Edit) (now : GPT) (a b : DiskState) (are : AreMade g made now a b) where
+  -- the table that the value holds
+  pub now_table : table_in now ≡ table_in (table_after g made (length made))
+  now_table = table_sums (fold edited g made) now are.value ∙ ap table_in (sym (after_all g made))
+
+  pub now_layout : HasLayout g.header (table_in g) g.sector_size a.size → HasLayout now.header (table_in now) now.sector_size b.size
+  now_layout layout = subst (HasLayout now.header (table_in now) now.sector_size) (sym are.keeps.size) (layout_still g now are.places a.size layout)
+
+  -- what a stop leaves of the next write holds a table after some edits, the next one counted in
+  pub next_some : (edit : Edit) (x : List ℕ) → HoldsOneOf x now.sector_size (table_in now ∷ table_in (edited now edit) ∷ []) → HoldsSome g (made ++ edit ∷ []) x
+  next_some edit x one =
+      let ss : ℕ → Type 0 = λ n. Holds x n one.place one.table in
+      let here : Holds x g.sector_size one.place one.table = subst ss are.places.sector one.holds in
+      let next : table_in (edited now edit) ≡ table_in (table_after g (made ++ edit ∷ []) (length (made ++ edit ∷ []))) =
+      table_sums (edited (fold edited g made) edit) (edited now edit) (edited_sums (fold edited g made) now edit are.value)
+      ∙ ap table_in (sym (fold-append edited g made (edit ∷ [])) ∙ sym (after_all g (made ++ edit ∷ []))) in
+      elim (contains_cases (table_in now) one.table (table_in (edited now edit) ∷ []) one.listed) as (λ _. HoldsSome g (made ++ edit ∷ []) x) [
+        | inl first ↦ some_more g made (edit ∷ []) x (record {
+          k = length made;
+          within = omega arith;
+          place = one.place;
+          holds = subst (Holds x g.sector_size one.place) (sym first ∙ now_table) here;
+        })
+        | inr later ↦ elim (contains_cases (table_in (edited now edit)) one.table [] later) as (λ _. HoldsSome g (made ++ edit ∷ []) x) [
+          | inl second ↦ record {
+            k = length (made ++ edit ∷ []);
+            within = omega arith;
+            place = one.place;
+            holds = subst (Holds x g.sector_size one.place) (sym second ∙ next) here;
+          }
+          | inr never ↦ absurd (omega (arith, never.1))
+        ]
+      ]
+
+  -- what a stop leaves of the edits so far and of the next write
+  pub leaves_next : (edit : Edit) (c : DiskState) → a.is_honest ≡ true → HasLayout g.header (table_in g) g.sector_size a.size → IsKeptFor a g (table_in g)
+      → Wrote (both_ranges now.header now.sector_size) b c
+      → (HasLayout now.header (table_in now) now.sector_size b.size → IsKeptFor b now (table_in now) → LeavesOnly b c (λ x. HoldsOneOf x now.sector_size (table_in now ∷ table_in (edited now edit) ∷ [])))
+      → LeavesOnly a c (HoldsSome g (made ++ edit ∷ []))
+  leaves_next edit c honest layout kept wrote good =
+      leaves_then (HoldsSome g (made ++ edit ∷ [])) (are.wrote honest).time wrote.time
+      (λ x left. some_more g made (edit ∷ []) x (are.leaves honest layout kept x left))
+      (λ x left. next_some edit x (good (now_layout layout) (are.kept honest layout kept) x left))
+
+  pub wrote_next : (c : DiskState) → a.is_honest ≡ true → (b.is_honest ≡ true → Wrote (both_ranges now.header now.sector_size) b c) → Wrote (both_ranges g.header g.sector_size) a c
+  wrote_next c honest wrote =
+      let so_far = are.wrote honest in
+      wrote_then (within_self (both_ranges g.header g.sector_size)) so_far
+      (subst (λ (rs : Ranges). Wrote rs b c) (ranges_still g now are.places) (wrote so_far.honest))
+
+  accepted_next : (edit : Edit) → IsAccepted now edit → (k : ℕ) → k < length (made ++ edit ∷ []) → IsAcceptedAt g (made ++ edit ∷ []) k
+  accepted_next edit accepted k below e is = elim (cases_lt k (length made)) as (λ _. IsAccepted (table_after g (made ++ edit ∷ []) k) e) [
+    | inl before ↦
+        let here = are.accepted k before e (sym (slice_get-append made (edit ∷ []) k before) ∙ is) in
+        subst (λ (x : GPT). IsAccepted x e) (sym (after_append g made (edit ∷ []) k (omega (arith, before)))) here
+    | inr after ↦
+        let at : k ≡ length made = omega (arith, below, after, length-append made (edit ∷ [])) in
+        let same : e ≡ edit = last_is made edit k e at is in
+        let where_it_is : table_after g (made ++ edit ∷ []) k ≡ fold edited g made = after_append g made (edit ∷ []) k (omega (arith, at)) ∙ (ap (table_after g made) at ∙ after_all g made) in
+        subst (λ (x : GPT). IsAccepted x e) (sym where_it_is) (subst (IsAccepted (fold edited g made)) (sym same) (accepted_sums (fold edited g made) now edit are.value accepted))
+  ]
+
+  -- One edit more.
+  pub made_next : (edit : Edit) (new : GPT) (c : DiskState) → IsMade now edit new b c → AreMade g (made ++ edit ∷ []) new a c
+  made_next edit new c is =
+      let places = keeps_both g now new are.places (keeps_both now (edited now edit) new (edited_keeps now edit) (sums_keep (edited now edit) new is.value)) in
+      let more : fold edited g (made ++ edit ∷ []) ≡ edited (fold edited g made) edit = fold-append edited g made (edit ∷ []) in
+      let value : IsButSums (fold edited g (made ++ edit ∷ [])) new =
+      subst (λ (x : GPT). IsButSums x new) (sym more) (sums_then (edited (fold edited g made) edit) (edited now edit) new (edited_sums (fold edited g made) now edit are.value) is.value) in
+      let keeps : Keeps a c = keeps_then are.keeps is.keeps in
+      let still : a.is_honest ≡ true → b.is_honest ≡ true = λ honest. (are.wrote honest).honest in
+      let stored : a.is_honest ≡ true → HasLayout g.header (table_in g) g.sector_size a.size → IsStored c g.sector_size (table_in new) = λ honest layout.
+      subst (λ (n : ℕ). IsStored c n (table_in new)) are.places.sector
+      (subst (IsStored c now.sector_size) (sym (table_sums (edited now edit) new is.value)) (is.stored (still honest) (now_layout layout))) in
+      record {
+        coherent = is.coherent;
+        places = places;
+        value = value;
+        accepted = accepted_next edit is.accepted;
+        keeps = keeps;
+        wrote = λ honest. wrote_next c honest is.wrote;
+        stands = λ honest layout. inr (stored honest layout);
+        kept = λ honest layout kept.
+            stored_is_kept c new (table_in new) (subst (λ (n : ℕ). IsStored c n (table_in new)) (sym places.sector) (stored honest layout))
+            (subst (HasLayout new.header (table_in new) new.sector_size) (sym keeps.size) (layout_still g new places a.size layout)) (record { count = refl; last = refl });
+        leaves = λ honest layout kept. leaves_next edit c honest layout kept (is.wrote (still honest)) (is.good (still honest));
+      }
+
+-- Before the first edit.
+pub made_none : (g : GPT) (a : DiskState) → IsCoherent g.header (entries_in g) → (a.is_honest ≡ true → IsSound a) → AreMade g [] g a a
+made_none g a coherent sound = record {
+  coherent = coherent;
+  places = record { sector = refl; header = refl; long = refl };
+  value = (refl, refl);
+  accepted = λ k below. absurd (omega (arith, below));
+  keeps = record { size = refl; honest = refl; failures = omega arith };
+  wrote = λ honest. wrote_not (both_ranges g.header g.sector_size) a honest (sound honest);
+  stands = λ honest layout. inl (refl, record { view = refl; pending = refl; wrote = wrote_not [] a honest (sound honest) });
+  kept = λ honest layout kept. kept;
+  leaves = λ honest layout kept x left. none_some x (leaves_kept g a (table_in g) [] (sound honest) kept x left);
+}
+  where
+    none_some : (x : List ℕ) → HoldsOneOf x g.sector_size (table_in g ∷ []) → HoldsSome g [] x
+    none_some x one = elim (contains_cases (table_in g) one.table [] one.listed) as (λ _. HoldsSome g [] x) [
+      | inl first ↦ record { k = 0; within = omega arith; place = one.place; holds = subst (Holds x g.sector_size one.place) (sym first) one.holds }
+      | inr never ↦ absurd (omega (arith, never.1))
+    ]
+
+-- ---- where the loop ends
+
+pub accepted_more : (g : GPT) (made more edits : List Edit) → edits ≡ made ++ more → ((k : ℕ) → k < length made → IsAcceptedAt g made k) → (k : ℕ) → k < length made → IsAcceptedAt g edits k
+accepted_more g made more edits is all k below edit at =
+    let here : slice_get made k ≡ Some edit = sym (slice_get-append made more k below) ∙ (ap (λ (es : List Edit). slice_get es k) (sym is) ∙ at) in
+    let same : table_after g edits k ≡ table_after g made k = ap (λ (es : List Edit). table_after g es k) is ∙ after_append g made more k (omega (arith, below)) in
+    subst (λ (x : GPT). IsAccepted x edit) (sym same) (all k below edit here)
+
+slice_get-next : {X : Type 0} (xs ys : List X) (x : X) → slice_get (xs ++ x ∷ ys) (length xs) ≡ Some x
+slice_get-next [] ys x = refl
+slice_get-next (z ∷ xs) ys x = slice_get-next xs ys x
+
+-- calls that only read, one after the other
+only_read_then : (a b c : DiskState) → OnlyRead a b → OnlyRead b c → OnlyRead a c
+only_read_then a b c first second = record {
+  view = second.view ∙ first.view;
+  pending = second.pending ∙ first.pending;
+  wrote = wrote_then (within_self []) first.wrote second.wrote;
+}
+
+stored_read : (b c : DiskState) (ss : ℕ) (t : Table) → OnlyRead b c → IsStored b ss t → IsStored c ss t
+stored_read b c ss t read stored = record {
+  synced = read.pending ∙ stored.synced;
+  at_primary = subst (λ (v : List ℕ). Holds v ss primary t) (sym read.view) stored.at_primary;
+  at_backup = subst (λ (v : List ℕ). Holds v ss backup t) (sym read.view) stored.at_backup;
+}
+
+module _ (g : GPT) (made : List Edit) (now : GPT) (a b : DiskState) (are : AreMade g made now a b) (edits more : List Edit) (done : ℕ) (is : edits ≡ made ++ more) (count : done ≡ length made) where
+  pub after_done : table_after g edits done ≡ fold edited g made
+  after_done = (λ i. table_after g (is i) (count i)) ∙ (after_append g made more (length made) (omega arith) ∙ after_all g made)
+
+  pub done_stands : a.is_honest ≡ true → HasLayout g.header (table_in g) g.sector_size a.size → Stands g edits done a b
+  done_stands honest layout =
+      let same : table_in now ≡ table_in (table_after g edits done) = table_sums (fold edited g made) now are.value ∙ ap table_in (sym after_done) in
+      ⊎_elim (λ none. inl (count ∙ none.0, none.1)) (λ stored. inr (subst (IsStored b g.sector_size) same stored)) (are.stands honest layout)
+
+  pub done_leaves : a.is_honest ≡ true → HasLayout g.header (table_in g) g.sector_size a.size → IsKeptFor a g (table_in g)
+      → LeavesOnly a b (λ x. HoldsOneOf x g.sector_size (tables_to g edits done))
+  done_leaves honest layout kept x left = some_listed g made more edits done x is (omega (arith, count)) (are.leaves honest layout kept x left)
+
+-- where edit was the next, and failed
+module _ (g : GPT) (made : List Edit) (now : GPT) (a b c : DiskState) (are : AreMade g made now a b) (edits more : List Edit) (done : ℕ) (edit : Edit) (is : edits ≡ made ++ edit ∷ more) (count : done ≡ length made) where
+  pub failed_refused : (fault : Fault) (new : GPT) → HasLayout g.header (table_in g) g.sector_size a.size → (HasLayout now.header (table_in now) now.sector_size b.size → RefusesEdit now edit fault new b c)
+      → IsRefusedAt g edits done fault new a c
+  failed_refused fault new layout refused = record {
+    edit = edit;
+    is = (λ i. slice_get (is i) (count i)) ∙ slice_get-next made more edit;
+    refused = subst (λ (x : GPT). RefusesEdit x edit fault new a c) (sym (after_done g made now a b are edits (edit ∷ more) done is count))
+        (refused_sums (fold edited g made) now new edit fault a b c are.value are.keeps (refused (now_layout g made now a b are layout)));
+  }
+
+  pub failed_stands : (fault : Fault) → a.is_honest ≡ true → HasLayout g.header (table_in g) g.sector_size a.size → (b.is_honest ≡ true → (fault ≡ io) ⊎ OnlyRead b c)
+      → (fault ≡ io) ⊎ Stands g edits done a c
+  failed_stands fault honest layout untouched =
+      ⊎_elim (λ failed. inl failed)
+      (λ read. inr (⊎_elim (λ none. inl (none.0, only_read_then a b c none.1 read)) (λ stored. inr (stored_read b c g.sector_size _ read stored))
+      (done_stands g made now a b are edits (edit ∷ more) done is count honest layout)))
+      (untouched (are.wrote honest).honest)
+
+  split : edits ≡ (made ++ edit ∷ []) ++ more
+  split = is ∙ sym (append_assoc made (edit ∷ []) more)
+
+  pub failed_leaves : (fault : Fault) → a.is_honest ≡ true → HasLayout g.header (table_in g) g.sector_size a.size → IsKeptFor a g (table_in g) → (b.is_honest ≡ true → IsSound b)
+      → (b.is_honest ≡ true → (fault ≡ io) ⊎ OnlyRead b c) → LeavesOnly a c (HoldsSome g (made ++ edit ∷ []))
+      → LeavesOnly a c (λ x. HoldsOneOf x g.sector_size (tables_to g edits (if is_io fault then done + 1 else done)))
+  failed_leaves fault honest layout kept sound untouched next = by_fault (is_io fault) refl
+    where
+      wrote : Wrote (both_ranges g.header g.sector_size) a b
+      wrote = are.wrote honest
+
+      by_fault : (t : Bool) → is_io fault ≡ t → LeavesOnly a c (λ x. HoldsOneOf x g.sector_size (tables_to g edits (if t then done + 1 else done)))
+      by_fault true io_is x left =
+          some_listed g (made ++ edit ∷ []) more edits (done + 1) x split (omega (arith, count, length-append made (edit ∷ []))) (next x left)
+      by_fault false other x left = elim (untouched wrote.honest) as (λ _. HoldsOneOf x g.sector_size (tables_to g edits done)) [
+        | inl failed ↦ let never = sym other ∙ ap is_io failed in absurd (cc)
+        | inr read ↦ done_leaves g made now a b are edits (edit ∷ more) done is count honest layout kept x
+            (⊎_elim (λ before. before) (λ since. (sound wrote.honest).counts_now a.clock x wrote.time.later (read.wrote.crash x since)) (read.wrote.time.nothing_else a.clock x wrote.time.later left))
+      ]
+
+  -- what a stop may leave now holds the last table or the next
+  pub failed_last : a.is_honest ≡ true → HasLayout g.header (table_in g) g.sector_size a.size → IsKeptFor a g (table_in g) → b.clock ≤ c.clock → IsSound c
+      → (HasLayout now.header (table_in now) now.sector_size b.size → IsKeptFor b now (table_in now) → LeavesOnly b c (λ x. HoldsOneOf x now.sector_size (table_in now ∷ table_in (edited now edit) ∷ [])))
+      → (x : List ℕ) → Image c x → HoldsOneOf x g.sector_size (table_in (table_after g edits done) ∷ table_in (table_after g edits (done + 1)) ∷ [])
+  failed_last honest layout kept later sound good x image =
+      let one = good (now_layout g made now a b are layout) (are.kept honest layout kept) x (sound.counts_now b.clock x later image) in
+      let first : table_in now ≡ table_in (table_after g edits done) =
+      table_sums (fold edited g made) now are.value ∙ ap table_in (sym (after_done g made now a b are edits (edit ∷ more) done is count)) in
+      let longer : done + 1 ≡ length (made ++ edit ∷ []) = omega (arith, count, length-append made (edit ∷ [])) in
+      let at : table_after g edits (done + 1) ≡ edited (fold edited g made) edit =
+      (λ i. table_after g (split i) (longer i)) ∙ (after_append g (made ++ edit ∷ []) more (length (made ++ edit ∷ [])) (omega arith) ∙ (after_all g (made ++ edit ∷ []) ∙ fold-append edited g made (edit ∷ []))) in
+      let second : table_in (edited now edit) ≡ table_in (table_after g edits (done + 1)) =
+      table_sums (edited (fold edited g made) edit) (edited now edit) (edited_sums (fold edited g made) now edit are.value) ∙ ap table_in (sym at) in
+      subst (λ (n : ℕ). HoldsOneOf x n (table_in (table_after g edits done) ∷ table_in (table_after g edits (done + 1)) ∷ [])) are.places.sector
+      (subst (HoldsOneOf x now.sector_size) (λ i. first i ∷ second i ∷ []) one)

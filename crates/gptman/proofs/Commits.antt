@@ -1,0 +1,182 @@
+-- Edits keep a table's places on the disk, and so does making its checksums.
+use Rattle.std.proofs.Common.{◌≡◌, ◌<◌, ◌^◌, inl, inr, Some, None, Err, ℕ, suc, ◌-◌, true, false, List, [], ◌∷◌, length, nat_lt, refl, sym, ap, ◌∙◌, subst}
+use Rattle.std.specs.Prelude.{if◌then◌else◌}
+use Rattle.std.proofs.lemmas.List.{length-map, length-set}
+use Rattle.gptman.specs.Coding.{empty_entry}
+use Rattle.gptman.specs.Calls.{AnswersWrite}
+use Rattle.gptman.specs.Calls.AnswersWrite.{no_memory, not_valid, too_far, settled}
+use Rattle.gptman.specs.Commit.{IsButSums, RefusesEdit}
+use Rattle.gptman.specs.Commit.RefusesEdit.{not_valid as invalid, not_written}
+use Rattle.gptman.specs.Crash.{HasRangesOf, IsKeptFor, other_place}
+use Rattle.gptman.specs.Disk.{DiskState, IsSound, LeavesOnly}
+use Rattle.gptman.specs.Edit.{edited, edit_fault}
+use Rattle.gptman.specs.Fault.{Fault, fault_of}
+use Rattle.gptman.specs.Layout.{AreClear, HasLayout, Holds, IsLaidOut, ranges_at}
+use Rattle.gptman.specs.Order.{by_rank, put_in, rank}
+use Rattle.gptman.specs.Reading.{Place, primary, backup}
+use Rattle.gptman.specs.Stop.{HoldsOneOf, IsStored}
+use Rattle.gptman.specs.Table.{Table, table_of, content_of, entries_in, table_in, IsCoherent, IsHeaderForm}
+use Rattle.gptman.specs.Valid.{IsValidity}
+use Rattle.gptman.specs.Write.{both_ranges}
+use Rattle.gptman.specs.declared.codec.header.GPTHeader.{GPTHeader}
+use Rattle.gptman.specs.declared.edit.Edit.{Edit}
+use Rattle.gptman.specs.declared.edit.Edit.TheVariants.{Put, Remove, SortEntries, DiskGuid}
+use Rattle.gptman.specs.declared.error.Error.{Error}
+use Rattle.gptman.specs.declared.table.GPT.{GPT}
+use Rattle.gptman.proofs.Accepted.{layout_fits}
+use Rattle.gptman.proofs.FourRanges.{same_ranges}
+use Rattle.gptman.proofs.Held.{holds_local}
+use Rattle.gptman.proofs.OneGood.{leaves_still}
+use Rattle.gptman.proofs.Ranges.{contains_first}
+
+-- a header with another disk GUID and other checksums
+abbrev with_sums : GPTHeader → List ℕ → ℕ → ℕ → GPTHeader
+with_sums h guid own array = record h { disk_guid = guid; crc32_checksum = own; partition_entry_array_crc32 = array }
+
+-- The same sector size, as many entries, and a header that differs in the disk GUID and the checksums alone.
+pub record KeepsPlaces (g new : GPT) : Type 0 where
+  pub sector : new.sector_size ≡ g.sector_size
+  pub header : new.header ≡ with_sums g.header new.header.disk_guid new.header.crc32_checksum new.header.partition_entry_array_crc32
+  pub long : length (entries_in new) ≡ length (entries_in g)
+
+length-put_in : {X : Type 0} (r : X → ℕ) (x : X) (xs : List X) → length (put_in r x xs) ≡ suc (length xs)
+unfolding put_in
+length-put_in r x [] = refl
+length-put_in {X} r x (y ∷ ys) = (elim (nat_lt (r y) (r x)) as (λ b. length (if b then y ∷ put_in r x ys else x ∷ y ∷ ys) ≡ suc (length (y ∷ ys))) [
+  | true ↦ ap suc (length-put_in r x ys)
+  | false ↦ refl
+])
+
+length-by_rank : {X : Type 0} (r : X → ℕ) (xs : List X) → length (by_rank r xs) ≡ length xs
+unfolding by_rank
+length-by_rank r [] = refl
+length-by_rank r (x ∷ xs) = length-put_in r x (by_rank r xs) ∙ ap suc (length-by_rank r xs)
+
+-- An edit does.
+pub edited_keeps : (g : GPT) (edit : Edit) → KeepsPlaces g (edited g edit)
+edited_keeps g (Put i e) = record { sector = refl; header = refl; long = length-set (entries_in g) (i - 1) e }
+edited_keeps g (Remove i) = record { sector = refl; header = refl; long = length-set (entries_in g) (i - 1) empty_entry }
+edited_keeps g SortEntries = record { sector = refl; header = refl; long = length-by_rank rank (entries_in g) }
+edited_keeps g (DiskGuid guid) = record { sector = refl; header = refl; long = refl }
+
+pub edit_keeps : (g mid : GPT) (edit : Edit) → mid ≡ edited g edit → KeepsPlaces g mid
+edit_keeps g mid edit is = subst (KeepsPlaces g) (sym is) (edited_keeps g edit)
+
+-- Making the checksums does.
+pub sums_keep : (g new : GPT) → IsButSums g new → KeepsPlaces g new
+sums_keep g new is =
+    let at : GPTHeader → GPTHeader = λ h. with_sums h h.disk_guid h.crc32_checksum h.partition_entry_array_crc32 in
+    record {
+      sector = ap (λ (x : GPT). x.sector_size) is.0;
+      header = is.1 ∙ (λ i. record g.header { disk_guid = sym (ap (λ (h : GPTHeader). h.disk_guid) is.1) i; crc32_checksum = new.header.crc32_checksum; partition_entry_array_crc32 = new.header.partition_entry_array_crc32 });
+      long = ap (λ (x : GPT). length (entries_in x)) is.0;
+    }
+
+-- And one after the other.
+pub keeps_both : (g mid new : GPT) → KeepsPlaces g mid → KeepsPlaces mid new → KeepsPlaces g new
+keeps_both g mid new first second = record {
+  sector = second.sector ∙ first.sector;
+  header = second.header ∙ ap (λ (h : GPTHeader). with_sums h new.header.disk_guid new.header.crc32_checksum new.header.partition_entry_array_crc32) first.header;
+  long = second.long ∙ first.long;
+}
+
+-- ---- what stands on the places stays
+
+module _ (g new : GPT) (keeps : KeepsPlaces g new) where
+  abbrev like : GPTHeader
+  like = with_sums g.header new.header.disk_guid new.header.crc32_checksum new.header.partition_entry_array_crc32
+
+  pub coherent_still : IsCoherent g.header (entries_in g) → IsCoherent new.header (entries_in new)
+  coherent_still is = subst (λ (h : GPTHeader). IsCoherent h (entries_in new)) (sym keeps.header) (record {
+    header_size = is.header_size;
+    count = keeps.long ∙ is.count;
+    entry_size = is.entry_size;
+  })
+
+  like_laid : (ss len : ℕ) → IsLaidOut (table_in g) ss len → IsLaidOut (table_of like (entries_in new)) ss len
+  like_laid ss len laid = record {
+    sector = laid.sector;
+    signature = laid.signature;
+    revision = laid.revision;
+    header_size = laid.header_size;
+    entry_size = laid.entry_size;
+    entries = length-map (entries_in new) content_of ∙ (keeps.long ∙ (sym (length-map (entries_in g) content_of) ∙ laid.entries));
+    low_sector = laid.low_sector;
+    high_sector = laid.high_sector;
+    inside = laid.inside;
+    apart = laid.apart;
+    fits = laid.fits;
+  }
+
+  pub layout_still : (len : ℕ) → HasLayout g.header (table_in g) g.sector_size len → HasLayout new.header (table_in new) new.sector_size len
+  layout_still len layout =
+      let P : GPTHeader → ℕ → Type 0 = λ h ss. HasLayout h (table_of h (entries_in new)) ss len in
+      let here : P like g.sector_size = record { table = like_laid g.sector_size len layout.table; form = layout.form } in
+      subst (λ (ss : ℕ). P new.header ss) (sym keeps.sector) (subst (λ (h : GPTHeader). P h g.sector_size) (sym keeps.header) here)
+
+  pub same_places : HasRangesOf (table_in g) (table_in new)
+  same_places = record {
+    count = ap (λ (h : GPTHeader). h.number_of_partition_entries) keeps.header;
+    last = ap (λ (h : GPTHeader). h.last_usable_lba) keeps.header;
+  }
+
+  form_like : (place : Place) → IsHeaderForm place g.header → IsHeaderForm place like
+  form_like primary form = form
+  form_like backup form = form
+
+  pub kept_still : (disk : DiskState) (was : Table) → IsKeptFor disk g was → IsKeptFor disk new was
+  kept_still disk was kept =
+      let place : Place = kept.place in
+      let ss : ℕ = g.sector_size in
+      let clear : AreClear (ranges_at place was ss disk.size) (ranges_at (other_place place) (table_in new) ss disk.size) =
+      subst (λ (rs : List (ℕ × ℕ)). AreClear (ranges_at place was ss disk.size) rs) (same_ranges (other_place place) (table_in g) (table_in new) ss disk.size same_places) kept.clear in
+      record {
+        synced = kept.synced;
+        place = place;
+        form = subst (IsHeaderForm place) (sym keeps.header) (form_like place kept.form);
+        held = subst (λ (n : ℕ). Holds disk.view n place was) (sym keeps.sector) kept.held;
+        clear = subst (λ (n : ℕ). AreClear (ranges_at place was n disk.size) (ranges_at (other_place place) (table_in new) n disk.size)) (sym keeps.sector) clear;
+      }
+
+  pub ranges_still : both_ranges new.header new.sector_size ≡ both_ranges g.header g.sector_size
+  ranges_still = (λ i. both_ranges (keeps.header i) (keeps.sector i))
+
+-- ---- one edit
+
+-- where no call was made a stop leaves the disk as it was, and the old table on it
+pub leaves_kept : (g : GPT) (disk : DiskState) (was : Table) (more : List Table) → IsSound disk → IsKeptFor disk g was → LeavesOnly disk disk (λ x. HoldsOneOf x g.sector_size (was ∷ more))
+leaves_kept g disk was more sound kept =
+    leaves_still disk (λ x. HoldsOneOf x g.sector_size (was ∷ more)) sound kept.synced (λ x same. record {
+      place = kept.place;
+      table = was;
+      listed = contains_first was more;
+      holds = holds_local disk.view x g.sector_size kept.place was kept.held (record { long = same.long; same = λ k inside. same.same k tt });
+    })
+
+-- what a stop leaves of the write of an edited table
+pub leaves_edited : (g mid : GPT) (edit : Edit) (a b : DiskState) → mid ≡ edited g edit → HasLayout g.header (table_in g) g.sector_size a.size → IsKeptFor a g (table_in g)
+    → (HasLayout mid.header (table_in mid) mid.sector_size a.size → (was : Table) → IsKeptFor a mid was → LeavesOnly a b (λ x. HoldsOneOf x mid.sector_size (was ∷ table_in mid ∷ [])))
+    → LeavesOnly a b (λ x. HoldsOneOf x g.sector_size (table_in g ∷ table_in (edited g edit) ∷ []))
+leaves_edited g mid edit a b is layout kept written =
+    let keeps = edited_keeps g edit in
+    let P : GPT → Type 0 = λ m. HasLayout m.header (table_in m) m.sector_size a.size → (was : Table) → IsKeptFor a m was → LeavesOnly a b (λ x. HoldsOneOf x m.sector_size (was ∷ table_in m ∷ [])) in
+    let here = (subst P is written) (layout_still g (edited g edit) keeps a.size layout) (table_in g) (kept_still g (edited g edit) keeps a (table_in g) kept) in
+    subst (λ (n : ℕ). LeavesOnly a b (λ x. HoldsOneOf x n (table_in g ∷ table_in (edited g edit) ∷ []))) keeps.sector here
+
+-- what a write stores of an edited table
+pub stored_edited : (g mid : GPT) (edit : Edit) (disk : DiskState) → mid ≡ edited g edit → IsStored disk mid.sector_size (table_in mid) → IsStored disk g.sector_size (table_in (edited g edit))
+stored_edited g mid edit disk is stored =
+    subst (λ (n : ℕ). IsStored disk n (table_in (edited g edit))) (edited_keeps g edit).sector (subst (λ (m : GPT). IsStored disk m.sector_size (table_in m)) is stored)
+
+-- why its write is refused
+pub refused_edit : (g mid new : GPT) (edit : Edit) (e : Error) (a b : DiskState) → mid ≡ edited g edit → edit_fault g edit ≡ None → a.size < 2 ^ 64 → HasLayout mid.header (table_in mid) mid.sector_size a.size
+    → AnswersWrite {T = GPTHeader} mid.header (entries_in mid) mid.sector_size (Err e) a b → IsButSums mid new → RefusesEdit g edit (fault_of e) new a b
+refused_edit g mid new edit e a b is none small layout (no_memory out) sums = not_written none (inl out) (subst (λ (m : GPT). IsButSums m new) is sums)
+refused_edit g mid new edit e a b is none small layout (not_valid fault validity refused) sums =
+    let here : IsValidity mid.header (entries_in mid) (Some (fault_of e)) = subst (λ (f : Fault). IsValidity mid.header (entries_in mid) (Some f)) (sym refused) validity in
+    invalid none (subst (λ (m : GPT). IsValidity m.header (entries_in m) (Some (fault_of e))) is here) (subst (λ (m : GPT). IsButSums m new) is sums)
+refused_edit g mid new edit e a b is none small layout (too_far valid far refused) sums =
+    let never = sym (layout_fits mid.header (entries_in mid) mid.sector_size a.size small layout) ∙ far in absurd (cc)
+refused_edit g mid new edit e a b is none small layout (settled valid near (inl said)) sums =
+    let never = said ∙ layout_fits mid.header (entries_in mid) mid.sector_size a.size small layout in absurd (cc)
+refused_edit g mid new edit e a b is none small layout (settled valid near (inr fails)) sums = not_written none (inr fails) (subst (λ (m : GPT). IsButSums m new) is sums)

@@ -1,0 +1,64 @@
+use Rattle.std.proofs.Common.{◌≡◌, ⊎_elim, inr, refl, [], Result, Err, None, rules, sym, subst}
+use Rattle.std.specs.Prelude.{IfErr}
+use Rattle.gptman.specs.Calls.{OnlyRead}
+use Rattle.gptman.specs.Commit.{RefusesEdit}
+use Rattle.gptman.specs.Edit.{edit_fault}
+use Rattle.gptman.specs.Fault.{fault_of}
+use Rattle.gptman.specs.declared.error.Error.{Error}
+use Rattle.gptman.proofs.Commits.{coherent_still, edit_keeps, keeps_both, layout_still, leaves_edited, leaves_kept, refused_edit, stored_edited, sums_keep}
+use Rattle.gptman.proofs.Outcomes.{if_err_of}
+use Rattle.gptman.proofs.Runs.{wrote_not}
+use Rattle.gptman.proofs.table.GPT.commit.Goals as goal
+
+pub returns-in_err-apply-clause-one_good : goal.returns-in_err-apply-clause-one_good
+returns-in_err-apply-clause-one_good g c = λ honest layout kept.
+    leaves_kept c.args.self.now (g.D.Disk.state c.args.disk.now) _ _ (g.met.D.Disk.sound c.args.disk.now honest) kept
+
+pub returns-in_err-apply-clause-untouched : goal.returns-in_err-apply-clause-untouched
+returns-in_err-apply-clause-untouched g c = λ honest.
+    let disk = g.D.Disk.state c.args.disk.now in
+    let still : OnlyRead disk disk = record { view = refl; pending = refl; wrote = wrote_not [] disk honest (g.met.D.Disk.sound c.args.disk.now honest) } in
+    if_err_of _ (λ e. inr still)
+
+pub write_into-requires-clause-coherent : goal.write_into-requires-clause-coherent
+write_into-requires-clause-coherent g c =
+    coherent_still c.args.self.now c.apply.new.self (edit_keeps c.args.self.now c.apply.new.self c.args.edit c.in_ok-apply.ensures.changed) c.requires.coherent
+
+pub returns-in_err-write_into-clause-coherent : goal.returns-in_err-write_into-clause-coherent
+returns-in_err-write_into-clause-coherent g c =
+    coherent_still c.args.self.now c.write_into.new.self (keeps_both c.args.self.now c.apply.new.self c.write_into.new.self
+    (edit_keeps c.args.self.now c.apply.new.self c.args.edit c.in_ok-apply.ensures.changed) (sums_keep c.apply.new.self c.write_into.new.self c.write_into.ensures.sums)) c.requires.coherent
+
+pub returns-in_err-write_into-clause-refused : goal.returns-in_err-write_into-clause-refused
+returns-in_err-write_into-clause-refused g c = λ layout.
+    let own = c.args.self.now in
+    let mid = c.apply.new.self in
+    let old = g.D.Disk.state c.args.disk.now in
+    let new = g.D.Disk.state c.write_into.new.disk in
+    let none : edit_fault own c.args.edit ≡ None = ⊎_elim (λ said. sym said) (λ never. absurd never.1) c.in_ok-apply.ensures.answer in
+    let keeps = edit_keeps own mid c.args.edit c.in_ok-apply.ensures.changed in
+    let is : c.from_residual-in_err-write_into.result ≡ Err c.in_err-write_into.field-0.0 = search rules in
+    let refused = refused_edit own mid c.write_into.new.self c.args.edit c.in_err-write_into.field-0.0 old new c.in_ok-apply.ensures.changed none (g.met.D.Disk.bounded c.args.disk.now)
+    (layout_still own mid keeps _ layout) c.in_err-write_into.ensures.answer c.write_into.ensures.sums in
+    subst (λ (r : Result Unit Error). IfErr r (λ e. RefusesEdit own c.args.edit (fault_of e) c.write_into.new.self old new)) (sym is) refused
+
+pub returns-in_err-write_into-clause-one_good : goal.returns-in_err-write_into-clause-one_good
+returns-in_err-write_into-clause-one_good g c = λ honest layout kept.
+    leaves_edited c.args.self.now c.apply.new.self c.args.edit (g.D.Disk.state c.args.disk.now) (g.D.Disk.state c.write_into.new.disk) c.in_ok-apply.ensures.changed layout kept
+    (c.write_into.ensures.one_good honest)
+
+pub returns-clause-coherent : goal.returns-clause-coherent
+returns-clause-coherent g c =
+    coherent_still c.args.self.now c.write_into.new.self (keeps_both c.args.self.now c.apply.new.self c.write_into.new.self
+    (edit_keeps c.args.self.now c.apply.new.self c.args.edit c.in_ok-apply.ensures.changed) (sums_keep c.apply.new.self c.write_into.new.self c.write_into.ensures.sums)) c.requires.coherent
+
+pub returns-clause-stored : goal.returns-clause-stored
+returns-clause-stored g c = λ honest layout.
+    let keeps = edit_keeps c.args.self.now c.apply.new.self c.args.edit c.in_ok-apply.ensures.changed in
+    stored_edited c.args.self.now c.apply.new.self c.args.edit (g.D.Disk.state c.write_into.new.disk) c.in_ok-apply.ensures.changed
+    (c.in_ok-write_into.ensures.stored honest (layout_still c.args.self.now c.apply.new.self keeps _ layout))
+
+pub returns-clause-one_good : goal.returns-clause-one_good
+returns-clause-one_good g c = λ honest layout kept.
+    leaves_edited c.args.self.now c.apply.new.self c.args.edit (g.D.Disk.state c.args.disk.now) (g.D.Disk.state c.write_into.new.disk) c.in_ok-apply.ensures.changed layout kept
+    (c.write_into.ensures.one_good honest)

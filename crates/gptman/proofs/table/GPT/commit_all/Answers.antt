@@ -1,0 +1,149 @@
+use Rattle.std.proofs.Common.{◌≡◌, ◌<◌, ◌+◌, ◌++◌, ℕ, List, [], ◌∷◌, length, refl, sym, ap, ◌∙◌, append_assoc, length-append, arith, inr, rules, Some, IsTrue}
+use Rattle.std.specs.Vec.Iter.{into_iter_items}
+use Rattle.gptman.specs.Commit.{reached, tables_to}
+use Rattle.gptman.specs.Crash.{IsKeptFor}
+use Rattle.gptman.specs.Disk.{LeavesOnly}
+use Rattle.gptman.specs.Fault.{fault_of}
+use Rattle.gptman.specs.Layout.{HasLayout}
+use Rattle.gptman.specs.Stop.{HoldsOneOf}
+use Rattle.gptman.specs.Table.{table_in}
+use Rattle.gptman.specs.declared.edit.Edit.{Edit}
+use Rattle.gptman.proofs.CommitLoop.{accepted_more, done_leaves, done_stands, failed_last, failed_leaves, failed_refused, failed_stands, leaves_next, made_next, made_none, wrote_next}
+use Rattle.gptman.proofs.OneGood.{leaves_outside}
+use Rattle.gptman.proofs.ReadingLaw.{reads_one_of}
+use Rattle.gptman.proofs.table.GPT.commit_all.Given.{Over}
+use Rattle.gptman.proofs.table.GPT.commit_all.Goals as goal
+
+nothing_left : {X : Type 0} (xs : List X) → length xs ≡ 0 → xs ≡ []
+nothing_left [] none = refl
+nothing_left (x ∷ xs) none = absurd (omega (arith, none))
+
+pub loop-edit-init : goal.loop-edit-init
+loop-edit-init g c = (
+  made_none c.args.self.now (g.D.Disk.state c.args.disk.now) c.requires.coherent (λ honest. g.met.D.Disk.sound c.args.disk.now honest),
+  refl,
+  refl,
+  search rules,
+)
+
+pub loop-edit-preserved : goal.loop-edit-preserved
+loop-edit-preserved g c =
+    let at = c.loop-edit in
+    let edit : Edit = c.in-Some.edit in
+    let are = at.invariant.0 in
+    let count = at.invariant.2 in
+    let steps : into_iter_items at.edit-iterator ≡ edit ∷ into_iter_items c.next.new.self = c.in-Some.ensures.steps.0 in
+    let next = c.commit.ensures in
+    let done = c.in_default.ensures in (
+      made_next c.args.self.now at.yielded at.self (g.D.Disk.state c.args.disk.now) (g.D.Disk.state at.disk) are edit c.commit.new.self (g.D.Disk.state c.commit.new.disk) (record {
+        coherent = next.coherent;
+        accepted = done.accepted;
+        value = done.value;
+        keeps = next.keeps;
+        wrote = next.wrote;
+        stored = done.stored;
+        good = next.one_good;
+      }),
+      append_assoc at.yielded (edit ∷ []) (into_iter_items c.next.new.self) ∙ (ap (λ (l : List Edit). at.yielded ++ l) (sym steps) ∙ at.invariant.1),
+      omega (arith, count, length-append at.yielded (edit ∷ [])),
+      let was = at.invariant.3 in
+          let gone = c.in-Some.ensures.steps.1 in
+          let short = ap length steps in
+          omega arith,
+    )
+
+-- ---- an edit was refused
+
+-- the edits so far, the one that was refused, and those behind it
+all_edits : (g : Over) (c : goal.After-drop-edit-iterator g) → c.args.edits.items ≡ c.loop-edit.yielded ++ c.in-Some.edit ∷ into_iter_items c.next.new.self
+all_edits g c =
+    let at = c.loop-edit in
+    let steps : into_iter_items at.edit-iterator ≡ c.in-Some.edit ∷ into_iter_items c.next.new.self = c.in-Some.ensures.steps.0 in
+    sym c.into_iter-edit-iterator.ensures.into_iter_gives.0 ∙ (sym at.invariant.1 ∙ ap (λ (l : List Edit). at.yielded ++ l) steps)
+
+pub returns-in-Err-clause-accepted : goal.returns-in-Err-clause-accepted
+returns-in-Err-clause-accepted g c k below =
+    let count = c.loop-edit.invariant.2 in
+    accepted_more c.args.self.now c.loop-edit.yielded _ c.args.edits.items (all_edits g c) c.loop-edit.invariant.0.accepted k (omega (arith, below, count))
+
+pub returns-in-Err-clause-refused : goal.returns-in-Err-clause-refused
+returns-in-Err-clause-refused g c = λ layout.
+    let at = c.loop-edit in
+    failed_refused c.args.self.now at.yielded at.self (g.D.Disk.state c.args.disk.now) (g.D.Disk.state at.disk) (g.D.Disk.state c.commit.new.disk) at.invariant.0 c.args.edits.items _ at.done
+    c.in-Some.edit (all_edits g c) at.invariant.2 (fault_of c.in-Err.fault) c.commit.new.self layout c.in-Err.ensures.refused
+
+pub returns-in-Err-clause-wrote : goal.returns-in-Err-clause-wrote
+returns-in-Err-clause-wrote g c = λ honest.
+    let at = c.loop-edit in
+    wrote_next c.args.self.now at.yielded at.self (g.D.Disk.state c.args.disk.now) (g.D.Disk.state at.disk) at.invariant.0 (g.D.Disk.state c.commit.new.disk) honest c.commit.ensures.wrote
+
+pub returns-in-Err-clause-stands : goal.returns-in-Err-clause-stands
+returns-in-Err-clause-stands g c = λ honest layout.
+    let at = c.loop-edit in
+    failed_stands c.args.self.now at.yielded at.self (g.D.Disk.state c.args.disk.now) (g.D.Disk.state at.disk) (g.D.Disk.state c.commit.new.disk) at.invariant.0 c.args.edits.items _ at.done
+    c.in-Some.edit (all_edits g c) at.invariant.2 (fault_of c.in-Err.fault) honest layout c.in-Err.ensures.untouched
+
+-- a stop leaves the table after some of the edits
+failed_good : (g : Over) (c : goal.After-drop-edit-iterator g) → IsTrue (g.D.Disk.state c.args.disk.now).is_honest
+    → HasLayout c.args.self.now.header (table_in c.args.self.now) c.args.self.now.sector_size (g.D.Disk.state c.args.disk.now).size → IsKeptFor (g.D.Disk.state c.args.disk.now) c.args.self.now (table_in c.args.self.now)
+    → LeavesOnly (g.D.Disk.state c.args.disk.now) (g.D.Disk.state c.commit.new.disk)
+    (λ b. HoldsOneOf b c.args.self.now.sector_size (tables_to c.args.self.now c.args.edits.items (reached c.loop-edit.done (Some c.in-Err.fault))))
+failed_good g c honest layout kept =
+    let at = c.loop-edit in
+    let own = c.args.self.now in
+    let a = g.D.Disk.state c.args.disk.now in
+    let b = g.D.Disk.state at.disk in
+    let new = g.D.Disk.state c.commit.new.disk in
+    let still = (at.invariant.0.wrote honest).honest in
+    let next = leaves_next own at.yielded at.self a b at.invariant.0 c.in-Some.edit new honest layout kept (c.commit.ensures.wrote still) (c.commit.ensures.one_good still) in
+    failed_leaves own at.yielded at.self a b new at.invariant.0 c.args.edits.items _ at.done c.in-Some.edit (all_edits g c) at.invariant.2 (fault_of c.in-Err.fault) honest layout kept
+    (g.met.D.Disk.sound at.disk) c.in-Err.ensures.untouched next
+
+pub returns-in-Err-clause-one_good : goal.returns-in-Err-clause-one_good
+returns-in-Err-clause-one_good g c = failed_good g c
+
+pub returns-in-Err-clause-read : goal.returns-in-Err-clause-read
+returns-in-Err-clause-read g c = λ honest layout kept x left known. reads_one_of x _ _ (failed_good g c honest layout kept x left) known
+
+pub returns-in-Err-clause-outside : goal.returns-in-Err-clause-outside
+returns-in-Err-clause-outside g c = λ honest synced layout.
+    let at = c.loop-edit in
+    leaves_outside c.args.self.now (g.D.Disk.state c.args.disk.now) (g.D.Disk.state c.commit.new.disk) synced layout
+    (wrote_next c.args.self.now at.yielded at.self (g.D.Disk.state c.args.disk.now) (g.D.Disk.state at.disk) at.invariant.0 (g.D.Disk.state c.commit.new.disk) honest c.commit.ensures.wrote)
+
+pub returns-in-Err-clause-last : goal.returns-in-Err-clause-last
+returns-in-Err-clause-last g c = λ honest layout kept.
+    let at = c.loop-edit in
+    let still = (at.invariant.0.wrote honest).honest in
+    let wrote = c.commit.ensures.wrote still in
+    failed_last c.args.self.now at.yielded at.self (g.D.Disk.state c.args.disk.now) (g.D.Disk.state at.disk) (g.D.Disk.state c.commit.new.disk) at.invariant.0 c.args.edits.items _ at.done
+    c.in-Some.edit (all_edits g c) at.invariant.2 honest layout kept wrote.time.later (g.met.D.Disk.sound c.commit.new.disk wrote.honest) (c.commit.ensures.one_good still)
+
+-- ---- all edits were made
+
+made_all : (g : Over) (c : goal.After-drop-edit-iterator-2 g) → c.args.edits.items ≡ c.loop-edit.yielded ++ []
+made_all g c =
+    let at = c.loop-edit in
+    let none : into_iter_items at.edit-iterator ≡ [] = nothing_left _ (sym at.invariant.3 ∙ c.in-None.ensures.steps.0) in
+    sym c.into_iter-edit-iterator.ensures.into_iter_gives.0 ∙ (sym at.invariant.1 ∙ ap (λ (l : List Edit). at.yielded ++ l) none)
+
+pub returns-clause-stands : goal.returns-clause-stands
+returns-clause-stands g c = λ honest layout.
+    let at = c.loop-edit in
+    inr (done_stands c.args.self.now at.yielded at.self (g.D.Disk.state c.args.disk.now) (g.D.Disk.state at.disk) at.invariant.0 c.args.edits.items [] at.done (made_all g c) at.invariant.2 honest layout)
+
+done_good : (g : Over) (c : goal.After-drop-edit-iterator-2 g) → IsTrue (g.D.Disk.state c.args.disk.now).is_honest
+    → HasLayout c.args.self.now.header (table_in c.args.self.now) c.args.self.now.sector_size (g.D.Disk.state c.args.disk.now).size → IsKeptFor (g.D.Disk.state c.args.disk.now) c.args.self.now (table_in c.args.self.now)
+    → LeavesOnly (g.D.Disk.state c.args.disk.now) (g.D.Disk.state c.loop-edit.disk) (λ b. HoldsOneOf b c.args.self.now.sector_size (tables_to c.args.self.now c.args.edits.items c.loop-edit.done))
+done_good g c =
+    let at = c.loop-edit in
+    done_leaves c.args.self.now at.yielded at.self (g.D.Disk.state c.args.disk.now) (g.D.Disk.state at.disk) at.invariant.0 c.args.edits.items [] at.done (made_all g c) at.invariant.2
+
+pub returns-clause-one_good : goal.returns-clause-one_good
+returns-clause-one_good g c = done_good g c
+
+pub returns-clause-read : goal.returns-clause-read
+returns-clause-read g c = λ honest layout kept x left known. reads_one_of x _ _ (done_good g c honest layout kept x left) known
+
+pub returns-clause-outside : goal.returns-clause-outside
+returns-clause-outside g c = λ honest synced layout. leaves_outside c.args.self.now _ (g.D.Disk.state c.loop-edit.disk) synced layout (c.loop-edit.invariant.0.wrote honest)
