@@ -81,6 +81,7 @@ impl GPT {
         ensures accepted { (k : ℕ) → k < result.done → IsAcceptedAt self.old edits.items k }
         ensures refused { HasLayout self.old.header (table_in self.old) self.old.sector_size (D.state disk.old).size
             → IfSome result.fault (λ e. IsRefusedAt self.old edits.items result.done (fault_of e) self.new (D.state disk.old) (D.state disk.new)) }
+        ensures empty { edits.items ≡ [] → disk.new ≡ disk.old }
         ensures value { IfNone result.fault (IsButSums (table_after self.old edits.items result.done) self.new) }
 
         // What becomes of the disk. Unless it failed, both places hold the last table, or nothing was written where there is none.

@@ -24,6 +24,7 @@ loop-edit-init g c = (
   refl,
   refl,
   search rules,
+  λ none. refl,
 )
 
 pub loop-edit-preserved : goal.loop-edit-preserved
@@ -50,6 +51,7 @@ loop-edit-preserved g c =
           let gone = c.in-Some.ensures.steps.1 in
           let short = ap length steps in
           omega arith,
+      λ none. absurd (omega (arith, none, length-append at.yielded (edit ∷ []))),
     )
 
 -- ---- an edit was refused
@@ -119,6 +121,11 @@ returns-in-Err-clause-last g c = λ honest layout kept.
     failed_last c.args.self.now at.yielded at.self (g.D.Disk.state c.args.disk.now) (g.D.Disk.state at.disk) (g.D.Disk.state c.commit.new.disk) at.invariant.0 c.args.edits.items _ at.done
     c.in-Some.edit (all_edits g c) at.invariant.2 honest layout kept wrote.time.later (g.met.D.Disk.sound c.commit.new.disk wrote.honest) (c.commit.ensures.one_good still)
 
+pub returns-in-Err-clause-empty : goal.returns-in-Err-clause-empty
+returns-in-Err-clause-empty g c = λ empty.
+    let none : length (c.loop-edit.yielded ++ c.in-Some.edit ∷ into_iter_items c.next.new.self) ≡ 0 = ap length (sym (all_edits g c) ∙ empty) in
+    absurd (omega (arith, none, length-append c.loop-edit.yielded (c.in-Some.edit ∷ into_iter_items c.next.new.self)))
+
 -- ---- all edits were made
 
 made_all : (g : Over) (c : goal.After-drop-edit-iterator-2 g) → c.args.edits.items ≡ c.loop-edit.yielded ++ []
@@ -126,6 +133,11 @@ made_all g c =
     let at = c.loop-edit in
     let none : into_iter_items at.edit-iterator ≡ [] = nothing_left _ (sym at.invariant.3 ∙ c.in-None.ensures.steps.0) in
     sym c.into_iter-edit-iterator.ensures.into_iter_gives.0 ∙ (sym at.invariant.1 ∙ ap (λ (l : List Edit). at.yielded ++ l) none)
+
+pub returns-clause-empty : goal.returns-clause-empty
+returns-clause-empty g c = λ empty.
+    let none : length (c.loop-edit.yielded ++ []) ≡ 0 = ap length (sym (made_all g c) ∙ empty) in
+    c.loop-edit.invariant.4 (omega (arith, none, length-append c.loop-edit.yielded []))
 
 pub returns-clause-stands : goal.returns-clause-stands
 returns-clause-stands g c = λ honest layout.

@@ -9,3 +9,4 @@ invariant-loop-edit g l =
     × (l.yielded ++ into_iter_items l.edit-iterator ≡ into_iter_items l.initial.edit-iterator)
     × (l.done ≡ length l.yielded)
     × (into_iter_len l.edit-iterator ≡ length (into_iter_items l.edit-iterator))
+    × (length l.yielded ≡ 0 → l.disk ≡ l.fn.disk)
