@@ -125,3 +125,27 @@ fn write_table(rt: &impl Abort, alloc: Global) -> Option<()> {
 fn a_table_is_written_or_there_is_no_memory(rt: HostRuntime) {
     write_table(&rt, rt.alloc());
 }
+
+// Edits that are committed take memory to sort and for the checks.
+fn commit_edits(rt: &impl Abort, alloc: Global) -> Option<()> {
+    let mut table = made(rt, disk_1_unsorted(alloc))?;
+    let mut disk = made(rt, disk_of(alloc, 2, 51_200))?;
+    let edits = vec![in alloc; Edit::SortEntries, Edit::Remove(2)].ok()?;
+    assert!(rt; table.is_coherent() && table.sector_size == 512);
+    let progress = table.commit_all(&mut disk, edits);
+    match progress.fault {
+        None => assert!(rt; progress.done == 2),
+        // a record of the disk that found no memory is a failure of the disk
+        Some(Error::Io(_)) => {}
+        Some(error) => {
+            assert!(rt; matches!(&error, Error::OutOfMemory), "{error}");
+            assert!(rt; progress.done > 0 || are_all(disk.bytes(), 2));
+        }
+    }
+    Some(())
+}
+
+#[test]
+fn edits_are_committed_or_there_is_no_memory(rt: HostRuntime) {
+    commit_edits(&rt, rt.alloc());
+}

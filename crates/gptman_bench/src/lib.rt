@@ -9,6 +9,8 @@ mod checks;
 #[cfg(test)]
 mod codec;
 #[cfg(test)]
+mod commits;
+#[cfg(test)]
 mod damage;
 #[cfg(test)]
 mod entries;
