@@ -7,6 +7,7 @@ pub mod Assembly
 pub mod BlockBytes
 pub mod Boundaries
 pub mod ByTable
+pub mod Choice
 pub mod CommonDivisor
 pub mod CopyParts
 pub mod CopyTests
@@ -22,14 +23,18 @@ pub mod Fallback
 pub mod FirstFailing
 pub mod Fitting
 pub mod FourRanges
+pub mod FreeRuns
+pub mod FreeSectors
 pub mod Guids
 pub mod HeaderBytes
 pub mod Held
 pub mod LaidCopies
 pub mod Mapping
+pub mod Multiples
 pub mod NameText
 pub mod Numbering
 pub mod Numbers
+pub mod Offers
 pub mod OneGood
 pub mod OneWhole
 pub mod OtherHeader
@@ -37,6 +42,8 @@ pub mod Outcomes
 pub mod Overlays
 pub mod Pairs
 pub mod Pieces
+pub mod Places
+pub mod Placing
 pub mod Ranges
 pub mod ReadAlone
 pub mod ReadEntry
@@ -48,6 +55,7 @@ pub mod Sealing
 pub mod Sorting
 pub mod Stops
 pub mod Stored
+pub mod Sweeping
 pub mod TwoCopies
 mod Vectors
 pub mod WriteRanges

@@ -6,7 +6,7 @@
 //! its end; a run with no such multiple has none. Entries may overlap, lie outside of the bounds or end
 //! before they start, and the bounds may stand in any order.
 
-ghost use Rattle.std.specs.Prelude.{◌≡◌, ◌⊎◌, ◌<◌, max, IfOk, IfErr, MatchOption};
+ghost use Rattle.std.specs.Prelude.{◌≡◌, ◌⊎◌, ◌<◌, ◌≤◌, ◌+◌, ◌^◌, max, All, IfOk, IfErr, IfSome, MatchOption};
 ghost use Rattle.gptman.specs.Calls.{Refuses};
 ghost use Rattle.gptman.specs.Fault.{fault_of, no_space_left, out_of_memory};
 ghost use Rattle.gptman.specs.Place.{AreSlots, HasNoPlace, HasNoSlot, IsBestPlace, IsFirstPlace, IsFreeIn, IsLastPlace, IsMaximumSize};
@@ -29,6 +29,7 @@ impl GPT {
     pub fn find_free_sectors(&self) -> Result<Vec<(u64, u64)>>
         requires { 0 < self.now.align }
         ensures slots { IfOk result (λ v. AreSlots (IsFreeIn self.now) self.now.align v.items) }
+        ensures fits { IfOk result (λ v. All (λ s. s.0 + s.1 ≤ 2 ^ 64) v.items) }
         ensures refused { IfErr result (λ e. fault_of e ≡ out_of_memory) }
     {
         let alloc = self.partitions.alloc();
@@ -44,7 +45,8 @@ impl GPT {
     pub fn find_first_place(&self, size: u64) -> Result<Option<u64>>
         requires { 0 < self.now.align }
         ensures place { let free = IsFreeIn self.now in let align = self.now.align in let n = max 1 size in
-            IfOk result (λ place. MatchOption place (HasNoPlace free align n) (λ s. IsFirstPlace free align n s)) }
+            IfOk result (λ place. MatchOption place (HasNoPlace free align n) (IsFirstPlace free align n)) }
+        ensures fits { IfOk result (λ place. IfSome place (λ s. s + max 1 size ≤ 2 ^ 64)) }
         ensures refused { IfErr result (λ e. fault_of e ≡ out_of_memory) }
     {
         let size = size.max(1);
@@ -62,7 +64,8 @@ impl GPT {
     pub fn find_last_place(&self, size: u64) -> Result<Option<u64>>
         requires { 0 < self.now.align }
         ensures place { let free = IsFreeIn self.now in let align = self.now.align in let n = max 1 size in
-            IfOk result (λ place. MatchOption place (HasNoPlace free align n) (λ s. IsLastPlace free align n s)) }
+            IfOk result (λ place. MatchOption place (HasNoPlace free align n) (IsLastPlace free align n)) }
+        ensures fits { IfOk result (λ place. IfSome place (λ s. s + max 1 size ≤ 2 ^ 64)) }
         ensures refused { IfErr result (λ e. fault_of e ≡ out_of_memory) }
     {
         let size = size.max(1);
@@ -81,7 +84,8 @@ impl GPT {
     pub fn find_optimal_place(&self, size: u64) -> Result<Option<u64>>
         requires { 0 < self.now.align }
         ensures place { let free = IsFreeIn self.now in let align = self.now.align in let n = max 1 size in
-            IfOk result (λ place. MatchOption place (HasNoPlace free align n) (λ s. IsBestPlace free align n s)) }
+            IfOk result (λ place. MatchOption place (HasNoPlace free align n) (IsBestPlace free align n)) }
+        ensures fits { IfOk result (λ place. IfSome place (λ s. s + max 1 size ≤ 2 ^ 64)) }
         ensures refused { IfErr result (λ e. fault_of e ≡ out_of_memory) }
     {
         let size = size.max(1);

@@ -1,6 +1,6 @@
 //! Aligned slots, by one pass over the covered ranges in order.
 
-ghost use Rattle.std.specs.Prelude.{◌<◌, ◌≤◌, length, All, IfOk, MatchOption, OnOk};
+ghost use Rattle.std.specs.Prelude.{◌<◌, ◌≤◌, ◌+◌, ◌^◌, length, All, IfOk, MatchOption, OnOk};
 ghost use Rattle.std.specs.List.Sorted.{IsNonDecreasingBy};
 ghost use Rattle.gptman.specs.Place.{AreSlots};
 ghost use Rattle.gptman.specs.Sweep.{AddsGap, AddsSlot, HasNoMultiple, IsOutside, IsSlotOf};
@@ -20,6 +20,7 @@ pub(crate) fn sweep(
     requires sorted { IsNonDecreasingBy (λ r. r.0) ranges.now }
     requires ordered { All (λ r. r.0 ≤ r.1) ranges.now }
     ensures slots { IfOk result (λ r. AreSlots (IsOutside header.now ranges.now) align r.0.items) }
+    ensures fits { IfOk result (λ r. All (λ s. s.0 + s.1 ≤ 2 ^ 64) r.0.items) }
     ensures turns { IfOk result (λ r. r.1 ≤ length ranges.now) }
 {
     let mut slots = Vec::new(alloc);
