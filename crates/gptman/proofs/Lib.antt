@@ -7,6 +7,7 @@ pub mod Assembly
 pub mod BlockBytes
 pub mod Boundaries
 pub mod ByTable
+pub mod Choice
 pub mod CommitLoop
 pub mod Commits
 pub mod CommonDivisor
@@ -24,14 +25,18 @@ pub mod Fallback
 pub mod FirstFailing
 pub mod Fitting
 pub mod FourRanges
+pub mod FreeRuns
+pub mod FreeSectors
 pub mod Guids
 pub mod HeaderBytes
 pub mod Held
 pub mod LaidCopies
 pub mod Mapping
+pub mod Multiples
 pub mod NameText
 pub mod Numbering
 pub mod Numbers
+pub mod Offers
 pub mod OneGood
 pub mod OneWhole
 pub mod OtherHeader
@@ -39,6 +44,8 @@ pub mod Outcomes
 pub mod Overlays
 pub mod Pairs
 pub mod Pieces
+pub mod Places
+pub mod Placing
 pub mod Ranges
 pub mod ReadAlone
 pub mod ReadEntry
@@ -50,6 +57,7 @@ pub mod Sealing
 pub mod Sorting
 pub mod Stops
 pub mod Stored
+pub mod Sweeping
 pub mod TwoCopies
 mod Vectors
 pub mod WriteRanges

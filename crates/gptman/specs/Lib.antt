@@ -1,6 +1,7 @@
 pub mod Alignment
 pub mod Bytes
 pub mod Calls
+pub mod Chosen
 pub mod Coding
 pub mod Commit
 pub mod Copy
@@ -20,9 +21,12 @@ pub mod Memory
 pub mod Name
 pub mod Number
 pub mod Order
+pub mod Place
+pub mod Placement
 pub mod Reading
 pub mod Register
 pub mod Stop
+pub mod Sweep
 pub mod Table
 pub mod Valid
 pub mod Write

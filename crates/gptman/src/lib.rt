@@ -7,6 +7,7 @@ pub mod disk;
 pub mod edit;
 pub mod error;
 pub mod header;
+pub mod place;
 pub mod table;
 
 pub use codec::entry::GPTPartitionEntry;

@@ -16,7 +16,7 @@ use crate::table::iter::{Iter, IterMut};
 
 mod align;
 mod checks;
-mod covered;
+pub(crate) mod covered;
 mod entries;
 pub mod iter;
 pub mod laws;

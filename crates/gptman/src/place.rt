@@ -1,0 +1,116 @@
+//! Free sectors, and the places that they offer to new partitions. It looks at the list and at the
+//! header's bounds alone.
+//!
+//! A sector is free where it is usable, is not sector 0, and no used entry covers it. A run is a
+//! maximal interval of free sectors. An aligned slot is a run from its first multiple of `align` on to
+//! its end; a run with no such multiple has none. Entries may overlap, lie outside of the bounds or end
+//! before they start, and the bounds may stand in any order.
+
+ghost use Rattle.std.specs.Prelude.{◌≡◌, ◌⊎◌, ◌<◌, ◌≤◌, ◌+◌, ◌^◌, max, All, IfOk, IfErr, IfSome, MatchOption};
+ghost use Rattle.gptman.specs.Calls.{Refuses};
+ghost use Rattle.gptman.specs.Fault.{fault_of, no_space_left, out_of_memory};
+ghost use Rattle.gptman.specs.Place.{AreSlots, HasNoPlace, HasNoSlot, IsBestPlace, IsFirstPlace, IsFreeIn, IsLastPlace, IsMaximumSize};
+
+use crate::error::{Error, Result};
+use crate::place::choose::{first_slot, greatest_size, last_slot, shortest_slot};
+use crate::place::sweep::sweep;
+use crate::table::GPT;
+use crate::table::covered::sorted_ranges;
+
+mod choose;
+pub mod laws;
+mod sweep;
+
+impl GPT {
+    /// All aligned slots of free sectors, each as (start, length) in sectors, by ascending start. The
+    /// last sector of each, start + length - 1, is a number of 64 bits. It takes time in O(n log n) for
+    /// n entries, however many sectors there are.
+    ///
+    /// `OutOfMemory` where there is no memory to find them.
+    pub fn find_free_sectors(&self) -> Result<Vec<(u64, u64)>>
+        requires { 0 < self.now.align }
+        ensures slots { IfOk result (λ v. AreSlots (IsFreeIn self.now) self.now.align v.items) }
+        ensures fits { IfOk result (λ v. All (λ s. s.0 + s.1 ≤ 2 ^ 64) v.items) }
+        ensures refused { IfErr result (λ e. fault_of e ≡ out_of_memory) }
+    {
+        let alloc = self.partitions.alloc();
+        let ranges = sorted_ranges(alloc, self.partitions.as_slice())?;
+        let (slots, _turns) = sweep(alloc, &self.header, self.align, &ranges)?;
+        Ok(slots)
+    }
+
+    /// The least sector, a multiple of `align`, from which `size` sectors are free; `None` where there
+    /// is no such sector. A size of 0 is treated as 1.
+    ///
+    /// `OutOfMemory` where there is no memory to find it.
+    pub fn find_first_place(&self, size: u64) -> Result<Option<u64>>
+        requires { 0 < self.now.align }
+        ensures place { let free = IsFreeIn self.now in let align = self.now.align in let n = max 1 size in
+            IfOk result (λ place. MatchOption place (HasNoPlace free align n) (IsFirstPlace free align n)) }
+        ensures fits { IfOk result (λ place. IfSome place (λ s. s + max 1 size ≤ 2 ^ 64)) }
+        ensures refused { IfErr result (λ e. fault_of e ≡ out_of_memory) }
+    {
+        let size = size.max(1);
+        let slots = self.find_free_sectors()?;
+        match first_slot(&slots, size) {
+            Some((start, _)) => Ok(Some(start)),
+            None => Ok(None),
+        }
+    }
+
+    /// The greatest sector, a multiple of `align`, from which `size` sectors are free; `None` where
+    /// there is no such sector. A size of 0 is treated as 1.
+    ///
+    /// `OutOfMemory` where there is no memory to find it.
+    pub fn find_last_place(&self, size: u64) -> Result<Option<u64>>
+        requires { 0 < self.now.align }
+        ensures place { let free = IsFreeIn self.now in let align = self.now.align in let n = max 1 size in
+            IfOk result (λ place. MatchOption place (HasNoPlace free align n) (IsLastPlace free align n)) }
+        ensures fits { IfOk result (λ place. IfSome place (λ s. s + max 1 size ≤ 2 ^ 64)) }
+        ensures refused { IfErr result (λ e. fault_of e ≡ out_of_memory) }
+    {
+        let size = size.max(1);
+        let align = self.align;
+        let slots = self.find_free_sectors()?;
+        match last_slot(&slots, size) {
+            Some((start, length)) => Ok(Some(start + (length - size) / align * align)),
+            None => Ok(None),
+        }
+    }
+
+    /// The start of the shortest aligned slot of at least `size` sectors, and of the leftmost of
+    /// equally short ones; `None` where there is no place for so many. A size of 0 is treated as 1.
+    ///
+    /// `OutOfMemory` where there is no memory to find it.
+    pub fn find_optimal_place(&self, size: u64) -> Result<Option<u64>>
+        requires { 0 < self.now.align }
+        ensures place { let free = IsFreeIn self.now in let align = self.now.align in let n = max 1 size in
+            IfOk result (λ place. MatchOption place (HasNoPlace free align n) (IsBestPlace free align n)) }
+        ensures fits { IfOk result (λ place. IfSome place (λ s. s + max 1 size ≤ 2 ^ 64)) }
+        ensures refused { IfErr result (λ e. fault_of e ≡ out_of_memory) }
+    {
+        let size = size.max(1);
+        let slots = self.find_free_sectors()?;
+        match shortest_slot(&slots, size) {
+            Some(shortest) => Ok(Some(shortest.0)),
+            None => Ok(None),
+        }
+    }
+
+    /// The greatest multiple of `align`, in sectors, that an aligned slot has room for. It may be 0.
+    ///
+    /// `NoSpaceLeft` exactly where there is no aligned slot, unless `OutOfMemory`, where there is no
+    /// memory to tell, comes in its stead.
+    pub fn get_maximum_partition_size(&self) -> Result<u64>
+        requires { 0 < self.now.align }
+        ensures maximum { IfOk result (IsMaximumSize (IsFreeIn self.now) self.now.align) }
+        ensures full { Refuses result no_space_left → HasNoSlot (IsFreeIn self.now) self.now.align }
+        ensures refused { IfErr result (λ e. (fault_of e ≡ no_space_left) ⊎ (fault_of e ≡ out_of_memory)) }
+    {
+        let slots = self.find_free_sectors()?;
+        match greatest_size(&slots, self.align) {
+            Some(size) => Ok(size),
+            None => Err(Error::NoSpaceLeft),
+        }
+    }
+}

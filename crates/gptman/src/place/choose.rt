@@ -1,0 +1,65 @@
+//! The slot of a list that serves a size. A slot is (start, length) in sectors, and a list of them is
+//! by ascending start.
+
+ghost use Rattle.std.specs.Prelude.{◌≡◌, ◌<◌, ◌≤◌, length, map, AllPairs, IfSome, IsSomeAnd, MatchBool, MatchOption};
+ghost use Rattle.gptman.specs.Chosen.{rounded, AreShort, IsBefore, IsChosen, IsEarlier, IsGreatest, IsLater, IsTighter};
+
+/// The first slot of at least `size` sectors.
+pub(crate) fn first_slot(slots: &[(u64, u64)], size: u64) -> Option<(u64, u64)>
+    requires { AllPairs IsBefore slots.now }
+    ensures { MatchOption result (AreShort size slots.now) (λ s. IsChosen IsEarlier size slots.now s) }
+{
+    for slot in slots {
+        if slot.1 >= size {
+            return Some(*slot);
+        }
+    }
+    None
+}
+
+/// The last slot of at least `size` sectors.
+pub(crate) fn last_slot(slots: &[(u64, u64)], size: u64) -> Option<(u64, u64)>
+    requires { AllPairs IsBefore slots.now }
+    ensures { MatchOption result (AreShort size slots.now) (λ s. IsChosen IsLater size slots.now s) }
+{
+    let mut found = None;
+    for slot in slots {
+        if slot.1 >= size {
+            found = Some(*slot);
+        }
+    }
+    found
+}
+
+/// The shortest slot of at least `size` sectors, and the first of equally short ones.
+pub(crate) fn shortest_slot(slots: &[(u64, u64)], size: u64) -> Option<(u64, u64)>
+    requires { AllPairs IsBefore slots.now }
+    ensures { MatchOption result (AreShort size slots.now) (λ s. IsChosen IsTighter size slots.now s) }
+{
+    let mut shortest = None;
+    for slot in slots {
+        if is_shorter(*slot, shortest, size) {
+            shortest = Some(*slot);
+        }
+    }
+    shortest
+}
+
+// Whether the slot has at least `size` sectors and is shorter than the shortest so far.
+fn is_shorter(slot: (u64, u64), shortest: Option<(u64, u64)>, size: u64) -> bool
+    ensures { MatchBool result (size ≤ slot.1 × IfSome shortest (λ s. slot.1 < s.1)) (size ≤ slot.1 → IsSomeAnd shortest (λ s. s.1 ≤ slot.1)) }
+{
+    slot.1 >= size
+        && match shortest {
+            Some(other) => slot.1 < other.1,
+            None => true,
+        }
+}
+
+/// The greatest multiple of `align` that a slot has room for, in sectors.
+pub(crate) fn greatest_size(slots: &[(u64, u64)], align: u64) -> Option<u64>
+    requires { 0 < align }
+    ensures { MatchOption result (length slots.now ≡ 0) (λ m. IsGreatest (map (rounded align) slots.now) m) }
+{
+    slots.iter().map(|slot| slot.1 - slot.1 % align).max()
+}
