@@ -1,17 +1,17 @@
 -- What a write answers, and that a valid table of the stated layout is not refused.
-use Rattle.std.proofs.Common.{◌≡◌, ◌≢◌, ◌⊎◌, ◌≤◌, ◌<◌, ◌+◌, ◌*◌, ◌^◌, ◌&&◌, ◌||◌, ℕ, Bool, true, false, not, List, [], ◌∷◌, ltb, leb, Some, None, Result, Ok, Err, Option, refl, sym, ap, ◌∙◌, subst, inl, inr, arith}
+use Rattle.std.proofs.Common.{◌≡◌, ◌≢◌, ◌⊎◌, ◌≤◌, ◌<◌, ◌+◌, ◌*◌, ◌^◌, ◌&&◌, ◌||◌, ℕ, Bool, true, false, not, List, [], ◌∷◌, ltb, Some, None, Result, Ok, Err, Option, refl, sym, ap, ◌∙◌, subst, inl, inr, arith}
 use Rattle.std.specs.Prelude.{if◌then◌else◌, nat_eq, IfErr}
 use Rattle.std.specs.List.{list_all}
 use Rattle.std.proofs.lemmas.Bool.{and_from, le-leb, lt-ltb}
 use Rattle.std.proofs.lemmas.Bool.Decides.{eqb_tells}
 use Rattle.std.proofs.lemmas.List.Folds.{list_all-append}
-use Rattle.gptman.specs.Calls.{AnswersWrite, Fails, Refuses, Settles, refusal_of}
+use Rattle.gptman.specs.Calls.{AnswersWrite, Refuses, Settles}
 use Rattle.gptman.specs.Calls.AnswersWrite.{no_memory, not_valid, too_far, settled}
 use Rattle.gptman.specs.Crash.{other_place}
 use Rattle.gptman.specs.Disk.{DiskState, Rose}
-use Rattle.gptman.specs.Fault.{Fault, fault_of, first_failing, conflict_partition_guid, invalid_partition_boundaries, io, overflow, no_space_left, out_of_memory}
+use Rattle.gptman.specs.Fault.{Fault, fault_of, first_failing, io, overflow, no_space_left, out_of_memory}
 use Rattle.gptman.specs.Layout.{HasLayout, IsLaidOut, array_start}
-use Rattle.gptman.specs.Reading.{Place, primary, backup, place_start}
+use Rattle.gptman.specs.Reading.{Place}
 use Rattle.gptman.specs.Table.{table_of, IsHeaderForm}
 use Rattle.gptman.specs.Valid.{IsValid, IsValidity}
 use Rattle.gptman.specs.Valid.IsValidity.{shared_guid, bad_boundaries, valid}

@@ -6,14 +6,14 @@ use Rattle.gptman.specs.Calls.LeavesOnFailure.{nothing, other_begun, own_not_beg
 use Rattle.gptman.specs.Crash.{IsLeftAlone, PlaceAfter, other_place}
 use Rattle.gptman.specs.Crash.PlaceAfter.{left_alone, written, torn}
 use Rattle.gptman.specs.Disk.{Agrees, DiskState, Image, Outside, Within}
-use Rattle.gptman.specs.Layout.{AreClear, HasLayout, Holds, IsLaidOut, ranges_at}
+use Rattle.gptman.specs.Layout.{AreClear, HasLayout, IsLaidOut, ranges_at}
 use Rattle.gptman.specs.Reading.{Place, primary, backup, place_start}
-use Rattle.gptman.specs.Table.{Table, table_of, IsHeaderForm, sealed}
+use Rattle.gptman.specs.Table.{table_of, IsHeaderForm, sealed}
 use Rattle.gptman.specs.Write.{other_header, write_ranges}
 use Rattle.gptman.specs.declared.codec.entry.GPTPartitionEntry.{GPTPartitionEntry}
 use Rattle.gptman.specs.declared.codec.header.GPTHeader.{GPTHeader}
 use Rattle.gptman.proofs.FourRanges.{agrees_in, clear_if_apart, inside_clear, other_laid, other_ranges, places_apart}
-use Rattle.gptman.proofs.OneGood.{layout_form, other_held}
+use Rattle.gptman.proofs.OneGood.{other_held}
 use Rattle.gptman.proofs.OneWhole.{within_copy}
 use Rattle.gptman.proofs.OtherHeader.{other_form}
 use Rattle.gptman.proofs.Ranges.{Ranges, agrees_wider, within_then}
@@ -72,11 +72,10 @@ module _ (place : Place) (h : GPTHeader) (es : List GPTPartitionEntry) (ss : ℕ
       (left_alone (untouched_ranges own a b still.view none), left_alone (untouched_ranges other a b still.view none))
   places_after synced long small (other_begun agrees within pending) =
       (left_alone (own_alone agrees within), torn_at (other_place place) ((other_header h).primary_lba * ss) other_start pending)
-  places_after synced long small (own_not_begun whole agrees none) =
-      (
-        left_alone (own_alone agrees (subst (λ (ps : Ranges). Within ps (write_ranges (other_header h) ss)) (sym none) (record { covers = λ k o. tt }))),
-        other_written long small whole,
-      )
+  places_after synced long small (own_not_begun whole agrees none) = (
+    left_alone (own_alone agrees (subst (λ (ps : Ranges). Within ps (write_ranges (other_header h) ss)) (sym none) (record { covers = λ k o. tt }))),
+    other_written long small whole,
+  )
   places_after synced long small (own_begun whole pending) = (torn_at place (h.primary_lba * ss) own_start pending, other_written long small whole)
 
 -- The same of the two places by name.

@@ -8,7 +8,8 @@ use Rattle.std.proofs.lemmas.List.Elements.{All-push, All-weaker, Contains-appen
 use Rattle.gptman.specs.Chosen.{AreShort, IsChosen, IsBefore, IsEarlier, IsLater, IsTighter}
 
 -- a slot that no earlier one beats is chosen now
-pub chosen_now : (better : ℕ × ℕ → ℕ × ℕ → Type 0) (n : ℕ) (slots : List (ℕ × ℕ)) (s : ℕ × ℕ) → n ≤ s.1 → better s s → All (λ t. n ≤ t.1 → better s t) slots → IsChosen better n (slots ++ s ∷ []) s
+pub chosen_now : (better : ℕ × ℕ → ℕ × ℕ → Type 0) (n : ℕ) (slots : List (ℕ × ℕ)) (s : ℕ × ℕ) → n ≤ s.1 → better s s → All (λ t. n ≤ t.1 → better s t) slots
+    → IsChosen better n (slots ++ s ∷ []) s
 chosen_now better n slots s fits itself all = record {
   member = Contains-push slots s;
   fits = fits;
@@ -16,7 +17,8 @@ chosen_now better n slots s fits itself all = record {
 }
 
 -- the chosen one stays
-pub chosen_still : (better : ℕ × ℕ → ℕ × ℕ → Type 0) (n : ℕ) (slots : List (ℕ × ℕ)) (s t : ℕ × ℕ) → IsChosen better n slots s → (n ≤ t.1 → better s t) → IsChosen better n (slots ++ t ∷ []) s
+pub chosen_still : (better : ℕ × ℕ → ℕ × ℕ → Type 0) (n : ℕ) (slots : List (ℕ × ℕ)) (s t : ℕ × ℕ) → IsChosen better n slots s → (n ≤ t.1 → better s t)
+    → IsChosen better n (slots ++ t ∷ []) s
 chosen_still better n slots s t c no_better = record {
   member = Contains-append_left slots (t ∷ []) s c.member;
   fits = c.fits;
@@ -27,7 +29,8 @@ pub short_still : (n : ℕ) (slots : List (ℕ × ℕ)) (t : ℕ × ℕ) → Are
 short_still n slots t all h = All-push (λ s. s.1 < n) slots t all h
 
 -- each slot before the one at i stands before it
-pub all_before : (slots : List (ℕ × ℕ)) (i : ℕ) (d : ℕ × ℕ) → AllPairs IsBefore slots → i < length slots → All (λ t. IsBefore t (get_or slots i d)) (take i slots)
+pub all_before : (slots : List (ℕ × ℕ)) (i : ℕ) (d : ℕ × ℕ) → AllPairs IsBefore slots → i < length slots
+    → All (λ t. IsBefore t (get_or slots i d)) (take i slots)
 all_before slots i d pairs h k e within =
     let in_front : k < i = omega (arith, length-take i slots) in
     let same : (get_or (take i slots) k e).0 ≡ (get_or slots k e).0 = ap (λ (r : ℕ × ℕ). r.0) (get_or-take i slots k e in_front) in
@@ -40,18 +43,26 @@ abbrev pub SoFar : (ℕ × ℕ → ℕ × ℕ → Type 0) → ℕ → List (ℕ 
 SoFar better n slots found = MatchOption found (AreShort n slots) (λ s. IsChosen better n slots s)
 
 -- the slot at i is passed over
-pub kept_more : (better : ℕ × ℕ → ℕ × ℕ → Type 0) (n : ℕ) (slots : List (ℕ × ℕ)) (i : ℕ) (found : Option (ℕ × ℕ)) → i < length slots → SoFar better n (take i slots) found → MatchOption found ((get_or slots i (0, 0)).1 < n) (λ s. n ≤ (get_or slots i (0, 0)).1 → better s (get_or slots i (0, 0))) → SoFar better n (take (i + 1) slots) found
-kept_more better n slots i None h all short = subst (λ (l : List (ℕ × ℕ)). AreShort n l) (sym (take_more slots i (0, 0) h)) (short_still n (take i slots) (get_or slots i (0, 0)) all short)
-kept_more better n slots i (Some s) h c no_better = subst (λ (l : List (ℕ × ℕ)). IsChosen better n l s) (sym (take_more slots i (0, 0) h)) (chosen_still better n (take i slots) s (get_or slots i (0, 0)) c no_better)
+pub kept_more : (better : ℕ × ℕ → ℕ × ℕ → Type 0) (n : ℕ) (slots : List (ℕ × ℕ)) (i : ℕ) (found : Option (ℕ × ℕ)) → i < length slots
+    → SoFar better n (take i slots) found
+    → MatchOption found ((get_or slots i (0, 0)).1 < n) (λ s. n ≤ (get_or slots i (0, 0)).1 → better s (get_or slots i (0, 0)))
+    → SoFar better n (take (i + 1) slots) found
+kept_more better n slots i None h all short =
+    subst (λ (l : List (ℕ × ℕ)). AreShort n l) (sym (take_more slots i (0, 0) h)) (short_still n (take i slots) (get_or slots i (0, 0)) all short)
+kept_more better n slots i (Some s) h c no_better =
+    subst (λ (l : List (ℕ × ℕ)). IsChosen better n l s) (sym (take_more slots i (0, 0) h))
+    (chosen_still better n (take i slots) s (get_or slots i (0, 0)) c no_better)
 
 -- the slot at i is taken
-pub taken_more : (better : ℕ × ℕ → ℕ × ℕ → Type 0) (n : ℕ) (slots : List (ℕ × ℕ)) (i : ℕ) → i < length slots → let s = get_or slots i (0, 0) in n ≤ s.1 → better s s → All (λ t. n ≤ t.1 → better s t) (take i slots) → SoFar better n (take (i + 1) slots) (Some s)
+pub taken_more : (better : ℕ × ℕ → ℕ × ℕ → Type 0) (n : ℕ) (slots : List (ℕ × ℕ)) (i : ℕ) → i < length slots → let s = get_or slots i (0, 0) in n ≤ s.1
+    → better s s → All (λ t. n ≤ t.1 → better s t) (take i slots) → SoFar better n (take (i + 1) slots) (Some s)
 taken_more better n slots i h fits itself all =
     subst (λ (l : List (ℕ × ℕ)). IsChosen better n l (get_or slots i (0, 0))) (sym (take_more slots i (0, 0) h))
     (chosen_now better n (take i slots) (get_or slots i (0, 0)) fits itself all)
 
 -- the first slot that is long enough
-pub first_taken : (n : ℕ) (slots : List (ℕ × ℕ)) (i : ℕ) → AllPairs IsBefore slots → i < length slots → AreShort n (take i slots) → n ≤ (get_or slots i (0, 0)).1 → IsChosen IsEarlier n slots (get_or slots i (0, 0))
+pub first_taken : (n : ℕ) (slots : List (ℕ × ℕ)) (i : ℕ) → AllPairs IsBefore slots → i < length slots → AreShort n (take i slots)
+    → n ≤ (get_or slots i (0, 0)).1 → IsChosen IsEarlier n slots (get_or slots i (0, 0))
 first_taken n slots i pairs h short fits = record {
   member = Contains-get_or slots i (0, 0) h;
   fits = fits;
@@ -75,24 +86,38 @@ first_taken n slots i pairs h short fits = record {
 }
 
 -- the last so far
-pub last_taken : (n : ℕ) (slots : List (ℕ × ℕ)) (i : ℕ) → AllPairs IsBefore slots → i < length slots → n ≤ (get_or slots i (0, 0)).1 → SoFar IsLater n (take (i + 1) slots) (Some (get_or slots i (0, 0)))
+pub last_taken : (n : ℕ) (slots : List (ℕ × ℕ)) (i : ℕ) → AllPairs IsBefore slots → i < length slots → n ≤ (get_or slots i (0, 0)).1
+    → SoFar IsLater n (take (i + 1) slots) (Some (get_or slots i (0, 0)))
 last_taken n slots i pairs h fits = taken_more IsLater n slots i h fits (omega arith)
-    (All-weaker (λ t. IsBefore t (get_or slots i (0, 0))) (λ t. n ≤ t.1 → IsLater (get_or slots i (0, 0)) t) (λ t less long. omega arith) (take i slots) (all_before slots i (0, 0) pairs h))
+    (All-weaker (λ t. IsBefore t (get_or slots i (0, 0))) (λ t. n ≤ t.1 → IsLater (get_or slots i (0, 0)) t) (λ t less long. omega arith) (take i slots)
+    (all_before slots i (0, 0) pairs h))
+
+-- a slot that is too short changes nothing
+pub last_kept : (n : ℕ) (slots : List (ℕ × ℕ)) (i : ℕ) (found : Option (ℕ × ℕ)) → i < length slots → SoFar IsLater n (take i slots) found
+    → (get_or slots i (0, 0)).1 < n → SoFar IsLater n (take (i + 1) slots) found
+last_kept n slots i None h all short = kept_more IsLater n slots i None h all short
+last_kept n slots i (Some s) h c short = kept_more IsLater n slots i (Some s) h c (λ long. absurd (omega arith))
 
 shorter_than : (n : ℕ) (s b t : ℕ × ℕ) → s.1 < b.1 → IsTighter b t → IsTighter s t
 shorter_than n s b t less (inl more) = inl (omega arith)
 shorter_than n s b t less (inr same) = let e = same.0 in inl (omega arith)
 
 -- the shortest so far
-pub best_taken : (n : ℕ) (slots : List (ℕ × ℕ)) (i : ℕ) (found : Option (ℕ × ℕ)) → i < length slots → SoFar IsTighter n (take i slots) found → n ≤ (get_or slots i (0, 0)).1 → IfSome found (λ b. (get_or slots i (0, 0)).1 < b.1) → SoFar IsTighter n (take (i + 1) slots) (Some (get_or slots i (0, 0)))
+pub best_taken : (n : ℕ) (slots : List (ℕ × ℕ)) (i : ℕ) (found : Option (ℕ × ℕ)) → i < length slots → SoFar IsTighter n (take i slots) found
+    → n ≤ (get_or slots i (0, 0)).1 → IfSome found (λ b. (get_or slots i (0, 0)).1 < b.1)
+    → SoFar IsTighter n (take (i + 1) slots) (Some (get_or slots i (0, 0)))
 best_taken n slots i None h short fits less = taken_more IsTighter n slots i h fits (inr (refl, omega arith))
     (All-weaker (λ t. t.1 < n) (λ t. n ≤ t.1 → IsTighter (get_or slots i (0, 0)) t) (λ t less long. absurd (omega arith)) (take i slots) short)
 best_taken n slots i (Some b) h c fits less = taken_more IsTighter n slots i h fits (inr (refl, omega arith))
-    (All-weaker (λ t. n ≤ t.1 → IsTighter b t) (λ t. n ≤ t.1 → IsTighter (get_or slots i (0, 0)) t) (λ t better long. shorter_than n (get_or slots i (0, 0)) b t less (better long)) (take i slots) c.best)
+    (All-weaker (λ t. n ≤ t.1 → IsTighter b t) (λ t. n ≤ t.1 → IsTighter (get_or slots i (0, 0)) t)
+    (λ t better long. shorter_than n (get_or slots i (0, 0)) b t less (better long)) (take i slots) c.best)
 
 -- a slot that is not shorter comes later
-pub best_kept : (n : ℕ) (slots : List (ℕ × ℕ)) (i : ℕ) (found : Option (ℕ × ℕ)) → AllPairs IsBefore slots → i < length slots → SoFar IsTighter n (take i slots) found → (n ≤ (get_or slots i (0, 0)).1 → IsSomeAnd found (λ b. b.1 ≤ (get_or slots i (0, 0)).1)) → SoFar IsTighter n (take (i + 1) slots) found
-best_kept n slots i None pairs h all late = kept_more IsTighter n slots i None h all (elim (cases_lt (get_or slots i (0, 0)).1 n) [ inl less ↦ less | inr more ↦ absurd (late more) ])
+pub best_kept : (n : ℕ) (slots : List (ℕ × ℕ)) (i : ℕ) (found : Option (ℕ × ℕ)) → AllPairs IsBefore slots → i < length slots
+    → SoFar IsTighter n (take i slots) found → (n ≤ (get_or slots i (0, 0)).1 → IsSomeAnd found (λ b. b.1 ≤ (get_or slots i (0, 0)).1))
+    → SoFar IsTighter n (take (i + 1) slots) found
+best_kept n slots i None pairs h all late =
+    kept_more IsTighter n slots i None h all (elim (cases_lt (get_or slots i (0, 0)).1 n) [ inl less ↦ less | inr more ↦ absurd (late more) ])
 best_kept n slots i (Some b) pairs h c late = kept_more IsTighter n slots i (Some b) h c (λ long.
     let less = All-contains (λ t. IsBefore t (get_or slots i (0, 0))) (take i slots) b (all_before slots i (0, 0) pairs h) c.member in
     let le = late long in

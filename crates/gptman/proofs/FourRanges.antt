@@ -7,7 +7,7 @@ use Rattle.gptman.specs.Disk.{Agrees, Outside, Within}
 use Rattle.gptman.specs.Layout.{AgreesIn, AreApart, AreClear, IsLaidOut, Inside, four_ranges, ranges_at}
 use Rattle.gptman.specs.Reading.{Place, primary, backup}
 use Rattle.gptman.specs.Table.{Table, table_of, IsHeaderForm}
-use Rattle.gptman.specs.Write.{other_header, both_ranges, write_ranges}
+use Rattle.gptman.specs.Write.{other_header, both_ranges}
 use Rattle.gptman.specs.declared.codec.entry.GPTPartitionEntry.{GPTPartitionEntry}
 use Rattle.gptman.specs.declared.codec.header.GPTHeader.{GPTHeader}
 use Rattle.gptman.proofs.Apart.{apart_exchanged, from_right}

@@ -56,7 +56,8 @@ swept_none F align p none = record {
 }
 
 -- past sectors that are not free
-pub swept_skip : (F : ℕ → Type 0) (align : ℕ) (slots : List (ℕ × ℕ)) (p q : ℕ) → p ≤ q → ((x : ℕ) → p < x → x ≤ q → ¬ F x) → Swept F align slots p → Swept F align slots q
+pub swept_skip : (F : ℕ → Type 0) (align : ℕ) (slots : List (ℕ × ℕ)) (p q : ℕ) → p ≤ q → ((x : ℕ) → p < x → x ≤ q → ¬ F x) → Swept F align slots p
+    → Swept F align slots q
 swept_skip F align slots p q le none w = record {
   each = w.each;
   below = All-weaker (λ s. s.0 ≤ p) (λ s. s.0 ≤ q) (λ s h. omega arith) slots w.below;
@@ -72,7 +73,8 @@ swept_skip F align slots p q le none w = record {
 }
 
 -- past a run, whose slot came to the list
-pub swept_run : (F : ℕ → Type 0) (align : ℕ) (old new : List (ℕ × ℕ)) (p r q : ℕ) → Swept F align old p → IsRun F (p + 1) r → r < q → ((x : ℕ) → r < x → x ≤ q → ¬ F x) → AddsSlot align (p + 1) r old new → Swept F align new q
+pub swept_run : (F : ℕ → Type 0) (align : ℕ) (old new : List (ℕ × ℕ)) (p r q : ℕ) → Swept F align old p → IsRun F (p + 1) r → r < q
+    → ((x : ℕ) → r < x → x ≤ q → ¬ F x) → AddsSlot align (p + 1) r old new → Swept F align new q
 swept_run F align old new p r q w run rq none (added slot is e) =
     let here : IsAlignedSlot F align slot.0 slot.1 = record { first = p + 1; last = r; run = run; start = is.start; within = is.within; long = is.long } in
     let late = is.start.from in

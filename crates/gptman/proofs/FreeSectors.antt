@@ -1,5 +1,5 @@
 -- Free by the entries is the same as outside of their ranges; slots depend on which sectors are free alone.
-use Rattle.std.proofs.Common.{◌⊎◌, inl, inr, ℕ, ◌+◌, ◌≡◌, ◌≤◌, List, [], ◌∷◌, Some, IsTrue, arith}
+use Rattle.std.proofs.Common.{◌⊎◌, inl, inr, ℕ, ◌+◌, ◌≡◌, List, [], ◌∷◌, Some, IsTrue, arith}
 use Rattle.std.specs.List.{All, filter_map}
 use Rattle.std.specs.List.Sorted.{IsPermutation}
 use Rattle.std.proofs.lemmas.Bool.{cases_Bool, cases_lt, both_ways}
@@ -70,7 +70,8 @@ slot_same F G to from align s n t = record {
   long = t.long;
 }
 
-slots_same : (F G : ℕ → Type 0) → ((x : ℕ) → F x → G x) → ((x : ℕ) → G x → F x) → (align : ℕ) (slots : List (ℕ × ℕ)) → AreSlots F align slots → AreSlots G align slots
+slots_same : (F G : ℕ → Type 0) → ((x : ℕ) → F x → G x) → ((x : ℕ) → G x → F x) → (align : ℕ) (slots : List (ℕ × ℕ)) → AreSlots F align slots
+    → AreSlots G align slots
 slots_same F G to from align slots are = record {
   each = All-weaker (λ s. IsAlignedSlot F align s.0 s.1) (λ s. IsAlignedSlot G align s.0 s.1) (λ s. slot_same F G to from align s.0 s.1) slots are.each;
   every = λ s n t. are.every s n (slot_same G F from to align s n t);

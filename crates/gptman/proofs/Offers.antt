@@ -52,8 +52,8 @@ best_offered g size n slots s a chosen =
     subst (λ (n : ℕ). IsBestPlace (IsFreeIn g) g.align n s.0) a.is (best_is (IsFreeIn g) g.align n slots s a.found chosen)
 
 -- n sectors from the start of the chosen slot on end where the number of the last fits
-pub start_fits : (better : ℕ × ℕ → ℕ × ℕ → Type 0) (g : GPT) (size n : ℕ) (slots : List (ℕ × ℕ)) (s : ℕ × ℕ) → IsAsked g size n slots → IsChosen better n slots s
-    → s.0 + max 1 size ≤ 2 ^ 64
+pub start_fits : (better : ℕ × ℕ → ℕ × ℕ → Type 0) (g : GPT) (size n : ℕ) (slots : List (ℕ × ℕ)) (s : ℕ × ℕ) → IsAsked g size n slots
+    → IsChosen better n slots s → s.0 + max 1 size ≤ 2 ^ 64
 start_fits better g size n slots s a chosen =
     let is = a.is in
     let long = chosen.fits in
@@ -61,8 +61,8 @@ start_fits better g size n slots s a chosen =
     omega arith
 
 -- so do those from the last multiple on that leaves room for them
-pub last_fits : (better : ℕ × ℕ → ℕ × ℕ → Type 0) (g : GPT) (size n : ℕ) (slots : List (ℕ × ℕ)) (s : ℕ × ℕ) → IsAsked g size n slots → IsChosen better n slots s
-    → s.0 + (s.1 - n) / g.align * g.align + max 1 size ≤ 2 ^ 64
+pub last_fits : (better : ℕ × ℕ → ℕ × ℕ → Type 0) (g : GPT) (size n : ℕ) (slots : List (ℕ × ℕ)) (s : ℕ × ℕ) → IsAsked g size n slots
+    → IsChosen better n slots s → s.0 + (s.1 - n) / g.align * g.align + max 1 size ≤ 2 ^ 64
 last_fits better g size n slots s a chosen =
     let is = a.is in
     let long = chosen.fits in

@@ -13,7 +13,6 @@ use Rattle.gptman.specs.declared.codec.header.GPTHeader.{GPTHeader}
 use Rattle.gptman.specs.declared.table.GPT.{GPT}
 use Rattle.gptman.proofs.FourRanges.{agrees_in, both_apart, clear_if_apart, other_ranges, places_apart, same_ranges, within_four}
 use Rattle.gptman.proofs.Held.{holds_local}
-use Rattle.gptman.proofs.LaidCopies.{copy_ranges}
 use Rattle.gptman.proofs.OneWhole.{leaves_ranges, within_copy}
 use Rattle.gptman.proofs.OtherHeader.{other_table, other_form}
 use Rattle.gptman.proofs.Ranges.{Ranges, agrees_wider, contains_first, contains_later, within_none}

@@ -127,7 +127,8 @@ place_in F align s l n t slot d from to =
     record { multiple = d; inside = λ x h k. slot.run.inside x (omega arith) (omega arith) }
 
 -- no slot is long enough, so there is no place
-pub no_place : (F : ℕ → Type 0) (align n : ℕ) (slots : List (ℕ × ℕ)) → IsSettled F → 0 < align → 1 ≤ n → AreSlots F align slots → AreShort n slots → HasNoPlace F align n
+pub no_place : (F : ℕ → Type 0) (align n : ℕ) (slots : List (ℕ × ℕ)) → IsSettled F → 0 < align → 1 ≤ n → AreSlots F align slots → AreShort n slots
+    → HasNoPlace F align n
 no_place F align n slots settled pos some are short t p =
     let a = around F settled align n t pos some p in
     let less = All-contains (λ s. s.1 < n) slots (a.start, a.long) short (are.every a.start a.long a.slot) in
@@ -136,7 +137,8 @@ no_place F align n slots settled pos some are short t p =
 chosen_slot : (F : ℕ → Type 0) (align : ℕ) (slots : List (ℕ × ℕ)) (s : ℕ × ℕ) → AreSlots F align slots → Contains slots s → IsAlignedSlot F align s.0 s.1
 chosen_slot F align slots s are has = All-contains (λ s. IsAlignedSlot F align s.0 s.1) slots s are.each has
 
-pub first_is : (F : ℕ → Type 0) (align n : ℕ) (slots : List (ℕ × ℕ)) (s : ℕ × ℕ) → IsSettled F → 0 < align → 1 ≤ n → AreSlots F align slots → IsChosen IsEarlier n slots s → IsFirstPlace F align n s.0
+pub first_is : (F : ℕ → Type 0) (align n : ℕ) (slots : List (ℕ × ℕ)) (s : ℕ × ℕ) → IsSettled F → 0 < align → 1 ≤ n → AreSlots F align slots
+    → IsChosen IsEarlier n slots s → IsFirstPlace F align n s.0
 first_is F align n slots s settled pos some are c =
     let slot = chosen_slot F align slots s are c.member in
     let fits = c.fits in
@@ -173,13 +175,15 @@ last_in align s l n pos fits ds t dt from to =
       | inr more ↦ more
     ]
 
-pub last_is : (F : ℕ → Type 0) (align n : ℕ) (slots : List (ℕ × ℕ)) (s : ℕ × ℕ) → IsSettled F → 0 < align → 1 ≤ n → AreSlots F align slots → IsChosen IsLater n slots s → IsLastPlace F align n (s.0 + (s.1 - n) / align * align)
+pub last_is : (F : ℕ → Type 0) (align n : ℕ) (slots : List (ℕ × ℕ)) (s : ℕ × ℕ) → IsSettled F → 0 < align → 1 ≤ n → AreSlots F align slots
+    → IsChosen IsLater n slots s → IsLastPlace F align n (s.0 + (s.1 - n) / align * align)
 last_is F align n slots s settled pos some are c =
     let slot = chosen_slot F align slots s are c.member in
     let fits = c.fits in
     let is : (s.1 - n) / align * align + (s.1 - n) % align ≡ s.1 - n = omega arith in
+    let multiple : align ∣ s.0 + (s.1 - n) / align * align = dvd-add align slot.start.multiple (dvd-mul_left align ((s.1 - n) / align)) in
     record {
-      place = place_in F align s.0 s.1 n (s.0 + (s.1 - n) / align * align) slot (dvd-add align slot.start.multiple (dvd-mul_left align ((s.1 - n) / align))) (omega arith) (omega arith);
+      place = place_in F align s.0 s.1 n (s.0 + (s.1 - n) / align * align) slot multiple (omega arith) (omega arith);
       greatest = λ t p.
           let a = around F settled align n t pos some p in
           let from = a.from in let to = a.to in
@@ -201,17 +205,19 @@ tight_left : (s t : ℕ × ℕ) → IsTighter s t → s.1 ≡ t.1 → s.0 ≤ t.
 tight_left s t (inl less) e = absurd (omega arith)
 tight_left s t (inr same) e = same.1
 
-pub best_is : (F : ℕ → Type 0) (align n : ℕ) (slots : List (ℕ × ℕ)) (s : ℕ × ℕ) → AreSlots F align slots → IsChosen IsTighter n slots s → IsBestPlace F align n s.0
+pub best_is : (F : ℕ → Type 0) (align n : ℕ) (slots : List (ℕ × ℕ)) (s : ℕ × ℕ) → AreSlots F align slots → IsChosen IsTighter n slots s
+    → IsBestPlace F align n s.0
 best_is F align n slots s are c = record {
   long = s.1;
   slot = chosen_slot F align slots s are c.member;
   fits = c.fits;
   shortest = λ t k slot fits. tight_short n s (t, k) (All-contains (λ t. n ≤ t.1 → IsTighter s t) slots (t, k) c.best (are.every t k slot) fits);
-  leftmost = λ t slot. let fits = c.fits in tight_left s (t, s.1) (All-contains (λ t. n ≤ t.1 → IsTighter s t) slots (t, s.1) c.best (are.every t s.1 slot) fits) refl;
+  leftmost = λ t slot. tight_left s (t, s.1) (All-contains (λ t. n ≤ t.1 → IsTighter s t) slots (t, s.1) c.best (are.every t s.1 slot) c.fits) refl;
 }
 
 -- the greatest rounded length is the maximum
-pub max_is : (F : ℕ → Type 0) (align m : ℕ) (slots : List (ℕ × ℕ)) → AreSlots F align slots → IsGreatest (map (rounded align) slots) m → IsMaximumSize F align m
+pub max_is : (F : ℕ → Type 0) (align m : ℕ) (slots : List (ℕ × ℕ)) → AreSlots F align slots → IsGreatest (map (rounded align) slots) m
+    → IsMaximumSize F align m
 max_is F align m slots are g =
     let has = g.member in
     let all = g.most in

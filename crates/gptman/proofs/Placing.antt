@@ -1,5 +1,5 @@
 -- What placement does to a table, and what its maximum size offers.
-use Rattle.std.proofs.Common.{◌≡◌, ◌≢◌, ℕ, ◌+◌, ◌-◌, ◌<◌, ◌≤◌, List, length, get_or, sym, arith, IsTrue}
+use Rattle.std.proofs.Common.{◌≢◌, ℕ, ◌+◌, ◌-◌, ◌<◌, ◌≤◌, List, length, sym, arith, IsTrue}
 use Rattle.std.proofs.lemmas.List.Elements.{All-set}
 use Rattle.gptman.specs.Entry.{is_used, covers}
 use Rattle.gptman.specs.Place.{IsFree, IsFreeIn, IsPlace}
@@ -38,8 +38,8 @@ placement g align n s i e valid some place number new =
     let low = first.usable.low in
     let high = last.usable.high in
     record {
-      own_guids = all_pairs_set (λ d e. IsTrue (is_used d) → IsTrue (is_used e) → d.unique_partition_guid ≢ e.unique_partition_guid) es (i - 1) e within valid.own_guids
-          (λ j d h ne. (λ used _. new.fresh j d h used, λ _ used same. new.fresh j d h used (sym same)));
+      own_guids = all_pairs_set (λ d e. IsTrue (is_used d) → IsTrue (is_used e) → d.unique_partition_guid ≢ e.unique_partition_guid) es (i - 1) e within
+          valid.own_guids (λ j d l ne. (λ used _. new.fresh j d l used, λ _ used same. new.fresh j d l used (sym same)));
       boundaries = record {
         ordered = All-set (λ e. e.starting_lba ≤ e.ending_lba) es (i - 1) e (omega arith) valid.boundaries.ordered;
         disjoint = all_pairs_set AreDisjoint es (i - 1) e within valid.boundaries.disjoint

@@ -1,5 +1,5 @@
 -- Each copy of a stored table is read as it alone.
-use Rattle.std.proofs.Common.{◌≡◌, ℕ, List, length, Result, Ok, Err, refl, sym, subst, rules}
+use Rattle.std.proofs.Common.{◌≡◌, ℕ, List, Result, Ok, Err, refl, rules}
 use Rattle.std.specs.Prelude.{IsErr}
 use Rattle.gptman.specs.Copy.{Copy}
 use Rattle.gptman.specs.Crash.{IsReadAlone}

@@ -90,9 +90,9 @@ going_on h align rs i p to q slots new r sorted within e ordered g is adds most 
     record {
       swept = elim adds [
         | gap room slot ↦ swept_run (IsOutside h rs) align slots new p to q g.swept (run_before h align rs i p to slots r sorted within e ordered g is room)
-              (omega arith) (λ x above. none x above (omega arith)) slot
+            (omega arith) (λ x above. none x above (omega arith)) slot
         | no_gap empty same ↦ subst (λ (l : List (ℕ × ℕ)). Swept (IsOutside h rs) align l q) (sym same)
-              (swept_skip (IsOutside h rs) align slots p q (omega arith) (λ x past. none x (omega arith) past) g.swept)
+            (swept_skip (IsOutside h rs) align slots p q (omega arith) (λ x past. none x (omega arith) past) g.swept)
       ];
       ends = ends_more rs i p q r within e g.ends (omega arith) (omega arith);
       low = let low = g.low in omega arith;

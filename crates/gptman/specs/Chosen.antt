@@ -1,5 +1,5 @@
 -- Which slot of a list serves a size. A slot is its start and its length.
-use Rattle.std.specs.Prelude.{◌≡◌, ℕ, ◌-◌, ◌%◌, ◌<◌, ◌≤◌, ◌⊎◌, List, map, All, Contains}
+use Rattle.std.specs.Prelude.{◌≡◌, ℕ, ◌-◌, ◌%◌, ◌<◌, ◌≤◌, ◌⊎◌, List, All, Contains}
 
 -- no slot has n sectors
 abbrev pub AreShort : ℕ → List (ℕ × ℕ) → Type 0

@@ -22,8 +22,9 @@ pub mod laws;
 mod sweep;
 
 impl GPT {
-    /// All aligned slots of free sectors, each as (start, length) in sectors, by ascending start. It
-    /// takes time in O(n log n) for n entries, however many sectors there are.
+    /// All aligned slots of free sectors, each as (start, length) in sectors, by ascending start. The
+    /// last sector of each, start + length - 1, is a number of 64 bits. It takes time in O(n log n) for
+    /// n entries, however many sectors there are.
     ///
     /// `OutOfMemory` where there is no memory to find them.
     pub fn find_free_sectors(&self) -> Result<Vec<(u64, u64)>>

@@ -1,6 +1,6 @@
 //! The disk over a file. Each test has a file of its own in the folder that it runs in.
 
-use crate::fixtures::{DISK_GUID, answer, are_all, image_of_new_table, new_table};
+use crate::fixtures::{DISK_GUID, answer, are_all, image_of_new_table, new_table, write};
 use gptman::{Disk, FileDisk, GPT};
 use std::fs;
 use std::test::Fail;
@@ -19,7 +19,7 @@ fn a_table_is_written_to_a_file_and_read_back(rt: HostRuntime) -> Result<(), Fai
     make_file(&rt, path)?;
     let mut disk = FileDisk::open(&rt, path)?;
     let mut table = new_table(alloc, &mut disk, 512, DISK_GUID)?;
-    let other = table.write_into(&mut disk)?;
+    let other = write(&mut table, &mut disk)??;
     assert_eq!(rt; other.primary_lba, 99);
     assert_eq!(rt; GPT::read_from(alloc, &mut disk, 512)?, table);
     let mut again = FileDisk::open_read(&rt, path)?;
@@ -53,7 +53,7 @@ fn a_file_that_is_open_for_reading_is_not_written(rt: HostRuntime) -> Result<(),
     make_file(&rt, path)?;
     let mut disk = FileDisk::open_read(&rt, path)?;
     let mut table = new_table(alloc, &mut disk, 512, DISK_GUID)?;
-    let said = answer(alloc, &table.write_into(&mut disk))?;
+    let said = answer(alloc, &write(&mut table, &mut disk)?)?;
     assert_eq!(rt; said.as_str(), "generic I/O error");
     let bytes = fs::read(&rt, path)?;
     assert_eq!(rt; bytes.len(), 51_200);

@@ -1,6 +1,6 @@
 //! Fitting a header to a disk: a new one, and one that comes to a disk of another length.
 
-use crate::fixtures::{DISK_GUID, answer, are_all, disk_of, new_table};
+use crate::fixtures::{DISK_GUID, answer, are_all, disk_of, new_table, write};
 use gptman::{GPT, GPTHeader};
 use std::alloc::Global;
 use std::test::Fail;
@@ -46,7 +46,7 @@ fn a_small_disk_may_leave_no_usable_sector(rt: HostRuntime) -> Result<(), Fail> 
         assert_eq!(rt; table.header.first_usable_lba, 34);
         assert_eq!(rt; table.header.last_usable_lba, last);
         assert_eq!(rt; table.header.backup_lba, u64::from(sectors) - 1);
-        let said = answer(alloc, &table.write_into(&mut disk))?;
+        let said = answer(alloc, &write(&mut table, &mut disk)?)?;
         assert!(rt;
             said.as_str().starts_with("invalid partition boundaries: "),
             "{sectors} sectors"
@@ -59,7 +59,7 @@ fn a_small_disk_may_leave_no_usable_sector(rt: HostRuntime) -> Result<(), Fail> 
     assert_eq!(rt; table.header.first_usable_lba, 34);
     assert_eq!(rt; table.header.last_usable_lba, 33);
     assert_eq!(rt; table.header.backup_lba, 66);
-    table.write_into(&mut disk)?;
+    write(&mut table, &mut disk)??;
     assert_eq!(rt; GPT::read_from(alloc, &mut disk, 512)?, table);
     Ok(())
 }

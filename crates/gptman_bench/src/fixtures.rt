@@ -1,7 +1,6 @@
 //! Disks, tables and entries of which the tests make their cases.
 
-ghost use Rattle.std.specs.Prelude.{◌≡◌, ◌<◌, IfOk};
-ghost use Rattle.gptman.specs.Table.{entries_in, IsCoherent};
+ghost use Rattle.std.specs.Prelude.{◌<◌};
 
 use gptman::{Disk, Edit, GPT, GPTHeader, GPTPartitionEntry, MemoryDisk, PartitionName, Result};
 use std::alloc::{AllocError, Global};
@@ -27,8 +26,6 @@ pub(crate) fn new_table<D: Disk>(
     disk_guid: [u8; 16],
 ) -> Result<GPT>
     requires { 0 < sector_size }
-    ensures sector { IfOk result (λ g. g.sector_size ≡ sector_size) }
-    ensures coherent { IfOk result (λ g. IsCoherent g.header (entries_in g)) }
 {
     GPT::new_from(alloc, disk, sector_size, disk_guid)
 }
@@ -41,6 +38,24 @@ pub(crate) fn write<D: Disk>(table: &mut GPT, disk: &mut D) -> TestResult<Result
     Ok(table.write_into(disk))
 }
 
+/// Writes the header and these entries as one copy, and gives back what the write answered.
+pub(crate) fn write_copy<D: Disk>(
+    header: &mut GPTHeader,
+    disk: &mut D,
+    sector_size: u64,
+    entries: &[GPTPartitionEntry],
+) -> TestResult<Result<()>> {
+    let is_count = entries.len() == header.number_of_partition_entries as usize;
+    if sector_size == 0
+        || header.header_size != 92
+        || header.size_of_partition_entry != 128
+        || !is_count
+    {
+        return Err(Fail::new("no write takes such a copy"));
+    }
+    Ok(header.write_into(disk, sector_size, entries))
+}
+
 /// The table on a disk of these bytes, with sectors of 512.
 pub(crate) fn read_image(alloc: Global, bytes: &[u8]) -> Result<GPT> {
     GPT::read_from(
@@ -51,9 +66,10 @@ pub(crate) fn read_image(alloc: Global, bytes: &[u8]) -> Result<GPT> {
 }
 
 /// The bytes of a disk of 100 sectors of 512, all of them this one, after a new table was written.
-pub(crate) fn image_of_new_table(alloc: Global, byte: u8) -> Result<Vec<u8>> {
+pub(crate) fn image_of_new_table(alloc: Global, byte: u8) -> TestResult<Vec<u8>> {
     let mut disk = disk_of(alloc, byte, 51_200)?;
-    new_table(alloc, &mut disk, 512, DISK_GUID)?.write_into(&mut disk)?;
+    let mut table = new_table(alloc, &mut disk, 512, DISK_GUID)?;
+    write(&mut table, &mut disk)??;
     Ok(disk.bytes().to_vec(alloc)?)
 }
 
@@ -189,7 +205,7 @@ pub(crate) fn entries_of(alloc: Global, table: &GPT) -> Result<Vec<GPTPartitionE
 
 /// The bytes of a zero disk of 100 sectors on which both copies of the table, which is in primary
 /// form, were written.
-pub(crate) fn image_of(alloc: Global, table: &GPT) -> std::result::Result<Vec<u8>, Fail> {
+pub(crate) fn image_of(alloc: Global, table: &GPT) -> TestResult<Vec<u8>> {
     let sector_size = table.sector_size.clamp(1, 4096);
     let mut disk = disk_of(alloc, 0, 100 * sector_size as usize)?;
     let entries = entries_of(alloc, table)?;
@@ -201,14 +217,7 @@ pub(crate) fn image_of(alloc: Global, table: &GPT) -> std::result::Result<Vec<u8
         ..own
     };
     for mut header in [own, other] {
-        let count = header.number_of_partition_entries as usize;
-        if entries.len() != count
-            || header.header_size != 92
-            || header.size_of_partition_entry != 128
-        {
-            return Err(Fail::new("the header does not fit the entries"));
-        }
-        header.write_into(&mut disk, sector_size, &entries)?;
+        write_copy(&mut header, &mut disk, sector_size, &entries)??;
     }
     Ok(disk.bytes().to_vec(alloc)?)
 }

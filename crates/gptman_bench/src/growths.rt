@@ -3,7 +3,7 @@
 //! In a plain run no growth is refused. `rt try --test --fail-alloc N` refuses the Nth one of each
 //! test, and these pass with any N.
 
-use crate::fixtures::{DISK_GUID, disk_1_unsorted, image_of_new_table, table_with, used_entries};
+use crate::fixtures::{DISK_GUID, are_all, disk_1_unsorted, disk_of, table_with, used_entries};
 use gptman::{Edit, Error, GPT, GPTPartitionEntry, MemoryDisk, PartitionName, Result};
 use std::alloc::Global;
 use std::process::Abort;
@@ -68,8 +68,19 @@ fn an_entry_is_read_or_there_is_no_memory(rt: HostRuntime) {
     read_entry(&rt, rt.alloc());
 }
 
+// The bytes of a disk of 100 sectors of 512 after a new table was written. The checks before the write
+// take memory too.
+fn written_image(alloc: Global) -> Result<Vec<u8>> {
+    let mut disk = disk_of(alloc, 2, 51_200)?;
+    let mut table = GPT::new_from(alloc, &mut disk, 512, DISK_GUID)?;
+    if table.sector_size > 0 && table.is_coherent() {
+        table.write_into(&mut disk)?;
+    }
+    Ok(disk.bytes().to_vec(alloc)?)
+}
+
 fn read_table(rt: &impl Abort, alloc: Global) -> Option<()> {
-    let image = image_of_new_table(alloc, 2).ok()?;
+    let image = written_image(alloc).ok()?;
     let bytes = image.clone().ok()?;
     let mut disk = made(rt, MemoryDisk::new(alloc, bytes))?;
     let new = GPT::new_from(alloc, &mut disk, 512, DISK_GUID);
@@ -90,6 +101,29 @@ fn read_table(rt: &impl Abort, alloc: Global) -> Option<()> {
 #[test]
 fn a_table_is_read_or_there_is_no_memory(rt: HostRuntime) {
     read_table(&rt, rt.alloc());
+}
+
+// What a write takes memory for are its checks. A refused one writes no byte and leaves the table.
+fn write_table(rt: &impl Abort, alloc: Global) -> Option<()> {
+    let mut table = made(rt, disk_1_unsorted(alloc))?;
+    let copy = made(rt, table.clone())?;
+    let mut disk = made(rt, disk_of(alloc, 2, 51_200))?;
+    assert!(rt; table.is_coherent() && table.sector_size == 512);
+    match table.write_into(&mut disk) {
+        Ok(header) => assert!(rt; header.primary_lba == 99),
+        // a record of the disk that found no memory is a failure of the disk
+        Err(Error::Io(_)) => {}
+        Err(error) => {
+            assert!(rt; matches!(&error, Error::OutOfMemory), "{error}");
+            assert!(rt; table == copy && are_all(disk.bytes(), 2));
+        }
+    }
+    Some(())
+}
+
+#[test]
+fn a_table_is_written_or_there_is_no_memory(rt: HostRuntime) {
+    write_table(&rt, rt.alloc());
 }
 
 // A table of which places are sought, and the same again.

@@ -1,6 +1,6 @@
 //! One copy of a table, header and entries, written to a disk and read from it.
 
-use crate::fixtures::{DISK_GUID, answer, are_all, bytes_at, disk_of, used_entries};
+use crate::fixtures::{DISK_GUID, answer, are_all, bytes_at, disk_of, used_entries, write_copy};
 use gptman::crc::crc32;
 use gptman::{Disk, GPTHeader, GPTPartitionEntry};
 use std::alloc::Global;
@@ -15,11 +15,13 @@ fn a_copy_of_any_count_is_read_back(rt: HostRuntime) -> Result<(), Fail> {
         assert_eq!(rt; entries.len(), count as usize);
         let mut header = GPTHeader::new_from(&mut disk, 512, DISK_GUID)?;
         header.number_of_partition_entries = count;
-        header.write_into(&mut disk, 512, &entries)?;
+        write_copy(&mut header, &mut disk, 512, &entries)??;
         disk.seek_start(512)?;
         assert_eq!(rt; GPTHeader::read_from(&mut disk)?, header, "{count} entries");
         let read = header.read_partitions(alloc, &mut disk, 512)?;
         assert_eq!(rt; read, entries, "{count} entries");
+        assert!(rt; header.header_size == 92 && header.size_of_partition_entry == 128);
+        assert!(rt; header.number_of_partition_entries == count);
         assert_eq!(rt; header.generate_crc32_checksum(), header.crc32_checksum);
         let checksum = header.generate_partition_entry_array_crc32(&entries);
         assert_eq!(rt;
@@ -39,7 +41,7 @@ fn entries_stand_one_after_the_other(rt: HostRuntime) -> Result<(), Fail> {
     assert_eq!(rt; entries.len(), 33);
     let mut header = GPTHeader::new_from(&mut disk, 512, DISK_GUID)?;
     header.number_of_partition_entries = 33;
-    header.write_into(&mut disk, 512, &entries)?;
+    write_copy(&mut header, &mut disk, 512, &entries)??;
     assert_eq!(rt; bytes_at::<92>(&mut disk, 512)?, header.encode());
     disk.seek_start(1024)?;
     for entry in &entries {
@@ -102,7 +104,7 @@ fn a_copy_that_has_no_place_is_not_written(rt: HostRuntime) -> Result<(), Fail> 
             ..new
         };
         let mut header = given;
-        let said = answer(alloc, &header.write_into(&mut disk, 512, &entries))?;
+        let said = answer(alloc, &write_copy(&mut header, &mut disk, 512, &entries)?)?;
         assert_eq!(rt; said.as_str(), refusal);
         assert_eq!(rt; header, given);
         assert!(rt; are_all(disk.bytes(), 2), "{refusal}");

@@ -1,6 +1,8 @@
 //! The program over a disk in memory and over a file.
 
-use crate::fixtures::{are_all, complement, disk_of, image_of_new_table, partition};
+use crate::fixtures::{
+    are_all, complement, disk_of, image_of_new_table, partition, write, write_copy,
+};
 use gptimg_core::{USAGE, run};
 use gptman::{Disk, Error, FileDisk, GPTHeader, GPTPartitionEntry, MemoryDisk};
 use std::alloc::Global;
@@ -76,10 +78,7 @@ fn disk_with(alloc: Global, entry: GPTPartitionEntry) -> Result<MemoryDisk, Fail
     let mut header = GPTHeader::new_from(&mut disk, 512, [0xff; 16])?;
     let entries = vec![in alloc; GPTPartitionEntry::empty(alloc), entry]?;
     header.number_of_partition_entries = 2;
-    if entries.len() != 2 || header.header_size != 92 || header.size_of_partition_entry != 128 {
-        return Err(Fail::new("the header does not fit the entries"));
-    }
-    header.write_into(&mut disk, 512, &entries)?;
+    write_copy(&mut header, &mut disk, 512, &entries)??;
     Ok(disk)
 }
 

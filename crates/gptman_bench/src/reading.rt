@@ -4,7 +4,8 @@
 ghost use Rattle.std.specs.Prelude.{◌≡◌, IfOk};
 
 use crate::fixtures::{
-    DISK_GUID, answer, complement, disk_2, disk_of, image_of, image_of_new_table, put, used_entries,
+    DISK_GUID, answer, complement, disk_2, disk_of, image_of, image_of_new_table, put,
+    used_entries, write_copy,
 };
 use gptman::{GPT, GPTHeader, GPTPartitionEntry, MemoryDisk};
 use std::alloc::Global;
@@ -159,10 +160,7 @@ fn align_of(alloc: Global, starts: &[u64]) -> Result<u64, Fail> {
     if entries.len() < 2 {
         entries.push(GPTPartitionEntry::empty(alloc))?;
     }
-    if entries.len() != 2 || header.header_size != 92 || header.size_of_partition_entry != 128 {
-        return Err(Fail::new("the header does not fit the entries"));
-    }
-    header.write_into(&mut disk, 512, &entries)?;
+    write_copy(&mut header, &mut disk, 512, &entries)??;
     Ok(GPT::read_from(alloc, &mut disk, 512)?.align)
 }
 

@@ -7,7 +7,7 @@ ghost use Rattle.gptman.specs.Disk.{Rose};
 ghost use Rattle.gptman.specs.Reading.{backup, primary};
 ghost use Rattle.gptman.specs.Table.{entries_in, table_in, IsCoherent, IsForm};
 
-use crate::fixtures::{DISK_GUID, answer, are_all, bytes_at, disk_of, new_table};
+use crate::fixtures::{DISK_GUID, answer, are_all, bytes_at, disk_of, new_table, write};
 use gptman::{Disk, GPT, GPTHeader};
 use std::alloc::Global;
 use std::test::Fail;
@@ -33,7 +33,7 @@ fn a_new_table_is_written_and_read_back(rt: HostRuntime) -> Result<(), Fail> {
     let mut disk = disk_of(alloc, 2, 51_200)?;
     let mut table = new_table(alloc, &mut disk, 512, DISK_GUID)?;
     let new = table.header;
-    let other = table.write_into(&mut disk)?;
+    let other = write(&mut table, &mut disk)??;
     assert_eq!(rt; other.primary_lba, 99);
     assert_eq!(rt; other.backup_lba, 1);
     assert_eq!(rt; other.partition_entry_lba, 67);
@@ -50,6 +50,7 @@ fn a_new_table_is_written_and_read_back(rt: HostRuntime) -> Result<(), Fail> {
     assert_eq!(rt; read.align, 2048);
     assert!(rt; read.is_coherent() && read.is_primary());
     let mut again = new_table(alloc, &mut disk, 512, DISK_GUID)?;
+    assert!(rt; again.is_coherent() && again.sector_size == 512);
     assert_eq!(rt; write_and_read(alloc, &mut again, &mut disk)?, table);
     Ok(())
 }
@@ -59,7 +60,7 @@ fn both_places_hold_the_table_and_nothing_else_changes(rt: HostRuntime) -> Resul
     let alloc = rt.alloc();
     let mut disk = disk_of(alloc, 2, 51_200)?;
     let mut table = new_table(alloc, &mut disk, 512, DISK_GUID)?;
-    let other = table.write_into(&mut disk)?;
+    let other = write(&mut table, &mut disk)??;
     for (at, entries_at, header) in [(512, 1024, &table.header), (50_688, 34_304, &other)] {
         assert_eq!(rt; bytes_at::<92>(&mut disk, at)?, header.encode(), "at {at}");
         disk.seek_start(at)?;
@@ -83,7 +84,8 @@ fn both_places_hold_the_table_and_nothing_else_changes(rt: HostRuntime) -> Resul
 fn a_written_table_is_stored(rt: HostRuntime) -> Result<(), Fail> {
     let alloc = rt.alloc();
     let mut disk = disk_of(alloc, 2, 51_200)?;
-    new_table(alloc, &mut disk, 512, DISK_GUID)?.write_into(&mut disk)?;
+    let mut table = new_table(alloc, &mut disk, 512, DISK_GUID)?;
+    write(&mut table, &mut disk)??;
     let written = disk.bytes().to_vec(alloc)?;
     let stopped = disk.stop(&[])?;
     assert!(rt; stopped.bytes() == written.as_slice());
@@ -96,7 +98,7 @@ fn a_table_for_a_longer_disk_is_not_written(rt: HostRuntime) -> Result<(), Fail>
     let mut longer = disk_of(alloc, 0, 51_200)?;
     let mut table = new_table(alloc, &mut longer, 512, DISK_GUID)?;
     let mut disk = disk_of(alloc, 2, 512 * 99)?;
-    let said = answer(alloc, &table.write_into(&mut disk))?;
+    let said = answer(alloc, &write(&mut table, &mut disk)?)?;
     assert_eq!(rt; said.as_str(), "no space left");
     assert!(rt; are_all(disk.bytes(), 2));
     assert_eq!(rt; table, new_table(alloc, &mut longer, 512, DISK_GUID)?);
@@ -112,7 +114,7 @@ fn a_table_with_sectors_past_64_bits_is_not_written(rt: HostRuntime) -> Result<(
         table.header.primary_lba = primary_lba;
         table.header.last_usable_lba = last_usable_lba;
         let given = table.header;
-        let said = answer(alloc, &table.write_into(&mut disk))?;
+        let said = answer(alloc, &write(&mut table, &mut disk)?)?;
         assert_eq!(rt; said.as_str(), "an arithmetic operation overflowed");
         assert_eq!(rt; table.header, given);
         assert!(rt; are_all(disk.bytes(), 2));
@@ -128,7 +130,7 @@ fn sectors_of_one_byte_leave_no_room_for_a_header(rt: HostRuntime) -> Result<(),
     assert_eq!(rt; table.header.first_usable_lba, 16_386);
     assert_eq!(rt; table.header.last_usable_lba, 34_814);
     assert_eq!(rt; table.header.backup_lba, 51_199);
-    let said = answer(alloc, &table.write_into(&mut disk))?;
+    let said = answer(alloc, &write(&mut table, &mut disk)?)?;
     assert_eq!(rt; said.as_str(), "no space left");
     assert!(rt; are_all(disk.bytes(), 2));
     Ok(())

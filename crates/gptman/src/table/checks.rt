@@ -22,11 +22,7 @@ use std::collections::BTreeSet;
 /// unique GUID, else `InvalidPartitionBoundaries` where an entry ends before it starts, two used ones
 /// share a sector, one lies outside of the usable sectors, or the first usable sector is behind the
 /// one after the last. `OutOfMemory` where there is no memory to tell.
-pub(crate) fn check(
-    alloc: Global,
-    header: &GPTHeader,
-    entries: &[GPTPartitionEntry],
-) -> Result<()>
+pub(crate) fn check(alloc: Global, header: &GPTHeader, entries: &[GPTPartitionEntry]) -> Result<()>
     ensures { Refuses result out_of_memory ⊎ IsValidity header.now entries.now (refusal_of result) }
 {
     let own_guids = have_own_guids(alloc, entries)?;

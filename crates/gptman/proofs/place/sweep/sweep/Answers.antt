@@ -15,8 +15,9 @@ loop-range-preserved c =
     )
 
 pub returns-clause-slots : goal.returns-clause-slots
-returns-clause-slots c = all_passed c.args.header.now c.args.align c.args.ranges.now c.loop-range.range-index c.loop-range.passed _ _ c.requires.sorted (omega arith) c.loop-range.invariant.0 c.in_ok-push_gap-2.ensures
+returns-clause-slots c =
+    all_passed c.args.header.now c.args.align c.args.ranges.now c.loop-range.range-index c.loop-range.passed _ _ c.requires.sorted (omega arith)
+    c.loop-range.invariant.0 c.in_ok-push_gap-2.ensures
 
 pub returns-clause-fits : goal.returns-clause-fits
-returns-clause-fits c = slots_fit c.args.header.now c.args.align c.args.ranges.now _ (omega arith)
-    (all_passed c.args.header.now c.args.align c.args.ranges.now c.loop-range.range-index c.loop-range.passed _ _ c.requires.sorted (omega arith) c.loop-range.invariant.0 c.in_ok-push_gap-2.ensures)
+returns-clause-fits c = slots_fit c.args.header.now c.args.align c.args.ranges.now _ (omega arith) (returns-clause-slots c)

@@ -1,4 +1,4 @@
-use Rattle.std.proofs.Common.{ℕ, arith}
+use Rattle.std.proofs.Common.{arith}
 use Rattle.gptman.specs.Chosen.{IsEarlier}
 use Rattle.gptman.proofs.Offers.{asked, first_offered, none_offered, start_fits}
 use Rattle.gptman.proofs.table.GPT.find_first_place.Goals as goal

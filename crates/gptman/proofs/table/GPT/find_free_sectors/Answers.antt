@@ -1,9 +1,7 @@
-use Rattle.std.proofs.Common.{◌≡◌, ◌≤◌, ℕ, List, subst, sym, ◌∙◌}
-use Rattle.std.specs.List.{All, filter_map}
+use Rattle.std.proofs.Common.{◌≡◌, ℕ, List, subst, sym}
+use Rattle.std.specs.List.{filter_map}
 use Rattle.std.specs.List.Sorted.{IsPermutation}
 use Rattle.gptman.specs.Entry.{covered_range}
-use Rattle.gptman.specs.Place.{AreSlots}
-use Rattle.gptman.specs.Sweep.{IsOutside}
 use Rattle.gptman.specs.Table.{entries_in}
 use Rattle.gptman.specs.declared.codec.entry.GPTPartitionEntry.{GPTPartitionEntry}
 use Rattle.gptman.proofs.Covered.{ordered_ranges}

@@ -1,4 +1,4 @@
-use Rattle.std.proofs.Common.{ℕ, arith}
+use Rattle.std.proofs.Common.{arith}
 use Rattle.gptman.specs.Chosen.{IsLater}
 use Rattle.gptman.proofs.Offers.{asked, last_offered, none_offered, last_fits}
 use Rattle.gptman.proofs.table.GPT.find_last_place.Goals as goal

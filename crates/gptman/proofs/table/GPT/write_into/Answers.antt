@@ -67,7 +67,7 @@ returns-clause-accepts g c = λ layout valid.
     accepted c.args.self.now.header (entries_in c.args.self.now) c.args.self.now.sector_size _ _ _ valid fits (answer g c)
 
 pub returns-clause-alone : goal.returns-clause-alone
-returns-clause-alone g c = λ honest layout. 
+returns-clause-alone g c = λ honest layout.
     let old = g.D.Disk.state c.args.disk.now in
     let new = g.D.Disk.state c.write_both.new.disk in
     let ss : ℕ = c.args.self.now.sector_size in
@@ -103,7 +103,6 @@ returns-clause-after g c = λ honest synced layout.
     let disk = c.args.disk.now in
     let ensures = c.write_both.ensures in
     let apart = layout_apart c.args.self.now.header (entries_in c.args.self.now) c.args.self.now.sector_size _ layout in
-    
     let h : GPTHeader = c.args.self.now.header in
     let es : List GPTPartitionEntry = entries_in c.args.self.now in
     let ss : ℕ = c.args.self.now.sector_size in
