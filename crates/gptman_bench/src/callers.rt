@@ -1,15 +1,17 @@
 //! Callers that know a table by the library's contracts alone. What each ensures is proved from them.
 
-ghost use Rattle.std.specs.Prelude.{◌≡◌, ◌≤◌, ◌-◌, ◌↔◌, Some, count_by, filter, length, map, slice_get, IsTrue, IfOk, OnOk, OnErr};
+ghost use Rattle.std.specs.Prelude.{◌≡◌, ◌≢◌, ◌<◌, ◌≤◌, ◌-◌, ◌↔◌, Some, count_by, filter, length, map, slice_get, All, IsTrue, IfOk, OnOk, OnErr};
 ghost use Rattle.std.specs.List.{enumerate_from};
 ghost use Rattle.gptman.specs.Entry.{is_used};
 ghost use Rattle.gptman.specs.Number.{with_entries, with_entry, IsNumber};
 ghost use Rattle.gptman.specs.Order.{by_rank, rank};
 ghost use Rattle.gptman.specs.Table.{entries_in, IsCoherent};
+ghost use Rattle.gptman.specs.Valid.{IsValid};
 ghost use Rattle.gptman.specs.declared.codec.entry.GPTPartitionEntry.{GPTPartitionEntry};
 ghost use Rattle.gptman_bench.specs.Cleared.{cleared};
 
-use gptman::{GPT, Result};
+use gptman::place::laws::placement_keeps_valid;
+use gptman::{GPT, GPTPartitionEntry, Result};
 use std::alloc::{AllocError, Global};
 
 /// Whether two tables are equal in all their fields.
@@ -50,6 +52,35 @@ pub(crate) fn exchange(table: &mut GPT, i: u32, j: u32) -> Result<()>
     table[i] = b;
     table[j] = a;
     Ok(())
+}
+
+/// Gives the entry so many sectors, or one if that is 0, at the first place that there is, and puts it
+/// under the number. Answers whether there was a place. A valid table stays valid, unless a used entry
+/// has the new one's GUID.
+pub(crate) fn add_first(
+    table: &mut GPT,
+    number: u32,
+    entry: GPTPartitionEntry,
+    size: u64,
+) -> Result<bool>
+    requires aligned { 0 < table.old.align }
+    requires number { IsNumber table.old number }
+    ensures valid { IsValid table.old.header (entries_in table.old)
+        → All (λ e. IsTrue (is_used e) → e.unique_partition_guid ≢ entry.unique_partition_guid) (entries_in table.old)
+        → OnOk result (IsValid table.new.header (entries_in table.new)) }
+    ensures kept { OnErr result (table.new ≡ table.old) }
+{
+    placement_keeps_valid();
+    let size = size.max(1);
+    let Some(start) = table.find_first_place(size)? else {
+        return Ok(false);
+    };
+    table[number] = GPTPartitionEntry {
+        starting_lba: start,
+        ending_lba: start + (size - 1),
+        ..entry
+    };
+    Ok(true)
 }
 
 /// Clears the attributes of each entry, by the numbers. The whole list is known after it.

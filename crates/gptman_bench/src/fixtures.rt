@@ -175,6 +175,25 @@ pub(crate) fn disk_2(alloc: Global) -> Result<GPT> {
     foo_and_bar(alloc, 4096, (6, 15), (70, 79))
 }
 
+/// A new table for 100 sectors of 512 bytes with these bounds and this alignment, and with a used entry
+/// for each of these pairs of a first and a last sector.
+pub(crate) fn table_with(
+    alloc: Global,
+    bounds: (u64, u64),
+    align: u64,
+    used: &[(u64, u64)],
+) -> Result<GPT> {
+    let mut table = GPT::new_from(alloc, &mut disk_of(alloc, 0, 51_200)?, 512, [0x0d; 16])?;
+    table.header.first_usable_lba = bounds.0;
+    table.header.last_usable_lba = bounds.1;
+    table.align = align;
+    for (number, sectors) in (1..=u8::MAX).zip(used) {
+        let entry = partition(alloc, "", [number; 16], sectors.0, sectors.1)?;
+        table.apply(Edit::Put(u32::from(number), entry))?;
+    }
+    Ok(table)
+}
+
 /// The entries of the table, in order.
 pub(crate) fn entries_of(alloc: Global, table: &GPT) -> Result<Vec<GPTPartitionEntry>> {
     let mut entries = Vec::new(alloc);

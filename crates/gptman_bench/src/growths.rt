@@ -3,7 +3,7 @@
 //! In a plain run no growth is refused. `rt try --test --fail-alloc N` refuses the Nth one of each
 //! test, and these pass with any N.
 
-use crate::fixtures::{DISK_GUID, are_all, disk_1_unsorted, disk_of, used_entries};
+use crate::fixtures::{DISK_GUID, are_all, disk_1_unsorted, disk_of, table_with, used_entries};
 use gptman::{Edit, Error, GPT, GPTPartitionEntry, MemoryDisk, PartitionName, Result};
 use std::alloc::Global;
 use std::process::Abort;
@@ -124,6 +124,88 @@ fn write_table(rt: &impl Abort, alloc: Global) -> Option<()> {
 #[test]
 fn a_table_is_written_or_there_is_no_memory(rt: HostRuntime) {
     write_table(&rt, rt.alloc());
+}
+
+// A table of which places are sought, and the same again.
+fn table_and_copy(rt: &impl Abort, alloc: Global) -> Option<(GPT, GPT)> {
+    let table = made(rt, table_with(alloc, (34, 66), 1, &[(39, 50), (45, 61)]))?;
+    let copy = made(rt, table.clone())?;
+    Some((table, copy))
+}
+
+fn find_free_sectors(rt: &impl Abort, alloc: Global) -> Option<()> {
+    let (table, copy) = table_and_copy(rt, alloc)?;
+    assert!(rt; table.align == 1);
+    let found = table.find_free_sectors();
+    assert!(rt; table == copy);
+    let slots = made(rt, found)?;
+    assert!(rt; slots.as_slice() == [(34, 5), (62, 5)].as_slice());
+    Some(())
+}
+
+#[test]
+fn free_sectors_are_found_or_there_is_no_memory(rt: HostRuntime) {
+    find_free_sectors(&rt, rt.alloc());
+}
+
+fn find_first_place(rt: &impl Abort, alloc: Global) -> Option<()> {
+    let (table, copy) = table_and_copy(rt, alloc)?;
+    assert!(rt; table.align == 1);
+    let found = table.find_first_place(5);
+    assert!(rt; table == copy);
+    let place = made(rt, found)?;
+    assert!(rt; place == Some(34));
+    Some(())
+}
+
+#[test]
+fn the_first_place_is_found_or_there_is_no_memory(rt: HostRuntime) {
+    find_first_place(&rt, rt.alloc());
+}
+
+fn find_last_place(rt: &impl Abort, alloc: Global) -> Option<()> {
+    let (table, copy) = table_and_copy(rt, alloc)?;
+    assert!(rt; table.align == 1);
+    let found = table.find_last_place(5);
+    assert!(rt; table == copy);
+    let place = made(rt, found)?;
+    assert!(rt; place == Some(62));
+    Some(())
+}
+
+#[test]
+fn the_last_place_is_found_or_there_is_no_memory(rt: HostRuntime) {
+    find_last_place(&rt, rt.alloc());
+}
+
+fn find_optimal_place(rt: &impl Abort, alloc: Global) -> Option<()> {
+    let (table, copy) = table_and_copy(rt, alloc)?;
+    assert!(rt; table.align == 1);
+    let found = table.find_optimal_place(5);
+    assert!(rt; table == copy);
+    let place = made(rt, found)?;
+    assert!(rt; place == Some(34));
+    Some(())
+}
+
+#[test]
+fn the_optimal_place_is_found_or_there_is_no_memory(rt: HostRuntime) {
+    find_optimal_place(&rt, rt.alloc());
+}
+
+fn get_maximum_size(rt: &impl Abort, alloc: Global) -> Option<()> {
+    let (table, copy) = table_and_copy(rt, alloc)?;
+    assert!(rt; table.align == 1);
+    let found = table.get_maximum_partition_size();
+    assert!(rt; table == copy);
+    let size = made(rt, found)?;
+    assert!(rt; size == 5);
+    Some(())
+}
+
+#[test]
+fn the_maximum_size_is_found_or_there_is_no_memory(rt: HostRuntime) {
+    get_maximum_size(&rt, rt.alloc());
 }
 
 // Edits that are committed take memory to sort and for the checks.

@@ -41,7 +41,11 @@ mod names;
 #[cfg(test)]
 mod oracle;
 #[cfg(test)]
+mod places;
+#[cfg(test)]
 mod ported;
+#[cfg(test)]
+mod ported_places;
 #[cfg(test)]
 mod ported_writing;
 #[cfg(test)]
@@ -49,6 +53,12 @@ mod program;
 #[cfg(test)]
 mod reading;
 #[cfg(test)]
+mod searches;
+#[cfg(test)]
+mod slow_places;
+#[cfg(test)]
 mod stops;
+#[cfg(test)]
+mod three_entries;
 #[cfg(test)]
 mod writing;

@@ -21,8 +21,8 @@ pub(crate) fn name_of_units(alloc: Global, first: &[u16]) -> gptman::Result<Part
     Ok(GPTPartitionEntry::decode(alloc, &bytes)?.partition_name)
 }
 
-// These units, and then zeros.
-fn padded(first: &[u16]) -> [u16; 36] {
+/// These units, and then zeros.
+pub(crate) fn padded(first: &[u16]) -> [u16; 36] {
     let mut units = [0; 36];
     for (unit, new) in units.iter_mut().zip(first) {
         *unit = *new;
