@@ -7,8 +7,9 @@ use crate::fixtures::{
 };
 use crate::names::padded;
 use crate::searches::{first_place, free_sectors, last_place, maximum_size, optimal_place};
-use gptman::{Edit, GPT, GPTPartitionEntry, PartitionName};
+use gptman::{Edit, GPT, GPTHeader, GPTPartitionEntry, PartitionName};
 use std::alloc::Global;
+use std::process::Abort;
 use std::test::Fail;
 
 #[test]
@@ -155,7 +156,10 @@ fn written(alloc: Global, table: &mut GPT) -> Result<GPT, Fail> {
 fn a_changed_entry_is_read_back(rt: HostRuntime) -> Result<(), Fail> {
     let alloc = rt.alloc();
     let mut table = read_image(alloc, &image_of(alloc, &disk_1(alloc)?)?)?;
-    table.header.disk_guid = [9; 16];
+    table.header = GPTHeader {
+        disk_guid: [9; 16],
+        ..table.header
+    };
     change(alloc, &mut table)?;
     let read = written(alloc, &mut table)?;
     let entries = entries_of(alloc, &read)?;
@@ -208,22 +212,33 @@ fn add(table: &mut GPT, number: u32, entry: GPTPartitionEntry, size: u64) -> Res
     Ok(add_first(table, number, entry, size)?)
 }
 
-#[test]
-fn an_entry_is_added_at_the_first_place(rt: HostRuntime) -> Result<(), Fail> {
-    let alloc = rt.alloc();
+// Disk 1 with "Baz", of four sectors, added under number 3.
+fn disk_1_with_baz(rt: &impl Abort, alloc: Global) -> Result<GPT, Fail> {
     let mut table = disk_1(alloc)?;
     table.align = 1;
     let baz = partition(alloc, "Baz", [1; 16], 0, 0)?;
     assert!(rt; add(&mut table, 3, baz, 4)?);
+    Ok(table)
+}
+
+#[test]
+fn an_entry_is_added_at_the_first_place(rt: HostRuntime) -> Result<(), Fail> {
+    let alloc = rt.alloc();
+    let mut table = disk_1_with_baz(&rt, alloc)?;
     for (sector, number) in [(43, 1), (44, 3), (47, 3), (48, 2)] {
         assert_eq!(rt; table.find_at_sector(sector), Some(number), "{sector}");
     }
+    assert!(rt; write(&mut table, &mut disk_of(alloc, 0, 51_200)?)?.is_ok());
+    Ok(())
+}
+
+#[test]
+fn an_entry_that_has_no_place_is_not_added(rt: HostRuntime) -> Result<(), Fail> {
+    let alloc = rt.alloc();
+    let mut table = disk_1_with_baz(&rt, alloc)?;
     let too_large = partition(alloc, "", [2; 16], 0, 0)?;
     assert!(rt; !add(&mut table, 4, too_large, 15)?);
-    assert_eq!(rt;
-        used_names(alloc, &table)?.as_str(),
-        "1 Foo, 2 Bar, 3 Baz, "
-    );
-    assert!(rt; write(&mut table, &mut disk_of(alloc, 0, 51_200)?)?.is_ok());
+    let names = used_names(alloc, &table)?;
+    assert_eq!(rt; names.as_str(), "1 Foo, 2 Bar, 3 Baz, ");
     Ok(())
 }
