@@ -1,26 +1,24 @@
 -- Edits that are made and written one after the other.
-use Rattle.std.proofs.Common.{◌≡◌, ◌≢◌, ◌⊎◌, ◌<◌, ◌≤◌, ◌+◌, ◌^◌, ◌++◌, ⊎_elim, inl, inr, ℕ, zero, suc, true, List, [], ◌∷◌, length, get_or, Some, None, Ok, Err, Option, refl, sym, ap, ◌∙◌, subst, arith, length-append, append_assoc, Bool, false}
+use Rattle.std.proofs.Common.{◌≡◌, ◌⊎◌, ◌<◌, ◌≤◌, ◌+◌, ◌++◌, ⊎_elim, inl, inr, ℕ, zero, suc, true, List, [], ◌∷◌, length, Some, Option, refl, sym, ap, ◌∙◌, subst, arith, length-append, append_assoc, Bool, false}
 use Rattle.std.specs.Prelude.{fold, slice_get, if◌then◌else◌, Contains}
 use Rattle.std.proofs.lemmas.Bool.{cases_lt}
 use Rattle.std.proofs.lemmas.List.{take-append-le, take_all}
 use Rattle.std.proofs.lemmas.List.FromFn.{length-map-range_with_len, get_or-map-range_with_len}
 use Rattle.std.proofs.lemmas.List.Sums.{fold-append}
-use Rattle.gptman.specs.Calls.{OnlyRead, SameButSums}
+use Rattle.gptman.specs.Calls.{OnlyRead}
 use Rattle.gptman.specs.Commit.{is_io, tables_to, IsAccepted, IsAcceptedAt, IsButSums, IsRefusedAt, RefusesEdit, Stands}
 use Rattle.gptman.specs.Commit.RefusesEdit.{not_applied, not_valid, not_written}
 use Rattle.gptman.specs.Crash.{IsKeptFor}
-use Rattle.gptman.specs.Disk.{DiskState, Image, IsSound, Keeps, LeavesOnly, Rose, Wrote}
+use Rattle.gptman.specs.Disk.{DiskState, Image, IsSound, Keeps, LeavesOnly, Wrote}
 use Rattle.gptman.specs.Edit.{edited, edit_fault, table_after}
 use Rattle.gptman.specs.Fault.{Fault, io}
 use Rattle.gptman.specs.Layout.{HasLayout, Holds}
 use Rattle.gptman.specs.Reading.{Place, primary, backup}
 use Rattle.gptman.specs.Stop.{HoldsOneOf, IsStored}
-use Rattle.gptman.specs.Table.{Table, table_of, entries_in, table_in, IsCoherent}
+use Rattle.gptman.specs.Table.{Table, entries_in, table_in, IsCoherent}
 use Rattle.gptman.specs.Valid.{HasGoodBoundaries, IsValid, IsValidity}
 use Rattle.gptman.specs.Valid.IsValidity.{shared_guid, bad_boundaries, valid}
 use Rattle.gptman.specs.Write.{both_ranges}
-use Rattle.gptman.specs.declared.codec.entry.GPTPartitionEntry.{GPTPartitionEntry}
-use Rattle.gptman.specs.declared.codec.header.GPTHeader.{GPTHeader}
 use Rattle.gptman.specs.declared.edit.Edit.{Edit}
 use Rattle.gptman.specs.declared.edit.Edit.TheVariants.{Put, Remove, SortEntries, DiskGuid}
 use Rattle.gptman.specs.declared.table.GPT.{GPT}

@@ -4,7 +4,7 @@
 //! test, and these pass with any N.
 
 use crate::fixtures::{DISK_GUID, are_all, disk_1_unsorted, disk_of, table_with, used_entries};
-use gptman::{Edit, Error, GPT, GPTPartitionEntry, MemoryDisk, PartitionName, Result};
+use gptman::{Edit, Error, GPT, GPTPartitionEntry, MemoryDisk, PartitionName, Progress, Result};
 use std::alloc::Global;
 use std::process::Abort;
 
@@ -214,14 +214,14 @@ fn commit_edits(rt: &impl Abort, alloc: Global) -> Option<()> {
     let mut disk = made(rt, disk_of(alloc, 2, 51_200))?;
     let edits = vec![in alloc; Edit::SortEntries, Edit::Remove(2)].ok()?;
     assert!(rt; table.is_coherent() && table.sector_size == 512);
-    let progress = table.commit_all(&mut disk, edits);
-    match progress.fault {
-        None => assert!(rt; progress.done == 2),
+    let Progress { done, fault } = table.commit_all(&mut disk, edits);
+    match fault {
+        None => assert!(rt; done == 2),
         // a record of the disk that found no memory is a failure of the disk
         Some(Error::Io(_)) => {}
         Some(error) => {
             assert!(rt; matches!(&error, Error::OutOfMemory), "{error}");
-            assert!(rt; progress.done > 0 || are_all(disk.bytes(), 2));
+            assert!(rt; done > 0 || are_all(disk.bytes(), 2));
         }
     }
     Some(())

@@ -1,4 +1,4 @@
-use Rattle.std.proofs.Common.{◌≡◌, ◌<◌, ◌+◌, ◌++◌, ℕ, List, [], ◌∷◌, length, refl, sym, ap, ◌∙◌, append_assoc, length-append, arith, inr, rules, Some, IsTrue}
+use Rattle.std.proofs.Common.{◌≡◌, ◌++◌, List, [], ◌∷◌, length, refl, sym, ap, ◌∙◌, append_assoc, length-append, arith, inr, rules, Some, IsTrue}
 use Rattle.std.specs.Vec.Iter.{into_iter_items}
 use Rattle.gptman.specs.Commit.{reached, tables_to}
 use Rattle.gptman.specs.Crash.{IsKeptFor}
