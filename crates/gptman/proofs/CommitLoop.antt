@@ -1,28 +1,28 @@
 -- Edits that are made and written one after the other.
-use Rattle.std.proofs.Common.{◌≡◌, ◌⊎◌, ◌<◌, ◌≤◌, ◌+◌, ◌++◌, ⊎_elim, inl, inr, ℕ, zero, suc, true, List, [], ◌∷◌, length, Some, Option, refl, sym, ap, ◌∙◌, subst, arith, length-append, append_assoc, Bool, false}
-use Rattle.std.specs.Prelude.{fold, slice_get, if◌then◌else◌, Contains}
+use Rattle.std.proofs.Common.{◌≡◌, ◌≢◌, ◌⊎◌, ◌<◌, ◌≤◌, ◌+◌, ◌++◌, ⊎_elim, inl, inr, ℕ, zero, suc, true, List, [], ◌∷◌, length, Some, None, Option, refl, sym, ap, ◌∙◌, subst, arith, length-append, append_assoc, Bool, false}
+use Rattle.std.specs.Prelude.{fold, slice_get, if◌then◌else◌, Contains, IsTrue}
 use Rattle.std.proofs.lemmas.Bool.{cases_lt}
 use Rattle.std.proofs.lemmas.List.{take-append-le, take_all}
 use Rattle.std.proofs.lemmas.List.FromFn.{length-map-range_with_len, get_or-map-range_with_len}
 use Rattle.std.proofs.lemmas.List.Sums.{fold-append}
 use Rattle.gptman.specs.Calls.{OnlyRead}
 use Rattle.gptman.specs.Commit.{is_io, tables_to, IsAccepted, IsAcceptedAt, IsButSums, IsRefusedAt, RefusesEdit, Stands}
-use Rattle.gptman.specs.Commit.RefusesEdit.{not_applied, not_valid, not_written}
+use Rattle.gptman.specs.Commit.RefusesEdit.{not_applied, no_memory, not_valid, no_room, not_written}
 use Rattle.gptman.specs.Crash.{IsKeptFor}
-use Rattle.gptman.specs.Disk.{DiskState, Image, IsSound, Keeps, LeavesOnly, Wrote}
+use Rattle.gptman.specs.Disk.{DiskState, Image, IsSound, Keeps, LeavesOnly, Rose, Wrote}
 use Rattle.gptman.specs.Edit.{edited, edit_fault, table_after}
-use Rattle.gptman.specs.Fault.{Fault, io}
+use Rattle.gptman.specs.Fault.{Fault, io, no_space_left, overflow}
 use Rattle.gptman.specs.Layout.{HasLayout, Holds}
 use Rattle.gptman.specs.Reading.{Place, primary, backup}
 use Rattle.gptman.specs.Stop.{HoldsOneOf, IsStored}
 use Rattle.gptman.specs.Table.{Table, entries_in, table_in, IsCoherent}
 use Rattle.gptman.specs.Valid.{HasGoodBoundaries, IsValid, IsValidity}
 use Rattle.gptman.specs.Valid.IsValidity.{shared_guid, bad_boundaries, valid}
-use Rattle.gptman.specs.Write.{both_ranges}
+use Rattle.gptman.specs.Write.{both_ranges, write_fault}
 use Rattle.gptman.specs.declared.edit.Edit.{Edit}
 use Rattle.gptman.specs.declared.edit.Edit.TheVariants.{Put, Remove, SortEntries, DiskGuid}
 use Rattle.gptman.specs.declared.table.GPT.{GPT}
-use Rattle.gptman.proofs.Commits.{KeepsPlaces, edited_keeps, keeps_both, layout_still, leaves_kept, ranges_still, sums_keep}
+use Rattle.gptman.proofs.Commits.{KeepsPlaces, edited_keeps, keeps_both, layout_still, leaves_kept, ranges_still, room_still, sums_keep}
 use Rattle.gptman.proofs.OneGood.{stored_is_kept}
 use Rattle.gptman.proofs.Runs.{keeps_then, leaves_then, rose_since, wrote_not, wrote_then}
 use Rattle.gptman.proofs.Ranges.{Ranges, within_self}
@@ -100,6 +100,8 @@ accepted_sums g new edit is accepted =
 pub refused_sums : (g new last : GPT) (edit : Edit) (fault : Fault) (a b c : DiskState) → IsButSums g new → Keeps a b → RefusesEdit new edit fault last b c → RefusesEdit g edit fault last a c
 refused_sums g new last edit fault a b c is keeps (not_applied why sums) =
     not_applied (⊎_elim (λ said. inl (sym (fault_sums g new edit is) ∙ said)) (λ out. inr out) why) (sums_then g new last is sums)
+refused_sums g new last edit fault a b c is keeps (no_memory none out sums) =
+    no_memory (sym (fault_sums g new edit is) ∙ none) out (sums_then (edited g edit) (edited new edit) last (edited_sums g new edit is) sums)
 refused_sums g new last edit fault a b c is keeps (not_valid none validity sums) =
     let own : ℕ = new.header.crc32_checksum in
     let array : ℕ = new.header.partition_entry_array_crc32 in
@@ -107,9 +109,13 @@ refused_sums g new last edit fault a b c is keeps (not_valid none validity sums)
     not_valid (sym (fault_sums g new edit is) ∙ none)
     (validity_summed (edited g edit) own array (Some fault) (subst (λ (x : GPT). IsValidity x.header (entries_in x) (Some fault)) moved validity))
     (sums_then (edited g edit) (edited new edit) last (edited_sums g new edit is) sums)
-refused_sums g new last edit fault a b c is keeps (not_written none why sums) =
-    not_written (sym (fault_sums g new edit is) ∙ none) (⊎_elim (λ out. inl out) (λ failed. inr (failed.0, rose_since a b c keeps failed.1)) why)
-    (sums_then (edited g edit) (edited new edit) last (edited_sums g new edit is) sums)
+refused_sums g new last edit fault a b c is keeps (no_room accepted full sums) =
+    let more = edited_sums g new edit is in
+    let same : write_fault (edited new edit).header (edited new edit).sector_size b.size ≡ write_fault (edited g edit).header (edited g edit).sector_size a.size =
+    room_still (edited g edit) (edited new edit) (sums_keep (edited g edit) (edited new edit) more) b.size ∙ ap (write_fault (edited g edit).header (edited g edit).sector_size) keeps.size in
+    no_room (accepted_sums g new edit is accepted) (sym same ∙ full) (sums_then (edited g edit) (edited new edit) last more sums)
+refused_sums g new last edit fault a b c is keeps (not_written accepted failed rose sums) =
+    not_written (accepted_sums g new edit is accepted) failed (rose_since a b c keeps rose) (sums_then (edited g edit) (edited new edit) last (edited_sums g new edit is) sums)
 
 -- ---- the tables after some of the edits
 
@@ -174,8 +180,10 @@ pub record AreMade (g : GPT) (made : List Edit) (now : GPT) (a b : DiskState) : 
   pub places : KeepsPlaces g now
   pub value : IsButSums (fold edited g made) now
   pub accepted : (k : ℕ) → k < length made → IsAcceptedAt g made k
+  pub fits : 0 < length made → write_fault g.header g.sector_size a.size ≡ None
   pub keeps : Keeps a b
   pub wrote : a.is_honest ≡ true → Wrote (both_ranges g.header g.sector_size) a b
+  pub untouched : a.is_honest ≡ true → length made ≡ 0 → OnlyRead a b
   pub stands : a.is_honest ≡ true → HasLayout g.header (table_in g) g.sector_size a.size → ((length made ≡ 0) × OnlyRead a b) ⊎ IsStored b g.sector_size (table_in now)
   pub kept : a.is_honest ≡ true → HasLayout g.header (table_in g) g.sector_size a.size → IsKeptFor a g (table_in g) → IsKeptFor b now (table_in now)
   pub leaves : a.is_honest ≡ true → HasLayout g.header (table_in g) g.sector_size a.size → IsKeptFor a g (table_in g) → LeavesOnly a b (HoldsSome g made)
@@ -184,6 +192,7 @@ pub record AreMade (g : GPT) (made : List Edit) (now : GPT) (a b : DiskState) : 
 pub record IsMade (g : GPT) (edit : Edit) (new : GPT) (a b : DiskState) : Type 0 where
   pub coherent : IsCoherent new.header (entries_in new)
   pub accepted : IsAccepted g edit
+  pub fits : write_fault g.header g.sector_size a.size ≡ None
   pub value : IsButSums (edited g edit) new
   pub keeps : Keeps a b
   pub wrote : a.is_honest ≡ true → Wrote (both_ranges g.header g.sector_size) a b
@@ -241,6 +250,13 @@ module _ (g : GPT) (made : List Edit) (now : GPT) (a b : DiskState) (are : AreMa
       wrote_then (within_self (both_ranges g.header g.sector_size)) so_far
       (subst (λ (rs : Ranges). Wrote rs b c) (ranges_still g now are.places) (wrote so_far.honest))
 
+  -- what is wanted of the places stays
+  pub room_now : write_fault now.header now.sector_size b.size ≡ write_fault g.header g.sector_size a.size
+  room_now = room_still g now are.places b.size ∙ ap (write_fault g.header g.sector_size) are.keeps.size
+
+  fits_next : write_fault now.header now.sector_size b.size ≡ None → write_fault g.header g.sector_size a.size ≡ None
+  fits_next fits = sym room_now ∙ fits
+
   accepted_next : (edit : Edit) → IsAccepted now edit → (k : ℕ) → k < length (made ++ edit ∷ []) → IsAcceptedAt g (made ++ edit ∷ []) k
   accepted_next edit accepted k below e is = elim (cases_lt k (length made)) as (λ _. IsAccepted (table_after g (made ++ edit ∷ []) k) e) [
     | inl before ↦
@@ -270,8 +286,10 @@ module _ (g : GPT) (made : List Edit) (now : GPT) (a b : DiskState) (are : AreMa
         places = places;
         value = value;
         accepted = accepted_next edit is.accepted;
+        fits = λ some. fits_next is.fits;
         keeps = keeps;
         wrote = λ honest. wrote_next c honest is.wrote;
+        untouched = λ honest none. absurd (omega (arith, none, length-append made (edit ∷ [])));
         stands = λ honest layout. inr (stored honest layout);
         kept = λ honest layout kept.
             stored_is_kept c new (table_in new) (subst (λ (n : ℕ). IsStored c n (table_in new)) (sym places.sector) (stored honest layout))
@@ -286,13 +304,18 @@ made_none g a coherent sound = record {
   places = record { sector = refl; header = refl; long = refl };
   value = (refl, refl);
   accepted = λ k below. absurd (omega (arith, below));
+  fits = λ some. absurd (omega (arith, some));
   keeps = record { size = refl; honest = refl; failures = omega arith };
   wrote = λ honest. wrote_not (both_ranges g.header g.sector_size) a honest (sound honest);
-  stands = λ honest layout. inl (refl, record { view = refl; pending = refl; wrote = wrote_not [] a honest (sound honest) });
+  untouched = λ honest none. still honest;
+  stands = λ honest layout. inl (refl, still honest);
   kept = λ honest layout kept. kept;
   leaves = λ honest layout kept x left. none_some x (leaves_kept g a (table_in g) [] (sound honest) kept x left);
 }
   where
+    still : a.is_honest ≡ true → OnlyRead a a
+    still honest = record { view = refl; pending = refl; wrote = wrote_not [] a honest (sound honest) }
+
     none_some : (x : List ℕ) → HoldsOneOf x g.sector_size (table_in g ∷ []) → HoldsSome g [] x
     none_some x one = elim (contains_cases (table_in g) one.table [] one.listed) as (λ _. HoldsSome g [] x) [
       | inl first ↦ record { k = 0; within = omega arith; place = one.place; holds = subst (Holds x g.sector_size one.place) (sym first) one.holds }
@@ -339,21 +362,36 @@ module _ (g : GPT) (made : List Edit) (now : GPT) (a b : DiskState) (are : AreMa
       → LeavesOnly a b (λ x. HoldsOneOf x g.sector_size (tables_to g edits done))
   done_leaves honest layout kept x left = some_listed g made more edits done x is (omega (arith, count)) (are.leaves honest layout kept x left)
 
+io_is : (fault : Fault) → IsTrue (is_io fault) → fault ≡ io
+io_is io is = refl
+io_is _ is = absurd (cc)
+
 -- where edit was the next, and failed
 module _ (g : GPT) (made : List Edit) (now : GPT) (a b c : DiskState) (are : AreMade g made now a b) (edits more : List Edit) (done : ℕ) (edit : Edit) (is : edits ≡ made ++ edit ∷ more) (count : done ≡ length made) where
-  pub failed_refused : (fault : Fault) (new : GPT) → HasLayout g.header (table_in g) g.sector_size a.size → (HasLayout now.header (table_in now) now.sector_size b.size → RefusesEdit now edit fault new b c)
-      → IsRefusedAt g edits done fault new a c
-  failed_refused fault new layout refused = record {
+  pub failed_refused : (fault : Fault) (new : GPT) → RefusesEdit now edit fault new b c → IsRefusedAt g edits done fault new a c
+  failed_refused fault new refused = record {
     edit = edit;
     is = (λ i. slice_get (is i) (count i)) ∙ slice_get-next made more edit;
     refused = subst (λ (x : GPT). RefusesEdit x edit fault new a c) (sym (after_done g made now a b are edits (edit ∷ more) done is count))
-        (refused_sums (fold edited g made) now new edit fault a b c are.value are.keeps (refused (now_layout g made now a b are layout)));
+        (refused_sums (fold edited g made) now new edit fault a b c are.value are.keeps refused);
   }
 
+  pub failed_room : (fault : Fault) → HasLayout g.header (table_in g) g.sector_size a.size
+      → (HasLayout now.header (table_in now) now.sector_size b.size → (fault ≢ overflow) × (fault ≢ no_space_left)) → (fault ≢ overflow) × (fault ≢ no_space_left)
+  failed_room fault layout room = room (now_layout g made now a b are layout)
+
+  -- a fault io is a failure of the disk
+  pub failed_cause : (fault : Fault) → IsTrue (is_io fault) → (fault ≡ io → Rose b c) → Rose a c
+  failed_cause fault failed rose = rose_since a b c are.keeps (rose (io_is fault failed))
+
+  pub failed_untouched : (fault : Fault) → a.is_honest ≡ true → done ≡ 0 → (b.is_honest ≡ true → (fault ≡ io) ⊎ OnlyRead b c) → IsTrue (is_io fault) ⊎ OnlyRead a c
+  failed_untouched fault honest none untouched =
+      ⊎_elim (λ failed. inl (ap is_io failed)) (λ read. inr (only_read_then a b c (are.untouched honest (sym count ∙ none)) read)) (untouched (are.wrote honest).honest)
+
   pub failed_stands : (fault : Fault) → a.is_honest ≡ true → HasLayout g.header (table_in g) g.sector_size a.size → (b.is_honest ≡ true → (fault ≡ io) ⊎ OnlyRead b c)
-      → (fault ≡ io) ⊎ Stands g edits done a c
+      → IsTrue (is_io fault) ⊎ Stands g edits done a c
   failed_stands fault honest layout untouched =
-      ⊎_elim (λ failed. inl failed)
+      ⊎_elim (λ failed. inl (ap is_io failed))
       (λ read. inr (⊎_elim (λ none. inl (none.0, only_read_then a b c none.1 read)) (λ stored. inr (stored_read b c g.sector_size _ read stored))
       (done_stands g made now a b are edits (edit ∷ more) done is count honest layout)))
       (untouched (are.wrote honest).honest)

@@ -1,23 +1,26 @@
 -- Edits keep a table's places on the disk, and so does making its checksums.
-use Rattle.std.proofs.Common.{◌≡◌, ◌<◌, ◌^◌, inl, inr, Some, None, Err, ℕ, suc, ◌-◌, true, false, List, [], ◌∷◌, length, nat_lt, refl, sym, ap, ◌∙◌, subst}
+use Rattle.std.proofs.Common.{◌≡◌, ◌≢◌, ◌<◌, ◌^◌, inl, inr, Some, None, Ok, Err, Bool, ℕ, suc, ◌-◌, true, false, List, [], ◌∷◌, length, nat_lt, refl, sym, ap, ◌∙◌, subst}
 use Rattle.std.specs.Prelude.{if◌then◌else◌}
 use Rattle.std.proofs.lemmas.List.{length-map, length-set}
 use Rattle.gptman.specs.Coding.{empty_entry}
 use Rattle.gptman.specs.Calls.{AnswersWrite}
 use Rattle.gptman.specs.Calls.AnswersWrite.{no_memory, not_valid, too_far, settled}
 use Rattle.gptman.specs.Commit.{IsButSums, RefusesEdit}
-use Rattle.gptman.specs.Commit.RefusesEdit.{not_valid as invalid, not_written}
+use Rattle.gptman.specs.Commit.RefusesEdit.{not_applied, no_memory as unseen, not_valid as invalid, no_room, not_written}
 use Rattle.gptman.specs.Crash.{HasRangesOf, IsKeptFor, other_place}
 use Rattle.gptman.specs.Disk.{DiskState, IsSound, LeavesOnly}
 use Rattle.gptman.specs.Edit.{edited, edit_fault}
-use Rattle.gptman.specs.Fault.{Fault, fault_of}
+use Rattle.gptman.specs.Fault.{Fault, fault_of, invalid_partition_number, no_space_left, overflow}
 use Rattle.gptman.specs.Layout.{AreClear, HasLayout, Holds, IsLaidOut, ranges_at}
+use Rattle.gptman.specs.Number.{has_number}
 use Rattle.gptman.specs.Order.{by_rank, put_in, rank}
 use Rattle.gptman.specs.Reading.{Place, primary, backup}
 use Rattle.gptman.specs.Stop.{HoldsOneOf, IsStored}
 use Rattle.gptman.specs.Table.{Table, table_of, content_of, entries_in, table_in, IsCoherent, IsHeaderForm}
 use Rattle.gptman.specs.Valid.{IsValidity}
-use Rattle.gptman.specs.Write.{both_ranges}
+use Rattle.gptman.specs.Valid.IsValidity.{shared_guid, bad_boundaries, valid}
+use Rattle.gptman.specs.Write.{both_ranges, write_fault}
+use Rattle.gptman.specs.declared.codec.entry.GPTPartitionEntry.{GPTPartitionEntry}
 use Rattle.gptman.specs.declared.codec.header.GPTHeader.{GPTHeader}
 use Rattle.gptman.specs.declared.edit.Edit.{Edit}
 use Rattle.gptman.specs.declared.edit.Edit.TheVariants.{Put, Remove, SortEntries, DiskGuid}
@@ -138,6 +141,10 @@ module _ (g new : GPT) (keeps : KeepsPlaces g new) where
         clear = subst (λ (n : ℕ). AreClear (ranges_at place was n disk.size) (ranges_at (other_place place) (table_in new) n disk.size)) (sym keeps.sector) clear;
       }
 
+  -- and what a write is refused with for want of room
+  pub room_still : (len : ℕ) → write_fault new.header new.sector_size len ≡ write_fault g.header g.sector_size len
+  room_still len = (λ i. write_fault (keeps.header i) (keeps.sector i) len)
+
   pub ranges_still : both_ranges new.header new.sector_size ≡ both_ranges g.header g.sector_size
   ranges_still = (λ i. both_ranges (keeps.header i) (keeps.sector i))
 
@@ -168,15 +175,62 @@ pub stored_edited : (g mid : GPT) (edit : Edit) (disk : DiskState) → mid ≡ e
 stored_edited g mid edit disk is stored =
     subst (λ (n : ℕ). IsStored disk n (table_in (edited g edit))) (edited_keeps g edit).sector (subst (λ (m : GPT). IsStored disk m.sector_size (table_in m)) is stored)
 
--- why its write is refused
-pub refused_edit : (g mid new : GPT) (edit : Edit) (e : Error) (a b : DiskState) → mid ≡ edited g edit → edit_fault g edit ≡ None → a.size < 2 ^ 64 → HasLayout mid.header (table_in mid) mid.sector_size a.size
+-- what a write accepts has room
+pub room_of : {T : Type 0} (h : GPTHeader) (es : List GPTPartitionEntry) (ss : ℕ) (x : T) (a b : DiskState) → AnswersWrite h es ss (Ok x) a b → write_fault h ss a.size ≡ None
+room_of h es ss x a b (no_memory out) = absurd out
+room_of h es ss x a b (not_valid fault validity refused) = absurd refused
+room_of h es ss x a b (too_far good far refused) = absurd refused
+room_of h es ss x a b (settled good near (inl said)) = sym said
+room_of h es ss x a b (settled good near (inr fails)) = absurd fails.0
+
+-- why a write of an edited table is refused
+refused_write : (g new : GPT) (edit : Edit) (e : Error) (a b : DiskState) → edit_fault g edit ≡ None
+    → AnswersWrite {T = GPTHeader} (edited g edit).header (entries_in (edited g edit)) (edited g edit).sector_size (Err e) a b
+    → IsButSums (edited g edit) new → RefusesEdit g edit (fault_of e) new a b
+refused_write g new edit e a b none (no_memory out) sums = unseen none out sums
+refused_write g new edit e a b none (not_valid fault validity refused) sums =
+    invalid none (subst (λ (f : Fault). IsValidity (edited g edit).header (entries_in (edited g edit)) (Some f)) (sym refused) validity) sums
+refused_write g new edit e a b none (too_far good far refused) sums = no_room (record { number = none; valid = good }) (far ∙ ap Some (sym refused)) sums
+refused_write g new edit e a b none (settled good near (inl said)) sums = no_room (record { number = none; valid = good }) (sym said) sums
+refused_write g new edit e a b none (settled good near (inr fails)) sums = not_written (record { number = none; valid = good }) fails.0 fails.1 sums
+
+pub refused_edit : (g mid new : GPT) (edit : Edit) (e : Error) (a b : DiskState) → mid ≡ edited g edit → edit_fault g edit ≡ None
     → AnswersWrite {T = GPTHeader} mid.header (entries_in mid) mid.sector_size (Err e) a b → IsButSums mid new → RefusesEdit g edit (fault_of e) new a b
-refused_edit g mid new edit e a b is none small layout (no_memory out) sums = not_written none (inl out) (subst (λ (m : GPT). IsButSums m new) is sums)
-refused_edit g mid new edit e a b is none small layout (not_valid fault validity refused) sums =
-    let here : IsValidity mid.header (entries_in mid) (Some (fault_of e)) = subst (λ (f : Fault). IsValidity mid.header (entries_in mid) (Some f)) (sym refused) validity in
-    invalid none (subst (λ (m : GPT). IsValidity m.header (entries_in m) (Some (fault_of e))) is here) (subst (λ (m : GPT). IsButSums m new) is sums)
-refused_edit g mid new edit e a b is none small layout (too_far valid far refused) sums =
-    let never = sym (layout_fits mid.header (entries_in mid) mid.sector_size a.size small layout) ∙ far in absurd (cc)
-refused_edit g mid new edit e a b is none small layout (settled valid near (inl said)) sums =
-    let never = said ∙ layout_fits mid.header (entries_in mid) mid.sector_size a.size small layout in absurd (cc)
-refused_edit g mid new edit e a b is none small layout (settled valid near (inr fails)) sums = not_written none (inr fails) (subst (λ (m : GPT). IsButSums m new) is sums)
+refused_edit g mid new edit e a b is none answer sums =
+    refused_write g new edit e a b none
+    (subst (λ (m : GPT). AnswersWrite {T = GPTHeader} m.header (entries_in m) m.sector_size (Err e) a b) is answer)
+    (subst (λ (m : GPT). IsButSums m new) is sums)
+
+-- ---- there is room on the stated layout
+
+-- not refused for want of room
+abbrev HasRoom : Fault → Type 0
+HasRoom fault = (fault ≢ overflow) × (fault ≢ no_space_left)
+
+number_room : (i : ℕ) (known : Bool) (fault : Fault) → (if known then None else Some (invalid_partition_number i)) ≡ Some fault → HasRoom fault
+number_room i true fault is = absurd (cc)
+number_room i false fault is = (λ far. let e = is ∙ ap Some far in absurd (cc), λ full. let e = is ∙ ap Some full in absurd (cc))
+
+edit_room : (g : GPT) (edit : Edit) (fault : Fault) → edit_fault g edit ≡ Some fault → HasRoom fault
+edit_room g (Put i e) fault is = number_room i (has_number g i) fault is
+edit_room g (Remove i) fault is = number_room i (has_number g i) fault is
+edit_room g SortEntries fault is = absurd (cc)
+edit_room g (DiskGuid guid) fault is = absurd (cc)
+
+validity_room : (h : GPTHeader) (es : List GPTPartitionEntry) (fault : Fault) → IsValidity h es (Some fault) → HasRoom fault
+validity_room h es fault (shared_guid shared said) = (λ far. let e = sym said ∙ ap Some far in absurd (cc), λ full. let e = sym said ∙ ap Some full in absurd (cc))
+validity_room h es fault (bad_boundaries own bad said) = (λ far. let e = sym said ∙ ap Some far in absurd (cc), λ full. let e = sym said ∙ ap Some full in absurd (cc))
+validity_room h es fault (valid good said) = absurd (cc)
+
+pub refused_room : (g new : GPT) (edit : Edit) (fault : Fault) (a b : DiskState) → a.size < 2 ^ 64 → HasLayout g.header (table_in g) g.sector_size a.size → RefusesEdit g edit fault new a b
+    → (fault ≢ overflow) × (fault ≢ no_space_left)
+refused_room g new edit fault a b small layout (not_applied (inl said) sums) = edit_room g edit fault said
+refused_room g new edit fault a b small layout (not_applied (inr out) sums) =
+    let e = out.1 in (λ far. let d = sym e ∙ far in absurd (cc), λ full. let d = sym e ∙ full in absurd (cc))
+refused_room g new edit fault a b small layout (unseen none out sums) = (λ far. let d = sym out ∙ far in absurd (cc), λ full. let d = sym out ∙ full in absurd (cc))
+refused_room g new edit fault a b small layout (invalid none validity sums) = validity_room (edited g edit).header (entries_in (edited g edit)) fault validity
+refused_room g new edit fault a b small layout (no_room accepted full sums) =
+    let room = sym (room_still g (edited g edit) (edited_keeps g edit) a.size) in
+    let fits = layout_fits g.header (entries_in g) g.sector_size a.size small layout in
+    let never = sym fits ∙ (room ∙ full) in absurd (cc)
+refused_room g new edit fault a b small layout (not_written accepted failed rose sums) = (λ far. let d = sym failed ∙ far in absurd (cc), λ full. let d = sym failed ∙ full in absurd (cc))

@@ -9,7 +9,9 @@ use Rattle.gptman.specs.Stop.{IsStored}
 use Rattle.gptman.specs.Table.{Table, entries_in, table_in}
 use Rattle.gptman.specs.Valid.{IsValid, IsValidity}
 use Rattle.gptman.specs.declared.error.Error.{Error}
+use Rattle.gptman.specs.Write.{write_fault}
 use Rattle.gptman.specs.declared.edit.Edit.{Edit}
+use Rattle.gptman.specs.declared.edit.Edit.TheVariants.{SortEntries}
 use Rattle.gptman.specs.declared.table.GPT.{GPT}
 
 -- the same value, but for the two checksums of its header
@@ -25,11 +27,14 @@ pub record IsAccepted (g : GPT) (edit : Edit) : Type 0 where
   pub number : edit_fault g edit ≡ None
   pub valid : let g' = edited g edit in IsValid g'.header (entries_in g')
 
--- Why one edit was not made and written, and what the value is then: it was not applied; or it leaves a table that may not be written; or its write failed.
+-- Why one edit was not made and written, and what the value is then: it was not applied, which wants memory to sort alone; or it leaves a table that may
+-- not be written, or there was no memory to see it; or that table does not fit the disk; or the disk failed in its write.
 pub data RefusesEdit (g : GPT) (edit : Edit) (fault : Fault) (new : GPT) (old after : DiskState) : Type 0 where
-  not_applied : (edit_fault g edit ≡ Some fault) ⊎ (fault ≡ out_of_memory) → IsButSums g new → RefusesEdit g edit fault new old after
+  not_applied : (edit_fault g edit ≡ Some fault) ⊎ ((edit ≡ SortEntries) × (fault ≡ out_of_memory)) → IsButSums g new → RefusesEdit g edit fault new old after
+  no_memory : edit_fault g edit ≡ None → fault ≡ out_of_memory → IsButSums (edited g edit) new → RefusesEdit g edit fault new old after
   not_valid : edit_fault g edit ≡ None → IsValidity (edited g edit).header (entries_in (edited g edit)) (Some fault) → IsButSums (edited g edit) new → RefusesEdit g edit fault new old after
-  not_written : edit_fault g edit ≡ None → (fault ≡ out_of_memory) ⊎ ((fault ≡ io) × Rose old after) → IsButSums (edited g edit) new → RefusesEdit g edit fault new old after
+  no_room : IsAccepted g edit → write_fault (edited g edit).header (edited g edit).sector_size old.size ≡ Some fault → IsButSums (edited g edit) new → RefusesEdit g edit fault new old after
+  not_written : IsAccepted g edit → fault ≡ io → Rose old after → IsButSums (edited g edit) new → RefusesEdit g edit fault new old after
 
 -- Edit k + 1 of a list is accepted.
 abbrev pub IsAcceptedAt : GPT → List Edit → ℕ → Type 0
@@ -41,15 +46,11 @@ pub record IsRefusedAt (g : GPT) (edits : List Edit) (k : ℕ) (fault : Fault) (
   pub is : slice_get edits k ≡ Some edit
   pub refused : RefusesEdit (table_after g edits k) edit fault new old after
 
--- the disk failed
-abbrev pub DiskFailed : Option Error → Type 0
-DiskFailed None = ⊥
-DiskFailed (Some e) = fault_of e ≡ io
-
 abbrev pub is_io : Fault → Bool
 is_io io = true
 is_io _ = false
 
+-- whether the disk failed
 abbrev pub is_failure : Option Error → Bool
 is_failure None = false
 is_failure (Some e) = is_io (fault_of e)

@@ -1,16 +1,16 @@
 //! Edits of a table as values, made one after the other.
 
-ghost use Rattle.std.specs.Prelude.{◌≡◌, ◌≤◌, ◌<◌, ◌⊎◌, ◌+◌, [], ◌∷◌, ℕ, List, length, IsTrue, IfErr, IfNone, IfSome, OnOk, OnErr};
+ghost use Rattle.std.specs.Prelude.{◌≡◌, ◌≢◌, ◌≤◌, ◌<◌, ◌⊎◌, ◌+◌, [], ◌∷◌, ℕ, List, None, length, IsTrue, IfErr, IfNone, IfSome, OnOk, OnErr};
 ghost use Rattle.gptman.specs.Calls.{refusal_of, OnlyRead, Refuses};
-ghost use Rattle.gptman.specs.Commit.{reached, tables_to, DiskFailed, IsAccepted, IsAcceptedAt, IsButSums, IsRefusedAt, RefusesEdit, Stands};
+ghost use Rattle.gptman.specs.Commit.{is_failure, reached, tables_to, IsAccepted, IsAcceptedAt, IsButSums, IsRefusedAt, RefusesEdit, Stands};
 ghost use Rattle.gptman.specs.Crash.{IsKeptFor};
-ghost use Rattle.gptman.specs.Disk.{Agrees, Image, Keeps, LeavesOnly, Wrote};
+ghost use Rattle.gptman.specs.Disk.{Agrees, Image, Keeps, LeavesOnly, Rose, Wrote};
 ghost use Rattle.gptman.specs.Edit.{edited, edit_fault, table_after};
-ghost use Rattle.gptman.specs.Fault.{fault_of, io as io_fault, out_of_memory};
+ghost use Rattle.gptman.specs.Fault.{fault_of, io as io_fault, no_space_left, out_of_memory, overflow};
 ghost use Rattle.gptman.specs.Layout.{four_ranges, HasLayout};
 ghost use Rattle.gptman.specs.Stop.{HoldsOneOf, IsStored, ReadsForeign, ReadsOneOf};
 ghost use Rattle.gptman.specs.Table.{entries_in, table_in, IsCoherent};
-ghost use Rattle.gptman.specs.Write.{both_ranges};
+ghost use Rattle.gptman.specs.Write.{both_ranges, write_fault};
 ghost use Rattle.gptman.specs.declared.edit.Edit.TheVariants.{SortEntries};
 
 use crate::codec::entry::GPTPartitionEntry;
@@ -64,10 +64,10 @@ impl GPT {
     /// Makes the edits one after the other and writes the table after each. Stops at the first that is
     /// refused, or whose write is.
     ///
-    /// `done` counts the edits that were made and written. `fault` says why the next one was not:
-    /// `InvalidPartitionNumber` of `apply`, or what `write_into` refuses the edited table with. Where
-    /// the number was refused the value holds the table after `done` edits, and where the write was
-    /// the one after `done + 1`. After a fault other than `Io` both places of the disk still hold the
+    /// `done` counts the edits that were made and written. `fault` says why the next one was not: what
+    /// `apply` refuses it with, or what `write_into` refuses the edited table with. In the first case
+    /// the value holds the table after `done` edits, and in the second the one after `done + 1`. On an
+    /// honest disk of the stated layout, after a fault other than `Io`, both places still hold the
     /// table after `done` edits, or the disk is as it was where `done` is 0. Without an edit nothing
     /// is written.
     pub fn commit_all<D: Disk>(&mut self, disk: &mut D, edits: Vec<Edit>) -> Progress
@@ -75,20 +75,24 @@ impl GPT {
         requires coherent { IsCoherent self.old.header (entries_in self.old) }
         ensures keeps { Keeps (D.state disk.old) (D.state disk.new) }
 
-        // Which edits were made, and why the next one was not.
+        // Which edits were made, and why the next one was not. On the stated layout there is room for each.
         ensures count { result.done ≤ length edits.items }
         ensures all { IfNone result.fault (result.done ≡ length edits.items) }
         ensures accepted { (k : ℕ) → k < result.done → IsAcceptedAt self.old edits.items k }
-        ensures refused { HasLayout self.old.header (table_in self.old) self.old.sector_size (D.state disk.old).size
-            → IfSome result.fault (λ e. IsRefusedAt self.old edits.items result.done (fault_of e) self.new (D.state disk.old) (D.state disk.new)) }
+        ensures fits { 0 < result.done → write_fault self.old.header self.old.sector_size (D.state disk.old).size ≡ None }
+        ensures refused { IfSome result.fault (λ e. IsRefusedAt self.old edits.items result.done (fault_of e) self.new (D.state disk.old) (D.state disk.new)) }
+        ensures room { HasLayout self.old.header (table_in self.old) self.old.sector_size (D.state disk.old).size
+            → IfSome result.fault (λ e. (fault_of e ≢ overflow) × (fault_of e ≢ no_space_left)) }
+        ensures cause { IsTrue (is_failure result.fault) → Rose (D.state disk.old) (D.state disk.new) }
         ensures empty { edits.items ≡ [] → disk.new ≡ disk.old }
         ensures value { IfNone result.fault (IsButSums (table_after self.old edits.items result.done) self.new) }
 
         // What becomes of the disk. Unless it failed, both places hold the last table, or nothing was written where there is none.
         ensures wrote { IsTrue (D.state disk.old).is_honest → Wrote (both_ranges self.old.header self.old.sector_size) (D.state disk.old) (D.state disk.new) }
+        ensures untouched { IsTrue (D.state disk.old).is_honest → result.done ≡ 0 → IsTrue (is_failure result.fault) ⊎ OnlyRead (D.state disk.old) (D.state disk.new) }
         ensures stands { IsTrue (D.state disk.old).is_honest
             → HasLayout self.old.header (table_in self.old) self.old.sector_size (D.state disk.old).size
-            → DiskFailed result.fault ⊎ Stands self.old edits.items result.done (D.state disk.old) (D.state disk.new) }
+            → IsTrue (is_failure result.fault) ⊎ Stands self.old edits.items result.done (D.state disk.old) (D.state disk.new) }
 
         // From one good copy of the value's own table, a stop at any moment leaves the table after some of the edits at one place at least.
         ensures one_good { IsTrue (D.state disk.old).is_honest
@@ -133,9 +137,12 @@ impl GPT {
 
         // What is answered, and what becomes of the value.
         ensures accepted { OnOk result (IsAccepted self.old edit) }
+        ensures fits { OnOk result (write_fault self.old.header self.old.sector_size (D.state disk.old).size ≡ None) }
         ensures value { OnOk result (IsButSums (edited self.old edit) self.new) }
-        ensures refused { HasLayout self.old.header (table_in self.old) self.old.sector_size (D.state disk.old).size
-            → IfErr result (λ e. RefusesEdit self.old edit (fault_of e) self.new (D.state disk.old) (D.state disk.new)) }
+        ensures refused { IfErr result (λ e. RefusesEdit self.old edit (fault_of e) self.new (D.state disk.old) (D.state disk.new)) }
+        ensures room { HasLayout self.old.header (table_in self.old) self.old.sector_size (D.state disk.old).size
+            → IfErr result (λ e. (fault_of e ≢ overflow) × (fault_of e ≢ no_space_left)) }
+        ensures cause { Refuses result io_fault → Rose (D.state disk.old) (D.state disk.new) }
 
         // What becomes of the disk.
         ensures wrote { IsTrue (D.state disk.old).is_honest → Wrote (both_ranges self.old.header self.old.sector_size) (D.state disk.old) (D.state disk.new) }

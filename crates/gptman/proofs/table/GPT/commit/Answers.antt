@@ -1,13 +1,14 @@
-use Rattle.std.proofs.Common.{◌≡◌, ⊎_elim, inr, refl, [], Result, Err, None, rules, sym, subst}
+use Rattle.std.proofs.Common.{◌≡◌, ◌≢◌, ⊎_elim, inr, refl, [], Result, Err, None, rules, sym, subst}
 use Rattle.std.specs.Prelude.{IfErr}
 use Rattle.gptman.specs.Calls.{OnlyRead}
 use Rattle.gptman.specs.Commit.{RefusesEdit}
 use Rattle.gptman.specs.Edit.{edit_fault}
-use Rattle.gptman.specs.Fault.{fault_of}
+use Rattle.gptman.specs.Fault.{fault_of, no_space_left, overflow}
 use Rattle.gptman.specs.declared.error.Error.{Error}
-use Rattle.gptman.proofs.Commits.{coherent_still, edit_keeps, keeps_both, layout_still, leaves_edited, leaves_kept, refused_edit, stored_edited, sums_keep}
+use Rattle.gptman.proofs.Commits.{coherent_still, edit_keeps, keeps_both, layout_still, leaves_edited, leaves_kept, refused_edit, refused_room, stored_edited, sums_keep}
 use Rattle.gptman.proofs.Outcomes.{if_err_of}
 use Rattle.gptman.proofs.Runs.{wrote_not}
+use Rattle.gptman.proofs.table.GPT.commit.Given.{Over}
 use Rattle.gptman.proofs.table.GPT.commit.Goals as goal
 
 pub returns-in_err-apply-clause-one_good : goal.returns-in_err-apply-clause-one_good
@@ -29,18 +30,26 @@ returns-in_err-write_into-clause-coherent g c =
     coherent_still c.args.self.now c.write_into.new.self (keeps_both c.args.self.now c.apply.new.self c.write_into.new.self
     (edit_keeps c.args.self.now c.apply.new.self c.args.edit c.in_ok-apply.ensures.changed) (sums_keep c.apply.new.self c.write_into.new.self c.write_into.ensures.sums)) c.requires.coherent
 
+-- why the write is refused
+why : (g : Over) (c : goal.After-from_residual-in_err-write_into g)
+    → RefusesEdit c.args.self.now c.args.edit (fault_of c.in_err-write_into.field-0.0) c.write_into.new.self (g.D.Disk.state c.args.disk.now) (g.D.Disk.state c.write_into.new.disk)
+why g c =
+    let none : edit_fault c.args.self.now c.args.edit ≡ None = ⊎_elim (λ said. sym said) (λ never. absurd never.1) c.in_ok-apply.ensures.answer in
+    refused_edit c.args.self.now c.apply.new.self c.write_into.new.self c.args.edit c.in_err-write_into.field-0.0 (g.D.Disk.state c.args.disk.now) (g.D.Disk.state c.write_into.new.disk)
+    c.in_ok-apply.ensures.changed none c.in_err-write_into.ensures.answer c.write_into.ensures.sums
+
+refusal : (g : Over) (c : goal.After-from_residual-in_err-write_into g) → c.from_residual-in_err-write_into.result ≡ Err c.in_err-write_into.field-0.0
+refusal g c = search rules
+
 pub returns-in_err-write_into-clause-refused : goal.returns-in_err-write_into-clause-refused
-returns-in_err-write_into-clause-refused g c = λ layout.
-    let own = c.args.self.now in
-    let mid = c.apply.new.self in
-    let old = g.D.Disk.state c.args.disk.now in
-    let new = g.D.Disk.state c.write_into.new.disk in
-    let none : edit_fault own c.args.edit ≡ None = ⊎_elim (λ said. sym said) (λ never. absurd never.1) c.in_ok-apply.ensures.answer in
-    let keeps = edit_keeps own mid c.args.edit c.in_ok-apply.ensures.changed in
-    let is : c.from_residual-in_err-write_into.result ≡ Err c.in_err-write_into.field-0.0 = search rules in
-    let refused = refused_edit own mid c.write_into.new.self c.args.edit c.in_err-write_into.field-0.0 old new c.in_ok-apply.ensures.changed none (g.met.D.Disk.bounded c.args.disk.now)
-    (layout_still own mid keeps _ layout) c.in_err-write_into.ensures.answer c.write_into.ensures.sums in
-    subst (λ (r : Result Unit Error). IfErr r (λ e. RefusesEdit own c.args.edit (fault_of e) c.write_into.new.self old new)) (sym is) refused
+returns-in_err-write_into-clause-refused g c =
+    subst (λ (r : Result Unit Error). IfErr r (λ e. RefusesEdit c.args.self.now c.args.edit (fault_of e) c.write_into.new.self (g.D.Disk.state c.args.disk.now) (g.D.Disk.state c.write_into.new.disk)))
+    (sym (refusal g c)) (why g c)
+
+pub returns-in_err-write_into-clause-room : goal.returns-in_err-write_into-clause-room
+returns-in_err-write_into-clause-room g c = λ layout.
+    subst (λ (r : Result Unit Error). IfErr r (λ e. (fault_of e ≢ overflow) × (fault_of e ≢ no_space_left))) (sym (refusal g c))
+    (refused_room c.args.self.now c.write_into.new.self c.args.edit (fault_of c.in_err-write_into.field-0.0) _ _ (g.met.D.Disk.bounded c.args.disk.now) layout (why g c))
 
 pub returns-in_err-write_into-clause-one_good : goal.returns-in_err-write_into-clause-one_good
 returns-in_err-write_into-clause-one_good g c = λ honest layout kept.

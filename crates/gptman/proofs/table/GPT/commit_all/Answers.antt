@@ -8,7 +8,7 @@ use Rattle.gptman.specs.Layout.{HasLayout}
 use Rattle.gptman.specs.Stop.{HoldsOneOf}
 use Rattle.gptman.specs.Table.{table_in}
 use Rattle.gptman.specs.declared.edit.Edit.{Edit}
-use Rattle.gptman.proofs.CommitLoop.{accepted_more, done_leaves, done_stands, failed_last, failed_leaves, failed_refused, failed_stands, leaves_next, made_next, made_none, wrote_next}
+use Rattle.gptman.proofs.CommitLoop.{accepted_more, done_leaves, done_stands, failed_cause, failed_last, failed_leaves, failed_refused, failed_room, failed_stands, failed_untouched, leaves_next, made_next, made_none, wrote_next}
 use Rattle.gptman.proofs.OneGood.{leaves_outside}
 use Rattle.gptman.proofs.ReadingLaw.{reads_one_of}
 use Rattle.gptman.proofs.table.GPT.commit_all.Given.{Over}
@@ -39,6 +39,7 @@ loop-edit-preserved g c =
       made_next c.args.self.now at.yielded at.self (g.D.Disk.state c.args.disk.now) (g.D.Disk.state at.disk) are edit c.commit.new.self (g.D.Disk.state c.commit.new.disk) (record {
         coherent = next.coherent;
         accepted = done.accepted;
+        fits = done.fits;
         value = done.value;
         keeps = next.keeps;
         wrote = next.wrote;
@@ -69,15 +70,33 @@ returns-in-Err-clause-accepted g c k below =
     accepted_more c.args.self.now c.loop-edit.yielded _ c.args.edits.items (all_edits g c) c.loop-edit.invariant.0.accepted k (omega (arith, below, count))
 
 pub returns-in-Err-clause-refused : goal.returns-in-Err-clause-refused
-returns-in-Err-clause-refused g c = λ layout.
+returns-in-Err-clause-refused g c =
     let at = c.loop-edit in
     failed_refused c.args.self.now at.yielded at.self (g.D.Disk.state c.args.disk.now) (g.D.Disk.state at.disk) (g.D.Disk.state c.commit.new.disk) at.invariant.0 c.args.edits.items _ at.done
-    c.in-Some.edit (all_edits g c) at.invariant.2 (fault_of c.in-Err.fault) c.commit.new.self layout c.in-Err.ensures.refused
+    c.in-Some.edit (all_edits g c) at.invariant.2 (fault_of c.in-Err.fault) c.commit.new.self c.in-Err.ensures.refused
+
+pub returns-in-Err-clause-room : goal.returns-in-Err-clause-room
+returns-in-Err-clause-room g c = λ layout.
+    let at = c.loop-edit in
+    failed_room c.args.self.now at.yielded at.self (g.D.Disk.state c.args.disk.now) (g.D.Disk.state at.disk) (g.D.Disk.state c.commit.new.disk) at.invariant.0 c.args.edits.items _ at.done
+    c.in-Some.edit (all_edits g c) at.invariant.2 (fault_of c.in-Err.fault) layout c.in-Err.ensures.room
+
+pub returns-in-Err-clause-cause : goal.returns-in-Err-clause-cause
+returns-in-Err-clause-cause g c = λ failed.
+    let at = c.loop-edit in
+    failed_cause c.args.self.now at.yielded at.self (g.D.Disk.state c.args.disk.now) (g.D.Disk.state at.disk) (g.D.Disk.state c.commit.new.disk) at.invariant.0 c.args.edits.items _ at.done
+    c.in-Some.edit (all_edits g c) at.invariant.2 (fault_of c.in-Err.fault) failed c.in-Err.ensures.cause
 
 pub returns-in-Err-clause-wrote : goal.returns-in-Err-clause-wrote
 returns-in-Err-clause-wrote g c = λ honest.
     let at = c.loop-edit in
     wrote_next c.args.self.now at.yielded at.self (g.D.Disk.state c.args.disk.now) (g.D.Disk.state at.disk) at.invariant.0 (g.D.Disk.state c.commit.new.disk) honest c.commit.ensures.wrote
+
+pub returns-in-Err-clause-untouched : goal.returns-in-Err-clause-untouched
+returns-in-Err-clause-untouched g c = λ honest none.
+    let at = c.loop-edit in
+    failed_untouched c.args.self.now at.yielded at.self (g.D.Disk.state c.args.disk.now) (g.D.Disk.state at.disk) (g.D.Disk.state c.commit.new.disk) at.invariant.0 c.args.edits.items _ at.done
+    c.in-Some.edit (all_edits g c) at.invariant.2 (fault_of c.in-Err.fault) honest none c.in-Err.ensures.untouched
 
 pub returns-in-Err-clause-stands : goal.returns-in-Err-clause-stands
 returns-in-Err-clause-stands g c = λ honest layout.
@@ -138,6 +157,9 @@ pub returns-clause-empty : goal.returns-clause-empty
 returns-clause-empty g c = λ empty.
     let none : length (c.loop-edit.yielded ++ []) ≡ 0 = ap length (sym (made_all g c) ∙ empty) in
     c.loop-edit.invariant.4 (omega (arith, none, length-append c.loop-edit.yielded []))
+
+pub returns-clause-untouched : goal.returns-clause-untouched
+returns-clause-untouched g c = λ honest none. inr (c.loop-edit.invariant.0.untouched honest (sym c.loop-edit.invariant.2 ∙ none))
 
 pub returns-clause-stands : goal.returns-clause-stands
 returns-clause-stands g c = λ honest layout.
