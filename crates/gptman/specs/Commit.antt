@@ -8,10 +8,10 @@ use Rattle.gptman.specs.Fault.{Fault, fault_of, io, out_of_memory}
 use Rattle.gptman.specs.Stop.{IsStored}
 use Rattle.gptman.specs.Table.{Table, entries_in, table_in}
 use Rattle.gptman.specs.Valid.{IsValid, IsValidity}
-use Rattle.gptman.specs.declared.error.Error.{Error}
 use Rattle.gptman.specs.Write.{write_fault}
 use Rattle.gptman.specs.declared.edit.Edit.{Edit}
 use Rattle.gptman.specs.declared.edit.Edit.TheVariants.{SortEntries}
+use Rattle.gptman.specs.declared.error.Error.{Error}
 use Rattle.gptman.specs.declared.table.GPT.{GPT}
 
 -- the same value, but for the two checksums of its header
