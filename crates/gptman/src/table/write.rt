@@ -35,8 +35,9 @@ impl GPT {
     /// no memory is taken after them.
     ///
     /// After the checks only `Io` is answered: the disk failed in the middle, and is to be opened
-    /// again. Then at most the two checksums of the value's header differ, and at least one place of
-    /// the disk still holds the table that it held, or the new one.
+    /// again. Then at most the two checksums of the value's header differ. On an honest disk of the
+    /// stated layout whose place of the value's form held a table, with nothing pending, that the
+    /// other copy's ranges do not touch, one place at least still holds that table, or the new one.
     pub fn write_into<D: Disk>(&mut self, disk: &mut D) -> Result<GPTHeader>
         requires sector { 0 < self.old.sector_size }
         requires coherent { IsCoherent self.old.header (entries_in self.old) }
