@@ -1,16 +1,16 @@
 -- What a place holds is told by its two ranges.
-use Rattle.std.proofs.Common.{◌≡◌, ◌≤◌, ◌<◌, ◌+◌, ◌*◌, ◌-◌, min, ℕ, Bool, true, false, List, length, drop, get_or, ltb, Result, Ok, Err, refl, sym, ap, ◌∙◌, inl, inr, arith, length-take, length-drop}
+use Rattle.std.proofs.Common.{◌≡◌, ◌*◌, ℕ, Bool, true, false, List, length, ltb, Result, Ok, Err, refl, sym, ap, ◌∙◌, inl, inr, arith}
 use Rattle.std.specs.Prelude.{Option, Some, None}
-use Rattle.std.proofs.lemmas.List.{get_or-take, get_or-drop}
-use Rattle.std.proofs.lemmas.Grind.{same_number_lists}
 use Rattle.gptman.specs.Bytes.{part}
 use Rattle.gptman.specs.Coding.{header_of}
 use Rattle.gptman.specs.Copy.{Copy, copy_at, copy_fault, copy_tests, copy_there, entries_of, entries_part, entries_start, entries_length}
 use Rattle.gptman.specs.Fault.{Fault, first_failing, invalid_signature}
 use Rattle.gptman.specs.Layout.{Holds, AgreesIn, ranges_at, array_start}
 use Rattle.gptman.specs.Reading.{Place, primary, backup, place_start, copy_in}
-use Rattle.gptman.specs.Table.{Table, IsForm, IsHeaderForm}
+use Rattle.gptman.specs.Table.{Table, IsForm}
 use Rattle.gptman.specs.declared.codec.header.GPTHeader.{GPTHeader}
+use Rattle.gptman.proofs.Overlays.{part_in}
+use Rattle.gptman.proofs.WrittenCopy.{written_array}
 
 -- ---- a copy is told by the length and by its two parts
 
@@ -44,21 +44,6 @@ accepted_header b p ss copy ok = ap (λ (c : Copy). c.header) (accepted_cases b 
 
 -- ---- what two lists agree in
 
--- a part is told by its elements
-part_in : (b c : List ℕ) (at n : ℕ) → length c ≡ length b → ((k : ℕ) → at ≤ k → k < at + n → get_or c k 0 ≡ get_or b k 0) → part c at n ≡ part b at n
-part_in b c at n len same =
-    same_number_lists (part c at n) (part b at n)
-    (length-take n (drop at c) ∙ ap (λ (m : ℕ). min n m) (length-drop at c ∙ ap (λ (m : ℕ). m - at) len ∙ sym (length-drop at b)) ∙ sym (length-take n (drop at b)))
-    (λ k below.
-    let small : k < n = omega (arith, length-take n (drop at c)) in
-    get_or-take n (drop at c) k 0 small ∙ get_or-drop at c k 0 ∙ same (at + k) (omega arith) (omega arith)
-    ∙ sym (get_or-take n (drop at b) k 0 small ∙ get_or-drop at b k 0))
-
--- where a header in a place's form says that its entries begin
-form_start : (place : Place) (h : GPTHeader) (ss : ℕ) (t : Table) → h.last_usable_lba ≡ t.last_usable_lba → IsHeaderForm place h → entries_start h ss ≡ array_start place t ss
-form_start primary h ss t last form = ap (λ (n : ℕ). n * ss) form.1
-form_start backup h ss t last form = ap (λ (n : ℕ). n * ss) (form.1 ∙ ap (λ (n : ℕ). n + 1) last)
-
 at_place : (place : Place) (b c : List ℕ) (ss : ℕ) (t : Table) (copy : Copy) → copy_at b (place_start place (length b) ss) ss ≡ Ok copy → IsForm place t copy
     → AgreesIn (ranges_at place t ss (length b)) b c → copy_at c (place_start place (length b) ss) ss ≡ Ok copy
 at_place place b c ss t copy ok form agrees =
@@ -66,7 +51,7 @@ at_place place b c ss t copy ok form agrees =
     let h : GPTHeader = header_of (part b p 92) in
     let same_h : h ≡ copy.header = accepted_header b p ss copy ok in
     let start : entries_start h ss ≡ array_start place t ss =
-    ap (λ (g : GPTHeader). entries_start g ss) same_h ∙ form_start place copy.header ss t (ap (λ (u : Table). u.last_usable_lba) form.table) form.form in
+    ap (λ (g : GPTHeader). entries_start g ss) same_h ∙ written_array place copy.header copy.entries ss form.form ∙ ap (λ (u : Table). array_start place u ss) form.table in
     let size : entries_length h ≡ 128 * t.count =
     ap (λ (g : GPTHeader). entries_length g) same_h ∙ ap (λ (u : Table). 128 * u.count) form.table in
     let header : part c p 92 ≡ part b p 92 = part_in b c p 92 agrees.long (λ k low high. agrees.same k (inl (low, high))) in

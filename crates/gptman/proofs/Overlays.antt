@@ -27,21 +27,19 @@ pub outside_apart : (r : ℕ × ℕ) (rs : Ranges) (k : ℕ) → IsApartFromAll 
 outside_apart r [] k apart low high = tt
 outside_apart r (s ∷ rs) k apart low high = (one_apart r.0 r.1 s.0 s.1 k apart.0 low high, outside_apart r rs k apart.1 low high)
 
--- a part that is apart from where two lists may differ
+-- a part is told by its elements
+pub part_in : (a b : List ℕ) (at n : ℕ) → length b ≡ length a → ((k : ℕ) → at ≤ k → k < at + n → get_or b k 0 ≡ get_or a k 0) → part b at n ≡ part a at n
+part_in a b at n long same =
+    same_number_lists (part b at n) (part a at n)
+    (length-take n (drop at b) ∙ ap (λ (m : ℕ). min n m) (length-drop at b ∙ ap (λ (m : ℕ). m - at) long ∙ sym (length-drop at a)) ∙ sym (length-take n (drop at a)))
+    (λ k below.
+    let small : k < n = omega (arith, length-take n (drop at b)) in
+    get_or-take n (drop at b) k 0 small ∙ get_or-drop at b k 0 ∙ same (at + k) (omega arith) (omega arith)
+    ∙ sym (get_or-take n (drop at a) k 0 small ∙ get_or-drop at a k 0))
+
+-- so one that is apart from where two lists may differ is the same in both
 pub part_same : (rs : Ranges) (a b : List ℕ) (at n : ℕ) → Agrees rs a b → IsApartFromAll (at, n) rs → part b at n ≡ part a at n
-part_same rs a b at n agrees apart = same_number_lists (part b at n) (part a at n) long (λ k below. here k (short k below))
-  where
-    long : length (part b at n) ≡ length (part a at n)
-    long = simp (length-take, length-drop) (ap (λ (m : ℕ). min n (m - at)) agrees.long)
-
-    short : (k : ℕ) → k < length (part b at n) → k < n
-    short k below = omega (arith, below, length-take n (drop at b))
-
-    here : (k : ℕ) → k < n → get_or (part b at n) k 0 ≡ get_or (part a at n) k 0
-    here k below =
-        get_or-take n (drop at b) k 0 below ∙ get_or-drop at b k 0
-        ∙ agrees.same (at + k) (outside_apart (at, n) rs (at + k) apart (omega arith) (omega (arith, below)))
-        ∙ sym (get_or-take n (drop at a) k 0 below ∙ get_or-drop at a k 0)
+part_same rs a b at n agrees apart = part_in a b at n agrees.long (λ k low high. agrees.same k (outside_apart (at, n) rs k apart low high))
 
 module _ (old : List ℕ) (at : ℕ) (bytes : List ℕ) (fits : at + length bytes ≤ length old) where
   front : length (take at old) ≡ at
