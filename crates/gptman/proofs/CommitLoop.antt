@@ -2,23 +2,26 @@
 use Rattle.std.proofs.Common.{◌≡◌, ◌≢◌, ◌⊎◌, ◌<◌, ◌≤◌, ◌+◌, ◌++◌, ⊎_elim, inl, inr, ℕ, zero, suc, true, List, [], ◌∷◌, length, Some, None, Option, refl, sym, ap, ◌∙◌, subst, arith, length-append, append_assoc, Bool, false}
 use Rattle.std.specs.Prelude.{fold, slice_get, if◌then◌else◌, Contains, IsTrue}
 use Rattle.std.proofs.lemmas.Bool.{cases_lt}
-use Rattle.std.proofs.lemmas.List.{take-append-le, take_all}
+use Rattle.std.proofs.lemmas.List.{append-nil, take-append-le, take_all}
 use Rattle.std.proofs.lemmas.List.FromFn.{length-map-range_with_len, get_or-map-range_with_len}
 use Rattle.std.proofs.lemmas.List.Sums.{fold-append}
-use Rattle.gptman.specs.Calls.{OnlyRead}
-use Rattle.gptman.specs.Commit.{is_io, tables_to, IsAccepted, IsAcceptedAt, IsButSums, IsRefusedAt, RefusesEdit, Stands}
+use Rattle.gptman.specs.Calls.{sealed_value, OnlyRead}
+use Rattle.gptman.specs.Coding.{array_bytes}
+use Rattle.gptman.specs.Commit.{is_io, tables_to, value_after, IsAccepted, IsAcceptedAt, IsButSums, IsRefusedAt, RefusesEdit, Stands}
 use Rattle.gptman.specs.Commit.RefusesEdit.{not_applied, no_memory, not_valid, no_room, not_written}
 use Rattle.gptman.specs.Crash.{IsKeptFor}
+use Rattle.gptman.specs.Crc.{crc_of}
 use Rattle.gptman.specs.Disk.{DiskState, Image, IsSound, Keeps, LeavesOnly, Rose, Wrote}
 use Rattle.gptman.specs.Edit.{edited, edit_fault, table_after}
 use Rattle.gptman.specs.Fault.{Fault, io, no_space_left, overflow}
 use Rattle.gptman.specs.Layout.{HasLayout, Holds}
 use Rattle.gptman.specs.Reading.{Place, primary, backup}
 use Rattle.gptman.specs.Stop.{HoldsOneOf, IsStored}
-use Rattle.gptman.specs.Table.{Table, entries_in, table_in, IsCoherent}
+use Rattle.gptman.specs.Table.{Table, entries_in, sealed, table_in, IsCoherent}
 use Rattle.gptman.specs.Valid.{HasGoodBoundaries, IsValid, IsValidity}
 use Rattle.gptman.specs.Valid.IsValidity.{shared_guid, bad_boundaries, valid}
 use Rattle.gptman.specs.Write.{both_ranges, write_fault}
+use Rattle.gptman.specs.declared.codec.header.GPTHeader.{GPTHeader}
 use Rattle.gptman.specs.declared.edit.Edit.{Edit}
 use Rattle.gptman.specs.declared.edit.Edit.TheVariants.{Put, Remove, SortEntries, DiskGuid}
 use Rattle.gptman.specs.declared.table.GPT.{GPT}
@@ -27,6 +30,7 @@ use Rattle.gptman.proofs.OneGood.{stored_is_kept}
 use Rattle.gptman.proofs.Runs.{keeps_then, leaves_then, rose_since, wrote_not, wrote_then}
 use Rattle.gptman.proofs.Ranges.{Ranges, within_self}
 use Rattle.gptman.proofs.SameTable.{contains_cases}
+use Rattle.gptman.proofs.Sealing.{cleared_same}
 
 -- ---- a value with other checksums
 
@@ -117,6 +121,28 @@ refused_sums g new last edit fault a b c is keeps (no_room accepted full sums) =
 refused_sums g new last edit fault a b c is keeps (not_written accepted failed rose sums) =
     not_written (accepted_sums g new edit is accepted) failed (rose_since a b c keeps rose) (sums_then (edited g edit) (edited new edit) last (edited_sums g new edit is) sums)
 
+-- ---- the value after some of the edits
+
+sealed_sums : (g : GPT) → IsButSums g (sealed_value g)
+unfolding sealed
+sealed_sums g = (refl, refl)
+
+-- made checksums do not depend on those that were there
+sealed_summed : (g : GPT) (own array : ℕ) → length g.header.signature ≡ 8 → length g.header.revision ≡ 4 → sealed_value (summed g own array) ≡ sealed_value g
+unfolding sealed
+sealed_summed g own array long_s long_r =
+    let sum : ℕ = crc_of (array_bytes (entries_in g)) in
+    ap (λ (x : ℕ). record g { header = record g.header { crc32_checksum = x; partition_entry_array_crc32 = sum } })
+    (cleared_same (record g.header { partition_entry_array_crc32 = sum }) own long_s long_r)
+
+sealed_again : (g new : GPT) → IsButSums g new → length g.header.signature ≡ 8 → length g.header.revision ≡ 4 → sealed_value new ≡ sealed_value g
+sealed_again g new is long_s long_r =
+    ap sealed_value (is_summed g new is) ∙ sealed_summed g new.header.crc32_checksum new.header.partition_entry_array_crc32 long_s long_r
+
+value_some : (g : GPT) (edits : List Edit) (k : ℕ) → 0 < k → value_after g edits k ≡ sealed_value (table_after g edits k)
+value_some g edits zero some = absurd (omega (arith, some))
+value_some g edits (suc k) some = refl
+
 -- ---- the tables after some of the edits
 
 -- what comes after the first edits does not count for them
@@ -179,6 +205,7 @@ pub record AreMade (g : GPT) (made : List Edit) (now : GPT) (a b : DiskState) : 
   pub coherent : IsCoherent now.header (entries_in now)
   pub places : KeepsPlaces g now
   pub value : IsButSums (fold edited g made) now
+  pub exact : now ≡ value_after g made (length made)
   pub accepted : (k : ℕ) → k < length made → IsAcceptedAt g made k
   pub fits : 0 < length made → write_fault g.header g.sector_size a.size ≡ None
   pub keeps : Keeps a b
@@ -193,7 +220,7 @@ pub record IsMade (g : GPT) (edit : Edit) (new : GPT) (a b : DiskState) : Type 0
   pub coherent : IsCoherent new.header (entries_in new)
   pub accepted : IsAccepted g edit
   pub fits : write_fault g.header g.sector_size a.size ≡ None
-  pub value : IsButSums (edited g edit) new
+  pub value : new ≡ sealed_value (edited g edit)
   pub keeps : Keeps a b
   pub wrote : a.is_honest ≡ true → Wrote (both_ranges g.header g.sector_size) a b
   pub stored : a.is_honest ≡ true → HasLayout g.header (table_in g) g.sector_size a.size → IsStored b g.sector_size (table_in (edited g edit))
@@ -269,22 +296,37 @@ module _ (g : GPT) (made : List Edit) (now : GPT) (a b : DiskState) (are : AreMa
         subst (λ (x : GPT). IsAccepted x e) (sym where_it_is) (subst (IsAccepted (fold edited g made)) (sym same) (accepted_sums (fold edited g made) now edit are.value accepted))
   ]
 
+  -- the value that is written next, with its checksums made
+  exact_next : (edit : Edit) → length g.header.signature ≡ 8 → length g.header.revision ≡ 4 → sealed_value (edited now edit) ≡ value_after g (made ++ edit ∷ []) (length (made ++ edit ∷ []))
+  exact_next edit long_s long_r =
+      let last : GPT = edited (fold edited g made) edit in
+      let sums : IsButSums last (edited now edit) = edited_sums (fold edited g made) now edit are.value in
+      let keeps = keeps_both g now (edited now edit) are.places (edited_keeps now edit) in
+      let same = sym (is_summed last (edited now edit) sums) in
+      let first : length last.header.signature ≡ 8 = ap (λ (x : GPT). length x.header.signature) same ∙ ap (λ (h : GPTHeader). length h.signature) keeps.header ∙ long_s in
+      let second : length last.header.revision ≡ 4 = ap (λ (x : GPT). length x.header.revision) same ∙ ap (λ (h : GPTHeader). length h.revision) keeps.header ∙ long_r in
+      let at : table_after g (made ++ edit ∷ []) (length (made ++ edit ∷ [])) ≡ last = after_all g (made ++ edit ∷ []) ∙ fold-append edited g made (edit ∷ []) in
+      sealed_again last (edited now edit) sums first second
+      ∙ sym (value_some g (made ++ edit ∷ []) (length (made ++ edit ∷ [])) (omega (arith, length-append made (edit ∷ []))) ∙ ap sealed_value at)
+
   -- One edit more.
-  pub made_next : (edit : Edit) (new : GPT) (c : DiskState) → IsMade now edit new b c → AreMade g (made ++ edit ∷ []) new a c
-  made_next edit new c is =
-      let places = keeps_both g now new are.places (keeps_both now (edited now edit) new (edited_keeps now edit) (sums_keep (edited now edit) new is.value)) in
+  pub made_next : (edit : Edit) (new : GPT) (c : DiskState) → length g.header.signature ≡ 8 → length g.header.revision ≡ 4 → IsMade now edit new b c → AreMade g (made ++ edit ∷ []) new a c
+  made_next edit new c long_s long_r is =
+      let sums : IsButSums (edited now edit) new = subst (IsButSums (edited now edit)) (sym is.value) (sealed_sums (edited now edit)) in
+      let places = keeps_both g now new are.places (keeps_both now (edited now edit) new (edited_keeps now edit) (sums_keep (edited now edit) new sums)) in
       let more : fold edited g (made ++ edit ∷ []) ≡ edited (fold edited g made) edit = fold-append edited g made (edit ∷ []) in
       let value : IsButSums (fold edited g (made ++ edit ∷ [])) new =
-      subst (λ (x : GPT). IsButSums x new) (sym more) (sums_then (edited (fold edited g made) edit) (edited now edit) new (edited_sums (fold edited g made) now edit are.value) is.value) in
+      subst (λ (x : GPT). IsButSums x new) (sym more) (sums_then (edited (fold edited g made) edit) (edited now edit) new (edited_sums (fold edited g made) now edit are.value) sums) in
       let keeps : Keeps a c = keeps_then are.keeps is.keeps in
       let still : a.is_honest ≡ true → b.is_honest ≡ true = λ honest. (are.wrote honest).honest in
       let stored : a.is_honest ≡ true → HasLayout g.header (table_in g) g.sector_size a.size → IsStored c g.sector_size (table_in new) = λ honest layout.
       subst (λ (n : ℕ). IsStored c n (table_in new)) are.places.sector
-      (subst (IsStored c now.sector_size) (sym (table_sums (edited now edit) new is.value)) (is.stored (still honest) (now_layout layout))) in
+      (subst (IsStored c now.sector_size) (sym (table_sums (edited now edit) new sums)) (is.stored (still honest) (now_layout layout))) in
       record {
         coherent = is.coherent;
         places = places;
         value = value;
+        exact = is.value ∙ exact_next edit long_s long_r;
         accepted = accepted_next edit is.accepted;
         fits = λ some. fits_next is.fits;
         keeps = keeps;
@@ -303,6 +345,7 @@ made_none g a coherent sound = record {
   coherent = coherent;
   places = record { sector = refl; header = refl; long = refl };
   value = (refl, refl);
+  exact = refl;
   accepted = λ k below. absurd (omega (arith, below));
   fits = λ some. absurd (omega (arith, some));
   keeps = record { size = refl; honest = refl; failures = omega arith };
@@ -352,6 +395,9 @@ stored_read b c ss t read stored = record {
 module _ (g : GPT) (made : List Edit) (now : GPT) (a b : DiskState) (are : AreMade g made now a b) (edits more : List Edit) (done : ℕ) (is : edits ≡ made ++ more) (count : done ≡ length made) where
   pub after_done : table_after g edits done ≡ fold edited g made
   after_done = (λ i. table_after g (is i) (count i)) ∙ (after_append g made more (length made) (omega arith) ∙ after_all g made)
+
+  pub done_value : more ≡ [] → now ≡ value_after g edits done
+  done_value none = are.exact ∙ sym ((λ i. value_after g (is i) (count i)) ∙ ap (λ (xs : List Edit). value_after g xs (length made)) (ap (λ (xs : List Edit). made ++ xs) none ∙ append-nil made))
 
   pub done_stands : a.is_honest ≡ true → HasLayout g.header (table_in g) g.sector_size a.size → Stands g edits done a b
   done_stands honest layout =

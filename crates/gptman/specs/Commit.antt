@@ -1,7 +1,7 @@
 -- Lists of edits that are written one after the other.
-use Rattle.std.specs.Prelude.{◌≡◌, ◌⊎◌, ◌+◌, ℕ, Bool, true, false, List, map, slice_get, Option, Some, None, if◌then◌else◌}
+use Rattle.std.specs.Prelude.{◌≡◌, ◌⊎◌, ◌+◌, ℕ, zero, suc, Bool, true, false, List, map, slice_get, Option, Some, None, if◌then◌else◌}
 use Rattle.std.specs.List.{range_with_len}
-use Rattle.gptman.specs.Calls.{OnlyRead, SameButSums}
+use Rattle.gptman.specs.Calls.{sealed_value, OnlyRead, SameButSums}
 use Rattle.gptman.specs.Disk.{DiskState, Rose}
 use Rattle.gptman.specs.Edit.{edited, edit_fault, table_after}
 use Rattle.gptman.specs.Fault.{Fault, fault_of, io, out_of_memory}
@@ -17,6 +17,11 @@ use Rattle.gptman.specs.declared.table.GPT.{GPT}
 -- the same value, but for the two checksums of its header
 abbrev pub IsButSums : GPT → GPT → Type 0
 IsButSums g new = (new ≡ record g { header = new.header }) × SameButSums g.header new.header
+
+-- the value after k edits that were made and written: with the first its checksums are made
+abbrev pub value_after : GPT → List Edit → ℕ → GPT
+value_after g edits zero = g
+value_after g edits (suc k) = sealed_value (table_after g edits (suc k))
 
 -- the tables after 0 to k edits
 abbrev pub tables_to : GPT → List Edit → ℕ → List Table

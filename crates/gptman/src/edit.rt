@@ -1,8 +1,8 @@
 //! Edits of a table as values, made one after the other.
 
 ghost use Rattle.std.specs.Prelude.{◌≡◌, ◌≢◌, ◌≤◌, ◌<◌, ◌⊎◌, ◌+◌, [], ◌∷◌, ℕ, List, None, length, IsTrue, IfErr, IfNone, IfSome, OnOk, OnErr};
-ghost use Rattle.gptman.specs.Calls.{refusal_of, OnlyRead, Refuses};
-ghost use Rattle.gptman.specs.Commit.{is_failure, reached, tables_to, IsAccepted, IsAcceptedAt, IsButSums, IsRefusedAt, RefusesEdit, Stands};
+ghost use Rattle.gptman.specs.Calls.{refusal_of, sealed_value, OnlyRead, Refuses};
+ghost use Rattle.gptman.specs.Commit.{is_failure, reached, tables_to, value_after, IsAccepted, IsAcceptedAt, IsRefusedAt, RefusesEdit, Stands};
 ghost use Rattle.gptman.specs.Crash.{IsKeptFor};
 ghost use Rattle.gptman.specs.Disk.{Agrees, Image, Keeps, LeavesOnly, Rose, Wrote};
 ghost use Rattle.gptman.specs.Edit.{edited, edit_fault, table_after};
@@ -66,10 +66,10 @@ impl GPT {
     ///
     /// `done` counts the edits that were made and written. `fault` says why the next one was not: what
     /// `apply` refuses it with, or what `write_into` refuses the edited table with. In the first case
-    /// the value holds the table after `done` edits, and in the second the one after `done + 1`. On an
-    /// honest disk of the stated layout, after a fault other than `Io`, both places still hold the
-    /// table after `done` edits, or the disk is as it was where `done` is 0. Without an edit nothing
-    /// is written.
+    /// the value holds the table after `done` edits, and in the second the one after `done + 1`; where
+    /// all were written its checksums are made. On an honest disk of the stated layout, after a fault
+    /// other than `Io`, both places still hold the table after `done` edits, or the disk is as it was
+    /// where `done` is 0. Without an edit nothing is written.
     pub fn commit_all<D: Disk>(&mut self, disk: &mut D, edits: Vec<Edit>) -> Progress
         requires sector { 0 < self.old.sector_size }
         requires coherent { IsCoherent self.old.header (entries_in self.old) }
@@ -85,7 +85,7 @@ impl GPT {
             → IfSome result.fault (λ e. (fault_of e ≢ overflow) × (fault_of e ≢ no_space_left)) }
         ensures cause { IsTrue (is_failure result.fault) → Rose (D.state disk.old) (D.state disk.new) }
         ensures empty { edits.items ≡ [] → disk.new ≡ disk.old }
-        ensures value { IfNone result.fault (IsButSums (table_after self.old edits.items result.done) self.new) }
+        ensures value { IfNone result.fault (self.new ≡ value_after self.old edits.items result.done) }
 
         // What becomes of the disk. Unless it failed, both places hold the last table, or nothing was written where there is none.
         ensures wrote { IsTrue (D.state disk.old).is_honest → Wrote (both_ranges self.old.header self.old.sector_size) (D.state disk.old) (D.state disk.new) }
@@ -138,7 +138,7 @@ impl GPT {
         // What is answered, and what becomes of the value.
         ensures accepted { OnOk result (IsAccepted self.old edit) }
         ensures fits { OnOk result (write_fault self.old.header self.old.sector_size (D.state disk.old).size ≡ None) }
-        ensures value { OnOk result (IsButSums (edited self.old edit) self.new) }
+        ensures value { OnOk result (self.new ≡ sealed_value (edited self.old edit)) }
         ensures refused { IfErr result (λ e. RefusesEdit self.old edit (fault_of e) self.new (D.state disk.old) (D.state disk.new)) }
         ensures room { HasLayout self.old.header (table_in self.old) self.old.sector_size (D.state disk.old).size
             → IfErr result (λ e. (fault_of e ≢ overflow) × (fault_of e ≢ no_space_left)) }

@@ -8,7 +8,7 @@ use Rattle.gptman.specs.Layout.{HasLayout}
 use Rattle.gptman.specs.Stop.{HoldsOneOf}
 use Rattle.gptman.specs.Table.{table_in}
 use Rattle.gptman.specs.declared.edit.Edit.{Edit}
-use Rattle.gptman.proofs.CommitLoop.{accepted_more, done_leaves, done_stands, failed_cause, failed_last, failed_leaves, failed_refused, failed_room, failed_stands, failed_untouched, leaves_next, made_next, made_none, wrote_next}
+use Rattle.gptman.proofs.CommitLoop.{accepted_more, done_leaves, done_stands, done_value, failed_cause, failed_last, failed_leaves, failed_refused, failed_room, failed_stands, failed_untouched, leaves_next, made_next, made_none, wrote_next}
 use Rattle.gptman.proofs.OneGood.{leaves_outside}
 use Rattle.gptman.proofs.ReadingLaw.{reads_one_of}
 use Rattle.gptman.proofs.table.GPT.commit_all.Given.{Over}
@@ -35,8 +35,10 @@ loop-edit-preserved g c =
     let count = at.invariant.2 in
     let steps : into_iter_items at.edit-iterator ≡ edit ∷ into_iter_items c.next.new.self = c.in-Some.ensures.steps.0 in
     let next = c.commit.ensures in
-    let done = c.in_default.ensures in (
-      made_next c.args.self.now at.yielded at.self (g.D.Disk.state c.args.disk.now) (g.D.Disk.state at.disk) are edit c.commit.new.self (g.D.Disk.state c.commit.new.disk) (record {
+    let done = c.in_default.ensures in
+    let long_s : length c.args.self.now.header.signature ≡ 8 = omega arith in
+    let long_r : length c.args.self.now.header.revision ≡ 4 = omega arith in (
+      made_next c.args.self.now at.yielded at.self (g.D.Disk.state c.args.disk.now) (g.D.Disk.state at.disk) are edit c.commit.new.self (g.D.Disk.state c.commit.new.disk) long_s long_r (record {
         coherent = next.coherent;
         accepted = done.accepted;
         fits = done.fits;
@@ -157,6 +159,11 @@ pub returns-clause-empty : goal.returns-clause-empty
 returns-clause-empty g c = λ empty.
     let none : length (c.loop-edit.yielded ++ []) ≡ 0 = ap length (sym (made_all g c) ∙ empty) in
     c.loop-edit.invariant.4 (omega (arith, none, length-append c.loop-edit.yielded []))
+
+pub returns-clause-value : goal.returns-clause-value
+returns-clause-value g c =
+    let at = c.loop-edit in
+    done_value c.args.self.now at.yielded at.self (g.D.Disk.state c.args.disk.now) (g.D.Disk.state at.disk) at.invariant.0 c.args.edits.items [] at.done (made_all g c) at.invariant.2 refl
 
 pub returns-clause-untouched : goal.returns-clause-untouched
 returns-clause-untouched g c = λ honest none. inr (c.loop-edit.invariant.0.untouched honest (sym c.loop-edit.invariant.2 ∙ none))
