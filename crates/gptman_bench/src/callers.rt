@@ -1,13 +1,13 @@
 //! Callers that know a table by the library's contracts alone. What each ensures is proved from them.
 
-ghost use Rattle.std.specs.Prelude.{◌≡◌, ◌≢◌, ◌<◌, ◌≤◌, ◌-◌, ◌↔◌, [], ◌∷◌, Some, count_by, filter, length, map, slice_get, All, IsTrue, IfOk, OnOk, OnErr};
+ghost use Rattle.std.specs.Prelude.{◌≡◌, ◌≢◌, ◌<◌, ◌≤◌, ◌-◌, ◌⊎◌, ◌↔◌, [], ◌∷◌, Some, count_by, filter, length, map, slice_get, All, IsTrue, IfOk, OnOk, OnErr};
 ghost use Rattle.std.specs.List.{enumerate_from};
-ghost use Rattle.gptman.specs.Disk.{LeavesOnly};
+ghost use Rattle.gptman.specs.Disk.{LeavesOnly, Rose};
 ghost use Rattle.gptman.specs.Entry.{is_used};
 ghost use Rattle.gptman.specs.Layout.{HasLayout, Holds};
 ghost use Rattle.gptman.specs.Number.{with_entries, with_entry, IsNumber};
 ghost use Rattle.gptman.specs.Order.{by_rank, rank};
-ghost use Rattle.gptman.specs.Reading.{primary};
+ghost use Rattle.gptman.specs.Reading.{primary, taken_from};
 ghost use Rattle.gptman.specs.Stop.{IsStored, ReadsForeign, ReadsOneOf};
 ghost use Rattle.gptman.specs.Table.{entries_in, table_in, IsCoherent, IsHeaderForm};
 ghost use Rattle.gptman.specs.Valid.{IsValid};
@@ -16,7 +16,7 @@ ghost use Rattle.gptman_bench.specs.Cleared.{cleared};
 ghost use Rattle.gptman_bench.specs.Grown.{grown};
 
 use gptman::place::laws::placement_keeps_valid;
-use gptman::table::laws::{growing_is_safe, what_is_held_is_read};
+use gptman::table::laws::{growing_is_safe, what_is_held_is_read, what_is_read_is_held};
 use gptman::{Disk, GPT, GPTHeader, GPTPartitionEntry, Result};
 use std::alloc::{AllocError, Global};
 
@@ -145,6 +145,19 @@ pub(crate) fn used_numbers(alloc: Global, table: &GPT) -> std::result::Result<Ve
         .filter(|(_, entry)| entry.is_used())
         .map(|(number, _)| number)
         .collect(alloc)
+}
+
+/// Reads the table. Unless the disk failed, the place from which it is taken holds it, where it is in
+/// the form of that place.
+pub(crate) fn read_held<D: Disk>(alloc: Global, disk: &mut D, sector_size: u64) -> Result<GPT>
+    requires { 0 < sector_size }
+    ensures coherent { IfOk result (λ g. IsCoherent g.header (entries_in g)) }
+    ensures held { let place = taken_from (D.state disk.old).view sector_size in
+        IsTrue (D.state disk.old).is_honest → Rose (D.state disk.old) (D.state disk.new)
+        ⊎ IfOk result (λ g. IsHeaderForm place g.header → Holds (D.state disk.new).view sector_size place (table_in g)) }
+{
+    what_is_read_is_held();
+    GPT::read_from(alloc, disk, sector_size)
 }
 
 /// Fits the table to the disk and writes it. Where the primary place holds the table in the value's own

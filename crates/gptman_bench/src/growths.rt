@@ -259,9 +259,13 @@ fn the_maximum_size_is_found_or_there_is_no_memory(rt: HostRuntime) {
     get_maximum_size(&rt, rt.alloc());
 }
 
-// Edits that are committed take memory to sort and for the checks.
+// Edits that are committed take memory to sort and for the checks. After a refusal the disk holds the
+// table after the edits that were done, and the value is that table or the next.
 fn commit_edits(rt: &impl Abort, alloc: Global) -> Option<()> {
     let mut table = made(rt, disk_1_unsorted(alloc))?;
+    let before = made(rt, table.clone())?;
+    let mut sorted = made(rt, table.clone())?;
+    made(rt, sorted.sort())?;
     let mut disk = made(rt, disk_of(alloc, 2, 51_200))?;
     let edits = vec![in alloc; Edit::SortEntries, Edit::Remove(2)].ok()?;
     assert!(rt; table.is_coherent() && table.sector_size == 512);
@@ -272,7 +276,13 @@ fn commit_edits(rt: &impl Abort, alloc: Global) -> Option<()> {
         Some(Error::Io(_)) => {}
         Some(error) => {
             assert!(rt; matches!(&error, Error::OutOfMemory), "{error}");
-            assert!(rt; done > 0 || are_all(disk.bytes(), 2));
+            if done == 0 {
+                assert!(rt; table == before || table == sorted);
+                assert!(rt; are_all(disk.bytes(), 2));
+            } else {
+                let left = made(rt, GPT::read_from(alloc, &mut disk, 512))?;
+                assert!(rt; left.iter().eq(sorted.iter()));
+            }
         }
     }
     Some(())
