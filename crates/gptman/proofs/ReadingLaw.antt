@@ -4,10 +4,10 @@ use Rattle.std.specs.List.{Contains}
 use Rattle.gptman.specs.Fault.{Fault, invalid_signature}
 use Rattle.gptman.specs.Copy.{Copy, copy_at}
 use Rattle.gptman.specs.Layout.{Holds}
-use Rattle.gptman.specs.Reading.{Place, primary, backup, place_start, copy_in, reading_of, second_copy, taken_from}
-use Rattle.gptman.specs.Stop.{HoldsOneOf, ReadsForeign, ReadsOneOf}
+use Rattle.gptman.specs.Reading.{Place, primary, backup, place_start, copy_in, fallback, reading_of, second_copy, taken_from}
+use Rattle.gptman.specs.Stop.{HoldsOneOf, HoldsWhatIsRead, ReadsForeign, ReadsOneOf}
 use Rattle.gptman.specs.Table.{Table, IsForm}
-use Rattle.gptman.proofs.Fallback.{fallback_long, refused_first, taken_first}
+use Rattle.gptman.proofs.Fallback.{fallback_long, fallback_short, refused_first, taken_first}
 use Rattle.gptman.proofs.SameTable.{one_of_decided}
 
 abbrev from : Result Copy Fault → Place
@@ -54,3 +54,28 @@ reads_cases b ss tables (Err fault) is backup t listed holds known = record {
 
 pub reads_one_of : (b : List ℕ) (ss : ℕ) (tables : List Table) → HoldsOneOf b ss tables → ¬ ReadsForeign b ss tables → ReadsOneOf b ss tables
 reads_one_of b ss tables holds known = reads_cases b ss tables (copy_in primary b ss) refl holds.place holds.table holds.listed holds.holds known
+
+-- ---- what a reading takes
+
+-- the fallback gives no other copy than that of the backup place
+second_given : (b : List ℕ) (ss : ℕ) (fault : Fault) (copy : Copy) (r : Result Copy Fault) → copy_in backup b ss ≡ r → second_copy fault r ≡ Ok copy → copy_in backup b ss ≡ Ok copy
+second_given b ss fault copy (Ok second) is ok = is ∙ ok
+second_given b ss fault copy (Err second) is ok = absurd (cc)
+
+given_by_fallback : (b : List ℕ) (ss : ℕ) (fault : Fault) (copy : Copy) (small : Bool) → ltb (length b) ss ≡ small → fallback b ss fault ≡ Ok copy → copy_in backup b ss ≡ Ok copy
+given_by_fallback b ss fault copy true is ok = let e = sym (fallback_short b ss fault (grind arith)) ∙ ok in absurd (cc)
+given_by_fallback b ss fault copy false is ok = second_given b ss fault copy (copy_in backup b ss) refl (sym (fallback_long b ss fault (grind arith)) ∙ ok)
+
+taken_cases : (b : List ℕ) (ss : ℕ) (copy : Copy) (r : Result Copy Fault) → copy_in primary b ss ≡ r → reading_of b ss ≡ Ok copy → copy_in (taken_from b ss) b ss ≡ Ok copy
+taken_cases b ss copy (Ok first) is ok = ap (λ (p : Place). copy_in p b ss) (from_first b ss first is) ∙ is ∙ sym (taken_first b ss first is) ∙ ok
+taken_cases b ss copy (Err fault) is ok =
+    ap (λ (p : Place). copy_in p b ss) (from_second b ss fault is)
+    ∙ given_by_fallback b ss fault copy (ltb (length b) ss) refl (sym (refused_first b ss fault is) ∙ ok)
+
+-- What a reading takes is accepted at the place from which it is taken. In that place's form it is held there.
+pub holds_what_is_read : HoldsWhatIsRead
+holds_what_is_read b ss copy ok form = record {
+  copy = copy;
+  accepted = taken_cases b ss copy (copy_in primary b ss) refl ok;
+  form = record { table = refl; form = form };
+}

@@ -1,10 +1,12 @@
 -- What a write of a table starts from, and what it leaves where it is stopped or fails.
 use Rattle.std.specs.Prelude.{◌≡◌, ℕ, List, [], length, Contains, IsErr}
 use Rattle.gptman.specs.Disk.{DiskState, Image, Outside}
-use Rattle.gptman.specs.Layout.{AgreesIn, AreClear, Holds, Inside, ranges_at}
+use Rattle.gptman.specs.Fit.{fitted}
+use Rattle.gptman.specs.Layout.{AgreesIn, AreClear, HasLayout, Holds, Inside, ranges_at}
 use Rattle.gptman.specs.Reading.{Place, primary, backup, place_start, copy_in}
 use Rattle.gptman.specs.Stop.{ReadsTable}
 use Rattle.gptman.specs.Table.{Table, table_in, IsHeaderForm}
+use Rattle.gptman.specs.declared.codec.header.GPTHeader.{GPTHeader}
 use Rattle.gptman.specs.declared.table.GPT.{GPT}
 
 -- the place that is not this one
@@ -40,3 +42,12 @@ pub data PlaceAfter (place : Place) (t : Table) (ss : ℕ) (old new : DiskState)
 pub record IsReadAlone (view : List ℕ) (ss : ℕ) (t : Table) (b : List ℕ) : Type 0 where
   pub from_primary : AgreesIn (ranges_at primary t ss (length view)) view b → ReadsTable b ss primary t
   pub from_backup : AgreesIn (ranges_at backup t ss (length view)) view b → IsErr (copy_in primary b ss) → ReadsTable b ss backup t
+
+-- A table that the primary place holds is one good copy for a value whose header was fitted to this disk, from one in primary form that counts as many
+-- entries: on the stated layout, wherever the last usable sector and the backup sector were.
+abbrev pub GrowingIsSafe : DiskState → Type 0
+GrowingIsSafe disk = (was : Table) (h : GPTHeader) (g : GPT) → disk.pending ≡ [] → Holds disk.view g.sector_size primary was
+    → IsHeaderForm primary h → h.number_of_partition_entries ≡ was.count
+    → g.header ≡ fitted h g.sector_size disk.size
+    → HasLayout g.header (table_in g) g.sector_size disk.size
+    → IsKeptFor disk g was

@@ -3,7 +3,7 @@ use Rattle.std.specs.Prelude.{◌≡◌, ℕ, List, [], Ok, Contains}
 use Rattle.gptman.specs.Disk.{DiskState}
 use Rattle.gptman.specs.Copy.{Copy}
 use Rattle.gptman.specs.Reading.{Place, primary, backup, reading_of, taken_from}
-use Rattle.gptman.specs.Table.{Table, IsForm}
+use Rattle.gptman.specs.Table.{Table, table_of, IsForm, IsHeaderForm}
 use Rattle.gptman.specs.Layout.{Holds}
 
 -- Nothing is pending, and both places of the view hold the table.
@@ -43,3 +43,8 @@ pub record ReadsOneOf (b : List ℕ) (ss : ℕ) (tables : List Table) : Type 0 w
 -- A disk that holds a table of a list at one place at least, and is not read as a foreign one, is read as one of the list.
 abbrev pub ReadsWhatItHolds : Type 0
 ReadsWhatItHolds = (b : List ℕ) (ss : ℕ) (tables : List Table) → HoldsOneOf b ss tables → ¬ ReadsForeign b ss tables → ReadsOneOf b ss tables
+
+-- A copy that a reading takes, in the form of the place from which it is taken, is held there as its table.
+abbrev pub HoldsWhatIsRead : Type 0
+HoldsWhatIsRead = (b : List ℕ) (ss : ℕ) (copy : Copy) → reading_of b ss ≡ Ok copy → IsHeaderForm (taken_from b ss) copy.header
+    → Holds b ss (taken_from b ss) (table_of copy.header copy.entries)

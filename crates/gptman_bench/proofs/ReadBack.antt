@@ -1,13 +1,14 @@
--- A table that both places hold is what a reading answers.
+-- A table that both places hold is what a reading answers, and what it answers is held.
 use Rattle.std.proofs.Common.{◌≡◌, ◌⊎◌, ⊎_elim, inl, inr, ℕ, List, Ok, Err, sym, ◌∙◌, subst}
 use Rattle.std.specs.Prelude.{Result, IfOk, IsErr}
-use Rattle.gptman.specs.Calls.{copy_of, IsTakenCopy}
+use Rattle.gptman.specs.Calls.{answer_of, copy_of, IsTakenCopy, OnlyRead, Refuses}
 use Rattle.gptman.specs.Copy.{Copy}
 use Rattle.gptman.specs.Disk.{DiskState, Keeps, Rose}
-use Rattle.gptman.specs.Fault.{Fault}
+use Rattle.gptman.specs.Fault.{Fault, out_of_memory}
 use Rattle.gptman.specs.Layout.{Holds}
-use Rattle.gptman.specs.Reading.{Place, primary, backup, copy_in}
-use Rattle.gptman.specs.Table.{Table, IsForm}
+use Rattle.gptman.specs.Reading.{Place, primary, backup, copy_in, reading_of, taken_from}
+use Rattle.gptman.specs.Stop.{HoldsWhatIsRead}
+use Rattle.gptman.specs.Table.{Table, table_in, IsForm, IsHeaderForm}
 use Rattle.gptman.specs.declared.error.Error.{Error}
 use Rattle.gptman.specs.declared.table.GPT.{GPT}
 use Rattle.gptman.proofs.Runs.{rose_since}
@@ -31,3 +32,12 @@ read_back t ss (Ok g) a b c keeps first second (inr is) =
       held backup b.view ss t (copy_of g) second is.0,
       ⊎_elim (λ refused. absurd (not_refused b.view ss t first refused)) (λ rose. rose_since a b c keeps rose) is.1,
     )
+
+-- what is read in the form of its place is held there, unless the disk failed
+pub held_read : HoldsWhatIsRead → (ss : ℕ) (r : Result GPT Error) (a b : DiskState) → OnlyRead a b → Rose a b ⊎ (Refuses r out_of_memory ⊎ (answer_of copy_of r ≡ reading_of a.view ss))
+    → Rose a b ⊎ IfOk r (λ g. IsHeaderForm (taken_from a.view ss) g.header → Holds b.view ss (taken_from a.view ss) (table_in g))
+held_read law ss r a b only (inl rose) = inl rose
+held_read law ss (Err e) a b only (inr refused) = inr tt
+held_read law ss (Ok g) a b only (inr (inl no_memory)) = absurd no_memory
+held_read law ss (Ok g) a b only (inr (inr is)) =
+    inr (λ form. subst (λ (view : List ℕ). Holds view ss (taken_from a.view ss) (table_in g)) (sym only.view) (law a.view ss (copy_of g) (sym is) form))

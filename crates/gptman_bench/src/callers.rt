@@ -1,17 +1,23 @@
 //! Callers that know a table by the library's contracts alone. What each ensures is proved from them.
 
-ghost use Rattle.std.specs.Prelude.{◌≡◌, ◌≢◌, ◌<◌, ◌≤◌, ◌-◌, ◌↔◌, Some, count_by, filter, length, map, slice_get, All, IsTrue, IfOk, OnOk, OnErr};
+ghost use Rattle.std.specs.Prelude.{◌≡◌, ◌≢◌, ◌<◌, ◌≤◌, ◌-◌, ◌⊎◌, ◌↔◌, [], ◌∷◌, Some, count_by, filter, length, map, slice_get, All, IsTrue, IfOk, OnOk, OnErr};
 ghost use Rattle.std.specs.List.{enumerate_from};
+ghost use Rattle.gptman.specs.Disk.{LeavesOnly, Rose};
 ghost use Rattle.gptman.specs.Entry.{is_used};
+ghost use Rattle.gptman.specs.Layout.{HasLayout, Holds};
 ghost use Rattle.gptman.specs.Number.{with_entries, with_entry, IsNumber};
 ghost use Rattle.gptman.specs.Order.{by_rank, rank};
-ghost use Rattle.gptman.specs.Table.{entries_in, IsCoherent};
+ghost use Rattle.gptman.specs.Reading.{primary, taken_from};
+ghost use Rattle.gptman.specs.Stop.{IsStored, ReadsForeign, ReadsOneOf};
+ghost use Rattle.gptman.specs.Table.{entries_in, table_in, IsCoherent, IsHeaderForm};
 ghost use Rattle.gptman.specs.Valid.{IsValid};
 ghost use Rattle.gptman.specs.declared.codec.entry.GPTPartitionEntry.{GPTPartitionEntry};
 ghost use Rattle.gptman_bench.specs.Cleared.{cleared};
+ghost use Rattle.gptman_bench.specs.Grown.{grown};
 
 use gptman::place::laws::placement_keeps_valid;
-use gptman::{GPT, GPTPartitionEntry, Result};
+use gptman::table::laws::{growing_is_safe, what_is_held_is_read, what_is_read_is_held};
+use gptman::{Disk, GPT, GPTHeader, GPTPartitionEntry, Result};
 use std::alloc::{AllocError, Global};
 
 /// Whether two tables are equal in all their fields.
@@ -139,4 +145,41 @@ pub(crate) fn used_numbers(alloc: Global, table: &GPT) -> std::result::Result<Ve
         .filter(|(_, entry)| entry.is_used())
         .map(|(number, _)| number)
         .collect(alloc)
+}
+
+/// Reads the table. Unless the disk failed, the place from which it is taken holds it, where it is in
+/// the form of that place.
+pub(crate) fn read_held<D: Disk>(alloc: Global, disk: &mut D, sector_size: u64) -> Result<GPT>
+    requires { 0 < sector_size }
+    ensures coherent { IfOk result (λ g. IsCoherent g.header (entries_in g)) }
+    ensures held { let place = taken_from (D.state disk.old).view sector_size in
+        IsTrue (D.state disk.old).is_honest → Rose (D.state disk.old) (D.state disk.new)
+        ⊎ IfOk result (λ g. IsHeaderForm place g.header → Holds (D.state disk.new).view sector_size place (table_in g)) }
+{
+    what_is_read_is_held();
+    GPT::read_from(alloc, disk, sector_size)
+}
+
+/// Fits the table to the disk and writes it. Where the primary place holds the table in the value's own
+/// form and nothing is pending, a stop at any moment leaves a disk that is read as the table or as the
+/// fitted one, unless the reading takes a foreign copy: also where a call failed.
+pub(crate) fn grow<D: Disk>(table: &mut GPT, disk: &mut D) -> Result<GPTHeader>
+    requires sector { 0 < table.old.sector_size }
+    requires coherent { IsCoherent table.old.header (entries_in table.old) }
+    ensures stored { let new = grown table.old (D.state disk.old).size in
+        IsTrue (D.state disk.old).is_honest → HasLayout new.header (table_in new) new.sector_size (D.state disk.old).size
+        → OnOk result (IsStored (D.state disk.new) new.sector_size (table_in new)) }
+    ensures safe { let was = table_in table.old in
+        let new = grown table.old (D.state disk.old).size in
+        IsTrue (D.state disk.old).is_honest → (D.state disk.old).pending ≡ []
+        → IsHeaderForm primary table.old.header
+        → Holds (D.state disk.old).view table.old.sector_size primary was
+        → HasLayout new.header (table_in new) new.sector_size (D.state disk.old).size
+        → LeavesOnly (D.state disk.old) (D.state disk.new) (λ b. ¬ ReadsForeign b new.sector_size (was ∷ table_in new ∷ [])
+        → ReadsOneOf b new.sector_size (was ∷ table_in new ∷ [])) }
+{
+    what_is_held_is_read();
+    table.header.update_from(disk, table.sector_size)?;
+    growing_is_safe(disk);
+    table.write_into(disk)
 }

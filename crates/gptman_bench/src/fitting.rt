@@ -1,7 +1,10 @@
 //! Fitting a header to a disk: a new one, and one that comes to a disk of another length.
 
-use crate::fixtures::{DISK_GUID, answer, are_all, disk_of, new_table, write};
-use gptman::{GPT, GPTHeader};
+use crate::callers::{grow, read_held};
+use crate::fixtures::{
+    DISK_GUID, answer, are_all, disk_of, image_of_new_table, new_table, read_image, write,
+};
+use gptman::{Error, Fate, GPT, GPTHeader, MemoryDisk};
 use std::alloc::Global;
 use std::test::Fail;
 
@@ -137,5 +140,58 @@ fn a_header_that_does_not_fit_stays_as_it_is(rt: HostRuntime) -> Result<(), Fail
     fitted.update_from(&mut disk_of(alloc, 0, 512 * 66)?, 512)?;
     assert_eq!(rt; fitted.first_usable_lba, 66);
     assert_eq!(rt; fitted.last_usable_lba, 0);
+    Ok(())
+}
+
+// The bytes of a disk of 200 sectors, on whose first 100 a table was written.
+fn longer_image(alloc: Global) -> Result<Vec<u8>, Fail> {
+    let mut bytes = image_of_new_table(alloc, 0)?;
+    bytes.resize(512 * 200, 0)?;
+    Ok(bytes)
+}
+
+#[test]
+fn a_table_grows_with_its_disk(rt: HostRuntime) -> Result<(), Fail> {
+    let alloc = rt.alloc();
+    let mut disk = MemoryDisk::new(alloc, longer_image(alloc)?)?;
+    let mut table = read_held(alloc, &mut disk, 512)?;
+    assert_eq!(rt; table.header.last_usable_lba, 66);
+    assert!(rt; table.sector_size == 512);
+    let other = grow(&mut table, &mut disk)?;
+    assert_eq!(rt; table.header.last_usable_lba, 166);
+    assert_eq!(rt; other.primary_lba, 199);
+    assert_eq!(rt; read_image(alloc, disk.bytes())?, table);
+    Ok(())
+}
+
+// The last usable sector of the table that a stop after so many calls of `grow` leaves, with this fate
+// for each write that is not synced; and whether `grow` was done.
+fn grown_until(alloc: Global, image: &[u8], calls: u64, fate: Fate) -> Result<(u64, bool), Fail> {
+    let mut table = read_image(alloc, image)?;
+    let mut disk = MemoryDisk::with_fuse(alloc, image.to_vec(alloc)?, calls)?;
+    if table.sector_size == 0 || !table.is_coherent() {
+        return Err(Fail::new("no write takes such a table"));
+    }
+    let done = match grow(&mut table, &mut disk) {
+        Ok(_) => true,
+        Err(Error::Io(_)) => false,
+        Err(_) => return Err(Fail::new("refused, and not for the disk")),
+    };
+    let left = read_image(alloc, disk.stop(&[fate; 6])?.bytes())?;
+    Ok((left.header.last_usable_lba, done))
+}
+
+#[test]
+fn a_table_that_grows_survives_a_stop(rt: HostRuntime) -> Result<(), Fail> {
+    let alloc = rt.alloc();
+    let image = longer_image(alloc)?;
+    for fate in [Fate::Old, Fate::New, Fate::Garbage(7)] {
+        for calls in 0..32 {
+            let (last, done) = grown_until(alloc, &image, calls, fate)?;
+            assert!(rt; last == 166 || (last == 66 && !done), "{calls} calls");
+        }
+        assert_eq!(rt; grown_until(alloc, &image, 0, fate)?, (66, false));
+        assert_eq!(rt; grown_until(alloc, &image, 32, fate)?, (166, true));
+    }
     Ok(())
 }

@@ -3,7 +3,9 @@
 //! In a plain run no growth is refused. `rt try --test --fail-alloc N` refuses the Nth one of each
 //! test, and these pass with any N.
 
-use crate::fixtures::{DISK_GUID, are_all, disk_1_unsorted, disk_of, table_with, used_entries};
+use crate::fixtures::{
+    DISK_GUID, are_all, complement, disk_1_unsorted, disk_of, table_with, used_entries,
+};
 use gptman::{Edit, Error, GPT, GPTPartitionEntry, MemoryDisk, PartitionName, Progress, Result};
 use std::alloc::Global;
 use std::process::Abort;
@@ -101,6 +103,55 @@ fn read_table(rt: &impl Abort, alloc: Global) -> Option<()> {
 #[test]
 fn a_table_is_read_or_there_is_no_memory(rt: HostRuntime) {
     read_table(&rt, rt.alloc());
+}
+
+// A byte of each of the two headers on that disk.
+const IN_HEADERS: [usize; 2] = [536, 50_712];
+
+// A disk with that image, in which these bytes are complemented, and the image.
+fn damaged_disk(
+    rt: &impl Abort,
+    alloc: Global,
+    damaged: &[usize],
+) -> Option<(MemoryDisk, Vec<u8>)> {
+    let mut image = written_image(alloc).ok()?;
+    for at in damaged {
+        complement(&mut image, *at);
+    }
+    let disk = made(rt, MemoryDisk::new(alloc, image.clone().ok()?))?;
+    Some((disk, image))
+}
+
+fn read_backup(rt: &impl Abort, alloc: Global) -> Option<()> {
+    let (mut disk, image) = damaged_disk(rt, alloc, &IN_HEADERS[..1])?;
+    let found = GPT::find_from(alloc, &mut disk);
+    assert!(rt; disk.bytes() == image.as_slice());
+    let table = made(rt, found)?;
+    assert!(rt; table.is_backup());
+    Some(())
+}
+
+#[test]
+fn a_backup_is_found_or_there_is_no_memory(rt: HostRuntime) {
+    read_backup(&rt, rt.alloc());
+}
+
+// The two faults of a reading take memory.
+fn read_two_faults(rt: &impl Abort, alloc: Global) -> Option<()> {
+    let (mut disk, image) = damaged_disk(rt, alloc, &IN_HEADERS)?;
+    let read = GPT::read_from(alloc, &mut disk, 512);
+    assert!(rt; read.is_err() && disk.bytes() == image.as_slice());
+    if let Err(Error::ReadError(primary, backup)) = &read {
+        assert!(rt; matches!(&**primary, Error::InvalidChecksum(..)));
+        assert!(rt; matches!(&**backup, Error::InvalidChecksum(..)));
+        return Some(());
+    }
+    made(rt, read).map(|_| ())
+}
+
+#[test]
+fn two_faults_are_told_or_there_is_no_memory(rt: HostRuntime) {
+    read_two_faults(&rt, rt.alloc());
 }
 
 // What a write takes memory for are its checks. A refused one writes no byte and leaves the table.
@@ -208,9 +259,13 @@ fn the_maximum_size_is_found_or_there_is_no_memory(rt: HostRuntime) {
     get_maximum_size(&rt, rt.alloc());
 }
 
-// Edits that are committed take memory to sort and for the checks.
+// Edits that are committed take memory to sort and for the checks. After a refusal the disk holds the
+// table after the edits that were done, and the value is that table or the next.
 fn commit_edits(rt: &impl Abort, alloc: Global) -> Option<()> {
     let mut table = made(rt, disk_1_unsorted(alloc))?;
+    let before = made(rt, table.clone())?;
+    let mut sorted = made(rt, table.clone())?;
+    made(rt, sorted.sort())?;
     let mut disk = made(rt, disk_of(alloc, 2, 51_200))?;
     let edits = vec![in alloc; Edit::SortEntries, Edit::Remove(2)].ok()?;
     assert!(rt; table.is_coherent() && table.sector_size == 512);
@@ -221,7 +276,13 @@ fn commit_edits(rt: &impl Abort, alloc: Global) -> Option<()> {
         Some(Error::Io(_)) => {}
         Some(error) => {
             assert!(rt; matches!(&error, Error::OutOfMemory), "{error}");
-            assert!(rt; done > 0 || are_all(disk.bytes(), 2));
+            if done == 0 {
+                assert!(rt; table == before || table == sorted);
+                assert!(rt; are_all(disk.bytes(), 2));
+            } else {
+                let left = made(rt, GPT::read_from(alloc, &mut disk, 512))?;
+                assert!(rt; left.iter().eq(sorted.iter()));
+            }
         }
     }
     Some(())
