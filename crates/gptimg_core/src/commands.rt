@@ -122,6 +122,7 @@ fn list_free<D: Disk>(
     requires aligned { 0 < align }
     ensures keeps { Keeps (D.state disk.old) (D.state disk.new) }
     ensures reads { IsTrue (D.state disk.old).is_honest → OnlyRead (D.state disk.old) (D.state disk.new) }
+    ensures good { IfOk result (λ report. IsTrue (is_good report)) }
     ensures slots { IsTrue (D.state disk.old).is_honest
         → IfOk result (λ report. TellsOfTable (λ g. AreSlotsIn g align report) sector_size (D.state disk.old) (D.state disk.new)) }
 {
@@ -165,13 +166,26 @@ fn write_mbr<D: Disk>(disk: &mut D, sector_size: u64, bootable: bool) -> Result<
     ensures kept { IsTrue (D.state disk.old).is_honest
         → OnErr result (Rose (D.state disk.old) (D.state disk.new) ⊎ Untouched (D.state disk.old) (D.state disk.new)) }
 {
-    if bootable {
-        GPT::write_bootable_protective_mbr_into(disk, sector_size)?;
-    } else {
-        GPT::write_protective_mbr_into(disk, sector_size)?;
-    }
+    lay_mbr(disk, sector_size, bootable)?;
     disk.sync()?;
     Ok(Report::Written)
+}
+
+// Writes a protective MBR, which is not synced.
+fn lay_mbr<D: Disk>(disk: &mut D, sector_size: u64, bootable: bool) -> Result<()>
+    requires { 0 < sector_size }
+    ensures keeps { Keeps (D.state disk.old) (D.state disk.new) }
+    ensures wrote { IsTrue (D.state disk.old).is_honest → Wrote ((446, 66) ∷ []) (D.state disk.old) (D.state disk.new) }
+    ensures laid { IsTrue (D.state disk.old).is_honest
+        → OnOk result ((D.state disk.new).view ≡ overlay (D.state disk.old).view 446 (mbr_bytes bootable sector_size (D.state disk.old).size)) }
+    ensures kept { IsTrue (D.state disk.old).is_honest
+        → OnErr result (Rose (D.state disk.old) (D.state disk.new) ⊎ Untouched (D.state disk.old) (D.state disk.new)) }
+{
+    if bootable {
+        GPT::write_bootable_protective_mbr_into(disk, sector_size)
+    } else {
+        GPT::write_protective_mbr_into(disk, sector_size)
+    }
 }
 
 // Reads the table, changes it and writes it to both places.
@@ -186,6 +200,7 @@ fn change_table<D: Disk>(
     ensures keeps { Keeps (D.state disk.old) (D.state disk.new) }
     ensures kept { IsTrue (D.state disk.old).is_honest
         → OnErr result (Rose (D.state disk.old) (D.state disk.new) ⊎ Untouched (D.state disk.old) (D.state disk.new)) }
+    ensures good { IfOk result (λ report. IsTrue (is_good report)) }
     ensures changed { IsTrue (D.state disk.old).is_honest
         → IfOk result (λ report. MakesChange (λ g. report ≡ report_of change.now g) sector_size change.now (D.state disk.old) (D.state disk.new)) }
 {
