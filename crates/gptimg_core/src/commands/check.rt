@@ -69,11 +69,21 @@ fn look_at_backup<D: Disk>(
     if size < sector_size {
         return Ok(Err(Error::InvalidSignature));
     }
-    look_at(alloc, disk, sector_size, (size / sector_size - 1) * sector_size)
+    look_at(
+        alloc,
+        disk,
+        sector_size,
+        (size / sector_size - 1) * sector_size,
+    )
 }
 
 // Reads the copy whose header is at that byte. Want of memory is no fault of the copy.
-fn look_at<D: Disk>(alloc: Global, disk: &mut D, sector_size: u64, at: u64) -> Result<Result<FoundCopy>>
+fn look_at<D: Disk>(
+    alloc: Global,
+    disk: &mut D,
+    sector_size: u64,
+    at: u64,
+) -> Result<Result<FoundCopy>>
     requires { 0 < sector_size }
     ensures keeps { Keeps (D.state disk.old) (D.state disk.new) }
     ensures reads { IsTrue (D.state disk.old).is_honest → OnlyRead (D.state disk.old) (D.state disk.new) }
@@ -127,7 +137,8 @@ fn are_same(primary: &Result<FoundCopy>, backup: &Result<FoundCopy>) -> bool
 fn are_one_table(primary: &FoundCopy, backup: &FoundCopy) -> bool
     ensures { IsTrue result → AreOneTable (seen_as primary.now) (seen_as backup.now) }
 {
-    are_both_forms(&primary.header, &backup.header) && are_same_entries(&primary.entries, &backup.entries)
+    are_both_forms(&primary.header, &backup.header)
+        && are_same_entries(&primary.entries, &backup.entries)
 }
 
 // Whether the two headers are those of one table, the first in primary form and the second in backup

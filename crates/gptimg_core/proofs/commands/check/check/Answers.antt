@@ -17,11 +17,14 @@ both_hold : (view : List ℕ) (ss : ℕ) (p b : Result FoundCopy Error) (old new
     → HoldOneTable view ss × AreFoundSame (answer_of seen_as p) (answer_of seen_as b)
 both_hold view ss (Ok p) (Ok b) old new (inl fails) at_backup same = absurd fails.0
 both_hold view ss (Ok p) (Ok b) old new (inr first) (inl fails) same = absurd fails.0
-both_hold view ss (Ok p) (Ok b) old new (inr first) (inr second) same = (record {
-  table = same.table;
-  at_primary = record { copy = seen_as p; accepted = sym first; form = same.at_primary };
-  at_backup = record { copy = seen_as b; accepted = sym second; form = same.at_backup };
-}, same)
+both_hold view ss (Ok p) (Ok b) old new (inr first) (inr second) same = (
+  record {
+    table = same.table;
+    at_primary = record { copy = seen_as p; accepted = sym first; form = same.at_primary };
+    at_backup = record { copy = seen_as b; accepted = sym second; form = same.at_backup };
+  },
+  same,
+)
 both_hold view ss (Ok p) (Err e) old new at_primary at_backup same = absurd same
 both_hold view ss (Err e) (Ok b) old new at_primary at_backup same = absurd same
 both_hold view ss (Err e) (Err d) old new at_primary at_backup same = absurd same
