@@ -11,7 +11,7 @@ ghost use Rattle.gptman.specs.Write.{both_ranges};
 ghost use Rattle.gptimg_core.specs.Words.{IsSized, IsSizedChange};
 ghost use Rattle.gptimg_core.specs.Asks.{made_header, made_table, IsReader};
 ghost use Rattle.gptimg_core.specs.Reads.{AreSlotsIn, IsReadFrom, TellsOfTable};
-ghost use Rattle.gptimg_core.specs.Changes.{report_of, MakesChange};
+ghost use Rattle.gptimg_core.specs.Changes.{report_of, LeavesChange, MakesChange};
 ghost use Rattle.gptimg_core.specs.Checks.{is_good, TellsCopies};
 ghost use Rattle.gptimg_core.specs.declared.commands.Report.TheVariants.{Written, Table};
 ghost use Rattle.gptimg_core.specs.declared.words.Change.{Change};
@@ -79,6 +79,8 @@ pub fn perform<D: Disk>(alloc: Global, command: &Command, disk: &mut D) -> Resul
     // A changed table.
     ensures changed { IsTrue (D.state disk.old).is_honest → (size : Option ℕ) (change : Change) → command.now ≡ Changing size change
         → IfOk result (λ report. MakesChange (λ g. report ≡ report_of change g) size change (D.state disk.old) (D.state disk.new)) }
+    ensures leaves { IsTrue (D.state disk.old).is_honest → (size : Option ℕ) (change : Change) → command.now ≡ Changing size change
+        → LeavesChange size change (D.state disk.old) (D.state disk.new) }
 {
     match command {
         Command::New { sector_size, guid } => write_new(alloc, disk, *sector_size, *guid),
@@ -203,6 +205,7 @@ fn change_table<D: Disk>(
     ensures good { IfOk result (λ report. IsTrue (is_good report)) }
     ensures changed { IsTrue (D.state disk.old).is_honest
         → IfOk result (λ report. MakesChange (λ g. report ≡ report_of change.now g) sector_size change.now (D.state disk.old) (D.state disk.new)) }
+    ensures leaves { IsTrue (D.state disk.old).is_honest → LeavesChange sector_size change.now (D.state disk.old) (D.state disk.new) }
 {
     let mut table = read_table(alloc, disk, sector_size)?;
     let report = make_change(alloc, disk, &mut table, change)?;

@@ -65,3 +65,23 @@ returns-in_ok-print_report-in-Ok-clause-changed g c honest size change asks done
     let changing : c.in-Some.command ≡ Changing size change = cc c.in-Some.ensures.value in
     change_as (λ next is. lines_as (g.W.Write.contents c.args.out.now) (g.W.Write.contents c.print_report.new.out) c.in-Ok.report (report_of change next) c.in_ok-print_report-in-Ok.ensures is)
     (c.in-Ok.ensures.changed honest size change changing)
+
+pub returns-in_err-print_report-in-Ok-clause-leaves : goal.returns-in_err-print_report-in-Ok-clause-leaves
+returns-in_err-print_report-in-Ok-clause-leaves g c honest size change asks =
+    let changing : c.in-Some.command ≡ Changing size change = cc c.in-Some.ensures.value in
+    c.perform.ensures.leaves honest size change changing
+
+pub returns-in_err-print_fault-in-Err-clause-leaves : goal.returns-in_err-print_fault-in-Err-clause-leaves
+returns-in_err-print_fault-in-Err-clause-leaves g c honest size change asks =
+    let changing : c.in-Some.command ≡ Changing size change = cc c.in-Some.ensures.value in
+    c.perform.ensures.leaves honest size change changing
+
+pub returns-in_ok-print_report-in-Ok-clause-leaves : goal.returns-in_ok-print_report-in-Ok-clause-leaves
+returns-in_ok-print_report-in-Ok-clause-leaves g c honest size change asks =
+    let changing : c.in-Some.command ≡ Changing size change = cc c.in-Some.ensures.value in
+    c.perform.ensures.leaves honest size change changing
+
+pub returns-in_ok-print_fault-in-Err-clause-leaves : goal.returns-in_ok-print_fault-in-Err-clause-leaves
+returns-in_ok-print_fault-in-Err-clause-leaves g c honest size change asks =
+    let changing : c.in-Some.command ≡ Changing size change = cc c.in-Some.ensures.value in
+    c.perform.ensures.leaves honest size change changing
