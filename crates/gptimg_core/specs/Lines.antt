@@ -1,14 +1,21 @@
--- The lines that show a table.
-use Rattle.std.specs.Prelude.{ℕ, ◌||◌, List, [], ◌++◌, codes, flat_map, map, nat_eq, nat_lt, if◌then◌else◌}
+-- The lines that are printed.
+use Rattle.std.specs.Prelude.{ℕ, Bool, ◌||◌, List, [], ◌++◌, codes, flat_map, map, nat_eq, nat_lt, Result, Ok, Err, if◌then◌else◌}
 use Rattle.std.specs.Fmt.{decimal}
 use Rattle.std.specs.Int.{to_be_bytes, w64}
 use Rattle.std.specs.List.{enumerate_from}
 use Rattle.hex.specs.Hex.{encode_lower}
+use Rattle.gptman.specs.Calls.{answer_of}
+use Rattle.gptman.specs.Copy.{Copy}
 use Rattle.gptman.specs.Entry.{is_used}
+use Rattle.gptman.specs.Fault.{Fault}
 use Rattle.gptman.specs.Table.{entries_in}
 use Rattle.gptman.specs.declared.codec.entry.GPTPartitionEntry.{GPTPartitionEntry}
 use Rattle.gptman.specs.declared.codec.header.GPTHeader.{GPTHeader}
 use Rattle.gptman.specs.declared.table.GPT.{GPT}
+use Rattle.gptimg_core.specs.Checks.{seen_as}
+use Rattle.gptimg_core.specs.Names.{fault_name}
+use Rattle.gptimg_core.specs.declared.commands.Report.{Report}
+use Rattle.gptimg_core.specs.declared.commands.Report.TheVariants.{Written, Table, Slots, Added, Copies}
 
 -- the form that the header is in
 abbrev pub form_name : GPTHeader → List ℕ
@@ -42,3 +49,32 @@ entry_lines ps = flat_map (λ p. if is_used p.1 then entry_line p else []) ps
 -- the table's own line, and those of its entries
 abbrev pub table_lines : GPT → List ℕ
 table_lines g = table_line g ++ entry_lines (enumerate_from 1 (entries_in g))
+
+-- the line of a slot, with its start and its length
+abbrev pub slot_line : ℕ × ℕ → List ℕ
+slot_line slot = decimal slot.0 ++ codes " " ++ decimal slot.1 ++ codes "\n"
+
+abbrev pub slot_lines : List (ℕ × ℕ) → List ℕ
+slot_lines slots = flat_map slot_line slots
+
+-- the line of a partition that was added
+abbrev pub added_line : ℕ → ℕ → ℕ → List ℕ
+added_line number first last = decimal number ++ codes " " ++ decimal first ++ codes ".." ++ decimal last ++ codes "\n"
+
+-- the line of the copy at a place of this name
+abbrev pub copy_line : List ℕ → Result Copy Fault → List ℕ
+copy_line place (Ok copy) = place ++ codes " ok\n"
+copy_line place (Err fault) = place ++ codes " fault " ++ fault_name fault ++ codes "\n"
+
+-- the lines of both copies, and whether they are one table
+abbrev pub check_lines : Result Copy Fault → Result Copy Fault → Bool → List ℕ
+check_lines first second same =
+    copy_line (codes "primary") first ++ copy_line (codes "backup") second ++ (if same then codes "same yes\n" else codes "same no\n")
+
+-- what is printed of what a command has to tell
+abbrev pub report_lines : Report → List ℕ
+report_lines Written = codes "ok\n"
+report_lines (Table table) = table_lines table
+report_lines (Slots slots) = slot_lines slots.items
+report_lines (Added number first last) = added_line number first last
+report_lines (Copies copies) = check_lines (answer_of seen_as copies.primary) (answer_of seen_as copies.backup) copies.are_same

@@ -1,13 +1,18 @@
 -- What the words of a command line ask for. A text is the list of its bytes.
-use Rattle.std.specs.Prelude.{ℕ, ◌^◌, ◌<◌, ◌&&◌, IfSome, List, [], ◌∷◌, length, map, codes, nat_eq, nat_lt, bytes_eq, Option, Some, None, String, string_bytes, if◌then◌else◌}
+use Rattle.std.specs.Prelude.{ℕ, ◌^◌, ◌<◌, ◌&&◌, Bool, true, false, IfSome, List, [], ◌∷◌, length, map, codes, replicate, nat_eq, nat_lt, bytes_eq, Option, Some, None, String, string_bytes, if◌then◌else◌}
 use Rattle.std.specs.Option.{option_map, option_and_then}
 use Rattle.std.specs.Result.{result_ok}
 use Rattle.std.specs.List.{list_all}
 use Rattle.std.specs.Char.{is_ascii_digit}
 use Rattle.std.specs.Str.Parse.{digits_value}
 use Rattle.hex.specs.Hex.{decode_sized}
+use Rattle.gptimg_core.specs.declared.words.Addition.{Addition}
+use Rattle.gptimg_core.specs.declared.words.Change.{Change}
+use Rattle.gptimg_core.specs.declared.words.Change.TheVariants.{Add, Remove, Sort, Grow}
+use Rattle.gptimg_core.specs.declared.words.Choice.{Choice}
+use Rattle.gptimg_core.specs.declared.words.Choice.TheVariants.{First, Last, Best}
 use Rattle.gptimg_core.specs.declared.words.Command.{Command}
-use Rattle.gptimg_core.specs.declared.words.Command.TheVariants.{New, Show}
+use Rattle.gptimg_core.specs.declared.words.Command.TheVariants.{New, Mbr, Check, Show, Free, Change as Changing}
 
 -- the bytes of each word
 abbrev pub texts_of : {A : Type 0} → List (String A) → List (List ℕ)
@@ -19,36 +24,134 @@ number_in text =
     if list_all is_ascii_digit text && nat_lt 0 (length text) && nat_lt (digits_value 10 text) (2 ^ 64) then Some (digits_value 10 text) else None
 
 -- a number above 0
-abbrev pub sector_size_in : List ℕ → Option ℕ
-sector_size_in text = option_and_then (λ size. if nat_eq size 0 then None else Some size) (number_in text)
+abbrev pub size_in : List ℕ → Option ℕ
+size_in text = option_and_then (λ size. if nat_eq size 0 then None else Some size) (number_in text)
+
+-- a number that fits in 32 bits
+abbrev pub entry_number_in : List ℕ → Option ℕ
+entry_number_in text = option_and_then (λ n. if nat_lt n (2 ^ 32) then Some n else None) (number_in text)
 
 -- the 16 bytes of 32 hexadecimal digits
 abbrev pub guid_in : List ℕ → Option (List ℕ)
 guid_in text = result_ok (decode_sized text 16)
 
--- such a number, or none where the word is `auto`
+-- such bytes that are not all zero
+abbrev pub type_in : List ℕ → Option (List ℕ)
+type_in text = option_and_then (λ guid. if bytes_eq guid (replicate 16 0) then None else Some guid) (guid_in text)
+
+-- the size of a sector, or none where the word is `auto`
 abbrev pub sectors_in : List ℕ → Option (Option ℕ)
-sectors_in text = if bytes_eq text (codes "auto") then Some None else option_map (λ size. Some size) (sector_size_in text)
+sectors_in text = if bytes_eq text (codes "auto") then Some None else option_map (λ size. Some size) (size_in text)
+
+-- which of the free places
+abbrev pub choice_in : List ℕ → Option Choice
+choice_in text =
+    if bytes_eq text (codes "first") then Some First
+    else if bytes_eq text (codes "last") then Some Last
+    else if bytes_eq text (codes "best") then Some Best
+    else None
+
+-- whether an MBR is to be bootable
+abbrev pub kind_in : List ℕ → Option Bool
+kind_in text =
+    if bytes_eq text (codes "plain") then Some false
+    else if bytes_eq text (codes "bootable") then Some true
+    else None
 
 -- `new GUID`, with the word for the size of a sector
 abbrev pub new_in : List ℕ → List (List ℕ) → Option Command
-new_in sector (guid ∷ []) = option_and_then (λ size. option_map (λ bytes. New size bytes) (guid_in guid)) (sector_size_in sector)
+new_in sector (guid ∷ []) = option_and_then (λ size. option_map (λ bytes. New size bytes) (guid_in guid)) (size_in sector)
 new_in sector _ = None
 
--- `show`, with that word
+-- `mbr KIND`, with that word
+abbrev pub mbr_in : List ℕ → List (List ℕ) → Option Command
+mbr_in sector (kind ∷ []) = option_and_then (λ size. option_map (λ bootable. Mbr size bootable) (kind_in kind)) (size_in sector)
+mbr_in sector _ = None
+
+-- `check`, with that word
+abbrev pub check_in : List ℕ → List (List ℕ) → Option Command
+check_in sector [] = option_map (λ size. Check size) (size_in sector)
+check_in sector _ = None
+
+-- `show`, with that word, which may be `auto`
 abbrev pub show_in : List ℕ → List (List ℕ) → Option Command
 show_in sector [] = option_map (λ size. Show size) (sectors_in sector)
 show_in sector _ = None
 
+-- `free ALIGN`, with that word
+abbrev pub free_in : List ℕ → List (List ℕ) → Option Command
+free_in sector (align ∷ []) = option_and_then (λ size. option_map (λ n. Free size n) (size_in align)) (sectors_in sector)
+free_in sector _ = None
+
+-- `NUMBER TYPE UNIQUE SIZE WHERE ALIGN NAME`
+abbrev pub addition_in : List (List ℕ) → Option Addition
+addition_in (number ∷ type ∷ unique ∷ size ∷ choice ∷ align ∷ name ∷ []) =
+    option_and_then (λ number. option_and_then (λ type_guid. option_and_then (λ unique_guid. option_and_then (λ size. option_and_then (λ choice.
+    option_map (λ align. record {
+      number = number;
+      type_guid = type_guid;
+      unique_guid = unique_guid;
+      size = size;
+      choice = choice;
+      align = align;
+      name = name;
+    })
+    (size_in align)) (choice_in choice)) (size_in size)) (guid_in unique)) (type_in type)) (entry_number_in number)
+addition_in _ = None
+
+-- `NUMBER`
+abbrev pub remove_in : List (List ℕ) → Option Change
+remove_in (number ∷ []) = option_map (λ n. Remove n) (entry_number_in number)
+remove_in _ = None
+
+-- a change that takes no words
+abbrev pub alone : Change → List (List ℕ) → Option Change
+alone change [] = Some change
+alone change _ = None
+
+-- the change of a name, with its words
+abbrev pub named_change_in : List ℕ → List (List ℕ) → Option Change
+named_change_in name words =
+    if bytes_eq name (codes "add") then option_map (λ addition. Add addition) (addition_in words)
+    else if bytes_eq name (codes "remove") then remove_in words
+    else if bytes_eq name (codes "sort") then alone Sort words
+    else if bytes_eq name (codes "grow") then alone Grow words
+    else None
+
+-- a command that changes the table, with the word for the size of a sector
+abbrev pub change_in : List ℕ → List ℕ → List (List ℕ) → Option Command
+change_in sector name words = option_and_then (λ size. option_map (λ change. Changing size change) (named_change_in name words)) (sectors_in sector)
+
+-- the command of a name, with that word and the others
+abbrev pub named_command_in : List ℕ → List ℕ → List (List ℕ) → Option Command
+named_command_in sector name words =
+    if bytes_eq name (codes "new") then new_in sector words
+    else if bytes_eq name (codes "mbr") then mbr_in sector words
+    else if bytes_eq name (codes "check") then check_in sector words
+    else if bytes_eq name (codes "show") then show_in sector words
+    else if bytes_eq name (codes "free") then free_in sector words
+    else change_in sector name words
+
 -- `SECTOR COMMAND ..`
 abbrev pub command_in : List (List ℕ) → Option Command
-command_in (sector ∷ name ∷ words) =
-    if bytes_eq name (codes "new") then new_in sector words
-    else if bytes_eq name (codes "show") then show_in sector words
-    else None
+command_in (sector ∷ name ∷ words) = named_command_in sector name words
 command_in _ = None
 
--- the size of a sector, where there is one, is above 0
+-- the size and the alignment of an addition are above 0
+abbrev pub IsSizedAddition : Addition → Type 0
+IsSizedAddition a = (0 < a.size) × (0 < a.align)
+
+abbrev pub IsSizedChange : Change → Type 0
+IsSizedChange (Add a) = IsSizedAddition a
+IsSizedChange (Remove number) = Unit {0}
+IsSizedChange Sort = Unit {0}
+IsSizedChange Grow = Unit {0}
+
+-- each size of a command is above 0
 abbrev pub IsSized : Command → Type 0
 IsSized (New size guid) = 0 < size
+IsSized (Mbr size bootable) = 0 < size
+IsSized (Check size) = 0 < size
 IsSized (Show size) = IfSome size (λ n. 0 < n)
+IsSized (Free size align) = IfSome size (λ n. 0 < n) × (0 < align)
+IsSized (Changing size change) = IfSome size (λ n. 0 < n) × IsSizedChange change

@@ -1,17 +1,30 @@
 //! What the commands do to a disk. Nothing is printed here.
 
-ghost use Rattle.std.specs.Prelude.{◌≡◌, ◌⊎◌, ◌<◌, ℕ, List, Option, IsTrue, IfOk, IfSome, OnOk, OnErr};
-ghost use Rattle.gptman.specs.Disk.{Keeps, Rose, Wrote};
+ghost use Rattle.std.specs.Prelude.{◌≡◌, ◌⊎◌, ◌<◌, ◌∷◌, [], ℕ, Bool, List, Option, IsTrue, IfOk, IfSome, OnOk, OnErr};
+ghost use Rattle.gptman.specs.Disk.{Keeps, Rose, Wrote, overlay};
 ghost use Rattle.gptman.specs.Calls.{OnlyRead, Untouched};
 ghost use Rattle.gptman.specs.Layout.{HasLayout};
+ghost use Rattle.gptman.specs.Mbr.{mbr_bytes};
 ghost use Rattle.gptman.specs.Stop.{IsStored};
+ghost use Rattle.gptman.specs.Table.{entries_in, IsCoherent};
 ghost use Rattle.gptman.specs.Write.{both_ranges};
-ghost use Rattle.gptimg_core.specs.Words.{IsSized};
-ghost use Rattle.gptimg_core.specs.Asks.{made_header, made_table, IsRead, TellsTable};
+ghost use Rattle.gptimg_core.specs.Words.{IsSized, IsSizedChange};
+ghost use Rattle.gptimg_core.specs.Asks.{made_header, made_table, IsReader};
+ghost use Rattle.gptimg_core.specs.Reads.{AreSlotsIn, IsReadFrom, TellsOfTable};
+ghost use Rattle.gptimg_core.specs.Changes.{report_of, LeavesChange, MakesChange};
+ghost use Rattle.gptimg_core.specs.Checks.{is_good, TellsCopies};
+ghost use Rattle.gptimg_core.specs.declared.commands.Report.TheVariants.{Written, Table};
+ghost use Rattle.gptimg_core.specs.declared.words.Change.{Change};
+ghost use Rattle.gptimg_core.specs.declared.words.Command.TheVariants.{New, Mbr, Check, Show, Free, Change as Changing};
 
-use crate::words::Command;
+use crate::commands::change::make_change;
+use crate::commands::check::{BothCopies, check};
+use crate::words::{Change, Command};
 use gptman::{Disk, GPT, Result};
 use std::alloc::Global;
+
+pub mod change;
+pub mod check;
 
 /// What a command that is done has to tell.
 #[derive(Drop)]
@@ -20,33 +33,68 @@ pub enum Report {
     Written,
     /// The table on the disk.
     Table(GPT),
+    /// The slots of free sectors, each with its first sector and its length.
+    Slots(Vec<(u64, u64)>),
+    /// A partition was added under this number, from its first sector to its last.
+    Added { number: u32, first: u64, last: u64 },
+    /// What the two copies are.
+    Copies(BothCopies),
 }
 
 /// Does what is asked for.
 ///
-/// The errors are those of making, reading and writing a table.
+/// The errors are those of making, reading, changing and writing a table, and of writing an MBR.
 pub fn perform<D: Disk>(alloc: Global, command: &Command, disk: &mut D) -> Result<Report>
     requires { IsSized command.now }
     ensures keeps { Keeps (D.state disk.old) (D.state disk.new) }
-    ensures shown { IsTrue (D.state disk.old).is_honest → (size : Option ℕ) → command.now ≡ Command.Show size
-        → OnlyRead (D.state disk.old) (D.state disk.new) }
-    ensures told { IsTrue (D.state disk.old).is_honest → (size : Option ℕ) → command.now ≡ Command.Show size
-        → Rose (D.state disk.old) (D.state disk.new) ⊎ IfOk result (TellsTable (D.state disk.old).view size) }
-    ensures wrote { IsTrue (D.state disk.old).is_honest → (ss : ℕ) (guid : List ℕ) → command.now ≡ Command.New ss guid
-        → Wrote (both_ranges (made_header guid ss (D.state disk.old).size) ss) (D.state disk.old) (D.state disk.new) }
-    ensures stored { IsTrue (D.state disk.old).is_honest → (ss : ℕ) (guid : List ℕ) → command.now ≡ Command.New ss guid
-        → let size = (D.state disk.old).size in HasLayout (made_header guid ss size) (made_table guid ss size) ss size
-        → OnOk result (IsStored (D.state disk.new) ss (made_table guid ss size)) }
     ensures kept { IsTrue (D.state disk.old).is_honest
         → OnErr result (Rose (D.state disk.old) (D.state disk.new) ⊎ Untouched (D.state disk.old) (D.state disk.new)) }
-    ensures written { (ss : ℕ) (guid : List ℕ) → command.now ≡ Command.New ss guid → IfOk result (λ report. report ≡ Report.Written) }
+    ensures good { IfOk result (λ report. IsTrue (is_good report) ⊎ ((ss : ℕ) × (command.now ≡ Check ss))) }
+
+    // Commands that read.
+    ensures reads { IsTrue (D.state disk.old).is_honest → IsReader command.now → OnlyRead (D.state disk.old) (D.state disk.new) }
+    ensures shown { IsTrue (D.state disk.old).is_honest → (size : Option ℕ) → command.now ≡ Show size
+        → IfOk result (λ report. TellsOfTable (λ g. report ≡ Table g) size (D.state disk.old) (D.state disk.new)) }
+    ensures free { IsTrue (D.state disk.old).is_honest → (size : Option ℕ) (align : ℕ) → command.now ≡ Free size align
+        → IfOk result (λ report. TellsOfTable (λ g. AreSlotsIn g align report) size (D.state disk.old) (D.state disk.new)) }
+    ensures checked { IsTrue (D.state disk.old).is_honest → (ss : ℕ) → command.now ≡ Check ss
+        → IfOk result (TellsCopies ss (D.state disk.old) (D.state disk.new)) }
+
+    // A new table.
+    ensures wrote { IsTrue (D.state disk.old).is_honest → (ss : ℕ) (guid : List ℕ) → command.now ≡ New ss guid
+        → Wrote (both_ranges (made_header guid ss (D.state disk.old).size) ss) (D.state disk.old) (D.state disk.new) }
+    ensures stored { IsTrue (D.state disk.old).is_honest → (ss : ℕ) (guid : List ℕ) → command.now ≡ New ss guid
+        → let size = (D.state disk.old).size in HasLayout (made_header guid ss size) (made_table guid ss size) ss size
+        → OnOk result (IsStored (D.state disk.new) ss (made_table guid ss size)) }
+    ensures made { (ss : ℕ) (guid : List ℕ) → command.now ≡ New ss guid → IfOk result (λ report. report ≡ Written) }
+
+    // An MBR.
+    ensures mbr_wrote { IsTrue (D.state disk.old).is_honest → (ss : ℕ) (bootable : Bool) → command.now ≡ Mbr ss bootable
+        → Wrote ((446, 66) ∷ []) (D.state disk.old) (D.state disk.new) }
+    ensures mbr_laid { IsTrue (D.state disk.old).is_honest → (ss : ℕ) (bootable : Bool) → command.now ≡ Mbr ss bootable
+        → IfOk result (λ report. (report ≡ Written)
+        × ((D.state disk.new).view ≡ overlay (D.state disk.old).view 446 (mbr_bytes bootable ss (D.state disk.old).size))
+        × ((D.state disk.new).pending ≡ [])) }
+
+    // A changed table.
+    ensures changed { IsTrue (D.state disk.old).is_honest → (size : Option ℕ) (change : Change) → command.now ≡ Changing size change
+        → IfOk result (λ report. MakesChange (λ g. report ≡ report_of change g) size change (D.state disk.old) (D.state disk.new)) }
+    ensures leaves { IsTrue (D.state disk.old).is_honest → (size : Option ℕ) (change : Change) → command.now ≡ Changing size change
+        → LeavesChange size change (D.state disk.old) (D.state disk.new) }
 {
-    match *command {
-        Command::New { sector_size, guid } => {
-            write_new(alloc, disk, sector_size, guid)?;
-            Ok(Report::Written)
-        }
-        Command::Show { sector_size } => Ok(Report::Table(read_table(alloc, disk, sector_size)?)),
+    match command {
+        Command::New { sector_size, guid } => write_new(alloc, disk, *sector_size, *guid),
+        Command::Mbr {
+            sector_size,
+            bootable,
+        } => write_mbr(disk, *sector_size, *bootable),
+        Command::Check { sector_size } => Ok(Report::Copies(check(alloc, disk, *sector_size)?)),
+        Command::Show { sector_size } => Ok(Report::Table(read_table(alloc, disk, *sector_size)?)),
+        Command::Free { sector_size, align } => list_free(alloc, disk, *sector_size, *align),
+        Command::Change {
+            sector_size,
+            change,
+        } => change_table(alloc, disk, *sector_size, change),
     }
 }
 
@@ -55,8 +103,9 @@ fn read_table<D: Disk>(alloc: Global, disk: &mut D, sector_size: Option<u64>) ->
     requires { IfSome sector_size (λ size. 0 < size) }
     ensures keeps { Keeps (D.state disk.old) (D.state disk.new) }
     ensures reads { IsTrue (D.state disk.old).is_honest → OnlyRead (D.state disk.old) (D.state disk.new) }
-    ensures read { IsTrue (D.state disk.old).is_honest → Rose (D.state disk.old) (D.state disk.new)
-        ⊎ IfOk result (IsRead (D.state disk.old).view sector_size) }
+    ensures read { IsTrue (D.state disk.old).is_honest → IfOk result (IsReadFrom sector_size (D.state disk.old) (D.state disk.new)) }
+    ensures coherent { IfOk result (λ g. IsCoherent g.header (entries_in g)) }
+    ensures sized { IfOk result (λ g. 0 < g.sector_size) }
 {
     match sector_size {
         Some(size) => GPT::read_from(alloc, disk, size),
@@ -64,10 +113,36 @@ fn read_table<D: Disk>(alloc: Global, disk: &mut D, sector_size: Option<u64>) ->
     }
 }
 
+// The slots of free sectors that begin at multiples of so many sectors.
+fn list_free<D: Disk>(
+    alloc: Global,
+    disk: &mut D,
+    sector_size: Option<u64>,
+    align: u64,
+) -> Result<Report>
+    requires sized { IfSome sector_size (λ size. 0 < size) }
+    requires aligned { 0 < align }
+    ensures keeps { Keeps (D.state disk.old) (D.state disk.new) }
+    ensures reads { IsTrue (D.state disk.old).is_honest → OnlyRead (D.state disk.old) (D.state disk.new) }
+    ensures good { IfOk result (λ report. IsTrue (is_good report)) }
+    ensures slots { IsTrue (D.state disk.old).is_honest
+        → IfOk result (λ report. TellsOfTable (λ g. AreSlotsIn g align report) sector_size (D.state disk.old) (D.state disk.new)) }
+{
+    let mut table = read_table(alloc, disk, sector_size)?;
+    table.align = align;
+    Ok(Report::Slots(table.find_free_sectors()?))
+}
+
 // Writes a new table to both places of the disk.
-fn write_new<D: Disk>(alloc: Global, disk: &mut D, sector_size: u64, guid: [u8; 16]) -> Result<()>
+fn write_new<D: Disk>(
+    alloc: Global,
+    disk: &mut D,
+    sector_size: u64,
+    guid: [u8; 16],
+) -> Result<Report>
     requires { 0 < sector_size }
     ensures keeps { Keeps (D.state disk.old) (D.state disk.new) }
+    ensures made { IfOk result (λ report. report ≡ Written) }
     ensures wrote { IsTrue (D.state disk.old).is_honest
         → Wrote (both_ranges (made_header guid sector_size (D.state disk.old).size) sector_size) (D.state disk.old) (D.state disk.new) }
     ensures stored { IsTrue (D.state disk.old).is_honest → let size = (D.state disk.old).size
@@ -78,5 +153,62 @@ fn write_new<D: Disk>(alloc: Global, disk: &mut D, sector_size: u64, guid: [u8; 
 {
     let mut table = GPT::new_from(alloc, disk, sector_size, guid)?;
     table.write_into(disk)?;
-    Ok(())
+    Ok(Report::Written)
+}
+
+// Writes a protective MBR and syncs it.
+fn write_mbr<D: Disk>(disk: &mut D, sector_size: u64, bootable: bool) -> Result<Report>
+    requires { 0 < sector_size }
+    ensures keeps { Keeps (D.state disk.old) (D.state disk.new) }
+    ensures made { IfOk result (λ report. report ≡ Written) }
+    ensures wrote { IsTrue (D.state disk.old).is_honest → Wrote ((446, 66) ∷ []) (D.state disk.old) (D.state disk.new) }
+    ensures laid { IsTrue (D.state disk.old).is_honest
+        → OnOk result ((D.state disk.new).view ≡ overlay (D.state disk.old).view 446 (mbr_bytes bootable sector_size (D.state disk.old).size)) }
+    ensures synced { IsTrue (D.state disk.old).is_honest → OnOk result ((D.state disk.new).pending ≡ []) }
+    ensures kept { IsTrue (D.state disk.old).is_honest
+        → OnErr result (Rose (D.state disk.old) (D.state disk.new) ⊎ Untouched (D.state disk.old) (D.state disk.new)) }
+{
+    lay_mbr(disk, sector_size, bootable)?;
+    disk.sync()?;
+    Ok(Report::Written)
+}
+
+// Writes a protective MBR, which is not synced.
+fn lay_mbr<D: Disk>(disk: &mut D, sector_size: u64, bootable: bool) -> Result<()>
+    requires { 0 < sector_size }
+    ensures keeps { Keeps (D.state disk.old) (D.state disk.new) }
+    ensures wrote { IsTrue (D.state disk.old).is_honest → Wrote ((446, 66) ∷ []) (D.state disk.old) (D.state disk.new) }
+    ensures laid { IsTrue (D.state disk.old).is_honest
+        → OnOk result ((D.state disk.new).view ≡ overlay (D.state disk.old).view 446 (mbr_bytes bootable sector_size (D.state disk.old).size)) }
+    ensures kept { IsTrue (D.state disk.old).is_honest
+        → OnErr result (Rose (D.state disk.old) (D.state disk.new) ⊎ Untouched (D.state disk.old) (D.state disk.new)) }
+{
+    if bootable {
+        GPT::write_bootable_protective_mbr_into(disk, sector_size)
+    } else {
+        GPT::write_protective_mbr_into(disk, sector_size)
+    }
+}
+
+// Reads the table, changes it and writes it to both places.
+fn change_table<D: Disk>(
+    alloc: Global,
+    disk: &mut D,
+    sector_size: Option<u64>,
+    change: &Change,
+) -> Result<Report>
+    requires sector { IfSome sector_size (λ size. 0 < size) }
+    requires sized { IsSizedChange change.now }
+    ensures keeps { Keeps (D.state disk.old) (D.state disk.new) }
+    ensures kept { IsTrue (D.state disk.old).is_honest
+        → OnErr result (Rose (D.state disk.old) (D.state disk.new) ⊎ Untouched (D.state disk.old) (D.state disk.new)) }
+    ensures good { IfOk result (λ report. IsTrue (is_good report)) }
+    ensures changed { IsTrue (D.state disk.old).is_honest
+        → IfOk result (λ report. MakesChange (λ g. report ≡ report_of change.now g) sector_size change.now (D.state disk.old) (D.state disk.new)) }
+    ensures leaves { IsTrue (D.state disk.old).is_honest → LeavesChange sector_size change.now (D.state disk.old) (D.state disk.new) }
+{
+    let mut table = read_table(alloc, disk, sector_size)?;
+    let report = make_change(alloc, disk, &mut table, change)?;
+    table.write_into(disk)?;
+    Ok(report)
 }

@@ -4,18 +4,27 @@
 //! standard output.
 #![tactic(auto)]
 
-ghost use Rattle.std.specs.Prelude.{◌≡◌, ◌≤◌, ◌↔◌, ◌⊎◌, ℕ, List, Option, Ok, None, codes, IsTrue, IfOk, IfErr, OnOk};
+ghost use Rattle.std.specs.Prelude.{◌≡◌, ◌≤◌, ◌↔◌, ◌⊎◌, ◌∷◌, [], ℕ, Bool, List, Option, Ok, None, true, false, codes, if◌then◌else◌, IsTrue, IfOk, IfErr, OnOk};
 ghost use Rattle.std.specs.Io.KnownBytes.{Appends};
-ghost use Rattle.gptman.specs.Disk.{Keeps, Rose, Wrote};
-ghost use Rattle.gptman.specs.Fault.{Fault, fault_of, io as io_fault};
+ghost use Rattle.gptman.specs.Disk.{Keeps, Rose, Wrote, overlay};
+ghost use Rattle.gptman.specs.Fault.{fault_of, io as io_fault};
 ghost use Rattle.gptman.specs.Calls.{OnlyRead, Untouched};
 ghost use Rattle.gptman.specs.Layout.{HasLayout};
+ghost use Rattle.gptman.specs.Mbr.{mbr_bytes};
 ghost use Rattle.gptman.specs.Stop.{IsStored};
 ghost use Rattle.gptman.specs.Write.{both_ranges};
-ghost use Rattle.gptimg_core.specs.Asks.{AskForNew, AskToShow, PrintsTable, made_header, made_table};
-ghost use Rattle.gptimg_core.specs.Names.{fault_line};
+ghost use Rattle.gptimg_core.specs.Asks.{made_header, made_table, AskFor, IsReader};
+ghost use Rattle.gptimg_core.specs.Changes.{report_of, LeavesChange, MakesChange};
+ghost use Rattle.gptimg_core.specs.Checks.{is_good, HoldOneTable};
+ghost use Rattle.gptimg_core.specs.Lines.{report_lines, table_lines};
+ghost use Rattle.gptimg_core.specs.Prints.{PrintsCopies, PrintsFault, PrintsSlots};
+ghost use Rattle.gptimg_core.specs.Reads.{TellsOfTable};
 ghost use Rattle.gptimg_core.specs.Words.{command_in, texts_of};
+ghost use Rattle.gptimg_core.specs.declared.words.Change.{Change};
+ghost use Rattle.gptimg_core.specs.declared.words.Command.{Command};
+ghost use Rattle.gptimg_core.specs.declared.words.Command.TheVariants.{New, Mbr, Check, Show, Free, Change as Changing};
 
+use crate::commands::Report;
 use gptman::{Disk, Result};
 use std::alloc::Global;
 use std::io::Write;
@@ -37,12 +46,22 @@ const FAULT: u8 = 1;
 const NO_COMMAND: u8 = 2;
 
 /// Does on the disk what the words `SECTOR COMMAND ..` ask for, and prints the outcome to `out`.
-/// SECTOR is the size of a sector in bytes, or for `show` the word `auto`: then it is found.
-/// Answers the status to end with: 0 where the command is done, 1 where it was refused, 2 where the
-/// words are none of a command.
+/// SECTOR is the size of a sector in bytes, or but for `new`, `mbr` and `check` the word `auto`: then
+/// it is found. Answers the status to end with: 0 where the command is done, 1 where it was refused,
+/// 2 where the words are none of a command.
 ///
 /// - `new GUID` writes a new table with this disk GUID, in both places, and prints `ok`.
 /// - `show` prints a line that says what the table on the disk is, and a line for each used entry.
+/// - `free ALIGN` prints the slots of free sectors that begin at multiples of ALIGN, each as
+///   `START LENGTH`.
+/// - `add NUMBER TYPE UNIQUE SIZE WHERE ALIGN NAME` adds a partition of SIZE sectors at a multiple of
+///   ALIGN, under the number of an unused entry, and prints `NUMBER START..END`. WHERE is `first`,
+///   `last`, or `best`: the start of the shortest slot that has room.
+/// - `remove NUMBER` and `sort` remove an entry, and put the entries in order, and print `ok`.
+/// - `grow` fits the table to the length of the disk, and prints `ok`.
+/// - `mbr KIND` writes a protective MBR, `plain` or `bootable`, and prints `ok`.
+/// - `check` prints of each copy whether it is good or its fault, and whether both are one table. Its
+///   status is 0 only where they are.
 ///
 /// A refused command prints `fault: NAME` and no other line. Words of no command print the usage
 /// line, and the disk is left alone.
@@ -61,28 +80,52 @@ pub fn run<D: Disk, W: Write>(
     ensures asks { IfOk result (λ status. (status ≡ 2) ↔ (command_in (texts_of words.now) ≡ None)) }
     ensures refused { IfErr result (λ e. fault_of e ≡ io_fault) }
 
-    // What is printed.
-    ensures prints_usage { command_in (texts_of words.now) ≡ None → OnOk result (Appends (W.contents out.old) (W.contents out.new) USAGE.now) }
-    ensures prints_fault { result ≡ Ok 1 → (fault : Fault) × Appends (W.contents out.old) (W.contents out.new) (fault_line fault) }
-    ensures prints_ok { (ss : ℕ) (guid : List ℕ) → AskForNew words.now ss guid
-        → result ≡ Ok 0 → Appends (W.contents out.old) (W.contents out.new) (codes "ok\n") }
-    ensures prints_table { IsTrue (D.state disk.old).is_honest → (size : Option ℕ) → AskToShow words.now size → result ≡ Ok 0
-        → Rose (D.state disk.old) (D.state disk.new) ⊎ PrintsTable (D.state disk.old).view size (W.contents out.old) (W.contents out.new) }
-
-    // Words of no command leave the disk alone.
+    // Words of no command leave the disk alone, and print how the program is used.
     ensures usage { result ≡ Ok 2 → disk.new ≡ disk.old }
     ensures not_asked { command_in (texts_of words.now) ≡ None → disk.new ≡ disk.old }
+    ensures prints_usage { command_in (texts_of words.now) ≡ None → OnOk result (Appends (W.contents out.old) (W.contents out.new) USAGE.now) }
 
-    // What becomes of an honest disk.
-    ensures shown { IsTrue (D.state disk.old).is_honest → (size : Option ℕ) → AskToShow words.now size
-        → OnlyRead (D.state disk.old) (D.state disk.new) }
+    // A refused command prints its fault, and leaves the disk as it was unless it failed.
+    ensures prints_fault { result ≡ Ok 1 → PrintsFault (W.contents out.old) (W.contents out.new) ⊎ ((ss : ℕ) × AskFor words.now (Check ss)) }
     ensures kept { IsTrue (D.state disk.old).is_honest → result ≡ Ok 1
         → Rose (D.state disk.old) (D.state disk.new) ⊎ Untouched (D.state disk.old) (D.state disk.new) }
-    ensures wrote { IsTrue (D.state disk.old).is_honest → (ss : ℕ) (guid : List ℕ) → AskForNew words.now ss guid
+
+    // Commands that read.
+    ensures reads { IsTrue (D.state disk.old).is_honest → (command : Command) → AskFor words.now command → IsReader command
+        → OnlyRead (D.state disk.old) (D.state disk.new) }
+    ensures shown { IsTrue (D.state disk.old).is_honest → (size : Option ℕ) → AskFor words.now (Show size) → result ≡ Ok 0
+        → TellsOfTable (λ g. Appends (W.contents out.old) (W.contents out.new) (table_lines g)) size (D.state disk.old) (D.state disk.new) }
+    ensures free { IsTrue (D.state disk.old).is_honest → (size : Option ℕ) (align : ℕ) → AskFor words.now (Free size align) → result ≡ Ok 0
+        → TellsOfTable (λ g. PrintsSlots g align (W.contents out.old) (W.contents out.new)) size (D.state disk.old) (D.state disk.new) }
+    ensures same { IsTrue (D.state disk.old).is_honest → (ss : ℕ) → AskFor words.now (Check ss) → result ≡ Ok 0
+        → HoldOneTable (D.state disk.old).view ss
+        × Appends (W.contents out.old) (W.contents out.new) (codes "primary ok\nbackup ok\nsame yes\n") }
+    ensures differ { IsTrue (D.state disk.old).is_honest → (ss : ℕ) → AskFor words.now (Check ss) → result ≡ Ok 1
+        → PrintsFault (W.contents out.old) (W.contents out.new)
+        ⊎ PrintsCopies ss false (D.state disk.old) (D.state disk.new) (W.contents out.old) (W.contents out.new) }
+
+    // A new table.
+    ensures prints_ok { (ss : ℕ) (guid : List ℕ) → AskFor words.now (New ss guid)
+        → result ≡ Ok 0 → Appends (W.contents out.old) (W.contents out.new) (codes "ok\n") }
+    ensures wrote { IsTrue (D.state disk.old).is_honest → (ss : ℕ) (guid : List ℕ) → AskFor words.now (New ss guid)
         → Wrote (both_ranges (made_header guid ss (D.state disk.old).size) ss) (D.state disk.old) (D.state disk.new) }
-    ensures stored { IsTrue (D.state disk.old).is_honest → (ss : ℕ) (guid : List ℕ) → AskForNew words.now ss guid
+    ensures stored { IsTrue (D.state disk.old).is_honest → (ss : ℕ) (guid : List ℕ) → AskFor words.now (New ss guid)
         → HasLayout (made_header guid ss (D.state disk.old).size) (made_table guid ss (D.state disk.old).size) ss (D.state disk.old).size
         → result ≡ Ok 0 → IsStored (D.state disk.new) ss (made_table guid ss (D.state disk.old).size) }
+
+    // A protective MBR.
+    ensures mbr_wrote { IsTrue (D.state disk.old).is_honest → (ss : ℕ) (bootable : Bool) → AskFor words.now (Mbr ss bootable)
+        → Wrote ((446, 66) ∷ []) (D.state disk.old) (D.state disk.new) }
+    ensures mbr_stored { IsTrue (D.state disk.old).is_honest → (ss : ℕ) (bootable : Bool) → AskFor words.now (Mbr ss bootable) → result ≡ Ok 0
+        → Appends (W.contents out.old) (W.contents out.new) (codes "ok\n")
+        × ((D.state disk.new).view ≡ overlay (D.state disk.old).view 446 (mbr_bytes bootable ss (D.state disk.old).size))
+        × ((D.state disk.new).pending ≡ []) }
+
+    // A changed table: what is stored is the table that was read, after that change.
+    ensures changed { IsTrue (D.state disk.old).is_honest → (size : Option ℕ) (change : Change) → AskFor words.now (Changing size change) → result ≡ Ok 0
+        → MakesChange (λ g. Appends (W.contents out.old) (W.contents out.new) (report_lines (report_of change g))) size change (D.state disk.old) (D.state disk.new) }
+    ensures leaves { IsTrue (D.state disk.old).is_honest → (size : Option ℕ) (change : Change) → AskFor words.now (Changing size change)
+        → LeavesChange size change (D.state disk.old) (D.state disk.new) }
 {
     let Some(command) = words::parse(words) else {
         out.write_all(USAGE.as_bytes())?;
@@ -91,11 +134,21 @@ pub fn run<D: Disk, W: Write>(
     match commands::perform(alloc, &command, disk) {
         Ok(report) => {
             lines::print_report(out, &report)?;
-            Ok(DONE)
+            Ok(status_of(&report))
         }
         Err(fault) => {
             lines::print_fault(out, &fault)?;
             Ok(FAULT)
         }
+    }
+}
+
+// The status to end with, where this is what there is to tell.
+fn status_of(report: &Report) -> u8
+    ensures { result ≡ (if is_good report.now then 0 else 1) }
+{
+    match report {
+        Report::Copies(copies) if !copies.are_same => FAULT,
+        _ => DONE,
     }
 }

@@ -8,24 +8,72 @@ ghost use Rattle.std.specs.List.{enumerate_from};
 ghost use Rattle.gptman.specs.Fault.{fault_of};
 ghost use Rattle.gptman.specs.Table.{entries_in};
 ghost use Rattle.gptimg_core.specs.Names.{fault_line, fault_name, variant_name};
-ghost use Rattle.gptimg_core.specs.Lines.{entry_line, entry_lines, form_name as form_name_of, shown_byte, shown_text, table_line, table_lines};
+ghost use Rattle.gptimg_core.specs.Lines.{check_lines, copy_line, entry_line, entry_lines, form_name as form_name_of, report_lines, shown_byte, shown_text, slot_lines, table_line, table_lines};
+ghost use Rattle.gptimg_core.specs.Checks.{seen_as};
+ghost use Rattle.gptman.specs.Calls.{answer_of};
 
 use crate::commands::Report;
-use gptman::{Error, GPT, GPTHeader, GPTPartitionEntry};
+use crate::commands::check::{BothCopies, FoundCopy};
+use gptman::{Error, GPT, GPTHeader, GPTPartitionEntry, Result};
 use std::io;
 use std::io::Write;
 
-/// Prints what a command did.
+/// Prints what a command has to tell.
 ///
 /// An error comes only where `out` failed.
 pub fn print_report<W: Write>(out: &mut W, report: &Report) -> io::Result<()>
-    ensures written { report.now ≡ Report.Written → OnOk result (Appends (W.contents out.old) (W.contents out.new) (codes "ok\n")) }
-    ensures table { (table : GPT) → report.now ≡ Report.Table table → OnOk result (Appends (W.contents out.old) (W.contents out.new) (table_lines table)) }
+    ensures { OnOk result (Appends (W.contents out.old) (W.contents out.new) (report_lines report.now)) }
 {
     match report {
         Report::Written => out.write_all(b"ok\n"),
         Report::Table(table) => print_table(out, table),
+        Report::Slots(slots) => print_slots(out, slots.as_slice()),
+        Report::Added {
+            number,
+            first,
+            last,
+        } => writeln!(out, "{number} {first}..{last}"),
+        Report::Copies(copies) => print_copies(out, copies),
     }
+}
+
+// Prints a line for each slot: its start and its length.
+fn print_slots<W: Write>(out: &mut W, slots: &[(u64, u64)]) -> io::Result<()>
+    ensures { OnOk result (Appends (W.contents out.old) (W.contents out.new) (slot_lines slots.now)) }
+{
+    for slot in slots {
+        let (start, length) = *slot;
+        writeln!(out, "{start} {length}")?;
+    }
+    Ok(())
+}
+
+// Prints what the two copies are, and whether they are one table.
+fn print_copies<W: Write>(out: &mut W, copies: &BothCopies) -> io::Result<()>
+    ensures { OnOk result (Appends (W.contents out.old) (W.contents out.new)
+        (check_lines (answer_of seen_as copies.now.primary) (answer_of seen_as copies.now.backup) copies.now.are_same)) }
+{
+    print_copy(out, "primary", &copies.primary)?;
+    print_copy(out, "backup", &copies.backup)?;
+    let same = if copies.are_same {
+        "same yes\n"
+    } else {
+        "same no\n"
+    };
+    out.write_all(same.as_bytes())
+}
+
+// Prints that the copy at the place of this name is good, or its fault.
+fn print_copy<W: Write>(out: &mut W, place: &str, copy: &Result<FoundCopy>) -> io::Result<()>
+    ensures { OnOk result (Appends (W.contents out.old) (W.contents out.new) (copy_line place.now (answer_of seen_as copy.now))) }
+{
+    out.write_all(place.as_bytes())?;
+    let Err(fault) = copy else {
+        return out.write_all(b" ok\n");
+    };
+    out.write_all(b" fault ")?;
+    print_name(out, fault)?;
+    out.write_all(b"\n")
 }
 
 // Prints the table's own line, and a line for each used entry. GUIDs are printed as 32 lower-case

@@ -2,39 +2,142 @@
 //!
 //! No disk is known here. Words that ask for no command are `None`, whatever is wrong with them.
 
-ghost use Rattle.std.specs.Prelude.{◌≡◌, ◌<◌, IfSome};
-ghost use Rattle.std.specs.List.{list_all};
-ghost use Rattle.std.specs.Char.{is_ascii_digit};
-ghost use Rattle.gptimg_core.specs.Words.{command_in, guid_in, new_in, number_in, sector_size_in, sectors_in, show_in, texts_of, IsSized};
+ghost use Rattle.std.specs.Prelude.{◌≡◌, IfSome};
+ghost use Rattle.gptimg_core.specs.Words.{addition_in, alone, change_in, named_change_in, named_command_in, check_in, command_in, free_in, mbr_in, new_in, remove_in, show_in, texts_of, IsSized, IsSizedAddition, IsSizedChange};
 
-use hex::FromHex;
+use crate::words::values::{
+    parse_choice, parse_entry_number, parse_guid, parse_kind, parse_sectors, parse_size, parse_type,
+};
+use std::marker::Model;
 
-/// What a command line asks for. Sizes of sectors are in bytes, and above 0.
-#[derive(Clone, Copy)]
-pub enum Command {
+mod values;
+
+/// What a command line asks for. Sizes of sectors are in bytes, and above 0. Where there is none, it
+/// is to be found.
+#[derive(Drop)]
+pub enum Command<'a> {
     /// To write a new table with this disk GUID.
-    New { sector_size: u64, guid: [u8; 16] },
-    /// To print what the table on the disk is. With no size it is to be found.
-    Show { sector_size: Option<u64> },
+    New {
+        sector_size: u64,
+        guid: [u8; 16],
+    },
+    /// To write a protective MBR.
+    Mbr {
+        sector_size: u64,
+        bootable: bool,
+    },
+    /// To look at both copies of the table.
+    Check {
+        sector_size: u64,
+    },
+    /// To print what the table on the disk is.
+    Show {
+        sector_size: Option<u64>,
+    },
+    /// To print the free sectors, as slots that begin at multiples of so many sectors.
+    Free {
+        sector_size: Option<u64>,
+        align: u64,
+    },
+    /// To change the table on the disk.
+    Change {
+        sector_size: Option<u64>,
+        change: Change<'a>,
+    },
+}
+
+/// A change of the table.
+#[derive(Drop)]
+pub enum Change<'a> {
+    /// A partition is added.
+    Add(Addition<'a>),
+    /// The entry of this number is removed.
+    Remove(u32),
+    /// The entries are put in order.
+    Sort,
+    /// The table is fitted to the length of the disk.
+    Grow,
+}
+
+/// A partition that is to be added. Its size and its alignment are in sectors, and above 0.
+#[derive(Drop)]
+pub struct Addition<'a> {
+    /// The number of its entry.
+    pub number: u32,
+    /// The type of the partition, not all zero.
+    pub type_guid: [u8; 16],
+    /// The GUID of the partition.
+    pub unique_guid: [u8; 16],
+    /// How many sectors it has.
+    pub size: u64,
+    /// Which of the free places it gets.
+    pub choice: Choice,
+    /// It begins at a multiple of so many sectors.
+    pub align: u64,
+    /// Its name.
+    pub name: Word<'a>,
+}
+
+/// A word as it was given. Contracts see its bytes.
+#[derive(Drop)]
+pub struct Word<'a>(&'a str);
+
+impl<'a> Model for Word<'a> {
+    ghost use Rattle.std.specs.Prelude.{ℕ, List};
+
+    ghost Value = { List ℕ };
+
+    ghost view = { λ word. word.0.now };
+}
+
+impl Word<'_> {
+    /// The text of the word.
+    pub fn as_str(&self) -> &str
+        ensures { result.now ≡ self.now }
+    {
+        self.0
+    }
+}
+
+/// Which of the free places a partition gets.
+#[derive(Clone, Copy)]
+pub enum Choice {
+    /// The first.
+    First,
+    /// The last.
+    Last,
+    /// The start of the shortest slot that has room.
+    Best,
 }
 
 /// What the words `SECTOR COMMAND ..` ask for.
-pub fn parse(words: &[String]) -> Option<Command>
+pub fn parse(words: &[String]) -> Option<Command<'_>>
     ensures sized { IfSome result IsSized }
     ensures value { result ≡ command_in (texts_of words.now) }
 {
     let [sector, name, arguments @ ..] = words else {
         return None;
     };
-    match name.as_str() {
-        "new" => parse_new(sector.as_str(), arguments),
-        "show" => parse_show(sector.as_str(), arguments),
-        _ => None,
+    parse_command(sector.as_str(), name.as_str(), arguments)
+}
+
+// The command of this name, with the word for the size of a sector.
+fn parse_command<'a>(sector: &str, name: &str, arguments: &'a [String]) -> Option<Command<'a>>
+    ensures sized { IfSome result IsSized }
+    ensures value { result ≡ named_command_in sector.now name.now (texts_of arguments.now) }
+{
+    match name {
+        "new" => parse_new(sector, arguments),
+        "mbr" => parse_mbr(sector, arguments),
+        "check" => parse_check(sector, arguments),
+        "show" => parse_show(sector, arguments),
+        "free" => parse_free(sector, arguments),
+        _ => parse_change(sector, name, arguments),
     }
 }
 
 // `new GUID`, with the size of a sector.
-fn parse_new(sector: &str, arguments: &[String]) -> Option<Command>
+fn parse_new<'a>(sector: &str, arguments: &'a [String]) -> Option<Command<'a>>
     ensures sized { IfSome result IsSized }
     ensures value { result ≡ new_in sector.now (texts_of arguments.now) }
 {
@@ -42,13 +145,40 @@ fn parse_new(sector: &str, arguments: &[String]) -> Option<Command>
         return None;
     };
     Some(Command::New {
-        sector_size: parse_sector_size(sector)?,
+        sector_size: parse_size(sector)?,
         guid: parse_guid(guid.as_str())?,
     })
 }
 
+// `mbr KIND`, with the size of a sector.
+fn parse_mbr<'a>(sector: &str, arguments: &'a [String]) -> Option<Command<'a>>
+    ensures sized { IfSome result IsSized }
+    ensures value { result ≡ mbr_in sector.now (texts_of arguments.now) }
+{
+    let [kind] = arguments else {
+        return None;
+    };
+    Some(Command::Mbr {
+        sector_size: parse_size(sector)?,
+        bootable: parse_kind(kind.as_str())?,
+    })
+}
+
+// `check`, with the size of a sector.
+fn parse_check<'a>(sector: &str, arguments: &'a [String]) -> Option<Command<'a>>
+    ensures sized { IfSome result IsSized }
+    ensures value { result ≡ check_in sector.now (texts_of arguments.now) }
+{
+    if !arguments.is_empty() {
+        return None;
+    }
+    Some(Command::Check {
+        sector_size: parse_size(sector)?,
+    })
+}
+
 // `show`, with the size of a sector or with `auto`.
-fn parse_show(sector: &str, arguments: &[String]) -> Option<Command>
+fn parse_show<'a>(sector: &str, arguments: &'a [String]) -> Option<Command<'a>>
     ensures sized { IfSome result IsSized }
     ensures value { result ≡ show_in sector.now (texts_of arguments.now) }
 {
@@ -60,47 +190,84 @@ fn parse_show(sector: &str, arguments: &[String]) -> Option<Command>
     })
 }
 
-// A number above 0, or no number where it is to be found.
-fn parse_sectors(text: &str) -> Option<Option<u64>>
-    ensures sized { IfSome result (λ size. IfSome size (λ n. 0 < n)) }
-    ensures value { result ≡ sectors_in text.now }
+// `free ALIGN`, with the size of a sector or with `auto`.
+fn parse_free<'a>(sector: &str, arguments: &'a [String]) -> Option<Command<'a>>
+    ensures sized { IfSome result IsSized }
+    ensures value { result ≡ free_in sector.now (texts_of arguments.now) }
 {
-    if text == "auto" {
-        return Some(None);
-    }
-    let size = parse_sector_size(text)?;
-    Some(Some(size))
-}
-
-// A number above 0.
-fn parse_sector_size(text: &str) -> Option<u64>
-    ensures sized { IfSome result (λ size. 0 < size) }
-    ensures value { result ≡ sector_size_in text.now }
-{
-    let size = parse_number(text)?;
-    if size == 0 { None } else { Some(size) }
-}
-
-// One or more decimal digits whose value fits in 64 bits.
-fn parse_number(text: &str) -> Option<u64>
-    ensures { result ≡ number_in text.now }
-{
-    if !has_digits_alone(text) {
+    let [align] = arguments else {
         return None;
+    };
+    Some(Command::Free {
+        sector_size: parse_sectors(sector)?,
+        align: parse_size(align.as_str())?,
+    })
+}
+
+// A command that changes the table, with the size of a sector or with `auto`.
+fn parse_change<'a>(sector: &str, name: &str, arguments: &'a [String]) -> Option<Command<'a>>
+    ensures sized { IfSome result IsSized }
+    ensures value { result ≡ change_in sector.now name.now (texts_of arguments.now) }
+{
+    Some(Command::Change {
+        sector_size: parse_sectors(sector)?,
+        change: parse_named_change(name, arguments)?,
+    })
+}
+
+// The change of this name.
+fn parse_named_change<'a>(name: &str, arguments: &'a [String]) -> Option<Change<'a>>
+    ensures sized { IfSome result IsSizedChange }
+    ensures value { result ≡ named_change_in name.now (texts_of arguments.now) }
+{
+    match name {
+        "add" => Some(Change::Add(parse_addition(arguments)?)),
+        "remove" => parse_remove(arguments),
+        "sort" => parse_alone(Change::Sort, arguments),
+        "grow" => parse_alone(Change::Grow, arguments),
+        _ => None,
     }
-    text.parse().ok()
 }
 
-// Whether each character is a decimal digit. Parsing a number takes a sign too.
-fn has_digits_alone(text: &str) -> bool
-    ensures { result ≡ list_all is_ascii_digit text.now }
+// A change that takes no words.
+fn parse_alone<'a>(change: Change<'a>, arguments: &'a [String]) -> Option<Change<'a>>
+    requires sized { IsSizedChange change }
+    ensures sized { IfSome result IsSizedChange }
+    ensures value { result ≡ alone change.entry (texts_of arguments.now) }
 {
-    text.as_bytes().iter().all(|byte| byte.is_ascii_digit())
+    if arguments.is_empty() {
+        Some(change)
+    } else {
+        None
+    }
 }
 
-// 32 hexadecimal digits, in any case.
-fn parse_guid(text: &str) -> Option<[u8; 16]>
-    ensures { result ≡ guid_in text.now }
+// `NUMBER`.
+fn parse_remove<'a>(arguments: &'a [String]) -> Option<Change<'a>>
+    ensures sized { IfSome result IsSizedChange }
+    ensures value { result ≡ remove_in (texts_of arguments.now) }
 {
-    <[u8; 16]>::from_hex(text).ok()
+    let [number] = arguments else {
+        return None;
+    };
+    Some(Change::Remove(parse_entry_number(number.as_str())?))
+}
+
+// `NUMBER TYPE UNIQUE SIZE WHERE ALIGN NAME`.
+fn parse_addition<'a>(arguments: &'a [String]) -> Option<Addition<'a>>
+    ensures sized { IfSome result IsSizedAddition }
+    ensures value { result ≡ addition_in (texts_of arguments.now) }
+{
+    let [number, type_guid, unique_guid, size, choice, align, name] = arguments else {
+        return None;
+    };
+    Some(Addition {
+        number: parse_entry_number(number.as_str())?,
+        type_guid: parse_type(type_guid.as_str())?,
+        unique_guid: parse_guid(unique_guid.as_str())?,
+        size: parse_size(size.as_str())?,
+        choice: parse_choice(choice.as_str())?,
+        align: parse_size(align.as_str())?,
+        name: Word(name.as_str()),
+    })
 }

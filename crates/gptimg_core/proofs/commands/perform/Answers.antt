@@ -1,16 +1,14 @@
-use Rattle.std.proofs.Common.{◌≡◌, sym, subst}
-use Rattle.gptman.specs.Layout.{HasLayout}
-use Rattle.gptman.specs.Stop.{IsStored}
-use Rattle.gptimg_core.specs.Asks.{made_header, made_table}
+use Rattle.std.proofs.Common.{◌≡◌, ℕ, subst}
+use Rattle.std.specs.Prelude.{Option}
+use Rattle.gptimg_core.specs.Changes.{LeavesChange}
+use Rattle.gptimg_core.specs.declared.words.Change.{Change}
 use Rattle.gptimg_core.proofs.commands.perform.Goals as goal
 
-pub returns-in_ok-write_new-in-New-clause-stored : goal.returns-in_ok-write_new-in-New-clause-stored
-returns-in_ok-write_new-in-New-clause-stored g c honest ss guid is layout =
-    let size = (g.D.Disk.state c.args.disk.now).size in
-    let same : c.in-New.guid ≡ guid = cc in
-    let sector : c.in-New.sector_size ≡ ss = cc in
-    subst (λ n. IsStored (g.D.Disk.state c.write_new.new.disk) n (made_table guid n size)) sector
-    (subst (λ x. IsStored (g.D.Disk.state c.write_new.new.disk) c.in-New.sector_size (made_table x c.in-New.sector_size size)) same
-    (c.in_ok-write_new-in-New.ensures.stored honest
-    (subst (λ x. HasLayout (made_header x c.in-New.sector_size size) (made_table x c.in-New.sector_size size) c.in-New.sector_size size) (sym same)
-    (subst (λ n. HasLayout (made_header guid n size) (made_table guid n size) n size) (sym sector) layout))))
+pub returns-in-Change-clause-leaves : goal.returns-in-Change-clause-leaves
+returns-in-Change-clause-leaves g c = λ honest size change is.
+    let old = g.D.Disk.state c.args.disk.now in
+    let new = g.D.Disk.state c.change_table.new.disk in
+    let same_size : c.in-Change.sector_size ≡ size = cc in
+    let same_change : c.in-Change.change ≡ change = cc in
+    subst (λ (s : Option ℕ). LeavesChange s change old new) same_size
+    (subst (λ (x : Change). LeavesChange c.in-Change.sector_size x old new) same_change (c.change_table.ensures.leaves honest))

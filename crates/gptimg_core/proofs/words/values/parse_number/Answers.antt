@@ -7,7 +7,7 @@ use Rattle.std.specs.List.{list_all}
 use Rattle.std.specs.Result.{OkIff, result_ok}
 use Rattle.std.specs.Str.Parse.{digits_value}
 use Rattle.gptimg_core.specs.Words.{number_in}
-use Rattle.gptimg_core.proofs.words.parse_number.Goals as goal
+use Rattle.gptimg_core.proofs.words.values.parse_number.Goals as goal
 
 -- texts of digits, and the numbers that they write
 digits : IsNumeralModel (λ ds. list_all is_ascii_digit ds ≡ true) (digits_value 10)

@@ -1,0 +1,64 @@
+-- What a look at both copies of a table tells.
+use Rattle.std.specs.Prelude.{◌≡◌, ◌⊎◌, ℕ, Bool, true, List, Result, Ok, Err, IsTrue}
+use Rattle.gptman.specs.Calls.{answer_of, Fails}
+use Rattle.gptman.specs.Copy.{Copy}
+use Rattle.gptman.specs.Disk.{DiskState}
+use Rattle.gptman.specs.Fault.{Fault}
+use Rattle.gptman.specs.Layout.{Holds}
+use Rattle.gptman.specs.Reading.{Place, primary, backup, copy_in}
+use Rattle.gptman.specs.Table.{Table as DiskTable, table_of, IsForm, IsHeaderForm}
+use Rattle.gptman.specs.declared.codec.entry.GPTPartitionEntry.{GPTPartitionEntry}
+use Rattle.gptman.specs.declared.codec.header.GPTHeader.{GPTHeader}
+use Rattle.gptimg_core.specs.declared.commands.Report.{Report}
+use Rattle.gptimg_core.specs.declared.commands.Report.TheVariants.{Written, Table, Slots, Added, Copies}
+use Rattle.gptimg_core.specs.declared.commands.check.BothCopies.{BothCopies}
+use Rattle.gptimg_core.specs.declared.commands.check.FoundCopy.{FoundCopy}
+
+-- The copies at the two places are one table, each in its place's form.
+pub record AreOneTable (first second : Copy) : Type 0 where
+  pub table : DiskTable
+  pub at_primary : IsForm primary table first
+  pub at_backup : IsForm backup table second
+
+-- Both places hold one table, each in its place's form.
+pub record HoldOneTable (view : List ℕ) (ss : ℕ) : Type 0 where
+  pub table : DiskTable
+  pub at_primary : Holds view ss primary table
+  pub at_backup : Holds view ss backup table
+
+-- the copy that was found
+abbrev pub seen_as : FoundCopy → Copy
+seen_as found = record { header = found.header; entries = found.entries.items }
+
+-- The two headers are those of one table, the first in primary form and the second in backup form.
+pub record AreBothForms (first second : GPTHeader) : Type 0 where
+  pub at_primary : IsHeaderForm primary first
+  pub at_backup : IsHeaderForm backup second
+  pub same : (es : List GPTPartitionEntry) → table_of second es ≡ table_of first es
+
+-- Both were found, and are one table.
+abbrev pub AreFoundSame : Result Copy Fault → Result Copy Fault → Type 0
+AreFoundSame (Ok first) (Ok second) = AreOneTable first second
+AreFoundSame _ _ = ⊥
+
+-- What was found of both copies, unless the disk failed: each copy, or its fault; and whether both places hold one table.
+pub record IsChecked (ss : ℕ) (old new : DiskState) (copies : BothCopies) : Type 0 where
+  pub at_primary : Fails copies.primary old new ⊎ (answer_of seen_as copies.primary ≡ copy_in primary old.view ss)
+  pub at_backup : Fails copies.backup old new ⊎ (answer_of seen_as copies.backup ≡ copy_in backup old.view ss)
+  pub same : IsTrue copies.are_same → HoldOneTable old.view ss × AreFoundSame (answer_of seen_as copies.primary) (answer_of seen_as copies.backup)
+
+-- the report is what was found of both copies
+abbrev pub TellsCopies : ℕ → DiskState → DiskState → Report → Type 0
+TellsCopies ss old new Written = ⊥
+TellsCopies ss old new (Table table) = ⊥
+TellsCopies ss old new (Slots slots) = ⊥
+TellsCopies ss old new (Added number first last) = ⊥
+TellsCopies ss old new (Copies copies) = IsChecked ss old new copies
+
+-- whether a command is done, and not only told what is wrong: copies that are not one table are wrong
+abbrev pub is_good : Report → Bool
+is_good Written = true
+is_good (Table table) = true
+is_good (Slots slots) = true
+is_good (Added number first last) = true
+is_good (Copies copies) = copies.are_same

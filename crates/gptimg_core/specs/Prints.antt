@@ -1,0 +1,29 @@
+-- What a command prints, and what stands behind it.
+use Rattle.std.specs.Prelude.{◌≡◌, ℕ, Bool, List, Option}
+use Rattle.std.specs.Io.KnownBytes.{Appends}
+use Rattle.gptman.specs.Disk.{DiskState}
+use Rattle.gptman.specs.Fault.{Fault}
+use Rattle.gptman.specs.Place.{AreSlots, IsFreeIn}
+use Rattle.gptman.specs.declared.table.GPT.{GPT}
+use Rattle.gptimg_core.specs.Checks.{IsChecked}
+use Rattle.gptimg_core.specs.Lines.{report_lines, slot_lines}
+use Rattle.gptimg_core.specs.Names.{fault_line}
+use Rattle.gptimg_core.specs.declared.commands.Report.TheVariants.{Copies}
+use Rattle.gptimg_core.specs.declared.commands.check.BothCopies.{BothCopies}
+
+-- the line of a fault was printed
+abbrev pub PrintsFault : Option (List ℕ) → Option (List ℕ) → Type 0
+PrintsFault from to = (fault : Fault) × Appends from to (fault_line fault)
+
+-- The slots of the table's free sectors that begin at multiples of align were printed.
+pub record PrintsSlots (table : GPT) (align : ℕ) (from to : Option (List ℕ)) : Type 0 where
+  pub slots : List (ℕ × ℕ)
+  pub are : AreSlots (IsFreeIn table) align slots
+  pub printed : Appends from to (slot_lines slots)
+
+-- What was found of both copies was printed, and whether they are one table.
+pub record PrintsCopies (ss : ℕ) (same : Bool) (old new : DiskState) (from to : Option (List ℕ)) : Type 0 where
+  pub copies : BothCopies
+  pub found : IsChecked ss old new copies
+  pub same_is : copies.are_same ≡ same
+  pub printed : Appends from to (report_lines (Copies copies))

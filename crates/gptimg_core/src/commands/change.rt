@@ -1,0 +1,153 @@
+//! Changes of a table in memory.
+
+ghost use Rattle.std.specs.Prelude.{◌≡◌, ◌<◌, ◌≤◌, ◌+◌, ◌^◌, max, None, IsTrue, IfOk, IfErr, IfSome, OnOk, OnErr, MatchOption};
+ghost use Rattle.gptman.specs.Disk.{Keeps, Rose};
+ghost use Rattle.gptman.specs.Calls.{OnlyRead, Refuses};
+ghost use Rattle.gptman.specs.Entry.{is_unused};
+ghost use Rattle.gptman.specs.Fault.{fault_of, io as io_fault, out_of_memory};
+ghost use Rattle.gptman.specs.Fit.{fit_fault};
+ghost use Rattle.gptman.specs.Coding.{empty_entry};
+ghost use Rattle.gptman.specs.Order.{by_rank, rank};
+ghost use Rattle.gptman.specs.Number.{entry_at, number_fault, with_entries, with_entry, IsNumber};
+ghost use Rattle.gptman.specs.Place.{HasNoPlace, IsFreeIn};
+ghost use Rattle.gptman.specs.Table.{entries_in, IsCoherent};
+ghost use Rattle.gptimg_core.specs.Words.{IsSizedAddition, IsSizedChange};
+ghost use Rattle.gptimg_core.specs.Changes.{grown, report_of, IsAdded, IsChanged, IsChosen};
+ghost use Rattle.gptimg_core.specs.declared.commands.Report.TheVariants.{Written};
+ghost use Rattle.gptimg_core.specs.declared.words.Change.TheVariants.{Add};
+
+use crate::commands::Report;
+use crate::words::{Addition, Change, Choice};
+use gptman::{Disk, Error, GPT, GPTPartitionEntry, PartitionName, Result};
+use std::alloc::Global;
+
+/// Changes the table, and answers what there is to tell of it. The disk's length is taken where the
+/// table is fitted to it.
+///
+/// The errors are those of removing, sorting, fitting and adding.
+pub fn make_change<D: Disk>(
+    alloc: Global,
+    disk: &mut D,
+    table: &mut GPT,
+    change: &Change,
+) -> Result<Report>
+    requires sector { 0 < table.old.sector_size }
+    requires coherent { IsCoherent table.old.header (entries_in table.old) }
+    requires sized { IsSizedChange change.now }
+    ensures keeps { Keeps (D.state disk.old) (D.state disk.new) }
+    ensures reads { IsTrue (D.state disk.old).is_honest → OnlyRead (D.state disk.old) (D.state disk.new) }
+    ensures cause { Refuses result io_fault → Rose (D.state disk.old) (D.state disk.new) }
+    ensures sector { OnOk result (table.new.sector_size ≡ table.old.sector_size) }
+    ensures coherent { OnOk result (IsCoherent table.new.header (entries_in table.new)) }
+    ensures changed { OnOk result (IsChanged (D.state disk.old).size change.now table.old table.new) }
+    ensures told { IfOk result (λ report. report ≡ report_of change.now table.new) }
+{
+    match change {
+        Change::Add(addition) => add(alloc, table, addition),
+        Change::Remove(number) => remove(table, *number),
+        Change::Sort => sort(table),
+        Change::Grow => fit(disk, table),
+    }
+}
+
+// Removes an entry.
+fn remove(table: &mut GPT, number: u32) -> Result<Report>
+    requires coherent { IsCoherent table.old.header (entries_in table.old) }
+    ensures coherent { OnOk result (IsCoherent table.new.header (entries_in table.new)) }
+    ensures removed { OnOk result ((number_fault table.old number ≡ None) × (table.new ≡ with_entry table.old number empty_entry)) }
+    ensures told { IfOk result (λ report. report ≡ Written) }
+    ensures not_io { Refuses result io_fault → ⊥ }
+{
+    table.remove(number)?;
+    Ok(Report::Written)
+}
+
+// Puts the entries in order.
+fn sort(table: &mut GPT) -> Result<Report>
+    requires coherent { IsCoherent table.old.header (entries_in table.old) }
+    ensures coherent { OnOk result (IsCoherent table.new.header (entries_in table.new)) }
+    ensures sorted { OnOk result (table.new ≡ with_entries table.old (by_rank rank (entries_in table.old))) }
+    ensures told { IfOk result (λ report. report ≡ Written) }
+    ensures not_io { Refuses result io_fault → ⊥ }
+{
+    table.sort()?;
+    Ok(Report::Written)
+}
+
+// Fits the table's header to the disk.
+fn fit<D: Disk>(disk: &mut D, table: &mut GPT) -> Result<Report>
+    requires sector { 0 < table.old.sector_size }
+    requires coherent { IsCoherent table.old.header (entries_in table.old) }
+    ensures keeps { Keeps (D.state disk.old) (D.state disk.new) }
+    ensures reads { IsTrue (D.state disk.old).is_honest → OnlyRead (D.state disk.old) (D.state disk.new) }
+    ensures cause { Refuses result io_fault → Rose (D.state disk.old) (D.state disk.new) }
+    ensures coherent { OnOk result (IsCoherent table.new.header (entries_in table.new)) }
+    ensures fitted { OnOk result ((fit_fault table.old.header table.old.sector_size (D.state disk.old).size ≡ None)
+        × (table.new ≡ grown table.old (D.state disk.old).size)) }
+    ensures told { IfOk result (λ report. report ≡ Written) }
+{
+    let sector_size = table.sector_size;
+    table.header.update_from(disk, sector_size)?;
+    Ok(Report::Written)
+}
+
+// Adds a partition at a free place, under the number of an unused entry.
+//
+// `InvalidPartitionNumber` where there is no entry of this number or it is used, `NoSpaceLeft` where
+// there is no place.
+fn add(alloc: Global, table: &mut GPT, addition: &Addition) -> Result<Report>
+    requires coherent { IsCoherent table.old.header (entries_in table.old) }
+    requires sized { IsSizedAddition addition.now }
+    ensures coherent { OnOk result (IsCoherent table.new.header (entries_in table.new)) }
+    ensures added { OnOk result (IsAdded addition.now table.old table.new) }
+    ensures told { IfOk result (λ report. report ≡ report_of (Add addition.now) table.new) }
+    ensures not_io { Refuses result io_fault → ⊥ }
+{
+    let number = addition.number;
+    if !has_unused(table, number) {
+        return Err(Error::InvalidPartitionNumber(number));
+    }
+    let partition_name = PartitionName::new(alloc, addition.name.as_str())?;
+    table.align = addition.align;
+    let Some(first) = find_place(table, addition.choice, addition.size)? else {
+        return Err(Error::NoSpaceLeft);
+    };
+    let last = first + (addition.size - 1);
+    table[number] = GPTPartitionEntry {
+        partition_type_guid: addition.type_guid,
+        unique_partition_guid: addition.unique_guid,
+        starting_lba: first,
+        ending_lba: last,
+        attribute_bits: 0,
+        partition_name,
+    };
+    Ok(Report::Added {
+        number,
+        first,
+        last,
+    })
+}
+
+// Whether there is an entry of this number, and it is not used.
+fn has_unused(table: &GPT, number: u32) -> bool
+    requires { IsCoherent table.now.header (entries_in table.now) }
+    ensures number { IsTrue result → (number_fault table.now number ≡ None) × IsNumber table.now number }
+    ensures unused { IsTrue result → IsTrue (is_unused (entry_at table.now number)) }
+{
+    number >= 1 && number <= table.header.number_of_partition_entries && table[number].is_unused()
+}
+
+// The place that is chosen for so many sectors.
+fn find_place(table: &GPT, choice: Choice, size: u64) -> Result<Option<u64>>
+    requires aligned { 0 < table.now.align }
+    ensures place { let free = IsFreeIn table.now in let align = table.now.align in let n = max 1 size in
+        IfOk result (λ place. MatchOption place (HasNoPlace free align n) (IsChosen choice free align n)) }
+    ensures fits { IfOk result (λ place. IfSome place (λ s. s + max 1 size ≤ 2 ^ 64)) }
+    ensures refused { IfErr result (λ e. fault_of e ≡ out_of_memory) }
+{
+    match choice {
+        Choice::First => table.find_first_place(size),
+        Choice::Last => table.find_last_place(size),
+        Choice::Best => table.find_optimal_place(size),
+    }
+}

@@ -1,0 +1,167 @@
+//! A look at both copies of a table, each by itself.
+
+ghost use Rattle.std.specs.Prelude.{◌≡◌, ◌↔◌, ◌⊎◌, ◌<◌, IsTrue, IfOk, IfErr};
+ghost use Rattle.gptman.specs.Disk.{Keeps, Rose};
+ghost use Rattle.gptman.specs.Calls.{answer_of, Fails, OnlyRead, Refuses};
+ghost use Rattle.gptman.specs.Copy.{copy_at};
+ghost use Rattle.gptman.specs.Fault.{fault_of, io as io_fault, out_of_memory};
+ghost use Rattle.gptman.specs.Reading.{backup, copy_in};
+ghost use Rattle.gptimg_core.specs.Checks.{seen_as, AreBothForms, AreFoundSame, AreOneTable, IsChecked};
+
+use gptman::{Disk, Error, GPTHeader, GPTPartitionEntry, Result};
+use std::alloc::Global;
+
+/// An accepted copy of a table.
+#[derive(Drop)]
+pub struct FoundCopy {
+    header: GPTHeader,
+    entries: Vec<GPTPartitionEntry>,
+}
+
+/// What the two copies are: each one, or its fault.
+#[derive(Drop)]
+pub struct BothCopies {
+    /// The copy in sector 1.
+    pub primary: Result<FoundCopy>,
+    /// The copy in the last whole sector.
+    pub backup: Result<FoundCopy>,
+    /// Whether both places hold one table, each in the form of its place.
+    pub are_same: bool,
+}
+
+/// Reads each copy by itself, with sectors of so many bytes, and tells the fault of each. A disk
+/// shorter than a sector has no backup copy: that is `InvalidSignature`.
+///
+/// `Io` where the length cannot be taken, `OutOfMemory` where there is no memory for the entries.
+pub fn check<D: Disk>(alloc: Global, disk: &mut D, sector_size: u64) -> Result<BothCopies>
+    requires { 0 < sector_size }
+    ensures keeps { Keeps (D.state disk.old) (D.state disk.new) }
+    ensures reads { IsTrue (D.state disk.old).is_honest → OnlyRead (D.state disk.old) (D.state disk.new) }
+    ensures checked { IsTrue (D.state disk.old).is_honest → IfOk result (IsChecked sector_size (D.state disk.old) (D.state disk.new)) }
+    ensures refused { IfErr result (λ e. (fault_of e ≡ out_of_memory) ⊎ ((fault_of e ≡ io_fault) × Rose (D.state disk.old) (D.state disk.new))) }
+{
+    let size = disk.seek_end()?;
+    let primary = look_at(alloc, disk, sector_size, sector_size)?;
+    let backup = look_at_backup(alloc, disk, sector_size, size)?;
+    let are_same = are_same(&primary, &backup);
+    Ok(BothCopies {
+        primary,
+        backup,
+        are_same,
+    })
+}
+
+// Reads the copy in the last whole sector of a disk of so many bytes.
+fn look_at_backup<D: Disk>(
+    alloc: Global,
+    disk: &mut D,
+    sector_size: u64,
+    size: u64,
+) -> Result<Result<FoundCopy>>
+    requires sector { 0 < sector_size }
+    requires whole { size ≡ (D.state disk.old).size }
+    ensures keeps { Keeps (D.state disk.old) (D.state disk.new) }
+    ensures reads { IsTrue (D.state disk.old).is_honest → OnlyRead (D.state disk.old) (D.state disk.new) }
+    ensures found { IsTrue (D.state disk.old).is_honest → IfOk result (λ found. Fails found (D.state disk.old) (D.state disk.new)
+        ⊎ (answer_of seen_as found ≡ copy_in backup (D.state disk.old).view sector_size)) }
+    ensures refused { IfErr result (λ e. fault_of e ≡ out_of_memory) }
+{
+    if size < sector_size {
+        return Ok(Err(Error::InvalidSignature));
+    }
+    look_at(
+        alloc,
+        disk,
+        sector_size,
+        (size / sector_size - 1) * sector_size,
+    )
+}
+
+// Reads the copy whose header is at that byte. Want of memory is no fault of the copy.
+fn look_at<D: Disk>(
+    alloc: Global,
+    disk: &mut D,
+    sector_size: u64,
+    at: u64,
+) -> Result<Result<FoundCopy>>
+    requires { 0 < sector_size }
+    ensures keeps { Keeps (D.state disk.old) (D.state disk.new) }
+    ensures reads { IsTrue (D.state disk.old).is_honest → OnlyRead (D.state disk.old) (D.state disk.new) }
+    ensures found { IsTrue (D.state disk.old).is_honest → IfOk result (λ found. Fails found (D.state disk.old) (D.state disk.new)
+        ⊎ (answer_of seen_as found ≡ copy_at (D.state disk.old).view at sector_size)) }
+    ensures refused { IfErr result (λ e. fault_of e ≡ out_of_memory) }
+{
+    match read_copy(alloc, disk, sector_size, at) {
+        Err(Error::OutOfMemory) => Err(Error::OutOfMemory),
+        found => Ok(found),
+    }
+}
+
+// The copy whose header is at that byte.
+fn read_copy<D: Disk>(alloc: Global, disk: &mut D, sector_size: u64, at: u64) -> Result<FoundCopy>
+    requires { 0 < sector_size }
+    ensures keeps { Keeps (D.state disk.old) (D.state disk.new) }
+    ensures reads { IsTrue (D.state disk.old).is_honest → OnlyRead (D.state disk.old) (D.state disk.new) }
+    ensures answer { IsTrue (D.state disk.old).is_honest → Fails result (D.state disk.old) (D.state disk.new)
+        ⊎ (Refuses result out_of_memory ⊎ (answer_of seen_as result ≡ copy_at (D.state disk.old).view at sector_size)) }
+{
+    disk.seek_start(at)?;
+    read_here(alloc, disk, sector_size)
+}
+
+// The copy whose header is at the disk's position.
+fn read_here<D: Disk>(alloc: Global, disk: &mut D, sector_size: u64) -> Result<FoundCopy>
+    requires { 0 < sector_size }
+    ensures keeps { Keeps (D.state disk.old) (D.state disk.new) }
+    ensures reads { IsTrue (D.state disk.old).is_honest → OnlyRead (D.state disk.old) (D.state disk.new) }
+    ensures answer { IsTrue (D.state disk.old).is_honest → Fails result (D.state disk.old) (D.state disk.new)
+        ⊎ (Refuses result out_of_memory
+        ⊎ (answer_of seen_as result ≡ copy_at (D.state disk.old).view (D.state disk.old).position sector_size)) }
+{
+    let header = GPTHeader::read_from(disk)?;
+    let entries = header.read_partitions(alloc, disk, sector_size)?;
+    Ok(FoundCopy { header, entries })
+}
+
+// Whether both copies were found, and are one table.
+fn are_same(primary: &Result<FoundCopy>, backup: &Result<FoundCopy>) -> bool
+    ensures { IsTrue result → AreFoundSame (answer_of seen_as primary.now) (answer_of seen_as backup.now) }
+{
+    match (primary, backup) {
+        (Ok(primary), Ok(backup)) => are_one_table(primary, backup),
+        _ => false,
+    }
+}
+
+// Whether the two copies are one table, the first in primary form and the second in backup form.
+fn are_one_table(primary: &FoundCopy, backup: &FoundCopy) -> bool
+    ensures { IsTrue result → AreOneTable (seen_as primary.now) (seen_as backup.now) }
+{
+    are_both_forms(&primary.header, &backup.header)
+        && are_same_entries(&primary.entries, &backup.entries)
+}
+
+// Whether the two headers are those of one table, the first in primary form and the second in backup
+// form.
+fn are_both_forms(primary: &GPTHeader, backup: &GPTHeader) -> bool
+    ensures { IsTrue result → AreBothForms primary.now backup.now }
+{
+    let other = GPTHeader {
+        crc32_checksum: backup.crc32_checksum,
+        primary_lba: primary.backup_lba,
+        backup_lba: 1,
+        partition_entry_lba: backup.partition_entry_lba,
+        ..*primary
+    };
+    primary.primary_lba == 1
+        && primary.partition_entry_lba == 2
+        && backup.last_usable_lba.checked_add(1) == Some(backup.partition_entry_lba)
+        && *backup == other
+}
+
+// Whether the two lists are equal.
+fn are_same_entries(a: &[GPTPartitionEntry], b: &[GPTPartitionEntry]) -> bool
+    ensures { IsTrue result ↔ (a.now ≡ b.now) }
+{
+    a == b
+}

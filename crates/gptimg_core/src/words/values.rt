@@ -1,0 +1,92 @@
+//! The values that single words spell: numbers, sizes, GUIDs and kinds.
+
+ghost use Rattle.std.specs.Prelude.{◌≡◌, ◌<◌, IfSome};
+ghost use Rattle.std.specs.Char.{is_ascii_digit};
+ghost use Rattle.std.specs.List.{list_all};
+ghost use Rattle.gptimg_core.specs.Words.{choice_in, entry_number_in, guid_in, kind_in, number_in, sectors_in, size_in, type_in};
+
+use crate::words::Choice;
+use hex::FromHex;
+
+/// A number above 0, or none where the word is `auto`.
+pub fn parse_sectors(text: &str) -> Option<Option<u64>>
+    ensures sized { IfSome result (λ size. IfSome size (λ n. 0 < n)) }
+    ensures value { result ≡ sectors_in text.now }
+{
+    if text == "auto" {
+        return Some(None);
+    }
+    let size = parse_size(text)?;
+    Some(Some(size))
+}
+
+/// A number above 0.
+pub fn parse_size(text: &str) -> Option<u64>
+    ensures sized { IfSome result (λ size. 0 < size) }
+    ensures value { result ≡ size_in text.now }
+{
+    let size = parse_number(text)?;
+    if size == 0 { None } else { Some(size) }
+}
+
+/// The number of an entry, which fits in 32 bits.
+pub fn parse_entry_number(text: &str) -> Option<u32>
+    ensures { result ≡ entry_number_in text.now }
+{
+    u32::try_from(parse_number(text)?).ok()
+}
+
+// One or more decimal digits whose value fits in 64 bits.
+fn parse_number(text: &str) -> Option<u64>
+    ensures { result ≡ number_in text.now }
+{
+    if !has_digits_alone(text) {
+        return None;
+    }
+    text.parse().ok()
+}
+
+// Whether each character is a decimal digit. Parsing a number takes a sign too.
+fn has_digits_alone(text: &str) -> bool
+    ensures { result ≡ list_all is_ascii_digit text.now }
+{
+    text.as_bytes().iter().all(|byte| byte.is_ascii_digit())
+}
+
+/// 32 hexadecimal digits, in any case, as the 16 bytes stand on the disk.
+pub fn parse_guid(text: &str) -> Option<[u8; 16]>
+    ensures { result ≡ guid_in text.now }
+{
+    <[u8; 16]>::from_hex(text).ok()
+}
+
+/// The GUID of a type, which is not all zero.
+pub fn parse_type(text: &str) -> Option<[u8; 16]>
+    ensures { result ≡ type_in text.now }
+{
+    let guid = parse_guid(text)?;
+    if guid == [0; 16] { None } else { Some(guid) }
+}
+
+/// `first`, `last` or `best`.
+pub fn parse_choice(text: &str) -> Option<Choice>
+    ensures { result ≡ choice_in text.now }
+{
+    match text {
+        "first" => Some(Choice::First),
+        "last" => Some(Choice::Last),
+        "best" => Some(Choice::Best),
+        _ => None,
+    }
+}
+
+/// Whether an MBR is to be bootable: `bootable`, or `plain`.
+pub fn parse_kind(text: &str) -> Option<bool>
+    ensures { result ≡ kind_in text.now }
+{
+    match text {
+        "plain" => Some(false),
+        "bootable" => Some(true),
+        _ => None,
+    }
+}
