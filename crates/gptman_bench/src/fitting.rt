@@ -1,6 +1,6 @@
 //! Fitting a header to a disk: a new one, and one that comes to a disk of another length.
 
-use crate::fixtures::{DISK_GUID, answer, are_all, disk_of, new_table, write};
+use crate::fixtures::{DISK_GUID, answer, are_all, disk_of, new_header, new_table, write};
 use gptman::{GPT, GPTHeader};
 use std::alloc::Global;
 use std::test::Fail;
@@ -62,11 +62,6 @@ fn a_small_disk_may_leave_no_usable_sector(rt: HostRuntime) -> Result<(), Fail> 
     write(&mut table, &mut disk)??;
     assert_eq!(rt; GPT::read_from(alloc, &mut disk, 512)?, table);
     Ok(())
-}
-
-// A new header for 100 sectors of 512 bytes.
-fn new_header(alloc: Global) -> gptman::Result<GPTHeader> {
-    GPTHeader::new_from(&mut disk_of(alloc, 0, 51_200)?, 512, DISK_GUID)
 }
 
 #[test]
