@@ -1,6 +1,8 @@
 //! The checks before a write: which tables are written, and which are refused with nothing changed.
 
-use crate::fixtures::{answer, are_all, disk_1, disk_of, partition, read_image, write};
+use crate::fixtures::{
+    answer, are_all, disk_1, disk_of, new_small_table, partition, read_image, write,
+};
 use gptman::{Edit, GPT, GPTPartitionEntry};
 use std::alloc::Global;
 use std::process::Abort;
@@ -8,11 +10,6 @@ use std::test::Fail;
 
 const BOUNDARIES: &str =
     "invalid partition boundaries: partitions must have positive size, must not overlap, and must fit within the disk";
-
-// A new table for 100 sectors of 512 bytes.
-fn new_table(alloc: Global) -> gptman::Result<GPT> {
-    GPT::new_from(alloc, &mut disk_of(alloc, 0, 51_200)?, 512, [0x0d; 16])
-}
 
 // A used entry with these first and last sectors, and a GUID of its own by this byte.
 fn used(alloc: Global, guid: u8, sectors: (u64, u64)) -> gptman::Result<GPTPartitionEntry> {
@@ -27,7 +24,7 @@ fn written_with(
     first: GPTPartitionEntry,
     second: GPTPartitionEntry,
 ) -> Result<String, Fail> {
-    let mut table = new_table(alloc)?;
+    let mut table = new_small_table(alloc)?;
     table.apply(Edit::Put(1, first))?;
     table.apply(Edit::Put(2, second))?;
     let given = table.clone()?;
@@ -49,7 +46,7 @@ fn used_entries_may_fill_the_usable_sectors(rt: HostRuntime) -> Result<(), Fail>
         ((34, 49), (50, 66), 2),
     ];
     for (first, second, align) in rows {
-        let mut table = new_table(alloc)?;
+        let mut table = new_small_table(alloc)?;
         table.apply(Edit::Put(1, used(alloc, 1, first)?))?;
         if second.0 > 0 {
             table.apply(Edit::Put(2, used(alloc, 2, second)?))?;
@@ -126,7 +123,7 @@ fn two_used_entries_have_no_guid_in_common(rt: HostRuntime) -> Result<(), Fail> 
 #[test]
 fn a_table_that_ends_past_64_bits_is_refused_in_primary_form(rt: HostRuntime) -> Result<(), Fail> {
     let alloc = rt.alloc();
-    let mut table = new_table(alloc)?;
+    let mut table = new_small_table(alloc)?;
     table.header.last_usable_lba = u64::MAX;
     table.apply(Edit::Put(1, used(alloc, 1, (40, u64::MAX))?))?;
     let mut disk = disk_of(alloc, 2, 51_200)?;

@@ -1,6 +1,9 @@
 //! Lists of edits that are written one after the other.
 
-use crate::fixtures::{answer, disk_of, image_of_new_table, partition, read_image, used_names};
+use crate::fixtures::{
+    answer, are_all, disk_of, image_of_new_table, new_small_table, partition, read_image,
+    used_names,
+};
 use gptman::{Disk, Edit, Error, Fate, GPT, MemoryDisk, Progress};
 use std::alloc::Global;
 use std::test::Fail;
@@ -71,6 +74,25 @@ fn a_number_that_is_no_entry_stops_the_edits(rt: HostRuntime) -> Result<(), Fail
     );
     assert_eq!(rt; table.header.disk_guid, [5; 16]);
     assert_eq!(rt; read_image(alloc, disk.bytes())?, table);
+    Ok(())
+}
+
+#[test]
+fn an_edit_of_a_table_that_does_not_fit_the_disk_is_not_written(
+    rt: HostRuntime,
+) -> Result<(), Fail> {
+    let alloc = rt.alloc();
+    let mut table = new_small_table(alloc)?;
+    let mut disk = disk_of(alloc, 2, 30_000)?;
+    let progress = commit(
+        &mut table,
+        &mut disk,
+        vec![in alloc; Edit::DiskGuid([5; 16])]?,
+    )?;
+    assert_eq!(rt; progress.done, 0);
+    assert_eq!(rt; fault(alloc, progress)?.as_str(), "no space left");
+    assert!(rt; are_all(disk.bytes(), 2));
+    assert_eq!(rt; table.header.disk_guid, [5; 16]);
     Ok(())
 }
 

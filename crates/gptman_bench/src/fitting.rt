@@ -2,7 +2,8 @@
 
 use crate::callers::{grow, read_held};
 use crate::fixtures::{
-    DISK_GUID, answer, are_all, disk_of, image_of_new_table, new_table, read_image, write,
+    DISK_GUID, answer, are_all, disk_of, image_of_new_table, new_header, new_table, read_image,
+    write,
 };
 use gptman::{Error, Fate, GPT, GPTHeader, MemoryDisk};
 use std::alloc::Global;
@@ -65,11 +66,6 @@ fn a_small_disk_may_leave_no_usable_sector(rt: HostRuntime) -> Result<(), Fail> 
     write(&mut table, &mut disk)??;
     assert_eq!(rt; GPT::read_from(alloc, &mut disk, 512)?, table);
     Ok(())
-}
-
-// A new header for 100 sectors of 512 bytes.
-fn new_header(alloc: Global) -> gptman::Result<GPTHeader> {
-    GPTHeader::new_from(&mut disk_of(alloc, 0, 51_200)?, 512, DISK_GUID)
 }
 
 #[test]

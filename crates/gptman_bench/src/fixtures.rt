@@ -1,6 +1,6 @@
 //! Disks, tables and entries of which the tests make their cases.
 
-ghost use Rattle.std.specs.Prelude.{◌<◌};
+ghost use Rattle.std.specs.Prelude.{◌≡◌, ◌<◌, IfOk};
 
 use gptman::{Disk, Edit, GPT, GPTHeader, GPTPartitionEntry, MemoryDisk, PartitionName, Result};
 use std::alloc::{AllocError, Global};
@@ -30,6 +30,11 @@ pub(crate) fn new_table<D: Disk>(
     GPT::new_from(alloc, disk, sector_size, disk_guid)
 }
 
+/// A new table for 100 sectors of 512 bytes.
+pub(crate) fn new_small_table(alloc: Global) -> Result<GPT> {
+    new_table(alloc, &mut disk_of(alloc, 0, 51_200)?, 512, DISK_GUID)
+}
+
 /// Writes the table, whatever it holds, and gives back what the write answered.
 pub(crate) fn write<D: Disk>(table: &mut GPT, disk: &mut D) -> TestResult<Result<GPTHeader>> {
     if table.sector_size == 0 || !table.is_coherent() {
@@ -56,13 +61,22 @@ pub(crate) fn write_copy<D: Disk>(
     Ok(header.write_into(disk, sector_size, entries))
 }
 
+/// A new header for 100 sectors of 512 bytes.
+pub(crate) fn new_header(alloc: Global) -> Result<GPTHeader>
+    ensures { IfOk result (λ h. h.header_size ≡ 92) }
+{
+    GPTHeader::new_from(&mut disk_of(alloc, 0, 51_200)?, 512, DISK_GUID)
+}
+
+/// The table on a disk of these bytes, with sectors of this size.
+pub(crate) fn read_with_sectors(alloc: Global, bytes: &[u8], sector_size: u64) -> Result<GPT> {
+    let mut disk = MemoryDisk::new(alloc, bytes.to_vec(alloc)?)?;
+    GPT::read_from(alloc, &mut disk, sector_size.max(1))
+}
+
 /// The table on a disk of these bytes, with sectors of 512.
 pub(crate) fn read_image(alloc: Global, bytes: &[u8]) -> Result<GPT> {
-    GPT::read_from(
-        alloc,
-        &mut MemoryDisk::new(alloc, bytes.to_vec(alloc)?)?,
-        512,
-    )
+    read_with_sectors(alloc, bytes, 512)
 }
 
 /// The bytes of a disk of 100 sectors of 512, all of them this one, after a new table was written.
@@ -183,7 +197,7 @@ pub(crate) fn table_with(
     align: u64,
     used: &[(u64, u64)],
 ) -> Result<GPT> {
-    let mut table = GPT::new_from(alloc, &mut disk_of(alloc, 0, 51_200)?, 512, [0x0d; 16])?;
+    let mut table = new_small_table(alloc)?;
     table.header.first_usable_lba = bounds.0;
     table.header.last_usable_lba = bounds.1;
     table.align = align;

@@ -1,7 +1,8 @@
 //! Tests of the Rust crate on reading, each under its own name, over disks made from numbers.
 
 use crate::fixtures::{
-    answer, complement, disk_1, disk_2, entries_of, image_of, partition, put, used_names,
+    answer, complement, disk_1, disk_2, entries_of, image_of, partition, put, read_image,
+    read_with_sectors, used_names,
 };
 use crate::names::name_of_units;
 use crate::oracle::{header_checksum, slow_checksum};
@@ -9,18 +10,12 @@ use gptman::{Edit, GPT, GPTPartitionEntry, MemoryDisk};
 use std::alloc::Global;
 use std::test::Fail;
 
-// The table on this disk, with sectors of this size.
-fn read(alloc: Global, image: &[u8], sector_size: u16) -> Result<GPT, Fail> {
-    let mut disk = MemoryDisk::new(alloc, image.to_vec(alloc)?)?;
-    Ok(GPT::read_from(alloc, &mut disk, u64::from(sector_size.max(1)))?)
-}
-
 #[test]
 fn read_header_and_partition_entries(rt: HostRuntime) -> Result<(), Fail> {
     let alloc = rt.alloc();
     for (table, sector_size) in [(disk_1(alloc)?, 512_u16), (disk_2(alloc)?, 4096)] {
         let image = image_of(alloc, &table)?;
-        let read = read(alloc, &image, sector_size)?;
+        let read = read_with_sectors(alloc, &image, u64::from(sector_size))?;
         assert_eq!(rt; read.iter().filter(|(_, entry)| entry.is_used()).count(), 2);
         assert_eq!(rt;
             read.iter().filter(|(_, entry)| entry.is_unused()).count(),
@@ -55,7 +50,7 @@ fn read_and_find_from_primary(rt: HostRuntime) -> Result<(), Fail> {
     ];
     for (table, sector_size, other) in rows {
         let image = image_of(alloc, &table)?;
-        assert!(rt; read(alloc, &image, sector_size)?.is_primary());
+        assert!(rt; read_with_sectors(alloc, &image, u64::from(sector_size))?.is_primary());
         let mut disk = MemoryDisk::new(alloc, image.clone()?)?;
         assert!(rt; GPT::read_from(alloc, &mut disk, u64::from(other.max(1))).is_err());
         let found = GPT::find_from(alloc, &mut MemoryDisk::new(alloc, image)?)?;
@@ -85,7 +80,7 @@ fn find_backup(rt: HostRuntime) -> Result<(), Fail> {
             usize::from(sector_size) + 16,
             &1_u32.to_le_bytes(),
         );
-        let read = read(alloc, &image, sector_size)?;
+        let read = read_with_sectors(alloc, &image, u64::from(sector_size))?;
         assert_eq!(rt; read.header.primary_lba, 99);
         assert_eq!(rt; read.header.backup_lba, 1);
         assert_eq!(rt; read.header.partition_entry_lba, entries_at);
@@ -117,7 +112,7 @@ fn read_label_with_trailing_garbage_in_names(rt: HostRuntime) -> Result<(), Fail
         bar.partition_name = name_of_units(alloc, garbage(alloc)?.as_slice())?;
         assert_eq!(rt; bar.partition_name.units()[35], 0x41);
         table.apply(Edit::Put(2, bar))?;
-        let read = read(alloc, &image_of(alloc, &table)?, sector_size)?;
+        let read = read_with_sectors(alloc, &image_of(alloc, &table)?, u64::from(sector_size))?;
         assert_eq!(rt;
             used_names(alloc, &read)?.as_str(),
             "1 Foo, 2 Name with garbage, "
@@ -133,7 +128,7 @@ fn gpt_read_from_on_image_with_corrupted_partition_entry_array_crc32_in_primary(
     let alloc = rt.alloc();
     let mut image = image_of(alloc, &disk_1(alloc)?)?;
     complement(&mut image, 1024);
-    let read = read(alloc, &image, 512)?;
+    let read = read_image(alloc, &image)?;
     assert_eq!(rt; read.header.primary_lba, 99);
     assert_eq!(rt; read.header.backup_lba, 1);
     assert_eq!(rt; read.header.partition_entry_lba, 67);
@@ -157,7 +152,7 @@ fn align_with(alloc: Global, table: GPT, first: Option<u64>) -> Result<u64, Fail
     };
     table.apply(Edit::Put(1, entry))?;
     let sector_size = if table.sector_size == 512 { 512 } else { 4096 };
-    Ok(read(alloc, &image_of(alloc, &table)?, sector_size)?.align)
+    Ok(read_with_sectors(alloc, &image_of(alloc, &table)?, sector_size)?.align)
 }
 
 #[test]
@@ -177,7 +172,7 @@ fn determine_partition_alignment(rt: HostRuntime) -> Result<(), Fail> {
         let bar = partition(alloc, "Bar", [0x0c; 16], 8 * align, 16 * align)?;
         table.apply(Edit::Put(1, foo))?;
         table.apply(Edit::Put(2, bar))?;
-        assert_eq!(rt; read(alloc, &image_of(alloc, &table)?, 512)?.align, align);
+        assert_eq!(rt; read_image(alloc, &image_of(alloc, &table)?)?.align, align);
     }
     Ok(())
 }

@@ -1,7 +1,8 @@
 //! Tests of the Rust crate on writing, each under its own name, over disks made from numbers.
 
 use crate::fixtures::{
-    answer, complement, disk_1, disk_2, disk_of, image_of, partition, read_image, write,
+    answer, complement, disk_1, disk_2, disk_of, image_of, partition, read_image,
+    read_with_sectors, write,
 };
 use gptman::{Edit, GPT, MemoryDisk};
 use std::alloc::Global;
@@ -15,22 +16,16 @@ fn image_after(alloc: Global, table: &mut GPT, len: usize) -> Result<Vec<u8>, Fa
     Ok(disk.bytes().to_vec(alloc)?)
 }
 
-// The table on a disk of these bytes, with sectors of this size.
-fn read(alloc: Global, bytes: &[u8], sector_size: u64) -> Result<GPT, Fail> {
-    let mut disk = MemoryDisk::new(alloc, bytes.to_vec(alloc)?)?;
-    Ok(GPT::read_from(alloc, &mut disk, sector_size.max(1))?)
-}
-
 // The table is written to a zero image and read back as it was, and in backup form where the primary
 // copy is broken.
 fn assert_written(rt: &impl Abort, alloc: Global, table: &mut GPT) -> Result<(), Fail> {
     let sector_size = table.sector_size.min(4096);
     let mut image = image_after(alloc, table, 100 * sector_size as usize)?;
-    let written = read(alloc, &image, sector_size)?;
+    let written = read_with_sectors(alloc, &image, sector_size)?;
     assert_eq!(rt; written.header, table.header);
     assert!(rt; written.iter().eq(table.iter()));
     complement(&mut image, sector_size as usize);
-    let backup = read(alloc, &image, sector_size)?;
+    let backup = read_with_sectors(alloc, &image, sector_size)?;
     assert_eq!(rt; backup.header.primary_lba, 99);
     assert_eq!(rt; backup.header.backup_lba, 1);
     assert!(rt; backup.iter().eq(table.iter()));
@@ -66,18 +61,21 @@ fn write_from_backup(rt: HostRuntime) -> Result<(), Fail> {
         let mut image = image_of(alloc, &table)?;
         let sector_size = table.sector_size.min(4096);
         complement(&mut image, sector_size as usize);
-        let mut backup = read(alloc, &image, sector_size)?;
+        let mut backup = read_with_sectors(alloc, &image, sector_size)?;
         assert_eq!(rt; backup.header.partition_entry_lba, entries_at);
         let mut disk = disk_of(alloc, 0, image.len())?;
         let primary = write(&mut backup, &mut disk)??;
         assert_eq!(rt; (primary.primary_lba, primary.backup_lba), (1, 99));
         assert_eq!(rt; primary.partition_entry_lba, 2);
         let mut image = disk.bytes().to_vec(alloc)?;
-        let read_again = read(alloc, &image, sector_size)?;
+        let read_again = read_with_sectors(alloc, &image, sector_size)?;
         assert_eq!(rt; read_again.header, primary);
         assert!(rt; read_again.iter().eq(table.iter()));
         complement(&mut image, sector_size as usize);
-        assert_eq!(rt; read(alloc, &image, sector_size)?.header, backup.header);
+        assert_eq!(rt;
+            read_with_sectors(alloc, &image, sector_size)?.header,
+            backup.header
+        );
     }
     Ok(())
 }

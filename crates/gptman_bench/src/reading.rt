@@ -1,10 +1,10 @@
 //! Damaged and crafted copies: the first test of a copy that fails names its fault, and the other copy
 //! is read. What is read has the alignment that its entries give.
 
-ghost use Rattle.std.specs.Prelude.{◌≡◌, IfOk};
+ghost use Rattle.std.specs.Prelude.{◌≡◌};
 
 use crate::fixtures::{
-    DISK_GUID, answer, complement, disk_2, disk_of, image_of, image_of_new_table, put,
+    DISK_GUID, answer, complement, disk_2, disk_of, image_of, image_of_new_table, new_header, put,
     used_entries, write_copy,
 };
 use gptman::{GPT, GPTHeader, GPTPartitionEntry, MemoryDisk};
@@ -183,13 +183,6 @@ fn the_alignment_is_derived(rt: HostRuntime) -> Result<(), Fail> {
         assert_eq!(rt; align_of(rt.alloc(), starts)?, align, "starts {starts:?}");
     }
     Ok(())
-}
-
-// A new header for 100 sectors of 512 bytes.
-fn new_header(alloc: Global) -> gptman::Result<GPTHeader>
-    ensures { IfOk result (λ h. h.header_size ≡ 92) }
-{
-    GPTHeader::new_from(&mut disk_of(alloc, 0, 51_200)?, 512, DISK_GUID)
 }
 
 // A disk of 100 sectors of 512 with a new table and this header, its checksum made right, in sector
