@@ -3,7 +3,7 @@
 
 use crate::fixtures::disk_of;
 use gptimg_core::run;
-use gptman::{Disk, FileDisk};
+use gptman::{Disk, FileDisk, MemoryDisk};
 use std::alloc::{AllocError, Global};
 use std::fs;
 use std::process::Abort;
@@ -90,8 +90,24 @@ fn assert_row<R: Abort, D: Disk>(
     Ok(())
 }
 
-// All bytes of the disk.
-fn bytes_of<D: Disk>(alloc: Global, disk: &mut D) -> Result<Vec<u8>, Fail> {
+/// The same on a disk in memory with these bytes, and on a file of them at this path.
+pub(crate) fn assert_rows_on(
+    rt: &HostRuntime,
+    path: &str,
+    image: &[u8],
+    rows: &[Row],
+) -> Result<(), Fail> {
+    let alloc = rt.alloc();
+    let mut disk = MemoryDisk::new(alloc, image.to_vec(alloc)?)?;
+    assert_rows(rt, alloc, &mut disk, rows)?;
+    fs::write(rt, path, image)?;
+    assert_rows(rt, alloc, &mut FileDisk::open(rt, path)?, rows)?;
+    fs::remove_file(rt, path)?;
+    Ok(())
+}
+
+/// All bytes of the disk.
+pub(crate) fn bytes_of<D: Disk>(alloc: Global, disk: &mut D) -> Result<Vec<u8>, Fail> {
     let size = disk.seek_end()?;
     let Ok(len) = usize::try_from(size) else {
         return Err(Fail::new("the disk is too long"));
@@ -113,14 +129,8 @@ pub(crate) fn image_with_foo(alloc: Global) -> Result<Vec<u8>, Fail> {
     Ok(disk.bytes().to_vec(alloc)?)
 }
 
-/// A disk over a new file of these bytes.
-pub(crate) fn make_file(rt: &HostRuntime, path: &str, bytes: &[u8]) -> Result<FileDisk, Fail> {
-    fs::write(rt, path, bytes)?;
-    Ok(FileDisk::open(rt, path)?)
-}
-
-// Makes a new table on a disk of 100 sectors of 512 bytes and shows it.
-fn new_and_show<R: Abort, D: Disk>(rt: &R, alloc: Global, disk: &mut D) -> Result<(), Fail> {
+#[test]
+fn a_new_table_is_shown(rt: HostRuntime) -> Result<(), Fail> {
     let line =
         "sector 512 form primary disk ffffffffffffffffffffffffffffffff usable 34..66 entries 128 align 2048\n";
     let rows = [
@@ -128,21 +138,6 @@ fn new_and_show<R: Abort, D: Disk>(rt: &R, alloc: Global, disk: &mut D) -> Resul
         ("512 show", 0, line),
         ("auto show", 0, line),
     ];
-    assert_rows(rt, alloc, disk, &rows)
-}
-
-#[test]
-fn a_new_table_is_shown(rt: HostRuntime) -> Result<(), Fail> {
-    let alloc = rt.alloc();
-    new_and_show(&rt, alloc, &mut disk_of(alloc, 0, 51_200)?)
-}
-
-#[test]
-fn a_new_table_in_a_file_is_shown(rt: HostRuntime) -> Result<(), Fail> {
-    let path = "shown.img";
-    let image = vec![in rt.alloc(); 0; 51_200]?;
-    let mut disk = make_file(&rt, path, image.as_slice())?;
-    new_and_show(&rt, rt.alloc(), &mut disk)?;
-    fs::remove_file(&rt, path)?;
-    Ok(())
+    let zeros = vec![in rt.alloc(); 0; 51_200]?;
+    assert_rows_on(&rt, "shown.img", &zeros, &rows)
 }

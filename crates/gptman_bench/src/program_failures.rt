@@ -44,7 +44,7 @@ fn shown_with(alloc: Global, damaged: &[usize]) -> Result<Outcome, Fail> {
 #[test]
 fn damage_in_both_copies_is_named(rt: HostRuntime) -> Result<(), Fail> {
     let alloc = rt.alloc();
-    let rows: [(&[usize], &str); 4] = [
+    let rows: [(&[usize], &str); 5] = [
         (&[512, 50_688], "fault: InvalidSignature\n"),
         (
             &[520, 50_688],
@@ -57,6 +57,10 @@ fn damage_in_both_copies_is_named(rt: HostRuntime) -> Result<(), Fail> {
         (
             &[536, 50_688],
             "fault: ReadError(InvalidChecksum, InvalidSignature)\n",
+        ),
+        (
+            &[1024, 50_688],
+            "fault: ReadError(InvalidPartitionEntryArrayChecksum, InvalidSignature)\n",
         ),
     ];
     for (damaged, line) in rows {

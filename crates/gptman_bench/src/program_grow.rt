@@ -1,11 +1,10 @@
 //! Images whose length was changed: what `check` says of them, and what `grow` makes of them.
 
 use crate::fixtures::{put, read_image};
-use crate::program::{Row, assert_rows, call_line, image_with_foo, make_file};
+use crate::program::{assert_rows_on, call_line, image_with_foo};
 use crate::stops::{fates, is_same_table};
 use gptman::{Fate, GPT, MemoryDisk};
 use std::alloc::Global;
-use std::fs;
 use std::process::Abort;
 use std::test::Fail;
 
@@ -25,105 +24,76 @@ fn unheaded_image_of(alloc: Global, sectors: usize) -> Result<Vec<u8>, Fail> {
     Ok(image)
 }
 
-fn assert_rows_on<R: Abort>(
-    rt: &R,
-    alloc: Global,
-    image: Vec<u8>,
-    rows: &[Row],
-) -> Result<(), Fail> {
-    assert_rows(rt, alloc, &mut MemoryDisk::new(alloc, image)?, rows)
+#[test]
+fn a_checked_image_is_one_table(rt: HostRuntime) -> Result<(), Fail> {
+    let image = image_of(rt.alloc(), 100)?;
+    assert_rows_on(&rt, "same.img", &image, &[("512 check", 0, SAME)])
 }
 
 #[test]
-fn a_checked_image_is_one_table_or_not(rt: HostRuntime) -> Result<(), Fail> {
+fn the_fault_of_each_copy_is_told(rt: HostRuntime) -> Result<(), Fail> {
     let alloc = rt.alloc();
-    assert_rows_on(&rt, alloc, image_of(alloc, 100)?, &[("512 check", 0, SAME)])?;
     let no_backup = "primary ok\nbackup fault InvalidSignature\nsame no\n";
-    assert_rows_on(
-        &rt,
-        alloc,
-        image_of(alloc, 200)?,
-        &[("512 check", 1, no_backup)],
-    )?;
+    let image = image_of(alloc, 200)?;
+    assert_rows_on(&rt, "end.img", &image, &[("512 check", 1, no_backup)])?;
     let no_primary = "primary fault InvalidSignature\nbackup ok\nsame no\n";
-    assert_rows_on(
-        &rt,
-        alloc,
-        unheaded_image_of(alloc, 100)?,
-        &[("512 check", 1, no_primary)],
-    )?;
+    let image = unheaded_image_of(alloc, 100)?;
+    assert_rows_on(&rt, "head.img", &image, &[("512 check", 1, no_primary)])?;
     let neither = "primary fault Io\nbackup fault InvalidSignature\nsame no\n";
-    let ones = vec![in alloc; 1; 5]?;
-    assert_rows_on(&rt, alloc, ones, &[("512 check", 1, neither)])
+    assert_rows_on(&rt, "ones.img", &[1; 5], &[("512 check", 1, neither)])
 }
 
-// A disk GUID of another table stands in the backup copy.
+// The backup copy is that of a table with another disk GUID.
 #[test]
 fn two_good_copies_of_two_tables_are_not_the_same(rt: HostRuntime) -> Result<(), Fail> {
     let alloc = rt.alloc();
     let mut image = image_of(alloc, 100)?;
     let mut other = MemoryDisk::new(alloc, image.clone()?)?;
     call_line(alloc, &mut other, "512 new V")?;
-    put(
-        &mut image,
-        67 * 512,
-        other.bytes().get(67 * 512..).unwrap_or(&[]),
-    );
+    let backup = other.bytes().get(67 * 512..).unwrap_or(&[]);
+    put(&mut image, 67 * 512, backup);
     let differ = "primary ok\nbackup ok\nsame no\n";
-    assert_rows_on(&rt, alloc, image, &[("512 check", 1, differ)])
+    assert_rows_on(&rt, "two.img", &image, &[("512 check", 1, differ)])
 }
 
 #[test]
-fn an_image_of_another_length_is_grown(rt: HostRuntime) -> Result<(), Fail> {
-    let alloc = rt.alloc();
+fn a_longer_image_has_more_usable_sectors(rt: HostRuntime) -> Result<(), Fail> {
+    let lines =
+        "sector 512 form primary disk ffffffffffffffffffffffffffffffff usable 34..166 entries 128 align 1\n1 11111111111111111111111111111111 22222222222222222222222222222222 34..43 0000000000000000 Foo\n";
     let rows = [
         ("512 grow", 0, "ok\n"),
         ("512 check", 0, SAME),
-        (
-            "512 show",
-            0,
-            "sector 512 form primary disk ffffffffffffffffffffffffffffffff usable 34..166 entries 128 align 1\n1 11111111111111111111111111111111 22222222222222222222222222222222 34..43 0000000000000000 Foo\n",
-        ),
+        ("512 show", 0, lines),
     ];
-    assert_rows_on(&rt, alloc, image_of(alloc, 200)?, &rows)?;
-    let rows = [
-        ("512 grow", 0, "ok\n"),
-        ("512 check", 0, SAME),
-        (
-            "512 show",
-            0,
-            "sector 512 form primary disk ffffffffffffffffffffffffffffffff usable 34..65 entries 128 align 1\n1 11111111111111111111111111111111 22222222222222222222222222222222 34..43 0000000000000000 Foo\n",
-        ),
-    ];
-    assert_rows_on(&rt, alloc, image_of(alloc, 99)?, &rows)
+    assert_rows_on(&rt, "longer.img", &image_of(rt.alloc(), 200)?, &rows)
 }
 
 #[test]
-fn a_grown_file_has_one_table(rt: HostRuntime) -> Result<(), Fail> {
-    let alloc = rt.alloc();
-    let path = "grown.img";
-    let mut disk = make_file(&rt, path, image_of(alloc, 200)?.as_slice())?;
-    let rows = [("512 grow", 0, "ok\n"), ("512 check", 0, SAME)];
-    assert_rows(&rt, alloc, &mut disk, &rows)?;
-    fs::remove_file(&rt, path)?;
-    Ok(())
+fn a_shorter_image_has_fewer_usable_sectors(rt: HostRuntime) -> Result<(), Fail> {
+    let lines =
+        "sector 512 form primary disk ffffffffffffffffffffffffffffffff usable 34..65 entries 128 align 1\n1 11111111111111111111111111111111 22222222222222222222222222222222 34..43 0000000000000000 Foo\n";
+    let rows = [
+        ("512 grow", 0, "ok\n"),
+        ("512 check", 0, SAME),
+        ("512 show", 0, lines),
+    ];
+    assert_rows_on(&rt, "shorter.img", &image_of(rt.alloc(), 99)?, &rows)
 }
 
 #[test]
 fn a_partition_that_does_not_fit_is_not_cut(rt: HostRuntime) -> Result<(), Fail> {
-    let alloc = rt.alloc();
     let refused = [("512 grow", 1, "fault: InvalidPartitionBoundaries\n")];
-    assert_rows_on(&rt, alloc, image_of(alloc, 70)?, &refused)
+    assert_rows_on(&rt, "cut.img", &image_of(rt.alloc(), 70)?, &refused)
 }
 
 #[test]
 fn a_missing_primary_copy_is_written_by_grow(rt: HostRuntime) -> Result<(), Fail> {
     let alloc = rt.alloc();
     let rows = [("512 grow", 0, "ok\n"), ("512 check", 0, SAME)];
-    assert_rows_on(&rt, alloc, unheaded_image_of(alloc, 100)?, &rows)?;
+    assert_rows_on(&rt, "repaired.img", &unheaded_image_of(alloc, 100)?, &rows)?;
     // the backup copy is where the disk ended before
     let refused = [("512 grow", 1, "fault: InvalidSignature\n")];
-    assert_rows_on(&rt, alloc, unheaded_image_of(alloc, 200)?, &refused)
+    assert_rows_on(&rt, "lost.img", &unheaded_image_of(alloc, 200)?, &refused)
 }
 
 // The image with zeros in place of both copies of a table that fits 200 sectors.

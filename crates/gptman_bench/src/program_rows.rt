@@ -1,9 +1,9 @@
 //! Worked examples of the commands, over a disk in memory and over a file.
 
 use crate::fixtures::{disk_of, put};
-use crate::program::{Row, assert_rows, call_line, image_with_foo, make_file};
+use crate::program::{Row, assert_rows, bytes_of, call_line, image_with_foo};
 use gptimg_core::USAGE;
-use gptman::{Disk, MemoryDisk};
+use gptman::{Disk, FileDisk, MemoryDisk};
 use std::alloc::Global;
 use std::fs;
 use std::process::Abort;
@@ -44,8 +44,8 @@ const ADDED: [Row; 5] = [
     ),
 ];
 
-// After these, "Bar" alone is left, under number 1.
-const REMOVED: [Row; 7] = [
+// After these, "Bar" alone is left, under number 1, and there is an MBR.
+const REMOVED: [Row; 8] = [
     ("512 remove 129", 1, "fault: InvalidPartitionNumber\n"),
     ("512 remove 0", 1, "fault: InvalidPartitionNumber\n"),
     ("512 remove 1", 0, "ok\n"),
@@ -56,13 +56,22 @@ const REMOVED: [Row; 7] = [
         0,
         "sector 512 form primary disk ffffffffffffffffffffffffffffffff usable 34..66 entries 128 align 60\n1 11111111111111111111111111111111 33333333333333333333333333333333 60..64 0000000000000000 Bar\n",
     ),
+    ("512 mbr plain", 0, "ok\n"),
     ("auto mbr plain", 2, USAGE),
 ];
 
+// The partition of a plain protective MBR on 100 sectors.
+const PARTITION: [u8; 16] = [
+    0, 0, 2, 0, 0xee, 0xff, 0xff, 0xff, 1, 0, 0, 0, 0x63, 0, 0, 0,
+];
+
+// All rows hold, one after the other. Then a plain MBR stands in the first sector.
 fn assert_all_rows<R: Abort, D: Disk>(rt: &R, alloc: Global, disk: &mut D) -> Result<(), Fail> {
     for rows in [FIRST.as_slice(), ADDED.as_slice(), REMOVED.as_slice()] {
         assert_rows(rt, alloc, disk, rows)?;
     }
+    let wanted = with_mbr(vec![in alloc; 0; 512]?, &PARTITION);
+    assert!(rt; bytes_of(alloc, disk)?.starts_with(&wanted));
     Ok(())
 }
 
@@ -77,16 +86,11 @@ fn the_rows_hold_in_a_file(rt: HostRuntime) -> Result<(), Fail> {
     let alloc = rt.alloc();
     let path = "rows.img";
     let zeros = vec![in alloc; 0; 51_200]?;
-    let mut disk = make_file(&rt, path, zeros.as_slice())?;
-    assert_all_rows(&rt, alloc, &mut disk)?;
+    fs::write(&rt, path, zeros.as_slice())?;
+    assert_all_rows(&rt, alloc, &mut FileDisk::open(&rt, path)?)?;
     fs::remove_file(&rt, path)?;
     Ok(())
 }
-
-// The partition of a plain protective MBR on 100 sectors.
-const PARTITION: [u8; 16] = [
-    0, 0, 2, 0, 0xee, 0xff, 0xff, 0xff, 1, 0, 0, 0, 0x63, 0, 0, 0,
-];
 
 // The image with an MBR of this partition alone.
 fn with_mbr(mut image: Vec<u8>, partition: &[u8; 16]) -> Vec<u8> {
