@@ -1,1 +1,4 @@
 pub mod Printing
+pub mod Read
+pub mod Told
+pub mod Written

@@ -1,7 +1,9 @@
 -- Changes of a table, and what they make of a disk.
-use Rattle.std.specs.Prelude.{◌≡◌, ℕ, ◌+◌, ◌-◌, List, length, Option, None, IsTrue}
+use Rattle.std.specs.Prelude.{◌≡◌, ℕ, ◌+◌, ◌-◌, List, [], ◌∷◌, Option, None, IsTrue}
 use Rattle.std.specs.Str.{chars}
-use Rattle.gptman.specs.Disk.{DiskState, Wrote}
+use Rattle.gptman.specs.Calls.{OnlyRead}
+use Rattle.gptman.specs.Crash.{IsKeptFor}
+use Rattle.gptman.specs.Disk.{DiskState, LeavesOnly, Wrote}
 use Rattle.gptman.specs.Edit.{edited, edit_fault}
 use Rattle.gptman.specs.Entry.{is_unused}
 use Rattle.gptman.specs.Fit.{fit_fault, fitted}
@@ -9,8 +11,8 @@ use Rattle.gptman.specs.Layout.{HasLayout}
 use Rattle.gptman.specs.Name.{units_of}
 use Rattle.gptman.specs.Number.{entry_at, number_fault, with_entry}
 use Rattle.gptman.specs.Place.{IsBestPlace, IsFirstPlace, IsFreeIn, IsLastPlace}
-use Rattle.gptman.specs.Stop.{IsStored}
-use Rattle.gptman.specs.Table.{table_in}
+use Rattle.gptman.specs.Stop.{HoldsOneOf, IsStored}
+use Rattle.gptman.specs.Table.{Table as DiskTable, table_in}
 use Rattle.gptman.specs.Write.{both_ranges}
 use Rattle.gptman.specs.declared.codec.entry.GPTPartitionEntry.{GPTPartitionEntry}
 use Rattle.gptman.specs.declared.edit.Edit.TheVariants.{Remove as RemoveEntry, SortEntries}
@@ -80,3 +82,12 @@ pub record MakesChange (Told : GPT → Type 0) (size : Option ℕ) (change : Cha
   pub wrote : Wrote (both_ranges next.header next.sector_size) old new
   pub stored : HasLayout next.header (table_in next) next.sector_size old.size → IsStored new next.sector_size (table_in next)
   pub told : Told next
+
+-- What a command that changes the table leaves, at every exit: it only read; or it wrote the table that it read, changed, in its four ranges alone. Then, from one
+-- good copy of a table, a stop at any moment leaves that table or the changed one at one place at least.
+pub data LeavesChange (size : Option ℕ) (change : Change) (old new : DiskState) : Type 0 where
+  unwritten : OnlyRead old new → LeavesChange size change old new
+  written : (table next : GPT) → IsReadFrom size old new table → IsChanged old.size change table next → Wrote (both_ranges next.header next.sector_size) old new
+      → ((was : DiskTable) → HasLayout next.header (table_in next) next.sector_size old.size → IsKeptFor old next was
+      → LeavesOnly old new (λ b. HoldsOneOf b next.sector_size (was ∷ table_in next ∷ [])))
+      → LeavesChange size change old new

@@ -88,7 +88,13 @@ abbrev pub addition_in : List (List ℕ) → Option Addition
 addition_in (number ∷ type ∷ unique ∷ size ∷ choice ∷ align ∷ name ∷ []) =
     option_and_then (λ number. option_and_then (λ type_guid. option_and_then (λ unique_guid. option_and_then (λ size. option_and_then (λ choice.
     option_map (λ align. record {
-      number = number; type_guid = type_guid; unique_guid = unique_guid; size = size; choice = choice; align = align; name = name
+      number = number;
+      type_guid = type_guid;
+      unique_guid = unique_guid;
+      size = size;
+      choice = choice;
+      align = align;
+      name = name;
     })
     (size_in align)) (choice_in choice)) (size_in size)) (guid_in unique)) (type_in type)) (entry_number_in number)
 addition_in _ = None

@@ -11,7 +11,7 @@ ghost use Rattle.gptman.specs.Write.{both_ranges};
 ghost use Rattle.gptimg_core.specs.Words.{IsSized, IsSizedChange};
 ghost use Rattle.gptimg_core.specs.Asks.{made_header, made_table, IsReader};
 ghost use Rattle.gptimg_core.specs.Reads.{AreSlotsIn, IsReadFrom, TellsOfTable};
-ghost use Rattle.gptimg_core.specs.Changes.{report_of, MakesChange};
+ghost use Rattle.gptimg_core.specs.Changes.{report_of, LeavesChange, MakesChange};
 ghost use Rattle.gptimg_core.specs.Checks.{is_good, TellsCopies};
 ghost use Rattle.gptimg_core.specs.declared.commands.Report.TheVariants.{Written, Table};
 ghost use Rattle.gptimg_core.specs.declared.words.Change.{Change};
@@ -79,6 +79,8 @@ pub fn perform<D: Disk>(alloc: Global, command: &Command, disk: &mut D) -> Resul
     // A changed table.
     ensures changed { IsTrue (D.state disk.old).is_honest → (size : Option ℕ) (change : Change) → command.now ≡ Changing size change
         → IfOk result (λ report. MakesChange (λ g. report ≡ report_of change g) size change (D.state disk.old) (D.state disk.new)) }
+    ensures leaves { IsTrue (D.state disk.old).is_honest → (size : Option ℕ) (change : Change) → command.now ≡ Changing size change
+        → LeavesChange size change (D.state disk.old) (D.state disk.new) }
 {
     match command {
         Command::New { sector_size, guid } => write_new(alloc, disk, *sector_size, *guid),
@@ -122,6 +124,7 @@ fn list_free<D: Disk>(
     requires aligned { 0 < align }
     ensures keeps { Keeps (D.state disk.old) (D.state disk.new) }
     ensures reads { IsTrue (D.state disk.old).is_honest → OnlyRead (D.state disk.old) (D.state disk.new) }
+    ensures good { IfOk result (λ report. IsTrue (is_good report)) }
     ensures slots { IsTrue (D.state disk.old).is_honest
         → IfOk result (λ report. TellsOfTable (λ g. AreSlotsIn g align report) sector_size (D.state disk.old) (D.state disk.new)) }
 {
@@ -165,13 +168,26 @@ fn write_mbr<D: Disk>(disk: &mut D, sector_size: u64, bootable: bool) -> Result<
     ensures kept { IsTrue (D.state disk.old).is_honest
         → OnErr result (Rose (D.state disk.old) (D.state disk.new) ⊎ Untouched (D.state disk.old) (D.state disk.new)) }
 {
-    if bootable {
-        GPT::write_bootable_protective_mbr_into(disk, sector_size)?;
-    } else {
-        GPT::write_protective_mbr_into(disk, sector_size)?;
-    }
+    lay_mbr(disk, sector_size, bootable)?;
     disk.sync()?;
     Ok(Report::Written)
+}
+
+// Writes a protective MBR, which is not synced.
+fn lay_mbr<D: Disk>(disk: &mut D, sector_size: u64, bootable: bool) -> Result<()>
+    requires { 0 < sector_size }
+    ensures keeps { Keeps (D.state disk.old) (D.state disk.new) }
+    ensures wrote { IsTrue (D.state disk.old).is_honest → Wrote ((446, 66) ∷ []) (D.state disk.old) (D.state disk.new) }
+    ensures laid { IsTrue (D.state disk.old).is_honest
+        → OnOk result ((D.state disk.new).view ≡ overlay (D.state disk.old).view 446 (mbr_bytes bootable sector_size (D.state disk.old).size)) }
+    ensures kept { IsTrue (D.state disk.old).is_honest
+        → OnErr result (Rose (D.state disk.old) (D.state disk.new) ⊎ Untouched (D.state disk.old) (D.state disk.new)) }
+{
+    if bootable {
+        GPT::write_bootable_protective_mbr_into(disk, sector_size)
+    } else {
+        GPT::write_protective_mbr_into(disk, sector_size)
+    }
 }
 
 // Reads the table, changes it and writes it to both places.
@@ -186,8 +202,10 @@ fn change_table<D: Disk>(
     ensures keeps { Keeps (D.state disk.old) (D.state disk.new) }
     ensures kept { IsTrue (D.state disk.old).is_honest
         → OnErr result (Rose (D.state disk.old) (D.state disk.new) ⊎ Untouched (D.state disk.old) (D.state disk.new)) }
+    ensures good { IfOk result (λ report. IsTrue (is_good report)) }
     ensures changed { IsTrue (D.state disk.old).is_honest
         → IfOk result (λ report. MakesChange (λ g. report ≡ report_of change.now g) sector_size change.now (D.state disk.old) (D.state disk.new)) }
+    ensures leaves { IsTrue (D.state disk.old).is_honest → LeavesChange sector_size change.now (D.state disk.old) (D.state disk.new) }
 {
     let mut table = read_table(alloc, disk, sector_size)?;
     let report = make_change(alloc, disk, &mut table, change)?;

@@ -14,7 +14,7 @@ ghost use Rattle.gptman.specs.Mbr.{mbr_bytes};
 ghost use Rattle.gptman.specs.Stop.{IsStored};
 ghost use Rattle.gptman.specs.Write.{both_ranges};
 ghost use Rattle.gptimg_core.specs.Asks.{made_header, made_table, AskFor, IsReader};
-ghost use Rattle.gptimg_core.specs.Changes.{report_of, MakesChange};
+ghost use Rattle.gptimg_core.specs.Changes.{report_of, LeavesChange, MakesChange};
 ghost use Rattle.gptimg_core.specs.Checks.{is_good, HoldOneTable};
 ghost use Rattle.gptimg_core.specs.Lines.{report_lines, table_lines};
 ghost use Rattle.gptimg_core.specs.Prints.{PrintsCopies, PrintsFault, PrintsSlots};
@@ -124,6 +124,8 @@ pub fn run<D: Disk, W: Write>(
     // A changed table: what is stored is the table that was read, after that change.
     ensures changed { IsTrue (D.state disk.old).is_honest → (size : Option ℕ) (change : Change) → AskFor words.now (Changing size change) → result ≡ Ok 0
         → MakesChange (λ g. Appends (W.contents out.old) (W.contents out.new) (report_lines (report_of change g))) size change (D.state disk.old) (D.state disk.new) }
+    ensures leaves { IsTrue (D.state disk.old).is_honest → (size : Option ℕ) (change : Change) → AskFor words.now (Changing size change)
+        → LeavesChange size change (D.state disk.old) (D.state disk.new) }
 {
     let Some(command) = words::parse(words) else {
         out.write_all(USAGE.as_bytes())?;

@@ -55,7 +55,11 @@ fn print_copies<W: Write>(out: &mut W, copies: &BothCopies) -> io::Result<()>
 {
     print_copy(out, "primary", &copies.primary)?;
     print_copy(out, "backup", &copies.backup)?;
-    let same = if copies.are_same { "same yes\n" } else { "same no\n" };
+    let same = if copies.are_same {
+        "same yes\n"
+    } else {
+        "same no\n"
+    };
     out.write_all(same.as_bytes())
 }
 

@@ -8,7 +8,6 @@ ghost use Rattle.gptimg_core.specs.Words.{addition_in, alone, change_in, named_c
 use crate::words::values::{
     parse_choice, parse_entry_number, parse_guid, parse_kind, parse_sectors, parse_size, parse_type,
 };
-
 use std::marker::Model;
 
 mod values;
@@ -18,13 +17,23 @@ mod values;
 #[derive(Drop)]
 pub enum Command<'a> {
     /// To write a new table with this disk GUID.
-    New { sector_size: u64, guid: [u8; 16] },
+    New {
+        sector_size: u64,
+        guid: [u8; 16],
+    },
     /// To write a protective MBR.
-    Mbr { sector_size: u64, bootable: bool },
+    Mbr {
+        sector_size: u64,
+        bootable: bool,
+    },
     /// To look at both copies of the table.
-    Check { sector_size: u64 },
+    Check {
+        sector_size: u64,
+    },
     /// To print what the table on the disk is.
-    Show { sector_size: Option<u64> },
+    Show {
+        sector_size: Option<u64>,
+    },
     /// To print the free sectors, as slots that begin at multiples of so many sectors.
     Free {
         sector_size: Option<u64>,

@@ -134,9 +134,7 @@ fn has_unused(table: &GPT, number: u32) -> bool
     ensures number { IsTrue result → (number_fault table.now number ≡ None) × IsNumber table.now number }
     ensures unused { IsTrue result → IsTrue (is_unused (entry_at table.now number)) }
 {
-    number >= 1
-        && number <= table.header.number_of_partition_entries
-        && table[number].is_unused()
+    number >= 1 && number <= table.header.number_of_partition_entries && table[number].is_unused()
 }
 
 // The place that is chosen for so many sectors.

@@ -5,6 +5,7 @@ ghost use Rattle.gptman.specs.Disk.{Keeps, Rose};
 ghost use Rattle.gptman.specs.Calls.{answer_of, Fails, OnlyRead, Refuses};
 ghost use Rattle.gptman.specs.Copy.{copy_at};
 ghost use Rattle.gptman.specs.Fault.{fault_of, io as io_fault, out_of_memory};
+ghost use Rattle.gptman.specs.Reading.{backup, copy_in};
 ghost use Rattle.gptimg_core.specs.Checks.{seen_as, AreBothForms, AreFoundSame, AreOneTable, IsChecked};
 
 use gptman::{Disk, Error, GPTHeader, GPTPartitionEntry, Result};
@@ -41,11 +42,7 @@ pub fn check<D: Disk>(alloc: Global, disk: &mut D, sector_size: u64) -> Result<B
 {
     let size = disk.seek_end()?;
     let primary = look_at(alloc, disk, sector_size, sector_size)?;
-    let backup = if size < sector_size {
-        Err(Error::InvalidSignature)
-    } else {
-        look_at(alloc, disk, sector_size, (size / sector_size - 1) * sector_size)?
-    };
+    let backup = look_at_backup(alloc, disk, sector_size, size)?;
     let are_same = are_same(&primary, &backup);
     Ok(BothCopies {
         primary,
@@ -54,8 +51,39 @@ pub fn check<D: Disk>(alloc: Global, disk: &mut D, sector_size: u64) -> Result<B
     })
 }
 
+// Reads the copy in the last whole sector of a disk of so many bytes.
+fn look_at_backup<D: Disk>(
+    alloc: Global,
+    disk: &mut D,
+    sector_size: u64,
+    size: u64,
+) -> Result<Result<FoundCopy>>
+    requires sector { 0 < sector_size }
+    requires whole { size ≡ (D.state disk.old).size }
+    ensures keeps { Keeps (D.state disk.old) (D.state disk.new) }
+    ensures reads { IsTrue (D.state disk.old).is_honest → OnlyRead (D.state disk.old) (D.state disk.new) }
+    ensures found { IsTrue (D.state disk.old).is_honest → IfOk result (λ found. Fails found (D.state disk.old) (D.state disk.new)
+        ⊎ (answer_of seen_as found ≡ copy_in backup (D.state disk.old).view sector_size)) }
+    ensures refused { IfErr result (λ e. fault_of e ≡ out_of_memory) }
+{
+    if size < sector_size {
+        return Ok(Err(Error::InvalidSignature));
+    }
+    look_at(
+        alloc,
+        disk,
+        sector_size,
+        (size / sector_size - 1) * sector_size,
+    )
+}
+
 // Reads the copy whose header is at that byte. Want of memory is no fault of the copy.
-fn look_at<D: Disk>(alloc: Global, disk: &mut D, sector_size: u64, at: u64) -> Result<Result<FoundCopy>>
+fn look_at<D: Disk>(
+    alloc: Global,
+    disk: &mut D,
+    sector_size: u64,
+    at: u64,
+) -> Result<Result<FoundCopy>>
     requires { 0 < sector_size }
     ensures keeps { Keeps (D.state disk.old) (D.state disk.new) }
     ensures reads { IsTrue (D.state disk.old).is_honest → OnlyRead (D.state disk.old) (D.state disk.new) }
@@ -109,7 +137,8 @@ fn are_same(primary: &Result<FoundCopy>, backup: &Result<FoundCopy>) -> bool
 fn are_one_table(primary: &FoundCopy, backup: &FoundCopy) -> bool
     ensures { IsTrue result → AreOneTable (seen_as primary.now) (seen_as backup.now) }
 {
-    are_both_forms(&primary.header, &backup.header) && are_same_entries(&primary.entries, &backup.entries)
+    are_both_forms(&primary.header, &backup.header)
+        && are_same_entries(&primary.entries, &backup.entries)
 }
 
 // Whether the two headers are those of one table, the first in primary form and the second in backup

@@ -1,0 +1,85 @@
+use Rattle.std.proofs.Common.{◌≡◌, ⊎_elim, inl, inr, sym, ◌∙◌, subst, ap, ℕ}
+use Rattle.std.specs.Prelude.{IsTrue}
+use Rattle.gptman.specs.Layout.{HasLayout}
+use Rattle.gptman.specs.Table.{table_in}
+use Rattle.gptman.proofs.Outcomes.{on_err_of}
+use Rattle.gptman.proofs.Ranges.{within_none, within_self}
+use Rattle.gptman.proofs.Readers.{reads_then}
+use Rattle.gptman.proofs.Runs.{keeps_then, rose_since, wrote_then, wrote_wider}
+use Rattle.gptimg_core.specs.Changes.{IsChanged, unwritten, written}
+use Rattle.gptimg_core.proofs.Read.{read_before}
+use Rattle.gptimg_core.proofs.Written.{leaves_since, wrote_since}
+use Rattle.gptimg_core.proofs.commands.change_table.Goals as goal
+
+pub returns-in_err-write_into-clause-kept : goal.returns-in_err-write_into-clause-kept
+returns-in_err-write_into-clause-kept g c honest =
+    let first = c.read_table.ensures.reads honest in
+    let read = reads_then first (c.make_change.ensures.reads first.wrote.honest) in
+    let keeps = keeps_then c.read_table.ensures.keeps c.make_change.ensures.keeps in
+    let refused = c.in_err-write_into.ensures in
+    on_err_of _ (⊎_elim
+    (λ failed. inl (rose_since _ (g.D.Disk.state c.make_change.new.disk) (g.D.Disk.state c.write_into.new.disk) keeps (refused.cause failed)))
+    (λ same. inr (record { view = same.view ∙ read.view; pending = same.pending ∙ read.pending })) (refused.untouched read.wrote.honest))
+
+pub returns-clause-changed : goal.returns-clause-changed
+returns-clause-changed g c honest =
+    let old = g.D.Disk.state c.args.disk.now in
+    let mid = g.D.Disk.state c.read_table.new.disk in
+    let last = g.D.Disk.state c.make_change.new.disk in
+    let new = g.D.Disk.state c.write_into.new.disk in
+    let table = c.in_ok-table.table in
+    let next = c.make_change.new.table in
+    let first = c.read_table.ensures.reads honest in
+    let read = reads_then first (c.make_change.ensures.reads first.wrote.honest) in
+    let keeps = keeps_then c.read_table.ensures.keeps c.make_change.ensures.keeps in
+    record {
+      table = table;
+      next = next;
+      read = read_before c.args.sector_size old mid new table (c.in_ok-table.ensures.read honest) (keeps_then c.make_change.ensures.keeps c.write_into.ensures.keeps);
+      changed = subst (λ (n : ℕ). IsChanged n c.args.change.now table next) c.read_table.ensures.keeps.size c.in_ok-report.ensures.changed;
+      wrote = wrote_then (within_self _) (wrote_wider within_none read.wrote) (c.write_into.ensures.wrote read.wrote.honest);
+      stored = λ layout. c.in_ok-write_into.ensures.stored read.wrote.honest
+          (subst (λ (n : ℕ). HasLayout next.header (table_in next) next.sector_size n) (sym keeps.size) layout);
+      told = c.in_ok-report.ensures.told;
+    }
+
+pub returns-in_err-write_into-clause-leaves : goal.returns-in_err-write_into-clause-leaves
+returns-in_err-write_into-clause-leaves g c = λ honest.
+    let old = g.D.Disk.state c.args.disk.now in
+    let mid = g.D.Disk.state c.read_table.new.disk in
+    let last = g.D.Disk.state c.make_change.new.disk in
+    let new = g.D.Disk.state c.write_into.new.disk in
+    let table = c.in_ok-table.table in
+    let next = c.make_change.new.table in
+    let first = c.read_table.ensures.reads honest in
+    let read = reads_then first (c.make_change.ensures.reads first.wrote.honest) in
+    let keeps = keeps_then c.read_table.ensures.keeps c.make_change.ensures.keeps in
+    let wrote = c.write_into.ensures.wrote read.wrote.honest in
+    written table next
+    (read_before c.args.sector_size old mid new table (c.in_ok-table.ensures.read honest) (keeps_then c.make_change.ensures.keeps c.write_into.ensures.keeps))
+    (subst (λ (n : ℕ). IsChanged n c.args.change.now table next) c.read_table.ensures.keeps.size c.in_ok-report.ensures.changed)
+    (wrote_since next old last new read wrote)
+    (λ was layout kept. leaves_since next was old last new read keeps wrote (c.write_into.ensures.one_good read.wrote.honest) layout kept)
+
+pub returns-clause-leaves : goal.returns-clause-leaves
+returns-clause-leaves g c = λ honest.
+    let old = g.D.Disk.state c.args.disk.now in
+    let mid = g.D.Disk.state c.read_table.new.disk in
+    let last = g.D.Disk.state c.make_change.new.disk in
+    let new = g.D.Disk.state c.write_into.new.disk in
+    let table = c.in_ok-table.table in
+    let next = c.make_change.new.table in
+    let first = c.read_table.ensures.reads honest in
+    let read = reads_then first (c.make_change.ensures.reads first.wrote.honest) in
+    let keeps = keeps_then c.read_table.ensures.keeps c.make_change.ensures.keeps in
+    let wrote = c.write_into.ensures.wrote read.wrote.honest in
+    written table next
+    (read_before c.args.sector_size old mid new table (c.in_ok-table.ensures.read honest) (keeps_then c.make_change.ensures.keeps c.write_into.ensures.keeps))
+    (subst (λ (n : ℕ). IsChanged n c.args.change.now table next) c.read_table.ensures.keeps.size c.in_ok-report.ensures.changed)
+    (wrote_since next old last new read wrote)
+    (λ was layout kept. leaves_since next was old last new read keeps wrote (c.write_into.ensures.one_good read.wrote.honest) layout kept)
+
+pub returns-in_err-report-clause-leaves : goal.returns-in_err-report-clause-leaves
+returns-in_err-report-clause-leaves g c = λ honest.
+    let first = c.read_table.ensures.reads honest in
+    unwritten (reads_then first (c.make_change.ensures.reads first.wrote.honest))

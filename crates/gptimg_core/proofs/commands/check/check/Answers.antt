@@ -1,0 +1,61 @@
+use Rattle.std.proofs.Common.{◌≡◌, ◌⊎◌, inl, inr, ℕ, List, Result, Ok, Err, sym, ap, ◌∙◌}
+use Rattle.gptman.specs.Calls.{answer_of, Fails}
+use Rattle.gptman.specs.Copy.{copy_at}
+use Rattle.gptman.specs.Disk.{DiskState}
+use Rattle.gptman.specs.Reading.{primary, backup, copy_in}
+use Rattle.gptman.specs.declared.error.Error.{Error}
+use Rattle.gptman.proofs.Readers.{reads_then, reads_seek}
+use Rattle.gptman.proofs.Runs.{keeps_then}
+use Rattle.gptimg_core.specs.Checks.{seen_as, AreFoundSame, HoldOneTable}
+use Rattle.gptimg_core.specs.declared.commands.check.FoundCopy.{FoundCopy}
+use Rattle.gptimg_core.proofs.Read.{found_before, found_since}
+use Rattle.gptimg_core.proofs.commands.check.check.Goals as goal
+
+-- what was found as one table is held so
+both_hold : (view : List ℕ) (ss : ℕ) (p b : Result FoundCopy Error) (old new : DiskState) → Fails p old new ⊎ (answer_of seen_as p ≡ copy_in primary view ss)
+    → Fails b old new ⊎ (answer_of seen_as b ≡ copy_in backup view ss) → AreFoundSame (answer_of seen_as p) (answer_of seen_as b)
+    → HoldOneTable view ss × AreFoundSame (answer_of seen_as p) (answer_of seen_as b)
+both_hold view ss (Ok p) (Ok b) old new (inl fails) at_backup same = absurd fails.0
+both_hold view ss (Ok p) (Ok b) old new (inr first) (inl fails) same = absurd fails.0
+both_hold view ss (Ok p) (Ok b) old new (inr first) (inr second) same = (
+  record {
+    table = same.table;
+    at_primary = record { copy = seen_as p; accepted = sym first; form = same.at_primary };
+    at_backup = record { copy = seen_as b; accepted = sym second; form = same.at_backup };
+  },
+  same,
+)
+both_hold view ss (Ok p) (Err e) old new at_primary at_backup same = absurd same
+both_hold view ss (Err e) (Ok b) old new at_primary at_backup same = absurd same
+both_hold view ss (Err e) (Err d) old new at_primary at_backup same = absurd same
+
+primary_as : (old start : List ℕ) (ss : ℕ) → start ≡ old → copy_at start ss ss ≡ copy_in primary old ss
+unfolding copy_in
+primary_as old start ss same = ap (λ (x : List ℕ). copy_at x ss ss) same
+
+pub returns-in_err-backup-clause-reads : goal.returns-in_err-backup-clause-reads
+returns-in_err-backup-clause-reads g c = λ honest.
+    let end = reads_seek (c.seek_end.ensures.view honest) (c.seek_end.ensures.pending honest) (c.seek_end.ensures.wrote honest) in
+    let first = reads_then end (c.look_at.ensures.reads end.wrote.honest) in
+    reads_then first (c.look_at_backup.ensures.reads first.wrote.honest)
+
+pub returns-clause-checked : goal.returns-clause-checked
+returns-clause-checked g c = λ honest.
+    let ss = c.args.sector_size in
+    let old = g.D.Disk.state c.args.disk.now in
+    let start = g.D.Disk.state c.seek_end.new.self in
+    let mid = g.D.Disk.state c.look_at.new.disk in
+    let new = g.D.Disk.state c.look_at_backup.new.disk in
+    let p = c.in_ok-primary.primary in
+    let b = c.in_ok-backup.backup in
+    let end = reads_seek (c.seek_end.ensures.view honest) (c.seek_end.ensures.pending honest) (c.seek_end.ensures.wrote honest) in
+    let first = reads_then end (c.look_at.ensures.reads end.wrote.honest) in
+    let at_primary = found_before seen_as p old mid new (copy_in primary old.view ss) c.look_at_backup.ensures.keeps
+    (found_since seen_as p old start mid _ _ c.seek_end.ensures.keeps (primary_as old.view start.view ss end.view) (c.in_ok-primary.ensures.found end.wrote.honest)) in
+    let at_backup = found_since seen_as b old mid new (copy_in backup old.view ss) _ (keeps_then c.seek_end.ensures.keeps c.look_at.ensures.keeps)
+    (ap (λ (x : List ℕ). copy_in backup x ss) first.view) (c.in_ok-backup.ensures.found first.wrote.honest) in
+    record {
+      at_primary = at_primary;
+      at_backup = at_backup;
+      same = λ yes. both_hold old.view ss p b old new at_primary at_backup (c.are_same-are_same.ensures yes);
+    }

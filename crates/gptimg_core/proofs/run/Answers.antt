@@ -1,0 +1,87 @@
+use Rattle.std.proofs.Common.{◌≡◌, inr}
+use Rattle.gptimg_core.specs.Changes.{report_of}
+use Rattle.gptimg_core.specs.declared.commands.Report.TheVariants.{Written, Table}
+use Rattle.gptimg_core.specs.declared.words.Command.TheVariants.{New, Mbr, Check, Show, Free, Change as Changing}
+use Rattle.gptimg_core.proofs.Told.{change_as, difference_printed, lines_as, same_printed, slots_printed, told_as}
+use Rattle.gptimg_core.proofs.run.Goals as goal
+
+pub returns-in_err-print_report-in-Ok-clause-wrote : goal.returns-in_err-print_report-in-Ok-clause-wrote
+returns-in_err-print_report-in-Ok-clause-wrote g c honest ss guid asks =
+    let new : c.in-Some.command ≡ New ss guid = cc c.in-Some.ensures.value in
+    c.perform.ensures.wrote honest ss guid new
+
+pub returns-in_err-print_fault-in-Err-clause-wrote : goal.returns-in_err-print_fault-in-Err-clause-wrote
+returns-in_err-print_fault-in-Err-clause-wrote g c honest ss guid asks =
+    let new : c.in-Some.command ≡ New ss guid = cc c.in-Some.ensures.value in
+    c.perform.ensures.wrote honest ss guid new
+
+pub returns-in_ok-print_report-in-Ok-clause-wrote : goal.returns-in_ok-print_report-in-Ok-clause-wrote
+returns-in_ok-print_report-in-Ok-clause-wrote g c honest ss guid asks =
+    let new : c.in-Some.command ≡ New ss guid = cc c.in-Some.ensures.value in
+    c.perform.ensures.wrote honest ss guid new
+
+pub returns-in_ok-print_fault-in-Err-clause-wrote : goal.returns-in_ok-print_fault-in-Err-clause-wrote
+returns-in_ok-print_fault-in-Err-clause-wrote g c honest ss guid asks =
+    let new : c.in-Some.command ≡ New ss guid = cc c.in-Some.ensures.value in
+    c.perform.ensures.wrote honest ss guid new
+
+pub returns-in_ok-print_report-in-Ok-clause-stored : goal.returns-in_ok-print_report-in-Ok-clause-stored
+returns-in_ok-print_report-in-Ok-clause-stored g c honest ss guid asks layout done =
+    let new : c.in-Some.command ≡ New ss guid = cc c.in-Some.ensures.value in
+    c.in-Ok.ensures.stored honest ss guid new layout
+
+pub returns-in_ok-print_report-in-Ok-clause-shown : goal.returns-in_ok-print_report-in-Ok-clause-shown
+returns-in_ok-print_report-in-Ok-clause-shown g c honest size asks done =
+    let show : c.in-Some.command ≡ Show size = cc c.in-Some.ensures.value in
+    told_as (λ table is. lines_as (g.W.Write.contents c.args.out.now) (g.W.Write.contents c.print_report.new.out) c.in-Ok.report (Table table) c.in_ok-print_report-in-Ok.ensures is)
+    (c.in-Ok.ensures.shown honest size show)
+
+pub returns-in_ok-print_report-in-Ok-clause-free : goal.returns-in_ok-print_report-in-Ok-clause-free
+returns-in_ok-print_report-in-Ok-clause-free g c honest size align asks done =
+    let free : c.in-Some.command ≡ Free size align = cc c.in-Some.ensures.value in
+    told_as (λ table are. slots_printed (g.W.Write.contents c.args.out.now) (g.W.Write.contents c.print_report.new.out) table align c.in-Ok.report c.in_ok-print_report-in-Ok.ensures are)
+    (c.in-Ok.ensures.free honest size align free)
+
+pub returns-in_ok-print_report-in-Ok-clause-same : goal.returns-in_ok-print_report-in-Ok-clause-same
+returns-in_ok-print_report-in-Ok-clause-same g c honest ss asks done =
+    let check : c.in-Some.command ≡ Check ss = cc c.in-Some.ensures.value in
+    same_printed (g.W.Write.contents c.args.out.now) (g.W.Write.contents c.print_report.new.out) ss (g.D.Disk.state c.args.disk.now) (g.D.Disk.state c.perform.new.disk)
+    c.in-Ok.report c.status_of.result c.status_of.ensures done (c.in-Ok.ensures.checked honest ss check) c.in_ok-print_report-in-Ok.ensures
+
+pub returns-in_ok-print_report-in-Ok-clause-differ : goal.returns-in_ok-print_report-in-Ok-clause-differ
+returns-in_ok-print_report-in-Ok-clause-differ g c honest ss asks done =
+    let check : c.in-Some.command ≡ Check ss = cc c.in-Some.ensures.value in
+    inr (difference_printed (g.W.Write.contents c.args.out.now) (g.W.Write.contents c.print_report.new.out) ss (g.D.Disk.state c.args.disk.now) (g.D.Disk.state c.perform.new.disk)
+    c.in-Ok.report c.status_of.result c.status_of.ensures done (c.in-Ok.ensures.checked honest ss check) c.in_ok-print_report-in-Ok.ensures)
+
+pub returns-in_ok-print_report-in-Ok-clause-mbr_stored : goal.returns-in_ok-print_report-in-Ok-clause-mbr_stored
+returns-in_ok-print_report-in-Ok-clause-mbr_stored g c honest ss bootable asks done =
+    let mbr : c.in-Some.command ≡ Mbr ss bootable = cc c.in-Some.ensures.value in
+    let laid = c.in-Ok.ensures.mbr_laid honest ss bootable mbr in
+    (lines_as (g.W.Write.contents c.args.out.now) (g.W.Write.contents c.print_report.new.out) c.in-Ok.report Written c.in_ok-print_report-in-Ok.ensures laid.0, laid.1, laid.2)
+
+pub returns-in_ok-print_report-in-Ok-clause-changed : goal.returns-in_ok-print_report-in-Ok-clause-changed
+returns-in_ok-print_report-in-Ok-clause-changed g c honest size change asks done =
+    let changing : c.in-Some.command ≡ Changing size change = cc c.in-Some.ensures.value in
+    change_as (λ next is. lines_as (g.W.Write.contents c.args.out.now) (g.W.Write.contents c.print_report.new.out) c.in-Ok.report (report_of change next) c.in_ok-print_report-in-Ok.ensures is)
+    (c.in-Ok.ensures.changed honest size change changing)
+
+pub returns-in_err-print_report-in-Ok-clause-leaves : goal.returns-in_err-print_report-in-Ok-clause-leaves
+returns-in_err-print_report-in-Ok-clause-leaves g c honest size change asks =
+    let changing : c.in-Some.command ≡ Changing size change = cc c.in-Some.ensures.value in
+    c.perform.ensures.leaves honest size change changing
+
+pub returns-in_err-print_fault-in-Err-clause-leaves : goal.returns-in_err-print_fault-in-Err-clause-leaves
+returns-in_err-print_fault-in-Err-clause-leaves g c honest size change asks =
+    let changing : c.in-Some.command ≡ Changing size change = cc c.in-Some.ensures.value in
+    c.perform.ensures.leaves honest size change changing
+
+pub returns-in_ok-print_report-in-Ok-clause-leaves : goal.returns-in_ok-print_report-in-Ok-clause-leaves
+returns-in_ok-print_report-in-Ok-clause-leaves g c honest size change asks =
+    let changing : c.in-Some.command ≡ Changing size change = cc c.in-Some.ensures.value in
+    c.perform.ensures.leaves honest size change changing
+
+pub returns-in_ok-print_fault-in-Err-clause-leaves : goal.returns-in_ok-print_fault-in-Err-clause-leaves
+returns-in_ok-print_fault-in-Err-clause-leaves g c honest size change asks =
+    let changing : c.in-Some.command ≡ Changing size change = cc c.in-Some.ensures.value in
+    c.perform.ensures.leaves honest size change changing
