@@ -1,258 +1,143 @@
-//! The program over a disk in memory and over a file.
+//! The program over a disk in memory and over a file. The other tests of it stand on the helpers
+//! here.
 
-use crate::fixtures::{
-    are_all, complement, disk_of, image_of_new_table, partition, write, write_copy,
-};
-use gptimg_core::{USAGE, run};
-use gptman::{Disk, Error, FileDisk, GPTHeader, GPTPartitionEntry, MemoryDisk};
-use std::alloc::Global;
-use std::io::Write;
+use crate::fixtures::disk_of;
+use gptimg_core::run;
+use gptman::{Disk, FileDisk, MemoryDisk};
+use std::alloc::{AllocError, Global};
+use std::fs;
 use std::process::Abort;
 use std::test::Fail;
-use std::{fs, io};
 
-const GUID: &str = "ffffffffffffffffffffffffffffffff";
+/// A command line, the status that it ends with, and what it prints.
+pub(crate) type Row<'a> = (&'a str, u8, &'a str);
 
-// What a call answered, and what it printed.
+/// What a call answered, and what it printed.
 #[derive(Drop)]
-struct Outcome {
-    status: u8,
-    printed: Vec<u8>,
+pub(crate) struct Outcome {
+    pub(crate) status: u8,
+    pub(crate) printed: Vec<u8>,
 }
 
-fn strings(alloc: Global, words: &[&str]) -> Result<Vec<String>, Fail> {
-    let mut strings = Vec::new(alloc);
-    for word in words {
-        strings.push(String::from_str(alloc, word)?)?;
-    }
-    Ok(strings)
-}
-
-fn call<D: Disk>(alloc: Global, disk: &mut D, words: &[&str]) -> Result<Outcome, Fail> {
-    let words = strings(alloc, words)?;
+/// Does what these words ask for.
+pub(crate) fn call<D: Disk>(
+    alloc: Global,
+    disk: &mut D,
+    words: &[String],
+) -> Result<Outcome, Fail> {
     let mut printed = Vec::new(alloc);
-    let status = run(alloc, words.as_slice(), disk, &mut printed)?;
+    let status = run(alloc, words, disk, &mut printed)?;
     Ok(Outcome { status, printed })
 }
 
-fn assert_prints<R: Abort>(rt: &R, outcome: &Outcome, status: u8, text: &str) {
+/// Does what this line asks for.
+pub(crate) fn call_line<D: Disk>(alloc: Global, disk: &mut D, line: &str) -> Result<Outcome, Fail> {
+    call(alloc, disk, words_of(alloc, line)?.as_slice())
+}
+
+/// The words of a line. `F`, `T`, `U`, `V` and `Z` stand for GUIDs.
+pub(crate) fn words_of(alloc: Global, line: &str) -> Result<Vec<String>, AllocError> {
+    let mut words = Vec::new(alloc);
+    for word in line.split_whitespace() {
+        words.push(String::from_str(alloc, spelled(word))?)?;
+    }
+    Ok(words)
+}
+
+// The word, or the GUID that it stands for.
+fn spelled(word: &str) -> &str {
+    match word {
+        "F" => "ffffffffffffffffffffffffffffffff",
+        "T" => "11111111111111111111111111111111",
+        "U" => "22222222222222222222222222222222",
+        "V" => "33333333333333333333333333333333",
+        "Z" => "00000000000000000000000000000000",
+        _ => word,
+    }
+}
+
+/// The call ended with this status and printed this.
+pub(crate) fn assert_prints<R: Abort>(rt: &R, outcome: &Outcome, status: u8, text: &str) {
     assert_eq!(rt; outcome.status, status);
     assert_eq!(rt; outcome.printed.as_slice(), text.as_bytes());
 }
 
-// Makes a new table on a disk of 100 sectors of 512 bytes and shows it.
-fn new_and_show<R: Abort, D: Disk>(rt: &R, alloc: Global, disk: &mut D) -> Result<(), Fail> {
-    let made = call(alloc, disk, &["512", "new", GUID])?;
-    assert_prints(rt, &made, 0, "ok\n");
-    let line =
-        "sector 512 form primary disk ffffffffffffffffffffffffffffffff usable 34..66 entries 128 align 2048\n";
-    for sector in ["512", "auto"] {
-        let shown = call(alloc, disk, &[sector, "show"])?;
-        assert_prints(rt, &shown, 0, line);
+/// Each line prints what its row says, in turn. One that is refused changes no byte.
+pub(crate) fn assert_rows<R: Abort, D: Disk>(
+    rt: &R,
+    alloc: Global,
+    disk: &mut D,
+    rows: &[Row],
+) -> Result<(), Fail> {
+    for row in rows {
+        assert_row(rt, alloc, disk, row)?;
     }
     Ok(())
+}
+
+fn assert_row<R: Abort, D: Disk>(
+    rt: &R,
+    alloc: Global,
+    disk: &mut D,
+    row: &Row,
+) -> Result<(), Fail> {
+    let (line, status, text) = *row;
+    let before = bytes_of(alloc, disk)?;
+    let outcome = call_line(alloc, disk, line)?;
+    assert_eq!(rt; outcome.printed.as_slice(), text.as_bytes(), "{line}");
+    assert_eq!(rt; outcome.status, status, "{line}");
+    assert!(rt; status == 0 || bytes_of(alloc, disk)? == before, "{line}");
+    Ok(())
+}
+
+/// The same on a disk in memory with these bytes, and on a file of them at this path.
+pub(crate) fn assert_rows_on(
+    rt: &HostRuntime,
+    path: &str,
+    image: &[u8],
+    rows: &[Row],
+) -> Result<(), Fail> {
+    let alloc = rt.alloc();
+    let mut disk = MemoryDisk::new(alloc, image.to_vec(alloc)?)?;
+    assert_rows(rt, alloc, &mut disk, rows)?;
+    fs::write(rt, path, image)?;
+    assert_rows(rt, alloc, &mut FileDisk::open(rt, path)?, rows)?;
+    fs::remove_file(rt, path)?;
+    Ok(())
+}
+
+/// All bytes of the disk.
+pub(crate) fn bytes_of<D: Disk>(alloc: Global, disk: &mut D) -> Result<Vec<u8>, Fail> {
+    let size = disk.seek_end()?;
+    let Ok(len) = usize::try_from(size) else {
+        return Err(Fail::new("the disk is too long"));
+    };
+    let mut bytes = vec![in alloc; 0; len]?;
+    disk.seek_start(0)?;
+    disk.read_exact(&mut bytes)?;
+    Ok(bytes)
+}
+
+/// The bytes of a disk of 100 sectors of 512 with a new table, to which "Foo" was added from 34 to 43.
+pub(crate) fn image_with_foo(alloc: Global) -> Result<Vec<u8>, Fail> {
+    let mut disk = disk_of(alloc, 0, 51_200)?;
+    for line in ["512 new F", "512 add 1 T U 10 first 1 Foo"] {
+        if call_line(alloc, &mut disk, line)?.status != 0 {
+            return Err(Fail::new("the image was not made"));
+        }
+    }
+    Ok(disk.bytes().to_vec(alloc)?)
 }
 
 #[test]
 fn a_new_table_is_shown(rt: HostRuntime) -> Result<(), Fail> {
-    let alloc = rt.alloc();
-    let mut disk = MemoryDisk::new(alloc, vec![in alloc; 0; 51_200]?)?;
-    new_and_show(&rt, alloc, &mut disk)
-}
-
-#[test]
-fn a_new_table_in_a_file_is_shown(rt: HostRuntime) -> Result<(), Fail> {
-    let alloc = rt.alloc();
-    let path = "shown.img";
-    let zeros = vec![in alloc; 0_u8; 51_200]?;
-    fs::write(&rt, path, zeros.as_slice())?;
-    let mut disk = FileDisk::open(&rt, path)?;
-    new_and_show(&rt, alloc, &mut disk)?;
-    fs::remove_file(&rt, path)?;
-    Ok(())
-}
-
-// A disk of 100 sectors of 512 with this one entry in its primary copy.
-fn disk_with(alloc: Global, entry: GPTPartitionEntry) -> Result<MemoryDisk, Fail> {
-    let mut disk = disk_of(alloc, 0, 51_200)?;
-    let mut header = GPTHeader::new_from(&mut disk, 512, [0xff; 16])?;
-    let entries = vec![in alloc; GPTPartitionEntry::empty(alloc), entry]?;
-    header.number_of_partition_entries = 2;
-    write_copy(&mut header, &mut disk, 512, &entries)??;
-    Ok(disk)
-}
-
-#[test]
-fn used_entries_are_shown(rt: HostRuntime) -> Result<(), Fail> {
-    let alloc = rt.alloc();
-    let mut entry = partition(alloc, "a\tb", [0x22; 16], 34, 43)?;
-    entry.attribute_bits = 4;
-    let shown = call(alloc, &mut disk_with(alloc, entry)?, &["512", "show"])?;
-    let lines =
-        "sector 512 form primary disk ffffffffffffffffffffffffffffffff usable 34..66 entries 2 align 1\n2 0a0a0a0a0a0a0a0a0a0a0a0a0a0a0a0a 22222222222222222222222222222222 34..43 0000000000000004 a?b\n";
-    assert_prints(&rt, &shown, 0, lines);
-    let mut entry = partition(
-        alloc,
-        "\u{1f}\u{20}\u{7e}\u{7f}\u{80}é\u{1f600}",
-        [0x22; 16],
-        0,
-        u64::MAX,
-    )?;
-    entry.attribute_bits = u64::MAX;
-    let shown = call(alloc, &mut disk_with(alloc, entry)?, &["512", "show"])?;
-    let lines =
-        "sector 512 form primary disk ffffffffffffffffffffffffffffffff usable 34..66 entries 2 align 1\n2 0a0a0a0a0a0a0a0a0a0a0a0a0a0a0a0a 22222222222222222222222222222222 0..18446744073709551615 ffffffffffffffff ? ~?\u{80}é\u{1f600}\n";
-    assert_prints(&rt, &shown, 0, lines);
-    let unnamed = partition(alloc, "", [0x22; 16], 34, 43)?;
-    let shown = call(alloc, &mut disk_with(alloc, unnamed)?, &["512", "show"])?;
-    assert!(rt;
-        shown
-            .printed
-            .as_slice()
-            .ends_with(b" 34..43 0000000000000000 \n")
-    );
-    Ok(())
-}
-
-#[test]
-fn refusals_are_named(rt: HostRuntime) -> Result<(), Fail> {
-    let alloc = rt.alloc();
-    let mut small = MemoryDisk::new(alloc, vec![in alloc; 0; 33 * 512]?)?;
-    let refused = call(alloc, &mut small, &["512", "new", GUID])?;
-    assert_prints(&rt, &refused, 1, "fault: Overflow\n");
-    let mut zeros = MemoryDisk::new(alloc, vec![in alloc; 0; 51_200]?)?;
-    let unsigned = call(alloc, &mut zeros, &["512", "show"])?;
-    assert_prints(&rt, &unsigned, 1, "fault: InvalidSignature\n");
-    let mut broken = MemoryDisk::with_fuse(alloc, vec![in alloc; 0; 51_200]?, 0)?;
-    let failed = call(alloc, &mut broken, &["512", "show"])?;
-    assert_prints(&rt, &failed, 1, "fault: Io\n");
-    Ok(())
-}
-
-// What `512 show` prints where these bytes of an image with a new table are complemented.
-fn shown_with(alloc: Global, damaged: &[usize]) -> Result<Outcome, Fail> {
-    let mut image = image_of_new_table(alloc, 0)?;
-    for at in damaged {
-        complement(&mut image, *at);
-    }
-    call(alloc, &mut MemoryDisk::new(alloc, image)?, &["512", "show"])
-}
-
-#[test]
-fn damage_in_both_copies_is_named(rt: HostRuntime) -> Result<(), Fail> {
-    let alloc = rt.alloc();
-    let rows: [(&[usize], &str); 4] = [
-        (&[512, 50_688], "fault: InvalidSignature\n"),
-        (
-            &[520, 50_688],
-            "fault: ReadError(InvalidRevision, InvalidSignature)\n",
-        ),
-        (
-            &[524, 50_688],
-            "fault: ReadError(InvalidHeaderSize, InvalidSignature)\n",
-        ),
-        (
-            &[536, 50_688],
-            "fault: ReadError(InvalidChecksum, InvalidSignature)\n",
-        ),
-    ];
-    for (damaged, line) in rows {
-        let refused = shown_with(alloc, damaged)?;
-        assert_prints(&rt, &refused, 1, line);
-    }
     let line =
-        "sector 512 form backup disk ffffffffffffffffffffffffffffffff usable 34..66 entries 128 align 2048\n";
-    assert_prints(&rt, &shown_with(alloc, &[536])?, 0, line);
-    Ok(())
-}
-
-#[test]
-fn other_words_are_usage(rt: HostRuntime) -> Result<(), Fail> {
-    let alloc = rt.alloc();
-    let mut disk = MemoryDisk::new(alloc, vec![in alloc; 7; 51_200]?)?;
-    let lines: [&[&str]; 22] = [
-        &[],
-        &["512"],
-        &["0", "show"],
-        &["+512", "show"],
-        &["-512", "show"],
-        &["512 ", "show"],
-        &[" 512", "show"],
-        &["", "show"],
-        &["0x200", "show"],
-        &["18446744073709551616", "show"],
-        &["auto"],
-        &["auto", "show", "show"],
-        &["Auto", "show"],
-        &["512", "shows"],
-        &["512", "check"],
-        &["512", "show", "show"],
-        &["512", "new"],
-        &["512", "new", "fffffffffffffffffffffffffffffff"],
-        &["512", "new", "fffffffffffffffffffffffffffffffff"],
-        &["512", "new", "fffffffffffffffffffffffffffffffg"],
-        &["512", "new", GUID, GUID],
-        &["auto", "new", GUID],
+        "sector 512 form primary disk ffffffffffffffffffffffffffffffff usable 34..66 entries 128 align 2048\n";
+    let rows = [
+        ("512 new F", 0, "ok\n"),
+        ("512 show", 0, line),
+        ("auto show", 0, line),
     ];
-    for words in lines {
-        let outcome = call(alloc, &mut disk, words)?;
-        assert_prints(&rt, &outcome, 2, USAGE);
-        assert!(rt; are_all(disk.bytes(), 7));
-    }
-    Ok(())
-}
-
-#[test]
-fn a_guid_may_have_any_case(rt: HostRuntime) -> Result<(), Fail> {
-    let alloc = rt.alloc();
-    let mut disk = MemoryDisk::new(alloc, vec![in alloc; 0; 51_200]?)?;
-    let guid = "00112233445566778899aAbBcCdDeEfF";
-    call(alloc, &mut disk, &["00512", "new", guid])?;
-    let shown = call(alloc, &mut disk, &["512", "show"])?;
-    let line =
-        "sector 512 form primary disk 00112233445566778899aabbccddeeff usable 34..66 entries 128 align 2048\n";
-    assert_prints(&rt, &shown, 0, line);
-    Ok(())
-}
-
-// A writer that takes so many bytes, and then fails.
-#[derive(Drop)]
-struct Short {
-    room: usize,
-}
-
-impl Write for Short {
-    fn write(&mut self, buf: &[u8]) -> io::Result<usize> {
-        if self.room == 0 {
-            return Err(io::Error::from(io::ErrorKind::Other));
-        }
-        let taken = self.room.min(buf.len());
-        self.room -= taken;
-        Ok(taken)
-    }
-
-    fn flush(&mut self) -> io::Result<()> {
-        Ok(())
-    }
-}
-
-#[test]
-fn a_failing_writer_is_an_error(rt: HostRuntime) -> Result<(), Fail> {
-    let alloc = rt.alloc();
-    let mut disk = MemoryDisk::new(alloc, vec![in alloc; 0; 51_200]?)?;
-    let lines: [&[&str]; 4] = [
-        &[],
-        &["512", "show"],
-        &["512", "new", GUID],
-        &["512", "show"],
-    ];
-    for words in lines {
-        let words = strings(alloc, words)?;
-        let outcome = run(alloc, words.as_slice(), &mut disk, &mut Short { room: 2 });
-        assert!(rt; matches!(outcome, Err(Error::Io(_))));
-    }
-    // The table was written before its `ok` could not be printed.
-    let shown = call(alloc, &mut disk, &["512", "show"])?;
-    assert_eq!(rt; shown.status, 0);
-    Ok(())
+    let zeros = vec![in rt.alloc(); 0; 51_200]?;
+    assert_rows_on(&rt, "shown.img", &zeros, &rows)
 }

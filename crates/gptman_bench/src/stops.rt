@@ -38,8 +38,8 @@ fn in_other_form(mut table: GPT) -> GPT {
     table
 }
 
-// Whether two values are one table, in whichever form.
-fn is_same_table(a: &GPT, b: &GPT) -> bool {
+/// Whether two values are one table, in whichever form.
+pub(crate) fn is_same_table(a: &GPT, b: &GPT) -> bool {
     let (first, second) = (&a.header, &b.header);
     a.iter().eq(b.iter())
         && first.disk_guid == second.disk_guid
@@ -88,8 +88,8 @@ fn assert_reads_one(
     Ok(())
 }
 
-// Fates of up to six writes: all this one, and one of them, if it is one of the six, torn.
-fn fates(all: Fate, torn: usize) -> [Fate; 6] {
+/// Fates of up to six writes: all this one, and one of them, if it is one of the six, torn.
+pub(crate) fn fates(all: Fate, torn: usize) -> [Fate; 6] {
     let mut fates = [all; 6];
     if let Some(fate) = fates.get_mut(torn) {
         *fate = Fate::Garbage(7);
