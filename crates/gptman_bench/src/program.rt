@@ -82,15 +82,19 @@ fn disk_with(alloc: Global, entry: GPTPartitionEntry) -> Result<MemoryDisk, Fail
     Ok(disk)
 }
 
+// What `512 show` prints of a disk with this entry.
+fn shown_of(alloc: Global, entry: GPTPartitionEntry) -> Result<Outcome, Fail> {
+    call(alloc, &mut disk_with(alloc, entry)?, &["512", "show"])
+}
+
 #[test]
 fn used_entries_are_shown(rt: HostRuntime) -> Result<(), Fail> {
     let alloc = rt.alloc();
     let mut entry = partition(alloc, "a\tb", [0x22; 16], 34, 43)?;
     entry.attribute_bits = 4;
-    let shown = call(alloc, &mut disk_with(alloc, entry)?, &["512", "show"])?;
     let lines =
         "sector 512 form primary disk ffffffffffffffffffffffffffffffff usable 34..66 entries 2 align 1\n2 0a0a0a0a0a0a0a0a0a0a0a0a0a0a0a0a 22222222222222222222222222222222 34..43 0000000000000004 a?b\n";
-    assert_prints(&rt, &shown, 0, lines);
+    assert_prints(&rt, &shown_of(alloc, entry)?, 0, lines);
     let mut entry = partition(
         alloc,
         "\u{1f}\u{20}\u{7e}\u{7f}\u{80}é\u{1f600}",
@@ -99,12 +103,16 @@ fn used_entries_are_shown(rt: HostRuntime) -> Result<(), Fail> {
         u64::MAX,
     )?;
     entry.attribute_bits = u64::MAX;
-    let shown = call(alloc, &mut disk_with(alloc, entry)?, &["512", "show"])?;
     let lines =
         "sector 512 form primary disk ffffffffffffffffffffffffffffffff usable 34..66 entries 2 align 1\n2 0a0a0a0a0a0a0a0a0a0a0a0a0a0a0a0a 22222222222222222222222222222222 0..18446744073709551615 ffffffffffffffff ? ~?\u{80}é\u{1f600}\n";
-    assert_prints(&rt, &shown, 0, lines);
-    let unnamed = partition(alloc, "", [0x22; 16], 34, 43)?;
-    let shown = call(alloc, &mut disk_with(alloc, unnamed)?, &["512", "show"])?;
+    assert_prints(&rt, &shown_of(alloc, entry)?, 0, lines);
+    Ok(())
+}
+
+#[test]
+fn an_entry_without_a_name_is_shown(rt: HostRuntime) -> Result<(), Fail> {
+    let unnamed = partition(rt.alloc(), "", [0x22; 16], 34, 43)?;
+    let shown = shown_of(rt.alloc(), unnamed)?;
     assert!(rt;
         shown
             .printed
@@ -114,19 +122,40 @@ fn used_entries_are_shown(rt: HostRuntime) -> Result<(), Fail> {
     Ok(())
 }
 
+// The words over this disk are refused with this line.
+fn assert_fault(
+    rt: &impl Abort,
+    alloc: Global,
+    mut disk: MemoryDisk,
+    words: &[&str],
+    line: &str,
+) -> Result<(), Fail> {
+    let refused = call(alloc, &mut disk, words)?;
+    assert_prints(rt, &refused, 1, line);
+    Ok(())
+}
+
 #[test]
 fn refusals_are_named(rt: HostRuntime) -> Result<(), Fail> {
     let alloc = rt.alloc();
-    let mut small = MemoryDisk::new(alloc, vec![in alloc; 0; 33 * 512]?)?;
-    let refused = call(alloc, &mut small, &["512", "new", GUID])?;
-    assert_prints(&rt, &refused, 1, "fault: Overflow\n");
-    let mut zeros = MemoryDisk::new(alloc, vec![in alloc; 0; 51_200]?)?;
-    let unsigned = call(alloc, &mut zeros, &["512", "show"])?;
-    assert_prints(&rt, &unsigned, 1, "fault: InvalidSignature\n");
-    let mut broken = MemoryDisk::with_fuse(alloc, vec![in alloc; 0; 51_200]?, 0)?;
-    let failed = call(alloc, &mut broken, &["512", "show"])?;
-    assert_prints(&rt, &failed, 1, "fault: Io\n");
-    Ok(())
+    let small = disk_of(alloc, 0, 33 * 512)?;
+    assert_fault(
+        &rt,
+        alloc,
+        small,
+        &["512", "new", GUID],
+        "fault: Overflow\n",
+    )?;
+    let zeros = disk_of(alloc, 0, 51_200)?;
+    assert_fault(
+        &rt,
+        alloc,
+        zeros,
+        &["512", "show"],
+        "fault: InvalidSignature\n",
+    )?;
+    let broken = MemoryDisk::with_fuse(alloc, vec![in alloc; 0; 51_200]?, 0)?;
+    assert_fault(&rt, alloc, broken, &["512", "show"], "fault: Io\n")
 }
 
 // What `512 show` prints where these bytes of an image with a new table are complemented.
