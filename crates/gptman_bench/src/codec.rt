@@ -1,6 +1,7 @@
 //! Checksums, a header and an entry against the vectors of the format.
 
 use crate::fixtures::{DISK_GUID, disk_of};
+use crate::names::padded;
 use gptman::crc::crc32;
 use gptman::{GPTHeader, GPTPartitionEntry, PartitionName};
 use std::alloc::Global;
@@ -83,19 +84,17 @@ fn an_entry_is_the_vector(rt: HostRuntime) -> Result<(), Fail> {
     assert_eq!(rt; hex::encode(alloc, entry.encode())?.as_str(), ENTRY);
     let mut bytes = [0; 128];
     hex::decode_to_slice(ENTRY, &mut bytes)?;
-    let decoded = GPTPartitionEntry::decode(alloc, &bytes)?;
-    assert_eq!(rt; decoded, entry);
-    assert_eq!(rt; decoded.partition_name.as_str(), "Foo");
-    assert_eq!(rt;
-        &decoded.partition_name.units()[..3],
-        [0x46, 0x6f, 0x6f].as_slice()
-    );
-    assert!(rt;
-        decoded.partition_name.units()[3..]
-            .iter()
-            .all(|unit| *unit == 0)
-    );
-    assert_eq!(rt; entry.clone()?, entry);
+    assert!(rt; GPTPartitionEntry::decode(alloc, &bytes)? == entry);
+    Ok(())
+}
+
+#[test]
+fn the_name_of_the_vector_is_read(rt: HostRuntime) -> Result<(), Fail> {
+    let decoded = GPTPartitionEntry::decode(rt.alloc(), &foo(rt.alloc())?.encode())?;
+    let name = &decoded.partition_name;
+    assert_eq!(rt; name.as_str(), "Foo");
+    assert_eq!(rt; *name.units(), padded(&[0x46, 0x6f, 0x6f]));
+    assert!(rt; decoded.clone()? == decoded);
     Ok(())
 }
 

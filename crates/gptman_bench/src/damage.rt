@@ -1,8 +1,9 @@
 //! Images that are damaged, cut, zeroed and crafted, each read by the library and by a plain reader.
 
-use crate::fixtures::{DISK_GUID, complement, disk_of, partition, put, used_names, write_copy};
+use crate::asserts::assert_names;
+use crate::fixtures::{DISK_GUID, complement, disk_of, partition, put, read_image, write_copy};
 use crate::oracle::{header_checksum, is_read_alike};
-use gptman::{GPT, GPTHeader, GPTPartitionEntry, MemoryDisk};
+use gptman::{GPTHeader, GPTPartitionEntry};
 use std::alloc::Global;
 use std::process::Abort;
 use std::test::Fail;
@@ -44,13 +45,12 @@ fn image(alloc: Global) -> Result<Vec<u8>, Fail> {
 #[test]
 fn each_copy_of_the_image_is_whole(rt: HostRuntime) -> Result<(), Fail> {
     let alloc = rt.alloc();
-    let image = image(alloc)?;
     for (broken, primary_lba) in [(19_968, 1), (512, 39)] {
-        let mut bytes = image.clone()?;
+        let mut bytes = image(alloc)?;
         complement(&mut bytes, broken);
-        let table = GPT::read_from(alloc, &mut MemoryDisk::new(alloc, bytes)?, 512)?;
+        let table = read_image(alloc, &bytes)?;
         assert_eq!(rt; table.header.primary_lba, primary_lba);
-        assert_eq!(rt; used_names(alloc, &table)?.as_str(), "1 Foo, 3 Bar, ");
+        assert_names(&rt, alloc, &table, "1 Foo, 3 Bar, ")?;
     }
     Ok(())
 }

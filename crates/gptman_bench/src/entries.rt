@@ -1,8 +1,10 @@
 //! One entry: whether it is used, its sectors, and reading it from a disk.
 
+use crate::asserts::{assert_boundaries, assert_said};
 use crate::callers::are_equal_entries;
-use crate::fixtures::{answer, partition, put};
+use crate::fixtures::{partition, put};
 use gptman::{Disk, GPTPartitionEntry, MemoryDisk, PartitionName};
+use std::alloc::Global;
 use std::test::Fail;
 
 #[test]
@@ -29,39 +31,55 @@ fn an_entry_has_its_sectors(rt: HostRuntime) -> Result<(), Fail> {
 }
 
 #[test]
-fn an_entry_may_have_no_size_or_range(rt: HostRuntime) -> Result<(), Fail> {
+fn the_size_of_an_entry_may_not_fit(rt: HostRuntime) -> Result<(), Fail> {
     let alloc = rt.alloc();
     let all = partition(alloc, "Foo", [0x0b; 16], 0, u64::MAX)?;
-    let size = answer(alloc, &all.size())?;
-    assert_eq!(rt; size.as_str(), "an arithmetic operation overflowed");
-    let reversed = partition(alloc, "Foo", [0x0b; 16], 5, 4)?;
-    let size = answer(alloc, &reversed.size())?;
-    assert!(rt; size.as_str().starts_with("invalid partition boundaries: "));
-    let range = answer(alloc, &reversed.range())?;
-    assert!(rt; range.as_str().starts_with("invalid partition boundaries: "));
-    let mut unused = reversed;
-    unused.partition_type_guid = [0; 16];
-    let range = answer(alloc, &unused.range())?;
-    assert_eq!(rt; range.as_str(), "unused partition");
-    Ok(())
+    assert_said(
+        &rt,
+        alloc,
+        &all.size(),
+        "an arithmetic operation overflowed",
+    )
+}
+
+#[test]
+fn an_entry_that_is_reversed_or_unused_has_no_range(rt: HostRuntime) -> Result<(), Fail> {
+    let alloc = rt.alloc();
+    let mut reversed = partition(alloc, "Foo", [0x0b; 16], 5, 4)?;
+    assert_boundaries(&rt, alloc, &reversed.size())?;
+    assert_boundaries(&rt, alloc, &reversed.range())?;
+    reversed.partition_type_guid = [0; 16];
+    assert_said(&rt, alloc, &reversed.range(), "unused partition")
+}
+
+// A disk of 300 bytes with the entry at byte 100.
+fn disk_with(alloc: Global, entry: &GPTPartitionEntry) -> gptman::Result<MemoryDisk> {
+    let mut bytes = vec![in alloc; 2; 300]?;
+    put(&mut bytes, 100, &entry.encode());
+    MemoryDisk::new(alloc, bytes)
 }
 
 #[test]
 fn an_entry_is_read_at_the_position(rt: HostRuntime) -> Result<(), Fail> {
     let alloc = rt.alloc();
     let entry = partition(alloc, "Foo", [0x0b; 16], 34, 43)?;
-    let mut bytes = vec![in alloc; 2; 300]?;
-    put(&mut bytes, 100, &entry.encode());
-    let mut disk = MemoryDisk::new(alloc, bytes)?;
+    let mut disk = disk_with(alloc, &entry)?;
     disk.seek_start(100)?;
-    assert_eq!(rt; GPTPartitionEntry::read_from(alloc, &mut disk)?, entry);
+    assert!(rt; GPTPartitionEntry::read_from(alloc, &mut disk)? == entry);
     let mut next = [0; 72];
     disk.read_exact(&mut next)?;
     assert_eq!(rt; next, [2; 72]);
-    disk.seek_start(173)?;
-    let said = answer(alloc, &GPTPartitionEntry::read_from(alloc, &mut disk))?;
-    assert_eq!(rt; said.as_str(), "generic I/O error");
     Ok(())
+}
+
+#[test]
+fn an_entry_that_is_cut_off_is_not_read(rt: HostRuntime) -> Result<(), Fail> {
+    let alloc = rt.alloc();
+    let entry = partition(alloc, "Foo", [0x0b; 16], 34, 43)?;
+    let mut disk = disk_with(alloc, &entry)?;
+    disk.seek_start(173)?;
+    let read = GPTPartitionEntry::read_from(alloc, &mut disk);
+    assert_said(&rt, alloc, &read, "generic I/O error")
 }
 
 #[test]

@@ -110,11 +110,15 @@ fn pair(disk: &mut FaultyDisk<MemoryDisk>) -> io::Result<[u8; 2]> {
 
 #[test]
 fn a_seek_that_fails_is_not_passed_on(rt: HostRuntime) -> Result<(), Fail> {
-    let alloc = rt.alloc();
-    let mut disk = failing(alloc, 0)?;
+    let mut disk = failing(rt.alloc(), 0)?;
     assert!(rt; disk.seek_start(2).is_err());
     assert_eq!(rt; pair(&mut disk)?, [1, 2]);
-    let mut disk = failing(alloc, 0)?;
+    Ok(())
+}
+
+#[test]
+fn a_seek_to_the_end_that_fails_is_not_passed_on(rt: HostRuntime) -> Result<(), Fail> {
+    let mut disk = failing(rt.alloc(), 0)?;
     assert!(rt; disk.seek_end().is_err());
     assert_eq!(rt; pair(&mut disk)?, [1, 2]);
     Ok(())

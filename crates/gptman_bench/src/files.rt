@@ -1,6 +1,7 @@
 //! The disk over a file. Each test has a file of its own in the folder that it runs in.
 
-use crate::fixtures::{DISK_GUID, answer, are_all, image_of_new_table, new_table, write};
+use crate::asserts::assert_said;
+use crate::fixtures::{DISK_GUID, are_all, image_of_new_table, new_table, write};
 use gptman::{Disk, FileDisk, GPT};
 use std::fs;
 use std::test::Fail;
@@ -53,11 +54,10 @@ fn a_file_that_is_open_for_reading_is_not_written(rt: HostRuntime) -> Result<(),
     make_file(&rt, path)?;
     let mut disk = FileDisk::open_read(&rt, path)?;
     let mut table = new_table(alloc, &mut disk, 512, DISK_GUID)?;
-    let said = answer(alloc, &write(&mut table, &mut disk)?)?;
-    assert_eq!(rt; said.as_str(), "generic I/O error");
+    let outcome = write(&mut table, &mut disk)?;
+    assert_said(&rt, alloc, &outcome, "generic I/O error")?;
     let bytes = fs::read(&rt, path)?;
-    assert_eq!(rt; bytes.len(), 51_200);
-    assert!(rt; are_all(bytes.as_slice(), 2));
+    assert!(rt; bytes.len() == 51_200 && are_all(bytes.as_slice(), 2));
     fs::remove_file(&rt, path)?;
     Ok(())
 }
@@ -65,10 +65,14 @@ fn a_file_that_is_open_for_reading_is_not_written(rt: HostRuntime) -> Result<(),
 #[test]
 fn a_file_that_is_not_there_is_not_opened(rt: HostRuntime) -> Result<(), Fail> {
     let alloc = rt.alloc();
-    let said = answer(alloc, &FileDisk::open(&rt, "missing.img"))?;
-    assert_eq!(rt; said.as_str(), "generic I/O error");
-    let said = answer(alloc, &FileDisk::open_read(&rt, "missing.img"))?;
-    assert_eq!(rt; said.as_str(), "generic I/O error");
-    assert!(rt; fs::read(&rt, "missing.img").is_err());
+    let path = "missing.img";
+    assert_said(&rt, alloc, &FileDisk::open(&rt, path), "generic I/O error")?;
+    assert_said(
+        &rt,
+        alloc,
+        &FileDisk::open_read(&rt, path),
+        "generic I/O error",
+    )?;
+    assert!(rt; fs::read(&rt, path).is_err());
     Ok(())
 }

@@ -1,27 +1,35 @@
 //! Fitting a header to a disk: a new one, and one that comes to a disk of another length.
 
+use crate::asserts::{assert_boundaries, assert_bounds, assert_said};
 use crate::callers::{grow, read_held};
 use crate::fixtures::{
-    DISK_GUID, answer, are_all, disk_of, image_of_new_table, new_header, new_table, read_image,
-    write,
+    DISK_GUID, are_all, disk_of, image_of_new_table, new_header, new_table, read_image, write,
 };
 use gptman::{Error, Fate, GPT, GPTHeader, MemoryDisk};
 use std::alloc::Global;
+use std::process::Abort;
 use std::test::Fail;
+
+// A new table for 100 sectors of this size has these bounds.
+fn assert_fitted(
+    rt: &impl Abort,
+    alloc: Global,
+    sector_size: u16,
+    bounds: (u64, u64, u64),
+) -> Result<(), Fail> {
+    assert!(rt; 0 < sector_size);
+    let mut disk = disk_of(alloc, 0, 100 * usize::from(sector_size))?;
+    let table = GPT::new_from(alloc, &mut disk, u64::from(sector_size), DISK_GUID)?;
+    assert_bounds(rt, &table.header, bounds);
+    assert!(rt; table.sector_size == u64::from(sector_size) && table.align == 2048);
+    assert!(rt; table.is_coherent() && table.is_primary() && !table.is_backup());
+    Ok(())
+}
 
 #[test]
 fn a_new_table_is_fitted_to_the_disk(rt: HostRuntime) -> Result<(), Fail> {
-    for (sector_size, first, last) in [(512_u16, 34, 66), (4096, 6, 94), (3000, 8, 92)] {
-        assert!(rt; 0 < sector_size);
-        let mut disk = disk_of(rt.alloc(), 0, 100 * usize::from(sector_size))?;
-        let table = GPT::new_from(rt.alloc(), &mut disk, u64::from(sector_size), DISK_GUID)?;
-        let header = &table.header;
-        assert_eq!(rt; header.first_usable_lba, first, "at {sector_size}");
-        assert_eq!(rt; header.last_usable_lba, last, "at {sector_size}");
-        assert_eq!(rt; header.backup_lba, 99, "at {sector_size}");
-        assert_eq!(rt; table.sector_size, u64::from(sector_size));
-        assert_eq!(rt; table.align, 2048);
-        assert!(rt; table.is_coherent() && table.is_primary() && !table.is_backup());
+    for (sector_size, first, last) in [(512, 34, 66), (4096, 6, 94), (3000, 8, 92)] {
+        assert_fitted(&rt, rt.alloc(), sector_size, (first, last, 99))?;
     }
     Ok(())
 }
@@ -31,40 +39,53 @@ fn a_disk_may_be_too_small_for_a_table(rt: HostRuntime) -> Result<(), Fail> {
     let alloc = rt.alloc();
     for sectors in [0, 1, 2, 33] {
         let mut disk = disk_of(alloc, 2, 512 * sectors)?;
-        let said = answer(alloc, &GPT::new_from(alloc, &mut disk, 512, DISK_GUID))?;
-        assert_eq!(rt;
-            said.as_str(),
-            "an arithmetic operation overflowed",
-            "{sectors} sectors"
-        );
+        let table = GPT::new_from(alloc, &mut disk, 512, DISK_GUID);
+        assert_said(&rt, alloc, &table, "an arithmetic operation overflowed")?;
     }
+    Ok(())
+}
+
+// The table is not written, as it has no usable sector, and no byte of the disk changes.
+fn assert_unwritten(
+    rt: &impl Abort,
+    alloc: Global,
+    table: &mut GPT,
+    disk: &mut MemoryDisk,
+) -> Result<(), Fail> {
+    assert_boundaries(rt, alloc, &write(table, disk)?)?;
+    assert!(rt; are_all(disk.bytes(), 2));
+    Ok(())
+}
+
+// A new table for so many sectors has these bounds, of which the last usable sector is too low.
+fn assert_unusable(
+    rt: &impl Abort,
+    alloc: Global,
+    sectors: u16,
+    bounds: (u64, u64, u64),
+) -> Result<(), Fail> {
+    let mut disk = disk_of(alloc, 2, 512 * usize::from(sectors))?;
+    let mut table = new_table(alloc, &mut disk, 512, DISK_GUID)?;
+    assert_bounds(rt, &table.header, bounds);
+    assert_unwritten(rt, alloc, &mut table, &mut disk)?;
+    assert!(rt; table == new_table(alloc, &mut disk, 512, DISK_GUID)?);
     Ok(())
 }
 
 #[test]
 fn a_small_disk_may_leave_no_usable_sector(rt: HostRuntime) -> Result<(), Fail> {
+    assert_unusable(&rt, rt.alloc(), 34, (34, 0, 33))?;
+    assert_unusable(&rt, rt.alloc(), 66, (34, 32, 65))
+}
+
+#[test]
+fn a_table_that_ends_before_its_first_sector_is_written(rt: HostRuntime) -> Result<(), Fail> {
     let alloc = rt.alloc();
-    for (sectors, last) in [(34_u16, 0), (66, 32)] {
-        let mut disk = disk_of(alloc, 2, 512 * usize::from(sectors))?;
-        let mut table = new_table(alloc, &mut disk, 512, DISK_GUID)?;
-        assert_eq!(rt; table.header.first_usable_lba, 34);
-        assert_eq!(rt; table.header.last_usable_lba, last);
-        assert_eq!(rt; table.header.backup_lba, u64::from(sectors) - 1);
-        let said = answer(alloc, &write(&mut table, &mut disk)?)?;
-        assert!(rt;
-            said.as_str().starts_with("invalid partition boundaries: "),
-            "{sectors} sectors"
-        );
-        assert!(rt; are_all(disk.bytes(), 2), "{sectors} sectors");
-        assert_eq!(rt; table, new_table(alloc, &mut disk, 512, DISK_GUID)?);
-    }
     let mut disk = disk_of(alloc, 2, 512 * 67)?;
     let mut table = new_table(alloc, &mut disk, 512, DISK_GUID)?;
-    assert_eq!(rt; table.header.first_usable_lba, 34);
-    assert_eq!(rt; table.header.last_usable_lba, 33);
-    assert_eq!(rt; table.header.backup_lba, 66);
+    assert_bounds(&rt, &table.header, (34, 33, 66));
     write(&mut table, &mut disk)??;
-    assert_eq!(rt; GPT::read_from(alloc, &mut disk, 512)?, table);
+    assert!(rt; GPT::read_from(alloc, &mut disk, 512)? == table);
     Ok(())
 }
 
@@ -84,11 +105,18 @@ fn a_header_is_fitted_to_a_longer_disk(rt: HostRuntime) -> Result<(), Fail> {
     assert_eq!(rt; fitted, wanted);
     assert_eq!(rt; fitted.partition_entry_lba, 2);
     assert!(rt; fitted.is_primary() && !fitted.is_backup());
+    Ok(())
+}
+
+#[test]
+fn a_header_in_backup_form_is_fitted_to_a_longer_disk(rt: HostRuntime) -> Result<(), Fail> {
+    let alloc = rt.alloc();
+    let mut disk = disk_of(alloc, 0, 512 * 200)?;
     let backup = GPTHeader {
         primary_lba: 99,
         backup_lba: 1,
         partition_entry_lba: 67,
-        ..primary
+        ..new_header(alloc)?
     };
     let mut fitted = backup;
     fitted.update_from(&mut disk, 512)?;
@@ -104,10 +132,18 @@ fn a_header_is_fitted_to_a_longer_disk(rt: HostRuntime) -> Result<(), Fail> {
     Ok(())
 }
 
+// The header is not fitted to a disk of so many bytes, and stays as it is.
+fn assert_kept(rt: &impl Abort, alloc: Global, given: GPTHeader, len: usize) -> Result<(), Fail> {
+    let mut fitted = given;
+    let fits = fitted.update_from(&mut disk_of(alloc, 0, len)?, 512);
+    assert_said(rt, alloc, &fits, "an arithmetic operation overflowed")?;
+    assert_eq!(rt; fitted, given, "{len} bytes");
+    Ok(())
+}
+
 #[test]
 fn a_header_that_does_not_fit_stays_as_it_is(rt: HostRuntime) -> Result<(), Fail> {
     let alloc = rt.alloc();
-    let header = new_header(alloc)?;
     let rows = [
         (200, 0, 128),
         (200, 128, 0),
@@ -119,23 +155,20 @@ fn a_header_that_does_not_fit_stays_as_it_is(rt: HostRuntime) -> Result<(), Fail
         let given = GPTHeader {
             number_of_partition_entries: count,
             size_of_partition_entry: size,
-            ..header
+            ..new_header(alloc)?
         };
-        let mut fitted = given;
-        let mut disk = disk_of(alloc, 0, 512 * sectors)?;
-        let said = answer(alloc, &fitted.update_from(&mut disk, 512))?;
-        assert_eq!(rt;
-            said.as_str(),
-            "an arithmetic operation overflowed",
-            "{sectors} sectors"
-        );
-        assert_eq!(rt; fitted, given, "{sectors} sectors");
+        assert_kept(&rt, alloc, given, 512 * sectors)?;
     }
-    let mut fitted = header;
+    Ok(())
+}
+
+#[test]
+fn a_header_may_be_fitted_without_usable_sectors(rt: HostRuntime) -> Result<(), Fail> {
+    let alloc = rt.alloc();
+    let mut fitted = new_header(alloc)?;
     fitted.size_of_partition_entry = 256;
     fitted.update_from(&mut disk_of(alloc, 0, 512 * 66)?, 512)?;
-    assert_eq!(rt; fitted.first_usable_lba, 66);
-    assert_eq!(rt; fitted.last_usable_lba, 0);
+    assert_bounds(&rt, &fitted, (66, 0, 65));
     Ok(())
 }
 

@@ -1,8 +1,10 @@
 //! The protective MBR: its 66 bytes, the disks that are too short for it, and a disk that fails.
 
+use crate::asserts::assert_said;
 use crate::fixtures::{answer, are_all, disk_of, put};
 use gptman::{Fate, GPT, MemoryDisk};
 use std::alloc::Global;
+use std::process::Abort;
 use std::test::Fail;
 
 // The partition of a protective MBR on 100 sectors: 99 sectors from sector 1 on.
@@ -68,9 +70,28 @@ fn whole_sectors_but_the_first_are_counted(rt: HostRuntime) -> Result<(), Fail> 
     Ok(())
 }
 
+// Both writes are refused on a disk of so many bytes, which stays as it was.
+fn assert_too_short(
+    rt: &impl Abort,
+    alloc: Global,
+    len: usize,
+    sector_size: u16,
+    refusal: &str,
+) -> Result<(), Fail> {
+    assert!(rt; 0 < sector_size);
+    let size = u64::from(sector_size);
+    let mut disk = disk_of(alloc, 2, len)?;
+    let plain = GPT::write_protective_mbr_into(&mut disk, size);
+    assert_said(rt, alloc, &plain, refusal)?;
+    let bootable = GPT::write_bootable_protective_mbr_into(&mut disk, size);
+    assert_said(rt, alloc, &bootable, refusal)?;
+    let stopped = disk.stop(&[Fate::Garbage(7)])?;
+    assert!(rt; are_all(stopped.bytes(), 2), "{len} bytes");
+    Ok(())
+}
+
 #[test]
 fn a_disk_that_is_too_short_is_not_changed(rt: HostRuntime) -> Result<(), Fail> {
-    let alloc = rt.alloc();
     let (overflow, no_space) = ("an arithmetic operation overflowed", "no space left");
     let rows = [
         (0, 512_u16, overflow),
@@ -82,44 +103,46 @@ fn a_disk_that_is_too_short_is_not_changed(rt: HostRuntime) -> Result<(), Fail> 
         (511, 1, no_space),
     ];
     for (len, sector_size, refusal) in rows {
-        assert!(rt; 0 < sector_size);
-        let size = u64::from(sector_size);
-        let mut disk = disk_of(alloc, 2, len)?;
-        let plain = answer(alloc, &GPT::write_protective_mbr_into(&mut disk, size))?;
-        assert_eq!(rt; plain.as_str(), refusal, "{len} bytes");
-        let outcome = GPT::write_bootable_protective_mbr_into(&mut disk, size);
-        let bootable = answer(alloc, &outcome)?;
-        assert_eq!(rt; bootable.as_str(), refusal, "{len} bytes");
-        let stopped = disk.stop(&[Fate::Garbage(7)])?;
-        assert!(rt; are_all(stopped.bytes(), 2), "{len} bytes");
+        assert_too_short(&rt, rt.alloc(), len, sector_size, refusal)?;
     }
     Ok(())
 }
 
-// What is left of a write that failed is as it was but for the 66 bytes.
-#[test]
-fn a_disk_that_fails_keeps_all_other_bytes(rt: HostRuntime) -> Result<(), Fail> {
-    let alloc = rt.alloc();
+// Writes an MBR over bytes that are all 2, on a disk that fails after so many calls. Of what is left
+// only the 66 bytes may differ, and they do once the write is done, which is answered.
+fn write_until(
+    rt: &impl Abort,
+    alloc: Global,
+    is_bootable: bool,
+    calls: u64,
+) -> Result<bool, Fail> {
     let old = vec![in alloc; 2; 51_200]?;
     let mut torn = old.clone()?;
     put(&mut torn, 446, &[7; 66]);
+    let mut disk = MemoryDisk::with_fuse(alloc, old.clone()?, calls)?;
+    let said = answer(alloc, &write(&mut disk, is_bootable))?;
+    let is_done = said.as_str() == "ok";
+    assert!(rt;
+        is_done || said.as_str() == "generic I/O error",
+        "{calls} calls"
+    );
+    let stopped = disk.stop(&[Fate::Garbage(7)])?;
+    let left = stopped.bytes();
+    assert!(rt;
+        left == torn.as_slice() || !is_done && left == old.as_slice(),
+        "{calls} calls"
+    );
+    Ok(is_done)
+}
+
+#[test]
+fn a_disk_that_fails_keeps_all_other_bytes(rt: HostRuntime) -> Result<(), Fail> {
     for is_bootable in [false, true] {
         let mut is_done = false;
         for calls in 0..8 {
-            let mut disk = MemoryDisk::with_fuse(alloc, old.clone()?, calls)?;
-            let said = answer(alloc, &write(&mut disk, is_bootable))?;
-            is_done = said.as_str() == "ok";
-            let stopped = disk.stop(&[Fate::Garbage(7)])?;
-            let left = stopped.bytes();
-            assert!(rt;
-                left == old.as_slice() || left == torn.as_slice(),
-                "{calls} calls"
-            );
-            if is_done {
-                assert!(rt; left == torn.as_slice(), "{calls} calls");
-                break;
+            if !is_done {
+                is_done = write_until(&rt, rt.alloc(), is_bootable, calls)?;
             }
-            assert_eq!(rt; said.as_str(), "generic I/O error", "{calls} calls");
         }
         assert!(rt; is_done);
     }

@@ -3,6 +3,7 @@
 use gptman::{Disk, Fate, MemoryDisk};
 use std::alloc::Global;
 use std::io;
+use std::process::Abort;
 use std::test::Fail;
 
 // Eight zero bytes, after 01 02 at 0 and 03 04 at 1.
@@ -23,35 +24,49 @@ pub(crate) fn put<D: Disk>(disk: &mut D, at: u64, bytes: &[u8]) -> io::Result<()
     Ok(())
 }
 
-#[test]
-fn each_pending_write_has_its_fate(rt: HostRuntime) -> Result<(), Fail> {
-    let alloc = rt.alloc();
-    let torn = twice_written(alloc)?.stop(&[Fate::New, Fate::Garbage(9)])?;
-    assert_eq!(rt; torn.bytes(), [1, 9, 9, 0, 0, 0, 0, 0].as_slice());
-    let second = twice_written(alloc)?.stop(&[Fate::Old, Fate::New])?;
-    assert_eq!(rt; second.bytes(), [0, 3, 4, 0, 0, 0, 0, 0].as_slice());
-    let first = twice_written(alloc)?.stop(&[Fate::New])?;
-    assert_eq!(rt; first.bytes(), [1, 2, 0, 0, 0, 0, 0, 0].as_slice());
-    let neither = twice_written(alloc)?.stop(&[])?;
-    assert_eq!(rt; neither.bytes(), [0, 0, 0, 0, 0, 0, 0, 0].as_slice());
-    let surplus = twice_written(alloc)?.stop(&[Fate::New, Fate::New, Fate::Garbage(5)])?;
-    assert_eq!(rt; surplus.bytes(), [1, 3, 4, 0, 0, 0, 0, 0].as_slice());
+// A stop with these fates leaves these bytes.
+fn assert_left(
+    rt: &impl Abort,
+    disk: MemoryDisk,
+    fates: &[Fate],
+    bytes: [u8; 8],
+) -> Result<(), Fail> {
+    assert_eq!(rt; disk.stop(fates)?.bytes(), bytes.as_slice(), "{fates:?}");
     Ok(())
 }
 
 #[test]
-fn a_sync_keeps_what_was_written(rt: HostRuntime) -> Result<(), Fail> {
-    let alloc = rt.alloc();
-    let mut disk = twice_written(alloc)?;
-    disk.sync()?;
-    let kept = disk.stop(&[])?;
-    assert_eq!(rt; kept.bytes(), [1, 3, 4, 0, 0, 0, 0, 0].as_slice());
-    let mut disk = twice_written(alloc)?;
-    disk.sync()?;
-    put(&mut disk, 2, &[7, 7])?;
-    let kept = disk.stop(&[Fate::Old, Fate::New])?;
-    assert_eq!(rt; kept.bytes(), [1, 3, 4, 0, 0, 0, 0, 0].as_slice());
+fn each_pending_write_has_its_fate(rt: HostRuntime) -> Result<(), Fail> {
+    let rows: [(&[Fate], [u8; 8]); 5] = [
+        (&[Fate::New, Fate::Garbage(9)], [1, 9, 9, 0, 0, 0, 0, 0]),
+        (&[Fate::Old, Fate::New], [0, 3, 4, 0, 0, 0, 0, 0]),
+        (&[Fate::New], [1, 2, 0, 0, 0, 0, 0, 0]),
+        (&[], [0; 8]),
+        (
+            &[Fate::New, Fate::New, Fate::Garbage(5)],
+            [1, 3, 4, 0, 0, 0, 0, 0],
+        ),
+    ];
+    for (fates, bytes) in rows {
+        assert_left(&rt, twice_written(rt.alloc())?, fates, bytes)?;
+    }
     Ok(())
+}
+
+// That disk after a sync.
+fn synced(alloc: Global) -> Result<MemoryDisk, Fail> {
+    let mut disk = twice_written(alloc)?;
+    disk.sync()?;
+    Ok(disk)
+}
+
+#[test]
+fn a_sync_keeps_what_was_written(rt: HostRuntime) -> Result<(), Fail> {
+    let kept = [1, 3, 4, 0, 0, 0, 0, 0];
+    assert_left(&rt, synced(rt.alloc())?, &[], kept)?;
+    let mut disk = synced(rt.alloc())?;
+    put(&mut disk, 2, &[7, 7])?;
+    assert_left(&rt, disk, &[Fate::Old, Fate::New], kept)
 }
 
 // Eight zero bytes, after 01 02 at 0, and 03 04 at 1 that the fuse refused.
@@ -70,11 +85,14 @@ fn a_refused_write_is_pending(rt: HostRuntime) -> Result<(), Fail> {
     let mut disk = refused(alloc)?;
     assert_eq!(rt; disk.bytes(), [1, 2, 0, 0, 0, 0, 0, 0].as_slice());
     assert_eq!(rt; disk.sync().is_err(), true);
-    let old = disk.stop(&[Fate::New])?;
-    assert_eq!(rt; old.bytes(), [1, 2, 0, 0, 0, 0, 0, 0].as_slice());
-    let new = refused(alloc)?.stop(&[Fate::New, Fate::New])?;
-    assert_eq!(rt; new.bytes(), [1, 3, 4, 0, 0, 0, 0, 0].as_slice());
-    let mut torn = refused(alloc)?.stop(&[Fate::Old, Fate::Garbage(7)])?;
+    assert_left(&rt, disk, &[Fate::New], [1, 2, 0, 0, 0, 0, 0, 0])?;
+    let new = [1, 3, 4, 0, 0, 0, 0, 0];
+    assert_left(&rt, refused(alloc)?, &[Fate::New, Fate::New], new)
+}
+
+#[test]
+fn a_refused_write_may_be_torn(rt: HostRuntime) -> Result<(), Fail> {
+    let mut torn = refused(rt.alloc())?.stop(&[Fate::Old, Fate::Garbage(7)])?;
     assert_eq!(rt; torn.bytes(), [0, 7, 7, 0, 0, 0, 0, 0].as_slice());
     assert_eq!(rt; torn.seek_end()?, 8);
     Ok(())

@@ -2,6 +2,7 @@
 
 use gptman::{GPTPartitionEntry, PartitionName};
 use std::alloc::Global;
+use std::process::Abort;
 use std::test::Fail;
 
 // The name that an entry with this one has after it was written and read.
@@ -30,34 +31,51 @@ pub(crate) fn padded(first: &[u16]) -> [u16; 36] {
     units
 }
 
+// A name one letter longer than an entry holds.
+const LETTERS: &str = "aaaaaaaaaaaaaaaaaaaaaaaaaaaaaaaaaaaaa";
+
+// The name has this text, and these units and then zeros.
+fn assert_name(rt: &impl Abort, name: &PartitionName, text: &str, first: &[u16]) {
+    assert_eq!(rt; name.as_str(), text);
+    assert_eq!(rt; *name.units(), padded(first), "of {text}");
+}
+
 #[test]
 fn a_name_is_cut_at_36_units_where_it_is_read_back(rt: HostRuntime) -> Result<(), Fail> {
     let alloc = rt.alloc();
-    let letters = "aaaaaaaaaaaaaaaaaaaaaaaaaaaaaaaaaaaaa";
-    let name = PartitionName::new(alloc, letters)?;
-    assert_eq!(rt; name.as_str(), letters);
-    assert_eq!(rt; name.as_str().len(), 37);
-    assert_eq!(rt; *name.units(), [0x61; 36]);
-    let name = read_back(alloc, name)?;
-    assert_eq!(rt; name.as_str(), "aaaaaaaaaaaaaaaaaaaaaaaaaaaaaaaaaaaa");
-    assert_eq!(rt; name.as_str().len(), 36);
+    let name = PartitionName::new(alloc, LETTERS)?;
+    assert_name(&rt, &name, LETTERS, &[0x61; 36]);
+    let cut = "aaaaaaaaaaaaaaaaaaaaaaaaaaaaaaaaaaaa";
+    assert_name(&rt, &read_back(alloc, name)?, cut, &[0x61; 36]);
+    assert_eq!(rt; (LETTERS.len(), cut.len()), (37, 36));
+    Ok(())
+}
+
+// The units of the name from this one on.
+fn assert_ends(rt: &impl Abort, name: &PartitionName, from: usize, units: &[u16]) {
+    assert_eq!(rt; name.units().get(from..), Some(units));
+}
+
+#[test]
+fn a_pair_of_surrogates_may_end_a_name(rt: HostRuntime) -> Result<(), Fail> {
+    let alloc = rt.alloc();
+    let whole = PartitionName::new(alloc, "aaaaaaaaaaaaaaaaaaaaaaaaaaaaaaaaaa\u{1f600}")?;
+    assert_ends(&rt, &whole, 33, &[0x61, 0xd83d, 0xde00]);
+    assert_same(&rt, &read_back(alloc, whole.clone()?)?, &whole);
     Ok(())
 }
 
 #[test]
 fn a_pair_of_surrogates_may_be_cut_in_two(rt: HostRuntime) -> Result<(), Fail> {
     let alloc = rt.alloc();
-    let whole = PartitionName::new(alloc, "aaaaaaaaaaaaaaaaaaaaaaaaaaaaaaaaaa\u{1f600}")?;
-    assert_eq!(rt; &whole.units()[33..], [0x61, 0xd83d, 0xde00].as_slice());
-    assert_eq!(rt; read_back(alloc, whole.clone()?)?, whole);
     let cut = PartitionName::new(alloc, "aaaaaaaaaaaaaaaaaaaaaaaaaaaaaaaaaaa\u{1f600}")?;
-    assert_eq!(rt; &cut.units()[34..], [0x61, 0xd83d].as_slice());
+    assert_ends(&rt, &cut, 34, &[0x61, 0xd83d]);
     let name = read_back(alloc, cut)?;
     assert_eq!(rt;
         name.as_str(),
         "aaaaaaaaaaaaaaaaaaaaaaaaaaaaaaaaaaa\u{fffd}"
     );
-    assert_eq!(rt; &name.units()[34..], [0x61, 0xd83d].as_slice());
+    assert_ends(&rt, &name, 34, &[0x61, 0xd83d]);
     Ok(())
 }
 
@@ -65,9 +83,8 @@ fn a_pair_of_surrogates_may_be_cut_in_two(rt: HostRuntime) -> Result<(), Fail> {
 fn the_text_of_units_ends_at_the_first_zero(rt: HostRuntime) -> Result<(), Fail> {
     let alloc = rt.alloc();
     let units = [0x61, 0x62, 0, 0x63, 0x64];
-    let name = read_back(alloc, PartitionName::new(alloc, "ab\0cd")?)?;
-    assert_eq!(rt; name.as_str(), "ab");
-    assert_eq!(rt; *name.units(), padded(&units));
+    let name = PartitionName::new(alloc, "ab\0cd")?;
+    assert_name(&rt, &read_back(alloc, name)?, "ab", &units);
     let rows: [(&[u16], &str); 4] = [
         (&units, "ab"),
         (&[0x46, 0x6f, 0x6f], "Foo"),
@@ -75,9 +92,7 @@ fn the_text_of_units_ends_at_the_first_zero(rt: HostRuntime) -> Result<(), Fail>
         (&[0xd83d, 0xde00], "\u{1f600}"),
     ];
     for (first, text) in rows {
-        let name = name_of_units(alloc, first)?;
-        assert_eq!(rt; name.as_str(), text);
-        assert_eq!(rt; *name.units(), padded(first), "of {text}");
+        assert_name(&rt, &name_of_units(alloc, first)?, text, first);
     }
     Ok(())
 }
@@ -87,23 +102,38 @@ fn a_name_is_shown_as_its_text_alone(rt: HostRuntime) -> Result<(), Fail> {
     let alloc = rt.alloc();
     let name = PartitionName::new(alloc, "Foo")?;
     assert_eq!(rt; name.to_string(alloc)?.as_str(), "Foo");
-    assert_eq!(rt; format!(in alloc; "{name:>8}|")?.as_str(), "Foo|");
-    assert_eq!(rt; format!(in alloc; "{name:*^9}|")?.as_str(), "Foo|");
+    let shown = format!(in alloc; "{name:>8}|{name:*^9}|")?;
+    assert_eq!(rt; shown.as_str(), "Foo|Foo|");
     Ok(())
+}
+
+// The two names are equal.
+fn assert_same(rt: &impl Abort, name: &PartitionName, other: &PartitionName) {
+    assert_eq!(rt; name, other);
+}
+
+// The two names are not equal.
+fn assert_differ(rt: &impl Abort, name: &PartitionName, other: &PartitionName) {
+    assert_ne!(rt; name, other);
 }
 
 #[test]
 fn names_are_equal_where_text_and_units_are(rt: HostRuntime) -> Result<(), Fail> {
     let alloc = rt.alloc();
     let name = PartitionName::new(alloc, "ab")?;
-    assert_eq!(rt; name, PartitionName::new(alloc, "ab")?);
-    assert_eq!(rt; name, name.clone()?);
-    assert_ne!(rt; name, PartitionName::new(alloc, "ac")?);
-    let other_units = name_of_units(alloc, &[0x61, 0x62, 0, 0x63])?;
-    assert_eq!(rt; other_units.as_str(), name.as_str());
-    assert_ne!(rt; other_units, name);
-    let letters = "aaaaaaaaaaaaaaaaaaaaaaaaaaaaaaaaaaaaa";
-    let longer = PartitionName::new(alloc, letters)?;
-    assert_ne!(rt; read_back(alloc, longer.clone()?)?, longer);
+    assert_same(&rt, &name, &PartitionName::new(alloc, "ab")?);
+    assert_same(&rt, &name, &name.clone()?);
+    assert_differ(&rt, &name, &PartitionName::new(alloc, "ac")?);
+    Ok(())
+}
+
+#[test]
+fn names_of_one_text_differ_where_their_units_do(rt: HostRuntime) -> Result<(), Fail> {
+    let alloc = rt.alloc();
+    let name = name_of_units(alloc, &[0x61, 0x62, 0, 0x63])?;
+    assert_eq!(rt; name.as_str(), "ab");
+    assert_differ(&rt, &name, &PartitionName::new(alloc, "ab")?);
+    let longer = PartitionName::new(alloc, LETTERS)?;
+    assert_differ(&rt, &read_back(alloc, longer.clone()?)?, &longer);
     Ok(())
 }

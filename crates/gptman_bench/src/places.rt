@@ -1,9 +1,9 @@
 //! Free sectors, and the places and the greatest size that they offer.
 
+use crate::asserts::{assert_bounds, assert_names};
 use crate::callers::{add_first, exchange};
 use crate::fixtures::{
-    DISK_GUID, disk_1, disk_of, entries_of, image_of, new_table, partition, read_image, table_with,
-    used_names, write,
+    DISK_GUID, disk_1, disk_of, image_of, new_table, partition, read_image, table_with, write,
 };
 use crate::names::padded;
 use crate::searches::{first_place, free_sectors, last_place, maximum_size, optimal_place};
@@ -61,8 +61,7 @@ fn a_table_may_have_no_usable_sector(rt: HostRuntime) -> Result<(), Fail> {
     let mut disk = disk_of(alloc, 0, 512 * 67)?;
     let mut table = new_table(alloc, &mut disk, 512, DISK_GUID)?;
     table.align = 1;
-    assert_eq!(rt; table.header.first_usable_lba, 34);
-    assert_eq!(rt; table.header.last_usable_lba, 33);
+    assert_bounds(&rt, &table.header, (34, 33, 66));
     assert_eq!(rt; free_sectors(&table)?.len(), 0);
     assert_eq!(rt; maximum_size(&table)?, None);
     Ok(())
@@ -152,42 +151,52 @@ fn written(alloc: Global, table: &mut GPT) -> Result<GPT, Fail> {
     Ok(read_image(alloc, disk.bytes())?)
 }
 
+// Disk 1 as it is read, with both its entries changed so.
+fn changed(alloc: Global) -> Result<GPT, Fail> {
+    let mut table = read_image(alloc, &image_of(alloc, &disk_1(alloc)?)?)?;
+    change(alloc, &mut table)?;
+    Ok(table)
+}
+
+// The table has this entry, behind so many others.
+fn assert_entry(rt: &impl Abort, table: &GPT, place: usize, wanted: &GPTPartitionEntry) {
+    let found = table.iter().nth(place);
+    assert!(rt; found.is_some_and(|(_, entry)| *entry == *wanted));
+}
+
 #[test]
 fn a_changed_entry_is_read_back(rt: HostRuntime) -> Result<(), Fail> {
     let alloc = rt.alloc();
-    let mut table = read_image(alloc, &image_of(alloc, &disk_1(alloc)?)?)?;
+    let mut table = changed(alloc)?;
     table.header = GPTHeader {
         disk_guid: [9; 16],
         ..table.header
     };
-    change(alloc, &mut table)?;
     let read = written(alloc, &mut table)?;
-    let entries = entries_of(alloc, &read)?;
     let bar = partition(alloc, "Bar", [0x0c; 16], 48, 52)?;
-    assert!(rt; entries.first() == Some(&bar));
-    assert!(rt; entries.get(1) == Some(&robot(alloc)?));
-    assert_eq!(rt; read.header.disk_guid, [9; 16]);
-    assert_eq!(rt; read.align, 2);
+    assert_entry(&rt, &read, 0, &bar);
+    assert_entry(&rt, &read, 1, &robot(alloc)?);
+    assert_eq!(rt; (read.header.disk_guid, read.align), ([9; 16], 2));
     Ok(())
+}
+
+// The changed entry as it is read back.
+fn read_robot(alloc: Global) -> Result<GPTPartitionEntry, Fail> {
+    let read = written(alloc, &mut changed(alloc)?)?;
+    match read.iter().nth(1) {
+        Some((_, entry)) => Ok(entry.clone()?),
+        None => Err(Fail::new("the table has no second entry")),
+    }
 }
 
 #[test]
 fn an_entry_is_put_on_another_disk(rt: HostRuntime) -> Result<(), Fail> {
     let alloc = rt.alloc();
-    let mut table = read_image(alloc, &image_of(alloc, &disk_1(alloc)?)?)?;
-    change(alloc, &mut table)?;
-    let entries = entries_of(alloc, &written(alloc, &mut table)?)?;
-    let Some(entry) = entries.get(1) else {
-        return Err(Fail::new("the table has no second entry"));
-    };
     let mut other = table_with(alloc, (34, 66), 1, &[])?;
-    other.apply(Edit::Put(1, entry.clone()?))?;
+    other.apply(Edit::Put(1, read_robot(alloc)?))?;
     let read = written(alloc, &mut other)?;
-    assert!(rt; entries_of(alloc, &read)?.first() == Some(entry));
-    assert_eq!(rt;
-        used_names(alloc, &read)?.as_str(),
-        "1 A Robot Named Fight!, "
-    );
+    assert_entry(&rt, &read, 0, &robot(alloc)?);
+    assert_names(&rt, alloc, &read, "1 A Robot Named Fight!, ")?;
     assert_eq!(rt; read.align, 1);
     Ok(())
 }
@@ -238,7 +247,5 @@ fn an_entry_that_has_no_place_is_not_added(rt: HostRuntime) -> Result<(), Fail> 
     let mut table = disk_1_with_baz(&rt, alloc)?;
     let too_large = partition(alloc, "", [2; 16], 0, 0)?;
     assert!(rt; !add(&mut table, 4, too_large, 15)?);
-    let names = used_names(alloc, &table)?;
-    assert_eq!(rt; names.as_str(), "1 Foo, 2 Bar, 3 Baz, ");
-    Ok(())
+    assert_names(&rt, alloc, &table, "1 Foo, 2 Bar, 3 Baz, ")
 }

@@ -1,8 +1,7 @@
 //! Tests of the Rust crate on places, each under its own name, over disks made from numbers.
 
-use crate::fixtures::{
-    disk_1, disk_1_unsorted, disk_2, disk_of, partition, table_with, used_names, write,
-};
+use crate::asserts::assert_names;
+use crate::fixtures::{disk_1, disk_1_unsorted, disk_2, disk_of, partition, table_with, write};
 use crate::searches::{first_place, last_place, maximum_size, optimal_place};
 use gptman::Edit;
 use std::test::Fail;
@@ -82,17 +81,10 @@ fn sort_partitions(rt: HostRuntime) -> Result<(), Fail> {
     table.align = 1;
     assert_eq!(rt; first_place(&table, 4)?, Some(44));
     let mut table = disk_1_unsorted(alloc)?;
-    assert_eq!(rt;
-        used_names(alloc, &table)?.as_str(),
-        "1 Foo, 2 Bar, 10 Baz, "
-    );
+    assert_names(&rt, alloc, &table, "1 Foo, 2 Bar, 10 Baz, ")?;
     assert!(rt; write(&mut table, &mut disk_of(alloc, 0, 51_200)?)?.is_ok());
     table.sort()?;
-    assert_eq!(rt;
-        used_names(alloc, &table)?.as_str(),
-        "1 Foo, 2 Baz, 3 Bar, "
-    );
-    Ok(())
+    assert_names(&rt, alloc, &table, "1 Foo, 2 Baz, 3 Bar, ")
 }
 
 #[test]

@@ -3,12 +3,14 @@
 
 ghost use Rattle.std.specs.Prelude.{◌≡◌};
 
+use crate::asserts::{assert_said, places_of};
 use crate::fixtures::{
-    DISK_GUID, answer, complement, disk_2, disk_of, image_of, image_of_new_table, new_header, put,
-    used_entries, write_copy,
+    DISK_GUID, answer, complement, disk_2, disk_of, image_of, image_of_new_table, new_header,
+    put, read_image, used_entries, write_copy,
 };
 use gptman::{GPT, GPTHeader, GPTPartitionEntry, MemoryDisk};
 use std::alloc::Global;
+use std::process::Abort;
 use std::test::Fail;
 
 // What reading a table from a disk of these bytes answers, with sectors of 512.
@@ -17,9 +19,21 @@ fn reading(alloc: Global, bytes: Vec<u8>) -> Result<String, Fail> {
     Ok(answer(alloc, &GPT::read_from(alloc, &mut disk, 512))?)
 }
 
+// Both readings of a disk of so many bytes say this.
+fn assert_unread(
+    rt: &impl Abort,
+    alloc: Global,
+    byte: u8,
+    len: usize,
+    said: &str,
+) -> Result<(), Fail> {
+    let mut disk = disk_of(alloc, byte, len)?;
+    assert_said(rt, alloc, &GPT::read_from(alloc, &mut disk, 512), said)?;
+    assert_said(rt, alloc, &GPT::find_from(alloc, &mut disk), said)
+}
+
 #[test]
 fn no_table_is_read_where_there_is_none(rt: HostRuntime) -> Result<(), Fail> {
-    let alloc = rt.alloc();
     let unread =
         "could not read primary header (generic I/O error) nor backup header (invalid signature)";
     let rows = [
@@ -32,12 +46,25 @@ fn no_table_is_read_where_there_is_none(rt: HostRuntime) -> Result<(), Fail> {
         (0, 0, "invalid signature"),
     ];
     for (byte, len, said) in rows {
-        let bytes = vec![in alloc; byte; len]?;
-        let mut disk = MemoryDisk::new(alloc, bytes.clone()?)?;
-        assert_eq!(rt; reading(alloc, bytes)?.as_str(), said, "{len} bytes {byte}");
-        let found = answer(alloc, &GPT::find_from(alloc, &mut disk))?;
-        assert_eq!(rt; found.as_str(), said, "{len} bytes {byte}");
+        assert_unread(&rt, rt.alloc(), byte, len, said)?;
     }
+    Ok(())
+}
+
+// The primary copy of the image has this fault where this byte is complemented.
+fn assert_damaged(
+    rt: &impl Abort,
+    alloc: Global,
+    image: &[u8],
+    at: usize,
+    fault: &str,
+) -> Result<(), Fail> {
+    let mut bytes = image.to_vec(alloc)?;
+    complement(&mut bytes, at);
+    let said = format!(in alloc;
+        "could not read primary header ({fault}) nor backup header (invalid signature)"
+    )?;
+    assert_eq!(rt; reading(alloc, bytes)?.as_str(), said.as_str(), "byte {at}");
     Ok(())
 }
 
@@ -58,12 +85,7 @@ fn a_damaged_byte_names_its_fault(rt: HostRuntime) -> Result<(), Fail> {
         ),
     ];
     for (at, fault) in rows {
-        let mut bytes = image.clone()?;
-        complement(&mut bytes, at);
-        let said = format!(in alloc;
-            "could not read primary header ({fault}) nor backup header (invalid signature)"
-        )?;
-        assert_eq!(rt; reading(alloc, bytes)?.as_str(), said.as_str(), "byte {at}");
+        assert_damaged(&rt, alloc, &image, at, fault)?;
     }
     complement(&mut image, 512);
     assert_eq!(rt; reading(alloc, image)?.as_str(), "invalid signature");
@@ -75,12 +97,7 @@ fn sectors_read(alloc: Global, at: usize) -> Result<(u64, u64, u64), Fail> {
     let mut image = image_of_new_table(alloc, 0)?;
     complement(&mut image, at);
     let table = GPT::read_from(alloc, &mut MemoryDisk::new(alloc, image)?, 512)?;
-    let header = &table.header;
-    Ok((
-        header.primary_lba,
-        header.backup_lba,
-        header.partition_entry_lba,
-    ))
+    Ok(places_of(&table.header))
 }
 
 #[test]
@@ -95,7 +112,7 @@ fn one_broken_copy_does_not_lose_the_table(rt: HostRuntime) -> Result<(), Fail> 
 }
 
 #[test]
-fn the_backup_is_in_the_last_whole_sector(rt: HostRuntime) -> Result<(), Fail> {
+fn a_sector_size_may_leave_no_place_for_a_copy(rt: HostRuntime) -> Result<(), Fail> {
     let alloc = rt.alloc();
     let rows = [
         (
@@ -106,28 +123,35 @@ fn the_backup_is_in_the_last_whole_sector(rt: HostRuntime) -> Result<(), Fail> {
     ];
     for (sector_size, said) in rows {
         let mut zeros = disk_of(alloc, 0, 51_200)?;
-        let read = answer(alloc, &GPT::read_from(alloc, &mut zeros, sector_size))?;
-        assert_eq!(rt; read.as_str(), said);
+        let read = GPT::read_from(alloc, &mut zeros, sector_size);
+        assert_said(&rt, alloc, &read, said)?;
     }
+    Ok(())
+}
+
+#[test]
+fn the_backup_is_in_the_last_whole_sector(rt: HostRuntime) -> Result<(), Fail> {
+    let alloc = rt.alloc();
     let mut image = image_of_new_table(alloc, 0)?;
     complement(&mut image, 512);
     image.resize(51_200 + 511, 9)?;
-    let mut disk = MemoryDisk::new(alloc, image)?;
-    assert_eq!(rt;
-        GPT::read_from(alloc, &mut disk, 512)?.header.primary_lba,
-        99
-    );
+    let read = read_image(alloc, &image)?;
+    assert_eq!(rt; read.header.primary_lba, 99);
     Ok(())
+}
+
+// The sector size that is found on a disk of these bytes.
+fn size_found(alloc: Global, image: Vec<u8>) -> Result<u64, Fail> {
+    Ok(GPT::find_from(alloc, &mut MemoryDisk::new(alloc, image)?)?.sector_size)
 }
 
 #[test]
 fn the_sector_size_is_found(rt: HostRuntime) -> Result<(), Fail> {
     let alloc = rt.alloc();
-    let mut small = MemoryDisk::new(alloc, image_of_new_table(alloc, 0)?)?;
-    assert_eq!(rt; GPT::find_from(alloc, &mut small)?.sector_size, 512);
-    let mut large = MemoryDisk::new(alloc, image_of(alloc, &disk_2(alloc)?)?)?;
-    assert_eq!(rt; GPT::find_from(alloc, &mut large)?.sector_size, 4096);
-    assert!(rt; GPT::read_from(alloc, &mut large, 512).is_err());
+    assert_eq!(rt; size_found(alloc, image_of_new_table(alloc, 0)?)?, 512);
+    let large = image_of(alloc, &disk_2(alloc)?)?;
+    assert!(rt; read_image(alloc, &large).is_err());
+    assert_eq!(rt; size_found(alloc, large)?, 4096);
     Ok(())
 }
 
@@ -138,12 +162,10 @@ fn sectors_of_4096_are_not_tried_after_a_signature(rt: HostRuntime) -> Result<()
     let table = GPT::find_from(alloc, &mut MemoryDisk::new(alloc, bytes.clone()?)?)?;
     put(&mut bytes, 512, b"EFI PART");
     let mut both = MemoryDisk::new(alloc, bytes)?;
-    let said = answer(alloc, &GPT::find_from(alloc, &mut both))?;
-    assert_eq!(rt;
-        said.as_str(),
-        "could not read primary header (invalid revision) nor backup header (invalid signature)"
-    );
-    assert_eq!(rt; GPT::read_from(alloc, &mut both, 4096)?, table);
+    let said =
+        "could not read primary header (invalid revision) nor backup header (invalid signature)";
+    assert_said(&rt, alloc, &GPT::find_from(alloc, &mut both), said)?;
+    assert!(rt; GPT::read_from(alloc, &mut both, 4096)? == table);
     Ok(())
 }
 
@@ -197,6 +219,23 @@ fn crafted(alloc: Global, mut header: GPTHeader) -> Result<MemoryDisk, Fail>
     Ok(MemoryDisk::new(alloc, image)?)
 }
 
+// A copy with this header has this fault.
+fn assert_crafted(
+    rt: &impl Abort,
+    alloc: Global,
+    header: GPTHeader,
+    fault: &str,
+) -> Result<(), Fail>
+    requires { header.header_size ≡ 92 }
+{
+    let mut disk = crafted(alloc, header)?;
+    let said = format!(in alloc;
+        "could not read primary header ({fault}) nor backup header (invalid signature)"
+    )?;
+    let read = GPT::read_from(alloc, &mut disk, 512);
+    assert_said(rt, alloc, &read, said.as_str())
+}
+
 #[test]
 fn a_crafted_header_is_refused(rt: HostRuntime) -> Result<(), Fail> {
     let alloc = rt.alloc();
@@ -227,12 +266,7 @@ fn a_crafted_header_is_refused(rt: HostRuntime) -> Result<(), Fail> {
             partition_entry_array_crc32: checksum,
             ..new_header(alloc)?
         };
-        let mut disk = crafted(alloc, header)?;
-        let read = answer(alloc, &GPT::read_from(alloc, &mut disk, 512))?;
-        let both = format!(in alloc;
-            "could not read primary header ({said}) nor backup header (invalid signature)"
-        )?;
-        assert_eq!(rt; read.as_str(), both.as_str());
+        assert_crafted(&rt, alloc, header, said)?;
     }
     Ok(())
 }
@@ -248,11 +282,10 @@ fn a_table_without_entries_is_read(rt: HostRuntime) -> Result<(), Fail> {
     let mut disk = crafted(alloc, header)?;
     let mut table = GPT::read_from(alloc, &mut disk, 512)?;
     assert!(rt; table.is_coherent());
-    assert_eq!(rt; table.header.number_of_partition_entries, 0);
-    assert_eq!(rt; table.align, 2048);
-    let said = answer(alloc, &table.header.update_from(&mut disk, 512))?;
-    assert_eq!(rt; said.as_str(), "an arithmetic operation overflowed");
-    Ok(())
+    let count = table.header.number_of_partition_entries;
+    assert_eq!(rt; (count, table.align), (0, 2048));
+    let fits = table.header.update_from(&mut disk, 512);
+    assert_said(&rt, alloc, &fits, "an arithmetic operation overflowed")
 }
 
 #[test]

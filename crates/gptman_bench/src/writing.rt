@@ -7,9 +7,11 @@ ghost use Rattle.gptman.specs.Disk.{Rose};
 ghost use Rattle.gptman.specs.Reading.{backup, primary};
 ghost use Rattle.gptman.specs.Table.{entries_in, table_in, IsCoherent, IsForm};
 
-use crate::fixtures::{DISK_GUID, answer, are_all, bytes_at, disk_of, new_table, write};
-use gptman::{Disk, GPT, GPTHeader};
+use crate::asserts::{assert_bounds, assert_said, places_of};
+use crate::fixtures::{DISK_GUID, are_all, bytes_at, disk_of, new_table, write};
+use gptman::{Disk, GPT, GPTHeader, MemoryDisk};
 use std::alloc::Global;
+use std::process::Abort;
 use std::test::Fail;
 
 // Writes the table and reads it back. What is read from an honest disk of the stated layout is the
@@ -27,31 +29,62 @@ fn write_and_read<D: Disk>(alloc: Global, table: &mut GPT, disk: &mut D) -> gptm
     GPT::read_from(alloc, disk, sector_size)
 }
 
+// Its checksums are those of another program.
+#[test]
+fn a_new_table_is_written_with_its_checksums(rt: HostRuntime) -> Result<(), Fail> {
+    let mut disk = disk_of(rt.alloc(), 2, 51_200)?;
+    let mut table = new_table(rt.alloc(), &mut disk, 512, DISK_GUID)?;
+    let wanted = GPTHeader {
+        crc32_checksum: 0xa4fd_9f64,
+        partition_entry_array_crc32: 0xab54_d286,
+        ..table.header
+    };
+    let other = write(&mut table, &mut disk)??;
+    assert_eq!(rt; table.header, wanted);
+    assert_eq!(rt; places_of(&other), (99, 1, 67));
+    assert_eq!(rt; other.crc32_checksum, 0x18ff_8a28);
+    Ok(())
+}
+
 #[test]
 fn a_new_table_is_written_and_read_back(rt: HostRuntime) -> Result<(), Fail> {
     let alloc = rt.alloc();
     let mut disk = disk_of(alloc, 2, 51_200)?;
     let mut table = new_table(alloc, &mut disk, 512, DISK_GUID)?;
-    let new = table.header;
-    let other = write(&mut table, &mut disk)??;
-    assert_eq!(rt; other.primary_lba, 99);
-    assert_eq!(rt; other.backup_lba, 1);
-    assert_eq!(rt; other.partition_entry_lba, 67);
-    assert_eq!(rt; other.crc32_checksum, 0x18ff_8a28);
-    let wanted = GPTHeader {
-        crc32_checksum: 0xa4fd_9f64,
-        partition_entry_array_crc32: 0xab54_d286,
-        ..new
-    };
-    assert_eq!(rt; table.header, wanted);
+    write(&mut table, &mut disk)??;
     let read = GPT::read_from(alloc, &mut disk, 512)?;
     assert_eq!(rt; read, table);
-    assert_eq!(rt; read.sector_size, 512);
-    assert_eq!(rt; read.align, 2048);
+    assert_eq!(rt; (read.sector_size, read.align), (512, 2048));
     assert!(rt; read.is_coherent() && read.is_primary());
+    Ok(())
+}
+
+#[test]
+fn a_table_is_written_again_over_itself(rt: HostRuntime) -> Result<(), Fail> {
+    let alloc = rt.alloc();
+    let mut disk = disk_of(alloc, 2, 51_200)?;
+    let mut table = new_table(alloc, &mut disk, 512, DISK_GUID)?;
+    write(&mut table, &mut disk)??;
     let mut again = new_table(alloc, &mut disk, 512, DISK_GUID)?;
     assert!(rt; again.is_coherent() && again.sector_size == 512);
     assert_eq!(rt; write_and_read(alloc, &mut again, &mut disk)?, table);
+    Ok(())
+}
+
+// The disk holds this header at one byte and 128 unused entries at another.
+fn assert_copy(
+    rt: &impl Abort,
+    alloc: Global,
+    disk: &mut MemoryDisk,
+    header: &GPTHeader,
+    at: (u64, u64),
+) -> Result<(), Fail> {
+    assert_eq!(rt; bytes_at::<92>(disk, at.0)?, header.encode(), "at {at:?}");
+    disk.seek_start(at.0)?;
+    assert_eq!(rt; GPTHeader::read_from(disk)?, *header, "at {at:?}");
+    assert_eq!(rt; header.partition_entry_lba, at.1 / 512);
+    assert_eq!(rt; header.read_partitions(alloc, disk, 512)?.len(), 128);
+    assert!(rt; bytes_at::<16384>(disk, at.1)? == [0; 16384], "at {at:?}");
     Ok(())
 }
 
@@ -61,17 +94,8 @@ fn both_places_hold_the_table_and_nothing_else_changes(rt: HostRuntime) -> Resul
     let mut disk = disk_of(alloc, 2, 51_200)?;
     let mut table = new_table(alloc, &mut disk, 512, DISK_GUID)?;
     let other = write(&mut table, &mut disk)??;
-    for (at, entries_at, header) in [(512, 1024, &table.header), (50_688, 34_304, &other)] {
-        assert_eq!(rt; bytes_at::<92>(&mut disk, at)?, header.encode(), "at {at}");
-        disk.seek_start(at)?;
-        assert_eq!(rt; GPTHeader::read_from(&mut disk)?, *header, "at {at}");
-        assert_eq!(rt; header.partition_entry_lba, entries_at / 512);
-        assert_eq!(rt; header.read_partitions(alloc, &mut disk, 512)?.len(), 128);
-        assert!(rt;
-            bytes_at::<16384>(&mut disk, entries_at)? == [0; 16384],
-            "at {at}"
-        );
-    }
+    assert_copy(&rt, alloc, &mut disk, &table.header, (512, 1024))?;
+    assert_copy(&rt, alloc, &mut disk, &other, (50_688, 34_304))?;
     let gaps = [(0, 512), (604, 1024), (17_408, 34_304), (50_780, 51_200)];
     for (start, end) in gaps {
         let gap = disk.bytes().get(start..end);
@@ -92,15 +116,26 @@ fn a_written_table_is_stored(rt: HostRuntime) -> Result<(), Fail> {
     Ok(())
 }
 
+// The write of the table is refused with this text, and leaves the disk, which is all 2, as it was.
+fn assert_refused(
+    rt: &impl Abort,
+    alloc: Global,
+    table: &mut GPT,
+    disk: &mut MemoryDisk,
+    refusal: &str,
+) -> Result<(), Fail> {
+    assert_said(rt, alloc, &write(table, disk)?, refusal)?;
+    assert!(rt; are_all(disk.bytes(), 2));
+    Ok(())
+}
+
 #[test]
 fn a_table_for_a_longer_disk_is_not_written(rt: HostRuntime) -> Result<(), Fail> {
     let alloc = rt.alloc();
     let mut longer = disk_of(alloc, 0, 51_200)?;
     let mut table = new_table(alloc, &mut longer, 512, DISK_GUID)?;
     let mut disk = disk_of(alloc, 2, 512 * 99)?;
-    let said = answer(alloc, &write(&mut table, &mut disk)?)?;
-    assert_eq!(rt; said.as_str(), "no space left");
-    assert!(rt; are_all(disk.bytes(), 2));
+    assert_refused(&rt, alloc, &mut table, &mut disk, "no space left")?;
     assert_eq!(rt; table, new_table(alloc, &mut longer, 512, DISK_GUID)?);
     Ok(())
 }
@@ -108,16 +143,15 @@ fn a_table_for_a_longer_disk_is_not_written(rt: HostRuntime) -> Result<(), Fail>
 #[test]
 fn a_table_with_sectors_past_64_bits_is_not_written(rt: HostRuntime) -> Result<(), Fail> {
     let alloc = rt.alloc();
+    let refusal = "an arithmetic operation overflowed";
     for (primary_lba, last_usable_lba) in [(u64::MAX, 66), (1, u64::MAX)] {
         let mut disk = disk_of(alloc, 2, 51_200)?;
         let mut table = new_table(alloc, &mut disk, 512, DISK_GUID)?;
         table.header.primary_lba = primary_lba;
         table.header.last_usable_lba = last_usable_lba;
         let given = table.header;
-        let said = answer(alloc, &write(&mut table, &mut disk)?)?;
-        assert_eq!(rt; said.as_str(), "an arithmetic operation overflowed");
+        assert_refused(&rt, alloc, &mut table, &mut disk, refusal)?;
         assert_eq!(rt; table.header, given);
-        assert!(rt; are_all(disk.bytes(), 2));
     }
     Ok(())
 }
@@ -127,11 +161,6 @@ fn sectors_of_one_byte_leave_no_room_for_a_header(rt: HostRuntime) -> Result<(),
     let alloc = rt.alloc();
     let mut disk = disk_of(alloc, 2, 51_200)?;
     let mut table = new_table(alloc, &mut disk, 1, DISK_GUID)?;
-    assert_eq!(rt; table.header.first_usable_lba, 16_386);
-    assert_eq!(rt; table.header.last_usable_lba, 34_814);
-    assert_eq!(rt; table.header.backup_lba, 51_199);
-    let said = answer(alloc, &write(&mut table, &mut disk)?)?;
-    assert_eq!(rt; said.as_str(), "no space left");
-    assert!(rt; are_all(disk.bytes(), 2));
-    Ok(())
+    assert_bounds(&rt, &table.header, (16_386, 34_814, 51_199));
+    assert_refused(&rt, alloc, &mut table, &mut disk, "no space left")
 }

@@ -1,0 +1,64 @@
+//! What many tests assert, each as one call. A function is proved in time that grows with its length
+//! times the references that it makes, so short tests are proved sooner.
+
+use crate::fixtures::{answer, used_names};
+use gptman::{GPT, GPTHeader};
+use std::alloc::Global;
+use std::process::Abort;
+use std::test::Fail;
+
+/// The call was answered with this text: "ok", or that of its error.
+pub(crate) fn assert_said<T>(
+    rt: &impl Abort,
+    alloc: Global,
+    outcome: &gptman::Result<T>,
+    said: &str,
+) -> Result<(), Fail> {
+    assert_eq!(rt; answer(alloc, outcome)?.as_str(), said);
+    Ok(())
+}
+
+/// The table's used entries have these numbers and names.
+pub(crate) fn assert_names(
+    rt: &impl Abort,
+    alloc: Global,
+    table: &GPT,
+    names: &str,
+) -> Result<(), Fail> {
+    assert_eq!(rt; used_names(alloc, table)?.as_str(), names);
+    Ok(())
+}
+
+/// The first and the last usable sector of a header, and the sector of its backup.
+pub(crate) fn bounds_of(header: &GPTHeader) -> (u64, u64, u64) {
+    (
+        header.first_usable_lba,
+        header.last_usable_lba,
+        header.backup_lba,
+    )
+}
+
+/// The header has these bounds.
+pub(crate) fn assert_bounds(rt: &impl Abort, header: &GPTHeader, bounds: (u64, u64, u64)) {
+    assert_eq!(rt; bounds_of(header), bounds);
+}
+
+/// The sectors in which a header says that it, the other header and its entries stand.
+pub(crate) fn places_of(header: &GPTHeader) -> (u64, u64, u64) {
+    (
+        header.primary_lba,
+        header.backup_lba,
+        header.partition_entry_lba,
+    )
+}
+
+/// The call was refused for the boundaries of an entry.
+pub(crate) fn assert_boundaries<T>(
+    rt: &impl Abort,
+    alloc: Global,
+    outcome: &gptman::Result<T>,
+) -> Result<(), Fail> {
+    let said = answer(alloc, outcome)?;
+    assert!(rt; said.as_str().starts_with("invalid partition boundaries: "));
+    Ok(())
+}
