@@ -265,6 +265,19 @@ impl Write for Short {
     }
 }
 
+// What these words print does not fit, which is an error.
+fn assert_unprinted(
+    rt: &impl Abort,
+    alloc: Global,
+    disk: &mut MemoryDisk,
+    words: &[&str],
+) -> Result<(), Fail> {
+    let words = strings(alloc, words)?;
+    let outcome = run(alloc, words.as_slice(), disk, &mut Short { room: 2 });
+    assert!(rt; matches!(outcome, Err(Error::Io(_))));
+    Ok(())
+}
+
 #[test]
 fn a_failing_writer_is_an_error(rt: HostRuntime) -> Result<(), Fail> {
     let alloc = rt.alloc();
@@ -276,9 +289,7 @@ fn a_failing_writer_is_an_error(rt: HostRuntime) -> Result<(), Fail> {
         &["512", "show"],
     ];
     for words in lines {
-        let words = strings(alloc, words)?;
-        let outcome = run(alloc, words.as_slice(), &mut disk, &mut Short { room: 2 });
-        assert!(rt; matches!(outcome, Err(Error::Io(_))));
+        assert_unprinted(&rt, alloc, &mut disk, words)?;
     }
     // The table was written before its `ok` could not be printed.
     let shown = call(alloc, &mut disk, &["512", "show"])?;
