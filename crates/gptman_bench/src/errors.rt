@@ -1,20 +1,19 @@
 //! The texts of the errors.
 
 use gptman::Error;
-use std::alloc::Global;
 use std::io;
-use std::process::Abort;
 use std::test::Fail;
 
-// The error has this text.
-fn assert_text(rt: &impl Abort, alloc: Global, error: &Error, text: &str) -> Result<(), Fail> {
-    assert_eq!(rt; error.to_string(alloc)?.as_str(), text);
-    Ok(())
-}
-
 #[test]
-fn each_fault_of_a_copy_has_its_text(rt: HostRuntime) -> Result<(), Fail> {
+fn each_error_has_its_text(rt: HostRuntime) -> Result<(), Fail> {
+    let alloc = rt.alloc();
+    let primary = Box::new(alloc, Error::InvalidChecksum(1, 2))?;
+    let backup = Box::new(alloc, Error::InvalidSignature)?;
     let rows = [
+        (
+            Error::Io(io::Error::other("the device failed")),
+            "generic I/O error",
+        ),
         (Error::InvalidSignature, "invalid signature"),
         (Error::InvalidRevision, "invalid revision"),
         (Error::InvalidHeaderSize, "invalid header size"),
@@ -27,31 +26,8 @@ fn each_fault_of_a_copy_has_its_text(rt: HostRuntime) -> Result<(), Fail> {
             "corrupted partition entry array CRC32 checksum (5 != 6)",
         ),
         (
-            Error::InvalidPartitionEntrySize(256),
-            "invalid partition entry size: 256",
-        ),
-    ];
-    for (error, text) in rows {
-        assert_text(&rt, rt.alloc(), &error, text)?;
-    }
-    Ok(())
-}
-
-#[test]
-fn the_faults_of_both_copies_have_one_text(rt: HostRuntime) -> Result<(), Fail> {
-    let primary = Box::new(rt.alloc(), Error::InvalidChecksum(1, 2))?;
-    let backup = Box::new(rt.alloc(), Error::InvalidSignature)?;
-    let text =
-        "could not read primary header (corrupted CRC32 checksum (1 != 2)) nor backup header (invalid signature)";
-    assert_text(&rt, rt.alloc(), &Error::ReadError(primary, backup), text)
-}
-
-#[test]
-fn each_other_error_has_its_text(rt: HostRuntime) -> Result<(), Fail> {
-    let rows = [
-        (
-            Error::Io(io::Error::other("the device failed")),
-            "generic I/O error",
+            Error::ReadError(primary, backup),
+            "could not read primary header (corrupted CRC32 checksum (1 != 2)) nor backup header (invalid signature)",
         ),
         (Error::NoSpaceLeft, "no space left"),
         (Error::ConflictPartitionGUID, "conflict of partition GUIDs"),
@@ -67,9 +43,13 @@ fn each_other_error_has_its_text(rt: HostRuntime) -> Result<(), Fail> {
         (Error::PartitionNotFound, "partition not found"),
         (Error::Overflow, "an arithmetic operation overflowed"),
         (Error::OutOfMemory, "no memory"),
+        (
+            Error::InvalidPartitionEntrySize(256),
+            "invalid partition entry size: 256",
+        ),
     ];
     for (error, text) in rows {
-        assert_text(&rt, rt.alloc(), &error, text)?;
+        assert_eq!(rt; error.to_string(alloc)?.as_str(), text);
     }
     Ok(())
 }

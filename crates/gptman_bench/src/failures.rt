@@ -53,6 +53,30 @@ fn failing_from(alloc: Global, image: &[u8], call: u64) -> Result<MemoryDisk, Fa
     Ok(MemoryDisk::with_fuse(alloc, image.to_vec(alloc)?, call)?)
 }
 
+// A reading with sectors of 512 says this of the disk, of which this call fails.
+fn assert_read<D: Disk + Drop>(
+    rt: &impl Abort,
+    alloc: Global,
+    disk: D,
+    call: u64,
+    said: &str,
+) -> Result<(), Fail> {
+    assert_eq!(rt; read(alloc, disk)?.as_str(), said, "call {call}");
+    Ok(())
+}
+
+// A reading that finds the sector size says this of the disk, of which this call fails.
+fn assert_found<D: Disk + Drop>(
+    rt: &impl Abort,
+    alloc: Global,
+    disk: D,
+    call: u64,
+    said: &str,
+) -> Result<(), Fail> {
+    assert_eq!(rt; found(alloc, disk)?.as_str(), said, "call {call}");
+    Ok(())
+}
+
 // Both readings say this where one call fails.
 fn assert_once(
     rt: &impl Abort,
@@ -61,11 +85,10 @@ fn assert_once(
     call: u64,
     said: &str,
 ) -> Result<(), Fail> {
-    let read = read(alloc, failing_once(alloc, image, call)?)?;
-    assert_eq!(rt; read.as_str(), said, "call {call}");
-    let found = found(alloc, failing_once(alloc, image, call)?)?;
-    assert_eq!(rt; found.as_str(), said, "call {call}");
-    Ok(())
+    let disk = failing_once(alloc, image, call)?;
+    assert_read(rt, alloc, disk, call, said)?;
+    let disk = failing_once(alloc, image, call)?;
+    assert_found(rt, alloc, disk, call, said)
 }
 
 // Both readings say this where a call and all later ones fail.
@@ -76,11 +99,10 @@ fn assert_from(
     call: u64,
     said: &str,
 ) -> Result<(), Fail> {
-    let read = read(alloc, failing_from(alloc, image, call)?)?;
-    assert_eq!(rt; read.as_str(), said, "call {call}");
-    let found = found(alloc, failing_from(alloc, image, call)?)?;
-    assert_eq!(rt; found.as_str(), said, "call {call}");
-    Ok(())
+    let disk = failing_from(alloc, image, call)?;
+    assert_read(rt, alloc, disk, call, said)?;
+    let disk = failing_from(alloc, image, call)?;
+    assert_found(rt, alloc, disk, call, said)
 }
 
 // The bytes of a new table whose primary header has a fault, where this byte is complemented.
@@ -154,8 +176,8 @@ fn one_failed_call_finds_no_other_sector_size(rt: HostRuntime) -> Result<(), Fai
             5..=11 => "sectors of 4096, header in 99",
             _ => "sectors of 4096, header in 1",
         };
-        let found = found(alloc, failing_once(alloc, &image, call)?)?;
-        assert_eq!(rt; found.as_str(), said, "call {call}");
+        let disk = failing_once(alloc, &image, call)?;
+        assert_found(&rt, alloc, disk, call, said)?;
     }
     Ok(())
 }

@@ -3,13 +3,26 @@
 use crate::asserts::assert_said;
 use crate::fixtures::{DISK_GUID, are_all, image_of_new_table, new_table, write};
 use gptman::{Disk, FileDisk, GPT};
+use std::alloc::Global;
 use std::fs;
+use std::process::Abort;
 use std::test::Fail;
 
 // A file of 100 sectors of 512 bytes, all of them 2.
 fn make_file(rt: &HostRuntime, path: &str) -> Result<(), Fail> {
     let bytes = vec![in rt.alloc(); 2_u8; 51_200]?;
     fs::write(rt, path, bytes.as_slice())?;
+    Ok(())
+}
+
+// The table is read from the disk.
+fn assert_reads<D: Disk>(
+    rt: &impl Abort,
+    alloc: Global,
+    disk: &mut D,
+    table: &GPT,
+) -> Result<(), Fail> {
+    assert!(rt; GPT::read_from(alloc, disk, 512)? == *table);
     Ok(())
 }
 
@@ -22,9 +35,8 @@ fn a_table_is_written_to_a_file_and_read_back(rt: HostRuntime) -> Result<(), Fai
     let mut table = new_table(alloc, &mut disk, 512, DISK_GUID)?;
     let other = write(&mut table, &mut disk)??;
     assert_eq!(rt; other.primary_lba, 99);
-    assert_eq!(rt; GPT::read_from(alloc, &mut disk, 512)?, table);
-    let mut again = FileDisk::open_read(&rt, path)?;
-    assert_eq!(rt; GPT::read_from(alloc, &mut again, 512)?, table);
+    assert_reads(&rt, alloc, &mut disk, &table)?;
+    assert_reads(&rt, alloc, &mut FileDisk::open_read(&rt, path)?, &table)?;
     assert!(rt; fs::read(&rt, path)? == image_of_new_table(alloc, 2)?);
     fs::remove_file(&rt, path)?;
     Ok(())

@@ -81,8 +81,7 @@ fn each_entry_can_be_written_by_its_number(rt: HostRuntime) -> Result<(), Fail> 
 
 #[test]
 fn the_entry_of_a_sector_is_found(rt: HostRuntime) -> Result<(), Fail> {
-    let alloc = rt.alloc();
-    let mut table = disk_1(alloc)?;
+    let table = disk_1(rt.alloc())?;
     let rows = [
         (33, None),
         (34, Some(1)),
@@ -94,6 +93,13 @@ fn the_entry_of_a_sector_is_found(rt: HostRuntime) -> Result<(), Fail> {
     for (sector, number) in rows {
         assert_eq!(rt; table.find_at_sector(sector), number, "sector {sector}");
     }
+    Ok(())
+}
+
+#[test]
+fn of_two_entries_on_a_sector_the_lower_number_is_found(rt: HostRuntime) -> Result<(), Fail> {
+    let alloc = rt.alloc();
+    let mut table = disk_1(alloc)?;
     table.apply(Edit::Put(5, partition(alloc, "A", [2; 16], 40, 50)?))?;
     table.apply(Edit::Put(4, partition(alloc, "B", [3; 16], 45, 60)?))?;
     assert_eq!(rt; table.find_at_sector(47), Some(4));

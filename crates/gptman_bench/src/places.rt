@@ -68,11 +68,16 @@ fn a_table_may_have_no_usable_sector(rt: HostRuntime) -> Result<(), Fail> {
 }
 
 #[test]
-fn the_shortest_slot_is_taken_and_of_equals_the_first(rt: HostRuntime) -> Result<(), Fail> {
+fn of_equal_slots_the_first_is_taken(rt: HostRuntime) -> Result<(), Fail> {
     let equal = table_with(rt.alloc(), (34, 66), 1, &[(39, 61)])?;
-    assert_eq!(rt; first_place(&equal, 5)?, Some(34));
-    assert_eq!(rt; last_place(&equal, 5)?, Some(62));
+    let (first, last) = (first_place(&equal, 5)?, last_place(&equal, 5)?);
+    assert_eq!(rt; (first, last), (Some(34), Some(62)));
     assert_eq!(rt; optimal_place(&equal, 5)?, Some(34));
+    Ok(())
+}
+
+#[test]
+fn the_shortest_slot_is_taken(rt: HostRuntime) -> Result<(), Fail> {
     let shorter_last = table_with(rt.alloc(), (34, 66), 1, &[(44, 61)])?;
     assert_eq!(rt; optimal_place(&shorter_last, 5)?, Some(62));
     Ok(())

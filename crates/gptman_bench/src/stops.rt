@@ -155,10 +155,16 @@ fn left_of(alloc: Global, image: &[u8], calls: u64, fates: &[Fate]) -> Result<Me
     Ok(disk.stop(fates)?)
 }
 
-// The number of used entries that are read, and whether in primary form. The old table has two, the
-// new one three.
-fn read_of(alloc: Global, disk: &MemoryDisk) -> Result<(usize, bool), Fail> {
-    let table = read_image(alloc, disk.bytes())?;
+// The number of used entries that are read of it, and whether in primary form. The old table has
+// two, the new one three.
+fn read_after(
+    alloc: Global,
+    image: &[u8],
+    calls: u64,
+    fates: &[Fate],
+) -> Result<(usize, bool), Fail> {
+    let left = left_of(alloc, image, calls, fates)?;
+    let table = read_image(alloc, left.bytes())?;
     let used = table.iter().filter(|(_, entry)| entry.is_used()).count();
     Ok((used, table.is_primary()))
 }
@@ -175,10 +181,9 @@ fn the_other_copy_is_written_first(rt: HostRuntime) -> Result<(), Fail> {
     ];
     for (zeroed, after_a_write, after_a_sync) in rows {
         let image = image(alloc, zeroed)?;
-        let torn = left_of(alloc, &image, 4, &[Fate::Garbage(7)])?;
-        assert_eq!(rt; read_of(alloc, &torn)?, after_a_write, "{zeroed:?}");
-        let synced = left_of(alloc, &image, 10, &[])?;
-        assert_eq!(rt; read_of(alloc, &synced)?, after_a_sync, "{zeroed:?}");
+        let torn = read_after(alloc, &image, 4, &[Fate::Garbage(7)])?;
+        let synced = read_after(alloc, &image, 10, &[])?;
+        assert_eq!(rt; (torn, synced), (after_a_write, after_a_sync), "{zeroed:?}");
     }
     Ok(())
 }
