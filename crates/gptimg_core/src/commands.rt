@@ -2,9 +2,9 @@
 
 ghost use Rattle.std.specs.Prelude.{◌≡◌, ◌⊎◌, ◌<◌, ◌∷◌, [], ℕ, Bool, List, Option, Some, IsTrue, IfOk, IfErr, IfSome, OnOk, OnErr};
 ghost use Rattle.gptman.specs.Disk.{Keeps, Rose, Wrote, overlay};
-ghost use Rattle.gptman.specs.Calls.{OnlyRead, Untouched};
+ghost use Rattle.gptman.specs.Calls.{OnlyRead, Refuses, Untouched};
 ghost use Rattle.gptman.specs.Layout.{HasLayout};
-ghost use Rattle.gptman.specs.Fault.{fault_of};
+ghost use Rattle.gptman.specs.Fault.{fault_of, io as io_fault};
 ghost use Rattle.gptman.specs.Mbr.{mbr_bytes, mbr_fault};
 ghost use Rattle.gptman.specs.Stop.{IsStored};
 ghost use Rattle.gptman.specs.Table.{entries_in, IsCoherent};
@@ -49,6 +49,7 @@ pub enum Report {
 pub fn perform<D: Disk>(alloc: Global, command: &Command, disk: &mut D) -> Result<Report>
     requires { IsSized command.now }
     ensures keeps { Keeps (D.state disk.old) (D.state disk.new) }
+    ensures cause { Refuses result io_fault → Rose (D.state disk.old) (D.state disk.new) }
     ensures kept { IsTrue (D.state disk.old).is_honest
         → OnErr result (Rose (D.state disk.old) (D.state disk.new) ⊎ Untouched (D.state disk.old) (D.state disk.new)) }
     ensures refused { IsTrue (D.state disk.old).is_honest
@@ -106,6 +107,7 @@ pub fn perform<D: Disk>(alloc: Global, command: &Command, disk: &mut D) -> Resul
 fn read_table<D: Disk>(alloc: Global, disk: &mut D, sector_size: Option<u64>) -> Result<GPT>
     requires { IfSome sector_size (λ size. 0 < size) }
     ensures keeps { Keeps (D.state disk.old) (D.state disk.new) }
+    ensures cause { Refuses result io_fault → Rose (D.state disk.old) (D.state disk.new) }
     ensures reads { IsTrue (D.state disk.old).is_honest → OnlyRead (D.state disk.old) (D.state disk.new) }
     ensures read { IsTrue (D.state disk.old).is_honest → IfOk result (IsReadFrom sector_size (D.state disk.old) (D.state disk.new)) }
     ensures refused { IsTrue (D.state disk.old).is_honest
@@ -129,6 +131,7 @@ fn list_free<D: Disk>(
     requires sized { IfSome sector_size (λ size. 0 < size) }
     requires aligned { 0 < align }
     ensures keeps { Keeps (D.state disk.old) (D.state disk.new) }
+    ensures cause { Refuses result io_fault → Rose (D.state disk.old) (D.state disk.new) }
     ensures reads { IsTrue (D.state disk.old).is_honest → OnlyRead (D.state disk.old) (D.state disk.new) }
     ensures good { IfOk result (λ report. IsTrue (is_good report)) }
     ensures slots { IsTrue (D.state disk.old).is_honest
@@ -150,6 +153,7 @@ fn write_new<D: Disk>(
 ) -> Result<Report>
     requires { 0 < sector_size }
     ensures keeps { Keeps (D.state disk.old) (D.state disk.new) }
+    ensures cause { Refuses result io_fault → Rose (D.state disk.old) (D.state disk.new) }
     ensures made { IfOk result (λ report. report ≡ Written) }
     ensures wrote { IsTrue (D.state disk.old).is_honest
         → Wrote (both_ranges (made_header guid sector_size (D.state disk.old).size) sector_size) (D.state disk.old) (D.state disk.new) }
@@ -169,6 +173,7 @@ fn write_new<D: Disk>(
 fn write_mbr<D: Disk>(disk: &mut D, sector_size: u64, bootable: bool) -> Result<Report>
     requires { 0 < sector_size }
     ensures keeps { Keeps (D.state disk.old) (D.state disk.new) }
+    ensures cause { Refuses result io_fault → Rose (D.state disk.old) (D.state disk.new) }
     ensures made { IfOk result (λ report. report ≡ Written) }
     ensures wrote { IsTrue (D.state disk.old).is_honest → Wrote ((446, 66) ∷ []) (D.state disk.old) (D.state disk.new) }
     ensures laid { IsTrue (D.state disk.old).is_honest
@@ -188,6 +193,7 @@ fn write_mbr<D: Disk>(disk: &mut D, sector_size: u64, bootable: bool) -> Result<
 fn lay_mbr<D: Disk>(disk: &mut D, sector_size: u64, bootable: bool) -> Result<()>
     requires { 0 < sector_size }
     ensures keeps { Keeps (D.state disk.old) (D.state disk.new) }
+    ensures cause { Refuses result io_fault → Rose (D.state disk.old) (D.state disk.new) }
     ensures wrote { IsTrue (D.state disk.old).is_honest → Wrote ((446, 66) ∷ []) (D.state disk.old) (D.state disk.new) }
     ensures laid { IsTrue (D.state disk.old).is_honest
         → OnOk result ((D.state disk.new).view ≡ overlay (D.state disk.old).view 446 (mbr_bytes bootable sector_size (D.state disk.old).size)) }
@@ -213,6 +219,7 @@ fn change_table<D: Disk>(
     requires sector { IfSome sector_size (λ size. 0 < size) }
     requires sized { IsSizedChange change.now }
     ensures keeps { Keeps (D.state disk.old) (D.state disk.new) }
+    ensures cause { Refuses result io_fault → Rose (D.state disk.old) (D.state disk.new) }
     ensures kept { IsTrue (D.state disk.old).is_honest
         → OnErr result (Rose (D.state disk.old) (D.state disk.new) ⊎ Untouched (D.state disk.old) (D.state disk.new)) }
     ensures good { IfOk result (λ report. IsTrue (is_good report)) }

@@ -86,7 +86,9 @@ pub fn run<D: Disk, W: Write>(
     ensures prints_usage { command_in (texts_of words.now) ≡ None → OnOk result (Appends (W.contents out.old) (W.contents out.new) USAGE.now) }
 
     // A refused command prints a fault that it has a reason for, and leaves the disk as it was unless it failed.
-    ensures prints_fault { result ≡ Ok 1 → PrintsFault (W.contents out.old) (W.contents out.new) ⊎ ((ss : ℕ) × AskFor words.now (Check ss)) }
+    ensures prints_fault { result ≡ Ok 1
+        → PrintsFault (D.state disk.old) (D.state disk.new) (W.contents out.old) (W.contents out.new)
+        ⊎ ((ss : ℕ) × AskFor words.now (Check ss)) }
     ensures prints_refusal { IsTrue (D.state disk.old).is_honest → (command : Command) → AskFor words.now command → result ≡ Ok 1
         → PrintsRefusal command (D.state disk.old) (D.state disk.new) (W.contents out.old) (W.contents out.new)
         ⊎ ((ss : ℕ) × (command ≡ Check ss)) }
