@@ -1,4 +1,5 @@
 pub mod Printing
 pub mod Read
+pub mod Refused
 pub mod Told
 pub mod Written

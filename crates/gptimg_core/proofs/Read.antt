@@ -1,12 +1,12 @@
 -- What is read from a disk, and what comes after it.
-use Rattle.std.proofs.Common.{◌≡◌, ⊎_elim, ◌⊎◌, inl, inr, sym, ◌∙◌, ℕ, List}
-use Rattle.std.specs.Prelude.{Result, Ok, Err, IfOk, IsErr, None, Option}
+use Rattle.std.proofs.Common.{◌≡◌, ⊎_elim, ◌⊎◌, inl, inr, sym, ◌∙◌, ℕ}
+use Rattle.std.specs.Prelude.{Result, Ok, Err, IfOk, None, Option}
 use Rattle.gptman.specs.Alignment.{IsAlignment}
 use Rattle.gptman.specs.Calls.{answer_of, copy_of, Fails, IsTakenCopy, Refuses}
 use Rattle.gptman.specs.Copy.{Copy}
 use Rattle.gptman.specs.Disk.{DiskState, Keeps, Rose}
 use Rattle.gptman.specs.Fault.{Fault, invalid_signature, out_of_memory}
-use Rattle.gptman.specs.Reading.{backup, copy_in, found_sector_size, reading_of}
+use Rattle.gptman.specs.Reading.{found_sector_size, reading_of}
 use Rattle.gptman.specs.Table.{entries_in}
 use Rattle.gptman.specs.declared.error.Error.{Error}
 use Rattle.gptman.specs.declared.table.GPT.{GPT}

@@ -1,8 +1,8 @@
 -- What a write leaves that comes after calls that only read.
-use Rattle.std.proofs.Common.{◌≡◌, sym, subst, ◌∙◌, ℕ, List, [], ◌∷◌, ◌++◌}
+use Rattle.std.proofs.Common.{sym, subst, ◌∙◌, ℕ, List, [], ◌∷◌}
 use Rattle.gptman.specs.Calls.{OnlyRead}
 use Rattle.gptman.specs.Crash.{IsKeptFor, other_place}
-use Rattle.gptman.specs.Disk.{DiskState, Agrees, Elapses, Keeps, LeavesOnly, Wrote}
+use Rattle.gptman.specs.Disk.{DiskState, Agrees, Keeps, LeavesOnly, Wrote}
 use Rattle.gptman.specs.Layout.{AreClear, HasLayout, Holds, ranges_at}
 use Rattle.gptman.specs.Stop.{HoldsOneOf}
 use Rattle.gptman.specs.Table.{Table, table_in}

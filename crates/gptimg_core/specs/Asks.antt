@@ -1,5 +1,5 @@
 -- What a command line asks for, and what a new table is.
-use Rattle.std.specs.Prelude.{◌≡◌, ℕ, List, Option, Some, String}
+use Rattle.std.specs.Prelude.{◌≡◌, ℕ, List, Some, String}
 use Rattle.gptman.specs.Fit.{new_header, fitted}
 use Rattle.gptman.specs.Table.{Table, new_table, table_in}
 use Rattle.gptman.specs.declared.codec.header.GPTHeader.{GPTHeader}

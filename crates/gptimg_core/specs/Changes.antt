@@ -1,5 +1,5 @@
 -- Changes of a table, and what they make of a disk.
-use Rattle.std.specs.Prelude.{◌≡◌, ℕ, ◌+◌, ◌-◌, List, [], ◌∷◌, Option, None, IsTrue}
+use Rattle.std.specs.Prelude.{◌≡◌, ℕ, ◌+◌, ◌-◌, [], ◌∷◌, Option, None, IsTrue}
 use Rattle.std.specs.Str.{chars}
 use Rattle.gptman.specs.Calls.{OnlyRead}
 use Rattle.gptman.specs.Crash.{IsKeptFor}

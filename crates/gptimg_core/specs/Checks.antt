@@ -1,11 +1,11 @@
 -- What a look at both copies of a table tells.
-use Rattle.std.specs.Prelude.{◌≡◌, ◌⊎◌, ℕ, Bool, true, List, Result, Ok, Err, IsTrue}
+use Rattle.std.specs.Prelude.{◌≡◌, ◌⊎◌, ℕ, Bool, true, List, Result, Ok, IsTrue}
 use Rattle.gptman.specs.Calls.{answer_of, Fails}
 use Rattle.gptman.specs.Copy.{Copy}
 use Rattle.gptman.specs.Disk.{DiskState}
 use Rattle.gptman.specs.Fault.{Fault}
 use Rattle.gptman.specs.Layout.{Holds}
-use Rattle.gptman.specs.Reading.{Place, primary, backup, copy_in}
+use Rattle.gptman.specs.Reading.{primary, backup, copy_in}
 use Rattle.gptman.specs.Table.{Table as DiskTable, table_of, IsForm, IsHeaderForm}
 use Rattle.gptman.specs.declared.codec.entry.GPTPartitionEntry.{GPTPartitionEntry}
 use Rattle.gptman.specs.declared.codec.header.GPTHeader.{GPTHeader}

@@ -1,16 +1,18 @@
 //! What the commands do to a disk. Nothing is printed here.
 
-ghost use Rattle.std.specs.Prelude.{◌≡◌, ◌⊎◌, ◌<◌, ◌∷◌, [], ℕ, Bool, List, Option, IsTrue, IfOk, IfSome, OnOk, OnErr};
+ghost use Rattle.std.specs.Prelude.{◌≡◌, ◌⊎◌, ◌<◌, ◌∷◌, [], ℕ, Bool, List, Option, Some, IsTrue, IfOk, IfErr, IfSome, OnOk, OnErr};
 ghost use Rattle.gptman.specs.Disk.{Keeps, Rose, Wrote, overlay};
-ghost use Rattle.gptman.specs.Calls.{OnlyRead, Untouched};
+ghost use Rattle.gptman.specs.Calls.{OnlyRead, Refuses, Untouched};
 ghost use Rattle.gptman.specs.Layout.{HasLayout};
-ghost use Rattle.gptman.specs.Mbr.{mbr_bytes};
+ghost use Rattle.gptman.specs.Fault.{fault_of, io as io_fault};
+ghost use Rattle.gptman.specs.Mbr.{mbr_bytes, mbr_fault};
 ghost use Rattle.gptman.specs.Stop.{IsStored};
 ghost use Rattle.gptman.specs.Table.{entries_in, IsCoherent};
 ghost use Rattle.gptman.specs.Write.{both_ranges};
 ghost use Rattle.gptimg_core.specs.Words.{IsSized, IsSizedChange};
 ghost use Rattle.gptimg_core.specs.Asks.{made_header, made_table, IsReader};
 ghost use Rattle.gptimg_core.specs.Reads.{AreSlotsIn, IsReadFrom, TellsOfTable};
+ghost use Rattle.gptimg_core.specs.Refusals.{IsFailure, RefusesChange, RefusesCommand, RefusesNew, RefusesReading};
 ghost use Rattle.gptimg_core.specs.Changes.{report_of, LeavesChange, MakesChange};
 ghost use Rattle.gptimg_core.specs.Checks.{is_good, TellsCopies};
 ghost use Rattle.gptimg_core.specs.declared.commands.Report.TheVariants.{Written, Table};
@@ -47,8 +49,11 @@ pub enum Report {
 pub fn perform<D: Disk>(alloc: Global, command: &Command, disk: &mut D) -> Result<Report>
     requires { IsSized command.now }
     ensures keeps { Keeps (D.state disk.old) (D.state disk.new) }
+    ensures cause { Refuses result io_fault → Rose (D.state disk.old) (D.state disk.new) }
     ensures kept { IsTrue (D.state disk.old).is_honest
         → OnErr result (Rose (D.state disk.old) (D.state disk.new) ⊎ Untouched (D.state disk.old) (D.state disk.new)) }
+    ensures refused { IsTrue (D.state disk.old).is_honest
+        → IfErr result (λ e. RefusesCommand command.now (fault_of e) (D.state disk.old) (D.state disk.new)) }
     ensures good { IfOk result (λ report. IsTrue (is_good report) ⊎ ((ss : ℕ) × (command.now ≡ Check ss))) }
 
     // Commands that read.
@@ -102,8 +107,11 @@ pub fn perform<D: Disk>(alloc: Global, command: &Command, disk: &mut D) -> Resul
 fn read_table<D: Disk>(alloc: Global, disk: &mut D, sector_size: Option<u64>) -> Result<GPT>
     requires { IfSome sector_size (λ size. 0 < size) }
     ensures keeps { Keeps (D.state disk.old) (D.state disk.new) }
+    ensures cause { Refuses result io_fault → Rose (D.state disk.old) (D.state disk.new) }
     ensures reads { IsTrue (D.state disk.old).is_honest → OnlyRead (D.state disk.old) (D.state disk.new) }
     ensures read { IsTrue (D.state disk.old).is_honest → IfOk result (IsReadFrom sector_size (D.state disk.old) (D.state disk.new)) }
+    ensures refused { IsTrue (D.state disk.old).is_honest
+        → IfErr result (λ e. RefusesReading sector_size (fault_of e) (D.state disk.old) (D.state disk.new)) }
     ensures coherent { IfOk result (λ g. IsCoherent g.header (entries_in g)) }
     ensures sized { IfOk result (λ g. 0 < g.sector_size) }
 {
@@ -123,10 +131,13 @@ fn list_free<D: Disk>(
     requires sized { IfSome sector_size (λ size. 0 < size) }
     requires aligned { 0 < align }
     ensures keeps { Keeps (D.state disk.old) (D.state disk.new) }
+    ensures cause { Refuses result io_fault → Rose (D.state disk.old) (D.state disk.new) }
     ensures reads { IsTrue (D.state disk.old).is_honest → OnlyRead (D.state disk.old) (D.state disk.new) }
     ensures good { IfOk result (λ report. IsTrue (is_good report)) }
     ensures slots { IsTrue (D.state disk.old).is_honest
         → IfOk result (λ report. TellsOfTable (λ g. AreSlotsIn g align report) sector_size (D.state disk.old) (D.state disk.new)) }
+    ensures refused { IsTrue (D.state disk.old).is_honest
+        → IfErr result (λ e. RefusesReading sector_size (fault_of e) (D.state disk.old) (D.state disk.new)) }
 {
     let mut table = read_table(alloc, disk, sector_size)?;
     table.align = align;
@@ -142,6 +153,7 @@ fn write_new<D: Disk>(
 ) -> Result<Report>
     requires { 0 < sector_size }
     ensures keeps { Keeps (D.state disk.old) (D.state disk.new) }
+    ensures cause { Refuses result io_fault → Rose (D.state disk.old) (D.state disk.new) }
     ensures made { IfOk result (λ report. report ≡ Written) }
     ensures wrote { IsTrue (D.state disk.old).is_honest
         → Wrote (both_ranges (made_header guid sector_size (D.state disk.old).size) sector_size) (D.state disk.old) (D.state disk.new) }
@@ -150,6 +162,7 @@ fn write_new<D: Disk>(
         → OnOk result (IsStored (D.state disk.new) sector_size (made_table guid sector_size size)) }
     ensures kept { IsTrue (D.state disk.old).is_honest
         → OnErr result (Rose (D.state disk.old) (D.state disk.new) ⊎ Untouched (D.state disk.old) (D.state disk.new)) }
+    ensures refused { IfErr result (λ e. RefusesNew guid sector_size (fault_of e) (D.state disk.old) (D.state disk.new)) }
 {
     let mut table = GPT::new_from(alloc, disk, sector_size, guid)?;
     table.write_into(disk)?;
@@ -160,6 +173,7 @@ fn write_new<D: Disk>(
 fn write_mbr<D: Disk>(disk: &mut D, sector_size: u64, bootable: bool) -> Result<Report>
     requires { 0 < sector_size }
     ensures keeps { Keeps (D.state disk.old) (D.state disk.new) }
+    ensures cause { Refuses result io_fault → Rose (D.state disk.old) (D.state disk.new) }
     ensures made { IfOk result (λ report. report ≡ Written) }
     ensures wrote { IsTrue (D.state disk.old).is_honest → Wrote ((446, 66) ∷ []) (D.state disk.old) (D.state disk.new) }
     ensures laid { IsTrue (D.state disk.old).is_honest
@@ -167,6 +181,8 @@ fn write_mbr<D: Disk>(disk: &mut D, sector_size: u64, bootable: bool) -> Result<
     ensures synced { IsTrue (D.state disk.old).is_honest → OnOk result ((D.state disk.new).pending ≡ []) }
     ensures kept { IsTrue (D.state disk.old).is_honest
         → OnErr result (Rose (D.state disk.old) (D.state disk.new) ⊎ Untouched (D.state disk.old) (D.state disk.new)) }
+    ensures refused { IfErr result (λ e. (mbr_fault sector_size (D.state disk.old).size ≡ Some (fault_of e))
+        ⊎ IsFailure (fault_of e) (D.state disk.old) (D.state disk.new)) }
 {
     lay_mbr(disk, sector_size, bootable)?;
     disk.sync()?;
@@ -177,11 +193,14 @@ fn write_mbr<D: Disk>(disk: &mut D, sector_size: u64, bootable: bool) -> Result<
 fn lay_mbr<D: Disk>(disk: &mut D, sector_size: u64, bootable: bool) -> Result<()>
     requires { 0 < sector_size }
     ensures keeps { Keeps (D.state disk.old) (D.state disk.new) }
+    ensures cause { Refuses result io_fault → Rose (D.state disk.old) (D.state disk.new) }
     ensures wrote { IsTrue (D.state disk.old).is_honest → Wrote ((446, 66) ∷ []) (D.state disk.old) (D.state disk.new) }
     ensures laid { IsTrue (D.state disk.old).is_honest
         → OnOk result ((D.state disk.new).view ≡ overlay (D.state disk.old).view 446 (mbr_bytes bootable sector_size (D.state disk.old).size)) }
     ensures kept { IsTrue (D.state disk.old).is_honest
         → OnErr result (Rose (D.state disk.old) (D.state disk.new) ⊎ Untouched (D.state disk.old) (D.state disk.new)) }
+    ensures refused { IfErr result (λ e. (mbr_fault sector_size (D.state disk.old).size ≡ Some (fault_of e))
+        ⊎ IsFailure (fault_of e) (D.state disk.old) (D.state disk.new)) }
 {
     if bootable {
         GPT::write_bootable_protective_mbr_into(disk, sector_size)
@@ -200,12 +219,15 @@ fn change_table<D: Disk>(
     requires sector { IfSome sector_size (λ size. 0 < size) }
     requires sized { IsSizedChange change.now }
     ensures keeps { Keeps (D.state disk.old) (D.state disk.new) }
+    ensures cause { Refuses result io_fault → Rose (D.state disk.old) (D.state disk.new) }
     ensures kept { IsTrue (D.state disk.old).is_honest
         → OnErr result (Rose (D.state disk.old) (D.state disk.new) ⊎ Untouched (D.state disk.old) (D.state disk.new)) }
     ensures good { IfOk result (λ report. IsTrue (is_good report)) }
     ensures changed { IsTrue (D.state disk.old).is_honest
         → IfOk result (λ report. MakesChange (λ g. report ≡ report_of change.now g) sector_size change.now (D.state disk.old) (D.state disk.new)) }
     ensures leaves { IsTrue (D.state disk.old).is_honest → LeavesChange sector_size change.now (D.state disk.old) (D.state disk.new) }
+    ensures refused { IsTrue (D.state disk.old).is_honest
+        → IfErr result (λ e. RefusesChange sector_size change.now (fault_of e) (D.state disk.old) (D.state disk.new)) }
 {
     let mut table = read_table(alloc, disk, sector_size)?;
     let report = make_change(alloc, disk, &mut table, change)?;

@@ -17,7 +17,7 @@ ghost use Rattle.gptimg_core.specs.Asks.{made_header, made_table, AskFor, IsRead
 ghost use Rattle.gptimg_core.specs.Changes.{report_of, LeavesChange, MakesChange};
 ghost use Rattle.gptimg_core.specs.Checks.{is_good, HoldOneTable};
 ghost use Rattle.gptimg_core.specs.Lines.{report_lines, table_lines};
-ghost use Rattle.gptimg_core.specs.Prints.{PrintsCopies, PrintsFault, PrintsSlots};
+ghost use Rattle.gptimg_core.specs.Prints.{PrintsCopies, PrintsFault, PrintsRefusal, PrintsSlots};
 ghost use Rattle.gptimg_core.specs.Reads.{TellsOfTable};
 ghost use Rattle.gptimg_core.specs.Words.{command_in, texts_of};
 ghost use Rattle.gptimg_core.specs.declared.words.Change.{Change};
@@ -85,8 +85,13 @@ pub fn run<D: Disk, W: Write>(
     ensures not_asked { command_in (texts_of words.now) ≡ None → disk.new ≡ disk.old }
     ensures prints_usage { command_in (texts_of words.now) ≡ None → OnOk result (Appends (W.contents out.old) (W.contents out.new) USAGE.now) }
 
-    // A refused command prints its fault, and leaves the disk as it was unless it failed.
-    ensures prints_fault { result ≡ Ok 1 → PrintsFault (W.contents out.old) (W.contents out.new) ⊎ ((ss : ℕ) × AskFor words.now (Check ss)) }
+    // A refused command prints a fault that it has a reason for, and leaves the disk as it was unless it failed.
+    ensures prints_fault { result ≡ Ok 1
+        → PrintsFault (D.state disk.old) (D.state disk.new) (W.contents out.old) (W.contents out.new)
+        ⊎ ((ss : ℕ) × AskFor words.now (Check ss)) }
+    ensures prints_refusal { IsTrue (D.state disk.old).is_honest → (command : Command) → AskFor words.now command → result ≡ Ok 1
+        → PrintsRefusal command (D.state disk.old) (D.state disk.new) (W.contents out.old) (W.contents out.new)
+        ⊎ ((ss : ℕ) × (command ≡ Check ss)) }
     ensures kept { IsTrue (D.state disk.old).is_honest → result ≡ Ok 1
         → Rose (D.state disk.old) (D.state disk.new) ⊎ Untouched (D.state disk.old) (D.state disk.new) }
 
@@ -101,7 +106,7 @@ pub fn run<D: Disk, W: Write>(
         → HoldOneTable (D.state disk.old).view ss
         × Appends (W.contents out.old) (W.contents out.new) (codes "primary ok\nbackup ok\nsame yes\n") }
     ensures differ { IsTrue (D.state disk.old).is_honest → (ss : ℕ) → AskFor words.now (Check ss) → result ≡ Ok 1
-        → PrintsFault (W.contents out.old) (W.contents out.new)
+        → PrintsRefusal (Check ss) (D.state disk.old) (D.state disk.new) (W.contents out.old) (W.contents out.new)
         ⊎ PrintsCopies ss false (D.state disk.old) (D.state disk.new) (W.contents out.old) (W.contents out.new) }
 
     // A new table.

@@ -1,10 +1,10 @@
 //! Changes of a table in memory.
 
-ghost use Rattle.std.specs.Prelude.{◌≡◌, ◌<◌, ◌≤◌, ◌+◌, ◌^◌, max, None, IsTrue, IfOk, IfErr, IfSome, OnOk, OnErr, MatchOption};
+ghost use Rattle.std.specs.Prelude.{◌≡◌, ◌⊎◌, ◌<◌, ◌≤◌, ◌+◌, ◌^◌, max, false, None, Some, IsTrue, IfOk, IfErr, IfSome, OnOk, OnErr, MatchOption};
 ghost use Rattle.gptman.specs.Disk.{Keeps, Rose};
 ghost use Rattle.gptman.specs.Calls.{OnlyRead, Refuses};
 ghost use Rattle.gptman.specs.Entry.{is_unused};
-ghost use Rattle.gptman.specs.Fault.{fault_of, io as io_fault, out_of_memory};
+ghost use Rattle.gptman.specs.Fault.{fault_of, invalid_partition_number, io as io_fault, out_of_memory};
 ghost use Rattle.gptman.specs.Fit.{fit_fault};
 ghost use Rattle.gptman.specs.Coding.{empty_entry};
 ghost use Rattle.gptman.specs.Order.{by_rank, rank};
@@ -12,6 +12,7 @@ ghost use Rattle.gptman.specs.Number.{entry_at, number_fault, with_entries, with
 ghost use Rattle.gptman.specs.Place.{HasNoPlace, IsFreeIn};
 ghost use Rattle.gptman.specs.Table.{entries_in, IsCoherent};
 ghost use Rattle.gptimg_core.specs.Words.{IsSizedAddition, IsSizedChange};
+ghost use Rattle.gptimg_core.specs.Refusals.{IsFailure, RefusesAddition, RefusesMaking};
 ghost use Rattle.gptimg_core.specs.Changes.{grown, report_of, IsAdded, IsChanged, IsChosen};
 ghost use Rattle.gptimg_core.specs.declared.commands.Report.TheVariants.{Written};
 ghost use Rattle.gptimg_core.specs.declared.words.Change.TheVariants.{Add};
@@ -41,6 +42,7 @@ pub fn make_change<D: Disk>(
     ensures coherent { OnOk result (IsCoherent table.new.header (entries_in table.new)) }
     ensures changed { OnOk result (IsChanged (D.state disk.old).size change.now table.old table.new) }
     ensures told { IfOk result (λ report. report ≡ report_of change.now table.new) }
+    ensures refused { IfErr result (λ e. RefusesMaking change.now table.old (fault_of e) (D.state disk.old) (D.state disk.new)) }
 {
     match change {
         Change::Add(addition) => add(alloc, table, addition),
@@ -56,7 +58,7 @@ fn remove(table: &mut GPT, number: u32) -> Result<Report>
     ensures coherent { OnOk result (IsCoherent table.new.header (entries_in table.new)) }
     ensures removed { OnOk result ((number_fault table.old number ≡ None) × (table.new ≡ with_entry table.old number empty_entry)) }
     ensures told { IfOk result (λ report. report ≡ Written) }
-    ensures not_io { Refuses result io_fault → ⊥ }
+    ensures refused { IfErr result (λ e. number_fault table.old number ≡ Some (fault_of e)) }
 {
     table.remove(number)?;
     Ok(Report::Written)
@@ -68,7 +70,7 @@ fn sort(table: &mut GPT) -> Result<Report>
     ensures coherent { OnOk result (IsCoherent table.new.header (entries_in table.new)) }
     ensures sorted { OnOk result (table.new ≡ with_entries table.old (by_rank rank (entries_in table.old))) }
     ensures told { IfOk result (λ report. report ≡ Written) }
-    ensures not_io { Refuses result io_fault → ⊥ }
+    ensures refused { IfErr result (λ e. fault_of e ≡ out_of_memory) }
 {
     table.sort()?;
     Ok(Report::Written)
@@ -85,6 +87,8 @@ fn fit<D: Disk>(disk: &mut D, table: &mut GPT) -> Result<Report>
     ensures fitted { OnOk result ((fit_fault table.old.header table.old.sector_size (D.state disk.old).size ≡ None)
         × (table.new ≡ grown table.old (D.state disk.old).size)) }
     ensures told { IfOk result (λ report. report ≡ Written) }
+    ensures refused { IfErr result (λ e. (fit_fault table.old.header table.old.sector_size (D.state disk.old).size ≡ Some (fault_of e))
+        ⊎ IsFailure (fault_of e) (D.state disk.old) (D.state disk.new)) }
 {
     let sector_size = table.sector_size;
     table.header.update_from(disk, sector_size)?;
@@ -101,7 +105,7 @@ fn add(alloc: Global, table: &mut GPT, addition: &Addition) -> Result<Report>
     ensures coherent { OnOk result (IsCoherent table.new.header (entries_in table.new)) }
     ensures added { OnOk result (IsAdded addition.now table.old table.new) }
     ensures told { IfOk result (λ report. report ≡ report_of (Add addition.now) table.new) }
-    ensures not_io { Refuses result io_fault → ⊥ }
+    ensures refused { IfErr result (λ e. RefusesAddition addition.now table.old (fault_of e)) }
 {
     let number = addition.number;
     if !has_unused(table, number) {
@@ -133,6 +137,8 @@ fn has_unused(table: &GPT, number: u32) -> bool
     requires { IsCoherent table.now.header (entries_in table.now) }
     ensures number { IsTrue result → (number_fault table.now number ≡ None) × IsNumber table.now number }
     ensures unused { IsTrue result → IsTrue (is_unused (entry_at table.now number)) }
+    ensures neither { result ≡ false → (number_fault table.now number ≡ Some (invalid_partition_number number))
+        ⊎ ((number_fault table.now number ≡ None) × ¬ IsTrue (is_unused (entry_at table.now number))) }
 {
     number >= 1 && number <= table.header.number_of_partition_entries && table[number].is_unused()
 }

@@ -1,5 +1,5 @@
-use Rattle.std.proofs.Common.{◌≡◌, ⊎_elim, inl, inr, sym, ◌∙◌, subst, ap, ℕ}
-use Rattle.std.specs.Prelude.{IsTrue}
+use Rattle.std.proofs.Common.{⊎_elim, inl, inr, sym, ◌∙◌, subst, ℕ}
+use Rattle.std.proofs.lemmas.Result.{err_from_is_err_and}
 use Rattle.gptman.specs.Layout.{HasLayout}
 use Rattle.gptman.specs.Table.{table_in}
 use Rattle.gptman.proofs.Outcomes.{on_err_of}
@@ -7,7 +7,9 @@ use Rattle.gptman.proofs.Ranges.{within_none, within_self}
 use Rattle.gptman.proofs.Readers.{reads_then}
 use Rattle.gptman.proofs.Runs.{keeps_then, rose_since, wrote_then, wrote_wider}
 use Rattle.gptimg_core.specs.Changes.{IsChanged, unwritten, written}
+use Rattle.gptimg_core.specs.Refusals.RefusesChange.{not_made, not_read, not_written}
 use Rattle.gptimg_core.proofs.Read.{read_before}
+use Rattle.gptimg_core.proofs.Refused.{making_since, write_refused}
 use Rattle.gptimg_core.proofs.Written.{leaves_since, wrote_since}
 use Rattle.gptimg_core.proofs.commands.change_table.Goals as goal
 
@@ -83,3 +85,34 @@ pub returns-in_err-report-clause-leaves : goal.returns-in_err-report-clause-leav
 returns-in_err-report-clause-leaves g c = λ honest.
     let first = c.read_table.ensures.reads honest in
     unwritten (reads_then first (c.make_change.ensures.reads first.wrote.honest))
+
+pub returns-in_err-table-clause-refused : goal.returns-in_err-table-clause-refused
+returns-in_err-table-clause-refused g c = λ honest.
+    let p = err_from_is_err_and c.from_residual.result c.from_residual.ensures.1 in
+    rw (p.1, p.2) (not_read (c.in_err-table.ensures.refused honest))
+
+pub returns-in_err-report-clause-refused : goal.returns-in_err-report-clause-refused
+returns-in_err-report-clause-refused g c = λ honest.
+    let old = g.D.Disk.state c.args.disk.now in
+    let mid = g.D.Disk.state c.read_table.new.disk in
+    let new = g.D.Disk.state c.make_change.new.disk in
+    let table = c.in_ok-table.table in
+    let p = err_from_is_err_and c.from_residual-in_err-report.result c.from_residual-in_err-report.ensures.1 in
+    rw (p.1, p.2) (not_made table
+    (read_before c.args.sector_size old mid new table (c.in_ok-table.ensures.read honest) c.make_change.ensures.keeps)
+    (making_since c.args.change.now table _ old mid new c.read_table.ensures.keeps c.in_err-report.ensures.refused))
+
+pub returns-in_err-write_into-clause-refused : goal.returns-in_err-write_into-clause-refused
+returns-in_err-write_into-clause-refused g c = λ honest.
+    let old = g.D.Disk.state c.args.disk.now in
+    let mid = g.D.Disk.state c.read_table.new.disk in
+    let last = g.D.Disk.state c.make_change.new.disk in
+    let new = g.D.Disk.state c.write_into.new.disk in
+    let table = c.in_ok-table.table in
+    let next = c.make_change.new.table in
+    let keeps = keeps_then c.read_table.ensures.keeps c.make_change.ensures.keeps in
+    let p = err_from_is_err_and c.from_residual-in_err-write_into.result c.from_residual-in_err-write_into.ensures.1 in
+    rw (p.1, p.2) (not_written table next
+    (read_before c.args.sector_size old mid new table (c.in_ok-table.ensures.read honest) (keeps_then c.make_change.ensures.keeps c.write_into.ensures.keeps))
+    (subst (λ (n : ℕ). IsChanged n c.args.change.now table next) c.read_table.ensures.keeps.size c.in_ok-report.ensures.changed)
+    (write_refused next _ old last new keeps c.in_err-write_into.ensures.answer))

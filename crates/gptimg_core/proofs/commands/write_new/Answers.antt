@@ -1,7 +1,10 @@
 use Rattle.std.proofs.Common.{◌≡◌, ⊎_elim, inl, inr, ℕ, List, sym, ◌∙◌, subst}
-use Rattle.std.specs.Prelude.{IsTrue}
+use Rattle.std.specs.Prelude.{IsTrue, None}
+use Rattle.std.proofs.lemmas.Result.{err_from_is_err_and}
 use Rattle.gptman.specs.Calls.{OnlyRead}
 use Rattle.gptman.specs.Disk.{DiskState, Wrote}
+use Rattle.gptman.specs.Fault.{fault_of}
+use Rattle.gptman.specs.Fit.{fit_fault, new_header}
 use Rattle.gptman.specs.Layout.{HasLayout}
 use Rattle.gptman.specs.Stop.{IsStored}
 use Rattle.gptman.specs.Table.{new_table, table_in}
@@ -11,6 +14,9 @@ use Rattle.gptman.proofs.Outcomes.{on_err_of}
 use Rattle.gptman.proofs.Ranges.{within_none, within_self}
 use Rattle.gptman.proofs.Runs.{rose_since, wrote_then, wrote_wider}
 use Rattle.gptimg_core.specs.Asks.{made_header, made_table}
+use Rattle.gptimg_core.specs.Refusals.{RefusesWrite}
+use Rattle.gptimg_core.specs.Refusals.RefusesNew.{not_written}
+use Rattle.gptimg_core.proofs.Refused.{write_refused}
 use Rattle.gptimg_core.proofs.commands.write_new.Goals as goal
 
 -- a new table was written, after the disk's length was taken
@@ -53,3 +59,14 @@ returns-in_err-write_into-clause-kept g c honest =
     let refused = c.in_err-write_into.ensures in
     on_err_of _ (⊎_elim (λ failed. inl (rose_since _ (g.D.Disk.state c.new_from.new.disk) (g.D.Disk.state c.write_into.new.disk) c.new_from.ensures.keeps (refused.cause failed)))
     (λ same. inr (record { view = same.view ∙ read.view; pending = same.pending ∙ read.pending })) (refused.untouched still))
+
+pub returns-in_err-write_into-clause-refused : goal.returns-in_err-write_into-clause-refused
+returns-in_err-write_into-clause-refused g c =
+    let old = g.D.Disk.state c.args.disk.now in
+    let mid = g.D.Disk.state c.new_from.new.disk in
+    let new = g.D.Disk.state c.write_into.new.disk in
+    let p = err_from_is_err_and c.from_residual-in_err-write_into.result c.from_residual-in_err-write_into.ensures.1 in
+    let fits : fit_fault (new_header c.args.guid) c.args.sector_size old.size ≡ None =
+    ⊎_elim (λ memory. absurd memory) (λ settles. ⊎_elim (λ is. sym is) (λ failed. absurd failed.0) settles) c.in_ok-table.ensures.answer in
+    rw (p.1, p.2) (not_written fits (subst (λ (t : GPT). RefusesWrite t (fault_of c.in_err-write_into.field-0.0) old new) c.in_ok-table.ensures.value
+    (write_refused c.in_ok-table.table _ old mid new c.new_from.ensures.keeps c.in_err-write_into.ensures.answer)))

@@ -1,4 +1,4 @@
-use Rattle.std.proofs.Common.{◌≡◌, ◌⊎◌, inl, inr, ℕ, List, Result, Ok, Err, sym, ap, ◌∙◌}
+use Rattle.std.proofs.Common.{◌≡◌, ◌⊎◌, inl, inr, ℕ, List, Result, Ok, Err, sym, ap}
 use Rattle.gptman.specs.Calls.{answer_of, Fails}
 use Rattle.gptman.specs.Copy.{copy_at}
 use Rattle.gptman.specs.Disk.{DiskState}
