@@ -6,7 +6,9 @@ use gptimg_core::run;
 use gptman::{Disk, FileDisk, MemoryDisk};
 use std::alloc::{AllocError, Global};
 use std::fs;
+use std::fs::File;
 use std::process::Abort;
+use std::rt::Files;
 use std::test::Fail;
 
 /// A command line, the status that it ends with, and what it prints.
@@ -91,8 +93,8 @@ fn assert_row<R: Abort, D: Disk>(
 }
 
 /// The same on a disk in memory with these bytes, and on a file of them at this path.
-pub(crate) fn assert_rows_on(
-    rt: &HostRuntime,
+pub(crate) fn assert_rows_on<R: Abort + Files<File = File> + AllocGlobal>(
+    rt: &R,
     path: &str,
     image: &[u8],
     rows: &[Row],
