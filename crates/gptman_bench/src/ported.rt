@@ -171,7 +171,11 @@ fn align_with(alloc: Global, table: GPT, first: Option<u64>) -> Result<u64, Fail
         None => GPTPartitionEntry::empty(alloc),
     };
     table.apply(Edit::Put(1, entry))?;
-    let sector_size = if table.sector_size == 512 { 512_u16 } else { 4096 };
+    let sector_size = if table.sector_size == 512 {
+        512_u16
+    } else {
+        4096
+    };
     Ok(read_with_sectors(alloc, &image_of(alloc, &table)?, u64::from(sector_size))?.align)
 }
 

@@ -2,8 +2,7 @@
 
 use crate::asserts::{assert_boundaries, assert_bounds, assert_said, bounds_of, places_of};
 use crate::fixtures::{
-    complement, disk_1, disk_2, disk_of, image_of, partition, read_image, read_with_sectors,
-    write,
+    complement, disk_1, disk_2, disk_of, image_of, partition, read_image, read_with_sectors, write,
 };
 use gptman::{Edit, GPT, MemoryDisk};
 use std::alloc::Global;
@@ -80,7 +79,10 @@ fn assert_written_from_backup(rt: &impl Abort, alloc: Global, mut table: GPT) ->
     assert_eq!(rt; written.header, primary);
     assert!(rt; written.iter().eq(table.iter()));
     complement(&mut image, sector_size as usize);
-    assert_eq!(rt; read_with_sectors(alloc, &image, sector_size)?.header, table.header);
+    assert_eq!(rt;
+        read_with_sectors(alloc, &image, sector_size)?.header,
+        table.header
+    );
     Ok(())
 }
 

@@ -5,8 +5,8 @@ ghost use Rattle.std.specs.Prelude.{◌≡◌};
 
 use crate::asserts::{assert_said, places_of};
 use crate::fixtures::{
-    DISK_GUID, answer, complement, disk_2, disk_of, image_of, image_of_new_table, new_header,
-    put, read_image, used_entries, write_copy,
+    DISK_GUID, answer, complement, disk_2, disk_of, image_of, image_of_new_table, new_header, put,
+    read_image, used_entries, write_copy,
 };
 use gptman::{GPT, GPTHeader, GPTPartitionEntry, MemoryDisk};
 use std::alloc::Global;
