@@ -1,11 +1,21 @@
 //! What many tests assert, each as one call. A function is proved in time that grows with its length
-//! times the references that it makes, so short tests are proved sooner.
+//! times the references and the values to drop that it has, so short tests are proved sooner.
 
 use crate::fixtures::{answer, used_names};
 use gptman::{GPT, GPTHeader};
 use std::alloc::Global;
+use std::fmt::Debug;
 use std::process::Abort;
-use std::test::Fail;
+
+/// The value of a call that must be done.
+pub(crate) fn got<T, E: Debug>(rt: &impl Abort, outcome: Result<T, E>) -> T {
+    outcome.expect(rt, "a call that should be done was refused")
+}
+
+/// This is so.
+pub(crate) fn holds(rt: &impl Abort, is_so: bool) {
+    assert!(rt; is_so);
+}
 
 /// The call was answered with this text: "ok", or that of its error.
 pub(crate) fn assert_said<T>(
@@ -13,20 +23,13 @@ pub(crate) fn assert_said<T>(
     alloc: Global,
     outcome: &gptman::Result<T>,
     said: &str,
-) -> Result<(), Fail> {
-    assert_eq!(rt; answer(alloc, outcome)?.as_str(), said);
-    Ok(())
+) {
+    assert_eq!(rt; got(rt, answer(alloc, outcome)).as_str(), said);
 }
 
 /// The table's used entries have these numbers and names.
-pub(crate) fn assert_names(
-    rt: &impl Abort,
-    alloc: Global,
-    table: &GPT,
-    names: &str,
-) -> Result<(), Fail> {
-    assert_eq!(rt; used_names(alloc, table)?.as_str(), names);
-    Ok(())
+pub(crate) fn assert_names(rt: &impl Abort, alloc: Global, table: &GPT, names: &str) {
+    assert_eq!(rt; got(rt, used_names(alloc, table)).as_str(), names);
 }
 
 /// The first and the last usable sector of a header, and the sector of its backup.
@@ -53,12 +56,7 @@ pub(crate) fn places_of(header: &GPTHeader) -> (u64, u64, u64) {
 }
 
 /// The call was refused for the boundaries of an entry.
-pub(crate) fn assert_boundaries<T>(
-    rt: &impl Abort,
-    alloc: Global,
-    outcome: &gptman::Result<T>,
-) -> Result<(), Fail> {
-    let said = answer(alloc, outcome)?;
+pub(crate) fn assert_boundaries<T>(rt: &impl Abort, alloc: Global, outcome: &gptman::Result<T>) {
+    let said = got(rt, answer(alloc, outcome));
     assert!(rt; said.as_str().starts_with("invalid partition boundaries: "));
-    Ok(())
 }

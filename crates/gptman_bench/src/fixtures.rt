@@ -2,13 +2,11 @@
 
 ghost use Rattle.std.specs.Prelude.{◌≡◌, ◌<◌, IfOk};
 
+use crate::asserts::got;
 use gptman::{Disk, Edit, GPT, GPTHeader, GPTPartitionEntry, MemoryDisk, PartitionName, Result};
 use std::alloc::{AllocError, Global};
 use std::io;
-use std::test::Fail;
-
-/// What a helper of the tests answers, where it may find that the test itself is wrong.
-type TestResult<T> = std::result::Result<T, Fail>;
+use std::process::Abort;
 
 /// The GUID of most disks.
 pub(crate) const DISK_GUID: [u8; 16] = [0xff; 16];
@@ -36,29 +34,31 @@ pub(crate) fn new_small_table(alloc: Global) -> Result<GPT> {
 }
 
 /// Writes the table, whatever it holds, and gives back what the write answered.
-pub(crate) fn write<D: Disk>(table: &mut GPT, disk: &mut D) -> TestResult<Result<GPTHeader>> {
-    if table.sector_size == 0 || !table.is_coherent() {
-        return Err(Fail::new("no write takes such a table"));
-    }
-    Ok(table.write_into(disk))
+pub(crate) fn write<D: Disk>(rt: &impl Abort, table: &mut GPT, disk: &mut D) -> Result<GPTHeader> {
+    assert!(rt; table.sector_size > 0 && table.is_coherent());
+    table.write_into(disk)
+}
+
+/// A new table, and the disk of 100 sectors of 512 bytes, all else this byte, on which it was written.
+pub(crate) fn new_written(rt: &impl Abort, alloc: Global, byte: u8) -> (GPT, MemoryDisk) {
+    let mut disk = got(rt, disk_of(alloc, byte, 51_200));
+    let mut table = got(rt, new_table(alloc, &mut disk, 512, DISK_GUID));
+    got(rt, write(rt, &mut table, &mut disk));
+    (table, disk)
 }
 
 /// Writes the header and these entries as one copy, and gives back what the write answered.
 pub(crate) fn write_copy<D: Disk>(
+    rt: &impl Abort,
     header: &mut GPTHeader,
     disk: &mut D,
     sector_size: u64,
     entries: &[GPTPartitionEntry],
-) -> TestResult<Result<()>> {
-    let is_count = entries.len() == header.number_of_partition_entries as usize;
-    if sector_size == 0
-        || header.header_size != 92
-        || header.size_of_partition_entry != 128
-        || !is_count
-    {
-        return Err(Fail::new("no write takes such a copy"));
-    }
-    Ok(header.write_into(disk, sector_size, entries))
+) -> Result<()> {
+    assert!(rt; sector_size > 0);
+    assert!(rt; header.header_size == 92 && header.size_of_partition_entry == 128);
+    assert!(rt; entries.len() == header.number_of_partition_entries as usize);
+    header.write_into(disk, sector_size, entries)
 }
 
 /// A new header for 100 sectors of 512 bytes.
@@ -80,11 +80,9 @@ pub(crate) fn read_image(alloc: Global, bytes: &[u8]) -> Result<GPT> {
 }
 
 /// The bytes of a disk of 100 sectors of 512, all of them this one, after a new table was written.
-pub(crate) fn image_of_new_table(alloc: Global, byte: u8) -> TestResult<Vec<u8>> {
-    let mut disk = disk_of(alloc, byte, 51_200)?;
-    let mut table = new_table(alloc, &mut disk, 512, DISK_GUID)?;
-    write(&mut table, &mut disk)??;
-    Ok(disk.bytes().to_vec(alloc)?)
+pub(crate) fn image_of_new_table(rt: &impl Abort, alloc: Global, byte: u8) -> Vec<u8> {
+    let (_, disk) = new_written(rt, alloc, byte);
+    got(rt, disk.bytes().to_vec(alloc))
 }
 
 /// Whether all bytes are this one.
@@ -219,10 +217,15 @@ pub(crate) fn entries_of(alloc: Global, table: &GPT) -> Result<Vec<GPTPartitionE
 
 /// The bytes of a zero disk of 100 sectors on which both copies of the table, which is in primary
 /// form, were written.
-pub(crate) fn image_of(alloc: Global, table: &GPT) -> TestResult<Vec<u8>> {
-    let sector_size = table.sector_size.clamp(1, 4096);
-    let mut disk = disk_of(alloc, 0, 100 * sector_size as usize)?;
-    let entries = entries_of(alloc, table)?;
+pub(crate) fn image_of(rt: &impl Abort, alloc: Global, table: &GPT) -> Vec<u8> {
+    assert!(rt; table.sector_size <= 4096);
+    let mut disk = got(rt, disk_of(alloc, 0, 100 * table.sector_size as usize));
+    write_both(rt, &mut disk, table, &got(rt, entries_of(alloc, table)));
+    got(rt, disk.bytes().to_vec(alloc))
+}
+
+// Writes both copies of a table in primary form, each alone.
+fn write_both(rt: &impl Abort, disk: &mut MemoryDisk, table: &GPT, entries: &[GPTPartitionEntry]) {
     let own = table.header;
     let other = GPTHeader {
         primary_lba: own.backup_lba,
@@ -231,9 +234,11 @@ pub(crate) fn image_of(alloc: Global, table: &GPT) -> TestResult<Vec<u8>> {
         ..own
     };
     for mut header in [own, other] {
-        write_copy(&mut header, &mut disk, sector_size, &entries)??;
+        got(
+            rt,
+            write_copy(rt, &mut header, disk, table.sector_size, entries),
+        );
     }
-    Ok(disk.bytes().to_vec(alloc)?)
 }
 
 /// That table with "Baz" under number 10, from 44 to 47.
