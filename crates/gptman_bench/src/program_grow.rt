@@ -1,182 +1,237 @@
 //! Images whose length was changed: what `check` says of them, and what `grow` makes of them.
 
+use crate::asserts::{got, holds};
 use crate::fixtures::{put, read_image};
-use crate::program::{assert_rows_on, call_line, image_with_foo};
+use crate::program::{Row, assert_rows_on, call_line, disk_with, failing_disk, image_with_foo};
 use crate::stops::{fates, is_same_table};
 use gptman::{Fate, GPT, MemoryDisk};
 use std::alloc::Global;
+use std::fs::File;
 use std::process::Abort;
-use std::test::Fail;
+use std::rt::Files;
 
 const SAME: &str = "primary ok\nbackup ok\nsame yes\n";
 
 // An image of 100 sectors with one partition, made so many sectors long with zeros, or cut.
-fn image_of(alloc: Global, sectors: usize) -> Result<Vec<u8>, Fail> {
-    let mut image = vec![in alloc; 0; 512 * sectors.min(1000)]?;
-    put(&mut image, 0, image_with_foo(alloc)?.as_slice());
-    Ok(image)
+fn image_of(rt: &impl Abort, alloc: Global, sectors: usize) -> Vec<u8> {
+    let mut image = got(rt, vec![in alloc; 0; 512 * sectors.min(1000)]);
+    put(&mut image, 0, &image_with_foo(rt, alloc));
+    image
 }
 
 // That image with its primary header zeroed.
-fn unheaded_image_of(alloc: Global, sectors: usize) -> Result<Vec<u8>, Fail> {
-    let mut image = image_of(alloc, sectors)?;
+fn unheaded_image_of(rt: &impl Abort, alloc: Global, sectors: usize) -> Vec<u8> {
+    let mut image = image_of(rt, alloc, sectors);
     put(&mut image, 512, &[0; 92]);
-    Ok(image)
+    image
 }
 
-#[test]
-fn a_checked_image_is_one_table(rt: HostRuntime) -> Result<(), Fail> {
-    let image = image_of(rt.alloc(), 100)?;
-    assert_rows_on(&rt, "same.img", &image, &[("512 check", 0, SAME)])
+// The rows hold on that image.
+fn assert_on_image<R: Abort + Files<File = File> + AllocGlobal>(
+    rt: &R,
+    path: &str,
+    sectors: usize,
+    rows: &[Row],
+) {
+    assert_rows_on(rt, path, &image_of(rt, rt.alloc(), sectors), rows);
 }
 
-#[test]
-fn the_fault_of_each_copy_is_told(rt: HostRuntime) -> Result<(), Fail> {
-    let alloc = rt.alloc();
-    let no_backup = "primary ok\nbackup fault InvalidSignature\nsame no\n";
-    let image = image_of(alloc, 200)?;
-    assert_rows_on(&rt, "end.img", &image, &[("512 check", 1, no_backup)])?;
-    let no_primary = "primary fault InvalidSignature\nbackup ok\nsame no\n";
-    let image = unheaded_image_of(alloc, 100)?;
-    assert_rows_on(&rt, "head.img", &image, &[("512 check", 1, no_primary)])?;
-    let neither = "primary fault Io\nbackup fault InvalidSignature\nsame no\n";
-    assert_rows_on(&rt, "ones.img", &[1; 5], &[("512 check", 1, neither)])
+// The same on the one without a primary header.
+fn assert_on_unheaded<R: Abort + Files<File = File> + AllocGlobal>(
+    rt: &R,
+    path: &str,
+    sectors: usize,
+    rows: &[Row],
+) {
+    assert_rows_on(rt, path, &unheaded_image_of(rt, rt.alloc(), sectors), rows);
 }
 
-// The backup copy is that of a table with another disk GUID.
+const WHOLE: [Row; 1] = [("512 check", 0, SAME)];
+
 #[test]
-fn two_good_copies_of_two_tables_are_not_the_same(rt: HostRuntime) -> Result<(), Fail> {
-    let alloc = rt.alloc();
-    let mut image = image_of(alloc, 100)?;
-    let mut other = MemoryDisk::new(alloc, image.clone()?)?;
-    call_line(alloc, &mut other, "512 new V")?;
+fn a_checked_image_is_one_table(rt: HostRuntime) {
+    assert_on_image(&rt, "same.img", 100, &WHOLE);
+}
+
+const NO_BACKUP: [Row; 1] = [(
+    "512 check",
+    1,
+    "primary ok\nbackup fault InvalidSignature\nsame no\n",
+)];
+
+const NO_PRIMARY: [Row; 1] = [(
+    "512 check",
+    1,
+    "primary fault InvalidSignature\nbackup ok\nsame no\n",
+)];
+
+const NEITHER: [Row; 1] = [(
+    "512 check",
+    1,
+    "primary fault Io\nbackup fault InvalidSignature\nsame no\n",
+)];
+
+#[test]
+fn the_fault_of_each_copy_is_told(rt: HostRuntime) {
+    assert_on_image(&rt, "end.img", 200, &NO_BACKUP);
+    assert_on_unheaded(&rt, "head.img", 100, &NO_PRIMARY);
+    assert_rows_on(&rt, "ones.img", &[1; 5], &NEITHER);
+}
+
+// The disk of this image after this line.
+fn disk_after(rt: &impl Abort, alloc: Global, image: &[u8], line: &str) -> MemoryDisk {
+    let mut disk = disk_with(rt, alloc, image);
+    call_line(rt, alloc, &mut disk, line);
+    disk
+}
+
+// The image with the backup copy of a table with another disk GUID.
+fn with_other_backup(rt: &impl Abort, alloc: Global, mut image: Vec<u8>) -> Vec<u8> {
+    let other = disk_after(rt, alloc, &image, "512 new V");
     let backup = other.bytes().get(67 * 512..).unwrap_or(&[]);
     put(&mut image, 67 * 512, backup);
-    let differ = "primary ok\nbackup ok\nsame no\n";
-    assert_rows_on(&rt, "two.img", &image, &[("512 check", 1, differ)])
+    image
 }
 
-#[test]
-fn a_longer_image_has_more_usable_sectors(rt: HostRuntime) -> Result<(), Fail> {
-    let lines =
-        "sector 512 form primary disk ffffffffffffffffffffffffffffffff usable 34..166 entries 128 align 1\n1 11111111111111111111111111111111 22222222222222222222222222222222 34..43 0000000000000000 Foo\n";
-    let rows = [
-        ("512 grow", 0, "ok\n"),
-        ("512 check", 0, SAME),
-        ("512 show", 0, lines),
-    ];
-    assert_rows_on(&rt, "longer.img", &image_of(rt.alloc(), 200)?, &rows)
-}
+const DIFFER: [Row; 1] = [("512 check", 1, "primary ok\nbackup ok\nsame no\n")];
 
 #[test]
-fn a_shorter_image_has_fewer_usable_sectors(rt: HostRuntime) -> Result<(), Fail> {
-    let lines =
-        "sector 512 form primary disk ffffffffffffffffffffffffffffffff usable 34..65 entries 128 align 1\n1 11111111111111111111111111111111 22222222222222222222222222222222 34..43 0000000000000000 Foo\n";
-    let rows = [
-        ("512 grow", 0, "ok\n"),
-        ("512 check", 0, SAME),
-        ("512 show", 0, lines),
-    ];
-    assert_rows_on(&rt, "shorter.img", &image_of(rt.alloc(), 99)?, &rows)
+fn two_good_copies_of_two_tables_are_not_the_same(rt: HostRuntime) {
+    let image = image_of(&rt, rt.alloc(), 100);
+    let image = with_other_backup(&rt, rt.alloc(), image);
+    assert_rows_on(&rt, "two.img", &image, &DIFFER);
 }
 
-#[test]
-fn a_partition_that_does_not_fit_is_not_cut(rt: HostRuntime) -> Result<(), Fail> {
-    let refused = [("512 grow", 1, "fault: InvalidPartitionBoundaries\n")];
-    assert_rows_on(&rt, "cut.img", &image_of(rt.alloc(), 70)?, &refused)
-}
+const LONGER: [Row; 3] = [
+    ("512 grow", 0, "ok\n"),
+    ("512 check", 0, SAME),
+    (
+        "512 show",
+        0,
+        "sector 512 form primary disk ffffffffffffffffffffffffffffffff usable 34..166 entries 128 align 1\n1 11111111111111111111111111111111 22222222222222222222222222222222 34..43 0000000000000000 Foo\n",
+    ),
+];
 
 #[test]
-fn a_missing_primary_copy_is_written_by_grow(rt: HostRuntime) -> Result<(), Fail> {
-    let alloc = rt.alloc();
-    let rows = [("512 grow", 0, "ok\n"), ("512 check", 0, SAME)];
-    assert_rows_on(&rt, "repaired.img", &unheaded_image_of(alloc, 100)?, &rows)?;
-    // the backup copy is where the disk ended before
-    let refused = [("512 grow", 1, "fault: InvalidSignature\n")];
-    assert_rows_on(&rt, "lost.img", &unheaded_image_of(alloc, 200)?, &refused)
+fn a_longer_image_has_more_usable_sectors(rt: HostRuntime) {
+    assert_on_image(&rt, "longer.img", 200, &LONGER);
+}
+
+const SHORTER: [Row; 3] = [
+    ("512 grow", 0, "ok\n"),
+    ("512 check", 0, SAME),
+    (
+        "512 show",
+        0,
+        "sector 512 form primary disk ffffffffffffffffffffffffffffffff usable 34..65 entries 128 align 1\n1 11111111111111111111111111111111 22222222222222222222222222222222 34..43 0000000000000000 Foo\n",
+    ),
+];
+
+#[test]
+fn a_shorter_image_has_fewer_usable_sectors(rt: HostRuntime) {
+    assert_on_image(&rt, "shorter.img", 99, &SHORTER);
+}
+
+const CUT: [Row; 1] = [("512 grow", 1, "fault: InvalidPartitionBoundaries\n")];
+
+#[test]
+fn a_partition_that_does_not_fit_is_not_cut(rt: HostRuntime) {
+    assert_on_image(&rt, "cut.img", 70, &CUT);
+}
+
+const REPAIRED: [Row; 2] = [("512 grow", 0, "ok\n"), ("512 check", 0, SAME)];
+
+// The backup copy is where the disk ended before.
+const LOST: [Row; 1] = [("512 grow", 1, "fault: InvalidSignature\n")];
+
+#[test]
+fn a_missing_primary_copy_is_written_by_grow(rt: HostRuntime) {
+    assert_on_unheaded(&rt, "repaired.img", 100, &REPAIRED);
+    assert_on_unheaded(&rt, "lost.img", 200, &LOST);
 }
 
 // The image with zeros in place of both copies of a table that fits 200 sectors.
-fn without_copies(mut image: Vec<u8>) -> Vec<u8> {
-    for header in [512, 199 * 512] {
-        put(&mut image, header, &[0; 92]);
-    }
-    for entries in [2 * 512, 167 * 512] {
-        put(&mut image, entries, &[0; 128 * 128]);
-    }
+fn without_copies(rt: &impl Abort, alloc: Global, image: &[u8]) -> Vec<u8> {
+    let mut image = got(rt, image.to_vec(alloc));
+    put(&mut image, 512, &[0; 92]);
+    put(&mut image, 199 * 512, &[0; 92]);
+    put(&mut image, 2 * 512, &[0; 128 * 128]);
+    put(&mut image, 167 * 512, &[0; 128 * 128]);
     image
 }
 
 #[test]
-fn only_the_new_copies_are_written(rt: HostRuntime) -> Result<(), Fail> {
-    let alloc = rt.alloc();
-    let image = image_of(alloc, 200)?;
-    let mut disk = MemoryDisk::new(alloc, image.clone()?)?;
-    call_line(alloc, &mut disk, "512 grow")?;
-    assert!(rt; disk.bytes() != image.as_slice());
-    let grown = without_copies(disk.bytes().to_vec(alloc)?);
-    assert!(rt; grown == without_copies(image));
-    Ok(())
+fn only_the_new_copies_are_written(rt: HostRuntime) {
+    let image = image_of(&rt, rt.alloc(), 200);
+    let disk = disk_after(&rt, rt.alloc(), &image, "512 grow");
+    holds(&rt, disk.bytes() != image.as_slice());
+    let grown = without_copies(&rt, rt.alloc(), disk.bytes());
+    holds(&rt, grown == without_copies(&rt, rt.alloc(), &image));
+}
+
+// Whether the table is one of the two.
+fn is_one_of(table: &GPT, tables: (&GPT, &GPT)) -> bool {
+    (is_same_table(table, tables.0) || is_same_table(table, tables.1))
+        && matches!(table.header.last_usable_lba, 66 | 166)
 }
 
 // Stops a `grow` of this image after so many calls, with these fates. What is left is read as one of
 // the two tables. Answers the status.
-fn stop_grow<R: Abort>(
-    rt: &R,
+fn stop_grow(
+    rt: &impl Abort,
     alloc: Global,
     image: &[u8],
     calls: u64,
     fates: &[Fate],
     tables: (&GPT, &GPT),
-) -> Result<u8, Fail> {
-    let mut disk = MemoryDisk::with_fuse(alloc, image.to_vec(alloc)?, calls)?;
-    let status = call_line(alloc, &mut disk, "512 grow")?.status;
-    let left = read_image(alloc, disk.stop(fates)?.bytes())?;
-    let (old, new) = tables;
-    assert!(rt;
-        is_same_table(&left, old) || is_same_table(&left, new),
-        "{calls} calls"
-    );
-    assert!(rt;
-        matches!(left.header.last_usable_lba, 66 | 166),
-        "{calls} calls"
-    );
-    Ok(status)
+) -> u8 {
+    let mut disk = failing_disk(rt, alloc, image, calls);
+    let status = call_line(rt, alloc, &mut disk, "512 grow").status;
+    let left = got(rt, disk.stop(fates));
+    let table = got(rt, read_image(alloc, left.bytes()));
+    assert!(rt; is_one_of(&table, tables), "{calls} calls");
+    status
 }
 
 // Stops it after so many calls, with all fates that are tried. Answers whether it was done.
-fn stop_grow_after<R: Abort>(
-    rt: &R,
+fn stop_grow_after(
+    rt: &impl Abort,
     alloc: Global,
     image: &[u8],
     calls: u64,
     tables: (&GPT, &GPT),
-) -> Result<bool, Fail> {
+) -> bool {
     let mut status = 1;
     for (all, most) in [(Fate::Old, 6), (Fate::New, 6), (Fate::Garbage(7), 0)] {
         for torn in 0..=most {
-            status = stop_grow(rt, alloc, image, calls, &fates(all, torn), tables)?;
+            status = stop_grow(rt, alloc, image, calls, &fates(all, torn), tables);
         }
     }
-    Ok(status == 0)
+    status == 0
+}
+
+// The table of these bytes, whose last usable sector is this one.
+fn table_until(rt: &impl Abort, alloc: Global, bytes: &[u8], last_usable_lba: u64) -> GPT {
+    let table = got(rt, read_image(alloc, bytes));
+    holds(rt, table.header.last_usable_lba == last_usable_lba);
+    table
+}
+
+// The same after each number of calls, until it was done, which makes the image the grown one.
+fn stop_grow_anywhere(rt: &impl Abort, alloc: Global, image: &[u8], grown: &[u8]) {
+    let old = table_until(rt, alloc, image, 66);
+    let new = table_until(rt, alloc, grown, 166);
+    for calls in 0..=40 {
+        if stop_grow_after(rt, alloc, image, calls, (&old, &new)) {
+            return;
+        }
+    }
+    panic!(rt; "the command takes more than 40 calls");
 }
 
 #[test]
-fn a_stopped_grow_leaves_the_old_table_or_the_new_one(rt: HostRuntime) -> Result<(), Fail> {
-    let alloc = rt.alloc();
-    let image = image_of(alloc, 200)?;
-    let old = read_image(alloc, &image)?;
-    let mut grown = MemoryDisk::new(alloc, image.clone()?)?;
-    call_line(alloc, &mut grown, "512 grow")?;
-    let new = read_image(alloc, grown.bytes())?;
-    assert_eq!(rt;
-        (old.header.last_usable_lba, new.header.last_usable_lba),
-        (66, 166)
-    );
-    for calls in 0..=40 {
-        if stop_grow_after(&rt, alloc, &image, calls, (&old, &new))? {
-            return Ok(());
-        }
-    }
-    Err(Fail::new("the command takes more than 40 calls"))
+fn a_stopped_grow_leaves_the_old_table_or_the_new_one(rt: HostRuntime) {
+    let image = image_of(&rt, rt.alloc(), 200);
+    let grown = disk_after(&rt, rt.alloc(), &image, "512 grow");
+    stop_grow_anywhere(&rt, rt.alloc(), &image, grown.bytes());
 }

@@ -3,8 +3,9 @@
 //! In a plain run no growth is refused. `rt try --test --fail-alloc N` refuses the Nth one of each
 //! test, and these pass with any N.
 
+use crate::asserts::got;
 use crate::fixtures::disk_of;
-use crate::program::words_of;
+use crate::program::{Outcome, is_answered, split};
 use gptimg_core::run;
 use gptman::{Disk, MemoryDisk};
 use std::alloc::Global;
@@ -14,64 +15,79 @@ const NO_MEMORY: &str = "fault: OutOfMemory\n";
 
 const FAILED: &str = "fault: Io\n";
 
-// Does what the line asks for, and answers its status and what it prints, for which there is room. None
-// where there is no memory for the words.
-fn call<D: Disk>(
-    rt: &impl Abort,
-    alloc: Global,
-    disk: &mut D,
-    line: &str,
-) -> Option<(u8, Vec<u8>)> {
-    let words = words_of(alloc, line).ok()?;
+// Does what the line asks for, and there is room for what it prints, so that it is answered. None where
+// there is no memory for the words or the room.
+fn call<D: Disk>(rt: &impl Abort, alloc: Global, disk: &mut D, line: &str) -> Option<Outcome> {
+    let words = split(alloc, line).ok()?;
     let mut printed = Vec::with_capacity(alloc, 512).ok()?;
-    let answer = run(alloc, words.as_slice(), disk, &mut printed);
-    assert!(rt; answer.is_ok(), "{line}");
-    Some((answer.ok()?, printed))
+    let status = got(rt, run(alloc, &words, disk, &mut printed));
+    Some(Outcome { status, printed })
+}
+
+// Whether the line is done.
+fn is_done<D: Disk>(rt: &impl Abort, alloc: Global, disk: &mut D, line: &str) -> bool {
+    match call(rt, alloc, disk, line) {
+        Some(outcome) => outcome.status == 0,
+        None => false,
+    }
 }
 
 // The bytes of a disk of 100 sectors of 512 with a new table and "Foo" in it, if there is memory.
 fn image(rt: &impl Abort, alloc: Global) -> Option<Vec<u8>> {
     let mut disk = disk_of(alloc, 0, 51_200).ok()?;
-    for line in ["512 new F", "512 add 1 T U 10 first 1 Foo"] {
-        let (status, _) = call(rt, alloc, &mut disk, line)?;
-        if status != 0 {
-            return None;
-        }
+    if !is_done(rt, alloc, &mut disk, "512 new F")
+        || !is_done(rt, alloc, &mut disk, "512 add 1 T U 10 first 1 Foo")
+    {
+        return None;
     }
     disk.bytes().to_vec(alloc).ok()
 }
 
-// The same of a line on a disk of that image, and whether it left the bytes as they were.
-fn call_on_image(rt: &impl Abort, alloc: Global, line: &str) -> Option<(u8, Vec<u8>, bool)> {
-    let image = image(rt, alloc)?;
-    let bytes = image.clone().ok()?;
-    let mut disk = MemoryDisk::new(alloc, bytes).ok()?;
-    let (status, printed) = call(rt, alloc, &mut disk, line)?;
-    Some((status, printed, disk.bytes() == image.as_slice()))
+// What a line answered on a disk, and whether it left the bytes as they were.
+#[derive(Drop)]
+struct Answer {
+    outcome: Outcome,
+    is_unchanged: bool,
 }
 
-// A command that reads prints this, or that there is no memory.
-fn read(rt: &impl Abort, alloc: Global, line: &str, text: &str) -> Option<()> {
-    let (status, printed, is_unchanged) = call_on_image(rt, alloc, line)?;
-    assert!(rt; is_unchanged, "{line}");
-    let wanted = if status == 0 { text } else { NO_MEMORY };
-    assert_eq!(rt; printed.as_slice(), wanted.as_bytes(), "{line}");
-    assert!(rt; status < 2, "{line}");
-    Some(())
+// The same of a line on a disk of this image.
+fn call_on(rt: &impl Abort, alloc: Global, image: &[u8], line: &str) -> Option<Answer> {
+    let mut disk = MemoryDisk::new(alloc, image.to_vec(alloc).ok()?).ok()?;
+    let outcome = call(rt, alloc, &mut disk, line)?;
+    let is_unchanged = disk.bytes() == image;
+    Some(Answer {
+        outcome,
+        is_unchanged,
+    })
+}
+
+// The same on a disk of that image.
+fn call_on_image(rt: &impl Abort, alloc: Global, line: &str) -> Option<Answer> {
+    let image = image(rt, alloc)?;
+    call_on(rt, alloc, &image, line)
+}
+
+// Whether it printed that there is no memory, and changed no byte.
+fn is_refused(answer: &Answer) -> bool {
+    answer.is_unchanged && is_answered(&answer.outcome, 1, NO_MEMORY)
+}
+
+// A command that reads prints this, or that there is no memory. It changes no byte.
+fn read(rt: &impl Abort, alloc: Global, line: &str, text: &str) {
+    if let Some(answer) = call_on_image(rt, alloc, line) {
+        let is_done = answer.is_unchanged && is_answered(&answer.outcome, 0, text);
+        assert!(rt; is_done || is_refused(&answer), "{line}");
+    }
 }
 
 // A command that writes prints this, or that there is no memory and changes no byte. A record of the
 // disk that found no memory is a failure of the disk.
-fn change(rt: &impl Abort, alloc: Global, line: &str, text: &str) -> Option<()> {
-    let (status, printed, is_unchanged) = call_on_image(rt, alloc, line)?;
-    if status == 0 {
-        assert_eq!(rt; printed.as_slice(), text.as_bytes(), "{line}");
-    } else if printed.as_slice() != FAILED.as_bytes() {
-        assert_eq!(rt; printed.as_slice(), NO_MEMORY.as_bytes(), "{line}");
-        assert!(rt; is_unchanged, "{line}");
+fn change(rt: &impl Abort, alloc: Global, line: &str, text: &str) {
+    if let Some(answer) = call_on_image(rt, alloc, line) {
+        let is_done = is_answered(&answer.outcome, 0, text);
+        let has_failed = is_answered(&answer.outcome, 1, FAILED);
+        assert!(rt; is_done || has_failed || is_refused(&answer), "{line}");
     }
-    assert!(rt; status < 2, "{line}");
-    Some(())
 }
 
 #[test]

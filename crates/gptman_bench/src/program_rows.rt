@@ -1,13 +1,15 @@
 //! Worked examples of the commands, over a disk in memory and over a file.
 
+use crate::asserts::{got, holds};
 use crate::fixtures::{disk_of, put};
-use crate::program::{Row, assert_rows, bytes_of, call_line, image_with_foo};
+use crate::program::{
+    Row, assert_rows, assert_rows_on_disk_of, bytes_of, call_line, disk_with, image_with_foo,
+};
 use gptimg_core::USAGE;
-use gptman::{Disk, FileDisk, MemoryDisk};
+use gptman::{Disk, FileDisk};
 use std::alloc::Global;
 use std::fs;
 use std::process::Abort;
-use std::test::Fail;
 
 // On 100 sectors of 512 zero bytes.
 const FIRST: [Row; 6] = [
@@ -66,87 +68,98 @@ const PARTITION: [u8; 16] = [
 ];
 
 // All rows hold, one after the other. Then a plain MBR stands in the first sector.
-fn assert_all_rows<R: Abort, D: Disk>(rt: &R, alloc: Global, disk: &mut D) -> Result<(), Fail> {
-    for rows in [FIRST.as_slice(), ADDED.as_slice(), REMOVED.as_slice()] {
-        assert_rows(rt, alloc, disk, rows)?;
-    }
-    let wanted = with_mbr(vec![in alloc; 0; 512]?, &PARTITION);
-    assert!(rt; bytes_of(alloc, disk)?.starts_with(&wanted));
-    Ok(())
+fn assert_all_rows<D: Disk>(rt: &impl Abort, alloc: Global, disk: &mut D) {
+    assert_rows(rt, alloc, disk, &FIRST);
+    assert_rows(rt, alloc, disk, &ADDED);
+    assert_rows(rt, alloc, disk, &REMOVED);
+    let mut wanted = [0; 512];
+    put_mbr(&mut wanted, &PARTITION);
+    holds(rt, bytes_of(rt, alloc, disk).starts_with(&wanted));
 }
 
 #[test]
-fn the_rows_hold_in_memory(rt: HostRuntime) -> Result<(), Fail> {
-    let alloc = rt.alloc();
-    assert_all_rows(&rt, alloc, &mut disk_of(alloc, 0, 51_200)?)
+fn the_rows_hold_in_memory(rt: HostRuntime) {
+    let mut disk = got(&rt, disk_of(rt.alloc(), 0, 51_200));
+    assert_all_rows(&rt, rt.alloc(), &mut disk);
 }
 
 #[test]
-fn the_rows_hold_in_a_file(rt: HostRuntime) -> Result<(), Fail> {
-    let alloc = rt.alloc();
+fn the_rows_hold_in_a_file(rt: HostRuntime) {
     let path = "rows.img";
-    let zeros = vec![in alloc; 0; 51_200]?;
-    fs::write(&rt, path, zeros.as_slice())?;
-    assert_all_rows(&rt, alloc, &mut FileDisk::open(&rt, path)?)?;
-    fs::remove_file(&rt, path)?;
-    Ok(())
+    got(&rt, fs::write(&rt, path, [0; 51_200].as_slice()));
+    let mut disk = got(&rt, FileDisk::open(&rt, path));
+    assert_all_rows(&rt, rt.alloc(), &mut disk);
+    got(&rt, fs::remove_file(&rt, path));
+}
+
+// Puts an MBR of this partition alone into the image.
+fn put_mbr(image: &mut [u8], partition: &[u8; 16]) {
+    put(image, 446, partition);
+    put(image, 462, &[0; 48]);
+    put(image, 510, &[0x55, 0xaa]);
 }
 
 // The image with an MBR of this partition alone.
-fn with_mbr(mut image: Vec<u8>, partition: &[u8; 16]) -> Vec<u8> {
-    put(&mut image, 446, partition);
-    put(&mut image, 462, &[0; 48]);
-    put(&mut image, 510, &[0x55, 0xaa]);
-    image
+fn with_mbr(rt: &impl Abort, alloc: Global, image: &[u8], partition: &[u8; 16]) -> Vec<u8> {
+    let mut wanted = got(rt, image.to_vec(alloc));
+    put_mbr(&mut wanted, partition);
+    wanted
+}
+
+// On this image the line writes an MBR, which makes it the wanted one. The MBR is synced, so a stop
+// leaves it.
+fn assert_mbr(rt: &impl Abort, alloc: Global, image: &[u8], line: &str, wanted: &[u8]) {
+    let mut disk = disk_with(rt, alloc, image);
+    assert_rows(rt, alloc, &mut disk, &[(line, 0, "ok\n")]);
+    let is_written = disk.bytes() == wanted;
+    let left = got(rt, disk.stop(&[]));
+    assert!(rt; is_written && left.bytes() == wanted, "{line}");
 }
 
 #[test]
-fn an_mbr_is_written_and_the_table_is_kept(rt: HostRuntime) -> Result<(), Fail> {
-    let alloc = rt.alloc();
-    let mut image = image_with_foo(alloc)?;
+fn an_mbr_is_written_and_the_table_is_kept(rt: HostRuntime) {
+    let mut image = image_with_foo(&rt, rt.alloc());
     put(&mut image, 0, &[2; 512]);
     let mut bootable = PARTITION;
     bootable[0] = 0x80;
-    for (line, partition) in [("512 mbr plain", PARTITION), ("512 mbr bootable", bootable)] {
-        let mut disk = MemoryDisk::new(alloc, image.clone()?)?;
-        assert_rows(&rt, alloc, &mut disk, &[(line, 0, "ok\n")])?;
-        let wanted = with_mbr(image.clone()?, &partition);
-        assert!(rt; disk.bytes() == wanted.as_slice(), "{line}");
-        // the MBR is synced, so a stop leaves it
-        assert!(rt; disk.stop(&[])?.bytes() == wanted.as_slice(), "{line}");
-    }
-    Ok(())
+    let wanted = with_mbr(&rt, rt.alloc(), &image, &PARTITION);
+    assert_mbr(&rt, rt.alloc(), &image, "512 mbr plain", &wanted);
+    let wanted = with_mbr(&rt, rt.alloc(), &image, &bootable);
+    assert_mbr(&rt, rt.alloc(), &image, "512 mbr bootable", &wanted);
 }
 
-#[test]
-fn a_disk_shorter_than_an_mbr_gets_none(rt: HostRuntime) -> Result<(), Fail> {
-    let alloc = rt.alloc();
-    let mut disk = disk_of(alloc, 2, 511)?;
-    let rows = [
-        ("512 mbr plain", 1, "fault: Overflow\n"),
-        ("512 mbr bootable", 1, "fault: Overflow\n"),
-        ("100 mbr plain", 1, "fault: NoSpaceLeft\n"),
-    ];
-    assert_rows(&rt, alloc, &mut disk, &rows)
-}
+const SHORT: [Row; 3] = [
+    ("512 mbr plain", 1, "fault: Overflow\n"),
+    ("512 mbr bootable", 1, "fault: Overflow\n"),
+    ("100 mbr plain", 1, "fault: NoSpaceLeft\n"),
+];
 
 #[test]
-fn the_reading_commands_change_no_byte(rt: HostRuntime) -> Result<(), Fail> {
-    let alloc = rt.alloc();
-    let image = image_with_foo(alloc)?;
-    for line in [
-        "512 show",
-        "auto show",
-        "512 free 1",
-        "auto free 10",
-        "512 check",
-    ] {
-        let mut disk = MemoryDisk::new(alloc, image.clone()?)?;
-        let outcome = call_line(alloc, &mut disk, line)?;
-        assert_eq!(rt; outcome.status, 0, "{line}");
-        assert!(rt; disk.bytes() == image.as_slice(), "{line}");
+fn a_disk_shorter_than_an_mbr_gets_none(rt: HostRuntime) {
+    assert_rows_on_disk_of(&rt, rt.alloc(), 2, 511, &SHORT);
+}
+
+// The command is done on this image, and changes no byte.
+fn assert_reads(rt: &impl Abort, alloc: Global, image: &[u8], line: &str) {
+    let mut disk = disk_with(rt, alloc, image);
+    let outcome = call_line(rt, alloc, &mut disk, line);
+    assert!(rt; outcome.status == 0 && disk.bytes() == image, "{line}");
+}
+
+const READERS: [&str; 5] = [
+    "512 show",
+    "auto show",
+    "512 free 1",
+    "auto free 10",
+    "512 check",
+];
+
+#[test]
+fn the_reading_commands_change_no_byte(rt: HostRuntime) {
+    let image = image_with_foo(&rt, rt.alloc());
+    for line in &READERS {
+        assert_reads(&rt, rt.alloc(), &image, line);
     }
-    Ok(())
 }
 
 // On 100 sectors of 4096 zero bytes.
@@ -167,7 +180,6 @@ const WIDE: [Row; 9] = [
 ];
 
 #[test]
-fn sectors_of_4096_are_found(rt: HostRuntime) -> Result<(), Fail> {
-    let alloc = rt.alloc();
-    assert_rows(&rt, alloc, &mut disk_of(alloc, 0, 409_600)?, &WIDE)
+fn sectors_of_4096_are_found(rt: HostRuntime) {
+    assert_rows_on_disk_of(&rt, rt.alloc(), 0, 409_600, &WIDE);
 }
