@@ -1,14 +1,20 @@
 //! The texts of the errors.
 
+use crate::asserts::got;
 use gptman::Error;
+use std::alloc::Global;
 use std::io;
-use std::test::Fail;
+use std::process::Abort;
+
+// The error has this text.
+fn assert_text(rt: &impl Abort, alloc: Global, error: &Error, text: &str) {
+    assert_eq!(rt; got(rt, error.to_string(alloc)).as_str(), text);
+}
 
 #[test]
-fn each_error_has_its_text(rt: HostRuntime) -> Result<(), Fail> {
-    let alloc = rt.alloc();
-    let primary = Box::new(alloc, Error::InvalidChecksum(1, 2))?;
-    let backup = Box::new(alloc, Error::InvalidSignature)?;
+fn each_error_has_its_text(rt: HostRuntime) {
+    let primary = got(&rt, Box::new(rt.alloc(), Error::InvalidChecksum(1, 2)));
+    let backup = got(&rt, Box::new(rt.alloc(), Error::InvalidSignature));
     let rows = [
         (
             Error::Io(io::Error::other("the device failed")),
@@ -49,7 +55,6 @@ fn each_error_has_its_text(rt: HostRuntime) -> Result<(), Fail> {
         ),
     ];
     for (error, text) in rows {
-        assert_eq!(rt; error.to_string(alloc)?.as_str(), text);
+        assert_text(&rt, rt.alloc(), &error, text);
     }
-    Ok(())
 }
