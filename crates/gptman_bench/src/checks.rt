@@ -40,8 +40,8 @@ fn used_entries_may_fill_the_usable_sectors(rt: HostRuntime) {
     for (used, align) in rows {
         let mut table = got(&rt, table_with(rt.alloc(), (34, 66), 2048, used));
         let read = read_back(&rt, rt.alloc(), &mut table, 99);
-        holds(&rt, read.header == table.header && read.align == align);
-        holds(&rt, read.iter().eq(table.iter()));
+        table.align = align;
+        holds(&rt, read == table);
     }
 }
 

@@ -1,20 +1,20 @@
 //! The texts of the errors.
 
-use crate::asserts::got;
+use crate::asserts::{assert_said, got};
 use gptman::Error;
 use std::alloc::Global;
 use std::io;
 use std::process::Abort;
 
-// The error has this text.
-fn assert_text(rt: &impl Abort, alloc: Global, error: &Error, text: &str) {
-    assert_eq!(rt; got(rt, error.to_string(alloc)).as_str(), text);
+// The error of a table of which no copy is read.
+fn read_error(rt: &impl Abort, alloc: Global) -> Error {
+    let primary = got(rt, Box::new(alloc, Error::InvalidChecksum(1, 2)));
+    let backup = got(rt, Box::new(alloc, Error::InvalidSignature));
+    Error::ReadError(primary, backup)
 }
 
 #[test]
 fn each_error_has_its_text(rt: HostRuntime) {
-    let primary = got(&rt, Box::new(rt.alloc(), Error::InvalidChecksum(1, 2)));
-    let backup = got(&rt, Box::new(rt.alloc(), Error::InvalidSignature));
     let rows = [
         (
             Error::Io(io::Error::other("the device failed")),
@@ -32,7 +32,7 @@ fn each_error_has_its_text(rt: HostRuntime) {
             "corrupted partition entry array CRC32 checksum (5 != 6)",
         ),
         (
-            Error::ReadError(primary, backup),
+            read_error(&rt, rt.alloc()),
             "could not read primary header (corrupted CRC32 checksum (1 != 2)) nor backup header (invalid signature)",
         ),
         (Error::NoSpaceLeft, "no space left"),
@@ -55,6 +55,6 @@ fn each_error_has_its_text(rt: HostRuntime) {
         ),
     ];
     for (error, text) in rows {
-        assert_text(&rt, rt.alloc(), &error, text);
+        assert_said::<()>(&rt, rt.alloc(), &Err(error), text);
     }
 }

@@ -134,7 +134,7 @@ pub(crate) fn assert_kept(rt: &impl Abort, alloc: Global, given: GPTHeader, len:
     let mut header = given;
     let fits = header.update_from(&mut got(rt, disk_of(alloc, 0, len)), 512);
     assert_said(rt, alloc, &fits, "an arithmetic operation overflowed");
-    assert!(rt; header == given, "{len} bytes");
+    holds(rt, header == given);
 }
 
 #[test]
@@ -172,32 +172,31 @@ fn longer_image(rt: &impl Abort, alloc: Global) -> Vec<u8> {
     bytes
 }
 
+// The sector of the other header where `grow` is done. It is refused for the disk alone.
+fn grown(rt: &impl Abort, table: &mut GPT, disk: &mut MemoryDisk) -> Option<u64> {
+    assert!(rt; table.sector_size > 0 && table.is_coherent());
+    match grow(table, disk) {
+        Ok(other) => Some(other.primary_lba),
+        Err(error) => {
+            holds(rt, matches!(error, Error::Io(_)));
+            None
+        }
+    }
+}
+
 #[test]
 fn a_table_grows_with_its_disk(rt: HostRuntime) {
     let image = longer_image(&rt, rt.alloc());
     let mut disk = got(&rt, MemoryDisk::new(rt.alloc(), image));
     let mut table = got(&rt, read_held(rt.alloc(), &mut disk, 512));
-    assert!(rt; table.sector_size == 512 && table.is_coherent());
-    holds(&rt, table.header.last_usable_lba == 66);
-    let other = got(&rt, grow(&mut table, &mut disk));
     holds(
         &rt,
-        table.header.last_usable_lba == 166 && other.primary_lba == 199,
+        table.sector_size == 512 && table.header.last_usable_lba == 66,
     );
+    holds(&rt, grown(&rt, &mut table, &mut disk) == Some(199));
+    holds(&rt, table.header.last_usable_lba == 166);
     let read = got(&rt, read_image(rt.alloc(), disk.bytes()));
     holds(&rt, read == table);
-}
-
-// Whether `grow` was done. It is refused for the disk alone.
-fn is_grown(rt: &impl Abort, table: &mut GPT, disk: &mut MemoryDisk) -> bool {
-    assert!(rt; table.sector_size > 0 && table.is_coherent());
-    match grow(table, disk) {
-        Ok(_) => true,
-        Err(error) => {
-            holds(rt, matches!(error, Error::Io(_)));
-            false
-        }
-    }
 }
 
 // The last usable sector of the table that a stop after so many calls of `grow` leaves, with this fate
@@ -212,7 +211,7 @@ fn grown_until(
     let mut table = got(rt, read_image(alloc, image));
     let bytes = got(rt, image.to_vec(alloc));
     let mut disk = got(rt, MemoryDisk::with_fuse(alloc, bytes, calls));
-    let done = is_grown(rt, &mut table, &mut disk);
+    let done = grown(rt, &mut table, &mut disk).is_some();
     let stopped = got(rt, disk.stop(&[fate; 6]));
     let left = got(rt, read_image(alloc, stopped.bytes()));
     (left.header.last_usable_lba, done)

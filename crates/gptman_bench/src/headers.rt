@@ -106,18 +106,24 @@ fn bytes_around_a_copy_do_not_change(rt: HostRuntime) {
     holds(&rt, are_all(&before, 2) && are_all(&behind, 2));
 }
 
+// Makes both checksums of a header of these entries.
+fn update_checksums(rt: &impl Abort, header: &mut GPTHeader, entries: &[GPTPartitionEntry]) {
+    assert!(rt; header.header_size == 92 && header.size_of_partition_entry == 128);
+    assert!(rt; entries.len() == header.number_of_partition_entries as usize);
+    header.update_partition_entry_array_crc32(entries);
+    header.update_crc32_checksum();
+}
+
 // The checksums were made by the CRC-32 of another program, over the vector of a new header and over
 // 16,384 zeros.
 #[test]
 fn the_checksums_are_those_of_another_program(rt: HostRuntime) {
     let table = got(&rt, new_small_table(rt.alloc()));
     let entries = got(&rt, entries_of(rt.alloc(), &table));
+    holds(&rt, entries.len() == 128);
     let mut header = table.header;
-    assert!(rt; entries.len() == 128 && header.number_of_partition_entries == 128);
-    assert!(rt; header.header_size == 92 && header.size_of_partition_entry == 128);
-    header.update_partition_entry_array_crc32(&entries);
+    update_checksums(&rt, &mut header, &entries);
     holds(&rt, header.partition_entry_array_crc32 == 0xab54_d286);
-    header.update_crc32_checksum();
     holds(&rt, header.crc32_checksum == 0xa4fd_9f64);
 }
 

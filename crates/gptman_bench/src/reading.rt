@@ -4,8 +4,8 @@
 use crate::asserts::{assert_said, got, holds, places_of};
 use crate::fitting::assert_kept;
 use crate::fixtures::{
-    complement, disk_2, disk_of, image_of, image_of_new_table, new_header, put, read_image,
-    read_with_sectors, used_entries,
+    complement, disk_2, disk_of, image_of, image_of_new_table, new_header, partition, put,
+    read_image, read_with_sectors,
 };
 use crate::headers::write_entries;
 use gptman::{GPT, GPTHeader, GPTPartitionEntry, MemoryDisk, Result};
@@ -45,12 +45,19 @@ fn assert_fault(rt: &impl Abort, alloc: Global, read: &Result<GPT>, fault: &str)
     assert_said(rt, alloc, read, got(rt, said).as_str());
 }
 
+// What is read from a new table's image of which the bytes at these places are complemented.
+fn read_damaged(rt: &impl Abort, alloc: Global, places: &[usize]) -> Result<GPT> {
+    let mut image = image_of_new_table(rt, alloc, 0);
+    for at in places {
+        complement(&mut image, *at);
+    }
+    read_image(alloc, &image)
+}
+
 // The checksums are those of a new table's bytes, made by the CRC-32 of another program. The backup
 // copy is broken too.
 #[test]
 fn a_damaged_byte_names_its_fault(rt: HostRuntime) {
-    let mut image = image_of_new_table(&rt, rt.alloc(), 0);
-    complement(&mut image, 50_688);
     let rows = [
         (520, "invalid revision"),
         (524, "invalid header size"),
@@ -61,20 +68,16 @@ fn a_damaged_byte_names_its_fault(rt: HostRuntime) {
         ),
     ];
     for (at, fault) in rows {
-        complement(&mut image, at);
-        assert_fault(&rt, rt.alloc(), &read_image(rt.alloc(), &image), fault);
-        complement(&mut image, at);
+        let read = read_damaged(&rt, rt.alloc(), &[50_688, at]);
+        assert_fault(&rt, rt.alloc(), &read, fault);
     }
-    complement(&mut image, 512);
-    let read = read_image(rt.alloc(), &image);
+    let read = read_damaged(&rt, rt.alloc(), &[50_688, 512]);
     assert_said(&rt, rt.alloc(), &read, "invalid signature");
 }
 
 // The header sectors of the table that is read where this byte of a new table's image is complemented.
 fn sectors_read(rt: &impl Abort, alloc: Global, at: usize) -> (u64, u64, u64) {
-    let mut image = image_of_new_table(rt, alloc, 0);
-    complement(&mut image, at);
-    places_of(&got(rt, read_image(alloc, &image)).header)
+    places_of(&got(rt, read_damaged(rt, alloc, &[at])).header)
 }
 
 #[test]
@@ -96,17 +99,12 @@ fn one_broken_copy_does_not_lose_the_table(rt: HostRuntime) {
 #[test]
 fn a_sector_size_may_leave_no_place_for_a_copy(rt: HostRuntime) {
     let zeros = got(&rt, disk_of(rt.alloc(), 0, 51_200));
-    let rows = [
-        (
-            1,
-            "could not read primary header (invalid signature) nor backup header (generic I/O error)",
-        ),
-        (u64::MAX, "invalid signature"),
-    ];
-    for (sector_size, said) in rows {
-        let read = read_with_sectors(rt.alloc(), zeros.bytes(), sector_size);
-        assert_said(&rt, rt.alloc(), &read, said);
-    }
+    let read = read_with_sectors(rt.alloc(), zeros.bytes(), 1);
+    let said =
+        "could not read primary header (invalid signature) nor backup header (generic I/O error)";
+    assert_said(&rt, rt.alloc(), &read, said);
+    let read = read_with_sectors(rt.alloc(), zeros.bytes(), u64::MAX);
+    assert_said(&rt, rt.alloc(), &read, "invalid signature");
 }
 
 #[test]
@@ -153,47 +151,43 @@ fn sectors_of_4096_are_not_tried_after_a_signature(rt: HostRuntime) {
     holds(&rt, read == table);
 }
 
-// Two entries, of which the used ones start at these sectors.
-fn entries_from(alloc: Global, starts: &[u64]) -> Result<Vec<GPTPartitionEntry>> {
-    let mut entries = used_entries(alloc, 2)?;
-    for (entry, start) in entries.iter_mut().zip(starts) {
-        entry.starting_lba = *start;
+// A used entry that starts at this sector, or an unused one.
+fn entry_from(alloc: Global, start: Option<u64>) -> Result<GPTPartitionEntry> {
+    match start {
+        Some(start) => partition(alloc, "", [1; 16], start, start),
+        None => Ok(GPTPartitionEntry::empty(alloc)),
     }
-    entries.truncate(starts.len());
-    if entries.len() < 2 {
-        entries.push(GPTPartitionEntry::empty(alloc))?;
-    }
-    Ok(entries)
 }
 
-// The alignment of a table with used entries that start at these sectors.
-fn align_of(rt: &impl Abort, alloc: Global, starts: &[u64]) -> u64 {
+// The alignment of a table with two entries, of which the used ones start at these sectors.
+fn align_of(rt: &impl Abort, alloc: Global, first: Option<u64>, second: Option<u64>) -> u64 {
+    let entries = [
+        got(rt, entry_from(alloc, first)),
+        got(rt, entry_from(alloc, second)),
+    ];
     let mut disk = got(rt, disk_of(alloc, 0, 51_200));
-    let entries = got(rt, entries_from(alloc, starts));
     write_entries(rt, &mut disk, &entries, 2);
     got(rt, GPT::read_from(alloc, &mut disk, 512)).align
 }
 
 #[test]
 fn the_alignment_is_derived(rt: HostRuntime) {
-    let rows: [(&[u64], u64); 11] = [
-        (&[34], 1),
-        (&[35], 35),
-        (&[40, 64], 8),
-        (&[10_240, 16_384], 2048),
-        (&[40_960, 65_536], 8192),
-        (&[32_770], 6554),
-        (&[65_536, 98_304], 16_384),
-        (&[0, 0], 1),
-        (&[0], 1),
-        (&[u64::MAX], 13_107),
-        (&[34, 34], 34),
+    let rows = [
+        (Some(34), None, 1),
+        (Some(35), None, 35),
+        (Some(40), Some(64), 8),
+        (Some(10_240), Some(16_384), 2048),
+        (Some(40_960), Some(65_536), 8192),
+        (Some(32_770), None, 6554),
+        (Some(65_536), Some(98_304), 16_384),
+        (Some(0), Some(0), 1),
+        (Some(0), None, 1),
+        (Some(u64::MAX), None, 13_107),
+        (Some(34), Some(34), 34),
     ];
-    for (starts, align) in rows {
-        assert!(rt;
-            align_of(&rt, rt.alloc(), starts) == align,
-            "starts {starts:?}"
-        );
+    for (first, second, align) in rows {
+        let derived = align_of(&rt, rt.alloc(), first, second);
+        assert!(rt; derived == align, "starts {first:?} {second:?}");
     }
 }
 
