@@ -18,7 +18,7 @@ fn assert_answered(rt: &impl Abort, alloc: Global, table: &mut GPT, len: usize, 
     let mut disk = got(rt, disk_of(alloc, 2, len));
     assert_said(rt, alloc, &write(rt, table, &mut disk), said);
     let is_kept = are_all(disk.bytes(), 2) && *table == given;
-    assert!(rt; is_kept || said == "ok");
+    holds(rt, is_kept || said == "ok");
 }
 
 // The table that is read from 100 sectors where this one was written. The write gave back a header in

@@ -1,22 +1,17 @@
 //! The disk over a file. Each test has a file of its own in the folder that it runs in.
 
 use crate::asserts::{assert_said, got, holds};
-use crate::fixtures::{DISK_GUID, image_of_new_table, new_table, new_written, write};
-use gptman::{Disk, FileDisk, GPT, GPTHeader};
+use crate::fixtures::{DISK_GUID, are_all, image_of_new_table, new_table, write};
+use gptman::{Disk, FileDisk, GPT};
 use std::alloc::{AllocGlobal, Global};
 use std::fs;
 use std::fs::File;
 use std::process::Abort;
 use std::rt::Files;
 
-// The bytes of 100 sectors of 512, all of them 2.
-fn twos(rt: &impl Abort, alloc: Global) -> Vec<u8> {
-    got(rt, vec![in alloc; 2; 51_200])
-}
-
-// A file of these bytes.
+// A file of 100 sectors of 512 bytes, all of them 2.
 fn make_file<R: Abort + Files<File = File> + AllocGlobal>(rt: &R, path: &str) {
-    let bytes = twos(rt, rt.alloc());
+    let bytes = got(rt, vec![in rt.alloc(); 2_u8; 51_200]);
     got(rt, fs::write(rt, path, bytes.as_slice()));
 }
 
@@ -26,22 +21,14 @@ fn make_read_only<R: Abort + Files<File = File> + AllocGlobal>(rt: &R, path: &st
     got(rt, FileDisk::open_read(rt, path))
 }
 
-// The file has these bytes. It is removed.
-fn assert_file<R: Abort + Files<File = File> + AllocGlobal>(rt: &R, path: &str, bytes: &[u8]) {
-    holds(rt, got(rt, fs::read(rt, path)).as_slice() == bytes);
-    got(rt, fs::remove_file(rt, path));
+// The call failed in the file.
+fn assert_failed<T: Drop>(rt: &impl Abort, alloc: Global, outcome: gptman::Result<T>) {
+    assert_said(rt, alloc, &outcome, "generic I/O error");
 }
 
-// Writes a new table to the disk, and gives back what the write answered.
-fn write_new(rt: &impl Abort, alloc: Global, disk: &mut FileDisk) -> gptman::Result<GPTHeader> {
-    let mut table = got(rt, new_table(alloc, disk, 512, DISK_GUID));
-    write(rt, &mut table, disk)
-}
-
-// The table that is read from the disk is a new one that was written.
-fn assert_reads(rt: &impl Abort, alloc: Global, disk: &mut FileDisk) {
-    let (table, _) = new_written(rt, alloc, 2);
-    holds(rt, got(rt, GPT::read_from(alloc, disk, 512)) == table);
+// The table is read from the disk.
+fn assert_reads<D: Disk>(rt: &impl Abort, alloc: Global, disk: &mut D, table: &GPT) {
+    holds(rt, got(rt, GPT::read_from(alloc, disk, 512)) == *table);
 }
 
 #[test]
@@ -49,21 +36,15 @@ fn a_table_is_written_to_a_file_and_read_back(rt: HostRuntime) {
     let path = "written.img";
     make_file(&rt, path);
     let mut disk = got(&rt, FileDisk::open(&rt, path));
-    let other = got(&rt, write_new(&rt, rt.alloc(), &mut disk));
+    let mut table = got(&rt, new_table(rt.alloc(), &mut disk, 512, DISK_GUID));
+    let other = got(&rt, write(&rt, &mut table, &mut disk));
     holds(&rt, other.primary_lba == 99);
-    assert_reads(&rt, rt.alloc(), &mut disk);
+    assert_reads(&rt, rt.alloc(), &mut disk, &table);
     let mut again = got(&rt, FileDisk::open_read(&rt, path));
-    assert_reads(&rt, rt.alloc(), &mut again);
-    assert_file(&rt, path, &image_of_new_table(&rt, rt.alloc(), 2));
-}
-
-// The bytes of the disk from 51,198 on are two, both of them 2.
-fn assert_end(rt: &impl Abort, disk: &mut FileDisk) {
-    got(rt, disk.seek_start(51_198));
-    holds(rt, disk.read_exact(&mut [0; 3]).is_err());
-    let mut last = [0; 2];
-    got(rt, disk.read_exact(&mut last));
-    holds(rt, last == [2, 2]);
+    assert_reads(&rt, rt.alloc(), &mut again, &table);
+    let bytes = got(&rt, fs::read(&rt, path));
+    holds(&rt, bytes == image_of_new_table(&rt, rt.alloc(), 2));
+    got(&rt, fs::remove_file(&rt, path));
 }
 
 #[test]
@@ -72,7 +53,11 @@ fn a_read_past_the_end_of_a_file_is_refused(rt: HostRuntime) {
     let mut disk = make_read_only(&rt, path);
     holds(&rt, got(&rt, disk.seek_end()) == 51_200);
     holds(&rt, disk.read_exact(&mut [0]).is_err());
-    assert_end(&rt, &mut disk);
+    got(&rt, disk.seek_start(51_198));
+    holds(&rt, disk.read_exact(&mut [0; 3]).is_err());
+    let mut last = [0; 2];
+    got(&rt, disk.read_exact(&mut last));
+    holds(&rt, last == [2, 2]);
     got(&rt, disk.sync());
     got(&rt, fs::remove_file(&rt, path));
 }
@@ -81,16 +66,18 @@ fn a_read_past_the_end_of_a_file_is_refused(rt: HostRuntime) {
 fn a_file_that_is_open_for_reading_is_not_written(rt: HostRuntime) {
     let path = "kept.img";
     let mut disk = make_read_only(&rt, path);
-    let outcome = write_new(&rt, rt.alloc(), &mut disk);
-    assert_said(&rt, rt.alloc(), &outcome, "generic I/O error");
-    assert_file(&rt, path, &twos(&rt, rt.alloc()));
+    let mut table = got(&rt, new_table(rt.alloc(), &mut disk, 512, DISK_GUID));
+    let outcome = write(&rt, &mut table, &mut disk);
+    assert_failed(&rt, rt.alloc(), outcome);
+    let bytes = got(&rt, fs::read(&rt, path));
+    holds(&rt, bytes.len() == 51_200 && are_all(&bytes, 2));
+    got(&rt, fs::remove_file(&rt, path));
 }
 
 #[test]
 fn a_file_that_is_not_there_is_not_opened(rt: HostRuntime) {
     let path = "missing.img";
-    let refusal = "generic I/O error";
-    assert_said(&rt, rt.alloc(), &FileDisk::open(&rt, path), refusal);
-    assert_said(&rt, rt.alloc(), &FileDisk::open_read(&rt, path), refusal);
+    assert_failed(&rt, rt.alloc(), FileDisk::open(&rt, path));
+    assert_failed(&rt, rt.alloc(), FileDisk::open_read(&rt, path));
     holds(&rt, fs::read(&rt, path).is_err());
 }

@@ -38,11 +38,11 @@ fn no_table_is_read_where_there_is_none(rt: HostRuntime) {
 }
 
 // The reading was refused for this fault of the primary copy; the backup copy has no signature.
-fn assert_fault(rt: &impl Abort, alloc: Global, read: &Result<GPT>, fault: &str) {
+fn assert_fault(rt: &impl Abort, alloc: Global, read: Result<GPT>, fault: &str) {
     let said = format!(in alloc;
         "could not read primary header ({fault}) nor backup header (invalid signature)"
     );
-    assert_said(rt, alloc, read, got(rt, said).as_str());
+    assert_said(rt, alloc, &read, got(rt, said).as_str());
 }
 
 // What is read from a new table's image of which the bytes at these places are complemented.
@@ -69,7 +69,7 @@ fn a_damaged_byte_names_its_fault(rt: HostRuntime) {
     ];
     for (at, fault) in rows {
         let read = read_damaged(&rt, rt.alloc(), &[50_688, at]);
-        assert_fault(&rt, rt.alloc(), &read, fault);
+        assert_fault(&rt, rt.alloc(), read, fault);
     }
     let read = read_damaged(&rt, rt.alloc(), &[50_688, 512]);
     assert_said(&rt, rt.alloc(), &read, "invalid signature");
@@ -96,15 +96,19 @@ fn one_broken_copy_does_not_lose_the_table(rt: HostRuntime) {
     }
 }
 
+// Reading 51,200 zeros with sectors of this size says this.
+fn assert_zeros(rt: &impl Abort, alloc: Global, sector_size: u64, said: &str) {
+    let zeros = got(rt, disk_of(alloc, 0, 51_200));
+    let read = read_with_sectors(alloc, zeros.bytes(), sector_size);
+    assert_said(rt, alloc, &read, said);
+}
+
 #[test]
 fn a_sector_size_may_leave_no_place_for_a_copy(rt: HostRuntime) {
-    let zeros = got(&rt, disk_of(rt.alloc(), 0, 51_200));
-    let read = read_with_sectors(rt.alloc(), zeros.bytes(), 1);
     let said =
         "could not read primary header (invalid signature) nor backup header (generic I/O error)";
-    assert_said(&rt, rt.alloc(), &read, said);
-    let read = read_with_sectors(rt.alloc(), zeros.bytes(), u64::MAX);
-    assert_said(&rt, rt.alloc(), &read, "invalid signature");
+    assert_zeros(&rt, rt.alloc(), 1, said);
+    assert_zeros(&rt, rt.alloc(), u64::MAX, "invalid signature");
 }
 
 #[test]
@@ -146,9 +150,9 @@ fn sectors_of_4096_are_not_tried_after_a_signature(rt: HostRuntime) {
     let table = got(&rt, find_in_image(rt.alloc(), &image));
     put(&mut image, 512, b"EFI PART");
     let found = find_in_image(rt.alloc(), &image);
-    assert_fault(&rt, rt.alloc(), &found, "invalid revision");
-    let read = got(&rt, read_with_sectors(rt.alloc(), &image, 4096));
-    holds(&rt, read == table);
+    assert_fault(&rt, rt.alloc(), found, "invalid revision");
+    let read = read_with_sectors(rt.alloc(), &image, 4096);
+    holds(&rt, got(&rt, read) == table);
 }
 
 // A used entry that starts at this sector, or an unused one.
@@ -233,7 +237,7 @@ fn a_crafted_header_is_refused(rt: HostRuntime) {
             ..new
         };
         let read = read_crafted(&rt, rt.alloc(), header);
-        assert_fault(&rt, rt.alloc(), &read, fault);
+        assert_fault(&rt, rt.alloc(), read, fault);
     }
 }
 
