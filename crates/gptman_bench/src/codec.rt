@@ -1,11 +1,12 @@
 //! Checksums, a header and an entry against the vectors of the format.
 
-use crate::fixtures::{DISK_GUID, disk_of};
+use crate::asserts::{got, holds};
+use crate::fixtures::new_header;
 use crate::names::padded;
 use gptman::crc::crc32;
 use gptman::{GPTHeader, GPTPartitionEntry, PartitionName};
 use std::alloc::Global;
-use std::test::Fail;
+use std::process::Abort;
 
 // A new header for 100 sectors of 512 bytes and a disk GUID of 16 bytes ff, before any write.
 const HEADER: &str = "4546492050415254000001005c000000\
@@ -35,7 +36,7 @@ fn checksums_of_known_messages(rt: HostRuntime) {
         (b"123456789", 0xcbf4_3926),
     ];
     for (message, checksum) in rows {
-        assert_eq!(rt; crc32(message), checksum, "of {message:?}");
+        assert!(rt; crc32(message) == checksum, "of {message:?}");
     }
 }
 
@@ -50,19 +51,29 @@ fn words_of_the_table(rt: HostRuntime) {
         (255, 0x2d02_ef8d),
     ];
     for (place, word) in rows {
-        assert_eq!(rt; crc32(&[!place]) ^ 0xff00_0000, word, "word {place}");
+        assert!(rt; crc32(&[!place]) ^ 0xff00_0000 == word, "word {place}");
     }
 }
 
+// The bytes are these, as hex text.
+fn assert_vector(rt: &impl Abort, alloc: Global, bytes: &[u8], vector: &str) {
+    let text = got(rt, hex::encode(alloc, bytes));
+    holds(rt, text.as_str() == vector);
+}
+
+// The bytes of a hex text.
+fn bytes_of<const N: usize>(rt: &impl Abort, vector: &str) -> [u8; N] {
+    let mut bytes = [0; N];
+    got(rt, hex::decode_to_slice(vector, &mut bytes));
+    bytes
+}
+
 #[test]
-fn a_new_header_is_the_vector(rt: HostRuntime) -> Result<(), Fail> {
-    let alloc = rt.alloc();
-    let header = GPTHeader::new_from(&mut disk_of(alloc, 0, 51_200)?, 512, DISK_GUID)?;
-    assert_eq!(rt; hex::encode(alloc, header.encode())?.as_str(), HEADER);
-    let mut bytes = [0; 92];
-    hex::decode_to_slice(HEADER, &mut bytes)?;
-    assert_eq!(rt; GPTHeader::decode(&bytes), header);
-    Ok(())
+fn a_new_header_is_the_vector(rt: HostRuntime) {
+    let header = got(&rt, new_header(rt.alloc()));
+    assert_vector(&rt, rt.alloc(), &header.encode(), HEADER);
+    let decoded = GPTHeader::decode(&bytes_of(&rt, HEADER));
+    holds(&rt, decoded == header);
 }
 
 // The entry of the vector.
@@ -78,30 +89,31 @@ fn foo(alloc: Global) -> gptman::Result<GPTPartitionEntry> {
 }
 
 #[test]
-fn an_entry_is_the_vector(rt: HostRuntime) -> Result<(), Fail> {
-    let alloc = rt.alloc();
-    let entry = foo(alloc)?;
-    assert_eq!(rt; hex::encode(alloc, entry.encode())?.as_str(), ENTRY);
-    let mut bytes = [0; 128];
-    hex::decode_to_slice(ENTRY, &mut bytes)?;
-    assert!(rt; GPTPartitionEntry::decode(alloc, &bytes)? == entry);
-    Ok(())
+fn an_entry_is_the_vector(rt: HostRuntime) {
+    let entry = got(&rt, foo(rt.alloc()));
+    assert_vector(&rt, rt.alloc(), &entry.encode(), ENTRY);
+    let bytes = bytes_of(&rt, ENTRY);
+    let decoded = got(&rt, GPTPartitionEntry::decode(rt.alloc(), &bytes));
+    holds(&rt, decoded == entry);
+}
+
+// Whether the name is "Foo", in its text and in its units.
+fn is_foo(name: &PartitionName) -> bool {
+    name.as_str() == "Foo" && *name.units() == padded(&[0x46, 0x6f, 0x6f])
 }
 
 #[test]
-fn the_name_of_the_vector_is_read(rt: HostRuntime) -> Result<(), Fail> {
-    let decoded = GPTPartitionEntry::decode(rt.alloc(), &foo(rt.alloc())?.encode())?;
-    let name = &decoded.partition_name;
-    assert_eq!(rt; name.as_str(), "Foo");
-    assert_eq!(rt; *name.units(), padded(&[0x46, 0x6f, 0x6f]));
-    assert!(rt; decoded.clone()? == decoded);
-    Ok(())
+fn the_name_of_the_vector_is_read(rt: HostRuntime) {
+    let bytes = got(&rt, foo(rt.alloc())).encode();
+    let decoded = got(&rt, GPTPartitionEntry::decode(rt.alloc(), &bytes));
+    holds(&rt, is_foo(&decoded.partition_name));
+    holds(&rt, got(&rt, decoded.clone()) == decoded);
 }
 
 #[test]
-fn the_empty_entry_is_zeros(rt: HostRuntime) -> Result<(), Fail> {
+fn the_empty_entry_is_zeros(rt: HostRuntime) {
     let empty = GPTPartitionEntry::empty(rt.alloc());
-    assert_eq!(rt; empty.encode(), [0; 128]);
-    assert_eq!(rt; GPTPartitionEntry::decode(rt.alloc(), &[0; 128])?, empty);
-    Ok(())
+    holds(&rt, empty.encode() == [0; 128]);
+    let decoded = got(&rt, GPTPartitionEntry::decode(rt.alloc(), &[0; 128]));
+    holds(&rt, decoded == empty);
 }

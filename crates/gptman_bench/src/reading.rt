@@ -1,39 +1,26 @@
 //! Damaged and crafted copies: the first test of a copy that fails names its fault, and the other copy
 //! is read. What is read has the alignment that its entries give.
 
-ghost use Rattle.std.specs.Prelude.{◌≡◌};
-
-use crate::asserts::{assert_said, places_of};
+use crate::asserts::{assert_said, got, holds, places_of};
+use crate::fitting::assert_kept;
 use crate::fixtures::{
-    DISK_GUID, answer, complement, disk_2, disk_of, image_of, image_of_new_table, new_header, put,
-    read_image, used_entries, write_copy,
+    complement, disk_2, disk_of, image_of, image_of_new_table, new_header, partition, put,
+    read_image, read_with_sectors,
 };
-use gptman::{GPT, GPTHeader, GPTPartitionEntry, MemoryDisk};
+use crate::headers::write_entries;
+use gptman::{GPT, GPTHeader, GPTPartitionEntry, MemoryDisk, Result};
 use std::alloc::Global;
 use std::process::Abort;
-use std::test::Fail;
-
-// What reading a table from a disk of these bytes answers, with sectors of 512.
-fn reading(alloc: Global, bytes: Vec<u8>) -> Result<String, Fail> {
-    let mut disk = MemoryDisk::new(alloc, bytes)?;
-    Ok(answer(alloc, &GPT::read_from(alloc, &mut disk, 512))?)
-}
 
 // Both readings of a disk of so many bytes say this.
-fn assert_unread(
-    rt: &impl Abort,
-    alloc: Global,
-    byte: u8,
-    len: usize,
-    said: &str,
-) -> Result<(), Fail> {
-    let mut disk = disk_of(alloc, byte, len)?;
-    assert_said(rt, alloc, &GPT::read_from(alloc, &mut disk, 512), said)?;
-    assert_said(rt, alloc, &GPT::find_from(alloc, &mut disk), said)
+fn assert_unread(rt: &impl Abort, alloc: Global, byte: u8, len: usize, said: &str) {
+    let mut disk = got(rt, disk_of(alloc, byte, len));
+    assert_said(rt, alloc, &GPT::read_from(alloc, &mut disk, 512), said);
+    assert_said(rt, alloc, &GPT::find_from(alloc, &mut disk), said);
 }
 
 #[test]
-fn no_table_is_read_where_there_is_none(rt: HostRuntime) -> Result<(), Fail> {
+fn no_table_is_read_where_there_is_none(rt: HostRuntime) {
     let unread =
         "could not read primary header (generic I/O error) nor backup header (invalid signature)";
     let rows = [
@@ -46,35 +33,31 @@ fn no_table_is_read_where_there_is_none(rt: HostRuntime) -> Result<(), Fail> {
         (0, 0, "invalid signature"),
     ];
     for (byte, len, said) in rows {
-        assert_unread(&rt, rt.alloc(), byte, len, said)?;
+        assert_unread(&rt, rt.alloc(), byte, len, said);
     }
-    Ok(())
 }
 
-// The primary copy of the image has this fault where this byte is complemented.
-fn assert_damaged(
-    rt: &impl Abort,
-    alloc: Global,
-    image: &[u8],
-    at: usize,
-    fault: &str,
-) -> Result<(), Fail> {
-    let mut bytes = image.to_vec(alloc)?;
-    complement(&mut bytes, at);
+// The reading was refused for this fault of the primary copy; the backup copy has no signature.
+fn assert_fault(rt: &impl Abort, alloc: Global, read: Result<GPT>, fault: &str) {
     let said = format!(in alloc;
         "could not read primary header ({fault}) nor backup header (invalid signature)"
-    )?;
-    assert_eq!(rt; reading(alloc, bytes)?.as_str(), said.as_str(), "byte {at}");
-    Ok(())
+    );
+    assert_said(rt, alloc, &read, got(rt, said).as_str());
+}
+
+// What is read from a new table's image of which the bytes at these places are complemented.
+fn read_damaged(rt: &impl Abort, alloc: Global, places: &[usize]) -> Result<GPT> {
+    let mut image = image_of_new_table(rt, alloc, 0);
+    for at in places {
+        complement(&mut image, *at);
+    }
+    read_image(alloc, &image)
 }
 
 // The checksums are those of a new table's bytes, made by the CRC-32 of another program. The backup
 // copy is broken too.
 #[test]
-fn a_damaged_byte_names_its_fault(rt: HostRuntime) -> Result<(), Fail> {
-    let alloc = rt.alloc();
-    let mut image = image_of_new_table(alloc, 0)?;
-    complement(&mut image, 50_688);
+fn a_damaged_byte_names_its_fault(rt: HostRuntime) {
     let rows = [
         (520, "invalid revision"),
         (524, "invalid header size"),
@@ -85,160 +68,147 @@ fn a_damaged_byte_names_its_fault(rt: HostRuntime) -> Result<(), Fail> {
         ),
     ];
     for (at, fault) in rows {
-        assert_damaged(&rt, alloc, &image, at, fault)?;
+        let read = read_damaged(&rt, rt.alloc(), &[50_688, at]);
+        assert_fault(&rt, rt.alloc(), read, fault);
     }
-    complement(&mut image, 512);
-    assert_eq!(rt; reading(alloc, image)?.as_str(), "invalid signature");
-    Ok(())
+    let read = read_damaged(&rt, rt.alloc(), &[50_688, 512]);
+    assert_said(&rt, rt.alloc(), &read, "invalid signature");
 }
 
 // The header sectors of the table that is read where this byte of a new table's image is complemented.
-fn sectors_read(alloc: Global, at: usize) -> Result<(u64, u64, u64), Fail> {
-    let mut image = image_of_new_table(alloc, 0)?;
-    complement(&mut image, at);
-    let table = GPT::read_from(alloc, &mut MemoryDisk::new(alloc, image)?, 512)?;
-    Ok(places_of(&table.header))
+fn sectors_read(rt: &impl Abort, alloc: Global, at: usize) -> (u64, u64, u64) {
+    places_of(&got(rt, read_damaged(rt, alloc, &[at])).header)
 }
 
 #[test]
-fn one_broken_copy_does_not_lose_the_table(rt: HostRuntime) -> Result<(), Fail> {
+fn one_broken_copy_does_not_lose_the_table(rt: HostRuntime) {
     for at in [512, 520, 524, 528, 603, 1024, 17_407] {
-        assert_eq!(rt; sectors_read(rt.alloc(), at)?, (99, 1, 67), "byte {at}");
+        assert!(rt;
+            sectors_read(&rt, rt.alloc(), at) == (99, 1, 67),
+            "byte {at}"
+        );
     }
     for at in [511, 604, 1023, 17_408, 34_304, 50_687, 50_688, 50_780] {
-        assert_eq!(rt; sectors_read(rt.alloc(), at)?, (1, 99, 2), "byte {at}");
+        assert!(rt;
+            sectors_read(&rt, rt.alloc(), at) == (1, 99, 2),
+            "byte {at}"
+        );
     }
-    Ok(())
+}
+
+// Reading 51,200 zeros with sectors of this size says this.
+fn assert_zeros(rt: &impl Abort, alloc: Global, sector_size: u64, said: &str) {
+    let zeros = got(rt, disk_of(alloc, 0, 51_200));
+    let read = read_with_sectors(alloc, zeros.bytes(), sector_size);
+    assert_said(rt, alloc, &read, said);
 }
 
 #[test]
-fn a_sector_size_may_leave_no_place_for_a_copy(rt: HostRuntime) -> Result<(), Fail> {
-    let alloc = rt.alloc();
-    let rows = [
-        (
-            1,
-            "could not read primary header (invalid signature) nor backup header (generic I/O error)",
-        ),
-        (u64::MAX, "invalid signature"),
-    ];
-    for (sector_size, said) in rows {
-        let mut zeros = disk_of(alloc, 0, 51_200)?;
-        let read = GPT::read_from(alloc, &mut zeros, sector_size);
-        assert_said(&rt, alloc, &read, said)?;
-    }
-    Ok(())
+fn a_sector_size_may_leave_no_place_for_a_copy(rt: HostRuntime) {
+    let said =
+        "could not read primary header (invalid signature) nor backup header (generic I/O error)";
+    assert_zeros(&rt, rt.alloc(), 1, said);
+    assert_zeros(&rt, rt.alloc(), u64::MAX, "invalid signature");
 }
 
 #[test]
-fn the_backup_is_in_the_last_whole_sector(rt: HostRuntime) -> Result<(), Fail> {
-    let alloc = rt.alloc();
-    let mut image = image_of_new_table(alloc, 0)?;
+fn the_backup_is_in_the_last_whole_sector(rt: HostRuntime) {
+    let mut image = image_of_new_table(&rt, rt.alloc(), 0);
     complement(&mut image, 512);
-    image.resize(51_200 + 511, 9)?;
-    let read = read_image(alloc, &image)?;
-    assert_eq!(rt; read.header.primary_lba, 99);
-    Ok(())
+    got(&rt, image.resize(51_200 + 511, 9));
+    let read = got(&rt, read_image(rt.alloc(), &image));
+    holds(&rt, read.header.primary_lba == 99);
+}
+
+// The table that is found, with its sector size, on a disk of these bytes.
+fn find_in_image(alloc: Global, bytes: &[u8]) -> Result<GPT> {
+    GPT::find_from(alloc, &mut MemoryDisk::new(alloc, bytes.to_vec(alloc)?)?)
+}
+
+// The bytes of a disk of 100 sectors of 4096, with a table.
+fn image_of_large_sectors(rt: &impl Abort, alloc: Global) -> Vec<u8> {
+    image_of(rt, alloc, &got(rt, disk_2(alloc)))
 }
 
 // The sector size that is found on a disk of these bytes.
-fn size_found(alloc: Global, image: Vec<u8>) -> Result<u64, Fail> {
-    Ok(GPT::find_from(alloc, &mut MemoryDisk::new(alloc, image)?)?.sector_size)
+fn size_found(rt: &impl Abort, alloc: Global, image: &[u8]) -> u64 {
+    got(rt, find_in_image(alloc, image)).sector_size
 }
 
 #[test]
-fn the_sector_size_is_found(rt: HostRuntime) -> Result<(), Fail> {
-    let alloc = rt.alloc();
-    assert_eq!(rt; size_found(alloc, image_of_new_table(alloc, 0)?)?, 512);
-    let large = image_of(alloc, &disk_2(alloc)?)?;
-    assert!(rt; read_image(alloc, &large).is_err());
-    assert_eq!(rt; size_found(alloc, large)?, 4096);
-    Ok(())
+fn the_sector_size_is_found(rt: HostRuntime) {
+    let small = image_of_new_table(&rt, rt.alloc(), 0);
+    let large = image_of_large_sectors(&rt, rt.alloc());
+    holds(&rt, size_found(&rt, rt.alloc(), &small) == 512);
+    holds(&rt, size_found(&rt, rt.alloc(), &large) == 4096);
+    holds(&rt, read_image(rt.alloc(), &large).is_err());
 }
 
 #[test]
-fn sectors_of_4096_are_not_tried_after_a_signature(rt: HostRuntime) -> Result<(), Fail> {
-    let alloc = rt.alloc();
-    let mut bytes = image_of(alloc, &disk_2(alloc)?)?;
-    let table = GPT::find_from(alloc, &mut MemoryDisk::new(alloc, bytes.clone()?)?)?;
-    put(&mut bytes, 512, b"EFI PART");
-    let mut both = MemoryDisk::new(alloc, bytes)?;
-    let said =
-        "could not read primary header (invalid revision) nor backup header (invalid signature)";
-    assert_said(&rt, alloc, &GPT::find_from(alloc, &mut both), said)?;
-    assert!(rt; GPT::read_from(alloc, &mut both, 4096)? == table);
-    Ok(())
+fn sectors_of_4096_are_not_tried_after_a_signature(rt: HostRuntime) {
+    let mut image = image_of_large_sectors(&rt, rt.alloc());
+    let table = got(&rt, find_in_image(rt.alloc(), &image));
+    put(&mut image, 512, b"EFI PART");
+    let found = find_in_image(rt.alloc(), &image);
+    assert_fault(&rt, rt.alloc(), found, "invalid revision");
+    let read = read_with_sectors(rt.alloc(), &image, 4096);
+    holds(&rt, got(&rt, read) == table);
 }
 
-// The alignment of a table with used entries that start at these sectors.
-fn align_of(alloc: Global, starts: &[u64]) -> Result<u64, Fail> {
-    let mut disk = disk_of(alloc, 0, 51_200)?;
-    let mut header = GPTHeader::new_from(&mut disk, 512, DISK_GUID)?;
-    let mut entries = used_entries(alloc, 2)?;
-    for (entry, start) in entries.iter_mut().zip(starts) {
-        entry.starting_lba = *start;
+// A used entry that starts at this sector, or an unused one.
+fn entry_from(alloc: Global, start: Option<u64>) -> Result<GPTPartitionEntry> {
+    match start {
+        Some(start) => partition(alloc, "", [1; 16], start, start),
+        None => Ok(GPTPartitionEntry::empty(alloc)),
     }
-    entries.truncate(starts.len());
-    header.number_of_partition_entries = 2;
-    if entries.len() < 2 {
-        entries.push(GPTPartitionEntry::empty(alloc))?;
-    }
-    write_copy(&mut header, &mut disk, 512, &entries)??;
-    Ok(GPT::read_from(alloc, &mut disk, 512)?.align)
 }
 
-#[test]
-fn the_alignment_is_derived(rt: HostRuntime) -> Result<(), Fail> {
-    let rows: [(&[u64], u64); 11] = [
-        (&[34], 1),
-        (&[35], 35),
-        (&[40, 64], 8),
-        (&[10_240, 16_384], 2048),
-        (&[40_960, 65_536], 8192),
-        (&[32_770], 6554),
-        (&[65_536, 98_304], 16_384),
-        (&[0, 0], 1),
-        (&[0], 1),
-        (&[u64::MAX], 13_107),
-        (&[34, 34], 34),
+// The alignment of a table with two entries, of which the used ones start at these sectors.
+fn align_of(rt: &impl Abort, alloc: Global, first: Option<u64>, second: Option<u64>) -> u64 {
+    let entries = [
+        got(rt, entry_from(alloc, first)),
+        got(rt, entry_from(alloc, second)),
     ];
-    for (starts, align) in rows {
-        assert_eq!(rt; align_of(rt.alloc(), starts)?, align, "starts {starts:?}");
-    }
-    Ok(())
+    let mut disk = got(rt, disk_of(alloc, 0, 51_200));
+    write_entries(rt, &mut disk, &entries, 2);
+    got(rt, GPT::read_from(alloc, &mut disk, 512)).align
 }
 
-// A disk of 100 sectors of 512 with a new table and this header, its checksum made right, in sector
-// 1. The last sector is zero.
-fn crafted(alloc: Global, mut header: GPTHeader) -> Result<MemoryDisk, Fail>
-    requires { header.header_size ≡ 92 }
-{
-    let mut image = image_of_new_table(alloc, 0)?;
+#[test]
+fn the_alignment_is_derived(rt: HostRuntime) {
+    let rows = [
+        (Some(34), None, 1),
+        (Some(35), None, 35),
+        (Some(40), Some(64), 8),
+        (Some(10_240), Some(16_384), 2048),
+        (Some(40_960), Some(65_536), 8192),
+        (Some(32_770), None, 6554),
+        (Some(65_536), Some(98_304), 16_384),
+        (Some(0), Some(0), 1),
+        (Some(0), None, 1),
+        (Some(u64::MAX), None, 13_107),
+        (Some(34), Some(34), 34),
+    ];
+    for (first, second, align) in rows {
+        let derived = align_of(&rt, rt.alloc(), first, second);
+        assert!(rt; derived == align, "starts {first:?} {second:?}");
+    }
+}
+
+// What is read from a disk of 100 sectors of 512 with a new table and this header, its checksum made
+// right, in sector 1. The last sector is zero.
+fn read_crafted(rt: &impl Abort, alloc: Global, mut header: GPTHeader) -> Result<GPT> {
+    assert!(rt; header.header_size == 92);
+    let mut image = image_of_new_table(rt, alloc, 0);
     header.update_crc32_checksum();
     put(&mut image, 512, &header.encode());
     put(&mut image, 50_688, &[0; 512]);
-    Ok(MemoryDisk::new(alloc, image)?)
-}
-
-// A copy with this header has this fault.
-fn assert_crafted(
-    rt: &impl Abort,
-    alloc: Global,
-    header: GPTHeader,
-    fault: &str,
-) -> Result<(), Fail>
-    requires { header.header_size ≡ 92 }
-{
-    let mut disk = crafted(alloc, header)?;
-    let said = format!(in alloc;
-        "could not read primary header ({fault}) nor backup header (invalid signature)"
-    )?;
-    let read = GPT::read_from(alloc, &mut disk, 512);
-    assert_said(rt, alloc, &read, said.as_str())
+    read_image(alloc, &image)
 }
 
 #[test]
-fn a_crafted_header_is_refused(rt: HostRuntime) -> Result<(), Fail> {
-    let alloc = rt.alloc();
+fn a_crafted_header_is_refused(rt: HostRuntime) {
+    let new = got(&rt, new_header(rt.alloc()));
     let rows = [
         (1, 256, 2, 0, "invalid partition entry size: 256"),
         (u32::MAX, 128, 2, 0, "generic I/O error"),
@@ -258,48 +228,43 @@ fn a_crafted_header_is_refused(rt: HostRuntime) -> Result<(), Fail> {
             "corrupted partition entry array CRC32 checksum (1 != 0)",
         ),
     ];
-    for (count, size, entries_at, checksum, said) in rows {
+    for (count, size, entries_at, checksum, fault) in rows {
         let header = GPTHeader {
             partition_entry_lba: entries_at,
             number_of_partition_entries: count,
             size_of_partition_entry: size,
             partition_entry_array_crc32: checksum,
-            ..new_header(alloc)?
+            ..new
         };
-        assert_crafted(&rt, alloc, header, said)?;
+        let read = read_crafted(&rt, rt.alloc(), header);
+        assert_fault(&rt, rt.alloc(), read, fault);
     }
-    Ok(())
 }
 
 #[test]
-fn a_table_without_entries_is_read(rt: HostRuntime) -> Result<(), Fail> {
-    let alloc = rt.alloc();
+fn a_table_without_entries_is_read(rt: HostRuntime) {
     let header = GPTHeader {
         number_of_partition_entries: 0,
         size_of_partition_entry: 256,
-        ..new_header(alloc)?
+        ..got(&rt, new_header(rt.alloc()))
     };
-    let mut disk = crafted(alloc, header)?;
-    let mut table = GPT::read_from(alloc, &mut disk, 512)?;
-    assert!(rt; table.is_coherent());
-    let count = table.header.number_of_partition_entries;
-    assert_eq!(rt; (count, table.align), (0, 2048));
-    let fits = table.header.update_from(&mut disk, 512);
-    assert_said(&rt, alloc, &fits, "an arithmetic operation overflowed")
+    let table = got(&rt, read_crafted(&rt, rt.alloc(), header));
+    holds(&rt, table.is_coherent() && table.align == 2048);
+    holds(&rt, table.header.number_of_partition_entries == 0);
+    assert_kept(&rt, rt.alloc(), table.header, 51_200);
 }
 
 #[test]
-fn entries_may_stand_in_any_sector(rt: HostRuntime) -> Result<(), Fail> {
-    let alloc = rt.alloc();
+fn entries_may_stand_in_any_sector(rt: HostRuntime) {
     let header = GPTHeader {
         partition_entry_lba: 0,
         number_of_partition_entries: 4,
         partition_entry_array_crc32: 0xb2aa_7578,
-        ..new_header(alloc)?
+        ..got(&rt, new_header(rt.alloc()))
     };
-    let mut disk = crafted(alloc, header)?;
-    let table = GPT::read_from(alloc, &mut disk, 512)?;
-    assert_eq!(rt; table.header.partition_entry_lba, 0);
-    assert!(rt; table.is_coherent());
-    Ok(())
+    let table = got(&rt, read_crafted(&rt, rt.alloc(), header));
+    holds(
+        &rt,
+        table.header.partition_entry_lba == 0 && table.is_coherent(),
+    );
 }
