@@ -2,7 +2,7 @@
 //! times the references and the values to drop that it has, so short tests are proved sooner.
 
 use crate::fixtures::{answer, used_names};
-use gptman::{GPT, GPTHeader};
+use gptman::{GPT, GPTHeader, GPTPartitionEntry};
 use std::alloc::Global;
 use std::fmt::Debug;
 use std::process::Abort;
@@ -30,6 +30,14 @@ pub(crate) fn assert_said<T>(
 /// The table's used entries have these numbers and names.
 pub(crate) fn assert_names(rt: &impl Abort, alloc: Global, table: &GPT, names: &str) {
     assert_eq!(rt; got(rt, used_names(alloc, table)).as_str(), names);
+}
+
+/// The table has this entry, behind so many others.
+pub(crate) fn assert_entry(rt: &impl Abort, table: &GPT, place: usize, wanted: &GPTPartitionEntry) {
+    match table.iter().nth(place) {
+        Some((_, entry)) => assert!(rt; *entry == *wanted),
+        None => assert!(rt; false, "the table has no such entry"),
+    }
 }
 
 /// The first and the last usable sector of a header, and the sector of its backup.

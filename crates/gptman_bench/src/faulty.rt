@@ -3,11 +3,12 @@
 ghost use Rattle.std.specs.Prelude.{◌≡◌, ◌+◌, OnOk, OnErr};
 ghost use Rattle.gptman_bench.specs.Faulty.{faulty_sound, faulty_state, own_failures};
 
-use crate::memory::put;
+use crate::asserts::{got, holds};
+use crate::memory::{assert_left, holding, put};
 use gptman::{Disk, MemoryDisk};
 use std::alloc::Global;
 use std::io;
-use std::test::Fail;
+use std::process::Abort;
 
 /// A disk that passes its calls on to the one below, but for one, which fails. A write that fails
 /// so is passed on as well.
@@ -87,18 +88,21 @@ impl<D: Disk> Disk for FaultyDisk<D> {
     ghost sound = { λ d honest. faulty_sound (D.state d.below) d.calls_left (D.sound d.below honest) };
 }
 
-// A disk of the bytes 1 to 4, of which one call fails.
-fn failing(alloc: Global, call: u64) -> Result<FaultyDisk<MemoryDisk>, Fail> {
-    let below = MemoryDisk::new(alloc, [1, 2, 3, 4].to_vec(alloc)?)?;
-    Ok(FaultyDisk::new(below, call))
+/// A disk of these bytes of which one call fails.
+pub(crate) fn failing_once(
+    rt: &impl Abort,
+    alloc: Global,
+    bytes: &[u8],
+    call: u64,
+) -> FaultyDisk<MemoryDisk> {
+    FaultyDisk::new(holding(rt, alloc, bytes), call)
 }
 
 #[test]
-fn a_write_that_fails_is_passed_on(rt: HostRuntime) -> Result<(), Fail> {
-    let mut disk = failing(rt.alloc(), 2)?;
-    assert!(rt; put(&mut disk, 1, &[7, 7]).is_err());
-    assert_eq!(rt; disk.into_inner().bytes(), [1, 7, 7, 4].as_slice());
-    Ok(())
+fn a_write_that_fails_is_passed_on(rt: HostRuntime) {
+    let mut disk = failing_once(&rt, rt.alloc(), &[1, 2, 3, 4], 2);
+    holds(&rt, put(&mut disk, 1, &[7, 7]).is_err());
+    holds(&rt, disk.into_inner().bytes() == [1, 7, 7, 4].as_slice());
 }
 
 // The two bytes at the disk's position.
@@ -108,42 +112,46 @@ fn pair(disk: &mut FaultyDisk<MemoryDisk>) -> io::Result<[u8; 2]> {
     Ok(bytes)
 }
 
-#[test]
-fn a_seek_that_fails_is_not_passed_on(rt: HostRuntime) -> Result<(), Fail> {
-    let mut disk = failing(rt.alloc(), 0)?;
-    assert!(rt; disk.seek_start(2).is_err());
-    assert_eq!(rt; pair(&mut disk)?, [1, 2]);
-    Ok(())
+// These are the two bytes at the disk's position.
+fn assert_pair(rt: &impl Abort, disk: &mut FaultyDisk<MemoryDisk>, bytes: [u8; 2]) {
+    holds(rt, got(rt, pair(disk)) == bytes);
 }
 
 #[test]
-fn a_seek_to_the_end_that_fails_is_not_passed_on(rt: HostRuntime) -> Result<(), Fail> {
-    let mut disk = failing(rt.alloc(), 0)?;
-    assert!(rt; disk.seek_end().is_err());
-    assert_eq!(rt; pair(&mut disk)?, [1, 2]);
-    Ok(())
+fn a_seek_that_fails_is_not_passed_on(rt: HostRuntime) {
+    let mut disk = failing_once(&rt, rt.alloc(), &[1, 2, 3, 4], 0);
+    holds(&rt, disk.seek_start(2).is_err());
+    assert_pair(&rt, &mut disk, [1, 2]);
 }
 
 #[test]
-fn a_read_that_fails_is_not_passed_on(rt: HostRuntime) -> Result<(), Fail> {
-    let mut disk = failing(rt.alloc(), 1)?;
-    assert_eq!(rt; pair(&mut disk)?, [1, 2]);
-    assert!(rt; pair(&mut disk).is_err());
-    assert_eq!(rt; pair(&mut disk)?, [3, 4]);
-    Ok(())
+fn a_seek_to_the_end_that_fails_is_not_passed_on(rt: HostRuntime) {
+    let mut disk = failing_once(&rt, rt.alloc(), &[1, 2, 3, 4], 0);
+    holds(&rt, disk.seek_end().is_err());
+    assert_pair(&rt, &mut disk, [1, 2]);
 }
 
 #[test]
-fn a_sync_that_fails_is_not_passed_on(rt: HostRuntime) -> Result<(), Fail> {
-    let alloc = rt.alloc();
-    for (is_synced_again, left) in [(false, [1, 2, 3, 4]), (true, [1, 7, 7, 4])] {
-        let mut disk = failing(alloc, 3)?;
-        put(&mut disk, 1, &[7, 7])?;
-        assert!(rt; disk.sync().is_err());
-        if is_synced_again {
-            disk.sync()?;
-        }
-        assert_eq!(rt; disk.into_inner().stop(&[])?.bytes(), left.as_slice());
-    }
-    Ok(())
+fn a_read_that_fails_is_not_passed_on(rt: HostRuntime) {
+    let mut disk = failing_once(&rt, rt.alloc(), &[1, 2, 3, 4], 1);
+    assert_pair(&rt, &mut disk, [1, 2]);
+    holds(&rt, pair(&mut disk).is_err());
+    assert_pair(&rt, &mut disk, [3, 4]);
+}
+
+// The bytes 1 to 4, after 07 07 at 1 and a sync that failed.
+fn not_synced(rt: &impl Abort, alloc: Global) -> FaultyDisk<MemoryDisk> {
+    let mut disk = failing_once(rt, alloc, &[1, 2, 3, 4], 3);
+    got(rt, put(&mut disk, 1, &[7, 7]));
+    holds(rt, disk.sync().is_err());
+    disk
+}
+
+#[test]
+fn a_sync_that_fails_is_not_passed_on(rt: HostRuntime) {
+    let disk = not_synced(&rt, rt.alloc());
+    assert_left(&rt, disk.into_inner(), &[], &[1, 2, 3, 4]);
+    let mut disk = not_synced(&rt, rt.alloc());
+    got(&rt, disk.sync());
+    assert_left(&rt, disk.into_inner(), &[], &[1, 7, 7, 4]);
 }

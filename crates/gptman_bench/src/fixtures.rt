@@ -5,6 +5,7 @@ ghost use Rattle.std.specs.Prelude.{◌≡◌, ◌<◌, IfOk};
 use crate::asserts::got;
 use gptman::{Disk, Edit, GPT, GPTHeader, GPTPartitionEntry, MemoryDisk, PartitionName, Result};
 use std::alloc::{AllocError, Global};
+use std::fmt::Debug;
 use std::io;
 use std::process::Abort;
 
@@ -123,6 +124,11 @@ pub(crate) fn answer<T>(
     }
 }
 
+/// The value as it is printed for debugging.
+pub(crate) fn printed(rt: &impl Abort, alloc: Global, value: &impl Debug) -> String {
+    got(rt, format!(in alloc; "{value:?}"))
+}
+
 /// Used entries with the numbers from 1 on, each with a GUID, a place and a name of its own.
 pub(crate) fn used_entries(alloc: Global, count: u32) -> Result<Vec<GPTPartitionEntry>> {
     let mut entries = Vec::new(alloc);
@@ -239,6 +245,19 @@ fn write_both(rt: &impl Abort, disk: &mut MemoryDisk, table: &GPT, entries: &[GP
             write_copy(rt, &mut header, disk, table.sector_size, entries),
         );
     }
+}
+
+/// The table that is read of an image of this one.
+pub(crate) fn reread(rt: &impl Abort, alloc: Global, table: &GPT) -> GPT {
+    let image = image_of(rt, alloc, table);
+    got(rt, read_with_sectors(alloc, &image, table.sector_size))
+}
+
+/// The bytes of a zero disk of so many bytes after the table was written to it.
+pub(crate) fn image_after(rt: &impl Abort, alloc: Global, table: &mut GPT, len: usize) -> Vec<u8> {
+    let mut disk = got(rt, disk_of(alloc, 0, len));
+    got(rt, write(rt, table, &mut disk));
+    got(rt, disk.bytes().to_vec(alloc))
 }
 
 /// That table with "Baz" under number 10, from 44 to 47.

@@ -1,100 +1,102 @@
 //! The protective MBR: its 66 bytes, the disks that are too short for it, and a disk that fails.
 
-use crate::asserts::assert_said;
-use crate::fixtures::{answer, are_all, disk_of, put};
+use crate::asserts::{assert_said, got, holds};
+use crate::fixtures::{are_all, disk_of, put};
+use crate::memory::fused;
 use gptman::{Fate, GPT, MemoryDisk};
 use std::alloc::Global;
 use std::process::Abort;
-use std::test::Fail;
 
 // The partition of a protective MBR on 100 sectors: 99 sectors from sector 1 on.
 const PARTITION: [u8; 16] = [
     0, 0, 2, 0, 0xee, 0xff, 0xff, 0xff, 1, 0, 0, 0, 0x63, 0, 0, 0,
 ];
 
+// That partition with another byte at this place.
+fn partition_with(at: usize, byte: u8) -> [u8; 16] {
+    let mut partition = PARTITION;
+    put(&mut partition, at, &[byte]);
+    partition
+}
+
 // So many bytes 2, with an MBR of this partition alone.
-fn image_with(alloc: Global, len: usize, partition: &[u8; 16]) -> gptman::Result<Vec<u8>> {
-    let mut image = vec![in alloc; 2; len]?;
+fn image_with(rt: &impl Abort, alloc: Global, len: usize, partition: &[u8; 16]) -> Vec<u8> {
+    let mut image = got(rt, vec![in alloc; 2; len]);
     put(&mut image, 446, partition);
     put(&mut image, 462, &[0; 48]);
     put(&mut image, 510, &[0x55, 0xaa]);
-    Ok(image)
+    image
 }
 
-// Writes one of the two, with sectors of 512 bytes.
-fn write(disk: &mut MemoryDisk, is_bootable: bool) -> gptman::Result<()> {
+// Writes one of the two, with sectors of this many bytes.
+fn write(
+    rt: &impl Abort,
+    disk: &mut MemoryDisk,
+    sector_size: u16,
+    is_bootable: bool,
+) -> gptman::Result<()> {
+    assert!(rt; 0 < sector_size);
     if is_bootable {
-        GPT::write_bootable_protective_mbr_into(disk, 512)
+        GPT::write_bootable_protective_mbr_into(disk, u64::from(sector_size))
     } else {
-        GPT::write_protective_mbr_into(disk, 512)
+        GPT::write_protective_mbr_into(disk, u64::from(sector_size))
     }
 }
 
-#[test]
-fn writing_protective_mbr(rt: HostRuntime) -> Result<(), Fail> {
-    let alloc = rt.alloc();
-    for sector_size in [512_u16, 4096] {
-        assert!(rt; 0 < sector_size);
-        let len = 100 * usize::from(sector_size);
-        let mut disk = disk_of(alloc, 2, len)?;
-        GPT::write_protective_mbr_into(&mut disk, u64::from(sector_size))?;
-        let wanted = image_with(alloc, len, &PARTITION)?;
-        assert!(rt; disk.bytes() == wanted.as_slice(), "at {sector_size}");
-    }
-    Ok(())
+// One of the two, written over so many bytes 2, is an MBR of this partition.
+fn assert_writes(
+    rt: &impl Abort,
+    alloc: Global,
+    (len, sector_size): (usize, u16),
+    is_bootable: bool,
+    partition: &[u8; 16],
+) {
+    let mut disk = got(rt, disk_of(alloc, 2, len));
+    got(rt, write(rt, &mut disk, sector_size, is_bootable));
+    let wanted = image_with(rt, alloc, len, partition);
+    assert!(rt; disk.bytes() == wanted.as_slice(), "{len} bytes");
 }
 
 #[test]
-fn a_bootable_mbr_differs_in_its_first_byte(rt: HostRuntime) -> Result<(), Fail> {
-    let alloc = rt.alloc();
-    let mut disk = disk_of(alloc, 2, 51_200)?;
-    GPT::write_bootable_protective_mbr_into(&mut disk, 512)?;
-    let mut partition = PARTITION;
-    partition[0] = 0x80;
-    let wanted = image_with(alloc, 51_200, &partition)?;
-    assert!(rt; disk.bytes() == wanted.as_slice());
-    Ok(())
+fn writing_protective_mbr(rt: HostRuntime) {
+    assert_writes(&rt, rt.alloc(), (51_200, 512), false, &PARTITION);
+    assert_writes(&rt, rt.alloc(), (409_600, 4096), false, &PARTITION);
 }
 
 #[test]
-fn whole_sectors_but_the_first_are_counted(rt: HostRuntime) -> Result<(), Fail> {
-    let alloc = rt.alloc();
+fn a_bootable_mbr_differs_in_its_first_byte(rt: HostRuntime) {
+    let partition = partition_with(0, 0x80);
+    assert_writes(&rt, rt.alloc(), (51_200, 512), true, &partition);
+}
+
+#[test]
+fn whole_sectors_but_the_first_are_counted(rt: HostRuntime) {
     for (len, count) in [(512, 0), (1023, 0), (1024, 1), (51_711, 99), (51_712, 100)] {
-        let mut disk = disk_of(alloc, 2, len)?;
-        GPT::write_protective_mbr_into(&mut disk, 512)?;
-        let mut partition = PARTITION;
-        partition[12] = count;
-        let wanted = image_with(alloc, len, &partition)?;
-        assert!(rt; disk.bytes() == wanted.as_slice(), "{len} bytes");
+        let partition = partition_with(12, count);
+        assert_writes(&rt, rt.alloc(), (len, 512), false, &partition);
     }
-    Ok(())
+}
+
+// A stop with these fates leaves no other bytes than 2.
+fn assert_left_as_it_was(rt: &impl Abort, disk: MemoryDisk, fates: &[Fate]) {
+    holds(rt, are_all(got(rt, disk.stop(fates)).bytes(), 2));
 }
 
 // Both writes are refused on a disk of so many bytes, which stays as it was.
-fn assert_too_short(
-    rt: &impl Abort,
-    alloc: Global,
-    len: usize,
-    sector_size: u16,
-    refusal: &str,
-) -> Result<(), Fail> {
-    assert!(rt; 0 < sector_size);
-    let size = u64::from(sector_size);
-    let mut disk = disk_of(alloc, 2, len)?;
-    let plain = GPT::write_protective_mbr_into(&mut disk, size);
-    assert_said(rt, alloc, &plain, refusal)?;
-    let bootable = GPT::write_bootable_protective_mbr_into(&mut disk, size);
-    assert_said(rt, alloc, &bootable, refusal)?;
-    let stopped = disk.stop(&[Fate::Garbage(7)])?;
-    assert!(rt; are_all(stopped.bytes(), 2), "{len} bytes");
-    Ok(())
+fn assert_too_short(rt: &impl Abort, alloc: Global, len: usize, sector_size: u16, refusal: &str) {
+    let mut disk = got(rt, disk_of(alloc, 2, len));
+    for is_bootable in [false, true] {
+        let outcome = write(rt, &mut disk, sector_size, is_bootable);
+        assert_said(rt, alloc, &outcome, refusal);
+    }
+    assert_left_as_it_was(rt, disk, &[Fate::Garbage(7)]);
 }
 
 #[test]
-fn a_disk_that_is_too_short_is_not_changed(rt: HostRuntime) -> Result<(), Fail> {
+fn a_disk_that_is_too_short_is_not_changed(rt: HostRuntime) {
     let (overflow, no_space) = ("an arithmetic operation overflowed", "no space left");
     let rows = [
-        (0, 512_u16, overflow),
+        (0, 512, overflow),
         (511, 512, overflow),
         (4095, 4096, overflow),
         (99, 100, overflow),
@@ -103,59 +105,65 @@ fn a_disk_that_is_too_short_is_not_changed(rt: HostRuntime) -> Result<(), Fail> 
         (511, 1, no_space),
     ];
     for (len, sector_size, refusal) in rows {
-        assert_too_short(&rt, rt.alloc(), len, sector_size, refusal)?;
+        assert_too_short(&rt, rt.alloc(), len, sector_size, refusal);
     }
-    Ok(())
 }
 
-// Writes an MBR over bytes that are all 2, on a disk that fails after so many calls. Of what is left
-// only the 66 bytes may differ, and they do once the write is done, which is answered.
-fn write_until(
-    rt: &impl Abort,
-    alloc: Global,
-    is_bootable: bool,
-    calls: u64,
-) -> Result<bool, Fail> {
-    let old = vec![in alloc; 2; 51_200]?;
-    let mut torn = old.clone()?;
-    put(&mut torn, 446, &[7; 66]);
-    let mut disk = MemoryDisk::with_fuse(alloc, old.clone()?, calls)?;
-    let said = answer(alloc, &write(&mut disk, is_bootable))?;
-    let is_done = said.as_str() == "ok";
-    assert!(rt;
-        is_done || said.as_str() == "generic I/O error",
-        "{calls} calls"
-    );
-    let stopped = disk.stop(&[Fate::Garbage(7)])?;
-    let left = stopped.bytes();
-    assert!(rt;
-        left == torn.as_slice() || !is_done && left == old.as_slice(),
-        "{calls} calls"
-    );
-    Ok(is_done)
+// 100 sectors of bytes 2, of which the 66 of an MBR are torn or not.
+fn image(rt: &impl Abort, alloc: Global, is_torn: bool) -> Vec<u8> {
+    let mut image = got(rt, vec![in alloc; 2; 51_200]);
+    if is_torn {
+        put(&mut image, 446, &[7; 66]);
+    }
+    image
 }
 
-#[test]
-fn a_disk_that_fails_keeps_all_other_bytes(rt: HostRuntime) -> Result<(), Fail> {
-    for is_bootable in [false, true] {
-        let mut is_done = false;
-        for calls in 0..8 {
-            if !is_done {
-                is_done = write_until(&rt, rt.alloc(), is_bootable, calls)?;
-            }
+// Whether the disk has these bytes.
+fn has_image(rt: &impl Abort, alloc: Global, disk: &MemoryDisk, is_torn: bool) -> bool {
+    disk.bytes() == image(rt, alloc, is_torn).as_slice()
+}
+
+// Of what is left by a stop only the 66 bytes may differ, and they do where the write was done.
+fn assert_torn(rt: &impl Abort, alloc: Global, disk: MemoryDisk, is_done: bool) {
+    let left = got(rt, disk.stop(&[Fate::Garbage(7)]));
+    let is_old = !is_done && has_image(rt, alloc, &left, false);
+    holds(rt, is_old || has_image(rt, alloc, &left, true));
+}
+
+// Writes an MBR over bytes that are all 2, on a disk that fails after so many calls and is stopped.
+// Answers whether it was done.
+fn write_until(rt: &impl Abort, alloc: Global, is_bootable: bool, calls: u64) -> bool {
+    let mut disk = fused(rt, alloc, &image(rt, alloc, false), calls);
+    let outcome = write(rt, &mut disk, 512, is_bootable);
+    let is_done = outcome.is_ok();
+    let said = if is_done { "ok" } else { "generic I/O error" };
+    assert_said(rt, alloc, &outcome, said);
+    assert_torn(rt, alloc, disk, is_done);
+    is_done
+}
+
+// The write is done within eight calls.
+fn write_at_last(rt: &impl Abort, alloc: Global, is_bootable: bool) {
+    let mut is_done = false;
+    for calls in 0..8 {
+        if !is_done {
+            is_done = write_until(rt, alloc, is_bootable, calls);
         }
-        assert!(rt; is_done);
     }
-    Ok(())
+    assert!(rt; is_done);
 }
 
 #[test]
-fn an_mbr_is_not_synced(rt: HostRuntime) -> Result<(), Fail> {
-    let alloc = rt.alloc();
+fn a_disk_that_fails_keeps_all_other_bytes(rt: HostRuntime) {
+    write_at_last(&rt, rt.alloc(), false);
+    write_at_last(&rt, rt.alloc(), true);
+}
+
+#[test]
+fn an_mbr_is_not_synced(rt: HostRuntime) {
     for is_bootable in [false, true] {
-        let mut disk = disk_of(alloc, 2, 51_200)?;
-        write(&mut disk, is_bootable)?;
-        assert!(rt; are_all(disk.stop(&[])?.bytes(), 2));
+        let mut disk = got(&rt, disk_of(rt.alloc(), 2, 51_200));
+        got(&rt, write(&rt, &mut disk, 512, is_bootable));
+        assert_left_as_it_was(&rt, disk, &[]);
     }
-    Ok(())
 }

@@ -1,25 +1,30 @@
 //! Names: their text, their 36 units, and what is left of the text once it was written and read.
 
+use crate::asserts::{got, holds};
 use gptman::{GPTPartitionEntry, PartitionName};
 use std::alloc::Global;
 use std::process::Abort;
-use std::test::Fail;
 
-// The name that an entry with this one has after it was written and read.
-fn read_back(alloc: Global, name: PartitionName) -> gptman::Result<PartitionName> {
+// The name of this text.
+fn name_of(rt: &impl Abort, alloc: Global, text: &str) -> PartitionName {
+    got(rt, PartitionName::new(alloc, text))
+}
+
+// The name that an entry with the one of this text has after it was written and read.
+fn read_back(rt: &impl Abort, alloc: Global, text: &str) -> PartitionName {
     let mut entry = GPTPartitionEntry::empty(alloc);
-    entry.partition_name = name;
-    Ok(GPTPartitionEntry::decode(alloc, &entry.encode())?.partition_name)
+    entry.partition_name = name_of(rt, alloc, text);
+    got(rt, GPTPartitionEntry::decode(alloc, &entry.encode())).partition_name
 }
 
 /// The name of an entry whose units are these, and then zeros.
-pub(crate) fn name_of_units(alloc: Global, first: &[u16]) -> gptman::Result<PartitionName> {
+pub(crate) fn name_of_units(rt: &impl Abort, alloc: Global, first: &[u16]) -> PartitionName {
     let mut bytes = [0; 128];
     let (_, units) = bytes.split_at_mut(56);
     for (pair, unit) in units.chunks_exact_mut(2).zip(first) {
         pair.copy_from_slice(&unit.to_le_bytes());
     }
-    Ok(GPTPartitionEntry::decode(alloc, &bytes)?.partition_name)
+    got(rt, GPTPartitionEntry::decode(alloc, &bytes)).partition_name
 }
 
 /// These units, and then zeros.
@@ -34,57 +39,55 @@ pub(crate) fn padded(first: &[u16]) -> [u16; 36] {
 // A name one letter longer than an entry holds.
 const LETTERS: &str = "aaaaaaaaaaaaaaaaaaaaaaaaaaaaaaaaaaaaa";
 
-// The name has this text, and these units and then zeros.
-fn assert_name(rt: &impl Abort, name: &PartitionName, text: &str, first: &[u16]) {
-    assert_eq!(rt; name.as_str(), text);
-    assert_eq!(rt; *name.units(), padded(first), "of {text}");
+// Whether the name has this text, and these units and then zeros.
+fn has_units(name: &PartitionName, text: &str, first: &[u16]) -> bool {
+    name.as_str() == text && *name.units() == padded(first)
 }
 
 #[test]
-fn a_name_is_cut_at_36_units_where_it_is_read_back(rt: HostRuntime) -> Result<(), Fail> {
-    let alloc = rt.alloc();
-    let name = PartitionName::new(alloc, LETTERS)?;
-    assert_name(&rt, &name, LETTERS, &[0x61; 36]);
+fn a_name_is_cut_at_36_units_where_it_is_read_back(rt: HostRuntime) {
     let cut = "aaaaaaaaaaaaaaaaaaaaaaaaaaaaaaaaaaaa";
-    assert_name(&rt, &read_back(alloc, name)?, cut, &[0x61; 36]);
-    assert_eq!(rt; (LETTERS.len(), cut.len()), (37, 36));
-    Ok(())
+    let name = name_of(&rt, rt.alloc(), LETTERS);
+    holds(&rt, has_units(&name, LETTERS, &[0x61; 36]));
+    let read = read_back(&rt, rt.alloc(), LETTERS);
+    holds(&rt, has_units(&read, cut, &[0x61; 36]));
+    holds(&rt, LETTERS.len() == 37 && cut.len() == 36);
 }
 
-// The units of the name from this one on.
-fn assert_ends(rt: &impl Abort, name: &PartitionName, from: usize, units: &[u16]) {
-    assert_eq!(rt; name.units().get(from..), Some(units));
-}
-
-#[test]
-fn a_pair_of_surrogates_may_end_a_name(rt: HostRuntime) -> Result<(), Fail> {
-    let alloc = rt.alloc();
-    let whole = PartitionName::new(alloc, "aaaaaaaaaaaaaaaaaaaaaaaaaaaaaaaaaa\u{1f600}")?;
-    assert_ends(&rt, &whole, 33, &[0x61, 0xd83d, 0xde00]);
-    assert_same(&rt, &read_back(alloc, whole.clone()?)?, &whole);
-    Ok(())
+// Whether the name has this text, and these as its last units.
+fn has_last_units(name: &PartitionName, text: &str, last: &[u16]) -> bool {
+    name.as_str() == text && name.units().ends_with(last)
 }
 
 #[test]
-fn a_pair_of_surrogates_may_be_cut_in_two(rt: HostRuntime) -> Result<(), Fail> {
-    let alloc = rt.alloc();
-    let cut = PartitionName::new(alloc, "aaaaaaaaaaaaaaaaaaaaaaaaaaaaaaaaaaa\u{1f600}")?;
-    assert_ends(&rt, &cut, 34, &[0x61, 0xd83d]);
-    let name = read_back(alloc, cut)?;
-    assert_eq!(rt;
-        name.as_str(),
-        "aaaaaaaaaaaaaaaaaaaaaaaaaaaaaaaaaaa\u{fffd}"
-    );
-    assert_ends(&rt, &name, 34, &[0x61, 0xd83d]);
-    Ok(())
+fn a_pair_of_surrogates_may_end_a_name(rt: HostRuntime) {
+    let text = "aaaaaaaaaaaaaaaaaaaaaaaaaaaaaaaaaa\u{1f600}";
+    let whole = name_of(&rt, rt.alloc(), text);
+    holds(&rt, has_last_units(&whole, text, &[0x61, 0xd83d, 0xde00]));
+    holds(&rt, read_back(&rt, rt.alloc(), text) == whole);
 }
 
 #[test]
-fn the_text_of_units_ends_at_the_first_zero(rt: HostRuntime) -> Result<(), Fail> {
-    let alloc = rt.alloc();
+fn a_pair_of_surrogates_may_be_cut_in_two(rt: HostRuntime) {
+    let text = "aaaaaaaaaaaaaaaaaaaaaaaaaaaaaaaaaaa\u{1f600}";
+    let name = name_of(&rt, rt.alloc(), text);
+    holds(&rt, has_last_units(&name, text, &[0x61, 0xd83d]));
+    let cut = "aaaaaaaaaaaaaaaaaaaaaaaaaaaaaaaaaaa\u{fffd}";
+    let read = read_back(&rt, rt.alloc(), text);
+    holds(&rt, has_last_units(&read, cut, &[0x61, 0xd83d]));
+}
+
+// The name of an entry with these units, and then zeros, has them and this text.
+fn assert_text(rt: &impl Abort, alloc: Global, first: &[u16], text: &str) {
+    let name = name_of_units(rt, alloc, first);
+    assert!(rt; has_units(&name, text, first), "of {text}");
+}
+
+#[test]
+fn the_text_of_units_ends_at_the_first_zero(rt: HostRuntime) {
     let units = [0x61, 0x62, 0, 0x63, 0x64];
-    let name = PartitionName::new(alloc, "ab\0cd")?;
-    assert_name(&rt, &read_back(alloc, name)?, "ab", &units);
+    let read = read_back(&rt, rt.alloc(), "ab\0cd");
+    holds(&rt, has_units(&read, "ab", &units));
     let rows: [(&[u16], &str); 4] = [
         (&units, "ab"),
         (&[0x46, 0x6f, 0x6f], "Foo"),
@@ -92,48 +95,42 @@ fn the_text_of_units_ends_at_the_first_zero(rt: HostRuntime) -> Result<(), Fail>
         (&[0xd83d, 0xde00], "\u{1f600}"),
     ];
     for (first, text) in rows {
-        assert_name(&rt, &name_of_units(alloc, first)?, text, first);
+        assert_text(&rt, rt.alloc(), first, text);
     }
-    Ok(())
+}
+
+// The name as it is formatted with a width, to the right and between stars.
+fn formatted(rt: &impl Abort, alloc: Global, name: &PartitionName) -> String {
+    got(rt, format!(in alloc; "{name:>8}|{name:*^9}|"))
 }
 
 #[test]
-fn a_name_is_shown_as_its_text_alone(rt: HostRuntime) -> Result<(), Fail> {
-    let alloc = rt.alloc();
-    let name = PartitionName::new(alloc, "Foo")?;
-    assert_eq!(rt; name.to_string(alloc)?.as_str(), "Foo");
-    let shown = format!(in alloc; "{name:>8}|{name:*^9}|")?;
-    assert_eq!(rt; shown.as_str(), "Foo|Foo|");
-    Ok(())
+fn a_name_is_shown_as_its_text_alone(rt: HostRuntime) {
+    let name = name_of(&rt, rt.alloc(), "Foo");
+    let text = got(&rt, name.to_string(rt.alloc()));
+    holds(&rt, text.as_str() == "Foo");
+    let shown = formatted(&rt, rt.alloc(), &name);
+    holds(&rt, shown.as_str() == "Foo|Foo|");
 }
 
-// The two names are equal.
-fn assert_same(rt: &impl Abort, name: &PartitionName, other: &PartitionName) {
-    assert_eq!(rt; name, other);
-}
-
-// The two names are not equal.
-fn assert_differ(rt: &impl Abort, name: &PartitionName, other: &PartitionName) {
-    assert_ne!(rt; name, other);
+// Whether the name equals the one of this text.
+fn is_name_of(rt: &impl Abort, alloc: Global, name: &PartitionName, text: &str) -> bool {
+    *name == name_of(rt, alloc, text)
 }
 
 #[test]
-fn names_are_equal_where_text_and_units_are(rt: HostRuntime) -> Result<(), Fail> {
-    let alloc = rt.alloc();
-    let name = PartitionName::new(alloc, "ab")?;
-    assert_same(&rt, &name, &PartitionName::new(alloc, "ab")?);
-    assert_same(&rt, &name, &name.clone()?);
-    assert_differ(&rt, &name, &PartitionName::new(alloc, "ac")?);
-    Ok(())
+fn names_are_equal_where_text_and_units_are(rt: HostRuntime) {
+    let name = name_of(&rt, rt.alloc(), "ab");
+    holds(&rt, is_name_of(&rt, rt.alloc(), &name, "ab"));
+    holds(&rt, name == got(&rt, name.clone()));
+    holds(&rt, !is_name_of(&rt, rt.alloc(), &name, "ac"));
 }
 
 #[test]
-fn names_of_one_text_differ_where_their_units_do(rt: HostRuntime) -> Result<(), Fail> {
-    let alloc = rt.alloc();
-    let name = name_of_units(alloc, &[0x61, 0x62, 0, 0x63])?;
-    assert_eq!(rt; name.as_str(), "ab");
-    assert_differ(&rt, &name, &PartitionName::new(alloc, "ab")?);
-    let longer = PartitionName::new(alloc, LETTERS)?;
-    assert_differ(&rt, &read_back(alloc, longer.clone()?)?, &longer);
-    Ok(())
+fn names_of_one_text_differ_where_their_units_do(rt: HostRuntime) {
+    let name = name_of_units(&rt, rt.alloc(), &[0x61, 0x62, 0, 0x63]);
+    holds(&rt, name.as_str() == "ab");
+    holds(&rt, !is_name_of(&rt, rt.alloc(), &name, "ab"));
+    let read = read_back(&rt, rt.alloc(), LETTERS);
+    holds(&rt, !is_name_of(&rt, rt.alloc(), &read, LETTERS));
 }

@@ -1,9 +1,11 @@
 //! A plain reader of byte lists, slow and written from the format alone: a bit of the checksum at a
 //! time, one field after the other. What it says is held against what the library reads.
 
-use gptman::{Error, GPT, MemoryDisk};
+use crate::asserts::got;
+use crate::fixtures::read_with_sectors;
+use gptman::{Error, GPT};
 use std::alloc::Global;
-use std::test::Fail;
+use std::process::Abort;
 
 // So many bytes from this one on, where there are so many.
 fn part(bytes: &[u8], at: u128, len: u128) -> Option<&[u8]> {
@@ -123,53 +125,84 @@ fn backup_place(bytes: &[u8], sector_size: u64) -> Option<u64> {
 }
 
 // What a reading says: the header and entries that it takes, or its fault.
-fn expected(alloc: Global, bytes: &[u8], sector_size: u64) -> Result<String, Fail> {
-    let Some(primary) = copy_fault(bytes, sector_size, sector_size) else {
-        return taken(alloc, bytes, sector_size, sector_size);
-    };
-    let Some(place) = backup_place(bytes, sector_size) else {
-        return Ok(Error::InvalidSignature.to_string(alloc)?);
-    };
-    let Some(backup) = copy_fault(bytes, place, sector_size) else {
-        return taken(alloc, bytes, place, sector_size);
-    };
-    if matches!(primary, Error::InvalidSignature) && matches!(backup, Error::InvalidSignature) {
-        return Ok(Error::InvalidSignature.to_string(alloc)?);
+fn expected(rt: &impl Abort, alloc: Global, bytes: &[u8], sector_size: u64) -> String {
+    match copy_fault(bytes, sector_size, sector_size) {
+        None => taken(rt, alloc, bytes, sector_size, sector_size),
+        Some(primary) => fallback(rt, alloc, bytes, sector_size, &primary),
     }
-    Ok(format!(in alloc; "could not read primary header ({primary}) nor backup header ({backup})")?)
+}
+
+// The same where the primary copy has this fault.
+fn fallback(
+    rt: &impl Abort,
+    alloc: Global,
+    bytes: &[u8],
+    sector_size: u64,
+    primary: &Error,
+) -> String {
+    let Some(place) = backup_place(bytes, sector_size) else {
+        return got(rt, Error::InvalidSignature.to_string(alloc));
+    };
+    match copy_fault(bytes, place, sector_size) {
+        None => taken(rt, alloc, bytes, place, sector_size),
+        Some(backup) => two_faults(rt, alloc, primary, &backup),
+    }
+}
+
+// What is said of the faults of both copies.
+fn two_faults(rt: &impl Abort, alloc: Global, primary: &Error, backup: &Error) -> String {
+    if matches!(primary, Error::InvalidSignature) && matches!(backup, Error::InvalidSignature) {
+        return got(rt, Error::InvalidSignature.to_string(alloc));
+    }
+    let said = format!(in alloc;
+        "could not read primary header ({primary}) nor backup header ({backup})"
+    );
+    got(rt, said)
 }
 
 // The bytes of the copy at this byte, as text.
-fn taken(alloc: Global, bytes: &[u8], at: u64, sector_size: u64) -> Result<String, Fail> {
+fn taken(rt: &impl Abort, alloc: Global, bytes: &[u8], at: u64, sector_size: u64) -> String {
     let header = part(bytes, u128::from(at), 92).unwrap_or_default();
     let start = u128::from(number(header.get(72..80).unwrap_or_default()))
         * u128::from(sector_size);
     let count = u128::from(number(header.get(80..84).unwrap_or_default()));
     let entries = part(bytes, start, 128 * count).unwrap_or_default();
-    let mut text = hex::encode(alloc, header)?;
-    text.push_str(hex::encode(alloc, entries)?.as_str())?;
-    Ok(text)
+    let mut text = got(rt, hex::encode(alloc, header));
+    push_hex(rt, alloc, &mut text, entries);
+    text
+}
+
+// Puts the bytes as text behind this one.
+fn push_hex(rt: &impl Abort, alloc: Global, text: &mut String, bytes: &[u8]) {
+    let more = got(rt, hex::encode(alloc, bytes));
+    got(rt, text.push_str(more.as_str()));
+}
+
+// The header and the entries of the table, in the same words.
+fn shown(rt: &impl Abort, alloc: Global, table: &GPT) -> String {
+    let mut text = got(rt, hex::encode(alloc, table.header.encode()));
+    for (_, entry) in table.iter() {
+        push_hex(rt, alloc, &mut text, &entry.encode());
+    }
+    text
 }
 
 // What the library reads, in the same words.
-fn read(alloc: Global, bytes: &[u8], sector_size: u64) -> Result<String, Fail> {
-    let mut disk = MemoryDisk::new(alloc, bytes.to_vec(alloc)?)?;
-    if sector_size == 0 {
-        return Err(Fail::new("there are no sectors of no bytes"));
+fn read(rt: &impl Abort, alloc: Global, bytes: &[u8], sector_size: u64) -> String {
+    match read_with_sectors(alloc, bytes, sector_size) {
+        Ok(table) => shown(rt, alloc, &table),
+        Err(error) => got(rt, error.to_string(alloc)),
     }
-    let table = match GPT::read_from(alloc, &mut disk, sector_size) {
-        Ok(table) => table,
-        Err(error) => return Ok(error.to_string(alloc)?),
-    };
-    let mut text = hex::encode(alloc, table.header.encode())?;
-    for (_, entry) in table.iter() {
-        text.push_str(hex::encode(alloc, entry.encode())?.as_str())?;
-    }
-    Ok(text)
 }
 
-/// Whether the library reads these bytes as the plain reader does.
-pub(crate) fn is_read_alike(alloc: Global, bytes: &[u8], sector_size: u64) -> Result<bool, Fail> {
-    let wanted = expected(alloc, bytes, sector_size)?;
-    Ok(read(alloc, bytes, sector_size)?.as_str() == wanted.as_str())
+/// Whether the library reads these bytes, of which a sector has some, as the plain reader does.
+pub(crate) fn is_read_alike(
+    rt: &impl Abort,
+    alloc: Global,
+    bytes: &[u8],
+    sector_size: u64,
+) -> bool {
+    assert!(rt; sector_size > 0);
+    let wanted = expected(rt, alloc, bytes, sector_size);
+    read(rt, alloc, bytes, sector_size).as_str() == wanted.as_str()
 }

@@ -1,147 +1,145 @@
 //! Tests of the Rust crate on writing, each under its own name, over disks made from numbers.
 
-use crate::asserts::{assert_boundaries, assert_bounds, assert_said, bounds_of, places_of};
-use crate::fixtures::{
-    complement, disk_1, disk_2, disk_of, image_of, partition, read_image, read_with_sectors, write,
+use crate::asserts::{
+    assert_boundaries, assert_bounds, assert_said, bounds_of, got, holds, places_of,
 };
-use gptman::{Edit, GPT, MemoryDisk};
+use crate::fixtures::{
+    complement, disk_1, disk_2, disk_of, image_after, image_of, partition, read_image,
+    read_with_sectors, reread, write,
+};
+use gptman::{Edit, GPT, GPTHeader, MemoryDisk};
 use std::alloc::Global;
 use std::process::Abort;
-use std::test::Fail;
 
-// The bytes of a zero disk of so many bytes after the table was written to it.
-fn image_after(alloc: Global, table: &mut GPT, len: usize) -> Result<Vec<u8>, Fail> {
-    let mut disk = disk_of(alloc, 0, len)?;
-    write(table, &mut disk)??;
-    Ok(disk.bytes().to_vec(alloc)?)
+// Complements the first byte of the primary header in the image of the table.
+fn break_primary(image: &mut [u8], table: &GPT) {
+    complement(image, table.sector_size.min(4096) as usize);
 }
 
-// The table is read from the image as it was, in primary form, and in backup form where its primary
-// copy is broken.
-fn assert_both(rt: &impl Abort, alloc: Global, image: &mut [u8], table: &GPT) -> Result<(), Fail> {
-    let sector_size = table.sector_size.min(4096);
-    let written = read_with_sectors(alloc, image, sector_size)?;
-    assert_eq!(rt; written.header, table.header);
-    assert!(rt; written.iter().eq(table.iter()));
-    complement(image, sector_size as usize);
-    let backup = read_with_sectors(alloc, image, sector_size)?;
-    let header = &backup.header;
-    assert_eq!(rt; (header.primary_lba, header.backup_lba), (99, 1));
-    assert!(rt; backup.iter().eq(table.iter()));
-    Ok(())
+// The image is read as this header and the table's entries.
+fn assert_reads(rt: &impl Abort, alloc: Global, image: &[u8], header: &GPTHeader, table: &GPT) {
+    let read = got(rt, read_with_sectors(alloc, image, table.sector_size));
+    assert!(rt; read.header == *header, "at {}", header.primary_lba);
+    assert!(rt; read.iter().eq(table.iter()), "at {}", header.primary_lba);
 }
 
-// The table is written to a zero image, and read back so.
-fn assert_written(rt: &impl Abort, alloc: Global, mut table: GPT) -> Result<(), Fail> {
+// The two headers of a table, with the primary one as the first.
+fn in_order(own: GPTHeader, other: GPTHeader) -> (GPTHeader, GPTHeader) {
+    if own.primary_lba == 1 {
+        (own, other)
+    } else {
+        (other, own)
+    }
+}
+
+// The image is read with the primary header, and with the backup one where the primary copy is broken:
+// the table's own, and the other one.
+fn assert_both(rt: &impl Abort, alloc: Global, mut image: Vec<u8>, table: &GPT, other: GPTHeader) {
+    let (primary, backup) = in_order(table.header, other);
+    holds(rt, places_of(&primary) == (1, 99, 2));
+    holds(rt, backup.primary_lba == 99 && backup.backup_lba == 1);
+    assert_reads(rt, alloc, &image, &primary, table);
+    break_primary(&mut image, table);
+    assert_reads(rt, alloc, &image, &backup, table);
+}
+
+// The table is written to a zero disk, and read back with its own header and that which was answered.
+fn assert_written(rt: &impl Abort, alloc: Global, mut table: GPT) {
     let len = 100 * table.sector_size.min(4096) as usize;
-    let mut image = image_after(alloc, &mut table, len)?;
-    assert_both(rt, alloc, &mut image, &table)
+    let mut disk = got(rt, disk_of(alloc, 0, len));
+    let other = got(rt, write(rt, &mut table, &mut disk));
+    let image = got(rt, disk.bytes().to_vec(alloc));
+    assert_both(rt, alloc, image, &table, other);
 }
 
 #[test]
-fn write_from_primary(rt: HostRuntime) -> Result<(), Fail> {
-    let alloc = rt.alloc();
-    assert_written(&rt, alloc, disk_1(alloc)?)?;
-    assert_written(&rt, alloc, disk_2(alloc)?)
+fn write_from_primary(rt: HostRuntime) {
+    assert_written(&rt, rt.alloc(), got(&rt, disk_1(rt.alloc())));
+    assert_written(&rt, rt.alloc(), got(&rt, disk_2(rt.alloc())));
 }
 
-// The table with another GUID and without its first entry.
-fn changed(mut table: GPT) -> gptman::Result<GPT> {
-    table.apply(Edit::DiskGuid([7; 16]))?;
-    table.apply(Edit::Remove(1))?;
-    Ok(table)
+// The table with another GUID and without its first entry is written so.
+fn assert_changed_written(rt: &impl Abort, alloc: Global, mut table: GPT) {
+    got(rt, table.apply(Edit::DiskGuid([7; 16])));
+    got(rt, table.apply(Edit::Remove(1)));
+    assert_written(rt, alloc, table);
 }
 
 #[test]
-fn write_with_changes(rt: HostRuntime) -> Result<(), Fail> {
-    let alloc = rt.alloc();
-    assert_written(&rt, alloc, changed(disk_1(alloc)?)?)?;
-    assert_written(&rt, alloc, changed(disk_2(alloc)?)?)
+fn write_with_changes(rt: HostRuntime) {
+    assert_changed_written(&rt, rt.alloc(), got(&rt, disk_1(rt.alloc())));
+    assert_changed_written(&rt, rt.alloc(), got(&rt, disk_2(rt.alloc())));
 }
 
 // The table as it is read of an image of it whose primary copy is broken.
-fn read_backup(alloc: Global, table: &GPT) -> Result<GPT, Fail> {
-    let sector_size = table.sector_size.min(4096);
-    let mut image = image_of(alloc, table)?;
-    complement(&mut image, sector_size as usize);
-    Ok(read_with_sectors(alloc, &image, sector_size)?)
-}
-
-// The table in backup form is written to a zero disk. What is read has the header that was answered,
-// and the table's own where the primary copy is broken.
-fn assert_written_from_backup(rt: &impl Abort, alloc: Global, mut table: GPT) -> Result<(), Fail> {
-    let sector_size = table.sector_size.min(4096);
-    let mut disk = disk_of(alloc, 0, 100 * sector_size as usize)?;
-    let primary = write(&mut table, &mut disk)??;
-    assert_eq!(rt; places_of(&primary), (1, 99, 2));
-    let mut image = disk.bytes().to_vec(alloc)?;
-    let written = read_with_sectors(alloc, &image, sector_size)?;
-    assert_eq!(rt; written.header, primary);
-    assert!(rt; written.iter().eq(table.iter()));
-    complement(&mut image, sector_size as usize);
-    assert_eq!(rt;
-        read_with_sectors(alloc, &image, sector_size)?.header,
-        table.header
-    );
-    Ok(())
+fn read_backup(rt: &impl Abort, alloc: Global, table: &GPT) -> GPT {
+    let mut image = image_of(rt, alloc, table);
+    break_primary(&mut image, table);
+    got(rt, read_with_sectors(alloc, &image, table.sector_size))
 }
 
 // The table is read from its backup copy, which has its entries from this sector on, and written.
-fn assert_backup(rt: &impl Abort, alloc: Global, table: &GPT, entries_at: u64) -> Result<(), Fail> {
-    let backup = read_backup(alloc, table)?;
-    assert_eq!(rt; backup.header.partition_entry_lba, entries_at);
-    assert!(rt; backup.iter().eq(table.iter()));
-    assert_written_from_backup(rt, alloc, backup)
+fn assert_backup(rt: &impl Abort, alloc: Global, table: &GPT, entries_at: u64) {
+    let backup = read_backup(rt, alloc, table);
+    holds(rt, places_of(&backup.header) == (99, 1, entries_at));
+    holds(rt, backup.iter().eq(table.iter()));
+    assert_written(rt, alloc, backup);
 }
 
 #[test]
-fn write_from_backup(rt: HostRuntime) -> Result<(), Fail> {
-    let alloc = rt.alloc();
-    assert_backup(&rt, alloc, &disk_1(alloc)?, 67)?;
-    assert_backup(&rt, alloc, &disk_2(alloc)?, 95)
+fn write_from_backup(rt: HostRuntime) {
+    let first = got(&rt, disk_1(rt.alloc()));
+    assert_backup(&rt, rt.alloc(), &first, 67);
+    let second = got(&rt, disk_2(rt.alloc()));
+    assert_backup(&rt, rt.alloc(), &second, 95);
 }
 
-// Entry 1 from and to these sectors, on disk 1.
-fn with_entry_1(alloc: Global, sectors: (u64, u64)) -> Result<GPT, Fail> {
-    let mut table = disk_1(alloc)?;
-    let foo = partition(alloc, "Foo", [0x0b; 16], sectors.0, sectors.1)?;
-    table.apply(Edit::Put(1, foo))?;
-    Ok(table)
+// What the write of disk 1 with its entry 1 from and to these sectors answers.
+fn write_with_foo(
+    rt: &impl Abort,
+    alloc: Global,
+    sectors: (u64, u64),
+) -> gptman::Result<GPTHeader> {
+    let mut table = got(rt, disk_1(alloc));
+    let foo = got(
+        rt,
+        partition(alloc, "Foo", [0x0b; 16], sectors.0, sectors.1),
+    );
+    got(rt, table.apply(Edit::Put(1, foo)));
+    let mut disk = got(rt, disk_of(alloc, 0, 51_200));
+    write(rt, &mut table, &mut disk)
 }
 
 #[test]
-fn write_invalid_boundaries(rt: HostRuntime) -> Result<(), Fail> {
-    let alloc = rt.alloc();
+fn write_invalid_boundaries(rt: HostRuntime) {
     for sectors in [(33, 43), (34, 33), (34, 48), (53, 67)] {
-        let mut disk = disk_of(alloc, 0, 51_200)?;
-        let outcome = write(&mut with_entry_1(alloc, sectors)?, &mut disk)?;
-        assert_boundaries(&rt, alloc, &outcome)?;
+        let outcome = write_with_foo(&rt, rt.alloc(), sectors);
+        assert_boundaries(&rt, rt.alloc(), &outcome);
     }
-    let mut disk = disk_of(alloc, 0, 51_200)?;
-    let outcome = write(&mut with_entry_1(alloc, (34, 43))?, &mut disk)?;
-    assert_said(&rt, alloc, &outcome, "ok")
+    let outcome = write_with_foo(&rt, rt.alloc(), (34, 43));
+    assert_said(&rt, rt.alloc(), &outcome, "ok");
 }
 
 // A new table for an image of this one has its bounds.
-fn assert_fitted(rt: &impl Abort, alloc: Global, table: &GPT) -> Result<(), Fail> {
-    let mut disk = MemoryDisk::new(alloc, image_of(alloc, table)?)?;
-    let new = GPT::new_from(alloc, &mut disk, table.sector_size.max(1), [0xff; 16])?;
+fn assert_fitted(rt: &impl Abort, alloc: Global, table: &GPT) {
+    let image = image_of(rt, alloc, table);
+    let mut disk = got(rt, MemoryDisk::new(alloc, image));
+    let size = table.sector_size.max(1);
+    let new = got(rt, GPT::new_from(alloc, &mut disk, size, [0xff; 16]));
     assert_bounds(rt, &new.header, bounds_of(&table.header));
-    Ok(())
 }
 
 #[test]
-fn create_new_gpt(rt: HostRuntime) -> Result<(), Fail> {
-    let alloc = rt.alloc();
-    assert_fitted(&rt, alloc, &disk_1(alloc)?)?;
-    assert_fitted(&rt, alloc, &disk_2(alloc)?)
+fn create_new_gpt(rt: HostRuntime) {
+    let first = got(&rt, disk_1(rt.alloc()));
+    assert_fitted(&rt, rt.alloc(), &first);
+    let second = got(&rt, disk_2(rt.alloc()));
+    assert_fitted(&rt, rt.alloc(), &second);
 }
 
 #[test]
-fn read_from_smaller_disk_and_write_to_bigger_disk(rt: HostRuntime) -> Result<(), Fail> {
-    let alloc = rt.alloc();
-    let mut table = read_image(alloc, &image_of(alloc, &disk_1(alloc)?)?)?;
-    let image = image_after(alloc, &mut table, 102_400)?;
-    assert_eq!(rt; read_image(alloc, &image)?, table);
-    Ok(())
+fn read_from_smaller_disk_and_write_to_bigger_disk(rt: HostRuntime) {
+    let mut table = reread(&rt, rt.alloc(), &got(&rt, disk_1(rt.alloc())));
+    let image = image_after(&rt, rt.alloc(), &mut table, 102_400);
+    holds(&rt, got(&rt, read_image(rt.alloc(), &image)) == table);
 }

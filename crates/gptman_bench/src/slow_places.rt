@@ -2,12 +2,12 @@
 //! one by one. What it finds is held against what the library finds, for all tables of up to two used
 //! entries over the sectors from 0 to 12, and for some of three.
 
+use crate::asserts::got;
 use crate::fixtures::{DISK_GUID, disk_of, read_image, write_copy};
-use crate::searches::{first_place, free_sectors, last_place, maximum_size, optimal_place};
-use gptman::{GPT, GPTHeader, GPTPartitionEntry};
-use std::alloc::{AllocError, Global};
+use crate::searches::{Search, free_sectors, maximum_size, place_by};
+use gptman::{GPT, GPTHeader, GPTPartitionEntry, MemoryDisk};
+use std::alloc::Global;
 use std::process::Abort;
-use std::test::Fail;
 
 /// The last sector of all cases.
 pub(crate) const LAST: u64 = 12;
@@ -28,26 +28,41 @@ fn covers(sectors: Sectors, sector: u64) -> bool {
 
 // Whether the sector may be given to a new entry.
 fn is_free(bounds: (u64, u64), used: &[Sectors], sector: u64) -> bool {
-    sector >= 1
-        && bounds.0 <= sector
-        && sector <= bounds.1
-        && !used.iter().any(|sectors| covers(*sectors, sector))
+    for sectors in used {
+        if covers(*sectors, sector) {
+            return false;
+        }
+    }
+    sector >= 1 && bounds.0 <= sector && sector <= bounds.1
 }
 
-// How many sectors are free without a gap, from each one on.
+// How many sectors are free without a gap, from this one on.
+fn run_from(bounds: (u64, u64), used: &[Sectors], sector: u64) -> u64 {
+    let mut run = 0_u64;
+    for it in sector..=LAST {
+        if !is_free(bounds, used, it) {
+            break;
+        }
+        run = run.saturating_add(1);
+    }
+    run
+}
+
+// The same, from each sector on.
 fn free_runs(bounds: (u64, u64), used: &[Sectors]) -> [u64; 13] {
     let mut runs = [0; 13];
     for (sector, run) in (0..=LAST).zip(&mut runs) {
-        let free = (sector..=LAST).take_while(|it| is_free(bounds, used, *it));
-        *run = free.count() as u64;
+        *run = run_from(bounds, used, sector);
     }
     runs
 }
 
 // Whether so many sectors are free from this one on, which is a multiple of the alignment.
 fn is_place(runs: &[u64], align: u64, size: u64, sector: u64) -> bool {
-    sector.checked_rem(align) == Some(0)
-        && runs.get(sector as usize).is_some_and(|run| *run >= size)
+    match runs.get(sector as usize) {
+        Some(run) => *run >= size && sector.checked_rem(align) == Some(0),
+        None => false,
+    }
 }
 
 // Whether the sector is free, and the first multiple of the alignment in its run.
@@ -64,41 +79,47 @@ fn starts_slot(runs: &[u64], align: u64, sector: u64) -> bool {
 }
 
 // All aligned slots, each by its start and its length.
-fn slots(alloc: Global, runs: &[u64], align: u64) -> Result<Vec<(u64, u64)>, AllocError> {
+fn slots(rt: &impl Abort, alloc: Global, runs: &[u64], align: u64) -> Vec<(u64, u64)> {
     let mut slots = Vec::new(alloc);
     for (sector, run) in (0..=LAST).zip(runs) {
         if starts_slot(runs, align, sector) {
-            slots.push((sector, *run))?;
+            got(rt, slots.push((sector, *run)));
         }
     }
-    Ok(slots)
+    slots
 }
 
 // The least place.
 fn least(runs: &[u64], align: u64, size: u64) -> Option<u64> {
-    (0..=LAST).find(|sector| is_place(runs, align, size, *sector))
+    for sector in 0..=LAST {
+        if is_place(runs, align, size, sector) {
+            return Some(sector);
+        }
+    }
+    None
 }
 
 // The greatest place.
 fn greatest(runs: &[u64], align: u64, size: u64) -> Option<u64> {
-    (0..=LAST)
-        .rev()
-        .find(|sector| is_place(runs, align, size, *sector))
+    for sector in (0..=LAST).rev() {
+        if is_place(runs, align, size, sector) {
+            return Some(sector);
+        }
+    }
+    None
 }
 
 // The start of the shortest slot that is long enough, and of the first of equals.
 fn shortest(slots: &[(u64, u64)], size: u64) -> Option<u64> {
     let mut best = None;
+    let mut least = u64::MAX;
     for (start, length) in slots {
-        let is_shorter = match best {
-            Some((_, other)) => *length < other,
-            None => true,
-        };
-        if *length >= size && is_shorter {
-            best = Some((*start, *length));
+        if *length >= size && (best.is_none() || *length < least) {
+            best = Some(*start);
+            least = *length;
         }
     }
-    best.map(|(start, _)| start)
+    best
 }
 
 // The greatest multiple of the alignment up to this length.
@@ -114,49 +135,40 @@ fn multiple_up_to(align: u64, length: u64) -> u64 {
 
 // The greatest multiple of the alignment that fits into a slot.
 fn longest(slots: &[(u64, u64)], align: u64) -> Option<u64> {
-    slots
-        .iter()
-        .map(|(_, length)| multiple_up_to(align, *length))
-        .max()
+    let mut longest = None;
+    for (_, length) in slots {
+        longest = longest.max(Some(multiple_up_to(align, *length)));
+    }
+    longest
 }
 
 // The table's three places for this size are those of the plain search.
-fn assert_places(
-    rt: &impl Abort,
-    table: &GPT,
-    runs: &[u64],
-    slots: &[(u64, u64)],
-    size: u64,
-) -> Result<(), Fail> {
+fn assert_places(rt: &impl Abort, table: &GPT, runs: &[u64], slots: &[(u64, u64)], size: u64) {
     let (align, sectors) = (table.align, size.max(1));
     let found = [
-        first_place(table, size)?,
-        last_place(table, size)?,
-        optimal_place(table, size)?,
+        place_by(rt, Search::First, table, size),
+        place_by(rt, Search::Last, table, size),
+        place_by(rt, Search::Optimal, table, size),
     ];
     let wanted = [
         least(runs, align, sectors),
         greatest(runs, align, sectors),
         shortest(slots, sectors),
     ];
-    assert_eq!(rt; found, wanted, "size {size} in {table:?}");
-    Ok(())
+    assert!(rt; found == wanted, "size {size} in {table:?}");
 }
 
 // The table's five searches find what the plain one does, for each size up to 6.
-fn assert_found(rt: &impl Abort, alloc: Global, table: &GPT, runs: &[u64]) -> Result<(), Fail> {
+fn assert_found(rt: &impl Abort, alloc: Global, table: &GPT, runs: &[u64]) {
     let align = table.align;
-    let slots = slots(alloc, runs, align)?;
-    assert_eq!(rt;
-        free_sectors(table)?.as_slice(),
-        slots.as_slice(),
-        "{table:?}"
-    );
-    assert_eq!(rt; maximum_size(table)?, longest(&slots, align), "{table:?}");
+    let slots = slots(rt, alloc, runs, align);
+    let found = free_sectors(rt, table);
+    assert!(rt; found.as_slice() == slots.as_slice(), "{table:?}");
+    let size = maximum_size(rt, table);
+    assert!(rt; size == longest(&slots, align), "{table:?}");
     for size in 0..=6 {
-        assert_places(rt, table, runs, &slots, size)?;
+        assert_places(rt, table, runs, &slots, size);
     }
-    Ok(())
 }
 
 // Gives the table these used entries, as many as there is room for, and no other.
@@ -179,79 +191,91 @@ pub(crate) fn search_all(
     table: &mut GPT,
     aligns: &[u64],
     used: &[Sectors],
-) -> Result<(), Fail> {
+) {
     set_used(table, used);
     for bounds in BOUNDS {
         table.header.first_usable_lba = bounds.0;
         table.header.last_usable_lba = bounds.1;
         let runs = free_runs(bounds, used);
-        for align in aligns {
-            table.align = *align;
-            assert_found(rt, alloc, table, &runs)?;
-        }
+        search_by_each(rt, alloc, table, aligns, &runs);
     }
-    Ok(())
+}
+
+// Searches the table, in which these runs are free, by each of these alignments.
+fn search_by_each(rt: &impl Abort, alloc: Global, table: &mut GPT, aligns: &[u64], runs: &[u64]) {
+    for align in aligns {
+        table.align = *align;
+        assert_found(rt, alloc, table, runs);
+    }
+}
+
+// Three unused entries.
+fn three_unused(rt: &impl Abort, alloc: Global) -> Vec<GPTPartitionEntry> {
+    let mut entries = Vec::new(alloc);
+    for _ in 0..3_u8 {
+        got(rt, entries.push(GPTPartitionEntry::empty(alloc)));
+    }
+    entries
+}
+
+// The header of a table with room for three entries, on this disk.
+fn header_for_three(rt: &impl Abort, disk: &mut MemoryDisk) -> GPTHeader {
+    let mut header = got(rt, GPTHeader::new_from(disk, 512, DISK_GUID));
+    header.number_of_partition_entries = 3;
+    header
 }
 
 /// A table with room for three entries.
-pub(crate) fn table_of_three(alloc: Global) -> Result<GPT, Fail> {
-    let mut disk = disk_of(alloc, 0, 51_200)?;
-    let mut header = GPTHeader::new_from(&mut disk, 512, DISK_GUID)?;
-    header.number_of_partition_entries = 3;
-    let mut entries = Vec::new(alloc);
-    for _ in 0..3_u8 {
-        entries.push(GPTPartitionEntry::empty(alloc))?;
-    }
-    write_copy(&mut header, &mut disk, 512, &entries)??;
-    Ok(read_image(alloc, disk.bytes())?)
+pub(crate) fn table_of_three(rt: &impl Abort, alloc: Global) -> GPT {
+    let mut disk = got(rt, disk_of(alloc, 0, 51_200));
+    let mut header = header_for_three(rt, &mut disk);
+    let entries = three_unused(rt, alloc);
+    got(rt, write_copy(rt, &mut header, &mut disk, 512, &entries));
+    got(rt, read_image(alloc, disk.bytes()))
 }
 
 /// All intervals whose ends are among the sectors from `from` to `to`, the reversed ones too.
-pub(crate) fn intervals(alloc: Global, from: u64, to: u64) -> Result<Vec<Sectors>, AllocError> {
+pub(crate) fn intervals(rt: &impl Abort, alloc: Global, from: u64, to: u64) -> Vec<Sectors> {
     let mut intervals = Vec::new(alloc);
     for start in from..=to {
         for end in from..=to {
-            intervals.push((start, end))?;
+            got(rt, intervals.push((start, end)));
         }
     }
-    Ok(intervals)
+    intervals
 }
 
 #[test]
-fn no_entry_and_one(rt: HostRuntime) -> Result<(), Fail> {
-    let alloc = rt.alloc();
-    let mut table = table_of_three(alloc)?;
-    search_all(&rt, alloc, &mut table, &ALIGNS, &[])?;
-    for only in &intervals(alloc, 0, LAST)? {
-        search_all(&rt, alloc, &mut table, &ALIGNS, &[*only])?;
+fn no_entry_and_one(rt: HostRuntime) {
+    let mut table = table_of_three(&rt, rt.alloc());
+    search_all(&rt, rt.alloc(), &mut table, &ALIGNS, &[]);
+    for only in &intervals(&rt, rt.alloc(), 0, LAST) {
+        search_all(&rt, rt.alloc(), &mut table, &ALIGNS, &[*only]);
     }
-    Ok(())
 }
 
 #[test]
-fn two_entries(rt: HostRuntime) -> Result<(), Fail> {
-    let alloc = rt.alloc();
-    let mut table = table_of_three(alloc)?;
-    let intervals = intervals(alloc, 0, LAST)?;
+fn two_entries(rt: HostRuntime) {
+    let mut table = table_of_three(&rt, rt.alloc());
+    let intervals = intervals(&rt, rt.alloc(), 0, LAST);
     for (place, first) in intervals.iter().enumerate() {
         for second in intervals.iter().skip(place) {
-            search_all(&rt, alloc, &mut table, &ALIGNS, &[*first, *second])?;
+            let used = [*first, *second];
+            search_all(&rt, rt.alloc(), &mut table, &ALIGNS, &used);
         }
     }
-    Ok(())
 }
 
 #[test]
-fn three_entries_in_any_order(rt: HostRuntime) -> Result<(), Fail> {
-    let alloc = rt.alloc();
-    let mut table = table_of_three(alloc)?;
-    let intervals = intervals(alloc, 4, 6)?;
+fn three_entries_in_any_order(rt: HostRuntime) {
+    let mut table = table_of_three(&rt, rt.alloc());
+    let intervals = intervals(&rt, rt.alloc(), 4, 6);
     for first in &intervals {
         for second in &intervals {
             for third in &intervals {
-                search_all(&rt, alloc, &mut table, &ALIGNS, &[*first, *second, *third])?;
+                let used = [*first, *second, *third];
+                search_all(&rt, rt.alloc(), &mut table, &ALIGNS, &used);
             }
         }
     }
-    Ok(())
 }

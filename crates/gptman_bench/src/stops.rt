@@ -1,41 +1,56 @@
 //! A write that is stopped or fails at any call: what is left is read as the table that was there or
 //! as the one that was being written, and so is each copy alone that can be read.
 
-use crate::faulty::FaultyDisk;
+use crate::asserts::{got, holds};
+use crate::faulty::failing_once;
 use crate::fixtures::{disk_1, image_of, partition, put, read_image, write};
-use gptman::{Disk, Edit, Error, Fate, GPT, MemoryDisk};
+use crate::memory::fused;
+use gptman::{Disk, Edit, Error, Fate, GPT, MemoryDisk, Result};
 use std::alloc::Global;
 use std::process::Abort;
-use std::test::Fail;
 
 // The first bytes of the two headers.
 const HEADERS: [usize; 2] = [512, 50_688];
 
+// A write of a new table over an image, which is read as the old one.
+#[derive(Drop)]
+struct Case {
+    image: Vec<u8>,
+    old: GPT,
+    new: GPT,
+}
+
 // The image that both copies of the table stand on, with one header zeroed or none.
-fn image(alloc: Global, zeroed: Option<usize>) -> Result<Vec<u8>, Fail> {
-    let mut image = image_of(alloc, &disk_1(alloc)?)?;
+fn image(rt: &impl Abort, alloc: Global, zeroed: Option<usize>) -> Vec<u8> {
+    let mut image = image_of(rt, alloc, &got(rt, disk_1(alloc)));
     if let Some(at) = zeroed {
         put(&mut image, at, &[0; 92]);
     }
-    Ok(image)
+    image
 }
 
-// The table that is read of the image, with one entry more.
-fn edited(alloc: Global, image: &[u8]) -> Result<GPT, Fail> {
-    let mut table = read_image(alloc, image)?;
-    let baz = partition(alloc, "Baz", [3; 16], 54, 60)?;
-    table.apply(Edit::Put(3, baz))?;
-    Ok(table)
+// The write of the table that is read of the image, after this edit.
+fn edit_over(rt: &impl Abort, alloc: Global, image: Vec<u8>, edit: Edit) -> Case {
+    let old = got(rt, read_image(alloc, &image));
+    let mut new = got(rt, old.clone());
+    got(rt, new.apply(edit));
+    Case { image, old, new }
 }
 
-// The same value in the other form.
-fn in_other_form(mut table: GPT) -> GPT {
-    let header = &mut table.header;
+// The write of one entry more over that image.
+fn one_more(rt: &impl Abort, alloc: Global, zeroed: Option<usize>) -> Case {
+    let baz = got(rt, partition(alloc, "Baz", [3; 16], 54, 60));
+    edit_over(rt, alloc, image(rt, alloc, zeroed), Edit::Put(3, baz))
+}
+
+// The same with the value of the new table in the other form.
+fn in_other_form(mut case: Case) -> Case {
+    let header = &mut case.new.header;
     let primary_lba = header.primary_lba;
     header.primary_lba = header.backup_lba;
     header.backup_lba = primary_lba;
     header.partition_entry_lba = if primary_lba == 1 { 67 } else { 2 };
-    table
+    case
 }
 
 /// Whether two values are one table, in whichever form.
@@ -49,43 +64,46 @@ pub(crate) fn is_same_table(a: &GPT, b: &GPT) -> bool {
         && first.primary_lba.max(first.backup_lba) == second.primary_lba.max(second.backup_lba)
 }
 
-// Whether the table could be written. It is not refused but for a failure of the disk.
-fn is_written<D: Disk>(disk: &mut D, table: &GPT) -> Result<bool, Fail> {
-    let mut table = table.clone()?;
-    match write(&mut table, disk)? {
-        Ok(_) => Ok(true),
-        Err(Error::Io(_)) => Ok(false),
-        Err(_) => Err(Fail::new("the write was refused, and not for the disk")),
+/// How many entries of the table are used.
+pub(crate) fn count_used(table: &GPT) -> usize {
+    let mut used = 0_usize;
+    for (_, entry) in table.iter() {
+        used = used.saturating_add(usize::from(entry.is_used()));
     }
+    used
 }
 
-// The table of the copy whose header is at this byte, if it can be read alone.
-fn read_alone(alloc: Global, bytes: &[u8], at: usize) -> Result<Option<GPT>, Fail> {
-    let mut bytes = bytes.to_vec(alloc)?;
-    for other in HEADERS {
-        if other != at {
-            put(&mut bytes, other, &[0; 8]);
-        }
-    }
-    Ok(read_image(alloc, &bytes).ok())
+// Whether the table could be written. It is not refused but for a failure of the disk.
+fn is_written<D: Disk>(rt: &impl Abort, disk: &mut D, table: &GPT) -> bool {
+    let mut table = got(rt, table.clone());
+    let outcome = write(rt, &mut table, disk);
+    holds(rt, matches!(&outcome, Ok(_) | Err(Error::Io(_))));
+    outcome.is_ok()
+}
+
+// The table that is read where the header at this byte is broken.
+fn read_without(rt: &impl Abort, alloc: Global, bytes: &[u8], header: usize) -> Result<GPT> {
+    let mut bytes = got(rt, bytes.to_vec(alloc));
+    put(&mut bytes, header, &[0; 8]);
+    read_image(alloc, &bytes)
+}
+
+// The table is the old or the new one.
+fn assert_one(rt: &impl Abort, case: &Case, table: &GPT) {
+    holds(
+        rt,
+        is_same_table(table, &case.old) || is_same_table(table, &case.new),
+    );
 }
 
 // The disk is read as one of the two tables, and so is each copy alone that can be read.
-fn assert_reads_one(
-    rt: &impl Abort,
-    alloc: Global,
-    bytes: &[u8],
-    old: &GPT,
-    new: &GPT,
-) -> Result<(), Fail> {
-    let table = read_image(alloc, bytes)?;
-    assert!(rt; is_same_table(&table, old) || is_same_table(&table, new));
-    for at in HEADERS {
-        if let Some(table) = read_alone(alloc, bytes, at)? {
-            assert!(rt; is_same_table(&table, old) || is_same_table(&table, new));
+fn assert_reads_one(rt: &impl Abort, alloc: Global, case: &Case, bytes: &[u8]) {
+    assert_one(rt, case, &got(rt, read_image(alloc, bytes)));
+    for header in HEADERS {
+        if let Ok(table) = read_without(rt, alloc, bytes, header) {
+            assert_one(rt, case, &table);
         }
     }
-    Ok(())
 }
 
 /// Fates of up to six writes: all this one, and one of them, if it is one of the six, torn.
@@ -97,195 +115,178 @@ pub(crate) fn fates(all: Fate, torn: usize) -> [Fate; 6] {
     fates
 }
 
-// Stops the write of the new table over this image after so many calls, with all these fates.
-// Answers whether it was done.
-fn stop_after(
-    rt: &impl Abort,
-    alloc: Global,
-    image: &[u8],
-    new: &GPT,
-    calls: u64,
-) -> Result<bool, Fail> {
-    let old = read_image(alloc, image)?;
-    let mut done = false;
-    for (all, most) in [(Fate::Old, 6), (Fate::New, 6), (Fate::Garbage(7), 0)] {
-        for torn in 0..=most {
-            let mut disk = MemoryDisk::with_fuse(alloc, image.to_vec(alloc)?, calls)?;
-            done = is_written(&mut disk, new)?;
-            let left = disk.stop(&fates(all, torn))?;
-            assert_reads_one(rt, alloc, left.bytes(), &old, new)?;
-        }
+// Stops the write after so many calls with these fates. Answers whether it was done.
+fn stop_with(rt: &impl Abort, alloc: Global, case: &Case, calls: u64, fates: &[Fate]) -> bool {
+    let mut disk = fused(rt, alloc, &case.image, calls);
+    let is_done = is_written(rt, &mut disk, &case.new);
+    let left = got(rt, disk.stop(fates));
+    assert_reads_one(rt, alloc, case, left.bytes());
+    is_done
+}
+
+// Stops the write after so many calls, with all these fates: all lost or all kept, and one torn or
+// none, or all torn. Answers whether it was done.
+fn stop_after(rt: &impl Abort, alloc: Global, case: &Case, calls: u64) -> bool {
+    let mut is_done = false;
+    for number in 0..15_usize {
+        let all = match number / 7 {
+            0 => Fate::Old,
+            1 => Fate::New,
+            _ => Fate::Garbage(7),
+        };
+        is_done = stop_with(rt, alloc, case, calls, &fates(all, number % 7));
     }
-    Ok(done)
+    is_done
 }
 
 // The same after each number of calls, until the write is done.
-fn stop_anywhere(rt: &impl Abort, alloc: Global, image: &[u8], new: &GPT) -> Result<(), Fail> {
+fn stop_anywhere(rt: &impl Abort, alloc: Global, case: &Case) {
+    let mut is_done = false;
     for calls in 0..=32 {
-        if stop_after(rt, alloc, image, new, calls)? {
-            return Ok(());
+        if !is_done {
+            is_done = stop_after(rt, alloc, case, calls);
         }
     }
-    Err(Fail::new("the write takes more than 32 calls"))
+    assert!(rt; is_done, "the write takes more than 32 calls");
 }
 
 #[test]
-fn two_good_copies_survive_a_stop(rt: HostRuntime) -> Result<(), Fail> {
-    let alloc = rt.alloc();
-    let image = image(alloc, None)?;
-    let new = edited(alloc, &image)?;
-    stop_anywhere(&rt, alloc, &image, &new)?;
-    stop_anywhere(&rt, alloc, &image, &in_other_form(new))
+fn two_good_copies_survive_a_stop(rt: HostRuntime) {
+    let case = one_more(&rt, rt.alloc(), None);
+    stop_anywhere(&rt, rt.alloc(), &case);
+    stop_anywhere(&rt, rt.alloc(), &in_other_form(case));
 }
 
 #[test]
-fn one_good_copy_survives_a_stop(rt: HostRuntime) -> Result<(), Fail> {
-    let alloc = rt.alloc();
+fn one_good_copy_survives_a_stop(rt: HostRuntime) {
     for at in HEADERS {
-        let image = image(alloc, Some(at))?;
-        stop_anywhere(&rt, alloc, &image, &edited(alloc, &image)?)?;
+        stop_anywhere(&rt, rt.alloc(), &one_more(&rt, rt.alloc(), Some(at)));
     }
-    Ok(())
 }
 
-// What is left of a write over this image that is stopped after so many calls.
-fn left_of(alloc: Global, image: &[u8], calls: u64, fates: &[Fate]) -> Result<MemoryDisk, Fail> {
-    let mut disk = MemoryDisk::with_fuse(alloc, image.to_vec(alloc)?, calls)?;
-    is_written(&mut disk, &edited(alloc, image)?)?;
-    Ok(disk.stop(fates)?)
+// What is left of a write that is stopped after so many calls.
+fn left_of(rt: &impl Abort, alloc: Global, case: &Case, calls: u64, fates: &[Fate]) -> MemoryDisk {
+    let mut disk = fused(rt, alloc, &case.image, calls);
+    is_written(rt, &mut disk, &case.new);
+    got(rt, disk.stop(fates))
 }
 
 // The number of used entries that are read of it, and whether in primary form. The old table has
 // two, the new one three.
 fn read_after(
+    rt: &impl Abort,
     alloc: Global,
-    image: &[u8],
+    case: &Case,
     calls: u64,
     fates: &[Fate],
-) -> Result<(usize, bool), Fail> {
-    let left = left_of(alloc, image, calls, fates)?;
-    let table = read_image(alloc, left.bytes())?;
-    let used = table.iter().filter(|(_, entry)| entry.is_used()).count();
-    Ok((used, table.is_primary()))
+) -> (usize, bool) {
+    let left = left_of(rt, alloc, case, calls, fates);
+    let table = got(rt, read_image(alloc, left.bytes()));
+    (count_used(&table), table.is_primary())
 }
 
 // After four calls one write is pending, the header of the other copy; after ten the other copy is
 // synced, and nothing else is pending.
-#[test]
-fn the_other_copy_is_written_first(rt: HostRuntime) -> Result<(), Fail> {
-    let alloc = rt.alloc();
-    let rows = [
-        (None, (2, true), (2, true)),
-        (Some(512), (2, false), (3, true)),
-        (Some(50_688), (2, true), (2, true)),
-    ];
-    for (zeroed, after_a_write, after_a_sync) in rows {
-        let image = image(alloc, zeroed)?;
-        let torn = read_after(alloc, &image, 4, &[Fate::Garbage(7)])?;
-        let synced = read_after(alloc, &image, 10, &[])?;
-        assert_eq!(rt; (torn, synced), (after_a_write, after_a_sync), "{zeroed:?}");
-    }
-    Ok(())
-}
-
-#[test]
-fn after_ok_each_copy_alone_is_the_new_table(rt: HostRuntime) -> Result<(), Fail> {
-    let alloc = rt.alloc();
-    for zeroed in [None, Some(512), Some(50_688)] {
-        let image = image(alloc, zeroed)?;
-        let new = edited(alloc, &image)?;
-        let done = left_of(alloc, &image, 32, &[])?;
-        for at in HEADERS {
-            let table = read_alone(alloc, done.bytes(), at)?;
-            assert!(rt;
-                table.is_some_and(|table| is_same_table(&table, &new)),
-                "{at}"
-            );
-        }
-    }
-    Ok(())
-}
-
-#[test]
-fn a_disk_that_fails_at_once_is_not_changed(rt: HostRuntime) -> Result<(), Fail> {
-    let alloc = rt.alloc();
-    let image = image(alloc, None)?;
-    let new = edited(alloc, &image)?;
-    for calls in 0..=2 {
-        let mut disk = MemoryDisk::with_fuse(alloc, image.clone()?, calls)?;
-        assert!(rt; !is_written(&mut disk, &new)?);
-        assert!(rt; disk.bytes() == image.as_slice(), "{calls} calls");
-    }
-    Ok(())
-}
-
-#[test]
-fn a_table_is_written_and_read_in_few_calls(rt: HostRuntime) -> Result<(), Fail> {
-    let alloc = rt.alloc();
-    let image = image(alloc, None)?;
-    let new = edited(alloc, &image)?;
-    let mut disk = MemoryDisk::with_fuse(alloc, image, 32)?;
-    assert!(rt; is_written(&mut disk, &new)?);
-    let written = disk.bytes().to_vec(alloc)?;
-    let mut disk = MemoryDisk::with_fuse(alloc, written, 16)?;
-    assert!(rt; is_same_table(&GPT::read_from(alloc, &mut disk, 512)?, &new));
-    Ok(())
-}
-
-// Writes the new table over this image on a disk of which one call of the write's 19 fails, or none.
-fn fail_once(
+fn assert_order(
     rt: &impl Abort,
     alloc: Global,
-    image: &[u8],
-    new: &GPT,
-    call: u64,
-) -> Result<(), Fail> {
-    let old = read_image(alloc, image)?;
-    let below = MemoryDisk::new(alloc, image.to_vec(alloc)?)?;
-    let mut disk = FaultyDisk::new(below, call);
-    assert_eq!(rt; is_written(&mut disk, new)?, call == 19, "call {call}");
+    zeroed: Option<usize>,
+    after_a_write: (usize, bool),
+    after_a_sync: (usize, bool),
+) {
+    let case = one_more(rt, alloc, zeroed);
+    let torn = read_after(rt, alloc, &case, 4, &[Fate::Garbage(7)]);
+    let synced = read_after(rt, alloc, &case, 10, &[]);
+    holds(rt, torn == after_a_write && synced == after_a_sync);
+}
+
+#[test]
+fn the_other_copy_is_written_first(rt: HostRuntime) {
+    assert_order(&rt, rt.alloc(), None, (2, true), (2, true));
+    assert_order(&rt, rt.alloc(), Some(512), (2, false), (3, true));
+    assert_order(&rt, rt.alloc(), Some(50_688), (2, true), (2, true));
+}
+
+// Each copy alone is read as the new table once the write is done.
+fn assert_both_new(rt: &impl Abort, alloc: Global, case: &Case) {
+    let done = left_of(rt, alloc, case, 32, &[]);
+    for header in HEADERS {
+        let table = got(rt, read_without(rt, alloc, done.bytes(), header));
+        assert!(rt; is_same_table(&table, &case.new), "without {header}");
+    }
+}
+
+#[test]
+fn after_ok_each_copy_alone_is_the_new_table(rt: HostRuntime) {
+    for zeroed in [None, Some(512), Some(50_688)] {
+        assert_both_new(&rt, rt.alloc(), &one_more(&rt, rt.alloc(), zeroed));
+    }
+}
+
+#[test]
+fn a_disk_that_fails_at_once_is_not_changed(rt: HostRuntime) {
+    let case = one_more(&rt, rt.alloc(), None);
+    for calls in 0..=2 {
+        let mut disk = fused(&rt, rt.alloc(), &case.image, calls);
+        holds(&rt, !is_written(&rt, &mut disk, &case.new));
+        holds(&rt, disk.bytes() == case.image.as_slice());
+    }
+}
+
+// These bytes are read as the new table in 16 calls.
+fn assert_read_in_16(rt: &impl Abort, alloc: Global, case: &Case, bytes: &[u8]) {
+    let mut disk = fused(rt, alloc, bytes, 16);
+    let table = got(rt, GPT::read_from(alloc, &mut disk, 512));
+    holds(rt, is_same_table(&table, &case.new));
+}
+
+#[test]
+fn a_table_is_written_and_read_in_few_calls(rt: HostRuntime) {
+    let case = one_more(&rt, rt.alloc(), None);
+    let mut disk = fused(&rt, rt.alloc(), &case.image, 32);
+    holds(&rt, is_written(&rt, &mut disk, &case.new));
+    assert_read_in_16(&rt, rt.alloc(), &case, disk.bytes());
+}
+
+// Writes the new table on a disk of which one call of the write's 19 fails, or none.
+fn fail_once(rt: &impl Abort, alloc: Global, case: &Case, call: u64) {
+    let mut disk = failing_once(rt, alloc, &case.image, call);
+    let is_done = is_written(rt, &mut disk, &case.new);
+    assert!(rt; is_done == (call == 19), "call {call}");
     let left = disk.into_inner();
-    assert_reads_one(rt, alloc, left.bytes(), &old, new)?;
-    assert_reads_one(rt, alloc, left.stop(&[])?.bytes(), &old, new)
+    assert_reads_one(rt, alloc, case, left.bytes());
+    assert_reads_one(rt, alloc, case, got(rt, left.stop(&[])).bytes());
 }
 
 // A call that fails once is answered too, though all later ones are served, and what it leaves is read
 // as one of the two tables.
 #[test]
-fn a_write_of_which_one_call_fails_is_refused(rt: HostRuntime) -> Result<(), Fail> {
-    let alloc = rt.alloc();
+fn a_write_of_which_one_call_fails_is_refused(rt: HostRuntime) {
     for zeroed in [None, Some(512), Some(50_688)] {
-        let image = image(alloc, zeroed)?;
-        let new = edited(alloc, &image)?;
+        let case = one_more(&rt, rt.alloc(), zeroed);
         for call in 0..=19 {
-            fail_once(&rt, alloc, &image, &new, call)?;
+            fail_once(&rt, rt.alloc(), &case, call);
         }
     }
-    Ok(())
 }
 
 // One round of a life: the table is read, gets this disk GUID, and its write is stopped after so many
 // calls, with all that is pending torn.
-fn live(rt: &impl Abort, alloc: Global, image: &[u8], round: u8) -> Result<Vec<u8>, Fail> {
-    let old = read_image(alloc, image)?;
-    let mut new = old.clone()?;
-    new.apply(Edit::DiskGuid([round; 16]))?;
-    let mut disk = MemoryDisk::with_fuse(alloc, image.to_vec(alloc)?, u64::from(round))?;
-    is_written(&mut disk, &new)?;
-    let left = disk.stop(&[Fate::Garbage(7); 6])?;
-    assert_reads_one(rt, alloc, left.bytes(), &old, &new)?;
-    Ok(left.bytes().to_vec(alloc)?)
+fn live(rt: &impl Abort, alloc: Global, image: Vec<u8>, round: u8) -> Vec<u8> {
+    let case = edit_over(rt, alloc, image, Edit::DiskGuid([round; 16]));
+    let calls = u64::from(round);
+    let left = left_of(rt, alloc, &case, calls, &[Fate::Garbage(7); 6]);
+    assert_reads_one(rt, alloc, &case, left.bytes());
+    got(rt, left.bytes().to_vec(alloc))
 }
 
 #[test]
-fn a_life_of_stopped_writes_never_loses_the_table(rt: HostRuntime) -> Result<(), Fail> {
-    let alloc = rt.alloc();
-    let mut left = image(alloc, None)?;
+fn a_life_of_stopped_writes_never_loses_the_table(rt: HostRuntime) {
+    let mut left = image(&rt, rt.alloc(), None);
     for round in 0..20 {
-        left = live(&rt, alloc, &left, round)?;
+        left = live(&rt, rt.alloc(), left, round);
     }
-    let last = read_image(alloc, &left)?;
-    assert_eq!(rt; last.header.disk_guid, [19; 16]);
-    assert_eq!(rt; last.iter().filter(|(_, entry)| entry.is_used()).count(), 2);
-    Ok(())
+    let last = got(&rt, read_image(rt.alloc(), &left));
+    holds(&rt, last.header.disk_guid == [19; 16]);
+    holds(&rt, count_used(&last) == 2);
 }
