@@ -1,4 +1,4 @@
-use Rattle.std.proofs.Common.{◌≡◌, inr}
+use Rattle.std.proofs.Common.{◌≡◌, inr, rules}
 use Rattle.gptimg_core.specs.Changes.{report_of}
 use Rattle.gptimg_core.specs.declared.commands.Report.TheVariants.{Written, Table}
 use Rattle.gptimg_core.specs.declared.words.Command.TheVariants.{New, Mbr, Check, Show, Free, Change as Changing}
@@ -85,3 +85,35 @@ pub returns-in_ok-print_fault-in-Err-clause-leaves : goal.returns-in_ok-print_fa
 returns-in_ok-print_fault-in-Err-clause-leaves g c honest size change asks =
     let changing : c.in-Some.command ≡ Changing size change = cc c.in-Some.ensures.value in
     c.perform.ensures.leaves honest size change changing
+
+-- A refused command ends with status 1.
+pub returns-in_ok-print_fault-in-Err-clause-shown : goal.returns-in_ok-print_fault-in-Err-clause-shown
+returns-in_ok-print_fault-in-Err-clause-shown g c honest size asks done = absurd (cc)
+
+pub returns-in_ok-print_fault-in-Err-clause-free : goal.returns-in_ok-print_fault-in-Err-clause-free
+returns-in_ok-print_fault-in-Err-clause-free g c honest size align asks done = absurd (cc)
+
+pub returns-in_ok-print_fault-in-Err-clause-same : goal.returns-in_ok-print_fault-in-Err-clause-same
+returns-in_ok-print_fault-in-Err-clause-same g c honest ss asks done = absurd (cc)
+
+pub returns-in_ok-print_fault-in-Err-clause-prints_ok : goal.returns-in_ok-print_fault-in-Err-clause-prints_ok
+returns-in_ok-print_fault-in-Err-clause-prints_ok g c ss guid asks done = absurd (cc)
+
+pub returns-in_ok-print_fault-in-Err-clause-stored : goal.returns-in_ok-print_fault-in-Err-clause-stored
+returns-in_ok-print_fault-in-Err-clause-stored g c honest ss guid asks layout done = absurd (cc)
+
+pub returns-in_ok-print_fault-in-Err-clause-mbr_stored : goal.returns-in_ok-print_fault-in-Err-clause-mbr_stored
+returns-in_ok-print_fault-in-Err-clause-mbr_stored g c honest ss bootable asks done = absurd (cc)
+
+pub returns-in_ok-print_fault-in-Err-clause-changed : goal.returns-in_ok-print_fault-in-Err-clause-changed
+returns-in_ok-print_fault-in-Err-clause-changed g c honest size change asks done = absurd (cc)
+
+-- Words of no command leave the disk alone.
+pub returns-in_err-write_all-clause-not_asked : goal.returns-in_err-write_all-clause-not_asked
+returns-in_err-write_all-clause-not_asked g c = search rules
+
+pub returns-in_default-clause-usage : goal.returns-in_default-clause-usage
+returns-in_default-clause-usage g c = search rules
+
+pub returns-in_default-clause-not_asked : goal.returns-in_default-clause-not_asked
+returns-in_default-clause-not_asked g c = search rules

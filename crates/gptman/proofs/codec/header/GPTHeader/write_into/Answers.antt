@@ -1,4 +1,4 @@
-use Rattle.std.proofs.Common.{ap, ◌∙◌, subst}
+use Rattle.std.proofs.Common.{ap, ◌∙◌, rules, subst}
 use Rattle.gptman.specs.Coding.{header_bytes}
 use Rattle.gptman.specs.Copy.{header_crc}
 use Rattle.gptman.specs.Disk.{Wrote}
@@ -31,3 +31,6 @@ returns-clause-wrote g c = λ honest.
     let same = ranges_still c.args.self.now c.update_partition_entry_array_crc32.new.self _ _ _ c.args.sector_size c.update_partition_entry_array_crc32.ensures c.update_crc32_checksum.ensures in
     wrote_then (within_self (write_ranges c.args.self.now c.args.sector_size)) (wrote_wider within_none w1)
     (subst (λ (rs : Ranges). Wrote rs (g.D.Disk.state c.seek_end.new.self) (g.D.Disk.state c.write_copy.new.disk)) same w2)
+
+pub returns-then-not-is_inside-clause-answer : goal.returns-then-not-is_inside-clause-answer
+returns-then-not-is_inside-clause-answer g c = search rules

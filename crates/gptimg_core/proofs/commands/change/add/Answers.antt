@@ -1,0 +1,11 @@
+use Rattle.std.proofs.Common.{rules}
+use Rattle.gptimg_core.proofs.commands.change.add.Goals as goal
+
+pub returns-clause-added : goal.returns-clause-added
+returns-clause-added c = search rules
+
+pub returns-clause-told : goal.returns-clause-told
+returns-clause-told c = search rules
+
+pub returns-then-not-has_unused-clause-refused : goal.returns-then-not-has_unused-clause-refused
+returns-then-not-has_unused-clause-refused c = search rules

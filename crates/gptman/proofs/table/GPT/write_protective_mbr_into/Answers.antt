@@ -1,0 +1,8 @@
+use Rattle.std.proofs.Common.{rules}
+use Rattle.gptman.proofs.table.GPT.write_protective_mbr_into.Goals as goal
+
+pub returns-clause-laid : goal.returns-clause-laid
+returns-clause-laid g c = search rules
+
+pub returns-clause-pending : goal.returns-clause-pending
+returns-clause-pending g c = search rules
