@@ -71,3 +71,15 @@ pub returns-clause-one_good : goal.returns-clause-one_good
 returns-clause-one_good g c = λ honest layout kept.
     leaves_edited c.args.self.now c.apply.new.self c.args.edit (g.D.Disk.state c.args.disk.now) (g.D.Disk.state c.write_into.new.disk) c.in_ok-apply.ensures.changed layout kept
     (c.write_into.ensures.one_good honest)
+
+pub returns-clause-accepted : goal.returns-clause-accepted
+returns-clause-accepted g c = search rules
+
+pub returns-clause-fits : goal.returns-clause-fits
+returns-clause-fits g c = search rules
+
+pub returns-clause-value : goal.returns-clause-value
+returns-clause-value g c = search rules
+
+pub returns-clause-wrote : goal.returns-clause-wrote
+returns-clause-wrote g c = search rules

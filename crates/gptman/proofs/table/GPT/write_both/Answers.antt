@@ -153,3 +153,13 @@ returns-in_err-write_copy-2-clause-failed g c = λ honest clean apart.
     let first = done_then_failed g c honest apart in
     on_err_of _ (failed_second c.args.self.now.header (entries_in c.args.self.now) c.args.self.now.sector_size (g.D.Disk.state c.args.disk.now) (g.D.Disk.state c.write_copy.new.disk)
     (g.D.Disk.state c.write_copy-2.new.disk) first (c.write_copy-2.ensures.wrote first.run.honest) (c.in_err-write_copy-2.ensures.failed first.run.honest))
+
+pub returns-clause-other : goal.returns-clause-other
+returns-clause-other g c =
+    c.in_ok-write_copy.ensures.sealed ∙ ap (sealed c.in_ok-other.other) c.as_slice.ensures.items
+    ∙ ap (λ (h : GPTHeader). sealed h (entries_in c.args.self.now)) c.in_ok-other.ensures.other
+
+pub returns-clause-value : goal.returns-clause-value
+returns-clause-value g c =
+    ap (λ (h : GPTHeader). record c.args.self.now { header = h })
+    (c.in_ok-write_copy-2.ensures.sealed ∙ ap (sealed c.args.self.now.header) c.as_slice-2.ensures.items)

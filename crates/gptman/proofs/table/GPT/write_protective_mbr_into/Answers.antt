@@ -6,3 +6,9 @@ returns-clause-laid g c = search rules
 
 pub returns-clause-pending : goal.returns-clause-pending
 returns-clause-pending g c = search rules
+
+pub returns-clause-untouched : goal.returns-clause-untouched
+returns-clause-untouched g c = c.write_mbr.ensures.untouched
+
+pub returns-clause-failed : goal.returns-clause-failed
+returns-clause-failed g c = c.write_mbr.ensures.failed

@@ -1,4 +1,4 @@
-use Rattle.std.proofs.Common.{◌∙◌, arith}
+use Rattle.std.proofs.Common.{◌∙◌, arith, rules}
 use Rattle.gptman.proofs.EntryBytes.{spelling_is}
 use Rattle.gptman.proofs.codec.entry.GPTPartitionEntry.decode.Goals as goal
 
@@ -14,3 +14,6 @@ returns-clause-coding c = record {
 
 pub returns-clause-spelled : goal.returns-clause-spelled
 returns-clause-spelled c = spelling_is _ c.args.bytes.now (omega arith) (λ i. omega (arith, c.fits-bytes i)) (returns-clause-coding c)
+
+pub returns-clause-name : goal.returns-clause-name
+returns-clause-name c = search rules

@@ -1,4 +1,5 @@
-use Rattle.std.proofs.Common.{rules, ◌≡◌, ◌++◌, [], ◌∷◌, refl}
+use Rattle.std.proofs.Common.{arith, rules, ◌≡◌, ◌++◌, [], ◌∷◌, refl}
+use Rattle.std.proofs.lemmas.Grind.{common_steps}
 use Rattle.gptman.specs.declared.disk.memory.Written.{Written}
 use Rattle.gptman.specs.declared.disk.memory.Event.TheVariants.{Write}
 use Rattle.gptman.proofs.Events.{served, refused}
@@ -19,3 +20,6 @@ returns-clause-wrote c = λ honest.
     let one_more : c.push.new.self.items ≡ d.events.items ++ Write w ∷ [] = search rules in
     let same : c.in-Ok.bytes.items ≡ c.args.buf.now = search rules in
     served d.start.items d.bytes.items c.lay.new.bytes.items d.events.items c.push.new.self.items d.replays w d.position c.args.buf.now refl same c.if-not-done.false c.requires one_more c.lay.ensures.after _ _ _ _
+
+pub returns-clause-moves : goal.returns-clause-moves
+returns-clause-moves c = grind (arith, common_steps)

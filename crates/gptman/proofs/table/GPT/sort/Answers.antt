@@ -1,0 +1,6 @@
+use Rattle.std.proofs.Common.{arith}
+use Rattle.std.proofs.lemmas.Grind.{common_steps}
+use Rattle.gptman.proofs.table.GPT.sort.Goals as goal
+
+pub returns-clause-sorted : goal.returns-clause-sorted
+returns-clause-sorted c = grind (arith, common_steps)
