@@ -1,3 +1,4 @@
+pub mod BothForms
 pub mod Printing
 pub mod Read
 pub mod Refused

@@ -47,7 +47,7 @@ good_by : (same : Bool) (status : ℕ) → status ≡ (if same then 0 else 1) �
 good_by true status is done = refl
 good_by false status is done = absurd (cc)
 
-bad_by : (same : Bool) (status : ℕ) → status ≡ (if same then 0 else 1) → ◌≡◌ {A = Result ℕ Error} (Ok status) (Ok 1) → same ≡ false
+pub bad_by : (same : Bool) (status : ℕ) → status ≡ (if same then 0 else 1) → ◌≡◌ {A = Result ℕ Error} (Ok status) (Ok 1) → same ≡ false
 bad_by true status is done = absurd (cc)
 bad_by false status is done = refl
 

@@ -2,23 +2,17 @@
 use Rattle.std.specs.Prelude.{◌≡◌, ◌⊎◌, ℕ, Bool, true, List, Result, Ok, IsTrue}
 use Rattle.gptman.specs.Calls.{answer_of, Fails}
 use Rattle.gptman.specs.Copy.{Copy}
-use Rattle.gptman.specs.Disk.{DiskState}
+use Rattle.gptman.specs.Disk.{DiskState, Rose}
 use Rattle.gptman.specs.Fault.{Fault}
 use Rattle.gptman.specs.Layout.{Holds}
 use Rattle.gptman.specs.Reading.{primary, backup, copy_in}
-use Rattle.gptman.specs.Table.{Table as DiskTable, table_of, IsForm, IsHeaderForm}
+use Rattle.gptman.specs.Table.{Table as DiskTable, table_of, IsHeaderForm}
 use Rattle.gptman.specs.declared.codec.entry.GPTPartitionEntry.{GPTPartitionEntry}
 use Rattle.gptman.specs.declared.codec.header.GPTHeader.{GPTHeader}
 use Rattle.gptimg_core.specs.declared.commands.Report.{Report}
 use Rattle.gptimg_core.specs.declared.commands.Report.TheVariants.{Written, Table, Slots, Added, Copies}
 use Rattle.gptimg_core.specs.declared.commands.check.BothCopies.{BothCopies}
 use Rattle.gptimg_core.specs.declared.commands.check.FoundCopy.{FoundCopy}
-
--- The copies at the two places are one table, each in its place's form.
-pub record AreOneTable (first second : Copy) : Type 0 where
-  pub table : DiskTable
-  pub at_primary : IsForm primary table first
-  pub at_backup : IsForm backup table second
 
 -- Both places hold one table, each in its place's form.
 pub record HoldOneTable (view : List ℕ) (ss : ℕ) : Type 0 where
@@ -30,11 +24,26 @@ pub record HoldOneTable (view : List ℕ) (ss : ℕ) : Type 0 where
 abbrev pub seen_as : FoundCopy → Copy
 seen_as found = record { header = found.header; entries = found.entries.items }
 
+-- the first header with its two sectors the other way round, and with the second's place of the entries and checksums
+abbrev pub turned : GPTHeader → GPTHeader → GPTHeader
+turned first second = record first {
+  crc32_checksum = second.crc32_checksum;
+  primary_lba = first.backup_lba;
+  backup_lba = first.primary_lba;
+  partition_entry_lba = second.partition_entry_lba;
+  partition_entry_array_crc32 = second.partition_entry_array_crc32;
+}
+
 -- The two headers are those of one table, the first in primary form and the second in backup form.
 pub record AreBothForms (first second : GPTHeader) : Type 0 where
   pub at_primary : IsHeaderForm primary first
   pub at_backup : IsHeaderForm backup second
   pub same : (es : List GPTPartitionEntry) → table_of second es ≡ table_of first es
+
+-- Two copies that were read are one table, the first in primary form and the second in backup form.
+pub record AreOneTable (first second : Copy) : Type 0 where
+  pub forms : AreBothForms first.header second.header
+  pub entries : first.entries ≡ second.entries
 
 -- Both were found, and are one table.
 abbrev pub AreFoundSame : Result Copy Fault → Result Copy Fault → Type 0
@@ -46,6 +55,7 @@ pub record IsChecked (ss : ℕ) (old new : DiskState) (copies : BothCopies) : Ty
   pub at_primary : Fails copies.primary old new ⊎ (answer_of seen_as copies.primary ≡ copy_in primary old.view ss)
   pub at_backup : Fails copies.backup old new ⊎ (answer_of seen_as copies.backup ≡ copy_in backup old.view ss)
   pub same : IsTrue copies.are_same → HoldOneTable old.view ss × AreFoundSame (answer_of seen_as copies.primary) (answer_of seen_as copies.backup)
+  pub differ : HoldOneTable old.view ss → IsTrue copies.are_same ⊎ Rose old new
 
 -- the report is what was found of both copies
 abbrev pub TellsCopies : ℕ → DiskState → DiskState → Report → Type 0

@@ -81,6 +81,14 @@ fallback_long b ss first long =
     let choose : Bool → Result Copy Fault = λ small. elim small [ true ↦ Err invalid_signature | false ↦ second_copy first (copy_in backup b ss) ] in
     ap choose t
 
+-- a disk of less than a sector has no backup place
+pub backup_short : (b : List ℕ) (ss : ℕ) → length b < ss → copy_in backup b ss ≡ Err invalid_signature
+unfolding copy_in
+backup_short b ss short =
+    let t : ltb (length b) ss ≡ true = grind arith in
+    let choose : Bool → Result Copy Fault = λ small. elim small [ true ↦ Err invalid_signature | false ↦ copy_at b ((length b / ss - 1) * ss) ss ] in
+    ap choose t
+
 pub backup_long : (b : List ℕ) (ss : ℕ) → ss ≤ length b → copy_in backup b ss ≡ copy_at b ((length b / ss - 1) * ss) ss
 unfolding copy_in
 backup_long b ss long =

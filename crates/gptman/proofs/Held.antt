@@ -37,10 +37,13 @@ accepted_cases b p ss copy (Some fault) is ok =
     let e : ◌≡◌ {A = Result Copy Fault} (Err fault) (Ok copy) = sym (ap (λ (o : Option Fault). given o (copy_there b p ss)) is) ∙ ok in
     absurd (cc)
 
--- an accepted copy has the header that stands there
+-- an accepted copy is the one that stands there
+pub accepted_is : (b : List ℕ) (p ss : ℕ) (copy : Copy) → copy_at b p ss ≡ Ok copy → copy_there b p ss ≡ copy
+accepted_is b p ss copy ok = accepted_cases b p ss copy (copy_fault b p ss) refl ok
+
 accepted_header : (b : List ℕ) (p ss : ℕ) (copy : Copy) → copy_at b p ss ≡ Ok copy → header_of (part b p 92) ≡ copy.header
 unfolding copy_there
-accepted_header b p ss copy ok = ap (λ (c : Copy). c.header) (accepted_cases b p ss copy (copy_fault b p ss) refl ok)
+accepted_header b p ss copy ok = ap (λ (c : Copy). c.header) (accepted_is b p ss copy ok)
 
 -- ---- what two lists agree in
 

@@ -48,6 +48,7 @@ pub mod Places
 pub mod Placing
 pub mod Ranges
 pub mod ReadAlone
+pub mod ReadBack
 pub mod ReadEntry
 pub mod Readers
 pub mod ReadingLaw

@@ -1,8 +1,9 @@
-use Rattle.std.proofs.Common.{◌≡◌, inr, rules}
+use Rattle.std.proofs.Common.{◌≡◌, ⊎_elim, inr, false, sym, ◌∙◌, rules}
 use Rattle.gptimg_core.specs.Changes.{report_of}
+use Rattle.gptimg_core.specs.Checks.{is_good}
 use Rattle.gptimg_core.specs.declared.commands.Report.TheVariants.{Written, Table}
 use Rattle.gptimg_core.specs.declared.words.Command.TheVariants.{New, Mbr, Check, Show, Free, Change as Changing}
-use Rattle.gptimg_core.proofs.Told.{change_as, difference_printed, lines_as, same_printed, slots_printed, told_as}
+use Rattle.gptimg_core.proofs.Told.{bad_by, change_as, difference_printed, lines_as, same_printed, slots_printed, told_as}
 use Rattle.gptimg_core.proofs.run.Goals as goal
 
 pub returns-in_err-print_report-in-Ok-clause-wrote : goal.returns-in_err-print_report-in-Ok-clause-wrote
@@ -29,6 +30,13 @@ pub returns-in_ok-print_report-in-Ok-clause-stored : goal.returns-in_ok-print_re
 returns-in_ok-print_report-in-Ok-clause-stored g c honest ss guid asks layout done =
     let new : c.in-Some.command ≡ New ss guid = cc c.in-Some.ensures.value in
     c.in-Ok.ensures.stored honest ss guid new layout
+
+-- Only a look at both copies ends with status 1 where nothing is refused.
+pub returns-in_ok-print_report-in-Ok-clause-prints_refusal : goal.returns-in_ok-print_report-in-Ok-clause-prints_refusal
+returns-in_ok-print_report-in-Ok-clause-prints_refusal g c honest command asks done =
+    let is : c.in-Some.command ≡ command = cc c.in-Some.ensures.value in
+    let bad : is_good c.in-Ok.report ≡ false = bad_by (is_good c.in-Ok.report) c.status_of.result c.status_of.ensures done in
+    ⊎_elim (λ good. absurd (cc)) (λ check. inr (check.0, sym is ∙ check.1)) c.in-Ok.ensures.good
 
 pub returns-in_ok-print_report-in-Ok-clause-shown : goal.returns-in_ok-print_report-in-Ok-clause-shown
 returns-in_ok-print_report-in-Ok-clause-shown g c honest size asks done =

@@ -5,8 +5,9 @@ ghost use Rattle.gptman.specs.Disk.{Keeps, Rose};
 ghost use Rattle.gptman.specs.Calls.{answer_of, Fails, OnlyRead, Refuses};
 ghost use Rattle.gptman.specs.Copy.{copy_at};
 ghost use Rattle.gptman.specs.Fault.{fault_of, io as io_fault, out_of_memory};
-ghost use Rattle.gptman.specs.Reading.{backup, copy_in};
-ghost use Rattle.gptimg_core.specs.Checks.{seen_as, AreBothForms, AreFoundSame, AreOneTable, IsChecked};
+ghost use Rattle.gptman.specs.Reading.{primary as at_primary, backup as at_backup, copy_in};
+ghost use Rattle.gptman.specs.Table.{IsHeaderForm};
+ghost use Rattle.gptimg_core.specs.Checks.{seen_as, turned, AreBothForms, AreFoundSame, AreOneTable, IsChecked};
 
 use gptman::{Disk, Error, GPTHeader, GPTPartitionEntry, Result};
 use std::alloc::Global;
@@ -63,7 +64,7 @@ fn look_at_backup<D: Disk>(
     ensures keeps { Keeps (D.state disk.old) (D.state disk.new) }
     ensures reads { IsTrue (D.state disk.old).is_honest → OnlyRead (D.state disk.old) (D.state disk.new) }
     ensures found { IsTrue (D.state disk.old).is_honest → IfOk result (λ found. Fails found (D.state disk.old) (D.state disk.new)
-        ⊎ (answer_of seen_as found ≡ copy_in backup (D.state disk.old).view sector_size)) }
+        ⊎ (answer_of seen_as found ≡ copy_in at_backup (D.state disk.old).view sector_size)) }
     ensures refused { IfErr result (λ e. fault_of e ≡ out_of_memory) }
 {
     if size < sector_size {
@@ -125,7 +126,7 @@ fn read_here<D: Disk>(alloc: Global, disk: &mut D, sector_size: u64) -> Result<F
 
 // Whether both copies were found, and are one table.
 fn are_same(primary: &Result<FoundCopy>, backup: &Result<FoundCopy>) -> bool
-    ensures { IsTrue result → AreFoundSame (answer_of seen_as primary.now) (answer_of seen_as backup.now) }
+    ensures { IsTrue result ↔ AreFoundSame (answer_of seen_as primary.now) (answer_of seen_as backup.now) }
 {
     match (primary, backup) {
         (Ok(primary), Ok(backup)) => are_one_table(primary, backup),
@@ -135,7 +136,7 @@ fn are_same(primary: &Result<FoundCopy>, backup: &Result<FoundCopy>) -> bool
 
 // Whether the two copies are one table, the first in primary form and the second in backup form.
 fn are_one_table(primary: &FoundCopy, backup: &FoundCopy) -> bool
-    ensures { IsTrue result → AreOneTable (seen_as primary.now) (seen_as backup.now) }
+    ensures { IsTrue result ↔ AreOneTable (seen_as primary.now) (seen_as backup.now) }
 {
     are_both_forms(&primary.header, &backup.header)
         && are_same_entries(&primary.entries, &backup.entries)
@@ -144,19 +145,40 @@ fn are_one_table(primary: &FoundCopy, backup: &FoundCopy) -> bool
 // Whether the two headers are those of one table, the first in primary form and the second in backup
 // form.
 fn are_both_forms(primary: &GPTHeader, backup: &GPTHeader) -> bool
-    ensures { IsTrue result → AreBothForms primary.now backup.now }
+    ensures { IsTrue result ↔ AreBothForms primary.now backup.now }
+{
+    is_in_primary_form(primary) && is_in_backup_form(backup) && is_turned(primary, backup)
+}
+
+// Whether the header stands in sector 1, and its entries from sector 2.
+fn is_in_primary_form(header: &GPTHeader) -> bool
+    ensures { IsTrue result ↔ IsHeaderForm at_primary header.now }
+{
+    header.primary_lba == 1 && header.partition_entry_lba == 2
+}
+
+// Whether the other header stands in sector 1, and the entries behind the last usable sector.
+fn is_in_backup_form(header: &GPTHeader) -> bool
+    ensures { IsTrue result ↔ IsHeaderForm at_backup header.now }
+{
+    header.backup_lba == 1
+        && header.partition_entry_lba.checked_sub(1) == Some(header.last_usable_lba)
+}
+
+// Whether the second header is the first with its two sectors the other way round. The place of the
+// entries and the checksums, which each copy has of its own, are not compared.
+fn is_turned(primary: &GPTHeader, backup: &GPTHeader) -> bool
+    ensures { IsTrue result ↔ (backup.now ≡ turned primary.now backup.now) }
 {
     let other = GPTHeader {
         crc32_checksum: backup.crc32_checksum,
         primary_lba: primary.backup_lba,
-        backup_lba: 1,
+        backup_lba: primary.primary_lba,
         partition_entry_lba: backup.partition_entry_lba,
+        partition_entry_array_crc32: backup.partition_entry_array_crc32,
         ..*primary
     };
-    primary.primary_lba == 1
-        && primary.partition_entry_lba == 2
-        && backup.last_usable_lba.checked_add(1) == Some(backup.partition_entry_lba)
-        && *backup == other
+    *backup == other
 }
 
 // Whether the two lists are equal.

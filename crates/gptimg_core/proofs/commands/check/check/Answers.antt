@@ -1,12 +1,16 @@
-use Rattle.std.proofs.Common.{◌≡◌, ◌⊎◌, inl, inr, ℕ, List, Result, Ok, Err, sym, ap}
+use Rattle.std.proofs.Common.{◌≡◌, ◌⊎◌, ⊎_elim, inl, inr, ℕ, List, map, Result, Ok, Err, refl, sym, ap, subst, ◌∙◌}
 use Rattle.gptman.specs.Calls.{answer_of, Fails}
-use Rattle.gptman.specs.Copy.{copy_at}
-use Rattle.gptman.specs.Disk.{DiskState}
+use Rattle.gptman.specs.Copy.{Copy, copy_at}
+use Rattle.gptman.specs.Disk.{DiskState, Rose}
+use Rattle.gptman.specs.Fault.{Fault}
 use Rattle.gptman.specs.Reading.{primary, backup, copy_in}
+use Rattle.gptman.specs.Table.{Table, content_of, table_of}
+use Rattle.gptman.specs.declared.codec.entry.GPTPartitionEntry.{GPTPartitionEntry}
 use Rattle.gptman.specs.declared.error.Error.{Error}
+use Rattle.gptman.proofs.ReadBack.{same_entries}
 use Rattle.gptman.proofs.Readers.{reads_then, reads_seek}
 use Rattle.gptman.proofs.Runs.{keeps_then}
-use Rattle.gptimg_core.specs.Checks.{seen_as, AreFoundSame, HoldOneTable}
+use Rattle.gptimg_core.specs.Checks.{seen_as, AreFoundSame, AreOneTable, HoldOneTable}
 use Rattle.gptimg_core.specs.declared.commands.check.FoundCopy.{FoundCopy}
 use Rattle.gptimg_core.proofs.Read.{found_before, found_since}
 use Rattle.gptimg_core.proofs.commands.check.check.Goals as goal
@@ -19,15 +23,48 @@ both_hold view ss (Ok p) (Ok b) old new (inl fails) at_backup same = absurd fail
 both_hold view ss (Ok p) (Ok b) old new (inr first) (inl fails) same = absurd fails.0
 both_hold view ss (Ok p) (Ok b) old new (inr first) (inr second) same = (
   record {
-    table = same.table;
-    at_primary = record { copy = seen_as p; accepted = sym first; form = same.at_primary };
-    at_backup = record { copy = seen_as b; accepted = sym second; form = same.at_backup };
+    table = table_of p.header p.entries.items;
+    at_primary = record { copy = seen_as p; accepted = sym first; form = record { table = refl; form = same.forms.at_primary } };
+    at_backup = record {
+      copy = seen_as b;
+      accepted = sym second;
+      form = record {
+        table = ap (λ (es : List GPTPartitionEntry). table_of b.header es) (sym same.entries) ∙ same.forms.same p.entries.items;
+        form = same.forms.at_backup;
+      };
+    };
   },
   same,
 )
 both_hold view ss (Ok p) (Err e) old new at_primary at_backup same = absurd same
 both_hold view ss (Err e) (Ok b) old new at_primary at_backup same = absurd same
 both_hold view ss (Err e) (Err d) old new at_primary at_backup same = absurd same
+
+-- what is held as one table is found so
+found_so : (view : List ℕ) (ss : ℕ) (p b : Result FoundCopy Error) (old new : DiskState) → Fails p old new ⊎ (answer_of seen_as p ≡ copy_in primary view ss)
+    → Fails b old new ⊎ (answer_of seen_as b ≡ copy_in backup view ss) → HoldOneTable view ss
+    → AreFoundSame (answer_of seen_as p) (answer_of seen_as b) ⊎ Rose old new
+found_so view ss p b old new at_primary at_backup holds =
+    let first : Copy = holds.at_primary.copy in
+    let second : Copy = holds.at_backup.copy in
+    let tables : table_of second.header second.entries ≡ table_of first.header first.entries = holds.at_backup.form.table ∙ sym holds.at_primary.form.table in
+    let are : AreOneTable first second = record {
+      forms = record {
+        at_primary = holds.at_primary.form.form;
+        at_backup = holds.at_backup.form.form;
+        same = λ es. ap (λ (t : Table). record t { entries = map content_of es }) tables;
+      };
+      entries = same_entries primary backup view view ss first second holds.at_primary.accepted holds.at_backup.accepted
+          (ap (λ (t : Table). t.entries) (sym tables));
+    } in
+    ⊎_elim
+    (λ fails. inr fails.1)
+    (λ here. ⊎_elim
+    (λ fails. inr fails.1)
+    (λ there. inl (subst (λ (x : Result Copy Fault). AreFoundSame x (answer_of seen_as b)) (sym (here ∙ holds.at_primary.accepted))
+    (subst (λ (y : Result Copy Fault). AreFoundSame (Ok first) y) (sym (there ∙ holds.at_backup.accepted)) are)))
+    at_backup)
+    at_primary
 
 primary_as : (old start : List ℕ) (ss : ℕ) → start ≡ old → copy_at start ss ss ≡ copy_in primary old ss
 unfolding copy_in
@@ -57,5 +94,6 @@ returns-clause-checked g c = λ honest.
     record {
       at_primary = at_primary;
       at_backup = at_backup;
-      same = λ yes. both_hold old.view ss p b old new at_primary at_backup (c.are_same-are_same.ensures yes);
+      same = λ yes. both_hold old.view ss p b old new at_primary at_backup (c.are_same-are_same.ensures.0 yes);
+      differ = λ holds. ⊎_elim (λ same. inl (c.are_same-are_same.ensures.1 same)) (λ rose. inr rose) (found_so old.view ss p b old new at_primary at_backup holds);
     }

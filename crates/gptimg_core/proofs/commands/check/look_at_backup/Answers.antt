@@ -1,22 +1,14 @@
-use Rattle.std.proofs.Common.{◌≡◌, ◌≤◌, ◌<◌, ◌-◌, ◌*◌, ◌/◌, ◌⊎◌, inl, inr, ℕ, List, Bool, true, false, length, ltb, Result, Ok, Err, IfOk, sym, ap, ◌∙◌, arith}
+use Rattle.std.proofs.Common.{◌≡◌, ◌≤◌, ◌-◌, ◌*◌, ◌/◌, ◌⊎◌, inl, inr, ℕ, length, Result, Ok, Err, IfOk, sym, ap, ◌∙◌, arith}
 use Rattle.gptman.specs.Calls.{answer_of, Fails}
 use Rattle.gptman.specs.Copy.{Copy, copy_at}
 use Rattle.gptman.specs.Disk.{DiskState}
-use Rattle.gptman.specs.Fault.{Fault, invalid_signature}
+use Rattle.gptman.specs.Fault.{Fault}
 use Rattle.gptman.specs.Reading.{backup, copy_in}
 use Rattle.gptman.specs.declared.error.Error.{Error}
-use Rattle.gptman.proofs.Fallback.{backup_long}
+use Rattle.gptman.proofs.Fallback.{backup_long, backup_short}
 use Rattle.gptimg_core.specs.Checks.{seen_as}
 use Rattle.gptimg_core.specs.declared.commands.check.FoundCopy.{FoundCopy}
 use Rattle.gptimg_core.proofs.commands.check.look_at_backup.Goals as goal
-
--- a disk of less than a sector has no backup place
-backup_short : (b : List ℕ) (ss : ℕ) → length b < ss → copy_in backup b ss ≡ Err invalid_signature
-unfolding copy_in
-backup_short b ss short =
-    let t : ltb (length b) ss ≡ true = grind arith in
-    let choose : Bool → Result Copy Fault = λ small. elim small [ true ↦ Err invalid_signature | false ↦ copy_at b ((length b / ss - 1) * ss) ss ] in
-    ap choose t
 
 found_as : (r : Result (Result FoundCopy Error) Error) (old new : DiskState) (here there : Result Copy Fault) → here ≡ there
     → IfOk r (λ found. Fails found old new ⊎ (answer_of seen_as found ≡ here)) → IfOk r (λ found. Fails found old new ⊎ (answer_of seen_as found ≡ there))

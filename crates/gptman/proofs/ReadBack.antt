@@ -1,0 +1,44 @@
+-- The entries of an accepted copy are told by what they hold.
+use Rattle.std.proofs.Common.{◌≡◌, ◌*◌, ℕ, Bool, true, false, List, [], ◌∷◌, length, map, ltb, Result, Ok, Err, refl, sym, ap, ◌∙◌, subst, arith}
+use Rattle.std.specs.List.{range_with_len}
+use Rattle.gptman.specs.Bytes.{part}
+use Rattle.gptman.specs.Coding.{header_of, entry_of}
+use Rattle.gptman.specs.Copy.{Copy, copy_at, copy_there, entries_of, entries_part}
+use Rattle.gptman.specs.Fault.{Fault, invalid_signature}
+use Rattle.gptman.specs.Reading.{Place, primary, backup, copy_in}
+use Rattle.gptman.specs.Table.{TableEntry, content_of, entry_in}
+use Rattle.gptman.specs.declared.codec.entry.GPTPartitionEntry.{GPTPartitionEntry}
+use Rattle.gptman.proofs.Fallback.{backup_long, backup_short}
+use Rattle.gptman.proofs.Held.{accepted_is}
+
+-- the entries with these contents, as they are read back
+abbrev back : List GPTPartitionEntry → List GPTPartitionEntry
+back es = map entry_in (map content_of es)
+
+entries_back : (f : ℕ → List ℕ) (is : List ℕ) → back (map (λ i. entry_of (f i)) is) ≡ map (λ i. entry_of (f i)) is
+unfolding entry_of
+entries_back f [] = refl
+entries_back f (i ∷ is) = ap (λ (es : List GPTPartitionEntry). entry_of (f i) ∷ es) (entries_back f is)
+
+back_at : (b : List ℕ) (p ss : ℕ) (copy : Copy) → copy_at b p ss ≡ Ok copy → back copy.entries ≡ copy.entries
+unfolding copy_there entries_of
+back_at b p ss copy ok =
+    subst (λ (c : Copy). back c.entries ≡ c.entries) (accepted_is b p ss copy ok)
+    (entries_back (λ i. part (entries_part b p ss) (128 * i) 128) (range_with_len 0 (header_of (part b p 92)).number_of_partition_entries))
+
+back_in : (place : Place) (b : List ℕ) (ss : ℕ) (copy : Copy) → copy_in place b ss ≡ Ok copy → back copy.entries ≡ copy.entries
+unfolding copy_in
+back_in primary b ss copy ok = back_at b ss ss copy ok
+back_in backup b ss copy ok = by_length (ltb (length b) ss) refl
+  where
+    by_length : (short : Bool) → ltb (length b) ss ≡ short → back copy.entries ≡ copy.entries
+    by_length true is =
+        let e : ◌≡◌ {A = Result Copy Fault} (Err invalid_signature) (Ok copy) = sym (backup_short b ss (grind arith)) ∙ ok in
+        absurd (cc)
+    by_length false is = back_at b _ ss copy (sym (backup_long b ss (grind arith)) ∙ ok)
+
+-- So the entries of two accepted copies are equal where they hold the same.
+pub same_entries : (first second : Place) (b c : List ℕ) (ss : ℕ) (x y : Copy) → copy_in first b ss ≡ Ok x → copy_in second c ss ≡ Ok y
+    → map content_of x.entries ≡ map content_of y.entries → x.entries ≡ y.entries
+same_entries first second b c ss x y at_first at_second same =
+    sym (back_in first b ss x at_first) ∙ ap (λ (ts : List TableEntry). map entry_in ts) same ∙ back_in second c ss y at_second
