@@ -1,17 +1,10 @@
 -- Two headers of one table, the first in primary form and the second in backup form.
-use Rattle.std.proofs.Common.{◌≡◌, List, [], min, max, sym, ap, ◌∙◌, arith}
+use Rattle.std.proofs.Common.{◌≡◌, [], min, max, sym, ap, ◌∙◌, arith}
 use Rattle.gptman.specs.Reading.{primary, backup}
 use Rattle.gptman.specs.Table.{Table, table_of, IsHeaderForm}
-use Rattle.gptman.specs.declared.codec.entry.GPTPartitionEntry.{GPTPartitionEntry}
 use Rattle.gptman.specs.declared.codec.header.GPTHeader.{GPTHeader}
+use Rattle.gptman.proofs.OtherHeader.{other_table}
 use Rattle.gptimg_core.specs.Checks.{turned, AreBothForms}
-
--- a header that is turned is of the same table
-turned_table : (first second : GPTHeader) (es : List GPTPartitionEntry) → table_of (turned first second) es ≡ table_of first es
-turned_table first second es =
-    let low : min first.backup_lba first.primary_lba ≡ min first.primary_lba first.backup_lba = omega arith in
-    let high : max first.backup_lba first.primary_lba ≡ max first.primary_lba first.backup_lba = omega arith in
-    λ i. record (table_of first es) { low_sector = low i; high_sector = high i }
 
 -- in the two forms, headers are of one table where the second is the first one turned
 pub both_forms : (first second : GPTHeader) → IsHeaderForm primary first → IsHeaderForm backup second → second ≡ turned first second
@@ -19,7 +12,7 @@ pub both_forms : (first second : GPTHeader) → IsHeaderForm primary first → I
 both_forms first second at_primary at_backup is = record {
   at_primary = at_primary;
   at_backup = at_backup;
-  same = λ es. ap (λ (h : GPTHeader). table_of h es) is ∙ turned_table first second es;
+  same = λ es. ap (λ (h : GPTHeader). table_of h es) is ∙ other_table first es;
 }
 
 -- and only there

@@ -7,6 +7,7 @@ use Rattle.gptman.specs.Fault.{Fault}
 use Rattle.gptman.specs.Layout.{Holds}
 use Rattle.gptman.specs.Reading.{primary, backup, copy_in}
 use Rattle.gptman.specs.Table.{Table as DiskTable, table_of, IsHeaderForm}
+use Rattle.gptman.specs.Write.{other_header}
 use Rattle.gptman.specs.declared.codec.entry.GPTPartitionEntry.{GPTPartitionEntry}
 use Rattle.gptman.specs.declared.codec.header.GPTHeader.{GPTHeader}
 use Rattle.gptimg_core.specs.declared.commands.Report.{Report}
@@ -24,12 +25,10 @@ pub record HoldOneTable (view : List ℕ) (ss : ℕ) : Type 0 where
 abbrev pub seen_as : FoundCopy → Copy
 seen_as found = record { header = found.header; entries = found.entries.items }
 
--- the first header with its two sectors the other way round, and with the second's place of the entries and checksums
+-- the other header of the first, with the second's place of the entries and checksums
 abbrev pub turned : GPTHeader → GPTHeader → GPTHeader
-turned first second = record first {
+turned first second = record (other_header first) {
   crc32_checksum = second.crc32_checksum;
-  primary_lba = first.backup_lba;
-  backup_lba = first.primary_lba;
   partition_entry_lba = second.partition_entry_lba;
   partition_entry_array_crc32 = second.partition_entry_array_crc32;
 }

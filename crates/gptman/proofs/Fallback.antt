@@ -89,6 +89,16 @@ backup_short b ss short =
     let choose : Bool → Result Copy Fault = λ small. elim small [ true ↦ Err invalid_signature | false ↦ copy_at b ((length b / ss - 1) * ss) ss ] in
     ap choose t
 
+room_by : (b : List ℕ) (ss : ℕ) (copy : Copy) (short : Bool) → ltb (length b) ss ≡ short → copy_in backup b ss ≡ Ok copy → ss ≤ length b
+room_by b ss copy true is at =
+    let e : ◌≡◌ {A = Result Copy Fault} (Err invalid_signature) (Ok copy) = sym (backup_short b ss (grind arith)) ∙ at in
+    absurd (cc)
+room_by b ss copy false is at = grind arith
+
+-- so a disk that has a backup copy is no shorter
+pub backup_room : (b : List ℕ) (ss : ℕ) (copy : Copy) → copy_in backup b ss ≡ Ok copy → ss ≤ length b
+backup_room b ss copy at = room_by b ss copy (ltb (length b) ss) refl at
+
 pub backup_long : (b : List ℕ) (ss : ℕ) → ss ≤ length b → copy_in backup b ss ≡ copy_at b ((length b / ss - 1) * ss) ss
 unfolding copy_in
 backup_long b ss long =

@@ -1,14 +1,13 @@
 -- The entries of an accepted copy are told by what they hold.
-use Rattle.std.proofs.Common.{◌≡◌, ◌*◌, ℕ, Bool, true, false, List, [], ◌∷◌, length, map, ltb, Result, Ok, Err, refl, sym, ap, ◌∙◌, subst, arith}
+use Rattle.std.proofs.Common.{◌≡◌, ◌*◌, ℕ, List, [], ◌∷◌, map, Ok, refl, sym, ap, ◌∙◌, subst}
 use Rattle.std.specs.List.{range_with_len}
 use Rattle.gptman.specs.Bytes.{part}
 use Rattle.gptman.specs.Coding.{header_of, entry_of}
 use Rattle.gptman.specs.Copy.{Copy, copy_at, copy_there, entries_of, entries_part}
-use Rattle.gptman.specs.Fault.{Fault, invalid_signature}
 use Rattle.gptman.specs.Reading.{Place, primary, backup, copy_in}
 use Rattle.gptman.specs.Table.{TableEntry, content_of, entry_in}
 use Rattle.gptman.specs.declared.codec.entry.GPTPartitionEntry.{GPTPartitionEntry}
-use Rattle.gptman.proofs.Fallback.{backup_long, backup_short}
+use Rattle.gptman.proofs.Fallback.{backup_long, backup_room}
 use Rattle.gptman.proofs.Held.{accepted_is}
 
 -- the entries with these contents, as they are read back
@@ -29,13 +28,7 @@ back_at b p ss copy ok =
 back_in : (place : Place) (b : List ℕ) (ss : ℕ) (copy : Copy) → copy_in place b ss ≡ Ok copy → back copy.entries ≡ copy.entries
 unfolding copy_in
 back_in primary b ss copy ok = back_at b ss ss copy ok
-back_in backup b ss copy ok = by_length (ltb (length b) ss) refl
-  where
-    by_length : (short : Bool) → ltb (length b) ss ≡ short → back copy.entries ≡ copy.entries
-    by_length true is =
-        let e : ◌≡◌ {A = Result Copy Fault} (Err invalid_signature) (Ok copy) = sym (backup_short b ss (grind arith)) ∙ ok in
-        absurd (cc)
-    by_length false is = back_at b _ ss copy (sym (backup_long b ss (grind arith)) ∙ ok)
+back_in backup b ss copy ok = back_at b _ ss copy (sym (backup_long b ss (backup_room b ss copy ok)) ∙ ok)
 
 -- So the entries of two accepted copies are equal where they hold the same.
 pub same_entries : (first second : Place) (b c : List ℕ) (ss : ℕ) (x y : Copy) → copy_in first b ss ≡ Ok x → copy_in second c ss ≡ Ok y

@@ -1,13 +1,13 @@
 -- A disk that holds a table of a list at one place at least, and whose reading takes no foreign copy, is read as one of the list.
-use Rattle.std.proofs.Common.{◌≡◌, ◌≤◌, ℕ, Bool, true, false, List, length, ltb, Result, Ok, Err, refl, sym, ap, ◌∙◌, subst, inl, inr, arith}
+use Rattle.std.proofs.Common.{◌≡◌, ℕ, Bool, true, false, List, length, ltb, Result, Ok, Err, refl, sym, ap, ◌∙◌, subst, inl, inr, arith}
 use Rattle.std.specs.List.{Contains}
-use Rattle.gptman.specs.Fault.{Fault, invalid_signature}
-use Rattle.gptman.specs.Copy.{Copy, copy_at}
+use Rattle.gptman.specs.Fault.{Fault}
+use Rattle.gptman.specs.Copy.{Copy}
 use Rattle.gptman.specs.Layout.{Holds}
-use Rattle.gptman.specs.Reading.{Place, primary, backup, place_start, copy_in, fallback, reading_of, second_copy, taken_from}
+use Rattle.gptman.specs.Reading.{Place, primary, backup, copy_in, fallback, reading_of, second_copy, taken_from}
 use Rattle.gptman.specs.Stop.{HoldsOneOf, HoldsWhatIsRead, ReadsForeign, ReadsOneOf}
 use Rattle.gptman.specs.Table.{Table, IsForm}
-use Rattle.gptman.proofs.Fallback.{fallback_long, fallback_short, refused_first, taken_first}
+use Rattle.gptman.proofs.Fallback.{backup_room, fallback_long, fallback_short, refused_first, taken_first}
 use Rattle.gptman.proofs.SameTable.{one_of_decided}
 
 abbrev from : Result Copy Fault → Place
@@ -21,19 +21,10 @@ pub from_second : (b : List ℕ) (ss : ℕ) (fault : Fault) → copy_in primary 
 unfolding taken_from
 from_second b ss fault is = ap from is
 
--- a disk that has a backup copy is no shorter than a sector
-long_enough : (b : List ℕ) (ss : ℕ) (copy : Copy) (small : Bool) → ltb (length b) ss ≡ small → copy_in backup b ss ≡ Ok copy → ss ≤ length b
-unfolding copy_in
-long_enough b ss copy true is at =
-    let choose : Bool → Result Copy Fault = λ t. elim t [ true ↦ Err invalid_signature | false ↦ copy_at b (place_start backup (length b) ss) ss ] in
-    let e = sym (ap choose is) ∙ at in
-    absurd (cc)
-long_enough b ss copy false is at = grind arith
-
 -- where the primary copy has a fault the backup one is taken
 pub taken_second : (b : List ℕ) (ss : ℕ) (fault : Fault) (copy : Copy) → copy_in primary b ss ≡ Err fault → copy_in backup b ss ≡ Ok copy → reading_of b ss ≡ Ok copy
 taken_second b ss fault copy refused at =
-    refused_first b ss fault refused ∙ fallback_long b ss fault (long_enough b ss copy (ltb (length b) ss) refl at) ∙ ap (second_copy fault) at
+    refused_first b ss fault refused ∙ fallback_long b ss fault (backup_room b ss copy at) ∙ ap (second_copy fault) at
 
 reads_cases : (b : List ℕ) (ss : ℕ) (tables : List Table) (r : Result Copy Fault) → copy_in primary b ss ≡ r → (place : Place) (t : Table) → Contains tables t → Holds b ss place t
     → ¬ ReadsForeign b ss tables → ReadsOneOf b ss tables
