@@ -4,7 +4,7 @@ use Rattle.gptman.specs.Bytes.{part}
 use Rattle.gptman.specs.Copy.{array_result, entries_start, entries_length}
 use Rattle.gptman.specs.Disk.{DiskState, Rose, Keeps}
 use Rattle.gptman.specs.Fault.{Fault, io, out_of_memory}
-use Rattle.gptman.specs.Calls.{IsBlockFault, IsSeekFault, wrong_size, wrong_place, disk_failed, IsReadyFor, empty, there}
+use Rattle.gptman.specs.Calls.{IsBlockFault, IsSeekFault, wrong_size, wrong_place, past_end, disk_failed, IsReadyFor, empty, there}
 use Rattle.gptman.specs.declared.codec.header.GPTHeader.{GPTHeader}
 use Rattle.gptman.proofs.Runs.{rose_since}
 use Rattle.gptman.proofs.CopyTests.{IsInPlace, array_size_wrong, array_beyond, array_short}
@@ -14,10 +14,12 @@ abbrev pub IsOutcome : List ℕ → ℕ → GPTHeader → Fault → DiskState �
 IsOutcome b ss h fault old new = ((fault ≡ io) × Rose old new) ⊎ ((fault ≡ out_of_memory) ⊎ (Err fault ≡ array_result b ss h))
 
 -- going to the entries was refused
-pub seek_refused : (b : List ℕ) (ss : ℕ) (h : GPTHeader) (fault : Fault) (old new : DiskState) → IsSeekFault h ss fault old new → IsOutcome b ss h fault old new
-seek_refused b ss h fault old new (wrong_size some wrong is) = inr (inr (ap Err is ∙ sym (array_size_wrong b ss h some wrong)))
-seek_refused b ss h fault old new (wrong_place some right beyond is) = inr (inr (ap Err is ∙ sym (array_beyond b ss h some right beyond)))
-seek_refused b ss h fault old new (disk_failed is rose) = inl (is, rose)
+pub seek_refused : (b : List ℕ) (ss : ℕ) (h : GPTHeader) (fault : Fault) (old new : DiskState) → length b ≡ old.size → IsSeekFault h ss fault old new → IsOutcome b ss h fault old new
+seek_refused b ss h fault old new size (wrong_size some wrong is) = inr (inr (ap Err is ∙ sym (array_size_wrong b ss h some wrong)))
+seek_refused b ss h fault old new size (wrong_place some right beyond is) = inr (inr (ap Err is ∙ sym (array_beyond b ss h some right beyond)))
+seek_refused b ss h fault old new size (past_end is they) =
+    inr (inr (ap Err is ∙ sym (array_short b ss h they.some they.entry_size they.fits (omega (arith, size, they.past)))))
+seek_refused b ss h fault old new size (disk_failed is rose) = inl (is, rose)
 
 -- a block was refused past the end of the disk
 short_refused : (b : List ℕ) (ss : ℕ) (h : GPTHeader) (mid : DiskState) → IsReadyFor h ss mid → length b ≡ mid.size → mid.size < mid.position + 128 * h.number_of_partition_entries

@@ -4,7 +4,7 @@ use Rattle.gptman.specs.Disk.{DiskState, Agrees, Image, Rose, Within, Wrote, ove
 use Rattle.gptman.specs.Bytes.{part}
 use Rattle.gptman.specs.Coding.{FitsHeader, FitsEntry, header_bytes, array_bytes}
 use Rattle.gptman.specs.Fault.{Fault, io, invalid_signature, invalid_revision, invalid_header_size, invalid_checksum, invalid_array_checksum, read_error, overflow, out_of_memory, invalid_entry_size, fault_of}
-use Rattle.gptman.specs.Copy.{Copy, entries_start}
+use Rattle.gptman.specs.Copy.{Copy, entries_start, entries_length}
 use Rattle.gptman.specs.Reading.{Place, primary, backup, copy_in, fallback, reading_of}
 use Rattle.gptman.specs.Table.{entries_in, sealed}
 use Rattle.gptman.specs.Valid.{IsValid, IsValidity}
@@ -133,10 +133,18 @@ sealed_value g = record g { header = sealed g.header (entries_in g) }
 abbrev pub IsBlockFault : ℕ → Fault → DiskState → DiskState → Type 0
 IsBlockFault len fault old new = (fault ≡ out_of_memory) ⊎ ((fault ≡ io) × (Rose old new ⊎ (old.size < old.position + len)))
 
--- what going to the entries may be refused with: their size or their place is wrong, or the disk failed
+-- A header's entries, of the right size and at a place that fits in 64 bits, pass the end of a disk of so many bytes.
+pub record PassTheEnd (h : GPTHeader) (ss size : ℕ) : Type 0 where
+  pub some : h.number_of_partition_entries ≢ 0
+  pub entry_size : h.size_of_partition_entry ≡ 128
+  pub fits : entries_start h ss < 2 ^ 64
+  pub past : size < entries_start h ss + entries_length h
+
+-- what going to the entries may be refused with: their size or their place is wrong, they pass the end of the disk, or it failed
 pub data IsSeekFault (h : GPTHeader) (ss : ℕ) (fault : Fault) (old new : DiskState) : Type 0 where
   wrong_size : h.number_of_partition_entries ≢ 0 → h.size_of_partition_entry ≢ 128 → fault ≡ invalid_entry_size h.size_of_partition_entry → IsSeekFault h ss fault old new
   wrong_place : h.number_of_partition_entries ≢ 0 → h.size_of_partition_entry ≡ 128 → 2 ^ 64 ≤ entries_start h ss → fault ≡ overflow → IsSeekFault h ss fault old new
+  past_end : fault ≡ io → PassTheEnd h ss old.size → IsSeekFault h ss fault old new
   disk_failed : fault ≡ io → Rose old new → IsSeekFault h ss fault old new
 
 -- there are no entries to read, or the disk stands where they begin

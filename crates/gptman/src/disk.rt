@@ -91,6 +91,11 @@ pub trait Disk {
     ghost sound: { (disk : Self) → IsTrue (state disk).is_honest → IsSound (state disk) };
 }
 
+// The error of a read that passes the end, which is no failure of the device.
+pub(crate) fn past_end() -> io::Error {
+    io::Error::new(io::ErrorKind::UnexpectedEof, "past the end")
+}
+
 // One failure more, up to the greatest number of 64 bits.
 fn count_failure(failures: &mut u64)
     ensures later { failures.old ≤ failures.new }

@@ -1,7 +1,8 @@
 //! Disks that fail while a table is read: at one call, or from one call on.
 //!
-//! A reading goes to a header and reads it, and goes to its entries and reads them in four blocks.
-//! Where the primary copy is not read, it takes the length before it goes on to the backup copy.
+//! A reading goes to a header and reads it, takes the length, goes to the entries and reads them in
+//! four blocks. Where the primary copy is not read, it takes the length before it goes on to the
+//! backup copy.
 
 use crate::asserts::got;
 use crate::faulty::failing_once;
@@ -93,15 +94,15 @@ fn broken_image(rt: &impl Abort, alloc: Global, at: usize) -> Vec<u8> {
 }
 
 // After two calls to the primary header, the length is taken and the backup header is gone to. The
-// next six calls read the backup copy.
+// next seven calls read the backup copy.
 #[test]
 fn one_failed_call_of_the_fallback_is_answered(rt: HostRuntime) {
     for (at, faults) in FAULTS {
         let image = broken_image(&rt, rt.alloc(), at);
-        for call in 0..12_u64 {
+        for call in 0..13_u64 {
             let said = match call {
                 2 | 3 => FAILED,
-                4..=9 => faults,
+                4..=10 => faults,
                 _ => BACKUP,
             };
             assert_once(&rt, rt.alloc(), &image, call, said);
@@ -113,10 +114,10 @@ fn one_failed_call_of_the_fallback_is_answered(rt: HostRuntime) {
 fn a_device_that_fails_from_a_call_on_is_answered(rt: HostRuntime) {
     for (at, faults) in FAULTS {
         let image = broken_image(&rt, rt.alloc(), at);
-        for call in 0..12_u64 {
+        for call in 0..13_u64 {
             let said = match call {
                 0..=3 => FAILED,
-                4..=9 => faults,
+                4..=10 => faults,
                 _ => BACKUP,
             };
             assert_from(&rt, rt.alloc(), &image, call, said);
@@ -127,8 +128,8 @@ fn a_device_that_fails_from_a_call_on_is_answered(rt: HostRuntime) {
 #[test]
 fn one_failed_call_does_not_lose_a_good_table(rt: HostRuntime) {
     let image = image_of_new_table(&rt, rt.alloc(), 0);
-    for call in 0..9 {
-        let said = if call < 7 { BACKUP } else { PRIMARY };
+    for call in 0..10 {
+        let said = if call < 8 { BACKUP } else { PRIMARY };
         assert_once(&rt, rt.alloc(), &image, call, said);
     }
 }
@@ -141,12 +142,12 @@ fn one_failed_call_finds_no_other_sector_size(rt: HostRuntime) {
     let backup =
         "could not read primary header (invalid signature) nor backup header (generic I/O error)";
     let image = image_of(&rt, rt.alloc(), &got(&rt, disk_2(rt.alloc())));
-    for call in 0..14_u64 {
+    for call in 0..15_u64 {
         let said = match call {
             0 | 1 => primary,
             2 | 3 => FAILED,
             4 => backup,
-            5..=11 => "sectors of 4096, header in 99",
+            5..=12 => "sectors of 4096, header in 99",
             _ => "sectors of 4096, header in 1",
         };
         let disk = failing_once(&rt, rt.alloc(), &image, call);

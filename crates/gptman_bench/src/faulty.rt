@@ -30,6 +30,11 @@ impl<D: Disk> FaultyDisk<D> {
         }
     }
 
+    /// How many calls come before the one that fails. None once it has failed.
+    pub(crate) fn calls_left(&self) -> Option<u64> {
+        self.calls_left
+    }
+
     /// The disk below, with all that was passed on to it.
     pub(crate) fn into_inner(self) -> D
         ensures { result ≡ self.below }

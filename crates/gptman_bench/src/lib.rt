@@ -43,6 +43,8 @@ mod names;
 #[cfg(test)]
 mod oracle;
 #[cfg(test)]
+mod past_end;
+#[cfg(test)]
 mod places;
 #[cfg(test)]
 mod ported;

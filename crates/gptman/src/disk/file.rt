@@ -6,7 +6,7 @@ ghost use Rattle.std.specs.Prelude.{◌≡◌, ◌≤◌, ◌+◌, ◌<◌, ◌^
 ghost use Rattle.gptman.specs.Disk.{Keeps, Rose};
 ghost use Rattle.gptman.specs.File.{file_state, false_is_true};
 
-use super::{Disk, count_failure};
+use super::{Disk, count_failure, past_end};
 use crate::error::Result;
 use std::fs::{File, OpenOptions};
 use std::io;
@@ -99,7 +99,7 @@ impl Disk for FileDisk {
     {
         let len = buf.len() as u64;
         if self.position > self.size || len > self.size - self.position {
-            return Err(io::Error::new(io::ErrorKind::UnexpectedEof, "past the end"));
+            return Err(past_end());
         }
         if let Err(error) = self.file.read_exact(buf) {
             count_failure(&mut self.failures);

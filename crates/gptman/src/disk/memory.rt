@@ -8,7 +8,7 @@ ghost use Rattle.std.specs.List.{list_all};
 ghost use Rattle.gptman.specs.Disk.{Image, Keeps, Rose, Wrote, overlay};
 ghost use Rattle.gptman.specs.Memory.{memory_state, memory_sound, view_of, event_fits, serves, after_call};
 
-use super::{Disk, count_failure};
+use super::{Disk, count_failure, past_end};
 use crate::error::Result;
 use std::alloc::Global;
 use std::io;
@@ -258,7 +258,7 @@ impl Disk for MemoryDisk {
         let size = self.bytes.len() as u64;
         let len = buf.len() as u64;
         if self.position > size || len > size - self.position {
-            return Err(io::Error::new(io::ErrorKind::UnexpectedEof, "past the end"));
+            return Err(past_end());
         }
         if !served {
             return Err(fail(&mut self.failures));

@@ -11,13 +11,13 @@ ghost use Rattle.gptman.specs.Crc.{crc_of};
 ghost use Rattle.gptman.specs.Disk.{Keeps, Rose};
 ghost use Rattle.gptman.specs.Fault.{fault_of, first_failing, io as io_fault, out_of_memory};
 ghost use Rattle.gptman.specs.Register.{HasTaken};
-ghost use Rattle.gptman.specs.Calls.{answer_of, Refuses, RefusesOnly, Fails, OnlyRead, is_header_fault, is_array_fault, IsBlockFault, IsSeekFault, IsReadyFor};
+ghost use Rattle.gptman.specs.Calls.{answer_of, Refuses, RefusesOnly, Fails, OnlyRead, is_header_fault, is_array_fault, IsBlockFault, IsSeekFault, IsReadyFor, PassTheEnd};
 
 use crate::codec::entry::GPTPartitionEntry;
 use crate::codec::header::GPTHeader;
 use crate::codec::part_at;
 use crate::crc::Checksum;
-use crate::disk::Disk;
+use crate::disk::{Disk, past_end};
 use crate::error::{Error, Result};
 use crate::header::{ENTRY_SIZE, HEADER_SIZE, REVISION, SIGNATURE};
 use std::alloc::Global;
@@ -72,6 +72,8 @@ impl GPTHeader {
     /// The first test that fails names the error: `InvalidPartitionEntrySize` (not where there is no
     /// entry), `Overflow` where that byte's number does not fit in 64 bits, `Io` where the disk failed
     /// or ends before, `InvalidPartitionEntryArrayChecksum`; `OutOfMemory` at any growth of the list.
+    /// Entries that the header counts past the end of the disk are refused before any is read, and no
+    /// memory is taken for them.
     pub fn read_partitions<D: Disk>(
         &self,
         alloc: Global,
@@ -86,6 +88,7 @@ impl GPTHeader {
             ⊎ (answer_of (λ v. v.items) result ≡ array_result (D.state disk.old).view sector_size self.now)) }
         ensures count { IfOk result (λ v. length v.items ≡ self.now.number_of_partition_entries) }
         ensures entry_size { OnOk result ((self.now.number_of_partition_entries ≡ 0) ⊎ (self.now.size_of_partition_entry ≡ 128)) }
+        ensures past_end { PassTheEnd self.now sector_size (D.state disk.old).size → Refuses result io_fault }
         ensures refused { RefusesOnly is_array_fault result }
         ensures cause { Refuses result io_fault → Rose (D.state disk.old) (D.state disk.new)
             ⊎ ((self.now.number_of_partition_entries ≢ 0)
@@ -102,11 +105,12 @@ impl GPTHeader {
         Ok(array.partitions)
     }
 
-    // Goes to the first byte of the entries, where there are some.
+    // Goes to the first byte of the entries, where there are some and the disk has them all.
     fn seek_entries<D: Disk>(&self, disk: &mut D, sector_size: u64) -> Result<()>
         ensures keeps { Keeps (D.state disk.old) (D.state disk.new) }
         ensures reads { IsTrue (D.state disk.old).is_honest → OnlyRead (D.state disk.old) (D.state disk.new) }
         ensures ready { OnOk result (IsReadyFor self.now sector_size (D.state disk.new)) }
+        ensures past_end { PassTheEnd self.now sector_size (D.state disk.old).size → Refuses result io_fault }
         ensures refused { IfErr result (λ e. IsSeekFault self.now sector_size (fault_of e) (D.state disk.old) (D.state disk.new)) }
     {
         if self.number_of_partition_entries == 0 {
@@ -118,6 +122,9 @@ impl GPTHeader {
         let Some(start) = self.partition_entry_lba.checked_mul(sector_size) else {
             return Err(Error::Overflow);
         };
+        if self.end_of_entries(sector_size) > u128::from(disk.seek_end()?) {
+            return Err(Error::Io(past_end()));
+        }
         disk.seek_start(start)?;
         Ok(())
     }

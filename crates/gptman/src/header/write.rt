@@ -92,8 +92,8 @@ impl GPTHeader {
         u128::from(self.primary_lba) * u128::from(sector_size) + 92
     }
 
-    // The byte behind the entries, or 0 where there are none.
-    fn end_of_entries(&self, sector_size: u64) -> u128
+    /// The byte behind the entries, or 0 where there are none.
+    pub(crate) fn end_of_entries(&self, sector_size: u64) -> u128
         ensures { result ≡ (if nat_eq self.now.number_of_partition_entries 0 then 0
             else self.now.partition_entry_lba * sector_size + 128 * self.now.number_of_partition_entries) }
     {

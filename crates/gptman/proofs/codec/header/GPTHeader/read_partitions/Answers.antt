@@ -12,7 +12,7 @@ pub returns-in_err-seek_entries-clause-answer : goal.returns-in_err-seek_entries
 returns-in_err-seek_entries-clause-answer g c = λ honest.
     let old = g.D.Disk.state c.args.disk.now in
     let p = err_from_is_err_and c.from_residual.result c.from_residual.ensures.1 in
-    rw (p.1, p.2) (seek_refused old.view c.args.sector_size c.args.self.now _ old _ c.in_err-seek_entries.ensures.refused)
+    rw (p.1, p.2) (seek_refused old.view c.args.sector_size c.args.self.now _ old _ (g.met.D.Disk.sound c.args.disk.now honest).size c.in_err-seek_entries.ensures.refused)
 
 pub returns-in_err-array-clause-answer : goal.returns-in_err-array-clause-answer
 returns-in_err-array-clause-answer g c = λ honest.
