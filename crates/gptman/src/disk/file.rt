@@ -14,6 +14,17 @@ use std::io::{Read, Seek, SeekFrom, Write};
 use std::rt::Files;
 
 /// A disk over an open file. Its length in bytes is that which the file had at the opening.
+///
+/// Two things belong to the process, and not to the disk. A program that opens one sees to them:
+///
+/// - **Standard streams.** A file that is opened gets the lowest descriptor that is free. Where the
+///   program was started with standard input, output or error closed, that is 0, 1 or 2, and what is
+///   printed then goes into the disk. So before the first opening open the null device for reading,
+///   until its descriptor is above 2, and hold these files as long as the program runs.
+/// - **Several writers.** No lock is taken, and two programs that read the same table and write
+///   changes of it lose one of the two. Where others may write to the file, open it once more for
+///   reading alone, take `File::lock` on that before this disk is opened, and hold it until the disk
+///   is dropped. It holds off programs that take this lock too, and no others.
 #[derive(Drop)]
 pub struct FileDisk {
     file: File,
