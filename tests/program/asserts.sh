@@ -28,8 +28,8 @@ has() {
 # The text in one line, cut where it is long.
 quoted() {
     local text=$1
-    if [ "${#text}" -gt 400 ]; then
-        text="${text:0:400}.. (${#text} characters)"
+    if [ "${#text}" -gt 1000 ]; then
+        text="${text:0:1000}.. (${#text} characters)"
     fi
     printf '%s\n' "${text@Q}"
 }

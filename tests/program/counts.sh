@@ -63,37 +63,37 @@ run_quickly() {
 try_huge_image() {
     local image=huge.img table
     table="disk $disk usable 34..2097118 entries 128 align 2"
-    make_table $image 1G
-    says 0 "1 34..2097118" $image 512 add 1 $data $one 2097085 first 2 all
-    count_entries $image $((0xffffffff))
-    run_quickly $image 512 show
+    make_table "$image" 1G
+    says 0 "1 34..2097118" "$image" 512 add 1 $data $one 2097085 first 2 all
+    count_entries "$image" $((0xffffffff))
+    run_quickly "$image" 512 show
     equals "gptimg $image 512 show" "0 sector 512 form backup $table"$'\n'"1 $data $one 34..2097118 \
 0000000000000000 all"$'\n' "$answer"
-    run_quickly $image auto free 1
+    run_quickly "$image" auto free 1
     equals "gptimg $image auto free 1" "0 " "$answer"
-    run_quickly $image 512 check
+    run_quickly "$image" 512 check
     equals "gptimg $image 512 check" $'1 primary fault Io\nbackup ok\nsame no\n' "$answer"
     try_huge_repair
     try_huge_damage
-    rm $image
+    rm "$image"
 }
 
 # The next write repairs it.
 try_huge_repair() {
-    run_quickly $image 512 remove 1
+    run_quickly "$image" 512 remove 1
     equals "gptimg $image 512 remove 1" $'0 ok\n' "$answer"
-    run_quickly $image 512 check
+    run_quickly "$image" 512 check
     equals "gptimg $image 512 check" "0 $same"$'\n' "$answer"
-    run_quickly $image 512 show
+    run_quickly "$image" 512 show
     equals "gptimg $image 512 show" "0 sector 512 form primary ${table/%2/2048}"$'\n' "$answer"
 }
 
 # Where the backup copy is damaged too, the faults of both are told.
 try_huge_damage() {
-    count_entries $image $((0xffffffff))
-    clear_sectors $image 2097151 1
-    run_quickly $image 512 show
+    count_entries "$image" $((0xffffffff))
+    clear_sectors "$image" 2097151 1
+    run_quickly "$image" 512 show
     equals "gptimg $image 512 show" $'1 fault: ReadError(Io, InvalidSignature)\n' "$answer"
-    run_quickly $image 512 sort
+    run_quickly "$image" 512 sort
     equals "gptimg $image 512 sort" $'1 fault: ReadError(Io, InvalidSignature)\n' "$answer"
 }

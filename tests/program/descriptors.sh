@@ -1,21 +1,26 @@
 # shellcheck shell=bash disable=SC2154 # the words are in images.sh, and what was run in asserts.sh
 # Standard streams that are closed, and too few descriptors.
 
+# Closes the descriptors of this set.
+close_set() {
+    case $1 in *0*) exec 0<&- ;; esac
+    case $1 in *1*) exec 1>&- ;; esac
+    case $1 in *2*) exec 2>&- ;; esac
+}
+
 # Runs the program with the descriptors of this set closed.
 closed() (
-    set=$1
+    close_set "$1"
     shift
-    case $set in *0*) exec 0<&- ;; esac
-    case $set in *1*) exec 1>&- ;; esac
-    case $set in *2*) exec 2>&- ;; esac
     exec "$program" "$@"
 )
 
 # The same where only descriptors below this number may be opened.
 closed_and_few() (
-    ulimit -n "$1"
-    shift
-    closed "$@"
+    close_set "$1"
+    ulimit -n "$2"
+    shift 2
+    exec "$program" "$@"
 )
 
 # Each command on each image, with each set of closed descriptors.
@@ -73,7 +78,7 @@ try_few_descriptors() {
             for set in "" 0 1 2 01 02 12 012; do
                 cp good.img tried.img
                 # shellcheck disable=SC2086 # the words are several
-                run closed_and_few "$limit" "$set" tried.img 512 $line
+                run closed_and_few "$set" "$limit" tried.img 512 $line
                 is_done_or_few "$set" "gptimg $line, with '$set' closed and $limit descriptors"
             done
         done

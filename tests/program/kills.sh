@@ -9,7 +9,7 @@ try_kills() {
     "$program" killed.img 512 add 2 $data $two 5 last 4 Bar > /dev/null
     run "$program" killed.img 512 show
     without=$answer
-    "$program" killed.img 512 add 3 $data $disk 1 first 1 Baz > /dev/null
+    "$program" killed.img 512 add 3 $data $disk 1 last 1 Baz > /dev/null
     run "$program" killed.img 512 show
     with=$answer
     measure_run
@@ -61,8 +61,8 @@ start_round() {
         done_answer=$'0 ok\n'
     else
         new=$with
-        line="add 3 $data $disk 1 first 1 Baz"
-        done_answer=$'0 3 44..44\n'
+        line="add 3 $data $disk 1 last 1 Baz"
+        done_answer=$'0 3 66..66\n'
     fi
 }
 
@@ -71,7 +71,7 @@ run_killed() {
     local delay
     printf -v delay '0.%06d' $((RANDOM * longest / 32768 % 999999 + 1))
     # shellcheck disable=SC2086 # the words are several
-    run timeout --foreground -s KILL "$delay" "$program" killed.img 512 $line
+    run timeout --foreground --preserve-status -s KILL "$delay" "$program" killed.img 512 $line
 }
 
 # Counts whether the next write makes both copies one table.

@@ -16,10 +16,10 @@ try_little_memory() {
         run_with_all_open good.img "tried.img 512 $line"
         find_least_limit "$line"
         for step in {0..99}; do
-            try_limit $((least - 4 * step)) "$line"
+            try_limit $((least - step)) "$line"
         done
         for step in {1..50}; do
-            try_limit $((least - 400 - 40 * step)) "$line"
+            try_limit $((least - 100 - 10 * step)) "$line"
         done
     done
     holds "a command is refused for want of memory" [ "$refused" -gt 0 ]
@@ -32,28 +32,28 @@ run_within() {
     run within "$1" "$program" tried.img 512 $2
 }
 
-# Halves the limits until `least` is the least one, in steps of 4 KiB, with which the line is done.
+# Halves the limits until `least` is the least one, in pages of 4 KiB, with which the line is done.
 find_least_limit() {
-    local low=0 high=100000 middle
-    run_within $high "$1"
-    equals "gptimg $1, within $high KiB" "$done_answer" "$answer"
-    while [ $((high - low)) -gt 4 ]; do
-        middle=$(((low + high) / 8 * 4))
-        run_within $middle "$1"
+    local low=0 middle
+    least=25000
+    run_within $((4 * least)) "$1"
+    equals "gptimg $1, within 100 MB" "$done_answer" "$answer"
+    while [ $((least - low)) -gt 1 ]; do
+        middle=$(((low + least) / 2))
+        run_within $((4 * middle)) "$1"
         if [ "$status" -eq 0 ]; then
-            high=$middle
+            least=$middle
         else
             low=$middle
         fi
     done
-    least=$high
 }
 
-# Counts whether the line does that within so many KiB.
+# Counts whether the line does that within so many pages.
 try_limit() {
-    local text="gptimg $2, within $1 KiB"
+    local text="gptimg $2, within $((4 * $1)) KiB"
     [ "$1" -gt 0 ] || return
-    run_within "$1" "$2"
+    run_within $((4 * $1)) "$2"
     if [ "$status" -eq 0 ]; then
         state_of tried.img "$after"
         equals "$text" "$done_answer, image as wanted" "$answer, $state"

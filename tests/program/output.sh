@@ -3,7 +3,9 @@
 
 # Runs a command with a pipe as its standard output whose reader is gone already.
 without_reader() (
-    exec 3<> pipe 4> pipe 3<&-
+    exec 3<> pipe
+    exec 4> pipe
+    exec 3<&-
     exec "$@" >&4 4>&-
 )
 

@@ -11,7 +11,7 @@ try_ten_writers() {
         add_ten
         rm busy
         wait
-        equals "ten adds at once: what another program was told" "" "$(< read)"
+        equals "ten adds at once: what another program was told" "" "$(< told)"
         equals "ten adds at once: the lines of the table" "$(< wanted)" \
             "$("$program" ten.img 512 show | tail -n +2)"
         says 0 "$same" ten.img 512 check
@@ -20,9 +20,9 @@ try_ten_writers() {
 
 # Shows the table again and again as long as others write, and keeps what is no table.
 read_while_busy() {
-    : > read
+    : > told
     while [ -e busy ]; do
-        "$program" ten.img 512 show > shown 2>&1 || cat shown >> read
+        "$program" ten.img 512 show > shown 2>&1 || cat shown >> told
     done
 }
 
@@ -96,11 +96,16 @@ reads_at_once() {
     equals "gptimg $1 while another program holds the lock" "$wanted" "$answer"
 }
 
+# Whether this process of ours has not ended.
+is_running() {
+    kill -0 "$1" 2> /dev/null
+}
+
 # Counts whether none of the commands that write has ended, printed or written.
 writers_wait() {
     for number in "${!jobs[@]}"; do
         line=${writers[number]}
-        holds "gptimg $line waits for its turn" kill -0 "${jobs[number]}"
+        holds "gptimg $line waits for its turn" is_running "${jobs[number]}"
         equals "gptimg $line while it waits: what it printed" "" "$(< "turn.$((number + 1))")"
     done
     keeps_bytes turn.img "$before"
