@@ -40,7 +40,7 @@ clean_up() {
     rm -rf "$folder"
 }
 
-folder=$(mktemp -d) || exit
+folder=$(realpath "$(mktemp -d)") || exit
 trap clean_up EXIT
 trap 'exit 1' HUP INT TERM
 cd "$folder" || exit
@@ -62,6 +62,7 @@ try "a turn for each writer" try_turns
 try "killed writers" try_kills
 try "images of sgdisk" try_sgdisk
 try "images of sfdisk" try_sfdisk
+try "a table of many entries" try_many_entries
 try "calls of the system" try_calls
 
 echo "$passed passed, $failed failed"

@@ -79,10 +79,9 @@ try_changes() {
 
 # A table of 128 partitions, each with the longest name.
 try_full_image() {
-    local lines
     says 0 "$same" full.img 512 check
     run "$program" full.img 512 show
-    mapfile -t lines <<< "${printed%$'\n'}"
-    equals "the lines of a table of 128 partitions" 129 "${#lines[@]}"
+    equals "the lines of 128 partitions" "$filled" "${printed#*$'\n'}"
+    equals "the status of show" 0 "$status"
     says 1 "fault: InvalidPartitionNumber" full.img 512 add 129 $data $one 1 first 1 more
 }

@@ -53,7 +53,7 @@ keeps_bytes() {
 }
 
 # The images of 100 sectors that the subjects copy: a good one, one without a primary header, and one
-# that was made longer. Then one of a table that has as many bytes to print as 128 entries can have.
+# that was made longer. Then one with 128 partitions.
 make_images() {
     make_table good.img 51200
     "$program" good.img 512 mbr plain > /dev/null
@@ -66,11 +66,19 @@ make_images() {
 }
 
 make_full_image() {
+    make_table full.img 1M
+    fill_table full.img 128 34
+}
+
+# Adds so many partitions to a table without any, whose first usable sector is the last word. They have
+# one sector each, and the longest name. Then `filled` has the lines that `show` prints of them.
+fill_table() {
     local number unique name
     printf -v name '€%.0s' {1..36}
-    make_table full.img 1M
-    for number in {1..128}; do
+    filled=
+    for ((number = 1; number <= $2; number++)); do
         printf -v unique '%032x' "$number"
-        "$program" full.img 512 add "$number" $data "$unique" 1 first 1 "$name" > /dev/null
+        "$program" "$1" 512 add "$number" $data "$unique" 1 first 1 "$name" > /dev/null
+        filled+="$number $data $unique $((number + $3 - 1))..$((number + $3 - 1)) 0000000000000000 $name"$'\n'
     done
 }

@@ -17,7 +17,8 @@ try_kills() {
         try_kill
     done
     note="$killed killed, $torn of them between the copies"
-    holds "some are killed and some are done" [ "$killed" -gt 0 -a "$ended" -gt 0 ]
+    holds "a command is killed" [ "$killed" -gt 0 ]
+    holds "a command is done" [ "$ended" -gt 0 ]
 }
 
 # Sets `longest`, in microseconds, to one and a half times what a run takes.

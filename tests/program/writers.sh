@@ -60,7 +60,7 @@ try_turns() {
     rm -f held
     timeout 60 flock turn.img bash -c ': > held; read -r -t 50 _ < release' 5<&- &
     holder=$!
-    until [ -e held ]; do sleep 0.01; done
+    while is_running "$holder" && [ ! -e held ]; do sleep 0.01; done
     start_writers
     for line in "${readers[@]}"; do
         reads_at_once "$line"
