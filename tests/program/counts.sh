@@ -62,9 +62,9 @@ run_quickly() {
 # An image of 1 GiB whose primary header counts all entries that 32 bits can count.
 try_huge_image() {
     local image=huge.img table
-    table="disk $disk usable 34..2097118 entries 128 align 2"
+    table="disk $disk usable 34..2097118 entries 128 align 1"
     make_table "$image" 1G
-    says 0 "1 34..2097118" "$image" 512 add 1 $data $one 2097085 first 2 all
+    says 0 "1 34..2097118" "$image" 512 add 1 $data $one 2097085 first 1 all
     count_entries "$image" $((0xffffffff))
     run_quickly "$image" 512 show
     equals "gptimg $image 512 show" "0 sector 512 form backup $table"$'\n'"1 $data $one 34..2097118 \
@@ -85,7 +85,7 @@ try_huge_repair() {
     run_quickly "$image" 512 check
     equals "gptimg $image 512 check" "0 $same"$'\n' "$answer"
     run_quickly "$image" 512 show
-    equals "gptimg $image 512 show" "0 sector 512 form primary ${table/%2/2048}"$'\n' "$answer"
+    equals "gptimg $image 512 show" "0 sector 512 form primary ${table/%1/2048}"$'\n' "$answer"
 }
 
 # Where the backup copy is damaged too, the faults of both are told.
