@@ -2,7 +2,8 @@
 # Commands that are killed at any moment.
 
 # In each round a partition is added or removed by a program that is killed after some time. Then the
-# table is the old one or the new one, and the next write makes both copies one table.
+# table is the old one or the new one, which may be read from its backup copy, as that is written
+# first. The next write makes both copies one table.
 try_kills() {
     local with without line longest killed=0 ended=0 torn=0 _
     cp good.img killed.img
@@ -47,7 +48,8 @@ try_kill() {
         longest=$((longest + longest / 25 + 1))
         is_one_of "gptimg $line, killed: its answer" "$answer" "137 " "137 ${done_answer#0 }"
         run "$program" killed.img 512 show
-        is_one_of "gptimg killed.img 512 show after '$line' was killed" "$answer" "$old" "$new"
+        is_one_of "gptimg killed.img 512 show after '$line' was killed" "$answer" "$old" "$new" \
+            "${new/form primary/form backup}"
     fi
     end_round
 }
