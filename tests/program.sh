@@ -57,6 +57,7 @@ try "files of other kinds" try_files
 try "files that may not be opened" try_permissions
 try "little memory" try_little_memory
 try "entries counted past the end" try_counts
+try "readers beside a writer" try_readers
 try "ten writers at once" try_ten_writers
 try "a turn for each writer" try_turns
 try "killed writers" try_kills

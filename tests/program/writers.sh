@@ -1,7 +1,50 @@
 # shellcheck shell=bash disable=SC2154 # the words are in images.sh, and what was run in asserts.sh
 # Several programs on one image: each that writes has its turn, and one that reads does not wait.
 
-# Ten partitions that are added at once are ten partitions. What reads meets no fault meanwhile.
+# Beside one program that writes, each that reads sees the old table or the new one, which may be read
+# from its backup copy, as that is written first.
+try_readers() {
+    local number jobs writer old new _
+    run "$program" good.img 512 show
+    old=$printed
+    cp good.img beside.img
+    "$program" beside.img 512 add 2 $data $two 5 last 4 Bar > /dev/null
+    run "$program" beside.img 512 show
+    new=$printed
+    for _ in {1..40}; do
+        cp good.img beside.img
+        jobs=()
+        show_beside 1 2
+        "$program" beside.img 512 add 2 $data $two 5 last 4 Bar > /dev/null &
+        writer=$!
+        show_beside 3 4 5 6
+        wait "$writer"
+        equals "add beside six shows: its status" 0 $?
+        sees_old_or_new
+    done
+}
+
+# Starts shows of these numbers.
+show_beside() {
+    for number in "$@"; do
+        "$program" beside.img 512 show > "shown.$number" 2>&1 &
+        jobs+=($!)
+    done
+}
+
+# Counts whether each of the shows that were started saw the old table or the new one.
+sees_old_or_new() {
+    local status text
+    for number in {1..6}; do
+        wait "${jobs[number - 1]}"
+        status=$?
+        read_into text "shown.$number"
+        is_one_of "show beside an add" "$status $text" "0 $old" "0 $new" \
+            "0 ${new/form primary/form backup}"
+    done
+}
+
+# Ten partitions that are added at once are ten partitions, and what reads meanwhile reads a table.
 try_ten_writers() {
     local _
     for _ in {1..20}; do
@@ -18,12 +61,18 @@ try_ten_writers() {
     done
 }
 
-# Shows the table again and again as long as others write, and keeps what is no table.
+# Shows the table again and again as long as others write, and keeps what is no table. What reads takes
+# no lock: while two others write, one after the other, it may find neither copy whole, and is asked
+# once more.
 read_while_busy() {
     : > told
     while [ -e busy ]; do
-        "$program" ten.img 512 show > shown 2>&1 || cat shown >> told
+        show_ten || show_ten || cat shown >> told
     done
+}
+
+show_ten() {
+    "$program" ten.img 512 show > shown 2>&1
 }
 
 # Starts ten adds and waits for them. Then `wanted` has the lines of the partitions that they say.
