@@ -1,4 +1,4 @@
-# Needs `rt` of the Rattle kit on the PATH, and nothing else.
+# Needs `rt` of the Rattle kit on the PATH, bash and coreutils, and nothing else.
 
 .PHONY: gptimg demo test
 
@@ -10,6 +10,7 @@ gptimg:
 demo: gptimg
 	@scripts/demo
 
-# Proves every crate from nothing, and runs all tests. The last line is 'N passed, M failed'.
+# Proves every crate from nothing, runs all tests, and tries the program that this built. The last line
+# is 'N passed, M failed'.
 test:
-	@rt ci
+	@scripts/gate

@@ -1,0 +1,70 @@
+#!/usr/bin/env bash
+# Tries gptimg as a process: its words and files, its standard streams, its memory, many of it at once,
+# and one that is killed.
+#
+# usage: tests/program.sh [PROGRAM]
+#
+# PROGRAM is ./gptimg at the top of the repository where it is left out; `make gptimg` puts it there.
+# Prints a line for each subject, and in full what does not hold. The last line is 'N passed, M
+# failed', and the status is 1 where something failed. Needs bash, coreutils and the program. What
+# needs sgdisk, sfdisk, strace or flock is tried where they are, and left out with a line where not.
+# shellcheck source-path=SCRIPTDIR
+set -u
+
+top=$(cd "$(dirname "$0")/.." && pwd) || exit
+program=$(realpath "${1:-$top/gptimg}") || exit
+if [ ! -x "$program" ]; then
+    echo "there is no program $program: run 'make gptimg'" >&2
+    exit 1
+fi
+
+. "$top/tests/program/asserts.sh"
+. "$top/tests/program/images.sh"
+. "$top/tests/program/commands.sh"
+. "$top/tests/program/descriptors.sh"
+. "$top/tests/program/output.sh"
+. "$top/tests/program/files.sh"
+. "$top/tests/program/memory.sh"
+. "$top/tests/program/counts.sh"
+. "$top/tests/program/writers.sh"
+. "$top/tests/program/kills.sh"
+. "$top/tests/program/other_tools.sh"
+
+# Ends what still runs, and leaves nothing behind.
+clean_up() {
+    local job
+    for job in $(jobs -p); do
+        kill "$job" 2> /dev/null
+    done
+    chmod -R u+rwx "$folder"
+    rm -rf "$folder"
+}
+
+folder=$(realpath "$(mktemp -d)") || exit
+trap clean_up EXIT
+trap 'exit 1' HUP INT TERM
+cd "$folder" || exit
+PATH=$PATH:/usr/sbin:/sbin
+
+make_images
+try "words" try_words
+try "commands" try_commands
+try "closed descriptors" try_closed_descriptors
+try "few descriptors" try_few_descriptors
+try "output that fails" try_failing_output
+try "output in large pieces" try_pieces
+try "files of other kinds" try_files
+try "files that may not be opened" try_permissions
+try "little memory" try_little_memory
+try "entries counted past the end" try_counts
+try "readers beside a writer" try_readers
+try "ten writers at once" try_ten_writers
+try "a turn for each writer" try_turns
+try "killed writers" try_kills
+try "images of sgdisk" try_sgdisk
+try "images of sfdisk" try_sfdisk
+try "a table of many entries" try_many_entries
+try "calls of the system" try_calls
+
+echo "$passed passed, $failed failed"
+[ "$failed" -eq 0 ]

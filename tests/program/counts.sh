@@ -1,0 +1,99 @@
+# shellcheck shell=bash disable=SC2154 # the words are in images.sh, and what was run in asserts.sh
+# Headers that count other entries than there are.
+
+# Puts into `crc` the CRC-32 of bytes that are given in hexadecimal.
+crc_of() {
+    local byte _
+    crc=$((0xffffffff))
+    for byte in "$@"; do
+        crc=$((crc ^ 0x$byte))
+        for _ in {1..8}; do
+            crc=$((crc & 1 ? crc >> 1 ^ 0xedb88320 : crc >> 1))
+        done
+    done
+    crc=$((crc ^ 0xffffffff))
+}
+
+# Puts into `number` the four hexadecimal bytes of a number, the least first.
+put_number() {
+    local text
+    printf -v text '%08x' "$1"
+    number=("${text:6:2}" "${text:4:2}" "${text:2:2}" "${text:0:2}")
+}
+
+# Makes the primary header of the image count so many entries, with the right checksum.
+count_entries() {
+    local bytes crc number
+    read -r -d '' -a bytes < <(od -An -v -tx1 -j512 -N92 "$1")
+    put_number "$2"
+    bytes=("${bytes[@]:0:16}" 00 00 00 00 "${bytes[@]:20:60}" "${number[@]}" "${bytes[@]:84}")
+    crc_of "${bytes[@]}"
+    put_number "$crc"
+    bytes=("${bytes[@]:0:16}" "${number[@]}" "${bytes[@]:20}")
+    printf '%b' "${bytes[@]/#/\\x}" | dd "of=$1" bs=92 oflag=seek_bytes seek=512 conv=notrunc status=none
+}
+
+try_counts() {
+    local crc
+    crc_of 31 32 33 34 35 36 37 38 39
+    equals "the CRC-32 of 123456789" $((0xcbf43926)) "$crc"
+    try_small_counts
+    try_huge_image
+}
+
+# The good image has room for 392 entries from sector 2 on.
+try_small_counts() {
+    cp good.img tried.img
+    count_entries tried.img 128
+    keeps_bytes tried.img "$(sum_of good.img)"
+    count_entries tried.img 392
+    says 1 $'primary fault InvalidPartitionEntryArrayChecksum\nbackup ok\nsame no' tried.img 512 check
+    shows tried.img "form backup"
+    count_entries tried.img 393
+    says 1 $'primary fault Io\nbackup ok\nsame no' tried.img 512 check
+    shows tried.img "form backup"
+}
+
+# Runs the program with little memory and little time.
+run_quickly() {
+    run within 100000 timeout 2 "$program" "$@"
+}
+
+# An image of 1 GiB whose primary header counts all entries that 32 bits can count.
+try_huge_image() {
+    local image=huge.img table
+    table="disk $disk usable 34..2097118 entries 128 align 1"
+    make_table "$image" 1G
+    says 0 "1 34..2097118" "$image" 512 add 1 $data $one 2097085 first 1 all
+    count_entries "$image" $((0xffffffff))
+    run_quickly "$image" 512 show
+    equals "gptimg $image 512 show" "0 sector 512 form backup $table"$'\n'"1 $data $one 34..2097118 \
+0000000000000000 all"$'\n' "$answer"
+    run_quickly "$image" auto free 1
+    equals "gptimg $image auto free 1" "0 " "$answer"
+    run_quickly "$image" 512 check
+    equals "gptimg $image 512 check" $'1 primary fault Io\nbackup ok\nsame no\n' "$answer"
+    try_huge_repair
+    try_huge_damage
+    rm "$image"
+}
+
+# The next write repairs it.
+try_huge_repair() {
+    run_quickly "$image" 512 remove 1
+    equals "gptimg $image 512 remove 1" $'0 ok\n' "$answer"
+    run_quickly "$image" 512 check
+    equals "gptimg $image 512 check" "0 $same"$'\n' "$answer"
+    run_quickly "$image" 512 show
+    equals "gptimg $image 512 show" "0 sector 512 form primary ${table/%1/2048}"$'\n' "$answer"
+}
+
+# Where the backup copy is damaged too, the faults of both are told.
+try_huge_damage() {
+    count_entries "$image" $((0xffffffff))
+    clear_sectors "$image" 2097151 1
+    run_quickly "$image" 512 show
+    equals "gptimg $image 512 show" $'1 fault: ReadError(Io, InvalidSignature)\n' "$answer"
+    run_quickly "$image" 512 sort
+    equals "gptimg $image 512 sort" $'1 fault: ReadError(Io, InvalidSignature)\n' "$answer"
+}
