@@ -11,7 +11,7 @@ use std::rt::Files;
 /// None where the command only reads, and where the lock cannot be had: the image is no file and no
 /// block device, cannot be opened, or lies in a file system without locks.
 pub fn wait_for_turn<R: Files<File = File>>(files: &R, image: &str, command: &str) -> Option<File> {
-    if !may_write(command) || !has_lock(files, image) {
+    if !may_write(command) || !is_lockable(files, image) {
         return None;
     }
     let file = File::open(files, image).ok()?;
@@ -25,7 +25,7 @@ fn may_write(command: &str) -> bool {
 }
 
 // Whether the image is one that can be locked. To open a pipe would wait for another program.
-fn has_lock<R: Files>(files: &R, image: &str) -> bool {
+fn is_lockable<R: Files>(files: &R, image: &str) -> bool {
     let Ok(found) = fs::metadata(files, image) else {
         return false;
     };
