@@ -45,6 +45,7 @@ folder=$(realpath "$(mktemp -d)") || exit
 trap clean_up EXIT
 trap 'exit 1' HUP INT TERM
 cd "$folder" || exit
+ulimit -c 0
 PATH=$PATH:/usr/sbin:/sbin
 
 make_images
