@@ -20,6 +20,7 @@ fi
 
 . "$top/tests/program/asserts.sh"
 . "$top/tests/program/images.sh"
+. "$top/tests/program/headers.sh"
 . "$top/tests/program/commands.sh"
 . "$top/tests/program/descriptors.sh"
 . "$top/tests/program/output.sh"
@@ -44,6 +45,7 @@ folder=$(realpath "$(mktemp -d)") || exit
 trap clean_up EXIT
 trap 'exit 1' HUP INT TERM
 cd "$folder" || exit
+ulimit -c 0
 PATH=$PATH:/usr/sbin:/sbin
 
 make_images
@@ -53,6 +55,7 @@ try "closed descriptors" try_closed_descriptors
 try "few descriptors" try_few_descriptors
 try "output that fails" try_failing_output
 try "output in large pieces" try_pieces
+try "a table of many entries" try_many_entries
 try "files of other kinds" try_files
 try "files that may not be opened" try_permissions
 try "little memory" try_little_memory
@@ -63,7 +66,6 @@ try "a turn for each writer" try_turns
 try "killed writers" try_kills
 try "images of sgdisk" try_sgdisk
 try "images of sfdisk" try_sfdisk
-try "a table of many entries" try_many_entries
 try "calls of the system" try_calls
 
 echo "$passed passed, $failed failed"

@@ -81,7 +81,7 @@ try_changes() {
 try_full_image() {
     says 0 "$same" full.img 512 check
     run "$program" full.img 512 show
-    equals "the lines of 128 partitions" "$filled" "${printed#*$'\n'}"
+    equals "the lines of 128 partitions" "$full_lines" "${printed#*$'\n'}"
     equals "the status of show" 0 "$status"
     says 1 "fault: InvalidPartitionNumber" full.img 512 add 129 $data $one 1 first 1 more
 }

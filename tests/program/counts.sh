@@ -1,38 +1,6 @@
 # shellcheck shell=bash disable=SC2154 # the words are in images.sh, and what was run in asserts.sh
 # Headers that count other entries than there are.
 
-# Puts into `crc` the CRC-32 of bytes that are given in hexadecimal.
-crc_of() {
-    local byte _
-    crc=$((0xffffffff))
-    for byte in "$@"; do
-        crc=$((crc ^ 0x$byte))
-        for _ in {1..8}; do
-            crc=$((crc & 1 ? crc >> 1 ^ 0xedb88320 : crc >> 1))
-        done
-    done
-    crc=$((crc ^ 0xffffffff))
-}
-
-# Puts into `number` the four hexadecimal bytes of a number, the least first.
-put_number() {
-    local text
-    printf -v text '%08x' "$1"
-    number=("${text:6:2}" "${text:4:2}" "${text:2:2}" "${text:0:2}")
-}
-
-# Makes the primary header of the image count so many entries, with the right checksum.
-count_entries() {
-    local bytes crc number
-    read -r -d '' -a bytes < <(od -An -v -tx1 -j512 -N92 "$1")
-    put_number "$2"
-    bytes=("${bytes[@]:0:16}" 00 00 00 00 "${bytes[@]:20:60}" "${number[@]}" "${bytes[@]:84}")
-    crc_of "${bytes[@]}"
-    put_number "$crc"
-    bytes=("${bytes[@]:0:16}" "${number[@]}" "${bytes[@]:20}")
-    printf '%b' "${bytes[@]/#/\\x}" | dd "of=$1" bs=92 oflag=seek_bytes seek=512 conv=notrunc status=none
-}
-
 try_counts() {
     local crc
     crc_of 31 32 33 34 35 36 37 38 39

@@ -53,7 +53,8 @@ keeps_bytes() {
 }
 
 # The images of 100 sectors that the subjects copy: a good one, one without a primary header, and one
-# that was made longer. Then one with 128 partitions.
+# that was made longer. Then one with 128 partitions,
+# and one of a table with 1,000 entries.
 make_images() {
     make_table good.img 51200
     "$program" good.img 512 mbr plain > /dev/null
@@ -62,12 +63,10 @@ make_images() {
     clear_sectors headless.img 1 1
     cp good.img longer.img
     truncate -s 102400 longer.img
-    make_full_image
-}
-
-make_full_image() {
     make_table full.img 1M
     fill_table full.img 128 34
+    full_lines=$filled
+    make_large_table large.img
 }
 
 # Adds so many partitions to a table without any, whose first usable sector is the last word. They have

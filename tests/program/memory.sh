@@ -8,26 +8,26 @@ within() (
     exec "$@"
 )
 
-# At each limit a command is done, or is refused and leaves the image, or the system does not start the
-# program.
+# At each limit a command on a table of 1,000 entries is done, or is refused and leaves the image, or
+# the system does not start the program.
 try_little_memory() {
     local line before after done_answer least step refused=0
     for line in "show" "add 2 $data $two 5 last 4 Bar" "check"; do
-        run_with_all_open good.img "tried.img 512 $line"
+        run_with_all_open large.img "tried.img 512 $line"
         find_least_limit "$line"
-        for step in {0..99}; do
+        for step in {0..119}; do
             try_limit $((least - step)) "$line"
         done
         for step in {1..50}; do
-            try_limit $((least - 100 - 10 * step)) "$line"
+            try_limit $((least - 120 - 10 * step)) "$line"
         done
     done
     holds "a command is refused for want of memory" [ "$refused" -gt 0 ]
 }
 
-# Runs the line on a copy of the good image within so many KiB.
+# Runs the line on a copy of that image within so many KiB.
 run_within() {
-    cp good.img tried.img
+    cp large.img tried.img
     # shellcheck disable=SC2086 # the words are several
     run within "$1" "$program" tried.img 512 $2
 }
@@ -64,7 +64,9 @@ try_limit() {
         equals "$text" ", image as wanted" "$printed, $state"
         return
     fi
-    refused=$((refused + 1))
+    if [ "$printed" = $'fault: OutOfMemory\n' ]; then
+        refused=$((refused + 1))
+    fi
     is_one_of "$text" "$answer, $state" $'1 fault: OutOfMemory\n, image as wanted' \
         $'1 fault: Io\n, image as wanted'
 }

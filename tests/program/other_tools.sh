@@ -29,27 +29,6 @@ try_sfdisk() {
     contains "the name that sfdisk reads" 'name="data"' "$(sfdisk -d sfdisk.img 2>&1)"
 }
 
-# A table whose lines do not fit in one piece of output. The entries and the places of a table of
-# sgdisk are read from what is shown of it.
-try_many_entries() {
-    local first
-    has sgdisk || return
-    make_image many.img 1M
-    sgdisk -o -S 200 many.img > /dev/null 2>&1
-    run "$program" many.img 512 show
-    contains "show of a table of 200 entries" " entries 200 " "$answer"
-    first=${printed#* usable }
-    first=${first%%..*}
-    fill_table many.img 200 "$first"
-    run "$program" many.img 512 show
-    equals "the lines of 200 partitions" "$filled" "${printed#*$'\n'}"
-    equals "the status of show" "0" "$status$errors"
-    run to_full_device "$program" many.img 512 show
-    equals "show of 200 partitions where output is full" "1 " "$answer"
-    run without_reader env --ignore-signal=PIPE "$program" many.img 512 show
-    equals "show of 200 partitions where the reader is gone" "1 " "$answer"
-}
-
 # Whether calls can be traced.
 can_trace() {
     command -v strace > /dev/null && strace -q -o traced true 2> /dev/null

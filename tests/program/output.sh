@@ -122,3 +122,21 @@ count_with_strace() {
     done < calls
     echo "$writes"
 }
+
+# A table whose lines do not fit in one piece.
+try_many_entries() {
+    cp large.img many.img
+    fill_table many.img 200 252
+    says 0 "$same" many.img 512 check
+    run "$program" many.img 512 show
+    equals "the lines of 200 partitions" "$filled" "${printed#*$'\n'}"
+    equals "the status of show" "0" "$status$errors"
+    equals "the first line of show" \
+        "sector 512 form primary disk $disk usable 252..468 entries 1000 align 1" "${printed%%$'\n'*}"
+    run without_reader env --ignore-signal=PIPE "$program" many.img 512 show
+    equals "show of 200 partitions where the reader is gone" "1 " "$answer"
+    if [ -c /dev/full ]; then
+        run to_full_device "$program" many.img 512 show
+        equals "show of 200 partitions where output is full" "1 " "$answer"
+    fi
+}
