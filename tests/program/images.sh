@@ -72,12 +72,13 @@ make_images() {
 # Adds so many partitions to a table without any, whose first usable sector is the last word. They have
 # one sector each, and the longest name. Then `filled` has the lines that `show` prints of them.
 fill_table() {
-    local number unique name
+    local number unique name place
     printf -v name '€%.0s' {1..36}
     filled=
     for ((number = 1; number <= $2; number++)); do
         printf -v unique '%032x' "$number"
         "$program" "$1" 512 add "$number" $data "$unique" 1 first 1 "$name" > /dev/null
-        filled+="$number $data $unique $((number + $3 - 1))..$((number + $3 - 1)) 0000000000000000 $name"$'\n'
+        place=$((number + $3 - 1))
+        filled+="$number $data $unique $place..$place 0000000000000000 $name"$'\n'
     done
 }

@@ -77,7 +77,7 @@ show_ten() {
 
 # Starts ten adds and waits for them. Then `wanted` has the lines of the partitions that they say.
 add_ten() {
-    local number job jobs=() place
+    local number job jobs=() place unique
     for number in {1..10}; do
         "$program" ten.img 512 add "$number" $data "$(unique_of "$number")" 1 first 1 "name$number" \
             > "added.$number" 2>&1 &
@@ -89,7 +89,8 @@ add_ten() {
         wait "$job"
         equals "one of ten adds: its status" 0 $?
         place=$(< "added.$number")
-        echo "$number $data $(unique_of "$number") ${place#"$number "} 0000000000000000 name$number" >> wanted
+        unique=$(unique_of "$number")
+        echo "$number $data $unique ${place#"$number "} 0000000000000000 name$number" >> wanted
     done
 }
 
