@@ -61,18 +61,12 @@ try_ten_writers() {
     done
 }
 
-# Shows the table again and again as long as others write, and keeps what is no table. What reads takes
-# no lock: while two others write, one after the other, it may find neither copy whole, and is asked
-# once more.
+# Shows the table again and again as long as others write, and keeps what is no table.
 read_while_busy() {
     : > told
     while [ -e busy ]; do
-        show_ten || show_ten || cat shown >> told
+        "$program" ten.img 512 show > shown 2>&1 || cat shown >> told
     done
-}
-
-show_ten() {
-    "$program" ten.img 512 show > shown 2>&1
 }
 
 # Starts ten adds and waits for them. Then `wanted` has the lines of the partitions that they say.
