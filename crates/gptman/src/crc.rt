@@ -11,7 +11,9 @@ mod table;
 
 use table::TABLE;
 
-/// The CRC-32 of the bytes.
+/// The CRC-32 of the bytes, in its ISO-HDLC form, which the GPT format uses: polynomial 0x04C11DB7,
+/// bits of a byte taken from the lowest on, the register all ones at the start and complemented at the
+/// end. That of the text "123456789" is 0xCBF43926.
 pub fn crc32(bytes: &[u8]) -> u32
     ensures { result ≡ crc_of bytes.now }
 {

@@ -19,7 +19,7 @@ pub trait Disk {
     /// The disk at this moment, as contracts see it.
     ghost state: { Self → DiskState };
 
-    /// Goes to a byte, which may lie past the end. Answers it.
+    /// Goes to a byte, counted from 0, which may lie past the end. Answers it.
     ///
     /// An error comes only where the device failed.
     fn seek_start(&mut self, at: u64) -> io::Result<u64>
@@ -55,7 +55,8 @@ pub trait Disk {
         ensures pending { IsTrue (state self.old).is_honest → (state self.new).pending ≡ (state self.old).pending };
 
     /// Writes the bytes from the position on, over what is there, and goes behind them. Until a sync
-    /// succeeds, a stop may leave any bytes in their place.
+    /// succeeds, a stop may leave any bytes in their place. The caller sees to it that they do not pass
+    /// the end of the disk.
     ///
     /// An error comes only where the device failed. Then nothing is written, or any bytes are left in
     /// that place.

@@ -70,6 +70,9 @@ impl GPT {
     /// all were written its checksums are made. On an honest disk of the stated layout, after a fault
     /// other than `Io`, both places still hold the table after `done` edits, or the disk is as it was
     /// where `done` is 0. Without an edit nothing is written.
+    ///
+    /// The caller sees to it that the sector size is above 0 and the table coherent, as `is_coherent`
+    /// tells.
     pub fn commit_all<D: Disk>(&mut self, disk: &mut D, edits: Vec<Edit>) -> Progress
         requires sector { 0 < self.old.sector_size }
         requires coherent { IsCoherent self.old.header (entries_in self.old) }

@@ -36,7 +36,7 @@ pub(crate) const REVISION: [u8; 4] = [0, 0, 1, 0];
 
 impl GPTHeader {
     /// A header in primary form for a new table of 128 entries, fitted to the disk. The sector size
-    /// is in bytes. Checksums and reserved bytes are zero.
+    /// is in bytes, and above 0. Checksums and reserved bytes are zero.
     ///
     /// `Io` where the disk failed, `Overflow` where it has too few sectors for two copies.
     pub fn new_from<D: Disk>(
@@ -73,7 +73,7 @@ impl GPTHeader {
 
     /// Fits the header to the disk: the usable sectors, the sector of the header that is not in
     /// sector 1, and the first sector of the entries where these are not in sector 2. The sector size
-    /// is in bytes; no other field changes.
+    /// is in bytes, and above 0; no other field changes.
     ///
     /// `Overflow` where the entries take no bytes; then `Io` where the disk failed; then `Overflow`
     /// where it has too few sectors for two copies. A refused call changes no field.
@@ -132,7 +132,8 @@ impl GPTHeader {
         !self.is_primary()
     }
 
-    /// The CRC-32 of the 92 bytes of the header, with the four bytes of this checksum as zero.
+    /// The CRC-32 (`crc::crc32`) of the 92 bytes of the header, with the four bytes of this checksum as
+    /// zero. The caller sees to it that the header size is 92.
     pub fn generate_crc32_checksum(&self) -> u32
         requires { self.now.header_size ≡ 92 }
         ensures { result ≡ header_crc (header_bytes self.now) }
@@ -143,7 +144,8 @@ impl GPTHeader {
         crc32(&bytes)
     }
 
-    /// Makes the checksum of the header. No other field changes.
+    /// Makes the checksum of the header, as `generate_crc32_checksum` answers it. No other field
+    /// changes. The caller sees to it that the header size is 92.
     pub fn update_crc32_checksum(&mut self)
         requires { self.old.header_size ≡ 92 }
         ensures { self.new ≡ record self.old { crc32_checksum = header_crc (header_bytes self.old) } }
@@ -151,7 +153,9 @@ impl GPTHeader {
         self.crc32_checksum = self.generate_crc32_checksum();
     }
 
-    /// The CRC-32 of the bytes of all entries, in order. It takes no memory.
+    /// The CRC-32 (`crc::crc32`) of the bytes of all entries, 128 each, in order. It takes no memory.
+    /// The caller sees to it that the header counts as many entries as there are, and gives their size
+    /// as 128 unless there are none, and its own as 92.
     pub fn generate_partition_entry_array_crc32(&self, partitions: &[GPTPartitionEntry]) -> u32
         requires { IsCoherent self.now partitions.now }
         ensures { result ≡ crc_of (array_bytes partitions.now) }
@@ -159,7 +163,8 @@ impl GPTHeader {
         checksum_of(partitions)
     }
 
-    /// Makes the checksum of the entry array. No other field changes.
+    /// Makes the checksum of the entry array, as `generate_partition_entry_array_crc32` answers it and
+    /// under the same conditions. No other field changes.
     pub fn update_partition_entry_array_crc32(&mut self, partitions: &[GPTPartitionEntry])
         requires { IsCoherent self.old partitions.now }
         ensures { self.new ≡ record self.old { partition_entry_array_crc32 = crc_of (array_bytes partitions.now) } }

@@ -22,9 +22,10 @@ pub mod laws;
 mod sweep;
 
 impl GPT {
-    /// All aligned slots of free sectors, each as (start, length) in sectors, by ascending start. The
-    /// last sector of each, start + length - 1, is a number of 64 bits. It takes time in O(n log n) for
-    /// n entries, however many sectors there are.
+    /// All aligned slots of free sectors, each as (start, length) in sectors, by ascending start. A slot
+    /// is what is left of a run of free sectors from its first multiple of `align` on. The last sector
+    /// of each, start + length - 1, is a number of 64 bits. It takes time in O(n log n) for n entries,
+    /// however many sectors there are. The caller sees to it that `align` is above 0.
     ///
     /// `OutOfMemory` where there is no memory to find them.
     pub fn find_free_sectors(&self) -> Result<Vec<(u64, u64)>>
@@ -40,7 +41,11 @@ impl GPT {
     }
 
     /// The least sector, a multiple of `align`, from which `size` sectors are free; `None` where there
-    /// is no such sector. A size of 0 is treated as 1.
+    /// is no such sector. A size of 0 is treated as 1. The caller sees to it that `align` is above 0.
+    ///
+    ///     if let Some(start) = table.find_first_place(2048)? {
+    ///         // sectors start to start + 2047 are free
+    ///     }
     ///
     /// `OutOfMemory` where there is no memory to find it.
     pub fn find_first_place(&self, size: u64) -> Result<Option<u64>>
@@ -59,7 +64,8 @@ impl GPT {
     }
 
     /// The greatest sector, a multiple of `align`, from which `size` sectors are free; `None` where
-    /// there is no such sector. A size of 0 is treated as 1.
+    /// there is no such sector. A size of 0 is treated as 1. The caller sees to it that `align` is above
+    /// 0.
     ///
     /// `OutOfMemory` where there is no memory to find it.
     pub fn find_last_place(&self, size: u64) -> Result<Option<u64>>
@@ -79,7 +85,8 @@ impl GPT {
     }
 
     /// The start of the shortest aligned slot of at least `size` sectors, and of the leftmost of
-    /// equally short ones; `None` where there is no place for so many. A size of 0 is treated as 1.
+    /// equally short ones; `None` where there is no place for so many. A size of 0 is treated as 1. The
+    /// caller sees to it that `align` is above 0.
     ///
     /// `OutOfMemory` where there is no memory to find it.
     pub fn find_optimal_place(&self, size: u64) -> Result<Option<u64>>
@@ -97,7 +104,8 @@ impl GPT {
         }
     }
 
-    /// The greatest multiple of `align`, in sectors, that an aligned slot has room for. It may be 0.
+    /// The greatest multiple of `align`, in sectors, that an aligned slot has room for. It may be 0. The
+    /// caller sees to it that `align` is above 0.
     ///
     /// `NoSpaceLeft` exactly where there is no aligned slot, unless `OutOfMemory`, where there is no
     /// memory to tell, comes in its stead.

@@ -29,12 +29,14 @@ mod write;
 /// A GUID partition table: a header, its entries, and how they are to be placed on a disk.
 #[derive(Drop, PartialEq, Eq, Debug)]
 pub struct GPT {
-    /// The size of a sector in bytes.
+    /// The size of a sector in bytes. The format does not keep it.
     pub sector_size: u64,
-    /// The header of the copy that this value stands for.
+    /// The header of the copy that this value stands for: the one that was read, or the primary one of
+    /// a new table.
     pub header: GPTHeader,
     pub(crate) partitions: Entries,
-    /// Partitions are offered places at multiples of so many sectors.
+    /// Partitions are offered places at multiples of so many sectors. It is no field of the format: a
+    /// new table has 2048, and one that was read has what its partitions begin at multiples of.
     pub align: u64,
 }
 

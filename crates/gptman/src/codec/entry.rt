@@ -14,14 +14,16 @@ use crate::error::{Error, Result};
 use std::alloc::Global;
 use std::ops::RangeInclusive;
 
-/// An entry of the table: a partition, or an unused place for one.
+/// An entry of the table: a partition, or room for one that is not used. The fields follow one another
+/// with no gap in the 128 bytes of the format's partition entry.
 ///
-/// All numbers are little endian on the disk.
+/// Sectors are counted from 0. All numbers are little endian on the disk.
 #[derive(Drop, PartialEq, Eq, Debug)]
 pub struct GPTPartitionEntry {
-    /// The type of the partition. All zero means that the entry is not used.
+    /// The type of the partition, a GUID as its 16 bytes stand on the disk. All zero means that the
+    /// entry is not used.
     pub partition_type_guid: [u8; 16],
-    /// The GUID of this partition alone.
+    /// The GUID of this partition alone, as its 16 bytes stand on the disk.
     pub unique_partition_guid: [u8; 16],
     /// The first sector of the partition.
     pub starting_lba: u64,
@@ -48,8 +50,8 @@ impl GPTPartitionEntry {
         }
     }
 
-    /// The entry that the 128 bytes hold, each field at its place. The name has the text of its
-    /// units.
+    /// The entry that the 128 bytes hold, each field at its place in the format's layout of an entry.
+    /// The name has the text of its units.
     ///
     /// `OutOfMemory` where there is no memory for the text.
     pub fn decode(alloc: Global, bytes: &[u8; 128]) -> Result<Self>
@@ -68,7 +70,8 @@ impl GPTPartitionEntry {
         })
     }
 
-    /// The entry as 128 bytes, each field at its place. Of the name its 36 units alone are kept.
+    /// The entry as the 128 bytes of the format's layout, each field at its place. Of the name its 36
+    /// units alone are kept.
     pub fn encode(&self) -> [u8; 128]
         ensures spelled { result ≡ entry_bytes self.now }
         ensures coding { IsEntryCoding self.now result }

@@ -6,7 +6,8 @@ ghost use Rattle.gptman.specs.Coding.{FitsHeader, IsHeaderCoding, header_bytes};
 
 use crate::codec::cells::{note_bytes, part_at, put, put_u32, put_u64, u32_at, u64_at};
 
-/// The header of a GUID partition table, field by field as it stands on the disk.
+/// The header of a GUID partition table, field by field as the format lays it out in 92 bytes: in
+/// sector 1, and once more in the last sector. The fields follow one another with no gap.
 ///
 /// Sectors are counted from 0. All numbers are little endian on the disk.
 #[derive(Clone, Copy, PartialEq, Eq, Debug)]
@@ -42,7 +43,8 @@ pub struct GPTHeader {
 }
 
 impl GPTHeader {
-    /// The header that the 92 bytes hold, each field at its place. No value is tested.
+    /// The header that the 92 bytes hold, each field at its place in the format's layout of a header.
+    /// No value is tested: `read_from` does that.
     pub fn decode(bytes: &[u8; 92]) -> Self
         ensures coding { IsHeaderCoding result bytes.now }
         ensures spelled { bytes.now ≡ header_bytes result }
@@ -65,7 +67,8 @@ impl GPTHeader {
         }
     }
 
-    /// The header as 92 bytes, each field at its place. `decode` of them is this header again.
+    /// The header as the 92 bytes of the format's layout, each field at its place. No checksum is made.
+    /// `decode` of them is this header again.
     pub fn encode(&self) -> [u8; 92]
         ensures spelled { result ≡ header_bytes self.now }
         ensures coding { IsHeaderCoding self.now result }

@@ -14,7 +14,7 @@ use std::fmt;
 use std::fmt::{Display, Formatter, Write};
 use std::marker::Model;
 
-/// The name of a partition.
+/// The name of a partition. The format keeps it as 36 units of UTF-16, 72 bytes, padded with zeros.
 ///
 /// A name that was made from a text keeps the whole text, also where it is longer than the 36 units
 /// that the disk has room for. A name that was read has the units as they stood on the disk, and as

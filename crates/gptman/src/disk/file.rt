@@ -37,7 +37,9 @@ pub struct FileDisk {
 impl FileDisk {
     ghost use Rattle.gptman.specs.Fault.{fault_of, io as io_fault};
 
-    /// Opens the file at this path for reading and writing, at position 0.
+    /// Opens the file or the block device at this path for reading and writing, at position 0.
+    ///
+    ///     let mut disk = FileDisk::open(&rt, "disk.img")?;
     ///
     /// `Io` where the system does not open it, or does not tell its length.
     pub fn open<R: Files<File = File>>(files: &R, path: &str) -> Result<FileDisk>

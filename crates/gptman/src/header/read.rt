@@ -66,8 +66,8 @@ impl GPTHeader {
         Ok(self)
     }
 
-    /// The entries of this header, from byte `partition_entry_lba * sector_size` of the disk on, all
-    /// of them. The sector size is in bytes. The list grows as the entries come.
+    /// The entries of this header, 128 bytes each, from byte `partition_entry_lba * sector_size` of the
+    /// disk on, all of them. The sector size is in bytes, and above 0. The list grows as the entries come.
     ///
     /// The first test that fails names the error: `InvalidPartitionEntrySize` (not where there is no
     /// entry), `Overflow` where that byte's number does not fit in 64 bits, `Io` where the disk failed

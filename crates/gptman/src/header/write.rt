@@ -21,6 +21,10 @@ impl GPTHeader {
     /// entries from byte `partition_entry_lba * sector_size` on. The sector size is in bytes. Nothing
     /// is synced, and no memory is taken.
     ///
+    /// The caller sees to it that the sector size is above 0, and that header and entries are coherent:
+    /// the header counts as many as there are, and gives their size as 128 unless there are none, and
+    /// its own as 92.
+    ///
     /// `Overflow` where one of the two ranges does not fit in 64 bits, then `Io` where the disk failed,
     /// then `NoSpaceLeft` where one ends past the disk; nothing is changed then but for the position.
     /// `Io` also where a write failed: then at most the two checksums of the header changed, and

@@ -22,8 +22,9 @@ const MBR_END: u64 = 512;
 impl GPT {
     /// Writes a protective MBR: the 66 bytes from byte 446 of the disk on, and no other. Its one
     /// partition begins at sector 1 and has all whole sectors from there on, at most 0xFFFFFFFF.
-    /// The sector size is in bytes; with 512 or more the 66 bytes lie in sector 0. Nothing is
-    /// synced, and no memory is taken.
+    /// The sector size is in bytes, and above 0; with 512 or more the 66 bytes lie in sector 0.
+    /// Nothing is synced, and no memory is taken. The layout is that of a master boot record: four
+    /// places for partitions of 16 bytes each from byte 446 on, and 55 aa.
     ///
     /// `Io` where the length cannot be taken, then `Overflow` where the disk is shorter than a
     /// sector, then `NoSpaceLeft` where it is shorter than 512 bytes; nothing is written then.
@@ -57,7 +58,7 @@ impl GPT {
     }
 
     /// Writes a protective MBR whose partition is marked as bootable: byte 446 is 0x80, and all
-    /// else is as `write_protective_mbr_into` writes it. The sector size is in bytes.
+    /// else is as `write_protective_mbr_into` writes it. The sector size is in bytes, and above 0.
     ///
     /// The errors are the same: `Io` where the length cannot be taken, then `Overflow` where the
     /// disk is shorter than a sector, then `NoSpaceLeft` where it is shorter than 512 bytes, then

@@ -47,8 +47,8 @@ impl GPT {
         i >= 1 && i <= self.header.number_of_partition_entries && i <= self.partitions.len()
     }
 
-    /// The lowest number of a used entry that covers the sector. In a table that may be written it is
-    /// the only one.
+    /// The lowest number of a used entry that covers the sector, from its first to its last; `None`
+    /// where no used entry does. In a table that may be written it is the only one.
     pub fn find_at_sector(&self, sector: u64) -> Option<u32>
         ensures lowest { result ≡ number_at sector (entries_in self.now) }
         ensures only { IsValid self.now.header (entries_in self.now) → (i : ℕ) → IsNumber self.now i
@@ -104,7 +104,8 @@ impl GPT {
         }
     }
 
-    /// The bytes of the partition under the number, from the first to the last.
+    /// The bytes of the partition under the number, from the first to the last, counted from the start
+    /// of the disk. The caller sees to it that the sector size is above 0.
     ///
     /// `InvalidPartitionNumber` where the number is 0, above the header's count or above the length of
     /// the list, then `UnusedPartition`, then `InvalidPartitionBoundaries` where it ends before it

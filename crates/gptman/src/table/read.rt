@@ -22,7 +22,11 @@ use std::alloc::Global;
 
 impl GPT {
     /// A new table of 128 unused entries, in primary form, fitted to the disk. The sector size is in
-    /// bytes. Nothing is written.
+    /// bytes, and above 0; the GUID is the disk's, as its 16 bytes stand there. Nothing is written.
+    ///
+    ///     let mut disk = FileDisk::open(&rt, "disk.img")?;
+    ///     let mut table = GPT::new_from(rt.alloc(), &mut disk, 512, [0xff; 16])?;
+    ///     table.write_into(&mut disk)?;
     ///
     /// `Io` where the disk failed, `Overflow` where it has too few sectors for two copies,
     /// `OutOfMemory` where there is no memory for the entries.
@@ -50,9 +54,15 @@ impl GPT {
     }
 
     /// The table that the disk holds: the copy at its primary place, in sector 1, or where that one
-    /// has a fault the copy at its backup place, in the last whole sector. The sector size is in bytes.
-    /// The value has the header and the entries of the copy that was taken, and the alignment that they
-    /// give.
+    /// has a fault the copy at its backup place, in the last whole sector. The sector size is in bytes,
+    /// and above 0. The value has the header and the entries of the copy that was taken, and the
+    /// alignment that they give.
+    ///
+    ///     let mut disk = FileDisk::open_read(&rt, "disk.img")?;
+    ///     let table = GPT::read_from(rt.alloc(), &mut disk, 512)?;
+    ///     for (number, entry) in table.iter() {
+    ///         // numbers count from 1
+    ///     }
     ///
     /// Where both copies have a fault, `InvalidSignature` if that is the fault of both or if the disk is
     /// shorter than a sector, else `ReadError` with both. The fault of a copy is the first test that

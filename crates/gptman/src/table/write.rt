@@ -24,7 +24,11 @@ use crate::table::checks::check;
 
 impl GPT {
     /// Writes the table to the disk, in two copies with a sync after each, the other copy first, and
-    /// answers the header of the other copy as it was written.
+    /// answers the header of the other copy as it was written. The own copy is the one whose header the
+    /// value has, and the other one is the other of primary and backup.
+    ///
+    /// The caller sees to it that the sector size is above 0 and the table coherent, as `is_coherent`
+    /// tells. A table that was made or read is so; the public fields of its header can change that.
     ///
     /// The checks come before anything changes: `ConflictPartitionGUID` where two used entries have one
     /// unique GUID; else `InvalidPartitionBoundaries` where an entry, used or not, ends before it
