@@ -2,7 +2,7 @@
 use Rattle.std.proofs.Common.{◌≡◌, [], min, max, sym, ap, ◌∙◌, arith}
 use Rattle.gptman.specs.Reading.{primary, backup}
 use Rattle.gptman.specs.Table.{Table, table_of, IsHeaderForm}
-use Rattle.gptman.specs.declared.codec.header.GPTHeader.{GPTHeader}
+use Rattle.gptman_copy.specs.declared.codec.header.GPTHeader.{GPTHeader}
 use Rattle.gptman.proofs.OtherHeader.{other_table}
 use Rattle.gptimg_core.specs.Checks.{turned, AreBothForms}
 

@@ -2,15 +2,16 @@
 use Rattle.std.proofs.Common.{◌≡◌, ⊎_elim, ◌⊎◌, inl, inr, sym, ◌∙◌, ℕ}
 use Rattle.std.specs.Prelude.{Result, Ok, Err, IfOk, None, Option}
 use Rattle.gptman.specs.Alignment.{IsAlignment}
-use Rattle.gptman.specs.Calls.{answer_of, copy_of, Fails, IsTakenCopy, Refuses}
+use Rattle.gptman.specs.Answers.{answer_of, Fails, Refuses}
+use Rattle.gptman.specs.TableReads.{copy_of, IsTakenCopy}
 use Rattle.gptman.specs.Copy.{Copy}
 use Rattle.gptman.specs.Disk.{DiskState, Keeps, Rose}
 use Rattle.gptman.specs.Fault.{Fault, invalid_signature, out_of_memory}
 use Rattle.gptman.specs.Reading.{found_sector_size, reading_of}
 use Rattle.gptman.specs.Table.{entries_in}
-use Rattle.gptman.specs.declared.error.Error.{Error}
+use Rattle.gptman_copy.specs.declared.error.Error.{Error}
 use Rattle.gptman.specs.declared.table.GPT.{GPT}
-use Rattle.gptman.proofs.Runs.{rose_before, rose_since}
+use Rattle.gptman_copy.proofs.Runs.{rose_before, rose_since}
 use Rattle.gptimg_core.specs.Reads.{IsReadFrom}
 
 -- a reading with a size that is found

@@ -1,8 +1,10 @@
 -- Why a call is refused, said of the disk from which a command began.
 use Rattle.std.proofs.Common.{◌≡◌, ◌⊎◌, inl, inr, refl, sym, ap, ◌∙◌, subst, ℕ}
 use Rattle.std.specs.Prelude.{Option, Some, None, Result, Ok, Err, IfErr}
-use Rattle.gptman.specs.Calls.{answer_of, copy_of, AnswersWrite, IsReadingFault, Refuses, Settles}
-use Rattle.gptman.specs.Calls.AnswersWrite.{no_memory as lacks_memory, not_valid as is_invalid, too_far, settled}
+use Rattle.gptman.specs.Answers.{answer_of, Refuses, Settles}
+use Rattle.gptman.specs.TableReads.{copy_of, IsReadingFault}
+use Rattle.gptman.specs.TableWrites.{AnswersWrite}
+use Rattle.gptman.specs.TableWrites.AnswersWrite.{no_memory as lacks_memory, not_valid as is_invalid, too_far, settled}
 use Rattle.gptman.specs.Disk.{DiskState, Keeps, Rose}
 use Rattle.gptman.specs.Fault.{Fault, fault_of, invalid_signature, out_of_memory}
 use Rattle.gptman.specs.Fit.{fit_fault}
@@ -10,9 +12,9 @@ use Rattle.gptman.specs.Reading.{found_sector_size, reading_of}
 use Rattle.gptman.specs.Table.{entries_in}
 use Rattle.gptman.specs.Valid.{IsValidity}
 use Rattle.gptman.specs.Write.{write_fault}
-use Rattle.gptman.specs.declared.error.Error.{Error}
+use Rattle.gptman_copy.specs.declared.error.Error.{Error}
 use Rattle.gptman.specs.declared.table.GPT.{GPT}
-use Rattle.gptman.proofs.Runs.{rose_since}
+use Rattle.gptman_copy.proofs.Runs.{rose_since}
 use Rattle.gptimg_core.specs.Refusals.{IsFailure, RefusesMaking, RefusesReading, RefusesWrite}
 use Rattle.gptimg_core.specs.Refusals.RefusesReading.{no_memory, bad_copies, disk_failed}
 use Rattle.gptimg_core.specs.Refusals.RefusesWrite.{no_memory as no_memory_to_check, not_valid, no_room, disk_failed as failed_in_writing}

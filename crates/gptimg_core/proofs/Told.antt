@@ -2,11 +2,11 @@
 use Rattle.std.proofs.Common.{◌≡◌, refl, subst, ℕ, Bool, true, false, List}
 use Rattle.std.specs.Prelude.{Option, Result, Ok, Err, codes, if◌then◌else◌}
 use Rattle.std.specs.Io.KnownBytes.{Appends}
-use Rattle.gptman.specs.Calls.{answer_of}
+use Rattle.gptman.specs.Answers.{answer_of}
 use Rattle.gptman.specs.Copy.{Copy}
 use Rattle.gptman.specs.Disk.{DiskState}
 use Rattle.gptman.specs.Fault.{Fault}
-use Rattle.gptman.specs.declared.error.Error.{Error}
+use Rattle.gptman_copy.specs.declared.error.Error.{Error}
 use Rattle.gptman.specs.declared.table.GPT.{GPT}
 use Rattle.gptimg_core.specs.Changes.{MakesChange}
 use Rattle.gptimg_core.specs.Checks.{is_good, seen_as, AreFoundSame, HoldOneTable, TellsCopies}

@@ -1,16 +1,16 @@
 -- What a write leaves that comes after calls that only read.
 use Rattle.std.proofs.Common.{sym, subst, ◌∙◌, ℕ, List, [], ◌∷◌}
-use Rattle.gptman.specs.Calls.{OnlyRead}
+use Rattle.gptman.specs.Disk.{OnlyRead, DiskState, Agrees, Keeps, LeavesOnly, Wrote}
 use Rattle.gptman.specs.Crash.{IsKeptFor, other_place}
-use Rattle.gptman.specs.Disk.{DiskState, Agrees, Keeps, LeavesOnly, Wrote}
-use Rattle.gptman.specs.Layout.{AreClear, HasLayout, Holds, ranges_at}
+use Rattle.gptman.specs.Ranges.{AreClear}
+use Rattle.gptman.specs.Layout.{HasLayout, Holds, ranges_at}
 use Rattle.gptman.specs.Stop.{HoldsOneOf}
 use Rattle.gptman.specs.Table.{Table, table_in}
 use Rattle.gptman.specs.Write.{both_ranges}
 use Rattle.gptman.specs.declared.table.GPT.{GPT}
 use Rattle.gptman.proofs.Held.{holds_local}
-use Rattle.gptman.proofs.Ranges.{contains_first, within_none, within_self}
-use Rattle.gptman.proofs.Runs.{leaves_then, wrote_then, wrote_wider}
+use Rattle.gptman_copy.proofs.Ranges.{contains_first, within_none, within_self}
+use Rattle.gptman_copy.proofs.Runs.{leaves_then, wrote_then, wrote_wider}
 
 module _ (next : GPT) (was : Table) (old mid new : DiskState) (read : OnlyRead old mid) (keeps : Keeps old mid) where
   -- what was good to write from still is

@@ -1,9 +1,8 @@
 -- Changes of a table, and what they make of a disk.
 use Rattle.std.specs.Prelude.{◌≡◌, ℕ, ◌+◌, ◌-◌, [], ◌∷◌, Option, None, IsTrue}
 use Rattle.std.specs.Str.{chars}
-use Rattle.gptman.specs.Calls.{OnlyRead}
+use Rattle.gptman.specs.Disk.{OnlyRead, DiskState, LeavesOnly, Wrote}
 use Rattle.gptman.specs.Crash.{IsKeptFor}
-use Rattle.gptman.specs.Disk.{DiskState, LeavesOnly, Wrote}
 use Rattle.gptman.specs.Edit.{edited, edit_fault}
 use Rattle.gptman.specs.Entry.{is_unused}
 use Rattle.gptman.specs.Fit.{fit_fault, fitted}
@@ -14,7 +13,7 @@ use Rattle.gptman.specs.Place.{IsBestPlace, IsFirstPlace, IsFreeIn, IsLastPlace}
 use Rattle.gptman.specs.Stop.{HoldsOneOf, IsStored}
 use Rattle.gptman.specs.Table.{Table as DiskTable, table_in}
 use Rattle.gptman.specs.Write.{both_ranges}
-use Rattle.gptman.specs.declared.codec.entry.GPTPartitionEntry.{GPTPartitionEntry}
+use Rattle.gptman_copy.specs.declared.codec.entry.GPTPartitionEntry.{GPTPartitionEntry}
 use Rattle.gptman.specs.declared.edit.Edit.TheVariants.{Remove as RemoveEntry, SortEntries}
 use Rattle.gptman.specs.declared.table.GPT.{GPT}
 use Rattle.gptimg_core.specs.Reads.{IsReadFrom}

@@ -1,6 +1,6 @@
 -- What a look at both copies of a table tells.
 use Rattle.std.specs.Prelude.{◌≡◌, ◌⊎◌, ℕ, Bool, true, List, Result, Ok, IsTrue}
-use Rattle.gptman.specs.Calls.{answer_of, Fails}
+use Rattle.gptman.specs.Answers.{answer_of, Fails}
 use Rattle.gptman.specs.Copy.{Copy}
 use Rattle.gptman.specs.Disk.{DiskState, Rose}
 use Rattle.gptman.specs.Fault.{Fault}
@@ -8,8 +8,8 @@ use Rattle.gptman.specs.Layout.{Holds}
 use Rattle.gptman.specs.Reading.{primary, backup, copy_in}
 use Rattle.gptman.specs.Table.{Table as DiskTable, table_of, IsHeaderForm}
 use Rattle.gptman.specs.Write.{other_header}
-use Rattle.gptman.specs.declared.codec.entry.GPTPartitionEntry.{GPTPartitionEntry}
-use Rattle.gptman.specs.declared.codec.header.GPTHeader.{GPTHeader}
+use Rattle.gptman_copy.specs.declared.codec.entry.GPTPartitionEntry.{GPTPartitionEntry}
+use Rattle.gptman_copy.specs.declared.codec.header.GPTHeader.{GPTHeader}
 use Rattle.gptimg_core.specs.declared.commands.Report.{Report}
 use Rattle.gptimg_core.specs.declared.commands.Report.TheVariants.{Written, Table, Slots, Added, Copies}
 use Rattle.gptimg_core.specs.declared.commands.check.BothCopies.{BothCopies}

@@ -4,13 +4,13 @@ use Rattle.std.specs.Fmt.{decimal}
 use Rattle.std.specs.Int.{to_be_bytes, w64}
 use Rattle.std.specs.List.{enumerate_from}
 use Rattle.hex.specs.Hex.{encode_lower}
-use Rattle.gptman.specs.Calls.{answer_of}
+use Rattle.gptman.specs.Answers.{answer_of}
 use Rattle.gptman.specs.Copy.{Copy}
 use Rattle.gptman.specs.Entry.{is_used}
 use Rattle.gptman.specs.Fault.{Fault}
 use Rattle.gptman.specs.Table.{entries_in}
-use Rattle.gptman.specs.declared.codec.entry.GPTPartitionEntry.{GPTPartitionEntry}
-use Rattle.gptman.specs.declared.codec.header.GPTHeader.{GPTHeader}
+use Rattle.gptman_copy.specs.declared.codec.entry.GPTPartitionEntry.{GPTPartitionEntry}
+use Rattle.gptman_copy.specs.declared.codec.header.GPTHeader.{GPTHeader}
 use Rattle.gptman.specs.declared.table.GPT.{GPT}
 use Rattle.gptimg_core.specs.Checks.{seen_as}
 use Rattle.gptimg_core.specs.Names.{fault_name}

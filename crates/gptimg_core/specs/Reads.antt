@@ -1,7 +1,7 @@
 -- What is read from a disk, and told of it.
 use Rattle.std.specs.Prelude.{◌≡◌, ◌⊎◌, ℕ, List, Option, Some, None, Ok, Err}
 use Rattle.gptman.specs.Alignment.{IsAlignment}
-use Rattle.gptman.specs.Calls.{copy_of, IsTakenCopy}
+use Rattle.gptman.specs.TableReads.{copy_of, IsTakenCopy}
 use Rattle.gptman.specs.Disk.{DiskState, Rose}
 use Rattle.gptman.specs.Fault.{invalid_signature}
 use Rattle.gptman.specs.Place.{AreSlots, IsFreeIn}

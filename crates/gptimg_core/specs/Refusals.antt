@@ -1,6 +1,6 @@
 -- Why a command is refused: which fault it answers.
 use Rattle.std.specs.Prelude.{◌≡◌, ◌≢◌, ◌⊎◌, ℕ, List, Option, Some, None, Err, IsTrue}
-use Rattle.gptman.specs.Calls.{IsReadingFault}
+use Rattle.gptman.specs.TableReads.{IsReadingFault}
 use Rattle.gptman.specs.Disk.{DiskState, Rose}
 use Rattle.gptman.specs.Entry.{is_unused}
 use Rattle.gptman.specs.Fault.{Fault, invalid_partition_number, io, no_space_left, out_of_memory, overflow}

@@ -1,13 +1,14 @@
 //! What the commands do to a disk. Nothing is printed here.
 
 ghost use Rattle.std.specs.Prelude.{◌≡◌, ◌⊎◌, ◌<◌, ◌∷◌, [], ℕ, Bool, List, Option, Some, IsTrue, IfOk, IfErr, IfSome, OnOk, OnErr};
-ghost use Rattle.gptman.specs.Disk.{Keeps, Rose, Wrote, overlay};
-ghost use Rattle.gptman.specs.Calls.{OnlyRead, Refuses, Untouched};
+ghost use Rattle.gptman.specs.Disk.{Keeps, Rose, Wrote, overlay, OnlyRead, Untouched};
+ghost use Rattle.gptman.specs.Answers.{Refuses};
 ghost use Rattle.gptman.specs.Layout.{HasLayout};
 ghost use Rattle.gptman.specs.Fault.{fault_of, io as io_fault};
 ghost use Rattle.gptman.specs.Mbr.{mbr_bytes, mbr_fault};
 ghost use Rattle.gptman.specs.Stop.{IsStored};
-ghost use Rattle.gptman.specs.Table.{entries_in, IsCoherent};
+ghost use Rattle.gptman.specs.Table.{entries_in};
+ghost use Rattle.gptman.specs.Copy.{IsCoherent};
 ghost use Rattle.gptman.specs.Write.{both_ranges};
 ghost use Rattle.gptimg_core.specs.Words.{IsSized, IsSizedChange};
 ghost use Rattle.gptimg_core.specs.Asks.{made_header, made_table, IsReader};

@@ -6,9 +6,8 @@
 
 ghost use Rattle.std.specs.Prelude.{◌≡◌, ◌≤◌, ◌↔◌, ◌⊎◌, ◌∷◌, [], ℕ, Bool, List, Option, Ok, None, true, false, codes, if◌then◌else◌, IsTrue, IfOk, IfErr, OnOk};
 ghost use Rattle.std.specs.Io.KnownBytes.{Appends};
-ghost use Rattle.gptman.specs.Disk.{Keeps, Rose, Wrote, overlay};
+ghost use Rattle.gptman.specs.Disk.{Keeps, Rose, Wrote, overlay, OnlyRead, Untouched};
 ghost use Rattle.gptman.specs.Fault.{fault_of, io as io_fault};
-ghost use Rattle.gptman.specs.Calls.{OnlyRead, Untouched};
 ghost use Rattle.gptman.specs.Layout.{HasLayout};
 ghost use Rattle.gptman.specs.Mbr.{mbr_bytes};
 ghost use Rattle.gptman.specs.Stop.{IsStored};

@@ -10,7 +10,7 @@ ghost use Rattle.gptman.specs.Table.{entries_in};
 ghost use Rattle.gptimg_core.specs.Names.{fault_line, fault_name, variant_name};
 ghost use Rattle.gptimg_core.specs.Lines.{check_lines, copy_line, entry_line, entry_lines, form_name as form_name_of, report_lines, shown_byte, shown_text, slot_lines, table_line, table_lines};
 ghost use Rattle.gptimg_core.specs.Checks.{seen_as};
-ghost use Rattle.gptman.specs.Calls.{answer_of};
+ghost use Rattle.gptman.specs.Answers.{answer_of};
 
 use crate::commands::Report;
 use crate::commands::check::{BothCopies, FoundCopy};

@@ -5,21 +5,22 @@ use Rattle.std.specs.List.{list_all}
 use Rattle.std.proofs.lemmas.Bool.{and_from, le-leb, lt-ltb}
 use Rattle.std.proofs.lemmas.Bool.Decides.{eqb_tells}
 use Rattle.std.proofs.lemmas.List.Folds.{list_all-append}
-use Rattle.gptman.specs.Calls.{AnswersWrite, Refuses, Settles}
-use Rattle.gptman.specs.Calls.AnswersWrite.{no_memory, not_valid, too_far, settled}
+use Rattle.gptman.specs.TableWrites.{AnswersWrite}
+use Rattle.gptman_copy.specs.Answers.{Refuses, Settles}
+use Rattle.gptman.specs.TableWrites.AnswersWrite.{no_memory, not_valid, too_far, settled}
 use Rattle.gptman.specs.Crash.{other_place}
-use Rattle.gptman.specs.Disk.{DiskState, Rose}
-use Rattle.gptman.specs.Fault.{Fault, fault_of, first_failing, io, overflow, no_space_left, out_of_memory}
+use Rattle.gptman_copy.specs.Disk.{DiskState, Rose}
+use Rattle.gptman_copy.specs.Fault.{Fault, fault_of, first_failing, io, overflow, no_space_left, out_of_memory}
 use Rattle.gptman.specs.Layout.{HasLayout, IsLaidOut, array_start}
 use Rattle.gptman.specs.Reading.{Place}
 use Rattle.gptman.specs.Table.{table_of, IsHeaderForm}
 use Rattle.gptman.specs.Valid.{IsValid, IsValidity}
 use Rattle.gptman.specs.Valid.IsValidity.{shared_guid, bad_boundaries, valid}
-use Rattle.gptman.specs.Write.{other_header, array_range, write_ranges, both_ranges, is_addressable, is_inside, has_other_header, write_fault}
-use Rattle.gptman.specs.declared.codec.entry.GPTPartitionEntry.{GPTPartitionEntry}
-use Rattle.gptman.specs.declared.codec.header.GPTHeader.{GPTHeader}
-use Rattle.gptman.specs.declared.error.Error.{Error}
-use Rattle.gptman.proofs.FirstFailing.{none_from_tests}
+use Rattle.gptman_copy.specs.Write.{other_header, array_range, write_ranges, both_ranges, is_addressable, is_inside, has_other_header, write_fault}
+use Rattle.gptman_copy.specs.declared.codec.entry.GPTPartitionEntry.{GPTPartitionEntry}
+use Rattle.gptman_copy.specs.declared.codec.header.GPTHeader.{GPTHeader}
+use Rattle.gptman_copy.specs.declared.error.Error.{Error}
+use Rattle.gptman_copy.proofs.FirstFailing.{none_from_tests}
 use Rattle.gptman.proofs.FourRanges.{other_laid}
 use Rattle.gptman.proofs.OneGood.{layout_form}
 use Rattle.gptman.proofs.OtherHeader.{other_form}

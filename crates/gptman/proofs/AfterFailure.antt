@@ -1,22 +1,24 @@
 -- What a failed write leaves at each place of the stated layout.
 use Rattle.std.proofs.Common.{◌≡◌, ◌<◌, ◌^◌, ◌*◌, inl, inr, ℕ, List, [], length, get_or, sym, ap, ◌∙◌, subst}
 use Rattle.std.specs.List.{Contains}
-use Rattle.gptman.specs.Calls.{IsWhole, LeavesOnFailure}
-use Rattle.gptman.specs.Calls.LeavesOnFailure.{nothing, other_begun, own_not_begun, own_begun}
+use Rattle.gptman.specs.TableWrites.{IsWhole, LeavesOnFailure}
+use Rattle.gptman.specs.TableWrites.LeavesOnFailure.{nothing, other_begun, own_not_begun, own_begun}
 use Rattle.gptman.specs.Crash.{IsLeftAlone, PlaceAfter, other_place}
 use Rattle.gptman.specs.Crash.PlaceAfter.{left_alone, written, torn}
-use Rattle.gptman.specs.Disk.{Agrees, DiskState, Image, Outside, Within}
-use Rattle.gptman.specs.Layout.{AreClear, HasLayout, IsLaidOut, ranges_at}
+use Rattle.gptman_copy.specs.Disk.{Agrees, DiskState, Image, Outside, Within}
+use Rattle.gptman_copy.specs.Ranges.{AreClear}
+use Rattle.gptman.specs.Layout.{HasLayout, IsLaidOut, ranges_at}
 use Rattle.gptman.specs.Reading.{Place, primary, backup, place_start}
-use Rattle.gptman.specs.Table.{table_of, IsHeaderForm, sealed}
-use Rattle.gptman.specs.Write.{other_header, write_ranges}
-use Rattle.gptman.specs.declared.codec.entry.GPTPartitionEntry.{GPTPartitionEntry}
-use Rattle.gptman.specs.declared.codec.header.GPTHeader.{GPTHeader}
+use Rattle.gptman.specs.Table.{table_of, IsHeaderForm}
+use Rattle.gptman_copy.specs.Copy.{sealed}
+use Rattle.gptman_copy.specs.Write.{other_header, write_ranges}
+use Rattle.gptman_copy.specs.declared.codec.entry.GPTPartitionEntry.{GPTPartitionEntry}
+use Rattle.gptman_copy.specs.declared.codec.header.GPTHeader.{GPTHeader}
 use Rattle.gptman.proofs.FourRanges.{agrees_in, clear_if_apart, inside_clear, other_laid, other_ranges, places_apart}
 use Rattle.gptman.proofs.OneGood.{other_held}
 use Rattle.gptman.proofs.OneWhole.{within_copy}
 use Rattle.gptman.proofs.OtherHeader.{other_form}
-use Rattle.gptman.proofs.Ranges.{Ranges, agrees_wider, within_then}
+use Rattle.gptman_copy.proofs.Ranges.{Ranges, agrees_wider, within_then}
 use Rattle.gptman.proofs.WrittenCopy.{written_start}
 
 -- ranges of a disk that is as it was, with nothing pending

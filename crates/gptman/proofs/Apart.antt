@@ -1,8 +1,8 @@
 -- Ranges that have no byte in common, in another order.
 use Rattle.std.proofs.Common.{inl, inr, ℕ, [], ◌∷◌, ◌++◌, sym, subst}
 use Rattle.std.proofs.lemmas.List.{append-nil}
-use Rattle.gptman.specs.Layout.{IsApart, IsApartFromAll, AreApart}
-use Rattle.gptman.proofs.Ranges.{Ranges}
+use Rattle.gptman_copy.specs.Ranges.{IsApart, IsApartFromAll, AreApart}
+use Rattle.gptman_copy.proofs.Ranges.{Ranges}
 
 apart_back : (r s : ℕ × ℕ) → IsApart r s → IsApart s r
 apart_back r s (inl none) = inr (inl none)

@@ -2,35 +2,37 @@
 use Rattle.std.proofs.Common.{◌≡◌, ◌≢◌, ◌<◌, ◌^◌, inl, inr, Some, None, Ok, Err, Bool, ℕ, suc, ◌-◌, true, false, List, [], ◌∷◌, length, nat_lt, refl, sym, ap, ◌∙◌, subst}
 use Rattle.std.specs.Prelude.{if◌then◌else◌}
 use Rattle.std.proofs.lemmas.List.{length-map, length-set}
-use Rattle.gptman.specs.Coding.{empty_entry}
-use Rattle.gptman.specs.Calls.{AnswersWrite}
-use Rattle.gptman.specs.Calls.AnswersWrite.{no_memory, not_valid, too_far, settled}
+use Rattle.gptman_copy.specs.Coding.{empty_entry}
+use Rattle.gptman.specs.TableWrites.{AnswersWrite}
+use Rattle.gptman.specs.TableWrites.AnswersWrite.{no_memory, not_valid, too_far, settled}
 use Rattle.gptman.specs.Commit.{IsButSums, RefusesEdit}
 use Rattle.gptman.specs.Commit.RefusesEdit.{not_applied, no_memory as unseen, not_valid as invalid, no_room, not_written}
 use Rattle.gptman.specs.Crash.{HasRangesOf, IsKeptFor, other_place}
-use Rattle.gptman.specs.Disk.{DiskState, IsSound, LeavesOnly}
+use Rattle.gptman_copy.specs.Disk.{DiskState, IsSound, LeavesOnly}
 use Rattle.gptman.specs.Edit.{edited, edit_fault}
-use Rattle.gptman.specs.Fault.{Fault, fault_of, invalid_partition_number, no_space_left, overflow}
-use Rattle.gptman.specs.Layout.{AreClear, HasLayout, Holds, IsLaidOut, ranges_at}
+use Rattle.gptman_copy.specs.Fault.{Fault, fault_of, invalid_partition_number, no_space_left, overflow}
+use Rattle.gptman_copy.specs.Ranges.{AreClear}
+use Rattle.gptman.specs.Layout.{HasLayout, Holds, IsLaidOut, ranges_at}
 use Rattle.gptman.specs.Number.{has_number}
 use Rattle.gptman.specs.Order.{by_rank, put_in, rank}
 use Rattle.gptman.specs.Reading.{Place, primary, backup}
 use Rattle.gptman.specs.Stop.{HoldsOneOf, IsStored}
-use Rattle.gptman.specs.Table.{Table, table_of, content_of, entries_in, table_in, IsCoherent, IsHeaderForm}
+use Rattle.gptman.specs.Table.{Table, table_of, content_of, entries_in, table_in, IsHeaderForm}
+use Rattle.gptman_copy.specs.Copy.{IsCoherent}
 use Rattle.gptman.specs.Valid.{IsValidity}
 use Rattle.gptman.specs.Valid.IsValidity.{shared_guid, bad_boundaries, valid}
-use Rattle.gptman.specs.Write.{both_ranges, write_fault}
-use Rattle.gptman.specs.declared.codec.entry.GPTPartitionEntry.{GPTPartitionEntry}
-use Rattle.gptman.specs.declared.codec.header.GPTHeader.{GPTHeader}
+use Rattle.gptman_copy.specs.Write.{both_ranges, write_fault}
+use Rattle.gptman_copy.specs.declared.codec.entry.GPTPartitionEntry.{GPTPartitionEntry}
+use Rattle.gptman_copy.specs.declared.codec.header.GPTHeader.{GPTHeader}
 use Rattle.gptman.specs.declared.edit.Edit.{Edit}
 use Rattle.gptman.specs.declared.edit.Edit.TheVariants.{Put, Remove, SortEntries, DiskGuid}
-use Rattle.gptman.specs.declared.error.Error.{Error}
+use Rattle.gptman_copy.specs.declared.error.Error.{Error}
 use Rattle.gptman.specs.declared.table.GPT.{GPT}
 use Rattle.gptman.proofs.Accepted.{layout_fits}
 use Rattle.gptman.proofs.FourRanges.{same_ranges}
 use Rattle.gptman.proofs.Held.{holds_local}
 use Rattle.gptman.proofs.OneGood.{leaves_still}
-use Rattle.gptman.proofs.Ranges.{contains_first}
+use Rattle.gptman_copy.proofs.Ranges.{contains_first}
 
 -- a header with another disk GUID and other checksums
 abbrev with_sums : GPTHeader → List ℕ → ℕ → ℕ → GPTHeader

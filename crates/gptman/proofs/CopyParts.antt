@@ -1,12 +1,12 @@
 -- A copy is told by its header and then by its entries.
 use Rattle.std.proofs.Common.{◌≡◌, ℕ, List, length, Option, Some, None, Result, Ok, Err, refl, ap, ◌∙◌}
-use Rattle.gptman.specs.Bytes.{part}
-use Rattle.gptman.specs.Coding.{header_of}
-use Rattle.gptman.specs.Fault.{Fault, first_failing}
-use Rattle.gptman.specs.Copy.{Copy, header_tests, array_tests, copy_tests, copy_fault, copy_there, copy_at, header_result, array_result, unless, entries_of, entries_part, entries_start, entries_length}
-use Rattle.gptman.specs.declared.codec.header.GPTHeader.{GPTHeader}
-use Rattle.gptman.specs.declared.codec.entry.GPTPartitionEntry.{GPTPartitionEntry}
-use Rattle.gptman.proofs.FirstFailing.{first_tests, later_tests}
+use Rattle.gptman_copy.specs.Bytes.{part}
+use Rattle.gptman_copy.specs.Coding.{header_of}
+use Rattle.gptman_copy.specs.Fault.{Fault, first_failing}
+use Rattle.gptman_copy.specs.Copy.{Copy, header_tests, array_tests, copy_tests, copy_fault, copy_there, copy_at, header_result, array_result, unless, entries_of, entries_part, entries_start, entries_length}
+use Rattle.gptman_copy.specs.declared.codec.header.GPTHeader.{GPTHeader}
+use Rattle.gptman_copy.specs.declared.codec.entry.GPTPartitionEntry.{GPTPartitionEntry}
+use Rattle.gptman_copy.proofs.FirstFailing.{first_tests, later_tests}
 
 refused_by : {X : Type 0} (o : Option Fault) (x : X) (fault : Fault) → unless o x ≡ Err fault → o ≡ Some fault
 refused_by None x fault is = absurd (cc)

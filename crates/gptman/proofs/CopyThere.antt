@@ -4,17 +4,17 @@ use Rattle.std.proofs.lemmas.Bool.{le-leb, lt-ltb, eq-eqb}
 use Rattle.std.proofs.lemmas.Bool.Decides.{eqb_tells}
 use Rattle.std.proofs.lemmas.List.FromFn.{fill_by_all}
 use lib.Pointwise.{bytes_decides}
-use Rattle.gptman.specs.Bytes.{part}
-use Rattle.gptman.specs.Coding.{header_of, entry_of}
-use Rattle.gptman.specs.Crc.{crc_of}
-use Rattle.gptman.specs.Fault.{Fault, first_failing}
-use Rattle.gptman.specs.Copy.{CopyAt, Copy, copy_tests, copy_fault, copy_there, copy_at, entries_of, entries_part, entries_start, entries_length, right_signature, right_revision, header_crc}
-use Rattle.gptman.specs.declared.codec.header.GPTHeader.{GPTHeader}
-use Rattle.gptman.specs.declared.codec.entry.GPTPartitionEntry.{GPTPartitionEntry}
-use Rattle.gptman.proofs.EntryBytes.{entry_is}
-use Rattle.gptman.proofs.FirstFailing.{none_from_tests, none_or}
-use Rattle.gptman.proofs.HeaderBytes.{header_is}
-use Rattle.gptman.proofs.Overlays.{part-part}
+use Rattle.gptman_copy.specs.Bytes.{part}
+use Rattle.gptman_copy.specs.Coding.{header_of, entry_of}
+use Rattle.gptman_copy.specs.Crc.{crc_of}
+use Rattle.gptman_copy.specs.Fault.{Fault, first_failing}
+use Rattle.gptman_copy.specs.Copy.{CopyAt, Copy, copy_tests, copy_fault, copy_there, copy_at, entries_of, entries_part, entries_start, entries_length, right_signature, right_revision, header_crc}
+use Rattle.gptman_copy.specs.declared.codec.header.GPTHeader.{GPTHeader}
+use Rattle.gptman_copy.specs.declared.codec.entry.GPTPartitionEntry.{GPTPartitionEntry}
+use Rattle.gptman_copy.proofs.EntryBytes.{entry_is}
+use Rattle.gptman_copy.proofs.FirstFailing.{none_from_tests, none_or}
+use Rattle.gptman_copy.proofs.HeaderBytes.{header_is}
+use Rattle.gptman_copy.proofs.Overlays.{part-part}
 
 -- entries that lie on the disk begin below its end
 start_below : (n start size len : ℕ) → size ≡ 128 * n → (n ≡ 0) ⊎ (start + size ≤ len) → (n ≡ 0) ⊎ (start < len)

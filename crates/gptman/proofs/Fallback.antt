@@ -2,15 +2,16 @@
 use Rattle.std.proofs.Common.{◌≡◌, ◌≢◌, inl, inr, ◌≤◌, ◌<◌, ℕ, ◌-◌, ◌*◌, ◌/◌, ◌&&◌, Bool, true, false, List, length, ltb, Result, Ok, Err, arith, refl, sym, ap, ◌∙◌}
 use Rattle.std.specs.Prelude.{IfErr, IsTrue, if◌then◌else◌}
 use Rattle.std.proofs.lemmas.Bool.{and_from}
-use Rattle.gptman.specs.Calls.{answer_of, copy_of, is_copy_fault, is_damage, is_reading_fault, FallsBack, IsCopyFault, IsReadingFault, Refuses, read, no_memory, no_seek, no_backup}
-use Rattle.gptman.specs.Copy.{Copy, copy_at}
-use Rattle.gptman.specs.Disk.{DiskState}
-use Rattle.gptman.specs.Fault.{Fault, fault_of, is_signature_fault, io, invalid_signature, invalid_revision, invalid_header_size, invalid_checksum, invalid_array_checksum, read_error, no_space_left, conflict_partition_guid, invalid_partition_boundaries, invalid_partition_number, unused_partition, partition_not_found, overflow, out_of_memory, invalid_entry_size}
+use Rattle.gptman_copy.specs.Answers.{answer_of, is_copy_fault, is_damage, Refuses}
+use Rattle.gptman.specs.TableReads.{copy_of, is_reading_fault, FallsBack, IsCopyFault, IsReadingFault, read, no_memory, no_seek, no_backup}
+use Rattle.gptman_copy.specs.Copy.{Copy, copy_at}
+use Rattle.gptman_copy.specs.Disk.{DiskState}
+use Rattle.gptman_copy.specs.Fault.{Fault, fault_of, is_signature_fault, io, invalid_signature, invalid_revision, invalid_header_size, invalid_checksum, invalid_array_checksum, read_error, no_space_left, conflict_partition_guid, invalid_partition_boundaries, invalid_partition_number, unused_partition, partition_not_found, overflow, out_of_memory, invalid_entry_size}
 use Rattle.gptman.specs.Reading.{primary, backup, both, copy_in, fallback, found_sector_size, reading_of, second_copy}
-use Rattle.gptman.specs.declared.error.Error.{Error}
+use Rattle.gptman_copy.specs.declared.error.Error.{Error}
 use Rattle.gptman.specs.declared.table.GPT.{GPT}
 use Rattle.gptman.proofs.CopyParts.{header_refused}
-use Rattle.gptman.proofs.CopyTests.{header_short}
+use Rattle.gptman_copy.proofs.CopyTests.{header_short}
 
 -- a copy's fault that is no want of memory is damage
 pub damage_from : (f : Fault) → is_copy_fault f ≡ true → f ≢ out_of_memory → is_damage f ≡ true

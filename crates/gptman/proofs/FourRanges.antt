@@ -3,19 +3,20 @@ use Rattle.std.proofs.Common.{◌≡◌, ℕ, ◌+◌, ◌-◌, ◌*◌, ◌/◌
 use Rattle.std.specs.Prelude.{nat_eq}
 use Rattle.std.proofs.lemmas.Bool.Decides.{eqb_tells}
 use Rattle.gptman.specs.Crash.{HasRangesOf, other_place}
-use Rattle.gptman.specs.Disk.{Agrees, Outside, Within}
-use Rattle.gptman.specs.Layout.{AgreesIn, AreApart, AreClear, IsLaidOut, Inside, four_ranges, ranges_at}
+use Rattle.gptman_copy.specs.Disk.{Agrees, Outside, Within}
+use Rattle.gptman_copy.specs.Ranges.{AgreesIn, AreApart, AreClear, Inside}
+use Rattle.gptman.specs.Layout.{IsLaidOut, four_ranges, ranges_at}
 use Rattle.gptman.specs.Reading.{Place, primary, backup}
 use Rattle.gptman.specs.Table.{Table, table_of, IsHeaderForm}
-use Rattle.gptman.specs.Write.{other_header, both_ranges}
-use Rattle.gptman.specs.declared.codec.entry.GPTPartitionEntry.{GPTPartitionEntry}
-use Rattle.gptman.specs.declared.codec.header.GPTHeader.{GPTHeader}
+use Rattle.gptman_copy.specs.Write.{other_header, both_ranges}
+use Rattle.gptman_copy.specs.declared.codec.entry.GPTPartitionEntry.{GPTPartitionEntry}
+use Rattle.gptman_copy.specs.declared.codec.header.GPTHeader.{GPTHeader}
 use Rattle.gptman.proofs.Apart.{apart_exchanged, from_right}
 use Rattle.gptman.proofs.LaidCopies.{copy_ranges, entries_range}
 use Rattle.gptman.proofs.OneWhole.{within_copy}
 use Rattle.gptman.proofs.OtherHeader.{other_table, other_form}
-use Rattle.gptman.proofs.Overlays.{outside_apart}
-use Rattle.gptman.proofs.Ranges.{Ranges, within_then, within_both, within_left, within_right}
+use Rattle.gptman_copy.proofs.Overlays.{outside_apart}
+use Rattle.gptman_copy.proofs.Ranges.{Ranges, within_then, within_both, within_left, within_right}
 use Rattle.gptman.proofs.WrittenCopy.{written_start, written_array}
 
 -- ---- ranges that are clear of others

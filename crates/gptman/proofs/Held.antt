@@ -1,15 +1,16 @@
 -- What a place holds is told by its two ranges.
 use Rattle.std.proofs.Common.{◌≡◌, ◌*◌, ℕ, Bool, true, false, List, length, ltb, Result, Ok, Err, refl, sym, ap, ◌∙◌, inl, inr, arith}
 use Rattle.std.specs.Prelude.{Option, Some, None}
-use Rattle.gptman.specs.Bytes.{part}
-use Rattle.gptman.specs.Coding.{header_of}
-use Rattle.gptman.specs.Copy.{Copy, copy_at, copy_fault, copy_tests, copy_there, entries_of, entries_part, entries_start, entries_length}
-use Rattle.gptman.specs.Fault.{Fault, first_failing, invalid_signature}
-use Rattle.gptman.specs.Layout.{Holds, AgreesIn, ranges_at, array_start}
+use Rattle.gptman_copy.specs.Bytes.{part}
+use Rattle.gptman_copy.specs.Coding.{header_of}
+use Rattle.gptman_copy.specs.Copy.{Copy, copy_at, copy_fault, copy_tests, copy_there, entries_of, entries_part, entries_start, entries_length}
+use Rattle.gptman_copy.specs.Fault.{Fault, first_failing, invalid_signature}
+use Rattle.gptman.specs.Layout.{Holds, ranges_at, array_start}
+use Rattle.gptman_copy.specs.Ranges.{AgreesIn}
 use Rattle.gptman.specs.Reading.{Place, primary, backup, place_start, copy_in}
 use Rattle.gptman.specs.Table.{Table, IsForm}
-use Rattle.gptman.specs.declared.codec.header.GPTHeader.{GPTHeader}
-use Rattle.gptman.proofs.Overlays.{part_in}
+use Rattle.gptman_copy.specs.declared.codec.header.GPTHeader.{GPTHeader}
+use Rattle.gptman_copy.proofs.Overlays.{part_in}
 use Rattle.gptman.proofs.WrittenCopy.{written_array}
 
 -- ---- a copy is told by the length and by its two parts

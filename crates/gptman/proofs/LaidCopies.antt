@@ -4,18 +4,17 @@ use Rattle.std.specs.List.{All, list_all}
 use Rattle.std.specs.Prelude.{if◌then◌else◌, nat_eq}
 use Rattle.std.proofs.lemmas.Bool.{and_parts, leb-true}
 use Rattle.std.proofs.lemmas.Bool.Decides.{eqb_tells}
-use Rattle.gptman.specs.Bytes.{part}
-use Rattle.gptman.specs.Coding.{FitsHeader, FitsEntry, header_bytes, array_bytes}
-use Rattle.gptman.specs.Disk.{overlay}
-use Rattle.gptman.specs.Layout.{AreApart, AreInside}
-use Rattle.gptman.specs.Write.{array_range, write_ranges, is_inside}
-use Rattle.gptman.specs.Calls.{IsCopyLaid, HasBytes}
-use Rattle.gptman.specs.declared.codec.header.GPTHeader.{GPTHeader}
-use Rattle.gptman.specs.declared.codec.entry.GPTPartitionEntry.{GPTPartitionEntry}
-use Rattle.gptman.proofs.ArrayBytes.{array_long}
-use Rattle.gptman.proofs.HeaderBytes.{header_long}
+use Rattle.gptman_copy.specs.Bytes.{part}
+use Rattle.gptman_copy.specs.Coding.{FitsHeader, FitsEntry, header_bytes, array_bytes}
+use Rattle.gptman_copy.specs.Disk.{overlay}
+use Rattle.gptman_copy.specs.Ranges.{AreApart, AreInside}
+use Rattle.gptman_copy.specs.Write.{array_range, write_ranges, is_inside, IsCopyLaid, HasBytes}
+use Rattle.gptman_copy.specs.declared.codec.header.GPTHeader.{GPTHeader}
+use Rattle.gptman_copy.specs.declared.codec.entry.GPTPartitionEntry.{GPTPartitionEntry}
+use Rattle.gptman_copy.proofs.ArrayBytes.{array_long}
+use Rattle.gptman_copy.proofs.HeaderBytes.{header_long}
 use Rattle.gptman.proofs.Pieces.{laid_over, ranges_of, AllStand, laid_agrees, laid_stand}
-use Rattle.gptman.proofs.Ranges.{Ranges}
+use Rattle.gptman_copy.proofs.Ranges.{Ranges}
 
 -- the two ranges of a copy, its header and its entries, also where there are no entries
 abbrev pub copy_ranges : GPTHeader → ℕ → Ranges

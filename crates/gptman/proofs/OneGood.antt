@@ -1,22 +1,24 @@
 -- From one good copy, whatever a stop leaves of a write holds the old table or the new one.
 use Rattle.std.proofs.Common.{◌≡◌, ◌<◌, ◌^◌, ℕ, true, List, [], ◌∷◌, length, sym, subst, inl, inr, arith}
-use Rattle.gptman.specs.Calls.{IsOneWhole, IsWhole}
+use Rattle.gptman.specs.TableWrites.{IsOneWhole, IsWhole}
 use Rattle.gptman.specs.Crash.{HasRangesOf, IsKeptFor, other_place}
-use Rattle.gptman.specs.Disk.{Agrees, DiskState, IsSound, LeavesOnly, Wrote}
-use Rattle.gptman.specs.Layout.{AreApart, AreClear, HasLayout, Holds, IsLaidOut, four_ranges, ranges_at}
+use Rattle.gptman_copy.specs.Disk.{Agrees, DiskState, IsSound, LeavesOnly, Wrote}
+use Rattle.gptman_copy.specs.Ranges.{AreApart, AreClear}
+use Rattle.gptman.specs.Layout.{HasLayout, Holds, IsLaidOut, four_ranges, ranges_at}
 use Rattle.gptman.specs.Reading.{Place, primary, backup}
 use Rattle.gptman.specs.Stop.{HoldsOneOf, IsStored}
-use Rattle.gptman.specs.Table.{Table, table_of, entries_in, table_in, IsHeaderForm, sealed}
-use Rattle.gptman.specs.Write.{other_header, both_ranges, write_ranges}
-use Rattle.gptman.specs.declared.codec.entry.GPTPartitionEntry.{GPTPartitionEntry}
-use Rattle.gptman.specs.declared.codec.header.GPTHeader.{GPTHeader}
+use Rattle.gptman.specs.Table.{Table, table_of, entries_in, table_in, IsHeaderForm}
+use Rattle.gptman_copy.specs.Copy.{sealed}
+use Rattle.gptman_copy.specs.Write.{other_header, both_ranges, write_ranges}
+use Rattle.gptman_copy.specs.declared.codec.entry.GPTPartitionEntry.{GPTPartitionEntry}
+use Rattle.gptman_copy.specs.declared.codec.header.GPTHeader.{GPTHeader}
 use Rattle.gptman.specs.declared.table.GPT.{GPT}
 use Rattle.gptman.proofs.FourRanges.{agrees_in, both_apart, clear_if_apart, other_ranges, places_apart, same_ranges, within_four}
 use Rattle.gptman.proofs.Held.{holds_local}
 use Rattle.gptman.proofs.OneWhole.{leaves_ranges, within_copy}
 use Rattle.gptman.proofs.OtherHeader.{other_table, other_form}
-use Rattle.gptman.proofs.Ranges.{Ranges, agrees_wider, contains_first, contains_later, within_none}
-use Rattle.gptman.proofs.Runs.{wrote_not}
+use Rattle.gptman_copy.proofs.Ranges.{Ranges, agrees_wider, contains_first, contains_later, within_none}
+use Rattle.gptman_copy.proofs.Runs.{wrote_not}
 use Rattle.gptman.proofs.Stored.{sealed_header, header_held}
 
 -- a copy that stands whole at the other place holds the new table there

@@ -6,23 +6,23 @@ use Rattle.std.proofs.lemmas.Bool.{and_parts}
 use Rattle.std.proofs.lemmas.List.{append-nil}
 use Rattle.std.proofs.lemmas.List.Folds.{list_all-append}
 use Rattle.std.proofs.lemmas.Bool.Decides.{eqb_tells}
-use Rattle.gptman.specs.Bytes.{part}
-use Rattle.gptman.specs.Coding.{FitsHeader, FitsEntry, header_bytes, array_bytes}
-use Rattle.gptman.specs.Disk.{DiskState, Agrees, Image, Within, LeavesOnly, Wrote}
-use Rattle.gptman.specs.Layout.{AreApart, AreInside}
-use Rattle.gptman.specs.Table.{sealed}
-use Rattle.gptman.specs.Write.{other_header, write_ranges, both_ranges, is_inside}
-use Rattle.gptman.specs.Calls.{IsCopyLaid, IsOneWhole, IsWhole, HasBytes, LeavesOnFailure, OnlyRead, Untouched}
-use Rattle.gptman.specs.Calls.LeavesOnFailure.{nothing, other_begun, own_not_begun, own_begun}
-use Rattle.gptman.specs.declared.codec.header.GPTHeader.{GPTHeader}
-use Rattle.gptman.specs.declared.codec.entry.GPTPartitionEntry.{GPTPartitionEntry}
-use Rattle.gptman.proofs.ArrayBytes.{array_long}
-use Rattle.gptman.proofs.HeaderBytes.{header_long}
+use Rattle.gptman_copy.specs.Bytes.{part}
+use Rattle.gptman_copy.specs.Coding.{FitsHeader, FitsEntry, header_bytes, array_bytes}
+use Rattle.gptman_copy.specs.Disk.{DiskState, Agrees, Image, Within, LeavesOnly, Wrote, OnlyRead, Untouched}
+use Rattle.gptman_copy.specs.Ranges.{AreApart, AreInside}
+use Rattle.gptman_copy.specs.Copy.{sealed}
+use Rattle.gptman_copy.specs.Write.{other_header, write_ranges, both_ranges, is_inside, IsCopyLaid, HasBytes}
+use Rattle.gptman.specs.TableWrites.{IsOneWhole, IsWhole, LeavesOnFailure}
+use Rattle.gptman.specs.TableWrites.LeavesOnFailure.{nothing, other_begun, own_not_begun, own_begun}
+use Rattle.gptman_copy.specs.declared.codec.header.GPTHeader.{GPTHeader}
+use Rattle.gptman_copy.specs.declared.codec.entry.GPTPartitionEntry.{GPTPartitionEntry}
+use Rattle.gptman_copy.proofs.ArrayBytes.{array_long}
+use Rattle.gptman_copy.proofs.HeaderBytes.{header_long}
 use Rattle.gptman.proofs.LaidCopies.{copy_ranges, copies_apart, copy_inside}
-use Rattle.gptman.proofs.Overlays.{part_same}
+use Rattle.gptman_copy.proofs.Overlays.{part_same}
 use Rattle.gptman.proofs.Pieces.{ranges_of, AllStand, laid_stand}
-use Rattle.gptman.proofs.Ranges.{Ranges, agrees_then, agrees_wider, within_none, within_self}
-use Rattle.gptman.proofs.Runs.{leaves_then, wrote_then, wrote_wider}
+use Rattle.gptman_copy.proofs.Ranges.{Ranges, agrees_then, agrees_wider, within_none, within_self}
+use Rattle.gptman_copy.proofs.Runs.{leaves_then, wrote_then, wrote_wider}
 use Rattle.gptman.proofs.Apart.{apart_exchanged}
 use Rattle.gptman.proofs.Sealing.{sealed_ranges, sealed_count}
 

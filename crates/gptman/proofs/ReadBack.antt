@@ -1,12 +1,12 @@
 -- The entries of an accepted copy are told by what they hold.
 use Rattle.std.proofs.Common.{◌≡◌, ◌*◌, ℕ, List, [], ◌∷◌, map, Ok, refl, sym, ap, ◌∙◌, subst}
 use Rattle.std.specs.List.{range_with_len}
-use Rattle.gptman.specs.Bytes.{part}
-use Rattle.gptman.specs.Coding.{header_of, entry_of}
-use Rattle.gptman.specs.Copy.{Copy, copy_at, copy_there, entries_of, entries_part}
+use Rattle.gptman_copy.specs.Bytes.{part}
+use Rattle.gptman_copy.specs.Coding.{header_of, entry_of}
+use Rattle.gptman_copy.specs.Copy.{Copy, copy_at, copy_there, entries_of, entries_part}
 use Rattle.gptman.specs.Reading.{Place, primary, backup, copy_in}
 use Rattle.gptman.specs.Table.{TableEntry, content_of, entry_in}
-use Rattle.gptman.specs.declared.codec.entry.GPTPartitionEntry.{GPTPartitionEntry}
+use Rattle.gptman_copy.specs.declared.codec.entry.GPTPartitionEntry.{GPTPartitionEntry}
 use Rattle.gptman.proofs.Fallback.{backup_long, backup_room}
 use Rattle.gptman.proofs.Held.{accepted_is}
 

@@ -5,11 +5,11 @@ use Rattle.std.specs.List.{Contains}
 use Rattle.std.proofs.lemmas.Bool.{and_parts, and_from}
 use Rattle.std.proofs.lemmas.Bool.Decides.{eqb_tells}
 use lib.Pointwise.{pointwise, pointwise_decides, bytes_decides}
-use Rattle.gptman.specs.Copy.{Copy}
+use Rattle.gptman_copy.specs.Copy.{Copy}
 use Rattle.gptman.specs.Reading.{Place, primary, backup}
 use Rattle.gptman.specs.Table.{Table, TableEntry, table_of, IsForm, IsHeaderForm}
-use Rattle.gptman.specs.declared.codec.header.GPTHeader.{GPTHeader}
-use Rattle.gptman.proofs.Ranges.{contains_first, contains_later}
+use Rattle.gptman_copy.specs.declared.codec.header.GPTHeader.{GPTHeader}
+use Rattle.gptman_copy.proofs.Ranges.{contains_first, contains_later}
 
 abbrev entry_cells : TableEntry → List (List ℕ)
 entry_cells e =

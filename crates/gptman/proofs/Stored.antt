@@ -4,18 +4,19 @@ use Rattle.std.specs.List.{All, list_all}
 use Rattle.std.proofs.lemmas.Bool.{and_parts}
 use Rattle.std.proofs.lemmas.List.{length-map}
 use Rattle.std.proofs.lemmas.List.Folds.{list_all-append}
-use Rattle.gptman.specs.Coding.{FitsHeader, FitsEntry}
+use Rattle.gptman_copy.specs.Coding.{FitsHeader, FitsEntry}
 use Rattle.gptman.specs.Reading.{Place, primary, backup}
-use Rattle.gptman.specs.Table.{Table, table_of, content_of, IsHeaderForm, sealed}
-use Rattle.gptman.specs.Layout.{IsLaidOut, HasLayout, Holds, ranges_at, AreApart, AreInside}
-use Rattle.gptman.specs.Write.{other_header, write_ranges, both_ranges, is_inside}
-use Rattle.gptman.specs.Calls.{IsCopyLaid, HasBytes}
-use Rattle.gptman.specs.declared.codec.header.GPTHeader.{GPTHeader}
-use Rattle.gptman.specs.declared.codec.entry.GPTPartitionEntry.{GPTPartitionEntry}
+use Rattle.gptman.specs.Table.{Table, table_of, content_of, IsHeaderForm}
+use Rattle.gptman_copy.specs.Copy.{sealed}
+use Rattle.gptman.specs.Layout.{IsLaidOut, HasLayout, Holds, ranges_at}
+use Rattle.gptman_copy.specs.Ranges.{AreApart, AreInside}
+use Rattle.gptman_copy.specs.Write.{other_header, write_ranges, both_ranges, is_inside, IsCopyLaid, HasBytes}
+use Rattle.gptman_copy.specs.declared.codec.header.GPTHeader.{GPTHeader}
+use Rattle.gptman_copy.specs.declared.codec.entry.GPTPartitionEntry.{GPTPartitionEntry}
 use Rattle.gptman.proofs.Apart.{apart_exchanged}
 use Rattle.gptman.proofs.LaidCopies.{copy_ranges, both_stand, laid_both}
 use Rattle.gptman.proofs.OtherHeader.{other_table, other_form}
-use Rattle.gptman.proofs.Ranges.{Ranges}
+use Rattle.gptman_copy.proofs.Ranges.{Ranges}
 use Rattle.gptman.proofs.Sealing.{IsSealed, sealed_is, sealed_table, sealed_form, sealed_ranges, sealed_count}
 use Rattle.gptman.proofs.WrittenCopy.{written_start, written_array, written_holds}
 

@@ -3,17 +3,16 @@ use Rattle.std.proofs.Common.{◌≡◌, ◌⊎◌, ◌&&◌, ℕ, Bool, true, f
 use Rattle.std.specs.List.{All, list_all}
 use Rattle.std.proofs.lemmas.Bool.{and_parts}
 use Rattle.std.proofs.lemmas.List.Folds.{list_all-append}
-use Rattle.gptman.specs.Coding.{FitsHeader, FitsEntry}
-use Rattle.gptman.specs.Disk.{DiskState, Wrote}
-use Rattle.gptman.specs.Fault.{Fault, overflow, no_space_left, first_failing}
-use Rattle.gptman.specs.Table.{sealed}
-use Rattle.gptman.specs.Write.{other_header, write_ranges, both_ranges, copy_write_fault, write_fault, has_other_header, is_addressable, is_inside}
-use Rattle.gptman.specs.Calls.{IsCopyLaid}
-use Rattle.gptman.specs.declared.codec.header.GPTHeader.{GPTHeader}
-use Rattle.gptman.specs.declared.codec.entry.GPTPartitionEntry.{GPTPartitionEntry}
-use Rattle.gptman.proofs.FirstFailing.{tests_pass}
-use Rattle.gptman.proofs.Ranges.{Ranges, within_left, within_none, within_right}
-use Rattle.gptman.proofs.Runs.{wrote_then, wrote_wider}
+use Rattle.gptman_copy.specs.Coding.{FitsHeader, FitsEntry}
+use Rattle.gptman_copy.specs.Disk.{DiskState, Wrote}
+use Rattle.gptman_copy.specs.Fault.{Fault, overflow, no_space_left, first_failing}
+use Rattle.gptman_copy.specs.Copy.{sealed}
+use Rattle.gptman_copy.specs.Write.{other_header, write_ranges, both_ranges, copy_write_fault, write_fault, has_other_header, is_addressable, is_inside, IsCopyLaid}
+use Rattle.gptman_copy.specs.declared.codec.header.GPTHeader.{GPTHeader}
+use Rattle.gptman_copy.specs.declared.codec.entry.GPTPartitionEntry.{GPTPartitionEntry}
+use Rattle.gptman_copy.proofs.FirstFailing.{tests_pass}
+use Rattle.gptman_copy.proofs.Ranges.{Ranges, within_left, within_none, within_right}
+use Rattle.gptman_copy.proofs.Runs.{wrote_then, wrote_wider}
 
 -- the other copy is written after calls that only read
 pub wrote_other : {a b c : DiskState} (h other : GPTHeader) (ss : ℕ) → other ≡ other_header h → Wrote [] a b → Wrote (write_ranges other ss) b c → Wrote (both_ranges h ss) a c

@@ -1,17 +1,17 @@
 -- Lists of edits that are written one after the other.
 use Rattle.std.specs.Prelude.{◌≡◌, ◌⊎◌, ◌+◌, ℕ, zero, suc, Bool, true, false, List, map, slice_get, Option, Some, None, if◌then◌else◌}
 use Rattle.std.specs.List.{range_with_len}
-use Rattle.gptman.specs.Calls.{sealed_value, OnlyRead, SameButSums}
-use Rattle.gptman.specs.Disk.{DiskState, Rose}
+use Rattle.gptman.specs.TableWrites.{sealed_value}
+use Rattle.gptman_copy.specs.Disk.{OnlyRead, DiskState, Rose}
+use Rattle.gptman_copy.specs.Write.{SameButSums, write_fault}
 use Rattle.gptman.specs.Edit.{edited, edit_fault, table_after}
-use Rattle.gptman.specs.Fault.{Fault, fault_of, io, out_of_memory}
+use Rattle.gptman_copy.specs.Fault.{Fault, fault_of, io, out_of_memory}
 use Rattle.gptman.specs.Stop.{IsStored}
 use Rattle.gptman.specs.Table.{Table, entries_in, table_in}
 use Rattle.gptman.specs.Valid.{IsValid, IsValidity}
-use Rattle.gptman.specs.Write.{write_fault}
 use Rattle.gptman.specs.declared.edit.Edit.{Edit}
 use Rattle.gptman.specs.declared.edit.Edit.TheVariants.{SortEntries}
-use Rattle.gptman.specs.declared.error.Error.{Error}
+use Rattle.gptman_copy.specs.declared.error.Error.{Error}
 use Rattle.gptman.specs.declared.table.GPT.{GPT}
 
 -- the same value, but for the two checksums of its header

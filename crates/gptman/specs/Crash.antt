@@ -1,12 +1,13 @@
 -- What a write of a table starts from, and what it leaves where it is stopped or fails.
 use Rattle.std.specs.Prelude.{◌≡◌, ℕ, List, [], length, Contains, IsErr}
-use Rattle.gptman.specs.Disk.{DiskState, Image, Outside}
-use Rattle.gptman.specs.Fit.{fitted}
-use Rattle.gptman.specs.Layout.{AgreesIn, AreClear, HasLayout, Holds, Inside, ranges_at}
+use Rattle.gptman_copy.specs.Disk.{DiskState, Image, Outside}
+use Rattle.gptman_copy.specs.Fit.{fitted}
+use Rattle.gptman_copy.specs.Ranges.{AgreesIn, AreClear, Inside}
+use Rattle.gptman.specs.Layout.{HasLayout, Holds, ranges_at}
 use Rattle.gptman.specs.Reading.{Place, primary, backup, place_start, copy_in}
 use Rattle.gptman.specs.Stop.{ReadsTable}
 use Rattle.gptman.specs.Table.{Table, table_in, IsHeaderForm}
-use Rattle.gptman.specs.declared.codec.header.GPTHeader.{GPTHeader}
+use Rattle.gptman_copy.specs.declared.codec.header.GPTHeader.{GPTHeader}
 use Rattle.gptman.specs.declared.table.GPT.{GPT}
 
 -- the place that is not this one

@@ -1,7 +1,7 @@
 -- What a disk holds, and what a reading of it gives.
 use Rattle.std.specs.Prelude.{◌≡◌, ℕ, List, [], Ok, Contains}
-use Rattle.gptman.specs.Disk.{DiskState}
-use Rattle.gptman.specs.Copy.{Copy}
+use Rattle.gptman_copy.specs.Disk.{DiskState}
+use Rattle.gptman_copy.specs.Copy.{Copy}
 use Rattle.gptman.specs.Reading.{Place, primary, backup, reading_of, taken_from}
 use Rattle.gptman.specs.Table.{Table, table_of, IsForm, IsHeaderForm}
 use Rattle.gptman.specs.Layout.{Holds}

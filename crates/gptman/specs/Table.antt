@@ -1,13 +1,12 @@
 -- What a table is, whichever of its two forms one looks at.
-use Rattle.std.specs.Prelude.{◌≡◌, ◌⊎◌, ◌+◌, ℕ, List, replicate, length, map, min, max, encode_utf8_all}
-use Rattle.gptman.specs.Name.{text_of}
-use Rattle.gptman.specs.Coding.{header_bytes, array_bytes, empty_entry}
-use Rattle.gptman.specs.Fit.{new_header, fitted}
-use Rattle.gptman.specs.Crc.{crc_of}
-use Rattle.gptman.specs.Copy.{Copy, header_crc}
+use Rattle.std.specs.Prelude.{◌≡◌, ◌+◌, ℕ, List, replicate, map, min, max, encode_utf8_all}
+use Rattle.gptman_copy.specs.Name.{text_of}
+use Rattle.gptman_copy.specs.Coding.{empty_entry}
+use Rattle.gptman_copy.specs.Fit.{new_header, fitted}
+use Rattle.gptman_copy.specs.Copy.{Copy}
 use Rattle.gptman.specs.Reading.{Place, primary, backup}
-use Rattle.gptman.specs.declared.codec.header.GPTHeader.{GPTHeader}
-use Rattle.gptman.specs.declared.codec.entry.GPTPartitionEntry.{GPTPartitionEntry}
+use Rattle.gptman_copy.specs.declared.codec.header.GPTHeader.{GPTHeader}
+use Rattle.gptman_copy.specs.declared.codec.entry.GPTPartitionEntry.{GPTPartitionEntry}
 use Rattle.gptman.specs.declared.table.GPT.{GPT}
 
 -- an entry, without the text that its name has in memory
@@ -89,18 +88,6 @@ entry_in e = record {
   attribute_bits = e.attribute_bits;
   partition_name = record { text = encode_utf8_all (text_of e.units); units = e.units };
 }
-
--- a header with both checksums made for these entries
-unfoldable pub sealed : GPTHeader → List GPTPartitionEntry → GPTHeader
-sealed h es =
-    let summed : GPTHeader = record h { partition_entry_array_crc32 = crc_of (array_bytes es) } in
-    record summed { crc32_checksum = header_crc (header_bytes summed) }
-
--- The header size is 92, and the list of entries is as the header says.
-pub record IsCoherent (h : GPTHeader) (es : List GPTPartitionEntry) : Type 0 where
-  pub header_size : h.header_size ≡ 92
-  pub count : length es ≡ h.number_of_partition_entries
-  pub entry_size : (h.size_of_partition_entry ≡ 128) ⊎ (h.number_of_partition_entries ≡ 0)
 
 -- the value of a new table on a disk of that length: 128 unused entries
 abbrev pub new_table : List ℕ → ℕ → ℕ → GPT

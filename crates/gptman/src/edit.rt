@@ -1,22 +1,23 @@
 //! Edits of a table as values, made one after the other.
 
 ghost use Rattle.std.specs.Prelude.{◌≡◌, ◌≢◌, ◌≤◌, ◌<◌, ◌⊎◌, ◌+◌, [], ◌∷◌, ℕ, List, None, length, IsTrue, IfErr, IfNone, IfSome, OnOk, OnErr};
-ghost use Rattle.gptman.specs.Calls.{refusal_of, sealed_value, OnlyRead, Refuses};
+ghost use Rattle.gptman_copy.specs.Answers.{refusal_of, Refuses};
+ghost use Rattle.gptman.specs.TableWrites.{sealed_value};
+ghost use Rattle.gptman_copy.specs.Disk.{OnlyRead, Agrees, Image, Keeps, LeavesOnly, Rose, Wrote};
 ghost use Rattle.gptman.specs.Commit.{is_failure, reached, tables_to, value_after, IsAccepted, IsAcceptedAt, IsRefusedAt, RefusesEdit, Stands};
 ghost use Rattle.gptman.specs.Crash.{IsKeptFor};
-ghost use Rattle.gptman.specs.Disk.{Agrees, Image, Keeps, LeavesOnly, Rose, Wrote};
 ghost use Rattle.gptman.specs.Edit.{edited, edit_fault, table_after};
-ghost use Rattle.gptman.specs.Fault.{fault_of, io as io_fault, no_space_left, out_of_memory, overflow};
+ghost use Rattle.gptman_copy.specs.Fault.{fault_of, io as io_fault, no_space_left, out_of_memory, overflow};
 ghost use Rattle.gptman.specs.Layout.{four_ranges, HasLayout};
 ghost use Rattle.gptman.specs.Stop.{HoldsOneOf, IsStored, ReadsForeign, ReadsOneOf};
-ghost use Rattle.gptman.specs.Table.{entries_in, table_in, IsCoherent};
-ghost use Rattle.gptman.specs.Write.{both_ranges, write_fault};
+ghost use Rattle.gptman.specs.Table.{entries_in, table_in};
+ghost use Rattle.gptman_copy.specs.Copy.{IsCoherent};
+ghost use Rattle.gptman_copy.specs.Write.{both_ranges, write_fault};
 ghost use Rattle.gptman.specs.declared.edit.Edit.TheVariants.{SortEntries};
 
-use crate::codec::entry::GPTPartitionEntry;
-use crate::disk::Disk;
-use crate::error::{Error, Result};
 use crate::table::GPT;
+use gptman_copy::sizes::note_sizes;
+use gptman_copy::{Disk, Error, GPTPartitionEntry, Result};
 
 /// A change of a table. Numbers of entries count from 1.
 #[derive(Drop, Debug)]
@@ -117,6 +118,7 @@ impl GPT {
             → IfSome result.fault (λ e. (b : List ℕ) → Image (D.state disk.new) b → HoldsOneOf b self.old.sector_size
             (table_in (table_after self.old edits.items result.done) ∷ table_in (table_after self.old edits.items (result.done + 1)) ∷ [])) }
     {
+        note_sizes(&self.header);
         let mut done = 0;
         for edit in edits {
             if let Err(fault) = self.commit(disk, edit) {

@@ -1,22 +1,16 @@
 //! GUID partition tables that survive a crash.
+//!
+//! What is about one copy of a table stands in `gptman_copy`, and is handed on from there.
 #![tactic(auto)]
 
-pub mod codec;
-pub mod crc;
-pub mod disk;
 pub mod edit;
-pub mod error;
-pub mod header;
 pub mod place;
 pub mod table;
 
-pub use codec::entry::GPTPartitionEntry;
-pub use codec::header::GPTHeader;
-pub use codec::name::PartitionName;
-pub use disk::Disk;
-pub use disk::file::FileDisk;
-pub use disk::memory::{Fate, MemoryDisk};
 pub use edit::{Edit, Progress};
-pub use error::{Error, Result};
+pub use gptman_copy::{
+    Disk, Error, Fate, FileDisk, GPTHeader, GPTPartitionEntry, MemoryDisk, PartitionName, Result,
+    codec as codec, crc as crc, disk as disk, error as error, header as header,
+};
 pub use table::GPT;
 pub use table::iter::{Iter, IterMut};

@@ -7,15 +7,15 @@
 //! before they start, and the bounds may stand in any order.
 
 ghost use Rattle.std.specs.Prelude.{◌≡◌, ◌⊎◌, ◌<◌, ◌≤◌, ◌+◌, ◌^◌, max, All, IfOk, IfErr, IfSome, MatchOption};
-ghost use Rattle.gptman.specs.Calls.{Refuses};
-ghost use Rattle.gptman.specs.Fault.{fault_of, no_space_left, out_of_memory};
+ghost use Rattle.gptman_copy.specs.Answers.{Refuses};
+ghost use Rattle.gptman_copy.specs.Fault.{fault_of, no_space_left, out_of_memory};
 ghost use Rattle.gptman.specs.Place.{AreSlots, HasNoPlace, HasNoSlot, IsBestPlace, IsFirstPlace, IsFreeIn, IsLastPlace, IsMaximumSize};
 
-use crate::error::{Error, Result};
 use crate::place::choose::{first_slot, greatest_size, last_slot, shortest_slot};
 use crate::place::sweep::sweep;
 use crate::table::GPT;
 use crate::table::covered::sorted_ranges;
+use gptman_copy::{Error, Result};
 
 mod choose;
 pub mod laws;

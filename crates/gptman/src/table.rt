@@ -3,16 +3,15 @@
 ghost use Rattle.std.specs.Prelude.{◌≡◌, ◌↔◌, ◌<◌, ◌^◌, length, IsTrue, IfOk, IfErr};
 ghost use Rattle.std.specs.Borrow.{sem};
 ghost use Rattle.std.specs.List.{enumerate_from};
-ghost use Rattle.gptman.specs.Fault.{fault_of, out_of_memory};
+ghost use Rattle.gptman_copy.specs.Fault.{fault_of, out_of_memory};
 ghost use Rattle.gptman.specs.Lending.{items_left, LendsEntries, LendsIter};
-ghost use Rattle.gptman.specs.Table.{entries_in, IsCoherent};
+ghost use Rattle.gptman.specs.Table.{entries_in};
+ghost use Rattle.gptman_copy.specs.Copy.{IsCoherent};
 
-use crate::codec::entry::GPTPartitionEntry;
-use crate::codec::header::GPTHeader;
-use crate::error::Result;
-use crate::header::{ENTRY_SIZE, HEADER_SIZE};
 use crate::table::entries::Entries;
 use crate::table::iter::{Iter, IterMut};
+use gptman_copy::sizes::{ENTRY_SIZE, HEADER_SIZE};
+use gptman_copy::{GPTHeader, GPTPartitionEntry, Result};
 
 mod align;
 mod checks;

@@ -1,9 +1,8 @@
 -- Fitting a table to a disk and writing it.
 use Rattle.std.proofs.Common.{◌≡◌, ℕ, List, [], ◌∷◌, refl, sym, ap, ◌∙◌, subst}
 use Rattle.std.specs.Prelude.{Result, OnOk}
-use Rattle.gptman.specs.Calls.{OnlyRead}
+use Rattle.gptman.specs.Disk.{OnlyRead, DiskState, Agrees, Keeps, LeavesOnly, Wrote}
 use Rattle.gptman.specs.Crash.{GrowingIsSafe, IsKeptFor}
-use Rattle.gptman.specs.Disk.{DiskState, Agrees, Keeps, LeavesOnly, Wrote}
 use Rattle.gptman.specs.Fit.{fitted}
 use Rattle.gptman.specs.Layout.{HasLayout, Holds}
 use Rattle.gptman.specs.Reading.{primary}
@@ -11,8 +10,8 @@ use Rattle.gptman.specs.Stop.{HoldsOneOf, IsStored}
 use Rattle.gptman.specs.Table.{Table, table_in, IsHeaderForm}
 use Rattle.gptman.specs.declared.table.GPT.{GPT}
 use Rattle.gptman.proofs.Held.{holds_local}
-use Rattle.gptman.proofs.Ranges.{Ranges, contains_first}
-use Rattle.gptman.proofs.Runs.{leaves_then}
+use Rattle.gptman_copy.proofs.Ranges.{Ranges, contains_first}
+use Rattle.gptman_copy.proofs.Runs.{leaves_then}
 use Rattle.gptman_bench.specs.Grown.{grown}
 
 -- a stop of calls that only read leaves a table that was held, with nothing pending

@@ -1,17 +1,18 @@
 -- A table that both places hold is what a reading answers, and what it answers is held.
 use Rattle.std.proofs.Common.{◌≡◌, ◌⊎◌, ⊎_elim, inl, inr, ℕ, List, Ok, Err, sym, ◌∙◌, subst}
 use Rattle.std.specs.Prelude.{Result, IfOk, IsErr}
-use Rattle.gptman.specs.Calls.{answer_of, copy_of, IsTakenCopy, OnlyRead, Refuses}
+use Rattle.gptman.specs.Answers.{answer_of, Refuses}
+use Rattle.gptman.specs.TableReads.{copy_of, IsTakenCopy}
+use Rattle.gptman.specs.Disk.{OnlyRead, DiskState, Keeps, Rose}
 use Rattle.gptman.specs.Copy.{Copy}
-use Rattle.gptman.specs.Disk.{DiskState, Keeps, Rose}
 use Rattle.gptman.specs.Fault.{Fault, out_of_memory}
 use Rattle.gptman.specs.Layout.{Holds}
 use Rattle.gptman.specs.Reading.{Place, primary, backup, copy_in, reading_of, taken_from}
 use Rattle.gptman.specs.Stop.{HoldsWhatIsRead}
 use Rattle.gptman.specs.Table.{Table, table_in, IsForm, IsHeaderForm}
-use Rattle.gptman.specs.declared.error.Error.{Error}
+use Rattle.gptman_copy.specs.declared.error.Error.{Error}
 use Rattle.gptman.specs.declared.table.GPT.{GPT}
-use Rattle.gptman.proofs.Runs.{rose_since}
+use Rattle.gptman_copy.proofs.Runs.{rose_since}
 
 same_copy : (a b : Copy) → ◌≡◌ {A = Result Copy Fault} (Ok a) (Ok b) → a ≡ b
 same_copy a b is = cc

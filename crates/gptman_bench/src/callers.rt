@@ -9,9 +9,10 @@ ghost use Rattle.gptman.specs.Number.{with_entries, with_entry, IsNumber};
 ghost use Rattle.gptman.specs.Order.{by_rank, rank};
 ghost use Rattle.gptman.specs.Reading.{primary, taken_from};
 ghost use Rattle.gptman.specs.Stop.{IsStored, ReadsForeign, ReadsOneOf};
-ghost use Rattle.gptman.specs.Table.{entries_in, table_in, IsCoherent, IsHeaderForm};
+ghost use Rattle.gptman.specs.Table.{entries_in, table_in, IsHeaderForm};
+ghost use Rattle.gptman.specs.Copy.{IsCoherent};
 ghost use Rattle.gptman.specs.Valid.{IsValid};
-ghost use Rattle.gptman.specs.declared.codec.entry.GPTPartitionEntry.{GPTPartitionEntry};
+ghost use Rattle.gptman_copy.specs.declared.codec.entry.GPTPartitionEntry.{GPTPartitionEntry};
 ghost use Rattle.gptman_bench.specs.Cleared.{cleared};
 ghost use Rattle.gptman_bench.specs.Grown.{grown};
 

@@ -1,11 +1,12 @@
 //! A whole table written to a disk, in both of its places.
 
 ghost use Rattle.std.specs.Prelude.{◌≡◌, ◌<◌, ◌⊎◌, IfOk, IsTrue};
-ghost use Rattle.gptman.specs.Calls.{copy_of};
+ghost use Rattle.gptman.specs.TableReads.{copy_of};
 ghost use Rattle.gptman.specs.Layout.{HasLayout};
 ghost use Rattle.gptman.specs.Disk.{Rose};
 ghost use Rattle.gptman.specs.Reading.{backup, primary};
-ghost use Rattle.gptman.specs.Table.{entries_in, table_in, IsCoherent, IsForm};
+ghost use Rattle.gptman.specs.Table.{entries_in, table_in, IsForm};
+ghost use Rattle.gptman.specs.Copy.{IsCoherent};
 
 use crate::asserts::{assert_bounds, assert_said, got, holds, places_of};
 use crate::fixtures::{DISK_GUID, are_all, bytes_at, disk_of, new_table, new_written, write};

@@ -1,8 +1,8 @@
 //! Changes of a table in memory.
 
 ghost use Rattle.std.specs.Prelude.{◌≡◌, ◌⊎◌, ◌<◌, ◌≤◌, ◌+◌, ◌^◌, max, false, None, Some, IsTrue, IfOk, IfErr, IfSome, OnOk, OnErr, MatchOption};
-ghost use Rattle.gptman.specs.Disk.{Keeps, Rose};
-ghost use Rattle.gptman.specs.Calls.{OnlyRead, Refuses};
+ghost use Rattle.gptman.specs.Disk.{Keeps, Rose, OnlyRead};
+ghost use Rattle.gptman.specs.Answers.{Refuses};
 ghost use Rattle.gptman.specs.Entry.{is_unused};
 ghost use Rattle.gptman.specs.Fault.{fault_of, invalid_partition_number, io as io_fault, out_of_memory};
 ghost use Rattle.gptman.specs.Fit.{fit_fault};
@@ -10,7 +10,8 @@ ghost use Rattle.gptman.specs.Coding.{empty_entry};
 ghost use Rattle.gptman.specs.Order.{by_rank, rank};
 ghost use Rattle.gptman.specs.Number.{entry_at, number_fault, with_entries, with_entry, IsNumber};
 ghost use Rattle.gptman.specs.Place.{HasNoPlace, IsFreeIn};
-ghost use Rattle.gptman.specs.Table.{entries_in, IsCoherent};
+ghost use Rattle.gptman.specs.Table.{entries_in};
+ghost use Rattle.gptman.specs.Copy.{IsCoherent};
 ghost use Rattle.gptimg_core.specs.Words.{IsSizedAddition, IsSizedChange};
 ghost use Rattle.gptimg_core.specs.Refusals.{IsFailure, RefusesAddition, RefusesMaking};
 ghost use Rattle.gptimg_core.specs.Changes.{grown, report_of, IsAdded, IsChanged, IsChosen};

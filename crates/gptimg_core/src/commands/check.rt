@@ -1,8 +1,8 @@
 //! A look at both copies of a table, each by itself.
 
 ghost use Rattle.std.specs.Prelude.{◌≡◌, ◌↔◌, ◌⊎◌, ◌<◌, IsTrue, IfOk, IfErr};
-ghost use Rattle.gptman.specs.Disk.{Keeps, Rose};
-ghost use Rattle.gptman.specs.Calls.{answer_of, Fails, OnlyRead, Refuses};
+ghost use Rattle.gptman.specs.Disk.{Keeps, Rose, OnlyRead};
+ghost use Rattle.gptman.specs.Answers.{answer_of, Fails, Refuses};
 ghost use Rattle.gptman.specs.Copy.{copy_at};
 ghost use Rattle.gptman.specs.Fault.{fault_of, io as io_fault, out_of_memory};
 ghost use Rattle.gptman.specs.Reading.{primary as at_primary, backup as at_backup, copy_in};

@@ -6,15 +6,13 @@ ghost use Rattle.std.specs.List.Sorted.{IsNonDecreasingBy};
 ghost use Rattle.std.specs.Ordering.{nat_cmp};
 ghost use Rattle.std.specs.Cmp.Lexicographic.{slice_cmp};
 ghost use Rattle.std.specs.BTreeSet.{IsFromIterResult};
-ghost use Rattle.gptman.specs.Calls.{refusal_of, Refuses};
-ghost use Rattle.gptman.specs.Entry.{used_guid};
-ghost use Rattle.gptman.specs.Fault.{out_of_memory};
+ghost use Rattle.gptman_copy.specs.Answers.{refusal_of, Refuses};
+ghost use Rattle.gptman_copy.specs.Entry.{used_guid};
+ghost use Rattle.gptman_copy.specs.Fault.{out_of_memory};
 ghost use Rattle.gptman.specs.Valid.{AreDisjoint, EndsBefore, HasGoodBoundaries, HasOwnGuids, IsValidity, LiesWithin};
 
-use crate::codec::entry::GPTPartitionEntry;
-use crate::codec::header::GPTHeader;
-use crate::error::{Error, Result};
 use crate::table::covered::sorted_ranges;
+use gptman_copy::{Error, GPTHeader, GPTPartitionEntry, Result};
 use std::alloc::{AllocError, Global};
 use std::collections::BTreeSet;
 

@@ -4,7 +4,7 @@
 ghost use Rattle.gptman.specs.Crash.{GrowingIsSafe};
 ghost use Rattle.gptman.specs.Stop.{HoldsWhatIsRead, ReadsWhatItHolds};
 
-use crate::disk::Disk;
+use gptman_copy::Disk;
 
 /// A disk that holds a table of a list at one place at least, and is not read as a table that is none
 /// of them, is read as one of them. It needs nothing of the disk's layout.

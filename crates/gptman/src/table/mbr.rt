@@ -3,15 +3,14 @@
 
 ghost use Rattle.std.specs.Prelude.{◌≡◌, ◌≤◌, ◌<◌, ◌⊎◌, ◌∷◌, [], ℕ, true, false};
 ghost use Rattle.std.specs.Prelude.{Contains, IsTrue, IfErr, OnOk, OnErr};
-ghost use Rattle.gptman.specs.Disk.{Keeps, Rose, Wrote, overlay};
-ghost use Rattle.gptman.specs.Fault.{fault_of, io as io_fault};
+ghost use Rattle.gptman_copy.specs.Disk.{Keeps, Rose, Wrote, overlay, Untouched};
+ghost use Rattle.gptman_copy.specs.Fault.{fault_of, io as io_fault};
 ghost use Rattle.gptman.specs.Mbr.{mbr_bytes, mbr_fault};
-ghost use Rattle.gptman.specs.Calls.{Refuses, Settles, Untouched};
+ghost use Rattle.gptman_copy.specs.Answers.{Refuses, Settles};
 
-use crate::codec::{put, put_u32};
-use crate::disk::Disk;
-use crate::error::{Error, Result};
 use crate::table::GPT;
+use gptman_copy::cells::{put, put_u32};
+use gptman_copy::{Disk, Error, Result};
 
 // The byte of the disk at which the 66 bytes begin.
 const MBR_START: u64 = 446;

@@ -2,17 +2,16 @@
 
 ghost use Rattle.std.specs.Prelude.{◌≡◌, ◌-◌, ◌<◌, ℕ, Some, length, position, slice_get, IfSome, IsTrue, OnOk, OnErr};
 ghost use Rattle.std.specs.Borrow.{sem};
-ghost use Rattle.gptman.specs.Calls.{answer_of, refusal_of};
-ghost use Rattle.gptman.specs.Coding.{empty_entry};
-ghost use Rattle.gptman.specs.Entry.{bytes_of, covers, ends_of};
+ghost use Rattle.gptman_copy.specs.Answers.{answer_of, refusal_of};
+ghost use Rattle.gptman_copy.specs.Coding.{empty_entry};
+ghost use Rattle.gptman_copy.specs.Entry.{bytes_of, covers, ends_of};
 ghost use Rattle.gptman.specs.Lending.{LendsEntry};
 ghost use Rattle.gptman.specs.Number.{byte_range_in, entry_at, has_number, number_at, number_fault, sector_fault, with_entry, without, IsNumber};
 ghost use Rattle.gptman.specs.Table.{entries_in};
 ghost use Rattle.gptman.specs.Valid.{IsValid};
 
-use crate::codec::entry::GPTPartitionEntry;
-use crate::error::{Error, Result};
 use crate::table::GPT;
+use gptman_copy::{Error, GPTPartitionEntry, Result};
 use std::ops::{Index, IndexMut, RangeInclusive};
 
 /// The entry of a number, from 1 to the length of the list.

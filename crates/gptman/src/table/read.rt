@@ -1,23 +1,21 @@
 //! Making a table for a disk, and reading the one that a disk holds.
 
 ghost use Rattle.std.specs.Prelude.{◌≡◌, ◌≢◌, ◌≤◌, ◌<◌, ◌-◌, ◌*◌, ◌/◌, ◌⊎◌, Ok, Err, replicate, IsTrue, IfOk, IfErr, OnOk};
-ghost use Rattle.gptman.specs.Coding.{empty_entry};
-ghost use Rattle.gptman.specs.Disk.{Keeps, Rose};
-ghost use Rattle.gptman.specs.Fault.{fault_of, invalid_signature, io as io_fault, out_of_memory};
-ghost use Rattle.gptman.specs.Fit.{new_header, fit_fault};
+ghost use Rattle.gptman_copy.specs.Coding.{empty_entry};
+ghost use Rattle.gptman_copy.specs.Disk.{Keeps, Rose, OnlyRead};
+ghost use Rattle.gptman_copy.specs.Fault.{fault_of, invalid_signature, io as io_fault, out_of_memory};
+ghost use Rattle.gptman_copy.specs.Fit.{new_header, fit_fault};
 ghost use Rattle.gptman.specs.Alignment.{IsAlignment};
-ghost use Rattle.gptman.specs.Copy.{copy_at};
+ghost use Rattle.gptman_copy.specs.Copy.{copy_at, IsCoherent};
 ghost use Rattle.gptman.specs.Reading.{both, copy_in, found_sector_size, primary, reading_of, second_copy};
-ghost use Rattle.gptman.specs.Table.{entries_in, IsCoherent, new_table};
-ghost use Rattle.gptman.specs.Calls.{answer_of, Refuses, RefusesOnly, Fails, Settles, OnlyRead, FallsBack, IsTakenCopy, IsReadingFault, copy_of, is_copy_fault, is_damage, is_reading_fault};
+ghost use Rattle.gptman.specs.Table.{entries_in, new_table};
+ghost use Rattle.gptman_copy.specs.Answers.{answer_of, Refuses, RefusesOnly, Fails, Settles, is_copy_fault, is_damage};
+ghost use Rattle.gptman.specs.TableReads.{FallsBack, IsTakenCopy, IsReadingFault, copy_of, is_reading_fault};
 
-use crate::codec::entry::GPTPartitionEntry;
-use crate::codec::header::GPTHeader;
-use crate::disk::Disk;
-use crate::error::{Error, Result};
 use crate::table::GPT;
 use crate::table::align::{DEFAULT_ALIGN, find_alignment};
 use crate::table::entries::Entries;
+use gptman_copy::{Disk, Error, GPTHeader, GPTPartitionEntry, Result};
 use std::alloc::Global;
 
 impl GPT {

@@ -3,24 +3,24 @@
 //! Each copy is synced before the next is begun, so at any moment one of them is whole.
 
 ghost use Rattle.std.specs.Prelude.{◌≡◌, ◌<◌, ◌⊎◌, ◌*◌, [], ◌∷◌, ℕ, List, true, false, Some, None, MatchOption, IsTrue, IfOk, IfErr, OnOk, OnErr, Contains, All};
-ghost use Rattle.gptman.specs.Coding.{FitsHeader, FitsEntry};
+ghost use Rattle.gptman_copy.specs.Coding.{FitsHeader, FitsEntry};
 ghost use Rattle.gptman.specs.Crash.{HasRangesOf, IsKeptFor, IsReadAlone, PlaceAfter};
-ghost use Rattle.gptman.specs.Disk.{Agrees, Keeps, LeavesOnly, Rose, Wrote};
-ghost use Rattle.gptman.specs.Fault.{Fault, fault_of, io as io_fault, no_space_left, out_of_memory};
-ghost use Rattle.gptman.specs.Layout.{four_ranges, AreApart, HasLayout};
+ghost use Rattle.gptman_copy.specs.Disk.{Agrees, Keeps, LeavesOnly, Rose, Wrote, OnlyRead, Untouched};
+ghost use Rattle.gptman_copy.specs.Fault.{Fault, fault_of, io as io_fault, no_space_left, out_of_memory};
+ghost use Rattle.gptman.specs.Layout.{four_ranges, HasLayout};
+ghost use Rattle.gptman_copy.specs.Ranges.{AreApart};
 ghost use Rattle.gptman.specs.Reading.{primary, backup};
 ghost use Rattle.gptman.specs.Stop.{HoldsOneOf, IsStored, ReadsForeign, ReadsOneOf};
-ghost use Rattle.gptman.specs.Table.{entries_in, table_in, IsCoherent, Table, sealed};
+ghost use Rattle.gptman.specs.Table.{entries_in, table_in, Table};
+ghost use Rattle.gptman_copy.specs.Copy.{IsCoherent, sealed};
 ghost use Rattle.gptman.specs.Valid.{IsValid};
-ghost use Rattle.gptman.specs.Write.{other_header, both_ranges, write_ranges, copy_write_fault, write_fault, has_other_header};
-ghost use Rattle.gptman.specs.Calls.{AnswersWrite, Refuses, Settles, OnlyRead, SameButSums, Untouched, IsCopyLaid, IsOneWhole, HasBytes, LeavesOnFailure, sealed_value};
+ghost use Rattle.gptman_copy.specs.Write.{other_header, both_ranges, write_ranges, copy_write_fault, write_fault, has_other_header, SameButSums, IsCopyLaid, HasBytes};
+ghost use Rattle.gptman.specs.TableWrites.{AnswersWrite, IsOneWhole, LeavesOnFailure, sealed_value};
+ghost use Rattle.gptman_copy.specs.Answers.{Refuses, Settles};
 
-use crate::codec::entry::GPTPartitionEntry;
-use crate::codec::header::GPTHeader;
-use crate::disk::Disk;
-use crate::error::{Error, Result};
 use crate::table::GPT;
 use crate::table::checks::check;
+use gptman_copy::{Disk, Error, GPTHeader, GPTPartitionEntry, Result};
 
 impl GPT {
     /// Writes the table to the disk, in two copies with a sync after each, the other copy first, and
@@ -186,25 +186,6 @@ impl GPT {
             return Err(Error::NoSpaceLeft);
         }
         Ok(other)
-    }
-}
-
-impl GPTHeader {
-    // The header of the other copy, unless its first entry sector does not fit in 64 bits.
-    fn other(&self) -> Option<GPTHeader>
-        ensures { MatchOption result (has_other_header self.now ≡ false) (λ h. (has_other_header self.now ≡ true) × (h ≡ other_header self.now)) }
-    {
-        let entries = if self.partition_entry_lba == 2 {
-            self.last_usable_lba.checked_add(1)?
-        } else {
-            2
-        };
-        Some(GPTHeader {
-            primary_lba: self.backup_lba,
-            backup_lba: self.primary_lba,
-            partition_entry_lba: entries,
-            ..*self
-        })
     }
 }
 

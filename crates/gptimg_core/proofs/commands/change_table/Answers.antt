@@ -2,10 +2,10 @@ use Rattle.std.proofs.Common.{⊎_elim, inl, inr, sym, ◌∙◌, subst, ℕ}
 use Rattle.std.proofs.lemmas.Result.{err_from_is_err_and}
 use Rattle.gptman.specs.Layout.{HasLayout}
 use Rattle.gptman.specs.Table.{table_in}
-use Rattle.gptman.proofs.Outcomes.{on_err_of}
-use Rattle.gptman.proofs.Ranges.{within_none, within_self}
-use Rattle.gptman.proofs.Readers.{reads_then}
-use Rattle.gptman.proofs.Runs.{keeps_then, rose_since, wrote_then, wrote_wider}
+use Rattle.gptman_copy.proofs.Outcomes.{on_err_of}
+use Rattle.gptman_copy.proofs.Ranges.{within_none, within_self}
+use Rattle.gptman_copy.proofs.Readers.{reads_then}
+use Rattle.gptman_copy.proofs.Runs.{keeps_then, rose_since, wrote_then, wrote_wider}
 use Rattle.gptimg_core.specs.Changes.{IsChanged, unwritten, written}
 use Rattle.gptimg_core.specs.Refusals.RefusesChange.{not_made, not_read, not_written}
 use Rattle.gptimg_core.proofs.Read.{read_before}

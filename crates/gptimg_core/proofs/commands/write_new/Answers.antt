@@ -1,8 +1,7 @@
 use Rattle.std.proofs.Common.{◌≡◌, ⊎_elim, inl, inr, ℕ, List, sym, ◌∙◌, subst}
 use Rattle.std.specs.Prelude.{IsTrue, None}
 use Rattle.std.proofs.lemmas.Result.{err_from_is_err_and}
-use Rattle.gptman.specs.Calls.{OnlyRead}
-use Rattle.gptman.specs.Disk.{DiskState, Wrote}
+use Rattle.gptman.specs.Disk.{OnlyRead, DiskState, Wrote}
 use Rattle.gptman.specs.Fault.{fault_of}
 use Rattle.gptman.specs.Fit.{fit_fault, new_header}
 use Rattle.gptman.specs.Layout.{HasLayout}
@@ -10,9 +9,9 @@ use Rattle.gptman.specs.Stop.{IsStored}
 use Rattle.gptman.specs.Table.{new_table, table_in}
 use Rattle.gptman.specs.Write.{both_ranges}
 use Rattle.gptman.specs.declared.table.GPT.{GPT}
-use Rattle.gptman.proofs.Outcomes.{on_err_of}
-use Rattle.gptman.proofs.Ranges.{within_none, within_self}
-use Rattle.gptman.proofs.Runs.{rose_since, wrote_then, wrote_wider}
+use Rattle.gptman_copy.proofs.Outcomes.{on_err_of}
+use Rattle.gptman_copy.proofs.Ranges.{within_none, within_self}
+use Rattle.gptman_copy.proofs.Runs.{rose_since, wrote_then, wrote_wider}
 use Rattle.gptimg_core.specs.Asks.{made_header, made_table}
 use Rattle.gptimg_core.specs.Refusals.{RefusesWrite}
 use Rattle.gptimg_core.specs.Refusals.RefusesNew.{not_written}

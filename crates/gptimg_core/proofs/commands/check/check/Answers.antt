@@ -1,15 +1,15 @@
 use Rattle.std.proofs.Common.{◌≡◌, ◌⊎◌, ⊎_elim, inl, inr, ℕ, List, map, Result, Ok, Err, refl, sym, ap, subst, ◌∙◌}
-use Rattle.gptman.specs.Calls.{answer_of, Fails}
+use Rattle.gptman.specs.Answers.{answer_of, Fails}
 use Rattle.gptman.specs.Copy.{Copy, copy_at}
 use Rattle.gptman.specs.Disk.{DiskState, Rose}
 use Rattle.gptman.specs.Fault.{Fault}
 use Rattle.gptman.specs.Reading.{primary, backup, copy_in}
 use Rattle.gptman.specs.Table.{Table, content_of, table_of}
-use Rattle.gptman.specs.declared.codec.entry.GPTPartitionEntry.{GPTPartitionEntry}
-use Rattle.gptman.specs.declared.error.Error.{Error}
+use Rattle.gptman_copy.specs.declared.codec.entry.GPTPartitionEntry.{GPTPartitionEntry}
+use Rattle.gptman_copy.specs.declared.error.Error.{Error}
 use Rattle.gptman.proofs.ReadBack.{same_entries}
-use Rattle.gptman.proofs.Readers.{reads_then, reads_seek}
-use Rattle.gptman.proofs.Runs.{keeps_then}
+use Rattle.gptman_copy.proofs.Readers.{reads_then, reads_seek}
+use Rattle.gptman_copy.proofs.Runs.{keeps_then}
 use Rattle.gptimg_core.specs.Checks.{seen_as, AreFoundSame, AreOneTable, HoldOneTable}
 use Rattle.gptimg_core.specs.declared.commands.check.FoundCopy.{FoundCopy}
 use Rattle.gptimg_core.proofs.Read.{found_before, found_since}

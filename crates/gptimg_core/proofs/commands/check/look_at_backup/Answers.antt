@@ -1,10 +1,10 @@
 use Rattle.std.proofs.Common.{◌≡◌, ◌≤◌, ◌-◌, ◌*◌, ◌/◌, ◌⊎◌, inl, inr, ℕ, length, Result, Ok, Err, IfOk, sym, ap, ◌∙◌, arith}
-use Rattle.gptman.specs.Calls.{answer_of, Fails}
+use Rattle.gptman.specs.Answers.{answer_of, Fails}
 use Rattle.gptman.specs.Copy.{Copy, copy_at}
 use Rattle.gptman.specs.Disk.{DiskState}
 use Rattle.gptman.specs.Fault.{Fault}
 use Rattle.gptman.specs.Reading.{backup, copy_in}
-use Rattle.gptman.specs.declared.error.Error.{Error}
+use Rattle.gptman_copy.specs.declared.error.Error.{Error}
 use Rattle.gptman.proofs.Fallback.{backup_long, backup_short}
 use Rattle.gptimg_core.specs.Checks.{seen_as}
 use Rattle.gptimg_core.specs.declared.commands.check.FoundCopy.{FoundCopy}

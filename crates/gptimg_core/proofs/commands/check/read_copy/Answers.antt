@@ -1,6 +1,6 @@
 use Rattle.std.proofs.Common.{◌≡◌, ⊎_elim, ℕ, List, inl, inr, ap, ◌∙◌}
 use Rattle.gptman.specs.Copy.{copy_at}
-use Rattle.gptman.proofs.Runs.{rose_since}
+use Rattle.gptman_copy.proofs.Runs.{rose_since}
 use Rattle.gptimg_core.proofs.commands.check.read_copy.Goals as goal
 
 pub returns-clause-answer : goal.returns-clause-answer

@@ -1,8 +1,8 @@
 use Rattle.std.proofs.Common.{◌≡◌, ⊎_elim, ℕ, List, Ok, inl, inr, sym, ap, ◌∙◌}
 use Rattle.std.proofs.lemmas.Result.{err_from_is_err_and}
 use Rattle.gptman.specs.Copy.{header_result, array_result}
-use Rattle.gptman.specs.declared.codec.entry.GPTPartitionEntry.{GPTPartitionEntry}
-use Rattle.gptman.proofs.Runs.{rose_since}
+use Rattle.gptman_copy.specs.declared.codec.entry.GPTPartitionEntry.{GPTPartitionEntry}
+use Rattle.gptman_copy.proofs.Runs.{rose_since}
 use Rattle.gptman.proofs.CopyParts.{header_refused, array_refused, both_pass}
 use Rattle.gptimg_core.proofs.commands.check.read_here.Goals as goal
 

@@ -1,13 +1,13 @@
 use Rattle.std.proofs.Common.{◌≡◌, ◌≢◌, ⊎_elim, inr, refl, [], Result, Err, None, rules, sym, subst}
 use Rattle.std.specs.Prelude.{IfErr}
-use Rattle.gptman.specs.Calls.{OnlyRead}
+use Rattle.gptman_copy.specs.Disk.{OnlyRead}
 use Rattle.gptman.specs.Commit.{RefusesEdit}
 use Rattle.gptman.specs.Edit.{edit_fault}
-use Rattle.gptman.specs.Fault.{fault_of, no_space_left, overflow}
-use Rattle.gptman.specs.declared.error.Error.{Error}
+use Rattle.gptman_copy.specs.Fault.{fault_of, no_space_left, overflow}
+use Rattle.gptman_copy.specs.declared.error.Error.{Error}
 use Rattle.gptman.proofs.Commits.{coherent_still, edit_keeps, keeps_both, layout_still, leaves_edited, leaves_kept, refused_edit, refused_room, stored_edited, sums_keep}
-use Rattle.gptman.proofs.Outcomes.{if_err_of}
-use Rattle.gptman.proofs.Runs.{wrote_not}
+use Rattle.gptman_copy.proofs.Outcomes.{if_err_of}
+use Rattle.gptman_copy.proofs.Runs.{wrote_not}
 use Rattle.gptman.proofs.table.GPT.commit.Given.{Over}
 use Rattle.gptman.proofs.table.GPT.commit.Goals as goal
 

@@ -2,8 +2,8 @@ use Rattle.std.proofs.Common.{◌≡◌, ◌++◌, List, [], ◌∷◌, length, 
 use Rattle.std.specs.Vec.Iter.{into_iter_items}
 use Rattle.gptman.specs.Commit.{reached, tables_to}
 use Rattle.gptman.specs.Crash.{IsKeptFor}
-use Rattle.gptman.specs.Disk.{LeavesOnly}
-use Rattle.gptman.specs.Fault.{fault_of}
+use Rattle.gptman_copy.specs.Disk.{LeavesOnly}
+use Rattle.gptman_copy.specs.Fault.{fault_of}
 use Rattle.gptman.specs.Layout.{HasLayout}
 use Rattle.gptman.specs.Stop.{HoldsOneOf}
 use Rattle.gptman.specs.Table.{table_in}
@@ -36,8 +36,8 @@ loop-edit-preserved g c =
     let steps : into_iter_items at.edit-iterator ≡ edit ∷ into_iter_items c.next.new.self = c.in-Some.ensures.steps.0 in
     let next = c.commit.ensures in
     let done = c.in_default.ensures in
-    let long_s : length c.args.self.now.header.signature ≡ 8 = omega arith in
-    let long_r : length c.args.self.now.header.revision ≡ 4 = omega arith in (
+    let long_s : length c.args.self.now.header.signature ≡ 8 = c.note_sizes.ensures.signature in
+    let long_r : length c.args.self.now.header.revision ≡ 4 = c.note_sizes.ensures.revision in (
       made_next c.args.self.now at.yielded at.self (g.D.Disk.state c.args.disk.now) (g.D.Disk.state at.disk) are edit c.commit.new.self (g.D.Disk.state c.commit.new.disk) long_s long_r (record {
         coherent = next.coherent;
         accepted = done.accepted;

@@ -1,10 +1,10 @@
 use Rattle.std.proofs.Common.{◌≡◌, ◌≢◌, ⊎_elim, true, false, inl, inr, sym, ap, subst, ◌∙◌, List, ℕ, rules}
 use Rattle.std.specs.Prelude.{IfOk}
-use Rattle.gptman.specs.Fault.{fault_of, is_signature_fault, out_of_memory}
+use Rattle.gptman_copy.specs.Fault.{fault_of, is_signature_fault, out_of_memory}
 use Rattle.gptman.specs.Reading.{reading_of}
 use Rattle.gptman.proofs.Fallback.{found_first, found_ok, found_second}
-use Rattle.gptman.proofs.Readers.{reads_then}
-use Rattle.gptman.proofs.Runs.{rose_before, rose_since}
+use Rattle.gptman_copy.proofs.Readers.{reads_then}
+use Rattle.gptman_copy.proofs.Runs.{rose_before, rose_since}
 use Rattle.gptman.proofs.table.GPT.find_from.Goals as goal
 
 pub returns-in-Ok-clause-answer : goal.returns-in-Ok-clause-answer

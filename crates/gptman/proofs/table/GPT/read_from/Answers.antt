@@ -1,10 +1,10 @@
 use Rattle.std.proofs.Common.{◌≢◌, ⊎_elim, inl, inr, sym, ap, subst, ◌∙◌, List, ℕ, rules}
-use Rattle.gptman.specs.Calls.{copy_of, FallsBack, IsCopyFault, read, no_memory, no_seek, no_backup}
-use Rattle.gptman.specs.Fault.{fault_of, out_of_memory}
+use Rattle.gptman.specs.TableReads.{copy_of, FallsBack, IsCopyFault, read, no_memory, no_seek, no_backup}
+use Rattle.gptman_copy.specs.Fault.{fault_of, out_of_memory}
 use Rattle.gptman.specs.Reading.{primary, fallback}
 use Rattle.gptman.proofs.Fallback.{reading_refused, refused_first, taken_first}
-use Rattle.gptman.proofs.Readers.{reads_then}
-use Rattle.gptman.proofs.Runs.{rose_before, rose_since}
+use Rattle.gptman_copy.proofs.Readers.{reads_then}
+use Rattle.gptman_copy.proofs.Runs.{rose_before, rose_since}
 use Rattle.gptman.proofs.table.GPT.read_from.Goals as goal
 
 pub returns-in-Ok-clause-answer : goal.returns-in-Ok-clause-answer

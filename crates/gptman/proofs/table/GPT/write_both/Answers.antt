@@ -1,15 +1,16 @@
 use Rattle.std.proofs.Common.{◌≡◌, ⊎_elim, ℕ, List, None, IsTrue, length, ◌<◌, ◌^◌, sym, ap, ◌∙◌, subst}
-use Rattle.gptman.specs.Calls.{HasBytes}
-use Rattle.gptman.specs.Calls.LeavesOnFailure.{nothing}
-use Rattle.gptman.specs.Layout.{AreApart, HasLayout}
-use Rattle.gptman.specs.Table.{entries_in, sealed, table_of}
-use Rattle.gptman.specs.Write.{other_header, both_ranges, copy_write_fault, write_fault}
-use Rattle.gptman.specs.declared.codec.header.GPTHeader.{GPTHeader}
-use Rattle.gptman.specs.declared.codec.entry.GPTPartitionEntry.{GPTPartitionEntry}
-use Rattle.gptman.proofs.Ranges.{within_none}
-use Rattle.gptman.proofs.Runs.{wrote_wider}
+use Rattle.gptman_copy.specs.Write.{HasBytes, other_header, both_ranges, copy_write_fault, write_fault}
+use Rattle.gptman.specs.TableWrites.LeavesOnFailure.{nothing}
+use Rattle.gptman_copy.specs.Ranges.{AreApart}
+use Rattle.gptman.specs.Layout.{HasLayout}
+use Rattle.gptman.specs.Table.{entries_in, table_of}
+use Rattle.gptman_copy.specs.Copy.{sealed}
+use Rattle.gptman_copy.specs.declared.codec.header.GPTHeader.{GPTHeader}
+use Rattle.gptman_copy.specs.declared.codec.entry.GPTPartitionEntry.{GPTPartitionEntry}
+use Rattle.gptman_copy.proofs.Ranges.{within_none}
+use Rattle.gptman_copy.proofs.Runs.{wrote_wider}
 use Rattle.gptman.proofs.OneWhole.{IsFirstDone, failed_first, failed_second, first_done, first_run, leaves_first, leaves_second}
-use Rattle.gptman.proofs.Outcomes.{on_err_of}
+use Rattle.gptman_copy.proofs.Outcomes.{on_err_of}
 use Rattle.gptman.proofs.Stored.{laid_from, stored_from}
 use Rattle.gptman.proofs.TwoCopies.{BothLaid, allowed_inside, both_allowed, both_laid, wrote_other, wrote_own}
 use Rattle.gptman.proofs.table.GPT.write_both.Given.{Over}

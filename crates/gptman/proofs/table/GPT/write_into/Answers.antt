@@ -1,23 +1,23 @@
 use Rattle.std.proofs.Common.{◌≡◌, ◌∙◌, inr, refl, ℕ, List, [], ◌∷◌, length, Err, IsTrue, rules}
 use Rattle.std.proofs.lemmas.Result.{on_err_weaker, on_ok_weaker}
-use Rattle.gptman.specs.Calls.{AnswersWrite, LeavesOnFailure, OnlyRead}
+use Rattle.gptman.specs.TableWrites.{AnswersWrite, LeavesOnFailure}
+use Rattle.gptman_copy.specs.Disk.{OnlyRead, LeavesOnly}
 use Rattle.gptman.specs.Crash.{IsKeptFor, IsReadAlone, PlaceAfter}
-use Rattle.gptman.specs.Disk.{LeavesOnly}
 use Rattle.gptman.specs.Layout.{HasLayout}
 use Rattle.gptman.specs.Reading.{primary, backup}
 use Rattle.gptman.specs.Stop.{HoldsOneOf, IsStored}
 use Rattle.gptman.specs.Table.{Table, entries_in, table_in, table_of}
 use Rattle.gptman.specs.Valid.{IsValid}
-use Rattle.gptman.specs.declared.codec.entry.GPTPartitionEntry.{GPTPartitionEntry}
-use Rattle.gptman.specs.declared.codec.header.GPTHeader.{GPTHeader}
+use Rattle.gptman_copy.specs.declared.codec.entry.GPTPartitionEntry.{GPTPartitionEntry}
+use Rattle.gptman_copy.specs.declared.codec.header.GPTHeader.{GPTHeader}
 use Rattle.gptman.proofs.table.GPT.write_into.Given.{Over}
 use Rattle.gptman.proofs.Accepted.{accepted, answers_refused, answers_valid, checked_valid, layout_fits}
 use Rattle.gptman.proofs.AfterFailure.{both_after}
 use Rattle.gptman.proofs.OneGood.{layout_apart, leaves_good, leaves_outside, still_good, stored_is_kept}
-use Rattle.gptman.proofs.Outcomes.{if_err_of}
+use Rattle.gptman_copy.proofs.Outcomes.{if_err_of}
 use Rattle.gptman.proofs.ReadAlone.{stored_alone}
 use Rattle.gptman.proofs.ReadingLaw.{reads_one_of}
-use Rattle.gptman.proofs.Runs.{wrote_not}
+use Rattle.gptman_copy.proofs.Runs.{wrote_not}
 use Rattle.gptman.proofs.table.GPT.write_into.Goals as goal
 
 -- ---- where the checks refuse, no call was made

@@ -1,11 +1,11 @@
 use Rattle.std.proofs.Common.{◌≡◌, ◌≤◌, ⊎_elim, ℕ, ◌-◌, ◌*◌, ◌/◌, List, length, Err, sym, ap, ◌∙◌, arith}
-use Rattle.gptman.specs.Calls.{copy_of, read, no_memory, no_backup}
-use Rattle.gptman.specs.Copy.{copy_at}
-use Rattle.gptman.specs.Fault.{fault_of, io}
+use Rattle.gptman.specs.TableReads.{copy_of, read, no_memory, no_backup}
+use Rattle.gptman_copy.specs.Copy.{copy_at}
+use Rattle.gptman_copy.specs.Fault.{fault_of, io}
 use Rattle.gptman.specs.Reading.{backup, copy_in, second_copy}
 use Rattle.gptman.proofs.Fallback.{answer_refused, backup_long, both_io, fallback_long, refused_answer}
-use Rattle.gptman.proofs.Readers.{reads_then, reads_seek}
-use Rattle.gptman.proofs.Runs.{keeps_then, rose_since}
+use Rattle.gptman_copy.proofs.Readers.{reads_then, reads_seek}
+use Rattle.gptman_copy.proofs.Runs.{keeps_then, rose_since}
 use Rattle.gptman.proofs.table.read.read_backup.Goals as goal
 
 pub returns-clause-reads : goal.returns-clause-reads

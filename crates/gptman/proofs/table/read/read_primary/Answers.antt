@@ -1,7 +1,7 @@
 use Rattle.std.proofs.Common.{◌≡◌, ⊎_elim, ℕ, List, inl, inr, ap, ◌∙◌}
-use Rattle.gptman.specs.Copy.{copy_at}
+use Rattle.gptman_copy.specs.Copy.{copy_at}
 use Rattle.gptman.specs.Reading.{copy_in}
-use Rattle.gptman.proofs.Runs.{rose_since}
+use Rattle.gptman_copy.proofs.Runs.{rose_since}
 use Rattle.gptman.proofs.table.read.read_primary.Goals as goal
 
 pub returns-clause-answer : goal.returns-clause-answer

@@ -1,8 +1,8 @@
 use Rattle.std.proofs.Common.{◌*◌, inr, ℕ, subst, sym}
 use Rattle.std.specs.List.{Contains}
-use Rattle.gptman.proofs.Outcomes.{on_err_of}
-use Rattle.gptman.proofs.Ranges.{within_none}
-use Rattle.gptman.proofs.Runs.{wrote_then}
+use Rattle.gptman_copy.proofs.Outcomes.{on_err_of}
+use Rattle.gptman_copy.proofs.Ranges.{within_none}
+use Rattle.gptman_copy.proofs.Runs.{wrote_then}
 use Rattle.gptman.proofs.table.write.write_copy.Goals as goal
 
 pub returns-in_err-sync-clause-wrote : goal.returns-in_err-sync-clause-wrote

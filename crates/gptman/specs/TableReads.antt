@@ -1,0 +1,51 @@
+-- What reading a table answers.
+use Rattle.std.specs.Prelude.{◌≡◌, ◌⊎◌, ◌&&◌, ℕ, Bool, true, false, List, Result, Ok, Err, IsErr}
+use Rattle.gptman_copy.specs.Answers.{answer_of, Refuses, is_damage}
+use Rattle.gptman_copy.specs.Copy.{Copy}
+use Rattle.gptman_copy.specs.Disk.{DiskState, Rose}
+use Rattle.gptman_copy.specs.Fault.{Fault, io, invalid_signature, read_error, out_of_memory}
+use Rattle.gptman.specs.Reading.{Place, primary, backup, copy_in, fallback, reading_of}
+use Rattle.gptman.specs.Table.{entries_in}
+use Rattle.gptman_copy.specs.declared.error.Error.{Error}
+use Rattle.gptman.specs.declared.table.GPT.{GPT}
+
+-- what reading a table may refuse with
+abbrev pub is_reading_fault : Fault → Bool
+is_reading_fault io = true
+is_reading_fault invalid_signature = true
+is_reading_fault out_of_memory = true
+is_reading_fault (read_error first second) = is_damage first && is_damage second
+is_reading_fault _ = false
+
+-- the copy that a value stands for
+abbrev pub copy_of : GPT → Copy
+copy_of g = record { header = g.header; entries = entries_in g }
+
+-- The copy is accepted at the primary place, or at the backup place where the primary one is not or the disk failed.
+abbrev pub IsTakenCopy : DiskState → DiskState → ℕ → Copy → Type 0
+IsTakenCopy old new ss copy =
+    (copy_in primary old.view ss ≡ Ok copy) ⊎ ((copy_in backup old.view ss ≡ Ok copy) × (IsErr (copy_in primary old.view ss) ⊎ Rose old new))
+
+-- a copy's fault, or that the disk failed
+abbrev pub IsCopyFault : Place → List ℕ → ℕ → Fault → Type 0
+IsCopyFault place b ss fault = (fault ≡ io) ⊎ (copy_in place b ss ≡ Err fault)
+
+-- Both copies' faults.
+pub record AreBothFaults (b : List ℕ) (ss : ℕ) (fault : Fault) : Type 0 where
+  pub first : Fault
+  pub second : Fault
+  pub is : fault ≡ read_error first second
+  pub at_primary : IsCopyFault primary b ss first
+  pub at_backup : IsCopyFault backup b ss second
+
+-- what a reading may refuse with, also where the disk failed
+abbrev pub IsReadingFault : List ℕ → ℕ → Fault → Type 0
+IsReadingFault b ss fault = (fault ≡ io) ⊎ ((fault ≡ out_of_memory) ⊎ ((reading_of b ss ≡ Err fault) ⊎ AreBothFaults b ss fault))
+
+-- What the fallback answers where the primary copy has a fault: the reading's answer, or want of memory; or the disk failed, in a seek or in the
+-- reading of the backup copy.
+pub data FallsBack {T : Type 0} (result : Result T Error) (f : T → Copy) (b : List ℕ) (ss : ℕ) (first : Fault) (old new : DiskState) : Type 0 where
+  read : answer_of f result ≡ fallback b ss first → FallsBack result f b ss first old new
+  no_memory : Refuses result out_of_memory → FallsBack result f b ss first old new
+  no_seek : Refuses result io → Rose old new → FallsBack result f b ss first old new
+  no_backup : Refuses result (read_error first io) → Rose old new → FallsBack result f b ss first old new

@@ -1,0 +1,24 @@
+pub mod ArrayBytes
+pub mod ArrayOutcomes
+pub mod Assembly
+pub mod BlockBytes
+pub mod ByTable
+pub mod CopyTests
+pub mod Division
+pub mod EntryBytes
+pub mod EntryLists
+pub mod Events
+pub mod FirstFailing
+pub mod Fitting
+pub mod HeaderBytes
+pub mod NameText
+pub mod Numbers
+pub mod Outcomes
+pub mod Overlays
+pub mod Ranges
+pub mod ReadEntry
+pub mod Readers
+pub mod Runs
+pub mod Stops
+mod Vectors
+pub mod WriteRanges

@@ -1,0 +1,56 @@
+-- The text of units.
+use Rattle.std.proofs.Common.{◌≡◌, ℕ, zero, suc, set, replicate, length-append, ◌+◌, ◌-◌, ◌*◌, ◌<◌, ◌≤◌, true, false, ◌&&◌, List, [], ◌∷◌, ◌++◌, length, take, map, Some, None, refl, sym, ap, ◌∙◌, arith}
+use Rattle.std.specs.Prelude.{if◌then◌else◌}
+use Rattle.std.specs.Option.{unwrap_or}
+use Rattle.std.proofs.lemmas.List.{take-replicate, take-append-le}
+use Rattle.std.specs.Char.Utf16.{utf16_chars, utf16_lossy_chars, lone_unit_char}
+use Rattle.gptman_copy.specs.Name.{is_surrogate, is_high, is_low, lone, characters, filled, HasUnits}
+
+lone_is : (u : ℕ) → unwrap_or (lone_unit_char u) 0xFFFD ≡ lone u
+lone_is u = elim (is_surrogate u) as (λ b. unwrap_or (if b then None else Some u) 0xFFFD ≡ (if b then 0xFFFD else u)) [ true ↦ refl | false ↦ refl ]
+
+-- std's words for the same
+pub characters_are : (us : List ℕ) → utf16_lossy_chars us ≡ characters us
+unfolding utf16_chars characters
+characters_are [] = refl
+characters_are (h ∷ []) = ap (λ (c : ℕ). c ∷ []) (lone_is h)
+characters_are (h ∷ l ∷ us) =
+    let pair : ℕ = 0x10000 + (h - 0xD800) * 0x400 + (l - 0xDC00) in
+    let both = characters_are us in
+    let single = characters_are (l ∷ us) in
+    let first = lone_is h in
+    elim (is_high h && is_low l) as (λ b. map (λ o. unwrap_or o 0xFFFD) (if b then Some pair ∷ utf16_chars us else lone_unit_char h ∷ utf16_chars (l ∷ us)) ≡ (if b then pair ∷ characters us else lone h ∷ characters (l ∷ us))) [
+      | true ↦ ap (λ (cs : List ℕ). pair ∷ cs) both
+      | false ↦ cc
+    ]
+
+-- a place after a list's elements is written where zeros stood
+fill_more : (us : List ℕ) (n k l u : ℕ) → length us < n → n ≤ length us + k → n ≤ length us + 1 + l
+    → set (take n (us ++ replicate k 0)) (length us) u ≡ take n ((us ++ u ∷ []) ++ replicate l 0)
+fill_more [] zero k l u lt enough more = absurd (omega arith)
+fill_more [] (suc n) zero l u lt enough more = absurd (omega arith)
+fill_more [] (suc n) (suc k) l u lt enough more =
+    ap (λ (xs : List ℕ). u ∷ xs) (take-replicate {X = ℕ} n k 0 (omega arith) ∙ sym (take-replicate {X = ℕ} n l 0 (omega arith)))
+fill_more (x ∷ us) zero k l u lt enough more = absurd (omega arith)
+fill_more (x ∷ us) (suc n) k l u lt enough more =
+    ap (λ (xs : List ℕ). x ∷ xs) (fill_more us n k l u (omega arith) (omega arith) (omega arith))
+
+-- where there is no room, nothing changes
+fill_full : (us : List ℕ) (n u : ℕ) → n ≤ length us → take n (us ++ replicate n 0) ≡ take n ((us ++ u ∷ []) ++ replicate n 0)
+fill_full us n u h =
+    take-append-le n us (replicate n 0) h
+    ∙ sym (take-append-le n (us ++ u ∷ []) (replicate n 0) (omega (arith, length-append us (u ∷ []))) ∙ take-append-le n us (u ∷ []) h)
+
+pub units_more : (units us : List ℕ) (len u : ℕ) → len < 36 → HasUnits units len us → HasUnits (set units len u) (len + 1) (us ++ u ∷ [])
+units_more units us len u room h =
+    let at : len ≡ length us = omega (arith, h.long) in
+    record {
+      are = ap (λ (xs : List ℕ). set xs len u) h.are ∙ ap (λ (i : ℕ). set (filled us) i u) at ∙ fill_more us 36 36 36 u (omega arith) (omega arith) (omega arith);
+      long = omega (arith, h.long, length-append us (u ∷ []));
+    }
+
+pub units_full : (units us : List ℕ) (len u : ℕ) → 36 ≤ len → HasUnits units len us → HasUnits units len (us ++ u ∷ [])
+units_full units us len u full h = record {
+  are = h.are ∙ fill_full us 36 u (omega (arith, h.long));
+  long = omega (arith, h.long, length-append us (u ∷ []));
+}

@@ -1,0 +1,83 @@
+-- Indexes outside of ranges, and lists that agree there.
+use Rattle.std.proofs.Common.{inl, inr, ⊎_elim, ◌≡◌, ◌⊎◌, ◌<◌, ◌≤◌, ℕ, suc, ◌+◌, List, [], ◌∷◌, ◌++◌, refl, sym, ap, ◌∙◌, subst, arith}
+use Rattle.std.specs.List.{Contains}
+use Rattle.std.specs.Prelude.{Result, Ok, Err, OnOk, OnErr}
+use Rattle.gptman_copy.specs.Disk.{Outside, Agrees, Within}
+
+abbrev pub Ranges : Type 0
+Ranges = List (ℕ × ℕ)
+
+pub outside_both : (rs ss : Ranges) (k : ℕ) → Outside rs k → Outside ss k → Outside (rs ++ ss) k
+outside_both [] ss k r s = s
+outside_both (x ∷ rs) ss k r s = (r.0, outside_both rs ss k r.1 s)
+
+pub outside_left : (rs ss : Ranges) (k : ℕ) → Outside (rs ++ ss) k → Outside rs k
+outside_left [] ss k o = tt
+outside_left (x ∷ rs) ss k o = (o.0, outside_left rs ss k o.1)
+
+pub outside_right : (rs ss : Ranges) (k : ℕ) → Outside (rs ++ ss) k → Outside ss k
+outside_right [] ss k o = o
+outside_right (x ∷ rs) ss k o = outside_right rs ss k o.1
+
+pub agrees_self : (rs : Ranges) (a : List ℕ) → Agrees rs a a
+agrees_self rs a = record { long = refl; same = λ k o. refl }
+
+pub agrees_then : {rs : Ranges} {a b c : List ℕ} → Agrees rs a b → Agrees rs b c → Agrees rs a c
+agrees_then ab bc = record { long = bc.long ∙ ab.long; same = λ k o. bc.same k o ∙ ab.same k o }
+
+pub agrees_back : {rs : Ranges} {a b : List ℕ} → Agrees rs a b → Agrees rs b a
+agrees_back ab = record { long = sym ab.long; same = λ k o. sym (ab.same k o) }
+
+pub agrees_wider : {rs ss : Ranges} {a b : List ℕ} → Within rs ss → Agrees rs a b → Agrees ss a b
+agrees_wider within ab = record { long = ab.long; same = λ k o. ab.same k (within.covers k o) }
+
+pub within_self : (rs : Ranges) → Within rs rs
+within_self rs = record { covers = λ k o. o }
+
+pub within_then : {rs ss ts : Ranges} → Within rs ss → Within ss ts → Within rs ts
+within_then a b = record { covers = λ k o. a.covers k (b.covers k o) }
+
+pub within_none : {rs : Ranges} → Within [] rs
+within_none = record { covers = λ k o. tt }
+
+pub within_left : (rs ss : Ranges) → Within rs (rs ++ ss)
+within_left rs ss = record { covers = λ k o. outside_left rs ss k o }
+
+pub within_right : (rs ss : Ranges) → Within ss (rs ++ ss)
+within_right rs ss = record { covers = λ k o. outside_right rs ss k o }
+
+pub within_both : {rs ss ts : Ranges} → Within rs ts → Within ss ts → Within (rs ++ ss) ts
+within_both {rs} {ss} a b = record { covers = λ k o. outside_both rs ss k (a.covers k o) (b.covers k o) }
+
+-- a range that stands first among others, or later
+pub within_first : {p at n : ℕ} {more : Ranges} → p ≡ at → Within ((p, n) ∷ []) ((at, n) ∷ more)
+within_first {n = n} is = record { covers = λ k o. (subst (λ x. (k < x) ⊎ (x + n ≤ k)) (sym is) o.0, tt) }
+
+pub within_later : {rs ss : Ranges} {s : ℕ × ℕ} → Within rs ss → Within rs (s ∷ ss)
+within_later within = record { covers = λ k o. within.covers k o.1 }
+
+pub contains_first : {X : Type 0} (r : X) (rs : List X) → Contains (r ∷ rs) r
+contains_first r rs = (0, omega arith, refl)
+
+pub contains_later : {X : Type 0} (r s : X) (rs : List X) → Contains rs r → Contains (s ∷ rs) r
+contains_later r s rs has = (suc has.0, omega (arith, has.1), has.2)
+
+-- a range that lies within the first of others
+pub within_range : {p n at m : ℕ} {more : Ranges} → at ≤ p → p + n ≤ at + m → Within ((p, n) ∷ []) ((at, m) ∷ more)
+within_range {p} {n} {at} {m} low high = record { covers = λ k o. (⊎_elim (λ below. inl (omega (arith, below, low))) (λ above. inr (omega (arith, above, high))) o.0, tt) }
+
+pub contains_pushed : (r x : ℕ × ℕ) (old new : Ranges) → new ≡ x ∷ old → Contains old r → Contains new r
+contains_pushed r x old new is has = subst (λ ps. Contains ps r) (sym is) (contains_later r x old has)
+
+-- what was pending still is after one write, whether it was served or refused
+pub contains_written : {T E : Type 0} (r : Result T E) (V : Type 0) (range x : ℕ × ℕ) (old new : Ranges) → OnOk r (new ≡ x ∷ old) → OnErr r ((V × (new ≡ old)) ⊎ (new ≡ x ∷ old))
+    → Contains old range → Contains new range
+contains_written (Ok v) V range x old new served refused has = contains_pushed range x old new served has
+contains_written (Err e) V range x old new served refused has =
+    ⊎_elim (λ same. subst (λ ps. Contains ps range) (sym same.1) has) (λ more. contains_pushed range x old new more has) refused
+
+-- the range that became pending last
+pub contains_new : (p n at m : ℕ) (old new : Ranges) → p ≡ at → n ≡ m → new ≡ (p, n) ∷ old → Contains new (at, m)
+contains_new p n at m old new at_is size is =
+    let range : ◌≡◌ {A = ℕ × ℕ} (p, n) (at, m) = λ i. (at_is i, size i) in
+    subst (λ ps. Contains ps (at, m)) (sym (is ∙ ap (λ (r : ℕ × ℕ). r ∷ old) range)) (contains_first (at, m) old)

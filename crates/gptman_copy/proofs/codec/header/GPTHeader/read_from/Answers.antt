@@ -1,0 +1,26 @@
+use Rattle.std.proofs.Common.{◌≡◌, ◌≤◌, ◌+◌, ⊎_elim, inl, inr, length, refl, sym, ap, ◌∙◌, arith}
+use Rattle.std.proofs.lemmas.Result.{err_from_is_err_and}
+use Rattle.gptman_copy.specs.Coding.{header_bytes, header_of}
+use Rattle.gptman_copy.specs.Bytes.{part}
+use Rattle.gptman_copy.proofs.CopyTests.{header_short, header_inside}
+use Rattle.gptman_copy.proofs.HeaderBytes.{header_is}
+use Rattle.gptman_copy.proofs.codec.header.GPTHeader.read_from.Goals as goal
+
+pub returns-in_err-read_exact-clause-answer : goal.returns-in_err-read_exact-clause-answer
+returns-in_err-read_exact-clause-answer g c = λ honest.
+    let old = g.D.Disk.state c.args.disk.now in
+    let size : length old.view ≡ old.size = (g.met.D.Disk.sound c.args.disk.now honest).size in
+    let p = err_from_is_err_and c.from_residual.result c.from_residual.ensures.1 in
+    rw (p.1, p.2) (⊎_elim
+    (λ rose. inl (refl, rose))
+    (λ short. inr (sym (header_short old.view old.position (omega (arith, short, size)))))
+    c.in_err-read_exact.ensures.cause)
+
+pub returns-clause-answer : goal.returns-clause-answer
+returns-clause-answer g c = λ honest.
+    let old = g.D.Disk.state c.args.disk.now in
+    let size : length old.view ≡ old.size = (g.met.D.Disk.sound c.args.disk.now honest).size in
+    let inside : old.position + 92 ≤ length old.view = omega (arith, size, c.in_ok-read_exact.ensures.within) in
+    let bytes : header_bytes c.decode.result ≡ part old.view old.position 92 = sym c.decode.ensures.spelled ∙ c.in_ok-read_exact.ensures.read honest in
+    inr (c.tested.ensures.answer
+    ∙ sym (header_inside old.view old.position c.decode.result (header_bytes c.decode.result) inside bytes (header_is c.decode.result _ c.decode.ensures.coding ∙ ap header_of c.decode.ensures.spelled)))

@@ -1,0 +1,10 @@
+use Rattle.std.proofs.Common.{rules, ◌≡◌, ◌++◌, [], ◌∷◌, refl}
+use Rattle.gptman_copy.specs.declared.disk.memory.Event.TheVariants.{Sync}
+use Rattle.gptman_copy.proofs.Events.{synced}
+use Rattle.gptman_copy.proofs.disk.memory.MemoryDiskDisk.sync.Goals as goal
+
+pub returns-clause-wrote : goal.returns-clause-wrote
+returns-clause-wrote c = λ honest.
+    let d = c.args.self.now in
+    let one_more : c.push.new.self.items ≡ d.events.items ++ Sync ∷ [] = search rules in
+    synced d.start.items d.bytes.items d.bytes.items d.events.items c.push.new.self.items d.replays one_more refl _ _ _ _

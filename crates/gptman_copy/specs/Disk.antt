@@ -1,0 +1,82 @@
+-- What contracts see of a disk, and what its calls do.
+use Rattle.std.specs.Prelude.{◌≡◌, ◌<◌, ◌≤◌, ◌⊎◌, ◌+◌, ◌++◌, ℕ, Bool, true, List, [], ◌∷◌, length, get_or, take, drop}
+
+-- A disk at one moment. `left_since t b`: a stop at some moment from t on, within calls too, may have left b.
+pub record DiskState : Type 1 where
+  pub size : ℕ
+  pub position : ℕ
+  pub view : List ℕ
+  pub pending : List (ℕ × ℕ)
+  pub failures : ℕ
+  pub clock : ℕ
+  pub left_since : ℕ → List ℕ → Type 0
+  pub is_honest : Bool
+
+-- k is in none of the ranges, each a start and a length
+abbrev pub Outside : List (ℕ × ℕ) → ℕ → Type 0
+Outside [] k = Unit {0}
+Outside (range ∷ ranges) k = ((k < range.0) ⊎ (range.0 + range.1 ≤ k)) × Outside ranges k
+
+-- two byte lists of one length are the same outside the ranges
+pub record Agrees (ranges : List (ℕ × ℕ)) (a b : List ℕ) : Type 0 where
+  pub long : length b ≡ length a
+  pub same : (k : ℕ) → Outside ranges k → get_or b k 0 ≡ get_or a k 0
+
+-- each index in the first ranges is in the second
+pub record Within (inner outer : List (ℕ × ℕ)) : Type 0 where
+  pub covers : (k : ℕ) → Outside outer k → Outside inner k
+
+-- What a stop may leave now.
+abbrev pub Image : DiskState → List ℕ → Type 0
+Image disk b = Agrees disk.pending disk.view b
+
+-- new is old with these bytes laid over it
+abbrev pub overlay : List ℕ → ℕ → List ℕ → List ℕ
+overlay old at bytes = take at old ++ bytes ++ drop (at + length bytes) old
+
+-- the failures rose, or stand where they stop
+abbrev pub Rose : DiskState → DiskState → Type 0
+Rose old new = (old.failures < new.failures) ⊎ (18446744073709551615 ≤ new.failures)
+
+-- On every disk.
+pub record Keeps (old new : DiskState) : Type 0 where
+  pub size : new.size ≡ old.size
+  pub honest : new.is_honest ≡ old.is_honest
+  pub failures : old.failures ≤ new.failures
+
+-- What was left since t after a run of calls was left since t before it, or since the run began.
+pub record Elapses (old new : DiskState) : Type 0 where
+  pub later : old.clock ≤ new.clock
+  pub nothing_else : (t : ℕ) (b : List ℕ) → t ≤ old.clock → new.left_since t b → old.left_since t b ⊎ new.left_since old.clock b
+  pub keeps : (t : ℕ) (b : List ℕ) → t ≤ old.clock → old.left_since t b → new.left_since t b
+  pub earlier : (t u : ℕ) (b : List ℕ) → t ≤ u → new.left_since u b → new.left_since t b
+
+-- A stop at any moment since old leaves what has P.
+abbrev pub LeavesOnly : DiskState → DiskState → (List ℕ → Type 0) → Type 0
+LeavesOnly old new P = (b : List ℕ) → new.left_since old.clock b → P b
+
+-- On an honest disk, a run of calls that wrote in these ranges alone.
+pub record Wrote (ranges : List (ℕ × ℕ)) (old new : DiskState) : Type 0 where
+  pub honest : new.is_honest ≡ true
+  pub view : Agrees ranges old.view new.view
+  pub pending : Within new.pending (ranges ++ old.pending)
+  pub crash : LeavesOnly old new (Agrees (ranges ++ old.pending) old.view)
+  pub time : Elapses old new
+
+-- The laws of an honest disk.
+pub record IsSound (disk : DiskState) : Type 0 where
+  pub size : length disk.view ≡ disk.size
+  pub counts_now : (t : ℕ) (b : List ℕ) → t ≤ disk.clock → Image disk b → disk.left_since t b
+  pub only_now : (b : List ℕ) → disk.left_since disk.clock b → Image disk b
+  pub earlier : (t u : ℕ) (b : List ℕ) → t ≤ u → disk.left_since u b → disk.left_since t b
+
+-- On an honest disk, calls that only read.
+pub record OnlyRead (old new : DiskState) : Type 0 where
+  pub view : new.view ≡ old.view
+  pub pending : new.pending ≡ old.pending
+  pub wrote : Wrote [] old new
+
+-- nothing was written
+pub record Untouched (old new : DiskState) : Type 0 where
+  pub view : new.view ≡ old.view
+  pub pending : new.pending ≡ old.pending

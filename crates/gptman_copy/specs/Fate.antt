@@ -1,0 +1,38 @@
+-- What a stop makes of a record of writes and syncs.
+use Rattle.std.specs.Prelude.{ℕ, ◌+◌, List, Option, length, get_or, replicate}
+use Rattle.std.specs.List.{fold}
+use Rattle.gptman_copy.specs.Disk.{overlay}
+use Rattle.gptman_copy.specs.Memory.{view_step}
+use Rattle.gptman_copy.specs.declared.disk.memory.Event.{Event}
+use Rattle.gptman_copy.specs.declared.disk.memory.Event.TheVariants.{Write, Sync}
+use Rattle.gptman_copy.specs.declared.disk.memory.Fate.{Fate}
+use Rattle.gptman_copy.specs.declared.disk.memory.Fate.TheVariants.{Old, New, Garbage}
+use Rattle.gptman_copy.specs.declared.disk.memory.MemoryDisk.{MemoryDisk}
+
+-- what a fate makes of a pending write of these bytes
+abbrev pub fate_step : Fate → List ℕ → ℕ → List ℕ → List ℕ
+fate_step Old before at bytes = before
+fate_step New before at bytes = overlay before at bytes
+fate_step (Garbage byte) before at bytes = overlay before at (replicate (length bytes) byte)
+
+-- the view so far, what a stop leaves of it, and how many fates are used
+pub record Stopping : Type 0 where
+  pub view : List ℕ
+  pub left : List ℕ
+  pub next : ℕ
+
+-- a sync keeps the view, and a write after it has the first fate
+abbrev pub stop_step : List Fate → Stopping → Event → Stopping
+stop_step fates so_far (Write written) = record { view = view_step so_far.view (Write written); left = fate_step (get_or fates so_far.next Old) so_far.left written.at written.bytes.items; next = so_far.next + 1 }
+stop_step fates so_far Sync = record { view = so_far.view; left = so_far.view; next = 0 }
+
+abbrev pub stopped : List Fate → List ℕ → List Event → Stopping
+stopped fates start events = fold (stop_step fates) (record { view = start; left = start; next = 0 }) events
+
+-- the bytes that a stop with these fates leaves of the disk
+abbrev pub stopped_bytes : List Fate → MemoryDisk → List ℕ
+stopped_bytes fates disk = (stopped fates disk.start.items disk.events.items).left
+
+-- the calls that the disk still serves; with no fuse it serves all
+abbrev pub calls_left : MemoryDisk → Option ℕ
+calls_left disk = disk.fuse

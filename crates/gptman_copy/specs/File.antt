@@ -1,0 +1,18 @@
+-- A disk of which nothing is claimed but its length and position.
+use Rattle.std.specs.Prelude.{ℕ, false, [], IsTrue}
+use Rattle.gptman_copy.specs.Disk.{DiskState}
+
+abbrev pub file_state : ℕ → ℕ → ℕ → DiskState
+file_state size position failures = record {
+  size = size;
+  position = position;
+  view = [];
+  pending = [];
+  failures = failures;
+  clock = 0;
+  left_since = λ t b. Unit {0};
+  is_honest = false;
+}
+
+pub false_is_true : IsTrue false → ⊥
+false_is_true h = cc

@@ -1,0 +1,17 @@
+pub mod Answers
+pub mod Bytes
+pub mod Coding
+pub mod Copy
+pub mod Crc
+pub mod Disk
+pub mod Entry
+pub mod Fate
+pub mod Fault
+pub mod File
+pub mod Fit
+pub mod Memory
+pub mod Name
+pub mod Ranges
+pub mod Reads
+pub mod Register
+pub mod Write

@@ -1,0 +1,29 @@
+-- What reading the entries of a header meets.
+use Rattle.std.specs.Prelude.{◌≡◌, ◌≢◌, ◌≤◌, ◌<◌, ◌⊎◌, ◌+◌, ◌^◌, ℕ}
+use Rattle.gptman_copy.specs.Disk.{DiskState, Rose}
+use Rattle.gptman_copy.specs.Fault.{Fault, io, overflow, out_of_memory, invalid_entry_size}
+use Rattle.gptman_copy.specs.Copy.{entries_start, entries_length}
+use Rattle.gptman_copy.specs.declared.codec.header.GPTHeader.{GPTHeader}
+
+-- what a block of so many bytes may be refused with: there is no memory, or the disk failed or ends before
+abbrev pub IsBlockFault : ℕ → Fault → DiskState → DiskState → Type 0
+IsBlockFault len fault old new = (fault ≡ out_of_memory) ⊎ ((fault ≡ io) × (Rose old new ⊎ (old.size < old.position + len)))
+
+-- A header's entries, of the right size and at a place that fits in 64 bits, pass the end of a disk of so many bytes.
+pub record PassTheEnd (h : GPTHeader) (ss size : ℕ) : Type 0 where
+  pub some : h.number_of_partition_entries ≢ 0
+  pub entry_size : h.size_of_partition_entry ≡ 128
+  pub fits : entries_start h ss < 2 ^ 64
+  pub past : size < entries_start h ss + entries_length h
+
+-- what going to the entries may be refused with: their size or their place is wrong, they pass the end of the disk, or it failed
+pub data IsSeekFault (h : GPTHeader) (ss : ℕ) (fault : Fault) (old new : DiskState) : Type 0 where
+  wrong_size : h.number_of_partition_entries ≢ 0 → h.size_of_partition_entry ≢ 128 → fault ≡ invalid_entry_size h.size_of_partition_entry → IsSeekFault h ss fault old new
+  wrong_place : h.number_of_partition_entries ≢ 0 → h.size_of_partition_entry ≡ 128 → 2 ^ 64 ≤ entries_start h ss → fault ≡ overflow → IsSeekFault h ss fault old new
+  past_end : fault ≡ io → PassTheEnd h ss old.size → IsSeekFault h ss fault old new
+  disk_failed : fault ≡ io → Rose old new → IsSeekFault h ss fault old new
+
+-- there are no entries to read, or the disk stands where they begin
+pub data IsReadyFor (h : GPTHeader) (ss : ℕ) (disk : DiskState) : Type 0 where
+  empty : h.number_of_partition_entries ≡ 0 → IsReadyFor h ss disk
+  there : h.size_of_partition_entry ≡ 128 → entries_start h ss < 2 ^ 64 → disk.position ≡ entries_start h ss → IsReadyFor h ss disk

@@ -1,0 +1,331 @@
+//! A disk in memory, which can be stopped.
+//!
+//! It keeps a record of its writes and syncs. A stop goes through that record and makes of it one
+//! of the disks that a crash may leave. A fuse lets every call from a chosen one on fail.
+
+ghost use Rattle.std.specs.Prelude.{◌≡◌, ◌≤◌, ◌+◌, ◌<◌, ◌^◌, ◌⊎◌, ◌↔◌, [], ◌∷◌, Some, None, true, length, take, drop, IfOk, IfErr, OnOk, OnErr, IsOk, IsErr, IsTrue};
+ghost use Rattle.std.specs.List.{list_all};
+ghost use Rattle.gptman_copy.specs.Disk.{Image, Keeps, Rose, Wrote, overlay};
+ghost use Rattle.gptman_copy.specs.Memory.{memory_state, memory_sound, view_of, event_fits, serves, after_call};
+
+use super::{Disk, count_failure, past_end};
+use crate::error::Result;
+use std::alloc::Global;
+use std::io;
+
+/// What a stop leaves of one pending write.
+#[derive(Clone, Copy, Debug, PartialEq, Eq)]
+pub enum Fate {
+    /// What was there before the write.
+    Old,
+    /// The bytes of the write.
+    New,
+    /// This byte, over the whole range of the write.
+    Garbage(u8),
+}
+
+// A write: its first byte, its bytes, and whether the device did it.
+#[derive(Drop)]
+struct Written {
+    at: u64,
+    bytes: Vec<u8>,
+    done: bool,
+}
+
+#[derive(Drop)]
+enum Event {
+    Write(Written),
+    Sync,
+}
+
+/// A disk over bytes in memory. It is honest, and keeps each of its writes and syncs in a record.
+///
+/// A write or sync whose record finds no memory changes nothing, and fails as a device does.
+#[derive(Drop)]
+pub struct MemoryDisk {
+    alloc: Global,
+    start: Vec<u8>,
+    bytes: Vec<u8>,
+    position: u64,
+    fuse: Option<u64>,
+    failures: u64,
+    events: Vec<Event>,
+    ghost replays: { bytes.items ≡ view_of start.items events.items },
+    ghost fits: { list_all (event_fits (length start.items)) events.items ≡ true },
+    ghost size: { length bytes.items ≡ length start.items },
+    ghost small: { length bytes.items < 2 ^ 64 },
+}
+
+impl MemoryDisk {
+    ghost use Rattle.gptman_copy.specs.Fault.{fault_of, out_of_memory};
+    ghost use Rattle.gptman_copy.specs.Fate.{stopped_bytes, calls_left};
+
+    /// A disk of these bytes, all of them stored, at position 0, that serves every call.
+    ///
+    /// It keeps a copy of the bytes; `OutOfMemory` where there is no room for it.
+    pub fn new(alloc: Global, bytes: Vec<u8>) -> Result<MemoryDisk>
+        ensures view { IfOk result (λ disk. (⟦<MemoryDisk as Disk>⟧.state disk).view ≡ bytes.items) }
+        ensures pending { IfOk result (λ disk. (⟦<MemoryDisk as Disk>⟧.state disk).pending ≡ []) }
+        ensures position { IfOk result (λ disk. (⟦<MemoryDisk as Disk>⟧.state disk).position ≡ 0) }
+        ensures failures { IfOk result (λ disk. (⟦<MemoryDisk as Disk>⟧.state disk).failures ≡ 0) }
+        ensures honest { IfOk result (λ disk. IsTrue (⟦<MemoryDisk as Disk>⟧.state disk).is_honest) }
+        ensures fuse { IfOk result (λ disk. calls_left disk ≡ None) }
+        ensures refused { IfErr result (λ e. fault_of e ≡ out_of_memory) }
+    {
+        Ok(MemoryDisk {
+            alloc,
+            start: bytes.to_vec(alloc)?,
+            bytes,
+            position: 0,
+            fuse: None,
+            failures: 0,
+            events: Vec::new(alloc),
+        })
+    }
+
+    /// A disk of these bytes, as `new` makes it, of which the first `calls` calls are served and
+    /// every later one fails.
+    ///
+    /// `OutOfMemory` where there is no room for the copy of the bytes.
+    pub fn with_fuse(alloc: Global, bytes: Vec<u8>, calls: u64) -> Result<MemoryDisk>
+        ensures view { IfOk result (λ disk. (⟦<MemoryDisk as Disk>⟧.state disk).view ≡ bytes.items) }
+        ensures pending { IfOk result (λ disk. (⟦<MemoryDisk as Disk>⟧.state disk).pending ≡ []) }
+        ensures position { IfOk result (λ disk. (⟦<MemoryDisk as Disk>⟧.state disk).position ≡ 0) }
+        ensures failures { IfOk result (λ disk. (⟦<MemoryDisk as Disk>⟧.state disk).failures ≡ 0) }
+        ensures honest { IfOk result (λ disk. IsTrue (⟦<MemoryDisk as Disk>⟧.state disk).is_honest) }
+        ensures fuse { IfOk result (λ disk. calls_left disk ≡ Some calls) }
+        ensures refused { IfErr result (λ e. fault_of e ≡ out_of_memory) }
+    {
+        let mut disk = MemoryDisk::new(alloc, bytes)?;
+        disk.fuse = Some(calls);
+        Ok(disk)
+    }
+
+    /// The disk that a stop leaves, with all of its bytes stored, at position 0, with no fuse.
+    ///
+    /// It has the bytes at the last sync that succeeded, or at the making, and the writes since
+    /// then in their order, each with its fate. A write with no fate of its own has `Old`, and
+    /// fates behind the last write are ignored. `OutOfMemory` where there is no room for the bytes.
+    pub fn stop(self, fates: &[Fate]) -> Result<MemoryDisk>
+        ensures image { IfOk result (λ disk. Image (⟦<MemoryDisk as Disk>⟧.state self) (⟦<MemoryDisk as Disk>⟧.state disk).view) }
+        ensures fates { IfOk result (λ disk. (⟦<MemoryDisk as Disk>⟧.state disk).view ≡ stopped_bytes fates.now self) }
+        ensures pending { IfOk result (λ disk. (⟦<MemoryDisk as Disk>⟧.state disk).pending ≡ []) }
+        ensures position { IfOk result (λ disk. (⟦<MemoryDisk as Disk>⟧.state disk).position ≡ 0) }
+        ensures failures { IfOk result (λ disk. (⟦<MemoryDisk as Disk>⟧.state disk).failures ≡ 0) }
+        ensures honest { IfOk result (λ disk. IsTrue (⟦<MemoryDisk as Disk>⟧.state disk).is_honest) }
+        ensures fuse { IfOk result (λ disk. calls_left disk ≡ None) }
+        ensures refused { IfErr result (λ e. fault_of e ≡ out_of_memory) }
+    {
+        let mut view = self.start.to_vec(self.alloc)?;
+        let mut left = self.start.to_vec(self.alloc)?;
+        let mut next = 0usize;
+        for event in &self.events {
+            match event {
+                Event::Sync => {
+                    left = view.to_vec(self.alloc)?;
+                    next = 0;
+                }
+                Event::Write(written) => {
+                    let fate = fates.get(next).copied().unwrap_or(Fate::Old);
+                    next += 1;
+                    written.leave(&mut left, fate);
+                    if written.done {
+                        lay(&mut view, written.at as usize, &written.bytes);
+                    }
+                }
+            }
+        }
+        MemoryDisk::new(self.alloc, left)
+    }
+
+    /// The bytes that a read gives, from the first to the last.
+    pub fn bytes(&self) -> &[u8]
+        ensures { result.now ≡ (⟦<MemoryDisk as Disk>⟧.state self.now).view }
+    {
+        &self.bytes
+    }
+}
+
+impl Written {
+    ghost use Rattle.gptman_copy.specs.Fate.{fate_step};
+
+    // Does with these bytes what the fate of this write says.
+    fn leave(&self, bytes: &mut Vec<u8>, fate: Fate)
+        requires { self.now.at + length self.now.bytes.items ≤ length bytes.old.items }
+        ensures after { bytes.new.items ≡ fate_step fate bytes.old.items self.now.at self.now.bytes.items }
+        ensures len { length bytes.new.items ≡ length bytes.old.items }
+    {
+        let at = self.at as usize;
+        match fate {
+            Fate::Old => {}
+            Fate::New => lay(bytes, at, &self.bytes),
+            Fate::Garbage(byte) => bytes[at..at + self.bytes.len()].fill(byte),
+        }
+    }
+}
+
+// Lays these bytes over others.
+fn lay(bytes: &mut Vec<u8>, at: usize, over: &[u8])
+    requires { at + length over.now ≤ length bytes.old.items }
+    ensures after { bytes.new.items ≡ overlay bytes.old.items at over.now }
+    ensures len { length bytes.new.items ≡ length bytes.old.items }
+{
+    bytes[at..at + over.len()].copy_from_slice(over);
+}
+
+// Whether one more call is served. It counts the call.
+fn is_served(fuse: &mut Option<u64>) -> bool
+    ensures answers { result ≡ serves fuse.old }
+    ensures counts { fuse.new ≡ after_call fuse.old }
+{
+    match *fuse {
+        None => true,
+        Some(0) => false,
+        Some(calls) => {
+            *fuse = Some(calls - 1);
+            true
+        }
+    }
+}
+
+// The failure of a device, which is counted.
+fn fail(failures: &mut u64) -> io::Error
+    ensures later { failures.old ≤ failures.new }
+    ensures rose { (failures.old < failures.new) ⊎ (18446744073709551615 ≤ failures.new) }
+{
+    count_failure(failures);
+    io::Error::other("the device failed")
+}
+
+impl Disk for MemoryDisk {
+    ghost use Rattle.gptman_copy.specs.Fate.{calls_left};
+
+    ghost state = { λ d. memory_state d.start.items d.bytes.items d.events.items d.position d.failures };
+
+    /// As the trait says. It fails where the fuse does not serve the call, and nowhere else.
+    fn seek_start(&mut self, at: u64) -> io::Result<u64>
+        ensures keeps { Keeps (⟦<MemoryDisk as Disk>⟧.state self.old) (⟦<MemoryDisk as Disk>⟧.state self.new) }
+        ensures moves { IfOk result (λ position. (position ≡ at) × ((⟦<MemoryDisk as Disk>⟧.state self.new).position ≡ at)) }
+        ensures cause { OnErr result (Rose (⟦<MemoryDisk as Disk>⟧.state self.old) (⟦<MemoryDisk as Disk>⟧.state self.new)) }
+        ensures wrote { IsTrue (⟦<MemoryDisk as Disk>⟧.state self.old).is_honest → Wrote [] (⟦<MemoryDisk as Disk>⟧.state self.old) (⟦<MemoryDisk as Disk>⟧.state self.new) }
+        ensures view { IsTrue (⟦<MemoryDisk as Disk>⟧.state self.old).is_honest → (⟦<MemoryDisk as Disk>⟧.state self.new).view ≡ (⟦<MemoryDisk as Disk>⟧.state self.old).view }
+        ensures pending { IsTrue (⟦<MemoryDisk as Disk>⟧.state self.old).is_honest → (⟦<MemoryDisk as Disk>⟧.state self.new).pending ≡ (⟦<MemoryDisk as Disk>⟧.state self.old).pending }
+        ensures fuse { calls_left self.new ≡ after_call (calls_left self.old) }
+        ensures served { IsOk result ↔ IsTrue (serves (calls_left self.old)) }
+    {
+        if !is_served(&mut self.fuse) {
+            return Err(fail(&mut self.failures));
+        }
+        self.position = at;
+        Ok(at)
+    }
+
+    /// As the trait says. It fails where the fuse does not serve the call, and nowhere else.
+    fn seek_end(&mut self) -> io::Result<u64>
+        ensures keeps { Keeps (⟦<MemoryDisk as Disk>⟧.state self.old) (⟦<MemoryDisk as Disk>⟧.state self.new) }
+        ensures moves { IfOk result (λ position. (position ≡ (⟦<MemoryDisk as Disk>⟧.state self.old).size) × ((⟦<MemoryDisk as Disk>⟧.state self.new).position ≡ (⟦<MemoryDisk as Disk>⟧.state self.old).size)) }
+        ensures cause { OnErr result (Rose (⟦<MemoryDisk as Disk>⟧.state self.old) (⟦<MemoryDisk as Disk>⟧.state self.new)) }
+        ensures wrote { IsTrue (⟦<MemoryDisk as Disk>⟧.state self.old).is_honest → Wrote [] (⟦<MemoryDisk as Disk>⟧.state self.old) (⟦<MemoryDisk as Disk>⟧.state self.new) }
+        ensures view { IsTrue (⟦<MemoryDisk as Disk>⟧.state self.old).is_honest → (⟦<MemoryDisk as Disk>⟧.state self.new).view ≡ (⟦<MemoryDisk as Disk>⟧.state self.old).view }
+        ensures pending { IsTrue (⟦<MemoryDisk as Disk>⟧.state self.old).is_honest → (⟦<MemoryDisk as Disk>⟧.state self.new).pending ≡ (⟦<MemoryDisk as Disk>⟧.state self.old).pending }
+        ensures fuse { calls_left self.new ≡ after_call (calls_left self.old) }
+        ensures served { IsOk result ↔ IsTrue (serves (calls_left self.old)) }
+    {
+        if !is_served(&mut self.fuse) {
+            return Err(fail(&mut self.failures));
+        }
+        self.position = self.bytes.len() as u64;
+        Ok(self.position)
+    }
+
+    /// As the trait says. It fails where the read passes the end, which is no failure of the device,
+    /// and where the fuse does not serve the call, and nowhere else.
+    fn read_exact(&mut self, buf: &mut [u8]) -> io::Result<()>
+        ensures keeps { Keeps (⟦<MemoryDisk as Disk>⟧.state self.old) (⟦<MemoryDisk as Disk>⟧.state self.new) }
+        ensures moves { OnOk result ((⟦<MemoryDisk as Disk>⟧.state self.new).position ≡ (⟦<MemoryDisk as Disk>⟧.state self.old).position + length buf.old) }
+        ensures within { OnOk result ((⟦<MemoryDisk as Disk>⟧.state self.old).position + length buf.old ≤ (⟦<MemoryDisk as Disk>⟧.state self.old).size) }
+        ensures cause { OnErr result (Rose (⟦<MemoryDisk as Disk>⟧.state self.old) (⟦<MemoryDisk as Disk>⟧.state self.new) ⊎ ((⟦<MemoryDisk as Disk>⟧.state self.old).size < (⟦<MemoryDisk as Disk>⟧.state self.old).position + length buf.old)) }
+        ensures read { IsTrue (⟦<MemoryDisk as Disk>⟧.state self.old).is_honest → OnOk result (buf.new ≡ take (length buf.old) (drop (⟦<MemoryDisk as Disk>⟧.state self.old).position (⟦<MemoryDisk as Disk>⟧.state self.old).view)) }
+        ensures wrote { IsTrue (⟦<MemoryDisk as Disk>⟧.state self.old).is_honest → Wrote [] (⟦<MemoryDisk as Disk>⟧.state self.old) (⟦<MemoryDisk as Disk>⟧.state self.new) }
+        ensures view { IsTrue (⟦<MemoryDisk as Disk>⟧.state self.old).is_honest → (⟦<MemoryDisk as Disk>⟧.state self.new).view ≡ (⟦<MemoryDisk as Disk>⟧.state self.old).view }
+        ensures pending { IsTrue (⟦<MemoryDisk as Disk>⟧.state self.old).is_honest → (⟦<MemoryDisk as Disk>⟧.state self.new).pending ≡ (⟦<MemoryDisk as Disk>⟧.state self.old).pending }
+        ensures past_end { (⟦<MemoryDisk as Disk>⟧.state self.old).size < (⟦<MemoryDisk as Disk>⟧.state self.old).position + length buf.old
+            → IsErr result × ((⟦<MemoryDisk as Disk>⟧.state self.new).failures ≡ (⟦<MemoryDisk as Disk>⟧.state self.old).failures) }
+        ensures fuse { calls_left self.new ≡ after_call (calls_left self.old) }
+        ensures served { IsOk result ↔ (IsTrue (serves (calls_left self.old)) × ((⟦<MemoryDisk as Disk>⟧.state self.old).position + length buf.old ≤ (⟦<MemoryDisk as Disk>⟧.state self.old).size)) }
+    {
+        let served = is_served(&mut self.fuse);
+        let size = self.bytes.len() as u64;
+        let len = buf.len() as u64;
+        if self.position > size || len > size - self.position {
+            return Err(past_end());
+        }
+        if !served {
+            return Err(fail(&mut self.failures));
+        }
+        let at = self.position as usize;
+        buf.copy_from_slice(&self.bytes[at..at + buf.len()]);
+        self.position += len;
+        Ok(())
+    }
+
+    /// As the trait says. It fails where the fuse does not serve the call, and where there is no memory
+    /// for the record.
+    fn write_all(&mut self, buf: &[u8]) -> io::Result<()>
+        requires { (⟦<MemoryDisk as Disk>⟧.state self.old).position + length buf.now ≤ (⟦<MemoryDisk as Disk>⟧.state self.old).size }
+        ensures keeps { Keeps (⟦<MemoryDisk as Disk>⟧.state self.old) (⟦<MemoryDisk as Disk>⟧.state self.new) }
+        ensures moves { OnOk result ((⟦<MemoryDisk as Disk>⟧.state self.new).position ≡ (⟦<MemoryDisk as Disk>⟧.state self.old).position + length buf.now) }
+        ensures cause { OnErr result (Rose (⟦<MemoryDisk as Disk>⟧.state self.old) (⟦<MemoryDisk as Disk>⟧.state self.new)) }
+        ensures wrote { IsTrue (⟦<MemoryDisk as Disk>⟧.state self.old).is_honest → Wrote (((⟦<MemoryDisk as Disk>⟧.state self.old).position, length buf.now) ∷ []) (⟦<MemoryDisk as Disk>⟧.state self.old) (⟦<MemoryDisk as Disk>⟧.state self.new) }
+        ensures view { IsTrue (⟦<MemoryDisk as Disk>⟧.state self.old).is_honest → OnOk result ((⟦<MemoryDisk as Disk>⟧.state self.new).view ≡ overlay (⟦<MemoryDisk as Disk>⟧.state self.old).view (⟦<MemoryDisk as Disk>⟧.state self.old).position buf.now) }
+        ensures pending { IsTrue (⟦<MemoryDisk as Disk>⟧.state self.old).is_honest → OnOk result ((⟦<MemoryDisk as Disk>⟧.state self.new).pending ≡ ((⟦<MemoryDisk as Disk>⟧.state self.old).position, length buf.now) ∷ (⟦<MemoryDisk as Disk>⟧.state self.old).pending) }
+        ensures refused { IsTrue (⟦<MemoryDisk as Disk>⟧.state self.old).is_honest → OnErr result (
+            (((⟦<MemoryDisk as Disk>⟧.state self.new).view ≡ (⟦<MemoryDisk as Disk>⟧.state self.old).view) × ((⟦<MemoryDisk as Disk>⟧.state self.new).pending ≡ (⟦<MemoryDisk as Disk>⟧.state self.old).pending))
+            ⊎ ((⟦<MemoryDisk as Disk>⟧.state self.new).pending ≡ ((⟦<MemoryDisk as Disk>⟧.state self.old).position, length buf.now) ∷ (⟦<MemoryDisk as Disk>⟧.state self.old).pending)) }
+        ensures fuse { calls_left self.new ≡ after_call (calls_left self.old) }
+        ensures served { OnOk result (IsTrue (serves (calls_left self.old))) }
+    {
+        let done = is_served(&mut self.fuse);
+        let Ok(bytes) = buf.to_vec(self.alloc) else {
+            return Err(fail(&mut self.failures));
+        };
+        let event = Event::Write(Written {
+            at: self.position,
+            bytes,
+            done,
+        });
+        if self.events.push(event).is_err() {
+            return Err(fail(&mut self.failures));
+        }
+        if !done {
+            return Err(fail(&mut self.failures));
+        }
+        let at = self.position as usize;
+        lay(&mut self.bytes, at, buf);
+        self.position += buf.len() as u64;
+        Ok(())
+    }
+
+    /// As the trait says. It fails where the fuse does not serve the call, and where there is no memory
+    /// for the record.
+    fn sync(&mut self) -> io::Result<()>
+        ensures keeps { Keeps (⟦<MemoryDisk as Disk>⟧.state self.old) (⟦<MemoryDisk as Disk>⟧.state self.new) }
+        ensures stays { OnOk result ((⟦<MemoryDisk as Disk>⟧.state self.new).position ≡ (⟦<MemoryDisk as Disk>⟧.state self.old).position) }
+        ensures cause { OnErr result (Rose (⟦<MemoryDisk as Disk>⟧.state self.old) (⟦<MemoryDisk as Disk>⟧.state self.new)) }
+        ensures wrote { IsTrue (⟦<MemoryDisk as Disk>⟧.state self.old).is_honest → Wrote [] (⟦<MemoryDisk as Disk>⟧.state self.old) (⟦<MemoryDisk as Disk>⟧.state self.new) }
+        ensures view { IsTrue (⟦<MemoryDisk as Disk>⟧.state self.old).is_honest → (⟦<MemoryDisk as Disk>⟧.state self.new).view ≡ (⟦<MemoryDisk as Disk>⟧.state self.old).view }
+        ensures pending { IsTrue (⟦<MemoryDisk as Disk>⟧.state self.old).is_honest → OnOk result ((⟦<MemoryDisk as Disk>⟧.state self.new).pending ≡ []) }
+        ensures refused { IsTrue (⟦<MemoryDisk as Disk>⟧.state self.old).is_honest → OnErr result ((⟦<MemoryDisk as Disk>⟧.state self.new).pending ≡ (⟦<MemoryDisk as Disk>⟧.state self.old).pending) }
+        ensures fuse { calls_left self.new ≡ after_call (calls_left self.old) }
+        ensures served { OnOk result (IsTrue (serves (calls_left self.old))) }
+    {
+        if !is_served(&mut self.fuse) || self.events.push(Event::Sync).is_err() {
+            return Err(fail(&mut self.failures));
+        }
+        Ok(())
+    }
+
+    ghost bounded = { λ d. d.small };
+
+    ghost sound = { λ d honest. memory_sound d.start.items d.bytes.items d.events.items d.position d.failures d.replays };
+}

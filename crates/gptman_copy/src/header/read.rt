@@ -1,0 +1,234 @@
+//! Reading one copy: the header and its entries, with the tests that tell a good copy.
+//!
+//! Entries come in blocks of up to 32, in a fixed array. No memory is asked for by the count that
+//! the header gives.
+
+ghost use Rattle.std.specs.Prelude.{◌≡◌, ◌≢◌, ◌≤◌, ◌<◌, ◌+◌, ◌*◌, ◌^◌, ◌⊎◌, ◌++◌, ℕ, List, length, IsTrue, IfOk, IfErr, OnOk, OnErr};
+ghost use Rattle.gptman_copy.specs.Bytes.{part};
+ghost use Rattle.gptman_copy.specs.Coding.{header_bytes};
+ghost use Rattle.gptman_copy.specs.Copy.{value_tests, array_tests, header_result, array_result, entry_result, unless, entries_of, entries_start, entries_length};
+ghost use Rattle.gptman_copy.specs.Crc.{crc_of};
+ghost use Rattle.gptman_copy.specs.Disk.{Keeps, Rose, OnlyRead};
+ghost use Rattle.gptman_copy.specs.Fault.{fault_of, first_failing, io as io_fault, out_of_memory};
+ghost use Rattle.gptman_copy.specs.Register.{HasTaken};
+ghost use Rattle.gptman_copy.specs.Answers.{answer_of, Refuses, RefusesOnly, Fails, is_header_fault, is_array_fault};
+ghost use Rattle.gptman_copy.specs.Reads.{IsBlockFault, IsSeekFault, IsReadyFor, PassTheEnd};
+
+use crate::cells::part_at;
+use crate::codec::entry::GPTPartitionEntry;
+use crate::codec::header::GPTHeader;
+use crate::crc::Checksum;
+use crate::disk::{Disk, past_end};
+use crate::error::{Error, Result};
+use crate::header::{REVISION, SIGNATURE};
+use crate::sizes::{ENTRY_SIZE, HEADER_SIZE};
+use std::alloc::Global;
+
+impl GPTHeader {
+    /// The header in the 92 bytes at the disk's position, which then is behind them.
+    ///
+    /// The first test that fails names the error: `Io` where the disk failed or ends before, then
+    /// `InvalidSignature`, `InvalidRevision`, `InvalidHeaderSize`, `InvalidChecksum`.
+    pub fn read_from<D: Disk>(disk: &mut D) -> Result<GPTHeader>
+        ensures keeps { Keeps (D.state disk.old) (D.state disk.new) }
+        ensures reads { IsTrue (D.state disk.old).is_honest → OnlyRead (D.state disk.old) (D.state disk.new) }
+        ensures moves { OnOk result ((D.state disk.new).position ≡ (D.state disk.old).position + 92) }
+        ensures answer { IsTrue (D.state disk.old).is_honest → Fails result (D.state disk.old) (D.state disk.new)
+            ⊎ (answer_of (λ h. h) result ≡ header_result (D.state disk.old).view (D.state disk.old).position) }
+        ensures size { IfOk result (λ h. h.header_size ≡ 92) }
+        ensures refused { RefusesOnly is_header_fault result }
+        ensures cause { Refuses result io_fault → Rose (D.state disk.old) (D.state disk.new)
+            ⊎ ((D.state disk.old).size < (D.state disk.old).position + 92) }
+    {
+        let mut bytes = [0; 92];
+        disk.read_exact(&mut bytes)?;
+        GPTHeader::decode(&bytes).tested()
+    }
+
+    // The header, where its values pass the tests.
+    fn tested(self) -> Result<GPTHeader>
+        ensures answer { answer_of (λ h. h) result ≡ unless (first_failing (value_tests self (header_bytes self))) self }
+        ensures refused { RefusesOnly is_header_fault result }
+        ensures not_io { Refuses result io_fault → ⊥ }
+        ensures size { IfOk result (λ h. h.header_size ≡ 92) }
+    {
+        if self.signature != SIGNATURE {
+            return Err(Error::InvalidSignature);
+        }
+        if self.revision != REVISION {
+            return Err(Error::InvalidRevision);
+        }
+        if self.header_size != HEADER_SIZE {
+            return Err(Error::InvalidHeaderSize);
+        }
+        let computed = self.generate_crc32_checksum();
+        if self.crc32_checksum != computed {
+            return Err(Error::InvalidChecksum(self.crc32_checksum, computed));
+        }
+        Ok(self)
+    }
+
+    /// The entries of this header, 128 bytes each, from byte `partition_entry_lba * sector_size` of the
+    /// disk on, all of them. The sector size is in bytes, and above 0. The list grows as the entries come.
+    ///
+    /// The first test that fails names the error: `InvalidPartitionEntrySize` (not where there is no
+    /// entry), `Overflow` where that byte's number does not fit in 64 bits, `Io` where the disk failed
+    /// or ends before, `InvalidPartitionEntryArrayChecksum`; `OutOfMemory` at any growth of the list.
+    /// Entries that the header counts past the end of the disk are refused before any is read, and no
+    /// memory is taken for them.
+    pub fn read_partitions<D: Disk>(
+        &self,
+        alloc: Global,
+        disk: &mut D,
+        sector_size: u64,
+    ) -> Result<Vec<GPTPartitionEntry>>
+        requires { 0 < sector_size }
+        ensures keeps { Keeps (D.state disk.old) (D.state disk.new) }
+        ensures reads { IsTrue (D.state disk.old).is_honest → OnlyRead (D.state disk.old) (D.state disk.new) }
+        ensures answer { IsTrue (D.state disk.old).is_honest → Fails result (D.state disk.old) (D.state disk.new)
+            ⊎ (Refuses result out_of_memory
+            ⊎ (answer_of (λ v. v.items) result ≡ array_result (D.state disk.old).view sector_size self.now)) }
+        ensures count { IfOk result (λ v. length v.items ≡ self.now.number_of_partition_entries) }
+        ensures entry_size { OnOk result ((self.now.number_of_partition_entries ≡ 0) ⊎ (self.now.size_of_partition_entry ≡ 128)) }
+        ensures past_end { PassTheEnd self.now sector_size (D.state disk.old).size → Refuses result io_fault }
+        ensures refused { RefusesOnly is_array_fault result }
+        ensures cause { Refuses result io_fault → Rose (D.state disk.old) (D.state disk.new)
+            ⊎ ((self.now.number_of_partition_entries ≢ 0)
+            × ((D.state disk.old).size < entries_start self.now sector_size + entries_length self.now)) }
+    {
+        self.seek_entries(disk, sector_size)?;
+        let array = read_array(alloc, disk, self.number_of_partition_entries)?;
+        if self.partition_entry_array_crc32 != array.checksum {
+            return Err(Error::InvalidPartitionEntryArrayChecksum(
+                self.partition_entry_array_crc32,
+                array.checksum,
+            ));
+        }
+        Ok(array.partitions)
+    }
+
+    // Goes to the first byte of the entries, where there are some and the disk has them all.
+    fn seek_entries<D: Disk>(&self, disk: &mut D, sector_size: u64) -> Result<()>
+        ensures keeps { Keeps (D.state disk.old) (D.state disk.new) }
+        ensures reads { IsTrue (D.state disk.old).is_honest → OnlyRead (D.state disk.old) (D.state disk.new) }
+        ensures ready { OnOk result (IsReadyFor self.now sector_size (D.state disk.new)) }
+        ensures past_end { PassTheEnd self.now sector_size (D.state disk.old).size → Refuses result io_fault }
+        ensures refused { IfErr result (λ e. IsSeekFault self.now sector_size (fault_of e) (D.state disk.old) (D.state disk.new)) }
+    {
+        if self.number_of_partition_entries == 0 {
+            return Ok(());
+        }
+        if self.size_of_partition_entry != ENTRY_SIZE {
+            return Err(Error::InvalidPartitionEntrySize(self.size_of_partition_entry));
+        }
+        let Some(start) = self.partition_entry_lba.checked_mul(sector_size) else {
+            return Err(Error::Overflow);
+        };
+        if self.end_of_entries(sector_size) > u128::from(disk.seek_end()?) {
+            return Err(Error::Io(past_end()));
+        }
+        disk.seek_start(start)?;
+        Ok(())
+    }
+}
+
+impl GPTPartitionEntry {
+    /// The entry in the 128 bytes at the disk's position, which then is behind them. The name has the
+    /// text of its units. No value is tested.
+    ///
+    /// `Io` where the disk failed or ends before, `OutOfMemory` where there is no memory for the text.
+    pub fn read_from<D: Disk>(alloc: Global, disk: &mut D) -> Result<GPTPartitionEntry>
+        ensures keeps { Keeps (D.state disk.old) (D.state disk.new) }
+        ensures reads { IsTrue (D.state disk.old).is_honest → OnlyRead (D.state disk.old) (D.state disk.new) }
+        ensures moves { OnOk result ((D.state disk.new).position ≡ (D.state disk.old).position + 128) }
+        ensures answer { IsTrue (D.state disk.old).is_honest → Fails result (D.state disk.old) (D.state disk.new)
+            ⊎ (Refuses result out_of_memory
+            ⊎ (answer_of (λ e. e) result ≡ entry_result (D.state disk.old).view (D.state disk.old).position)) }
+        ensures refused { IfErr result (λ e. (fault_of e ≡ out_of_memory) ⊎ (fault_of e ≡ io_fault)) }
+        ensures cause { Refuses result io_fault → Rose (D.state disk.old) (D.state disk.new)
+            ⊎ ((D.state disk.old).size < (D.state disk.old).position + 128) }
+    {
+        let mut bytes = [0; 128];
+        disk.read_exact(&mut bytes)?;
+        GPTPartitionEntry::decode(alloc, &bytes)
+    }
+}
+
+// Entries that were read, with the checksum of their bytes.
+#[derive(Drop)]
+struct EntryArray {
+    partitions: Vec<GPTPartitionEntry>,
+    checksum: u32,
+}
+
+// So many entries from the disk's position on.
+fn read_array<D: Disk>(alloc: Global, disk: &mut D, count: u32) -> Result<EntryArray>
+    ensures keeps { Keeps (D.state disk.old) (D.state disk.new) }
+    ensures reads { IsTrue (D.state disk.old).is_honest → OnlyRead (D.state disk.old) (D.state disk.new) }
+    ensures count { IfOk result (λ a. length a.partitions.items ≡ count) }
+    ensures within { OnOk result ((count ≡ 0) ⊎ ((D.state disk.old).position + 128 * count ≤ (D.state disk.old).size)) }
+    ensures entries { IsTrue (D.state disk.old).is_honest
+        → IfOk result (λ a. a.partitions.items ≡ entries_of (part (D.state disk.old).view (D.state disk.old).position (128 * count)) count) }
+    ensures checksum { IsTrue (D.state disk.old).is_honest
+        → IfOk result (λ a. a.checksum ≡ crc_of (part (D.state disk.old).view (D.state disk.old).position (128 * count))) }
+    ensures refused { IfErr result (λ e. IsBlockFault (128 * count) (fault_of e) (D.state disk.old) (D.state disk.new)) }
+    ensures some { OnErr result (count ≢ 0) }
+{
+    let mut partitions = Vec::new(alloc);
+    let mut checksum = Checksum::new();
+    let mut done = 0;
+    while done < count {
+        let block = (count - done).min(32);
+        read_block(alloc, disk, block, &mut partitions, &mut checksum)?;
+        done += block;
+    }
+    Ok(EntryArray {
+        partitions,
+        checksum: checksum.finish(),
+    })
+}
+
+// Up to 32 entries more from the disk's position on, behind those of the list.
+fn read_block<D: Disk>(
+    alloc: Global,
+    disk: &mut D,
+    count: u32,
+    partitions: &mut Vec<GPTPartitionEntry>,
+    checksum: &mut Checksum,
+) -> Result<()>
+    requires { count ≤ 32 }
+    ensures keeps { Keeps (D.state disk.old) (D.state disk.new) }
+    ensures reads { IsTrue (D.state disk.old).is_honest → OnlyRead (D.state disk.old) (D.state disk.new) }
+    ensures moves { OnOk result ((D.state disk.new).position ≡ (D.state disk.old).position + 128 * count) }
+    ensures within { OnOk result ((D.state disk.old).position + 128 * count ≤ (D.state disk.old).size) }
+    ensures count { OnOk result (length partitions.new.items ≡ length partitions.old.items + count) }
+    ensures entries { IsTrue (D.state disk.old).is_honest → OnOk result (partitions.new.items
+        ≡ partitions.old.items ++ entries_of (part (D.state disk.old).view (D.state disk.old).position (128 * count)) count) }
+    ensures checksum { IsTrue (D.state disk.old).is_honest → OnOk result ((m : List ℕ) → HasTaken checksum.old m
+        → HasTaken checksum.new (m ++ part (D.state disk.old).view (D.state disk.old).position (128 * count))) }
+    ensures refused { IfErr result (λ e. IsBlockFault (128 * count) (fault_of e) (D.state disk.old) (D.state disk.new)) }
+{
+    let mut bytes = [0; 4096];
+    let block = &mut bytes[..128 * count as usize];
+    disk.read_exact(block)?;
+    checksum.update(block);
+    decode_block(alloc, block, count, partitions)
+}
+
+// The entries that the bytes hold, behind those of the list.
+fn decode_block(
+    alloc: Global,
+    bytes: &[u8],
+    count: u32,
+    partitions: &mut Vec<GPTPartitionEntry>,
+) -> Result<()>
+    requires { length bytes.now ≡ 128 * count }
+    ensures entries { OnOk result (partitions.new.items ≡ partitions.old.items ++ entries_of bytes.now count) }
+    ensures refused { IfErr result (λ e. fault_of e ≡ out_of_memory) }
+{
+    for k in 0..count as usize {
+        let entry = GPTPartitionEntry::decode(alloc, &part_at(bytes, 128 * k))?;
+        partitions.push(entry)?;
+    }
+    Ok(())
+}

@@ -1,0 +1,210 @@
+//! Writing one copy: the header with both checksums, then its entries in blocks of up to 32.
+
+ghost use Rattle.std.specs.Prelude.{◌≡◌, ◌≤◌, ◌<◌, ◌+◌, ◌*◌, ◌⊎◌, ◌∷◌, [], ℕ, nat_eq, if◌then◌else◌, All, Contains, MatchOption, true, false, Some, length, take, IsTrue, IfErr, OnOk, OnErr};
+ghost use Rattle.std.specs.List.{list_all};
+ghost use Rattle.gptman_copy.specs.Coding.{FitsHeader, FitsEntry, header_bytes, array_bytes};
+ghost use Rattle.gptman_copy.specs.Disk.{Keeps, Rose, Wrote, overlay, Untouched};
+ghost use Rattle.gptman_copy.specs.Fault.{fault_of, io as io_fault, overflow};
+ghost use Rattle.gptman_copy.specs.Copy.{IsCoherent, sealed};
+ghost use Rattle.gptman_copy.specs.Write.{copy_write_fault, write_ranges, is_addressable as is_range_addressable, is_inside as is_range_inside, has_other_header, other_header, SameButSums, IsCopyLaid};
+ghost use Rattle.gptman_copy.specs.Answers.{Refuses, Settles};
+
+use crate::cells::put;
+use crate::codec::entry::GPTPartitionEntry;
+use crate::codec::header::GPTHeader;
+use crate::disk::Disk;
+use crate::error::{Error, Result};
+use std::io;
+
+impl GPTHeader {
+    /// Makes both checksums, and writes the header at byte `primary_lba * sector_size` and then the
+    /// entries from byte `partition_entry_lba * sector_size` on. The sector size is in bytes. Nothing
+    /// is synced, and no memory is taken.
+    ///
+    /// The caller sees to it that the sector size is above 0, and that header and entries are coherent:
+    /// the header counts as many as there are, and gives their size as 128 unless there are none, and
+    /// its own as 92.
+    ///
+    /// `Overflow` where one of the two ranges does not fit in 64 bits, then `Io` where the disk failed,
+    /// then `NoSpaceLeft` where one ends past the disk; nothing is changed then but for the position.
+    /// `Io` also where a write failed: then at most the two checksums of the header changed, and
+    /// nothing was written, or the header's range is not synced.
+    pub fn write_into<D: Disk>(
+        &mut self,
+        disk: &mut D,
+        sector_size: u64,
+        partitions: &[GPTPartitionEntry],
+    ) -> Result<()>
+        requires sector { 0 < sector_size }
+        requires coherent { IsCoherent self.old partitions.now }
+        ensures keeps { Keeps (D.state disk.old) (D.state disk.new) }
+
+        // What is answered.
+        ensures beyond { copy_write_fault self.old sector_size (D.state disk.old).size ≡ Some overflow → Refuses result overflow }
+        ensures answer { Settles (copy_write_fault self.old sector_size (D.state disk.old).size) result (D.state disk.old) (D.state disk.new) }
+        ensures cause { Refuses result io_fault → Rose (D.state disk.old) (D.state disk.new) }
+
+        // What becomes of the header.
+        ensures sealed { OnOk result (self.new ≡ sealed self.old partitions.now) }
+        ensures kept { IfErr result (λ e. (fault_of e ≡ io_fault) ⊎ (self.new ≡ self.old)) }
+        ensures sums { SameButSums self.old self.new }
+        ensures fits { OnOk result (FitsHeader self.new × All FitsEntry partitions.now) }
+
+        // What becomes of the disk.
+        ensures wrote { IsTrue (D.state disk.old).is_honest → Wrote (write_ranges self.old sector_size) (D.state disk.old) (D.state disk.new) }
+        ensures laid { IsTrue (D.state disk.old).is_honest
+            → OnOk result (IsCopyLaid self.new partitions.now sector_size (D.state disk.old).view (D.state disk.new).view) }
+        ensures pending { IsTrue (D.state disk.old).is_honest
+            → OnOk result (Contains (D.state disk.new).pending (self.old.primary_lba * sector_size, 92)) }
+        ensures untouched { IsTrue (D.state disk.old).is_honest
+            → IfErr result (λ e. (fault_of e ≡ io_fault) ⊎ Untouched (D.state disk.old) (D.state disk.new)) }
+        ensures failed { IsTrue (D.state disk.old).is_honest → OnErr result (Untouched (D.state disk.old) (D.state disk.new)
+            ⊎ Contains (D.state disk.new).pending (self.old.primary_lba * sector_size, 92)) }
+    {
+        if !self.is_addressable(sector_size) {
+            return Err(Error::Overflow);
+        }
+        let size = disk.seek_end()?;
+        if !self.is_inside(sector_size, size) {
+            return Err(Error::NoSpaceLeft);
+        }
+        self.update_partition_entry_array_crc32(partitions);
+        self.update_crc32_checksum();
+        write_copy(disk, self, sector_size, partitions)?;
+        Ok(())
+    }
+
+    /// The header of the other copy, unless its first entry sector does not fit in 64 bits.
+    pub fn other(&self) -> Option<GPTHeader>
+        ensures { MatchOption result (has_other_header self.now ≡ false) (λ h. (has_other_header self.now ≡ true) × (h ≡ other_header self.now)) }
+    {
+        let entries = if self.partition_entry_lba == 2 {
+            self.last_usable_lba.checked_add(1)?
+        } else {
+            2
+        };
+        Some(GPTHeader {
+            primary_lba: self.backup_lba,
+            backup_lba: self.primary_lba,
+            partition_entry_lba: entries,
+            ..*self
+        })
+    }
+
+    /// Whether the ranges of this copy, its header and its entries, start and end below byte 2^64.
+    pub fn is_addressable(&self, sector_size: u64) -> bool
+        ensures { result ≡ list_all is_range_addressable (write_ranges self.now sector_size) }
+    {
+        self.end_of_header(sector_size) < 1 << 64 && self.end_of_entries(sector_size) < 1 << 64
+    }
+
+    /// Whether the ranges of this copy end within so many bytes.
+    pub fn is_inside(&self, sector_size: u64, size: u64) -> bool
+        ensures { result ≡ list_all (is_range_inside size) (write_ranges self.now sector_size) }
+    {
+        self.end_of_header(sector_size) <= u128::from(size)
+            && self.end_of_entries(sector_size) <= u128::from(size)
+    }
+
+    // The byte behind the header.
+    fn end_of_header(&self, sector_size: u64) -> u128
+        ensures { result ≡ self.now.primary_lba * sector_size + 92 }
+    {
+        u128::from(self.primary_lba) * u128::from(sector_size) + 92
+    }
+
+    /// The byte behind the entries, or 0 where there are none.
+    pub(crate) fn end_of_entries(&self, sector_size: u64) -> u128
+        ensures { result ≡ (if nat_eq self.now.number_of_partition_entries 0 then 0
+            else self.now.partition_entry_lba * sector_size + 128 * self.now.number_of_partition_entries) }
+    {
+        if self.number_of_partition_entries == 0 {
+            return 0;
+        }
+        let start = u128::from(self.partition_entry_lba) * u128::from(sector_size);
+        start + 128 * u128::from(self.number_of_partition_entries)
+    }
+}
+
+// Writes the header, then the entries. After an error nothing was written, or the header's range is
+// pending.
+fn write_copy<D: Disk>(
+    disk: &mut D,
+    header: &GPTHeader,
+    sector_size: u64,
+    partitions: &[GPTPartitionEntry],
+) -> io::Result<()>
+    requires count { length partitions.now ≡ header.now.number_of_partition_entries }
+    requires inside { IsTrue (list_all (is_range_inside (D.state disk.old).size) (write_ranges header.now sector_size)) }
+    ensures keeps { Keeps (D.state disk.old) (D.state disk.new) }
+    ensures cause { OnErr result (Rose (D.state disk.old) (D.state disk.new)) }
+    ensures fits { OnOk result (FitsHeader header.now × All FitsEntry partitions.now) }
+    ensures wrote { IsTrue (D.state disk.old).is_honest → Wrote (write_ranges header.now sector_size) (D.state disk.old) (D.state disk.new) }
+    ensures laid { IsTrue (D.state disk.old).is_honest
+        → OnOk result (IsCopyLaid header.now partitions.now sector_size (D.state disk.old).view (D.state disk.new).view) }
+    ensures pending { IsTrue (D.state disk.old).is_honest
+        → OnOk result (Contains (D.state disk.new).pending (header.now.primary_lba * sector_size, 92)) }
+    ensures failed { IsTrue (D.state disk.old).is_honest → OnErr result (Untouched (D.state disk.old) (D.state disk.new)
+        ⊎ Contains (D.state disk.new).pending (header.now.primary_lba * sector_size, 92)) }
+{
+    disk.seek_start(header.primary_lba * sector_size)?;
+    disk.write_all(&header.encode())?;
+    if partitions.is_empty() {
+        return Ok(());
+    }
+    disk.seek_start(header.partition_entry_lba * sector_size)?;
+    write_entries(disk, partitions)
+}
+
+// Writes the entries from the disk's position on.
+fn write_entries<D: Disk>(disk: &mut D, partitions: &[GPTPartitionEntry]) -> io::Result<()>
+    requires { (D.state disk.old).position + 128 * length partitions.now ≤ (D.state disk.old).size }
+    ensures keeps { Keeps (D.state disk.old) (D.state disk.new) }
+    ensures cause { OnErr result (Rose (D.state disk.old) (D.state disk.new)) }
+    ensures fits { OnOk result (All FitsEntry partitions.now) }
+    ensures wrote { IsTrue (D.state disk.old).is_honest
+        → Wrote (((D.state disk.old).position, 128 * length partitions.now) ∷ []) (D.state disk.old) (D.state disk.new) }
+    ensures laid { IsTrue (D.state disk.old).is_honest
+        → OnOk result ((D.state disk.new).view ≡ overlay (D.state disk.old).view (D.state disk.old).position (array_bytes partitions.now)) }
+    ensures still_pending { IsTrue (D.state disk.old).is_honest
+        → (range : ℕ × ℕ) → Contains (D.state disk.old).pending range → Contains (D.state disk.new).pending range }
+{
+    let mut done = 0;
+    while done < partitions.len() {
+        let end = partitions.len().min(done + 32);
+        write_block(disk, &partitions[done..end])?;
+        done = end;
+    }
+    Ok(())
+}
+
+// Writes up to 32 entries from the disk's position on, by one call.
+fn write_block<D: Disk>(disk: &mut D, block: &[GPTPartitionEntry]) -> io::Result<()>
+    requires few { length block.now ≤ 32 }
+    requires room { (D.state disk.old).position + 128 * length block.now ≤ (D.state disk.old).size }
+    ensures keeps { Keeps (D.state disk.old) (D.state disk.new) }
+    ensures moves { OnOk result ((D.state disk.new).position ≡ (D.state disk.old).position + 128 * length block.now) }
+    ensures cause { OnErr result (Rose (D.state disk.old) (D.state disk.new)) }
+    ensures fits { All FitsEntry block.now }
+    ensures wrote { IsTrue (D.state disk.old).is_honest
+        → Wrote (((D.state disk.old).position, 128 * length block.now) ∷ []) (D.state disk.old) (D.state disk.new) }
+    ensures laid { IsTrue (D.state disk.old).is_honest
+        → OnOk result ((D.state disk.new).view ≡ overlay (D.state disk.old).view (D.state disk.old).position (array_bytes block.now)) }
+    ensures still_pending { IsTrue (D.state disk.old).is_honest
+        → (range : ℕ × ℕ) → Contains (D.state disk.old).pending range → Contains (D.state disk.new).pending range }
+{
+    let mut bytes = [0; 4096];
+    encode_block(&mut bytes, block);
+    disk.write_all(&bytes[..128 * block.len()])
+}
+
+// Puts the entries' bytes, one after the other, over the first of these.
+fn encode_block(bytes: &mut [u8], block: &[GPTPartitionEntry])
+    requires { 128 * length block.now ≤ length bytes.old }
+    ensures bytes { take (128 * length block.now) bytes.new ≡ array_bytes block.now }
+    ensures fits { All FitsEntry block.now }
+{
+    for (k, partition) in block.iter().enumerate() {
+        put(bytes, 128 * k, &partition.encode());
+    }
+}
