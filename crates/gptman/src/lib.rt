@@ -10,7 +10,7 @@ pub mod table;
 pub use edit::{Edit, Progress};
 pub use gptman_copy::{
     Disk, Error, Fate, FileDisk, GPTHeader, GPTPartitionEntry, MemoryDisk, PartitionName, Result,
-    codec as codec, crc as crc, disk as disk, error as error, header as header,
+    codec, crc, disk, error, header,
 };
 pub use table::GPT;
 pub use table::iter::{Iter, IterMut};
