@@ -4,10 +4,10 @@ use Rattle.gptman.specs.Reading.{primary, backup}
 use Rattle.gptman.specs.Table.{Table, table_of, IsHeaderForm}
 use Rattle.gptman_copy.specs.declared.codec.header.GPTHeader.{GPTHeader}
 use Rattle.gptman.proofs.OtherHeader.{other_table}
-use Rattle.gptimg_core.specs.Checks.{turned, AreBothForms}
+use Rattle.gptimg_core.specs.Checks.{with_sectors_exchanged, AreBothForms}
 
 -- in the two forms, headers are of one table where the second is the first one turned
-pub both_forms : (first second : GPTHeader) → IsHeaderForm primary first → IsHeaderForm backup second → second ≡ turned first second
+pub both_forms : (first second : GPTHeader) → IsHeaderForm primary first → IsHeaderForm backup second → second ≡ with_sectors_exchanged first second
     → AreBothForms first second
 both_forms first second at_primary at_backup is = record {
   at_primary = at_primary;
@@ -16,7 +16,7 @@ both_forms first second at_primary at_backup is = record {
 }
 
 -- and only there
-pub forms_turned : (first second : GPTHeader) → AreBothForms first second → second ≡ turned first second
+pub forms_turned : (first second : GPTHeader) → AreBothForms first second → second ≡ with_sectors_exchanged first second
 forms_turned first second are =
     let tables : table_of second [] ≡ table_of first [] = are.same [] in
     let low : min second.primary_lba second.backup_lba ≡ min first.primary_lba first.backup_lba = ap (λ (t : Table). t.low_sector) tables in

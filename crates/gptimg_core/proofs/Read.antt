@@ -1,14 +1,12 @@
 -- What is read from a disk, and what comes after it.
 use Rattle.std.proofs.Common.{◌≡◌, ⊎_elim, ◌⊎◌, inl, inr, sym, ◌∙◌, ℕ}
 use Rattle.std.specs.Prelude.{Result, Ok, Err, IfOk, None, Option}
-use Rattle.gptman.specs.Alignment.{IsAlignment}
 use Rattle.gptman.specs.Answers.{answer_of, Fails, Refuses}
-use Rattle.gptman.specs.TableReads.{copy_of, IsTakenCopy}
+use Rattle.gptman.specs.TableReads.{copy_of, IsAsRead, MayBeRead}
 use Rattle.gptman.specs.Copy.{Copy}
 use Rattle.gptman.specs.Disk.{DiskState, Keeps, Rose}
 use Rattle.gptman.specs.Fault.{Fault, invalid_signature, out_of_memory}
 use Rattle.gptman.specs.Reading.{found_sector_size, reading_of}
-use Rattle.gptman.specs.Table.{entries_in}
 use Rattle.gptman_copy.specs.declared.error.Error.{Error}
 use Rattle.gptman.specs.declared.table.GPT.{GPT}
 use Rattle.gptman_copy.proofs.Runs.{rose_before, rose_since}
@@ -17,19 +15,19 @@ use Rattle.gptimg_core.specs.Reads.{IsReadFrom}
 -- a reading with a size that is found
 pub found_read : (old new : DiskState) (r : Result GPT Error)
     → Rose old new ⊎ (Refuses r out_of_memory ⊎ (answer_of copy_of r ≡ reading_of old.view (found_sector_size old.view)))
-    → IfOk r (λ g. IsTakenCopy old new g.sector_size (copy_of g))
+    → IfOk r (λ g. MayBeRead old new g.sector_size (copy_of g))
     → Rose old new ⊎ IfOk r (λ g. g.sector_size ≡ found_sector_size old.view)
     → IfOk r (λ g. (g.sector_size ≡ 512) ⊎ ((g.sector_size ≡ 4096) × (reading_of old.view 512 ≡ Err invalid_signature)))
-    → IfOk r (λ g. IsAlignment g.header (entries_in g) g.align)
+    → IfOk r IsAsRead
     → IfOk r (IsReadFrom None old new)
-found_read old new (Err e) answer accepted found second align = tt
-found_read old new (Ok g) answer accepted found second align = record {
+found_read old new (Err e) answer accepted found second value = tt
+found_read old new (Ok g) answer accepted found second value = record {
   sector = second;
   accepted = accepted;
   read = ⊎_elim (λ rose. inl rose)
       (λ rest. ⊎_elim (λ memory. absurd memory) (λ is. ⊎_elim (λ rose. inl rose) (λ size. inr (record { sector = size; taken = sym is })) found) rest)
       answer;
-  align = align;
+  align = value.align;
 }
 
 -- it stays what was read, whatever comes after it

@@ -1,23 +1,19 @@
 -- Why a call is refused, said of the disk from which a command began.
 use Rattle.std.proofs.Common.{◌≡◌, ◌⊎◌, inl, inr, refl, sym, ap, ◌∙◌, subst, ℕ}
 use Rattle.std.specs.Prelude.{Option, Some, None, Result, Ok, Err, IfErr}
-use Rattle.gptman.specs.Answers.{answer_of, Refuses, Settles}
+use Rattle.gptman.specs.Answers.{answer_of, IsFailure, Refuses, Settles}
 use Rattle.gptman.specs.TableReads.{copy_of, IsReadingFault}
-use Rattle.gptman.specs.TableWrites.{AnswersWrite}
-use Rattle.gptman.specs.TableWrites.AnswersWrite.{no_memory as lacks_memory, not_valid as is_invalid, too_far, settled}
+use Rattle.gptman.specs.TableWrites.{table_write_fault, RefusesWrite}
+use Rattle.gptman.specs.TableWrites.RefusesWrite.{no_memory as no_memory_to_check, not_valid, no_room, disk_failed as failed_in_writing}
 use Rattle.gptman.specs.Disk.{DiskState, Keeps, Rose}
 use Rattle.gptman.specs.Fault.{Fault, fault_of, invalid_signature, out_of_memory}
 use Rattle.gptman.specs.Fit.{fit_fault}
 use Rattle.gptman.specs.Reading.{found_sector_size, reading_of}
-use Rattle.gptman.specs.Table.{entries_in}
-use Rattle.gptman.specs.Valid.{IsValidity}
-use Rattle.gptman.specs.Write.{write_fault}
 use Rattle.gptman_copy.specs.declared.error.Error.{Error}
 use Rattle.gptman.specs.declared.table.GPT.{GPT}
 use Rattle.gptman_copy.proofs.Runs.{rose_since}
-use Rattle.gptimg_core.specs.Refusals.{IsFailure, RefusesMaking, RefusesReading, RefusesWrite}
+use Rattle.gptimg_core.specs.Refusals.{RefusesMaking, RefusesReading}
 use Rattle.gptimg_core.specs.Refusals.RefusesReading.{no_memory, bad_copies, disk_failed}
-use Rattle.gptimg_core.specs.Refusals.RefusesWrite.{no_memory as no_memory_to_check, not_valid, no_room, disk_failed as failed_in_writing}
 use Rattle.gptimg_core.specs.declared.words.Change.{Change}
 use Rattle.gptimg_core.specs.declared.words.Change.TheVariants.{Add, Remove, Sort, Grow}
 
@@ -62,15 +58,9 @@ settled_refused fault (Err e) old new (inl is) = inl (sym is)
 settled_refused fault (Err e) old new (inr failed) = inr failed
 
 -- a write on a disk that keeps its length
-pub write_refused : {T : Type 0} (g : GPT) (r : Result T Error) (old mid new : DiskState) → Keeps old mid
-    → AnswersWrite g.header (entries_in g) g.sector_size r mid new → IfErr r (λ e. RefusesWrite g (fault_of e) old new)
-write_refused g (Ok x) old mid new keeps answer = tt
-write_refused g (Err e) old mid new keeps (lacks_memory memory) = no_memory_to_check memory
-write_refused g (Err e) old mid new keeps (is_invalid fault validity is) =
-    not_valid (subst (λ (f : Fault). IsValidity g.header (entries_in g) (Some f)) (sym is) validity)
-write_refused g (Err e) old mid new keeps (too_far valid is said) =
-    no_room valid (ap (write_fault g.header g.sector_size) (sym keeps.size) ∙ is ∙ ap (λ (f : Fault). Some f) (sym said))
-write_refused g (Err e) old mid new keeps (settled valid near (inl is)) =
-    no_room valid (ap (write_fault g.header g.sector_size) (sym keeps.size) ∙ sym is)
-write_refused g (Err e) old mid new keeps (settled valid near (inr failed)) =
-    failed_in_writing valid (λ far. near (ap (write_fault g.header g.sector_size) keeps.size ∙ far)) (failed_since (fault_of e) old mid new keeps failed)
+pub write_since : (g : GPT) (fault : Fault) (old mid new : DiskState) → Keeps old mid → RefusesWrite g fault mid new → RefusesWrite g fault old new
+write_since g fault old mid new keeps (no_memory_to_check memory) = no_memory_to_check memory
+write_since g fault old mid new keeps (not_valid validity) = not_valid validity
+write_since g fault old mid new keeps (no_room valid full) = no_room valid (ap (table_write_fault g) (sym keeps.size) ∙ full)
+write_since g fault old mid new keeps (failed_in_writing valid near failed) =
+    failed_in_writing valid (λ far. near (ap (table_write_fault g) keeps.size ∙ far)) (failed_since fault old mid new keeps failed)

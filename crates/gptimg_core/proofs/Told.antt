@@ -3,18 +3,18 @@ use Rattle.std.proofs.Common.{◌≡◌, refl, subst, ℕ, Bool, true, false, Li
 use Rattle.std.specs.Prelude.{Option, Result, Ok, Err, codes, if◌then◌else◌}
 use Rattle.std.specs.Io.KnownBytes.{Appends}
 use Rattle.gptman.specs.Answers.{answer_of}
-use Rattle.gptman.specs.Copy.{Copy}
+use Rattle.gptman.specs.Copy.{copy_of_whole, Copy}
 use Rattle.gptman.specs.Disk.{DiskState}
 use Rattle.gptman.specs.Fault.{Fault}
 use Rattle.gptman_copy.specs.declared.error.Error.{Error}
 use Rattle.gptman.specs.declared.table.GPT.{GPT}
 use Rattle.gptimg_core.specs.Changes.{MakesChange}
-use Rattle.gptimg_core.specs.Checks.{is_good, seen_as, AreFoundSame, HoldOneTable, TellsCopies}
+use Rattle.gptimg_core.specs.Checks.{is_good, AreFoundSame, HoldOneTable, TellsCopies}
 use Rattle.gptimg_core.specs.Lines.{check_lines, report_lines}
 use Rattle.gptimg_core.specs.Prints.{PrintsCopies, PrintsSlots}
 use Rattle.gptimg_core.specs.Reads.{AreSlotsIn, TellsOfTable}
 use Rattle.gptimg_core.specs.declared.commands.Report.{Report}
-use Rattle.gptimg_core.specs.declared.commands.Report.TheVariants.{Written, Table, Slots, Added, Copies}
+use Rattle.gptimg_core.specs.declared.commands.Report.TheVariants.{Done, Table, Slots, Added, Copies}
 use Rattle.gptimg_core.specs.declared.words.Change.{Change}
 
 pub told_as : {P Q : GPT → Type 0} {size : Option ℕ} {old new : DiskState} → ((g : GPT) → P g → Q g) → TellsOfTable P size old new → TellsOfTable Q size old new
@@ -36,7 +36,7 @@ pub lines_as : (a b : Option (List ℕ)) (report other : Report) → Appends a b
 lines_as a b report other printed is = subst (λ (r : Report). Appends a b (report_lines r)) is printed
 
 pub slots_printed : (a b : Option (List ℕ)) (g : GPT) (align : ℕ) (report : Report) → Appends a b (report_lines report) → AreSlotsIn g align report → PrintsSlots g align a b
-slots_printed a b g align Written printed are = absurd are
+slots_printed a b g align Done printed are = absurd are
 slots_printed a b g align (Table table) printed are = absurd are
 slots_printed a b g align (Slots slots) printed are = record { slots = slots.items; are = are; printed = printed }
 slots_printed a b g align (Added number first last) printed are = absurd are
@@ -62,7 +62,7 @@ lines_of_same (Err fault) (Err other) same is found = absurd found
 pub same_printed : (a b : Option (List ℕ)) (ss : ℕ) (old new : DiskState) (report : Report) (status : ℕ) → status ≡ (if is_good report then 0 else 1)
     → ◌≡◌ {A = Result ℕ Error} (Ok status) (Ok 0) → TellsCopies ss old new report → Appends a b (report_lines report)
     → HoldOneTable old.view ss × Appends a b (codes "primary ok\nbackup ok\nsame yes\n")
-same_printed a b ss old new Written status is done tells printed = absurd tells
+same_printed a b ss old new Done status is done tells printed = absurd tells
 same_printed a b ss old new (Table table) status is done tells printed = absurd tells
 same_printed a b ss old new (Slots slots) status is done tells printed = absurd tells
 same_printed a b ss old new (Added number first last) status is done tells printed = absurd tells
@@ -71,12 +71,12 @@ same_printed a b ss old new (Copies copies) status is done tells printed =
     let both = tells.same same in (
       both.0,
       subst (λ (text : List ℕ). Appends a b text)
-          (lines_of_same (answer_of seen_as copies.primary) (answer_of seen_as copies.backup) copies.are_same same both.1) printed,
+          (lines_of_same (answer_of copy_of_whole copies.primary) (answer_of copy_of_whole copies.backup) copies.are_same same both.1) printed,
     )
 
 pub difference_printed : (a b : Option (List ℕ)) (ss : ℕ) (old new : DiskState) (report : Report) (status : ℕ) → status ≡ (if is_good report then 0 else 1)
     → ◌≡◌ {A = Result ℕ Error} (Ok status) (Ok 1) → TellsCopies ss old new report → Appends a b (report_lines report) → PrintsCopies ss false old new a b
-difference_printed a b ss old new Written status is done tells printed = absurd tells
+difference_printed a b ss old new Done status is done tells printed = absurd tells
 difference_printed a b ss old new (Table table) status is done tells printed = absurd tells
 difference_printed a b ss old new (Slots slots) status is done tells printed = absurd tells
 difference_printed a b ss old new (Added number first last) status is done tells printed = absurd tells

@@ -1,24 +1,24 @@
 -- Changes of a table, and what they make of a disk.
 use Rattle.std.specs.Prelude.{◌≡◌, ℕ, ◌+◌, ◌-◌, [], ◌∷◌, Option, None, IsTrue}
 use Rattle.std.specs.Str.{chars}
-use Rattle.gptman.specs.Disk.{OnlyRead, DiskState, LeavesOnly, Wrote}
+use Rattle.gptman.specs.Disk.{OnlyRead, DiskState, Wrote}
 use Rattle.gptman.specs.Crash.{IsKeptFor}
-use Rattle.gptman.specs.Edit.{edited, edit_fault}
+use Rattle.gptman.specs.Edit.{after_edit, edit_fault}
 use Rattle.gptman.specs.Entry.{is_unused}
-use Rattle.gptman.specs.Fit.{fit_fault, fitted}
+use Rattle.gptman.specs.Fit.{fit_fault}
 use Rattle.gptman.specs.Layout.{HasLayout}
 use Rattle.gptman.specs.Name.{units_of}
 use Rattle.gptman.specs.Number.{entry_at, number_fault, with_entry}
 use Rattle.gptman.specs.Place.{IsBestPlace, IsFirstPlace, IsFreeIn, IsLastPlace}
-use Rattle.gptman.specs.Stop.{HoldsOneOf, IsStored}
-use Rattle.gptman.specs.Table.{Table as DiskTable, table_in}
-use Rattle.gptman.specs.Write.{both_ranges}
+use Rattle.gptman.specs.Stop.{IsStored, StopsHold}
+use Rattle.gptman.specs.Table.{Table as DiskTable, grow_to, table_in}
+use Rattle.gptman.specs.TableWrites.{table_ranges}
 use Rattle.gptman_copy.specs.declared.codec.entry.GPTPartitionEntry.{GPTPartitionEntry}
 use Rattle.gptman.specs.declared.edit.Edit.TheVariants.{Remove as RemoveEntry, SortEntries}
 use Rattle.gptman.specs.declared.table.GPT.{GPT}
 use Rattle.gptimg_core.specs.Reads.{IsReadFrom}
 use Rattle.gptimg_core.specs.declared.commands.Report.{Report}
-use Rattle.gptimg_core.specs.declared.commands.Report.TheVariants.{Written, Added}
+use Rattle.gptimg_core.specs.declared.commands.Report.TheVariants.{Done, Added}
 use Rattle.gptimg_core.specs.declared.words.Addition.{Addition}
 use Rattle.gptimg_core.specs.declared.words.Change.{Change}
 use Rattle.gptimg_core.specs.declared.words.Change.TheVariants.{Add, Remove, Sort, Grow}
@@ -26,10 +26,10 @@ use Rattle.gptimg_core.specs.declared.words.Choice.{Choice}
 use Rattle.gptimg_core.specs.declared.words.Choice.TheVariants.{First, Last, Best}
 
 -- s is the place that is chosen for n sectors
-abbrev pub IsChosen : Choice → (ℕ → Type 0) → ℕ → ℕ → ℕ → Type 0
-IsChosen First free align n s = IsFirstPlace free align n s
-IsChosen Last free align n s = IsLastPlace free align n s
-IsChosen Best free align n s = IsBestPlace free align n s
+abbrev pub IsChosenPlace : Choice → (ℕ → Type 0) → ℕ → ℕ → ℕ → Type 0
+IsChosenPlace First free align n s = IsFirstPlace free align n s
+IsChosenPlace Last free align n s = IsLastPlace free align n s
+IsChosenPlace Best free align n s = IsBestPlace free align n s
 
 -- the entry of a partition that is added from sector s on
 abbrev pub added_entry : Addition → ℕ → GPTPartitionEntry
@@ -51,26 +51,22 @@ pub record IsAdded (a : Addition) (g next : GPT) : Type 0 where
   pub number : number_fault g a.number ≡ None
   pub unused : IsTrue (is_unused (entry_at g a.number))
   pub start : ℕ
-  pub place : IsChosen a.choice (IsFreeIn g) a.align a.size start
+  pub place : IsChosenPlace a.choice (IsFreeIn g) a.align a.size start
   pub next_is : next ≡ with_addition g a start
-
--- the value with its header fitted to a disk of len bytes
-abbrev pub grown : GPT → ℕ → GPT
-grown g len = record g { header = fitted g.header g.sector_size len }
 
 -- What a change makes of a value, on a disk of len bytes.
 abbrev pub IsChanged : ℕ → Change → GPT → GPT → Type 0
 IsChanged len (Add a) g next = IsAdded a g next
-IsChanged len (Remove number) g next = (edit_fault g (RemoveEntry number) ≡ None) × (next ≡ edited g (RemoveEntry number))
-IsChanged len Sort g next = next ≡ edited g SortEntries
-IsChanged len Grow g next = (fit_fault g.header g.sector_size len ≡ None) × (next ≡ grown g len)
+IsChanged len (Remove number) g next = (edit_fault g (RemoveEntry number) ≡ None) × (next ≡ after_edit g (RemoveEntry number))
+IsChanged len Sort g next = next ≡ after_edit g SortEntries
+IsChanged len Grow g next = (fit_fault g.header g.sector_size len ≡ None) × (next ≡ grow_to g len)
 
 -- what there is to tell of a change
 abbrev pub report_of : Change → GPT → Report
 report_of (Add a) next = let e = entry_at next a.number in Added a.number e.starting_lba e.ending_lba
-report_of (Remove number) next = Written
-report_of Sort next = Written
-report_of Grow next = Written
+report_of (Remove number) next = Done
+report_of Sort next = Done
+report_of Grow next = Done
 
 -- A table was read from the disk, changed and written: no byte outside of its four ranges is another, and where it has the layout both places hold it.
 pub record MakesChange (Told : GPT → Type 0) (size : Option ℕ) (change : Change) (old new : DiskState) : Type 0 where
@@ -78,15 +74,15 @@ pub record MakesChange (Told : GPT → Type 0) (size : Option ℕ) (change : Cha
   pub next : GPT
   pub read : IsReadFrom size old new table
   pub changed : IsChanged old.size change table next
-  pub wrote : Wrote (both_ranges next.header next.sector_size) old new
-  pub stored : HasLayout next.header (table_in next) next.sector_size old.size → IsStored new next.sector_size (table_in next)
+  pub wrote : Wrote (table_ranges next) old new
+  pub stored : HasLayout next old.size → IsStored new next.sector_size (table_in next)
   pub told : Told next
 
 -- What a command that changes the table leaves, at every exit: it only read; or it wrote the table that it read, changed, in its four ranges alone. Then, from one
 -- good copy of a table, a stop at any moment leaves that table or the changed one at one place at least.
 pub data LeavesChange (size : Option ℕ) (change : Change) (old new : DiskState) : Type 0 where
   unwritten : OnlyRead old new → LeavesChange size change old new
-  written : (table next : GPT) → IsReadFrom size old new table → IsChanged old.size change table next → Wrote (both_ranges next.header next.sector_size) old new
-      → ((was : DiskTable) → HasLayout next.header (table_in next) next.sector_size old.size → IsKeptFor old next was
-      → LeavesOnly old new (λ b. HoldsOneOf b next.sector_size (was ∷ table_in next ∷ [])))
+  written : (table next : GPT) → IsReadFrom size old new table → IsChanged old.size change table next → Wrote (table_ranges next) old new
+      → ((was : DiskTable) → HasLayout next old.size → IsKeptFor old next was
+      → StopsHold old new next.sector_size (was ∷ table_in next ∷ []))
       → LeavesChange size change old new

@@ -12,10 +12,10 @@ use Rattle.gptman.specs.Table.{entries_in}
 use Rattle.gptman_copy.specs.declared.codec.entry.GPTPartitionEntry.{GPTPartitionEntry}
 use Rattle.gptman_copy.specs.declared.codec.header.GPTHeader.{GPTHeader}
 use Rattle.gptman.specs.declared.table.GPT.{GPT}
-use Rattle.gptimg_core.specs.Checks.{seen_as}
+use Rattle.gptman.specs.Copy.{copy_of_whole}
 use Rattle.gptimg_core.specs.Names.{fault_name}
 use Rattle.gptimg_core.specs.declared.commands.Report.{Report}
-use Rattle.gptimg_core.specs.declared.commands.Report.TheVariants.{Written, Table, Slots, Added, Copies}
+use Rattle.gptimg_core.specs.declared.commands.Report.TheVariants.{Done, Table, Slots, Added, Copies}
 
 -- the form that the header is in
 abbrev pub form_name : GPTHeader → List ℕ
@@ -61,10 +61,10 @@ slot_lines slots = flat_map slot_line slots
 abbrev pub added_line : ℕ → ℕ → ℕ → List ℕ
 added_line number first last = decimal number ++ codes " " ++ decimal first ++ codes ".." ++ decimal last ++ codes "\n"
 
--- the line of the copy at a place of this name
+-- the line of the copy at a side of this name
 abbrev pub copy_line : List ℕ → Result Copy Fault → List ℕ
-copy_line place (Ok copy) = place ++ codes " ok\n"
-copy_line place (Err fault) = place ++ codes " fault " ++ fault_name fault ++ codes "\n"
+copy_line side (Ok copy) = side ++ codes " ok\n"
+copy_line side (Err fault) = side ++ codes " fault " ++ fault_name fault ++ codes "\n"
 
 -- the lines of both copies, and whether they are one table
 abbrev pub check_lines : Result Copy Fault → Result Copy Fault → Bool → List ℕ
@@ -73,8 +73,8 @@ check_lines first second same =
 
 -- what is printed of what a command has to tell
 abbrev pub report_lines : Report → List ℕ
-report_lines Written = codes "ok\n"
+report_lines Done = codes "ok\n"
 report_lines (Table table) = table_lines table
 report_lines (Slots slots) = slot_lines slots.items
 report_lines (Added number first last) = added_line number first last
-report_lines (Copies copies) = check_lines (answer_of seen_as copies.primary) (answer_of seen_as copies.backup) copies.are_same
+report_lines (Copies copies) = check_lines (answer_of copy_of_whole copies.primary) (answer_of copy_of_whole copies.backup) copies.are_same

@@ -1,17 +1,17 @@
 -- Why a command is refused: which fault it answers.
-use Rattle.std.specs.Prelude.{◌≡◌, ◌≢◌, ◌⊎◌, ℕ, List, Option, Some, None, Err, IsTrue}
+use Rattle.std.specs.Prelude.{◌≡◌, ◌⊎◌, ℕ, List, Option, Some, None, Err, IsTrue}
+use Rattle.gptman.specs.Answers.{IsFailure}
 use Rattle.gptman.specs.TableReads.{IsReadingFault}
+use Rattle.gptman.specs.TableWrites.{RefusesWrite}
 use Rattle.gptman.specs.Disk.{DiskState, Rose}
 use Rattle.gptman.specs.Entry.{is_unused}
-use Rattle.gptman.specs.Fault.{Fault, invalid_partition_number, io, no_space_left, out_of_memory, overflow}
+use Rattle.gptman.specs.Fault.{Fault, invalid_partition_number, no_space_left, out_of_memory}
 use Rattle.gptman.specs.Fit.{fit_fault, new_header}
 use Rattle.gptman.specs.Mbr.{mbr_fault}
 use Rattle.gptman.specs.Number.{entry_at, number_fault}
 use Rattle.gptman.specs.Place.{HasNoPlace, IsFreeIn}
 use Rattle.gptman.specs.Reading.{reading_of}
-use Rattle.gptman.specs.Table.{entries_in, new_table}
-use Rattle.gptman.specs.Valid.{IsValid, IsValidity}
-use Rattle.gptman.specs.Write.{write_fault}
+use Rattle.gptman.specs.Table.{new_table}
 use Rattle.gptman.specs.declared.table.GPT.{GPT}
 use Rattle.gptimg_core.specs.Changes.{IsChanged}
 use Rattle.gptimg_core.specs.Reads.{size_for, IsReadFrom, IsSizeFor}
@@ -21,23 +21,11 @@ use Rattle.gptimg_core.specs.declared.words.Change.TheVariants.{Add, Remove, Sor
 use Rattle.gptimg_core.specs.declared.words.Command.{Command}
 use Rattle.gptimg_core.specs.declared.words.Command.TheVariants.{New, Mbr, Check, Show, Free, Change as Changing}
 
--- the disk failed, and the fault says so
-abbrev pub IsFailure : Fault → DiskState → DiskState → Type 0
-IsFailure fault old new = (fault ≡ io) × Rose old new
-
 -- Why a reading is refused: there is no memory, or it is the fault of the reading; where the disk failed, Io or what the copies say.
 pub data RefusesReading (size : Option ℕ) (fault : Fault) (old new : DiskState) : Type 0 where
   no_memory : fault ≡ out_of_memory → RefusesReading size fault old new
   bad_copies : reading_of old.view (size_for old.view size) ≡ Err fault → RefusesReading size fault old new
   disk_failed : Rose old new → (sector : ℕ) → IsSizeFor old.view size sector → IsReadingFault old.view sector fault → RefusesReading size fault old new
-
--- Why a write of a table is refused: there is no memory for its checks, it is not valid, or the disk has no room for it; or the disk failed.
-pub data RefusesWrite (table : GPT) (fault : Fault) (old new : DiskState) : Type 0 where
-  no_memory : fault ≡ out_of_memory → RefusesWrite table fault old new
-  not_valid : IsValidity table.header (entries_in table) (Some fault) → RefusesWrite table fault old new
-  no_room : IsValid table.header (entries_in table) → write_fault table.header table.sector_size old.size ≡ Some fault → RefusesWrite table fault old new
-  disk_failed : IsValid table.header (entries_in table) → write_fault table.header table.sector_size old.size ≢ Some overflow → IsFailure fault old new
-      → RefusesWrite table fault old new
 
 -- Why a new table is refused: there is no memory, its header does not fit the disk, or it cannot be written; or the disk failed.
 pub data RefusesNew (guid : List ℕ) (ss : ℕ) (fault : Fault) (old new : DiskState) : Type 0 where
@@ -45,6 +33,10 @@ pub data RefusesNew (guid : List ℕ) (ss : ℕ) (fault : Fault) (old new : Disk
   no_fit : fit_fault (new_header guid) ss old.size ≡ Some fault → RefusesNew guid ss fault old new
   not_written : fit_fault (new_header guid) ss old.size ≡ None → RefusesWrite (new_table guid ss old.size) fault old new → RefusesNew guid ss fault old new
   disk_failed : IsFailure fault old new → RefusesNew guid ss fault old new
+
+-- why an MBR is refused: the disk is too short for it, or failed
+abbrev pub RefusesMbr : ℕ → Fault → DiskState → DiskState → Type 0
+RefusesMbr ss fault old new = (mbr_fault ss old.size ≡ Some fault) ⊎ IsFailure fault old new
 
 -- Why an addition is refused: there is no entry of its number, or it is used; else there is no place, or no memory.
 pub data RefusesAddition (a : Addition) (g : GPT) (fault : Fault) : Type 0 where
@@ -71,7 +63,7 @@ pub data RefusesChange (size : Option ℕ) (change : Change) (fault : Fault) (ol
 -- Why a command is refused.
 abbrev pub RefusesCommand : Command → Fault → DiskState → DiskState → Type 0
 RefusesCommand (New ss guid) fault old new = RefusesNew guid ss fault old new
-RefusesCommand (Mbr ss bootable) fault old new = (mbr_fault ss old.size ≡ Some fault) ⊎ IsFailure fault old new
+RefusesCommand (Mbr ss bootable) fault old new = RefusesMbr ss fault old new
 RefusesCommand (Check ss) fault old new = (fault ≡ out_of_memory) ⊎ IsFailure fault old new
 RefusesCommand (Show size) fault old new = RefusesReading size fault old new
 RefusesCommand (Free size align) fault old new = RefusesReading size fault old new

@@ -40,8 +40,8 @@ abbrev pub type_in : List ℕ → Option (List ℕ)
 type_in text = option_and_then (λ guid. if bytes_eq guid (replicate 16 0) then None else Some guid) (guid_in text)
 
 -- the size of a sector, or none where the word is `auto`
-abbrev pub sectors_in : List ℕ → Option (Option ℕ)
-sectors_in text = if bytes_eq text (codes "auto") then Some None else option_map (λ size. Some size) (size_in text)
+abbrev pub sector_size_in : List ℕ → Option (Option ℕ)
+sector_size_in text = if bytes_eq text (codes "auto") then Some None else option_map (λ size. Some size) (size_in text)
 
 -- which of the free places
 abbrev pub choice_in : List ℕ → Option Choice
@@ -75,12 +75,12 @@ check_in sector _ = None
 
 -- `show`, with that word, which may be `auto`
 abbrev pub show_in : List ℕ → List (List ℕ) → Option Command
-show_in sector [] = option_map (λ size. Show size) (sectors_in sector)
+show_in sector [] = option_map (λ size. Show size) (sector_size_in sector)
 show_in sector _ = None
 
 -- `free ALIGN`, with that word
 abbrev pub free_in : List ℕ → List (List ℕ) → Option Command
-free_in sector (align ∷ []) = option_and_then (λ size. option_map (λ n. Free size n) (size_in align)) (sectors_in sector)
+free_in sector (align ∷ []) = option_and_then (λ size. option_map (λ n. Free size n) (size_in align)) (sector_size_in sector)
 free_in sector _ = None
 
 -- `NUMBER TYPE UNIQUE SIZE WHERE ALIGN NAME`
@@ -120,7 +120,7 @@ named_change_in name words =
 
 -- a command that changes the table, with the word for the size of a sector
 abbrev pub change_in : List ℕ → List ℕ → List (List ℕ) → Option Command
-change_in sector name words = option_and_then (λ size. option_map (λ change. Changing size change) (named_change_in name words)) (sectors_in sector)
+change_in sector name words = option_and_then (λ size. option_map (λ change. Changing size change) (named_change_in name words)) (sector_size_in sector)
 
 -- the command of a name, with that word and the others
 abbrev pub named_command_in : List ℕ → List ℕ → List (List ℕ) → Option Command

@@ -4,15 +4,17 @@
 //! standard output.
 #![tactic(auto)]
 
-ghost use Rattle.std.specs.Prelude.{◌≡◌, ◌≤◌, ◌↔◌, ◌⊎◌, ◌∷◌, [], ℕ, Bool, List, Option, Ok, None, true, false, codes, if◌then◌else◌, IsTrue, IfOk, IfErr, OnOk};
+ghost use Rattle.std.specs.Prelude.{◌≡◌, ◌≤◌, ◌↔◌, ◌⊎◌, ◌∷◌, [], ℕ, Bool, List, Option, Ok, None};
+ghost use Rattle.std.specs.Prelude.{false, codes, if◌then◌else◌, IfErr, IfOk, OnOk};
 ghost use Rattle.std.specs.Io.KnownBytes.{Appends};
-ghost use Rattle.gptman.specs.Disk.{Keeps, Rose, Wrote, overlay, OnlyRead, Untouched};
+ghost use Rattle.gptman.specs.Crash.{StartsLaidOut};
+ghost use Rattle.gptman.specs.Disk.{FailedOrUntouched, IsHonest, Keeps, OnlyRead, Writes};
 ghost use Rattle.gptman.specs.Fault.{fault_of, io as io_fault};
-ghost use Rattle.gptman.specs.Layout.{HasLayout};
-ghost use Rattle.gptman.specs.Mbr.{mbr_bytes};
+ghost use Rattle.gptman.specs.Mbr.{mbr_range, IsMbrStored};
 ghost use Rattle.gptman.specs.Stop.{IsStored};
-ghost use Rattle.gptman.specs.Write.{both_ranges};
-ghost use Rattle.gptimg_core.specs.Asks.{made_header, made_table, AskFor, IsReader};
+ghost use Rattle.gptman.specs.Table.{new_table, table_in};
+ghost use Rattle.gptman.specs.TableWrites.{table_ranges};
+ghost use Rattle.gptimg_core.specs.Asks.{AskFor, IsReader};
 ghost use Rattle.gptimg_core.specs.Changes.{report_of, LeavesChange, MakesChange};
 ghost use Rattle.gptimg_core.specs.Checks.{is_good, HoldOneTable};
 ghost use Rattle.gptimg_core.specs.Lines.{report_lines, table_lines};
@@ -21,7 +23,8 @@ ghost use Rattle.gptimg_core.specs.Reads.{TellsOfTable};
 ghost use Rattle.gptimg_core.specs.Words.{command_in, texts_of};
 ghost use Rattle.gptimg_core.specs.declared.words.Change.{Change};
 ghost use Rattle.gptimg_core.specs.declared.words.Command.{Command};
-ghost use Rattle.gptimg_core.specs.declared.words.Command.TheVariants.{New, Mbr, Check, Show, Free, Change as Changing};
+ghost use Rattle.gptimg_core.specs.declared.words.Command.TheVariants.{New, Mbr, Check, Show, Free};
+ghost use Rattle.gptimg_core.specs.declared.words.Command.TheVariants.{Change as Changing};
 
 use crate::commands::Report;
 use gptman::{Disk, Result};
@@ -82,53 +85,68 @@ pub fn run<D: Disk, W: Write>(
     // Words of no command leave the disk alone, and print how the program is used.
     ensures usage { result ≡ Ok 2 → disk.new ≡ disk.old }
     ensures not_asked { command_in (texts_of words.now) ≡ None → disk.new ≡ disk.old }
-    ensures prints_usage { command_in (texts_of words.now) ≡ None → OnOk result (Appends (W.contents out.old) (W.contents out.new) USAGE.now) }
+    ensures prints_usage { command_in (texts_of words.now) ≡ None
+        → OnOk result (Appends (W.contents out.old) (W.contents out.new) USAGE.now) }
 
-    // A refused command prints a fault that it has a reason for, and leaves the disk as it was unless it failed.
+    // A refused command prints a fault that it has a reason for, and leaves the disk as it was unless it
+    // failed.
     ensures prints_fault { result ≡ Ok 1
         → PrintsFault (D.state disk.old) (D.state disk.new) (W.contents out.old) (W.contents out.new)
         ⊎ ((ss : ℕ) × AskFor words.now (Check ss)) }
-    ensures prints_refusal { IsTrue (D.state disk.old).is_honest → (command : Command) → AskFor words.now command → result ≡ Ok 1
-        → PrintsRefusal command (D.state disk.old) (D.state disk.new) (W.contents out.old) (W.contents out.new)
+    ensures prints_refusal { IsHonest (D.state disk.old)
+        → (command : Command) → AskFor words.now command → result ≡ Ok 1
+        → PrintsRefusal command (D.state disk.old) (D.state disk.new)
+        (W.contents out.old) (W.contents out.new)
         ⊎ ((ss : ℕ) × (command ≡ Check ss)) }
-    ensures kept { IsTrue (D.state disk.old).is_honest → result ≡ Ok 1
-        → Rose (D.state disk.old) (D.state disk.new) ⊎ Untouched (D.state disk.old) (D.state disk.new) }
+    ensures kept { IsHonest (D.state disk.old) → result ≡ Ok 1
+        → FailedOrUntouched (D.state disk.old) (D.state disk.new) }
 
     // Commands that read.
-    ensures reads { IsTrue (D.state disk.old).is_honest → (command : Command) → AskFor words.now command → IsReader command
-        → OnlyRead (D.state disk.old) (D.state disk.new) }
-    ensures shown { IsTrue (D.state disk.old).is_honest → (size : Option ℕ) → AskFor words.now (Show size) → result ≡ Ok 0
-        → TellsOfTable (λ g. Appends (W.contents out.old) (W.contents out.new) (table_lines g)) size (D.state disk.old) (D.state disk.new) }
-    ensures free { IsTrue (D.state disk.old).is_honest → (size : Option ℕ) (align : ℕ) → AskFor words.now (Free size align) → result ≡ Ok 0
-        → TellsOfTable (λ g. PrintsSlots g align (W.contents out.old) (W.contents out.new)) size (D.state disk.old) (D.state disk.new) }
-    ensures same { IsTrue (D.state disk.old).is_honest → (ss : ℕ) → AskFor words.now (Check ss) → result ≡ Ok 0
+    ensures reads { IsHonest (D.state disk.old) → (command : Command) → AskFor words.now command
+        → IsReader command → OnlyRead (D.state disk.old) (D.state disk.new) }
+    ensures shown { IsHonest (D.state disk.old) → (size : Option ℕ) → AskFor words.now (Show size)
+        → result ≡ Ok 0
+        → TellsOfTable (λ g. Appends (W.contents out.old) (W.contents out.new) (table_lines g)) size
+        (D.state disk.old) (D.state disk.new) }
+    ensures free { IsHonest (D.state disk.old) → (size : Option ℕ) (align : ℕ)
+        → AskFor words.now (Free size align) → result ≡ Ok 0
+        → TellsOfTable (λ g. PrintsSlots g align (W.contents out.old) (W.contents out.new)) size
+        (D.state disk.old) (D.state disk.new) }
+    ensures same { IsHonest (D.state disk.old) → (ss : ℕ) → AskFor words.now (Check ss) → result ≡ Ok 0
         → HoldOneTable (D.state disk.old).view ss
         × Appends (W.contents out.old) (W.contents out.new) (codes "primary ok\nbackup ok\nsame yes\n") }
-    ensures differ { IsTrue (D.state disk.old).is_honest → (ss : ℕ) → AskFor words.now (Check ss) → result ≡ Ok 1
-        → PrintsRefusal (Check ss) (D.state disk.old) (D.state disk.new) (W.contents out.old) (W.contents out.new)
-        ⊎ PrintsCopies ss false (D.state disk.old) (D.state disk.new) (W.contents out.old) (W.contents out.new) }
+    ensures differ { IsHonest (D.state disk.old) → (ss : ℕ) → AskFor words.now (Check ss) → result ≡ Ok 1
+        → PrintsRefusal (Check ss) (D.state disk.old) (D.state disk.new)
+        (W.contents out.old) (W.contents out.new)
+        ⊎ PrintsCopies ss false (D.state disk.old) (D.state disk.new)
+        (W.contents out.old) (W.contents out.new) }
 
     // A new table.
     ensures prints_ok { (ss : ℕ) (guid : List ℕ) → AskFor words.now (New ss guid)
         → result ≡ Ok 0 → Appends (W.contents out.old) (W.contents out.new) (codes "ok\n") }
-    ensures wrote { IsTrue (D.state disk.old).is_honest → (ss : ℕ) (guid : List ℕ) → AskFor words.now (New ss guid)
-        → Wrote (both_ranges (made_header guid ss (D.state disk.old).size) ss) (D.state disk.old) (D.state disk.new) }
-    ensures stored { IsTrue (D.state disk.old).is_honest → (ss : ℕ) (guid : List ℕ) → AskFor words.now (New ss guid)
-        → HasLayout (made_header guid ss (D.state disk.old).size) (made_table guid ss (D.state disk.old).size) ss (D.state disk.old).size
-        → result ≡ Ok 0 → IsStored (D.state disk.new) ss (made_table guid ss (D.state disk.old).size) }
+    ensures wrote { (ss : ℕ) (guid : List ℕ) → AskFor words.now (New ss guid)
+        → Writes (table_ranges (new_table guid ss (D.state disk.old).size))
+        (D.state disk.old) (D.state disk.new) }
+    ensures stored { (ss : ℕ) (guid : List ℕ) → AskFor words.now (New ss guid)
+        → StartsLaidOut (D.state disk.old) (new_table guid ss (D.state disk.old).size) → result ≡ Ok 0
+        → IsStored (D.state disk.new) ss (table_in (new_table guid ss (D.state disk.old).size)) }
 
     // A protective MBR.
-    ensures mbr_wrote { IsTrue (D.state disk.old).is_honest → (ss : ℕ) (bootable : Bool) → AskFor words.now (Mbr ss bootable)
-        → Wrote ((446, 66) ∷ []) (D.state disk.old) (D.state disk.new) }
-    ensures mbr_stored { IsTrue (D.state disk.old).is_honest → (ss : ℕ) (bootable : Bool) → AskFor words.now (Mbr ss bootable) → result ≡ Ok 0
+    ensures mbr_wrote { (ss : ℕ) (bootable : Bool) → AskFor words.now (Mbr ss bootable)
+        → Writes (mbr_range ∷ []) (D.state disk.old) (D.state disk.new) }
+    ensures mbr_stored { IsHonest (D.state disk.old) → (ss : ℕ) (bootable : Bool)
+        → AskFor words.now (Mbr ss bootable) → result ≡ Ok 0
         → Appends (W.contents out.old) (W.contents out.new) (codes "ok\n")
-        × ((D.state disk.new).view ≡ overlay (D.state disk.old).view 446 (mbr_bytes bootable ss (D.state disk.old).size))
-        × ((D.state disk.new).pending ≡ []) }
+        × IsMbrStored bootable ss (D.state disk.old) (D.state disk.new) }
 
     // A changed table: what is stored is the table that was read, after that change.
-    ensures changed { IsTrue (D.state disk.old).is_honest → (size : Option ℕ) (change : Change) → AskFor words.now (Changing size change) → result ≡ Ok 0
-        → MakesChange (λ g. Appends (W.contents out.old) (W.contents out.new) (report_lines (report_of change g))) size change (D.state disk.old) (D.state disk.new) }
-    ensures leaves { IsTrue (D.state disk.old).is_honest → (size : Option ℕ) (change : Change) → AskFor words.now (Changing size change)
+    ensures changed { IsHonest (D.state disk.old) → (size : Option ℕ) (change : Change)
+        → AskFor words.now (Changing size change) → result ≡ Ok 0
+        → MakesChange (λ g. Appends
+        (W.contents out.old) (W.contents out.new) (report_lines (report_of change g)))
+        size change (D.state disk.old) (D.state disk.new) }
+    ensures leaves { IsHonest (D.state disk.old) → (size : Option ℕ) (change : Change)
+        → AskFor words.now (Changing size change)
         → LeavesChange size change (D.state disk.old) (D.state disk.new) }
 {
     let Some(command) = words::parse(words) else {

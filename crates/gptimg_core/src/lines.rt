@@ -8,13 +8,16 @@ ghost use Rattle.std.specs.List.{enumerate_from};
 ghost use Rattle.gptman.specs.Fault.{fault_of};
 ghost use Rattle.gptman.specs.Table.{entries_in};
 ghost use Rattle.gptimg_core.specs.Names.{fault_line, fault_name, variant_name};
-ghost use Rattle.gptimg_core.specs.Lines.{check_lines, copy_line, entry_line, entry_lines, form_name as form_name_of, report_lines, shown_byte, shown_text, slot_lines, table_line, table_lines};
-ghost use Rattle.gptimg_core.specs.Checks.{seen_as};
+ghost use Rattle.gptimg_core.specs.Lines.{check_lines, copy_line, entry_line, entry_lines};
+ghost use Rattle.gptimg_core.specs.Lines.{form_name as form_name_of, report_lines, shown_byte, shown_text};
+ghost use Rattle.gptimg_core.specs.Lines.{slot_lines, table_line, table_lines};
+ghost use Rattle.gptman.specs.Copy.{copy_of_whole};
 ghost use Rattle.gptman.specs.Answers.{answer_of};
 
 use crate::commands::Report;
-use crate::commands::check::{BothCopies, FoundCopy};
+use crate::commands::check::BothCopies;
 use gptman::{Error, GPT, GPTHeader, GPTPartitionEntry, Result};
+use gptman_copy::copy::WholeCopy;
 use std::io;
 use std::io::Write;
 
@@ -25,7 +28,7 @@ pub fn print_report<W: Write>(out: &mut W, report: &Report) -> io::Result<()>
     ensures { OnOk result (Appends (W.contents out.old) (W.contents out.new) (report_lines report.now)) }
 {
     match report {
-        Report::Written => out.write_all(b"ok\n"),
+        Report::Done => out.write_all(b"ok\n"),
         Report::Table(table) => print_table(out, table),
         Report::Slots(slots) => print_slots(out, slots.as_slice()),
         Report::Added {
@@ -51,7 +54,8 @@ fn print_slots<W: Write>(out: &mut W, slots: &[(u64, u64)]) -> io::Result<()>
 // Prints what the two copies are, and whether they are one table.
 fn print_copies<W: Write>(out: &mut W, copies: &BothCopies) -> io::Result<()>
     ensures { OnOk result (Appends (W.contents out.old) (W.contents out.new)
-        (check_lines (answer_of seen_as copies.now.primary) (answer_of seen_as copies.now.backup) copies.now.are_same)) }
+        (check_lines (answer_of copy_of_whole copies.now.primary)
+        (answer_of copy_of_whole copies.now.backup) copies.now.are_same)) }
 {
     print_copy(out, "primary", &copies.primary)?;
     print_copy(out, "backup", &copies.backup)?;
@@ -64,8 +68,9 @@ fn print_copies<W: Write>(out: &mut W, copies: &BothCopies) -> io::Result<()>
 }
 
 // Prints that the copy at the place of this name is good, or its fault.
-fn print_copy<W: Write>(out: &mut W, place: &str, copy: &Result<FoundCopy>) -> io::Result<()>
-    ensures { OnOk result (Appends (W.contents out.old) (W.contents out.new) (copy_line place.now (answer_of seen_as copy.now))) }
+fn print_copy<W: Write>(out: &mut W, place: &str, copy: &Result<WholeCopy>) -> io::Result<()>
+    ensures { OnOk result (Appends
+        (W.contents out.old) (W.contents out.new) (copy_line place.now (answer_of copy_of_whole copy.now))) }
 {
     out.write_all(place.as_bytes())?;
     let Err(fault) = copy else {
@@ -87,7 +92,8 @@ fn print_table<W: Write>(out: &mut W, table: &GPT) -> io::Result<()>
 
 // Prints a line for each used entry, in order.
 fn print_entries<W: Write>(out: &mut W, table: &GPT) -> io::Result<()>
-    ensures { OnOk result (Appends (W.contents out.old) (W.contents out.new) (entry_lines (enumerate_from 1 (entries_in table.now)))) }
+    ensures { OnOk result (Appends
+        (W.contents out.old) (W.contents out.new) (entry_lines (enumerate_from 1 (entries_in table.now)))) }
 {
     for (number, entry) in table.iter() {
         if entry.is_used() {
@@ -99,7 +105,8 @@ fn print_entries<W: Write>(out: &mut W, table: &GPT) -> io::Result<()>
 
 // Prints the line of an entry under its number.
 fn print_entry<W: Write>(out: &mut W, number: u32, entry: &GPTPartitionEntry) -> io::Result<()>
-    ensures { OnOk result (Appends (W.contents out.old) (W.contents out.new) (entry_line (number, entry.now))) }
+    ensures { OnOk result (Appends
+        (W.contents out.old) (W.contents out.new) (entry_line (number, entry.now))) }
 {
     write!(out, "{number} ")?;
     print_guids(out, entry)?;
@@ -115,7 +122,8 @@ fn print_entry<W: Write>(out: &mut W, number: u32, entry: &GPTPartitionEntry) ->
 // Prints the type of the entry, and its own GUID.
 fn print_guids<W: Write>(out: &mut W, entry: &GPTPartitionEntry) -> io::Result<()>
     ensures { OnOk result (Appends (W.contents out.old) (W.contents out.new)
-        (encode_lower entry.now.partition_type_guid ++ (codes " " ++ encode_lower entry.now.unique_partition_guid))) }
+        (encode_lower entry.now.partition_type_guid ++
+        (codes " " ++ encode_lower entry.now.unique_partition_guid))) }
 {
     out.write_all(&guid_text(&entry.partition_type_guid))?;
     out.write_all(b" ")?;
@@ -192,7 +200,8 @@ fn guid_text(guid: &[u8; 16]) -> [u8; 32]
 ///
 /// An error comes only where `out` failed.
 pub fn print_fault<W: Write>(out: &mut W, fault: &Error) -> io::Result<()>
-    ensures { OnOk result (Appends (W.contents out.old) (W.contents out.new) (fault_line (fault_of fault.now))) }
+    ensures { OnOk result (Appends
+        (W.contents out.old) (W.contents out.new) (fault_line (fault_of fault.now))) }
 {
     out.write_all(b"fault: ")?;
     print_name(out, fault)?;
@@ -202,7 +211,8 @@ pub fn print_fault<W: Write>(out: &mut W, fault: &Error) -> io::Result<()>
 // Prints the error's name, without its numbers. Of a reading that failed in both places the two
 // faults follow.
 fn print_name<W: Write>(out: &mut W, fault: &Error) -> io::Result<()>
-    ensures { OnOk result (Appends (W.contents out.old) (W.contents out.new) (fault_name (fault_of fault.now))) }
+    ensures { OnOk result (Appends
+        (W.contents out.old) (W.contents out.new) (fault_name (fault_of fault.now))) }
 {
     let Error::ReadError(primary, backup) = fault else {
         return out.write_all(name_of(fault).as_bytes());

@@ -3,10 +3,13 @@
 //! No disk is known here. Words that ask for no command are `None`, whatever is wrong with them.
 
 ghost use Rattle.std.specs.Prelude.{◌≡◌, IfSome};
-ghost use Rattle.gptimg_core.specs.Words.{addition_in, alone, change_in, named_change_in, named_command_in, check_in, command_in, free_in, mbr_in, new_in, remove_in, show_in, texts_of, IsSized, IsSizedAddition, IsSizedChange};
+ghost use Rattle.gptimg_core.specs.Words.{addition_in, alone, change_in, named_change_in, named_command_in};
+ghost use Rattle.gptimg_core.specs.Words.{check_in, command_in, free_in, mbr_in, new_in, remove_in, show_in};
+ghost use Rattle.gptimg_core.specs.Words.{texts_of, IsSized, IsSizedAddition, IsSizedChange};
 
 use crate::words::values::{
-    parse_choice, parse_entry_number, parse_guid, parse_kind, parse_sectors, parse_size, parse_type,
+    parse_choice, parse_entry_number, parse_guid, parse_kind, parse_sector_size, parse_size,
+    parse_type,
 };
 use std::marker::Model;
 
@@ -186,7 +189,7 @@ fn parse_show<'a>(sector: &str, arguments: &'a [String]) -> Option<Command<'a>>
         return None;
     }
     Some(Command::Show {
-        sector_size: parse_sectors(sector)?,
+        sector_size: parse_sector_size(sector)?,
     })
 }
 
@@ -199,7 +202,7 @@ fn parse_free<'a>(sector: &str, arguments: &'a [String]) -> Option<Command<'a>>
         return None;
     };
     Some(Command::Free {
-        sector_size: parse_sectors(sector)?,
+        sector_size: parse_sector_size(sector)?,
         align: parse_size(align.as_str())?,
     })
 }
@@ -210,7 +213,7 @@ fn parse_change<'a>(sector: &str, name: &str, arguments: &'a [String]) -> Option
     ensures value { result ≡ change_in sector.now name.now (texts_of arguments.now) }
 {
     Some(Command::Change {
-        sector_size: parse_sectors(sector)?,
+        sector_size: parse_sector_size(sector)?,
         change: parse_named_change(name, arguments)?,
     })
 }

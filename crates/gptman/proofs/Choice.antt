@@ -5,11 +5,11 @@ use Rattle.std.specs.List.{All, AllPairs}
 use Rattle.std.proofs.lemmas.Bool.{cases_lt}
 use Rattle.std.proofs.lemmas.List.{take_more, get_or-take, get_or_default, length-take}
 use Rattle.std.proofs.lemmas.List.Elements.{All-push, All-weaker, Contains-append_left, Contains-push, Contains-get_or, All-contains}
-use Rattle.gptman.specs.Chosen.{AreShort, IsChosen, IsBefore, IsEarlier, IsLater, IsTighter}
+use Rattle.gptman.specs.Chosen.{AreShort, IsBestSlot, IsBefore, IsNoLater, IsNoEarlier, IsTighter}
 
 -- a slot that no earlier one beats is chosen now
 pub chosen_now : (better : ℕ × ℕ → ℕ × ℕ → Type 0) (n : ℕ) (slots : List (ℕ × ℕ)) (s : ℕ × ℕ) → n ≤ s.1 → better s s → All (λ t. n ≤ t.1 → better s t) slots
-    → IsChosen better n (slots ++ s ∷ []) s
+    → IsBestSlot better n (slots ++ s ∷ []) s
 chosen_now better n slots s fits itself all = record {
   member = Contains-push slots s;
   fits = fits;
@@ -17,8 +17,8 @@ chosen_now better n slots s fits itself all = record {
 }
 
 -- the chosen one stays
-pub chosen_still : (better : ℕ × ℕ → ℕ × ℕ → Type 0) (n : ℕ) (slots : List (ℕ × ℕ)) (s t : ℕ × ℕ) → IsChosen better n slots s → (n ≤ t.1 → better s t)
-    → IsChosen better n (slots ++ t ∷ []) s
+pub chosen_still : (better : ℕ × ℕ → ℕ × ℕ → Type 0) (n : ℕ) (slots : List (ℕ × ℕ)) (s t : ℕ × ℕ) → IsBestSlot better n slots s → (n ≤ t.1 → better s t)
+    → IsBestSlot better n (slots ++ t ∷ []) s
 chosen_still better n slots s t c no_better = record {
   member = Contains-append_left slots (t ∷ []) s c.member;
   fits = c.fits;
@@ -40,7 +40,7 @@ all_before slots i d pairs h k e within =
 
 -- what a loop over the slots keeps
 abbrev pub SoFar : (ℕ × ℕ → ℕ × ℕ → Type 0) → ℕ → List (ℕ × ℕ) → Option (ℕ × ℕ) → Type 0
-SoFar better n slots found = MatchOption found (AreShort n slots) (λ s. IsChosen better n slots s)
+SoFar better n slots found = MatchOption found (AreShort n slots) (λ s. IsBestSlot better n slots s)
 
 -- the slot at i is passed over
 pub kept_more : (better : ℕ × ℕ → ℕ × ℕ → Type 0) (n : ℕ) (slots : List (ℕ × ℕ)) (i : ℕ) (found : Option (ℕ × ℕ)) → i < length slots
@@ -50,19 +50,19 @@ pub kept_more : (better : ℕ × ℕ → ℕ × ℕ → Type 0) (n : ℕ) (slots
 kept_more better n slots i None h all short =
     subst (λ (l : List (ℕ × ℕ)). AreShort n l) (sym (take_more slots i (0, 0) h)) (short_still n (take i slots) (get_or slots i (0, 0)) all short)
 kept_more better n slots i (Some s) h c no_better =
-    subst (λ (l : List (ℕ × ℕ)). IsChosen better n l s) (sym (take_more slots i (0, 0) h))
+    subst (λ (l : List (ℕ × ℕ)). IsBestSlot better n l s) (sym (take_more slots i (0, 0) h))
     (chosen_still better n (take i slots) s (get_or slots i (0, 0)) c no_better)
 
 -- the slot at i is taken
 pub taken_more : (better : ℕ × ℕ → ℕ × ℕ → Type 0) (n : ℕ) (slots : List (ℕ × ℕ)) (i : ℕ) → i < length slots → let s = get_or slots i (0, 0) in n ≤ s.1
     → better s s → All (λ t. n ≤ t.1 → better s t) (take i slots) → SoFar better n (take (i + 1) slots) (Some s)
 taken_more better n slots i h fits itself all =
-    subst (λ (l : List (ℕ × ℕ)). IsChosen better n l (get_or slots i (0, 0))) (sym (take_more slots i (0, 0) h))
+    subst (λ (l : List (ℕ × ℕ)). IsBestSlot better n l (get_or slots i (0, 0))) (sym (take_more slots i (0, 0) h))
     (chosen_now better n (take i slots) (get_or slots i (0, 0)) fits itself all)
 
 -- the first slot that is long enough
 pub first_taken : (n : ℕ) (slots : List (ℕ × ℕ)) (i : ℕ) → AllPairs IsBefore slots → i < length slots → AreShort n (take i slots)
-    → n ≤ (get_or slots i (0, 0)).1 → IsChosen IsEarlier n slots (get_or slots i (0, 0))
+    → n ≤ (get_or slots i (0, 0)).1 → IsBestSlot IsNoLater n slots (get_or slots i (0, 0))
 first_taken n slots i pairs h short fits = record {
   member = Contains-get_or slots i (0, 0) h;
   fits = fits;
@@ -87,16 +87,16 @@ first_taken n slots i pairs h short fits = record {
 
 -- the last so far
 pub last_taken : (n : ℕ) (slots : List (ℕ × ℕ)) (i : ℕ) → AllPairs IsBefore slots → i < length slots → n ≤ (get_or slots i (0, 0)).1
-    → SoFar IsLater n (take (i + 1) slots) (Some (get_or slots i (0, 0)))
-last_taken n slots i pairs h fits = taken_more IsLater n slots i h fits (omega arith)
-    (All-weaker (λ t. IsBefore t (get_or slots i (0, 0))) (λ t. n ≤ t.1 → IsLater (get_or slots i (0, 0)) t) (λ t less long. omega arith) (take i slots)
+    → SoFar IsNoEarlier n (take (i + 1) slots) (Some (get_or slots i (0, 0)))
+last_taken n slots i pairs h fits = taken_more IsNoEarlier n slots i h fits (omega arith)
+    (All-weaker (λ t. IsBefore t (get_or slots i (0, 0))) (λ t. n ≤ t.1 → IsNoEarlier (get_or slots i (0, 0)) t) (λ t less long. omega arith) (take i slots)
     (all_before slots i (0, 0) pairs h))
 
 -- a slot that is too short changes nothing
-pub last_kept : (n : ℕ) (slots : List (ℕ × ℕ)) (i : ℕ) (found : Option (ℕ × ℕ)) → i < length slots → SoFar IsLater n (take i slots) found
-    → (get_or slots i (0, 0)).1 < n → SoFar IsLater n (take (i + 1) slots) found
-last_kept n slots i None h all short = kept_more IsLater n slots i None h all short
-last_kept n slots i (Some s) h c short = kept_more IsLater n slots i (Some s) h c (λ long. absurd (omega arith))
+pub last_kept : (n : ℕ) (slots : List (ℕ × ℕ)) (i : ℕ) (found : Option (ℕ × ℕ)) → i < length slots → SoFar IsNoEarlier n (take i slots) found
+    → (get_or slots i (0, 0)).1 < n → SoFar IsNoEarlier n (take (i + 1) slots) found
+last_kept n slots i None h all short = kept_more IsNoEarlier n slots i None h all short
+last_kept n slots i (Some s) h c short = kept_more IsNoEarlier n slots i (Some s) h c (λ long. absurd (omega arith))
 
 shorter_than : (n : ℕ) (s b t : ℕ × ℕ) → s.1 < b.1 → IsTighter b t → IsTighter s t
 shorter_than n s b t less (inl more) = inl (omega arith)

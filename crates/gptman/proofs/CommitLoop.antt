@@ -5,20 +5,21 @@ use Rattle.std.proofs.lemmas.Bool.{cases_lt}
 use Rattle.std.proofs.lemmas.List.{append-nil, take-append-le, take_all}
 use Rattle.std.proofs.lemmas.List.FromFn.{length-map-range_with_len, get_or-map-range_with_len}
 use Rattle.std.proofs.lemmas.List.Sums.{fold-append}
-use Rattle.gptman.specs.TableWrites.{sealed_value}
+use Rattle.gptman.specs.TableWrites.{table_write_fault, value_with_checksums, IsButSums, RefusesWrite}
+use Rattle.gptman.specs.TableWrites.RefusesWrite.{no_memory, not_valid, no_room, disk_failed}
 use Rattle.gptman_copy.specs.Disk.{OnlyRead, DiskState, Image, IsSound, Keeps, LeavesOnly, Rose, Wrote}
 use Rattle.gptman_copy.specs.Coding.{array_bytes}
-use Rattle.gptman.specs.Commit.{is_io, tables_to, value_after, IsAccepted, IsAcceptedAt, IsButSums, IsRefusedAt, RefusesEdit, Stands}
-use Rattle.gptman.specs.Commit.RefusesEdit.{not_applied, no_memory, not_valid, no_room, not_written}
+use Rattle.gptman.specs.Commit.{is_io, tables_to, value_after, IsAllowed, IsAllowedAt, IsRefusedAt, RefusesEdit, Stands}
+use Rattle.gptman.specs.Commit.RefusesEdit.{not_applied, not_written}
 use Rattle.gptman.specs.Crash.{IsKeptFor}
 use Rattle.gptman_copy.specs.Crc.{crc_of}
-use Rattle.gptman.specs.Edit.{edited, edit_fault, table_after}
+use Rattle.gptman.specs.Edit.{after_edit, edit_fault, table_after}
 use Rattle.gptman_copy.specs.Fault.{Fault, io, no_space_left, overflow}
 use Rattle.gptman.specs.Layout.{HasLayout, Holds}
-use Rattle.gptman.specs.Reading.{Place, primary, backup}
+use Rattle.gptman.specs.Reading.{Side, primary, backup}
 use Rattle.gptman.specs.Stop.{HoldsOneOf, IsStored}
 use Rattle.gptman.specs.Table.{Table, entries_in, table_in}
-use Rattle.gptman_copy.specs.Copy.{sealed, IsCoherent}
+use Rattle.gptman_copy.specs.Copy.{with_checksums, IsCoherent}
 use Rattle.gptman.specs.Valid.{HasGoodBoundaries, IsValid, IsValidity}
 use Rattle.gptman.specs.Valid.IsValidity.{shared_guid, bad_boundaries, valid}
 use Rattle.gptman_copy.specs.Write.{both_ranges, write_fault}
@@ -26,7 +27,7 @@ use Rattle.gptman_copy.specs.declared.codec.header.GPTHeader.{GPTHeader}
 use Rattle.gptman.specs.declared.edit.Edit.{Edit}
 use Rattle.gptman.specs.declared.edit.Edit.TheVariants.{Put, Remove, SortEntries, DiskGuid}
 use Rattle.gptman.specs.declared.table.GPT.{GPT}
-use Rattle.gptman.proofs.Commits.{KeepsPlaces, edited_keeps, keeps_both, layout_still, leaves_kept, ranges_still, room_still, sums_keep}
+use Rattle.gptman.proofs.Commits.{KeepsRanges, edited_keeps, keeps_both, layout_still, leaves_kept, ranges_still, room_still, sums_keep}
 use Rattle.gptman.proofs.OneGood.{stored_is_kept}
 use Rattle.gptman_copy.proofs.Runs.{keeps_then, leaves_then, rose_since, wrote_not, wrote_then}
 use Rattle.gptman_copy.proofs.Ranges.{Ranges, within_self}
@@ -54,7 +55,7 @@ sums_then g mid new first second =
     subst (IsButSums g) (sym c) (sums_of g new.header.crc32_checksum new.header.partition_entry_array_crc32)
 
 -- an edit of it is the edited value with these checksums
-edited_summed : (g : GPT) (edit : Edit) (own array : ℕ) → edited (summed g own array) edit ≡ summed (edited g edit) own array
+edited_summed : (g : GPT) (edit : Edit) (own array : ℕ) → after_edit (summed g own array) edit ≡ summed (after_edit g edit) own array
 edited_summed g (Put i e) own array = refl
 edited_summed g (Remove i) own array = refl
 edited_summed g SortEntries own array = refl
@@ -66,11 +67,11 @@ fault_summed g (Remove i) own array = refl
 fault_summed g SortEntries own array = refl
 fault_summed g (DiskGuid guid) own array = refl
 
-pub edited_sums : (g new : GPT) (edit : Edit) → IsButSums g new → IsButSums (edited g edit) (edited new edit)
+pub edited_sums : (g new : GPT) (edit : Edit) → IsButSums g new → IsButSums (after_edit g edit) (after_edit new edit)
 edited_sums g new edit is =
     let own : ℕ = new.header.crc32_checksum in
     let array : ℕ = new.header.partition_entry_array_crc32 in
-    subst (IsButSums (edited g edit)) (sym (ap (λ (x : GPT). edited x edit) (is_summed g new is) ∙ edited_summed g edit own array)) (sums_of (edited g edit) own array)
+    subst (IsButSums (after_edit g edit)) (sym (ap (λ (x : GPT). after_edit x edit) (is_summed g new is) ∙ edited_summed g edit own array)) (sums_of (after_edit g edit) own array)
 
 pub fault_sums : (g new : GPT) (edit : Edit) → IsButSums g new → edit_fault new edit ≡ edit_fault g edit
 fault_sums g new edit is = ap (λ (x : GPT). edit_fault x edit) (is_summed g new is) ∙ fault_summed g edit new.header.crc32_checksum new.header.partition_entry_array_crc32
@@ -92,55 +93,66 @@ validity_summed g own array fault (shared_guid shared said) = shared_guid shared
 validity_summed g own array fault (bad_boundaries own_guids bad said) = bad_boundaries own_guids (λ good. bad (good_summed g own array good)) said
 validity_summed g own array fault (valid is said) = valid (valid_summed g own array is) said
 
-pub accepted_sums : (g new : GPT) (edit : Edit) → IsButSums g new → IsAccepted new edit → IsAccepted g edit
+pub accepted_sums : (g new : GPT) (edit : Edit) → IsButSums g new → IsAllowed new edit → IsAllowed g edit
 accepted_sums g new edit is accepted =
     let own : ℕ = new.header.crc32_checksum in
     let array : ℕ = new.header.partition_entry_array_crc32 in
-    let moved : edited new edit ≡ summed (edited g edit) own array = ap (λ (x : GPT). edited x edit) (is_summed g new is) ∙ edited_summed g edit own array in
+    let moved : after_edit new edit ≡ summed (after_edit g edit) own array = ap (λ (x : GPT). after_edit x edit) (is_summed g new is) ∙ edited_summed g edit own array in
     record {
       number = sym (fault_sums g new edit is) ∙ accepted.number;
-      valid = valid_summed (edited g edit) own array (subst (λ (x : GPT). IsValid x.header (entries_in x)) moved accepted.valid);
+      valid = valid_summed (after_edit g edit) own array (subst (λ (x : GPT). IsValid x.header (entries_in x)) moved accepted.valid);
     }
+
+-- nor does a write
+write_sums : (g new : GPT) (fault : Fault) (a b c : DiskState) → IsButSums g new → Keeps a b → RefusesWrite new fault b c → RefusesWrite g fault a c
+write_sums g new fault a b c is keeps = by_case
+  where
+    own : ℕ
+    own = new.header.crc32_checksum
+
+    array : ℕ
+    array = new.header.partition_entry_array_crc32
+
+    good_sums : IsValid new.header (entries_in new) → IsValid g.header (entries_in g)
+    good_sums good = valid_summed g own array (subst (λ (x : GPT). IsValid x.header (entries_in x)) (is_summed g new is) good)
+
+    same : table_write_fault new b.size ≡ table_write_fault g a.size
+    same = room_still g new (sums_keep g new is) b.size ∙ ap (table_write_fault g) keeps.size
+
+    by_case : RefusesWrite new fault b c → RefusesWrite g fault a c
+    by_case (no_memory out) = no_memory out
+    by_case (not_valid validity) =
+        not_valid (validity_summed g own array (Some fault) (subst (λ (x : GPT). IsValidity x.header (entries_in x) (Some fault)) (is_summed g new is) validity))
+    by_case (no_room good full) = no_room (good_sums good) (sym same ∙ full)
+    by_case (disk_failed good near failed) = disk_failed (good_sums good) (λ far. near (same ∙ far)) (failed.0, rose_since a b c keeps failed.1)
 
 pub refused_sums : (g new last : GPT) (edit : Edit) (fault : Fault) (a b c : DiskState) → IsButSums g new → Keeps a b → RefusesEdit new edit fault last b c → RefusesEdit g edit fault last a c
 refused_sums g new last edit fault a b c is keeps (not_applied why sums) =
     not_applied (⊎_elim (λ said. inl (sym (fault_sums g new edit is) ∙ said)) (λ out. inr out) why) (sums_then g new last is sums)
-refused_sums g new last edit fault a b c is keeps (no_memory none out sums) =
-    no_memory (sym (fault_sums g new edit is) ∙ none) out (sums_then (edited g edit) (edited new edit) last (edited_sums g new edit is) sums)
-refused_sums g new last edit fault a b c is keeps (not_valid none validity sums) =
-    let own : ℕ = new.header.crc32_checksum in
-    let array : ℕ = new.header.partition_entry_array_crc32 in
-    let moved : edited new edit ≡ summed (edited g edit) own array = ap (λ (x : GPT). edited x edit) (is_summed g new is) ∙ edited_summed g edit own array in
-    not_valid (sym (fault_sums g new edit is) ∙ none)
-    (validity_summed (edited g edit) own array (Some fault) (subst (λ (x : GPT). IsValidity x.header (entries_in x) (Some fault)) moved validity))
-    (sums_then (edited g edit) (edited new edit) last (edited_sums g new edit is) sums)
-refused_sums g new last edit fault a b c is keeps (no_room accepted full sums) =
+refused_sums g new last edit fault a b c is keeps (not_written none refused sums) =
     let more = edited_sums g new edit is in
-    let same : write_fault (edited new edit).header (edited new edit).sector_size b.size ≡ write_fault (edited g edit).header (edited g edit).sector_size a.size =
-    room_still (edited g edit) (edited new edit) (sums_keep (edited g edit) (edited new edit) more) b.size ∙ ap (write_fault (edited g edit).header (edited g edit).sector_size) keeps.size in
-    no_room (accepted_sums g new edit is accepted) (sym same ∙ full) (sums_then (edited g edit) (edited new edit) last more sums)
-refused_sums g new last edit fault a b c is keeps (not_written accepted failed rose sums) =
-    not_written (accepted_sums g new edit is accepted) failed (rose_since a b c keeps rose) (sums_then (edited g edit) (edited new edit) last (edited_sums g new edit is) sums)
+    not_written (sym (fault_sums g new edit is) ∙ none) (write_sums (after_edit g edit) (after_edit new edit) fault a b c more keeps refused)
+    (sums_then (after_edit g edit) (after_edit new edit) last more sums)
 
 -- ---- the value after some of the edits
 
-sealed_sums : (g : GPT) → IsButSums g (sealed_value g)
-unfolding sealed
+sealed_sums : (g : GPT) → IsButSums g (value_with_checksums g)
+unfolding with_checksums
 sealed_sums g = (refl, refl)
 
 -- made checksums do not depend on those that were there
-sealed_summed : (g : GPT) (own array : ℕ) → length g.header.signature ≡ 8 → length g.header.revision ≡ 4 → sealed_value (summed g own array) ≡ sealed_value g
-unfolding sealed
+sealed_summed : (g : GPT) (own array : ℕ) → length g.header.signature ≡ 8 → length g.header.revision ≡ 4 → value_with_checksums (summed g own array) ≡ value_with_checksums g
+unfolding with_checksums
 sealed_summed g own array long_s long_r =
     let sum : ℕ = crc_of (array_bytes (entries_in g)) in
     ap (λ (x : ℕ). record g { header = record g.header { crc32_checksum = x; partition_entry_array_crc32 = sum } })
     (cleared_same (record g.header { partition_entry_array_crc32 = sum }) own long_s long_r)
 
-sealed_again : (g new : GPT) → IsButSums g new → length g.header.signature ≡ 8 → length g.header.revision ≡ 4 → sealed_value new ≡ sealed_value g
+sealed_again : (g new : GPT) → IsButSums g new → length g.header.signature ≡ 8 → length g.header.revision ≡ 4 → value_with_checksums new ≡ value_with_checksums g
 sealed_again g new is long_s long_r =
-    ap sealed_value (is_summed g new is) ∙ sealed_summed g new.header.crc32_checksum new.header.partition_entry_array_crc32 long_s long_r
+    ap value_with_checksums (is_summed g new is) ∙ sealed_summed g new.header.crc32_checksum new.header.partition_entry_array_crc32 long_s long_r
 
-value_some : (g : GPT) (edits : List Edit) (k : ℕ) → 0 < k → value_after g edits k ≡ sealed_value (table_after g edits k)
+value_some : (g : GPT) (edits : List Edit) (k : ℕ) → 0 < k → value_after g edits k ≡ value_with_checksums (table_after g edits k)
 value_some g edits zero some = absurd (omega (arith, some))
 value_some g edits (suc k) some = refl
 
@@ -148,17 +160,17 @@ value_some g edits (suc k) some = refl
 
 -- what comes after the first edits does not count for them
 pub after_append : (g : GPT) (made more : List Edit) (k : ℕ) → k ≤ length made → table_after g (made ++ more) k ≡ table_after g made k
-after_append g made more k within = ap (fold edited g) (take-append-le k made more within)
+after_append g made more k within = ap (fold after_edit g) (take-append-le k made more within)
 
-pub after_all : (g : GPT) (made : List Edit) → table_after g made (length made) ≡ fold edited g made
-after_all g made = ap (fold edited g) (take_all (length made) made (omega arith))
+pub after_all : (g : GPT) (made : List Edit) → table_after g made (length made) ≡ fold after_edit g made
+after_all g made = ap (fold after_edit g) (take_all (length made) made (omega arith))
 
--- one place holds the table after some of these edits
+-- one side holds the table after some of these edits
 pub record HoldsSome (g : GPT) (made : List Edit) (b : List ℕ) : Type 0 where
   pub k : ℕ
   pub within : k ≤ length made
-  pub place : Place
-  pub holds : Holds b g.sector_size place (table_in (table_after g made k))
+  pub side : Side
+  pub holds : Holds b g.sector_size side (table_in (table_after g made k))
 
 pub some_more : (g : GPT) (made more : List Edit) (b : List ℕ) → HoldsSome g made b → HoldsSome g (made ++ more) b
 some_more g made more b some =
@@ -166,8 +178,8 @@ some_more g made more b some =
     record {
       k = some.k;
       within = omega (arith, within, length-append made more);
-      place = some.place;
-      holds = subst (λ (x : GPT). Holds b g.sector_size some.place (table_in x)) (sym (after_append g made more some.k some.within)) some.holds;
+      side = some.side;
+      holds = subst (λ (x : GPT). Holds b g.sector_size some.side (table_in x)) (sym (after_append g made more some.k some.within)) some.holds;
     }
 
 listed : (g : GPT) (edits : List Edit) (n k : ℕ) → k ≤ n → Contains (tables_to g edits n) (table_in (table_after g edits k))
@@ -181,10 +193,10 @@ some_listed g made more edits n b is within some =
     let low = some.within in
     let same : table_after g made some.k ≡ table_after g edits some.k = sym (after_append g made more some.k some.within) ∙ ap (λ (es : List Edit). table_after g es some.k) (sym is) in
     record {
-      place = some.place;
+      side = some.side;
       table = table_in (table_after g edits some.k);
       listed = listed g edits n some.k (omega (arith, within, low));
-      holds = subst (λ (x : GPT). Holds b g.sector_size some.place (table_in x)) same some.holds;
+      holds = subst (λ (x : GPT). Holds b g.sector_size some.side (table_in x)) same some.holds;
     }
 
 -- an element of a longer list
@@ -204,68 +216,68 @@ last_is (z ∷ xs) x (suc k) y at is = last_is xs x k y (omega (arith, at)) is
 -- These edits were made and written one after the other, from the value g on the disk a to the value now on the disk b.
 pub record AreMade (g : GPT) (made : List Edit) (now : GPT) (a b : DiskState) : Type 0 where
   pub coherent : IsCoherent now.header (entries_in now)
-  pub places : KeepsPlaces g now
-  pub value : IsButSums (fold edited g made) now
+  pub sides : KeepsRanges g now
+  pub value : IsButSums (fold after_edit g made) now
   pub exact : now ≡ value_after g made (length made)
-  pub accepted : (k : ℕ) → k < length made → IsAcceptedAt g made k
+  pub accepted : (k : ℕ) → k < length made → IsAllowedAt g made k
   pub fits : 0 < length made → write_fault g.header g.sector_size a.size ≡ None
   pub keeps : Keeps a b
   pub wrote : a.is_honest ≡ true → Wrote (both_ranges g.header g.sector_size) a b
   pub untouched : a.is_honest ≡ true → length made ≡ 0 → OnlyRead a b
-  pub stands : a.is_honest ≡ true → HasLayout g.header (table_in g) g.sector_size a.size → ((length made ≡ 0) × OnlyRead a b) ⊎ IsStored b g.sector_size (table_in now)
-  pub kept : a.is_honest ≡ true → HasLayout g.header (table_in g) g.sector_size a.size → IsKeptFor a g (table_in g) → IsKeptFor b now (table_in now)
-  pub leaves : a.is_honest ≡ true → HasLayout g.header (table_in g) g.sector_size a.size → IsKeptFor a g (table_in g) → LeavesOnly a b (HoldsSome g made)
+  pub stands : a.is_honest ≡ true → HasLayout g a.size → ((length made ≡ 0) × OnlyRead a b) ⊎ IsStored b g.sector_size (table_in now)
+  pub kept : a.is_honest ≡ true → HasLayout g a.size → IsKeptFor a g (table_in g) → IsKeptFor b now (table_in now)
+  pub leaves : a.is_honest ≡ true → HasLayout g a.size → IsKeptFor a g (table_in g) → LeavesOnly a b (HoldsSome g made)
 
 -- What the next edit does where it is made and written.
 pub record IsMade (g : GPT) (edit : Edit) (new : GPT) (a b : DiskState) : Type 0 where
   pub coherent : IsCoherent new.header (entries_in new)
-  pub accepted : IsAccepted g edit
+  pub accepted : IsAllowed g edit
   pub fits : write_fault g.header g.sector_size a.size ≡ None
-  pub value : new ≡ sealed_value (edited g edit)
+  pub value : new ≡ value_with_checksums (after_edit g edit)
   pub keeps : Keeps a b
   pub wrote : a.is_honest ≡ true → Wrote (both_ranges g.header g.sector_size) a b
-  pub stored : a.is_honest ≡ true → HasLayout g.header (table_in g) g.sector_size a.size → IsStored b g.sector_size (table_in (edited g edit))
-  pub good : a.is_honest ≡ true → HasLayout g.header (table_in g) g.sector_size a.size → IsKeptFor a g (table_in g)
-      → LeavesOnly a b (λ x. HoldsOneOf x g.sector_size (table_in g ∷ table_in (edited g edit) ∷ []))
+  pub stored : a.is_honest ≡ true → HasLayout g a.size → IsStored b g.sector_size (table_in (after_edit g edit))
+  pub good : a.is_honest ≡ true → HasLayout g a.size → IsKeptFor a g (table_in g)
+      → LeavesOnly a b (λ x. HoldsOneOf x g.sector_size (table_in g ∷ table_in (after_edit g edit) ∷ []))
 
 module _ (g : GPT) (made : List Edit) (now : GPT) (a b : DiskState) (are : AreMade g made now a b) where
   -- the table that the value holds
   pub now_table : table_in now ≡ table_in (table_after g made (length made))
-  now_table = table_sums (fold edited g made) now are.value ∙ ap table_in (sym (after_all g made))
+  now_table = table_sums (fold after_edit g made) now are.value ∙ ap table_in (sym (after_all g made))
 
-  pub now_layout : HasLayout g.header (table_in g) g.sector_size a.size → HasLayout now.header (table_in now) now.sector_size b.size
-  now_layout layout = subst (HasLayout now.header (table_in now) now.sector_size) (sym are.keeps.size) (layout_still g now are.places a.size layout)
+  pub now_layout : HasLayout g a.size → HasLayout now b.size
+  now_layout layout = subst (HasLayout now) (sym are.keeps.size) (layout_still g now are.sides a.size layout)
 
   -- what a stop leaves of the next write holds a table after some edits, the next one counted in
-  pub next_some : (edit : Edit) (x : List ℕ) → HoldsOneOf x now.sector_size (table_in now ∷ table_in (edited now edit) ∷ []) → HoldsSome g (made ++ edit ∷ []) x
+  pub next_some : (edit : Edit) (x : List ℕ) → HoldsOneOf x now.sector_size (table_in now ∷ table_in (after_edit now edit) ∷ []) → HoldsSome g (made ++ edit ∷ []) x
   next_some edit x one =
-      let ss : ℕ → Type 0 = λ n. Holds x n one.place one.table in
-      let here : Holds x g.sector_size one.place one.table = subst ss are.places.sector one.holds in
-      let next : table_in (edited now edit) ≡ table_in (table_after g (made ++ edit ∷ []) (length (made ++ edit ∷ []))) =
-      table_sums (edited (fold edited g made) edit) (edited now edit) (edited_sums (fold edited g made) now edit are.value)
-      ∙ ap table_in (sym (fold-append edited g made (edit ∷ [])) ∙ sym (after_all g (made ++ edit ∷ []))) in
-      elim (contains_cases (table_in now) one.table (table_in (edited now edit) ∷ []) one.listed) as (λ _. HoldsSome g (made ++ edit ∷ []) x) [
+      let ss : ℕ → Type 0 = λ n. Holds x n one.side one.table in
+      let here : Holds x g.sector_size one.side one.table = subst ss are.sides.sector one.holds in
+      let next : table_in (after_edit now edit) ≡ table_in (table_after g (made ++ edit ∷ []) (length (made ++ edit ∷ []))) =
+      table_sums (after_edit (fold after_edit g made) edit) (after_edit now edit) (edited_sums (fold after_edit g made) now edit are.value)
+      ∙ ap table_in (sym (fold-append after_edit g made (edit ∷ [])) ∙ sym (after_all g (made ++ edit ∷ []))) in
+      elim (contains_cases (table_in now) one.table (table_in (after_edit now edit) ∷ []) one.listed) as (λ _. HoldsSome g (made ++ edit ∷ []) x) [
         | inl first ↦ some_more g made (edit ∷ []) x (record {
           k = length made;
           within = omega arith;
-          place = one.place;
-          holds = subst (Holds x g.sector_size one.place) (sym first ∙ now_table) here;
+          side = one.side;
+          holds = subst (Holds x g.sector_size one.side) (sym first ∙ now_table) here;
         })
-        | inr later ↦ elim (contains_cases (table_in (edited now edit)) one.table [] later) as (λ _. HoldsSome g (made ++ edit ∷ []) x) [
+        | inr later ↦ elim (contains_cases (table_in (after_edit now edit)) one.table [] later) as (λ _. HoldsSome g (made ++ edit ∷ []) x) [
           | inl second ↦ record {
             k = length (made ++ edit ∷ []);
             within = omega arith;
-            place = one.place;
-            holds = subst (Holds x g.sector_size one.place) (sym second ∙ next) here;
+            side = one.side;
+            holds = subst (Holds x g.sector_size one.side) (sym second ∙ next) here;
           }
           | inr never ↦ absurd (omega (arith, never.1))
         ]
       ]
 
   -- what a stop leaves of the edits so far and of the next write
-  pub leaves_next : (edit : Edit) (c : DiskState) → a.is_honest ≡ true → HasLayout g.header (table_in g) g.sector_size a.size → IsKeptFor a g (table_in g)
+  pub leaves_next : (edit : Edit) (c : DiskState) → a.is_honest ≡ true → HasLayout g a.size → IsKeptFor a g (table_in g)
       → Wrote (both_ranges now.header now.sector_size) b c
-      → (HasLayout now.header (table_in now) now.sector_size b.size → IsKeptFor b now (table_in now) → LeavesOnly b c (λ x. HoldsOneOf x now.sector_size (table_in now ∷ table_in (edited now edit) ∷ [])))
+      → (HasLayout now b.size → IsKeptFor b now (table_in now) → LeavesOnly b c (λ x. HoldsOneOf x now.sector_size (table_in now ∷ table_in (after_edit now edit) ∷ [])))
       → LeavesOnly a c (HoldsSome g (made ++ edit ∷ []))
   leaves_next edit c honest layout kept wrote good =
       leaves_then (HoldsSome g (made ++ edit ∷ [])) (are.wrote honest).time wrote.time
@@ -276,56 +288,56 @@ module _ (g : GPT) (made : List Edit) (now : GPT) (a b : DiskState) (are : AreMa
   wrote_next c honest wrote =
       let so_far = are.wrote honest in
       wrote_then (within_self (both_ranges g.header g.sector_size)) so_far
-      (subst (λ (rs : Ranges). Wrote rs b c) (ranges_still g now are.places) (wrote so_far.honest))
+      (subst (λ (rs : Ranges). Wrote rs b c) (ranges_still g now are.sides) (wrote so_far.honest))
 
-  -- what is wanted of the places stays
+  -- what is wanted of the sides stays
   pub room_now : write_fault now.header now.sector_size b.size ≡ write_fault g.header g.sector_size a.size
-  room_now = room_still g now are.places b.size ∙ ap (write_fault g.header g.sector_size) are.keeps.size
+  room_now = room_still g now are.sides b.size ∙ ap (write_fault g.header g.sector_size) are.keeps.size
 
   fits_next : write_fault now.header now.sector_size b.size ≡ None → write_fault g.header g.sector_size a.size ≡ None
   fits_next fits = sym room_now ∙ fits
 
-  accepted_next : (edit : Edit) → IsAccepted now edit → (k : ℕ) → k < length (made ++ edit ∷ []) → IsAcceptedAt g (made ++ edit ∷ []) k
-  accepted_next edit accepted k below e is = elim (cases_lt k (length made)) as (λ _. IsAccepted (table_after g (made ++ edit ∷ []) k) e) [
+  accepted_next : (edit : Edit) → IsAllowed now edit → (k : ℕ) → k < length (made ++ edit ∷ []) → IsAllowedAt g (made ++ edit ∷ []) k
+  accepted_next edit accepted k below e is = elim (cases_lt k (length made)) as (λ _. IsAllowed (table_after g (made ++ edit ∷ []) k) e) [
     | inl before ↦
         let here = are.accepted k before e (sym (slice_get-append made (edit ∷ []) k before) ∙ is) in
-        subst (λ (x : GPT). IsAccepted x e) (sym (after_append g made (edit ∷ []) k (omega (arith, before)))) here
+        subst (λ (x : GPT). IsAllowed x e) (sym (after_append g made (edit ∷ []) k (omega (arith, before)))) here
     | inr after ↦
         let at : k ≡ length made = omega (arith, below, after, length-append made (edit ∷ [])) in
         let same : e ≡ edit = last_is made edit k e at is in
-        let where_it_is : table_after g (made ++ edit ∷ []) k ≡ fold edited g made = after_append g made (edit ∷ []) k (omega (arith, at)) ∙ (ap (table_after g made) at ∙ after_all g made) in
-        subst (λ (x : GPT). IsAccepted x e) (sym where_it_is) (subst (IsAccepted (fold edited g made)) (sym same) (accepted_sums (fold edited g made) now edit are.value accepted))
+        let where_it_is : table_after g (made ++ edit ∷ []) k ≡ fold after_edit g made = after_append g made (edit ∷ []) k (omega (arith, at)) ∙ (ap (table_after g made) at ∙ after_all g made) in
+        subst (λ (x : GPT). IsAllowed x e) (sym where_it_is) (subst (IsAllowed (fold after_edit g made)) (sym same) (accepted_sums (fold after_edit g made) now edit are.value accepted))
   ]
 
   -- the value that is written next, with its checksums made
-  exact_next : (edit : Edit) → length g.header.signature ≡ 8 → length g.header.revision ≡ 4 → sealed_value (edited now edit) ≡ value_after g (made ++ edit ∷ []) (length (made ++ edit ∷ []))
+  exact_next : (edit : Edit) → length g.header.signature ≡ 8 → length g.header.revision ≡ 4 → value_with_checksums (after_edit now edit) ≡ value_after g (made ++ edit ∷ []) (length (made ++ edit ∷ []))
   exact_next edit long_s long_r =
-      let last : GPT = edited (fold edited g made) edit in
-      let sums : IsButSums last (edited now edit) = edited_sums (fold edited g made) now edit are.value in
-      let keeps = keeps_both g now (edited now edit) are.places (edited_keeps now edit) in
-      let same = sym (is_summed last (edited now edit) sums) in
+      let last : GPT = after_edit (fold after_edit g made) edit in
+      let sums : IsButSums last (after_edit now edit) = edited_sums (fold after_edit g made) now edit are.value in
+      let keeps = keeps_both g now (after_edit now edit) are.sides (edited_keeps now edit) in
+      let same = sym (is_summed last (after_edit now edit) sums) in
       let first : length last.header.signature ≡ 8 = ap (λ (x : GPT). length x.header.signature) same ∙ ap (λ (h : GPTHeader). length h.signature) keeps.header ∙ long_s in
       let second : length last.header.revision ≡ 4 = ap (λ (x : GPT). length x.header.revision) same ∙ ap (λ (h : GPTHeader). length h.revision) keeps.header ∙ long_r in
-      let at : table_after g (made ++ edit ∷ []) (length (made ++ edit ∷ [])) ≡ last = after_all g (made ++ edit ∷ []) ∙ fold-append edited g made (edit ∷ []) in
-      sealed_again last (edited now edit) sums first second
-      ∙ sym (value_some g (made ++ edit ∷ []) (length (made ++ edit ∷ [])) (omega (arith, length-append made (edit ∷ []))) ∙ ap sealed_value at)
+      let at : table_after g (made ++ edit ∷ []) (length (made ++ edit ∷ [])) ≡ last = after_all g (made ++ edit ∷ []) ∙ fold-append after_edit g made (edit ∷ []) in
+      sealed_again last (after_edit now edit) sums first second
+      ∙ sym (value_some g (made ++ edit ∷ []) (length (made ++ edit ∷ [])) (omega (arith, length-append made (edit ∷ []))) ∙ ap value_with_checksums at)
 
   -- One edit more.
   pub made_next : (edit : Edit) (new : GPT) (c : DiskState) → length g.header.signature ≡ 8 → length g.header.revision ≡ 4 → IsMade now edit new b c → AreMade g (made ++ edit ∷ []) new a c
   made_next edit new c long_s long_r is =
-      let sums : IsButSums (edited now edit) new = subst (IsButSums (edited now edit)) (sym is.value) (sealed_sums (edited now edit)) in
-      let places = keeps_both g now new are.places (keeps_both now (edited now edit) new (edited_keeps now edit) (sums_keep (edited now edit) new sums)) in
-      let more : fold edited g (made ++ edit ∷ []) ≡ edited (fold edited g made) edit = fold-append edited g made (edit ∷ []) in
-      let value : IsButSums (fold edited g (made ++ edit ∷ [])) new =
-      subst (λ (x : GPT). IsButSums x new) (sym more) (sums_then (edited (fold edited g made) edit) (edited now edit) new (edited_sums (fold edited g made) now edit are.value) sums) in
+      let sums : IsButSums (after_edit now edit) new = subst (IsButSums (after_edit now edit)) (sym is.value) (sealed_sums (after_edit now edit)) in
+      let sides = keeps_both g now new are.sides (keeps_both now (after_edit now edit) new (edited_keeps now edit) (sums_keep (after_edit now edit) new sums)) in
+      let more : fold after_edit g (made ++ edit ∷ []) ≡ after_edit (fold after_edit g made) edit = fold-append after_edit g made (edit ∷ []) in
+      let value : IsButSums (fold after_edit g (made ++ edit ∷ [])) new =
+      subst (λ (x : GPT). IsButSums x new) (sym more) (sums_then (after_edit (fold after_edit g made) edit) (after_edit now edit) new (edited_sums (fold after_edit g made) now edit are.value) sums) in
       let keeps : Keeps a c = keeps_then are.keeps is.keeps in
       let still : a.is_honest ≡ true → b.is_honest ≡ true = λ honest. (are.wrote honest).honest in
-      let stored : a.is_honest ≡ true → HasLayout g.header (table_in g) g.sector_size a.size → IsStored c g.sector_size (table_in new) = λ honest layout.
-      subst (λ (n : ℕ). IsStored c n (table_in new)) are.places.sector
-      (subst (IsStored c now.sector_size) (sym (table_sums (edited now edit) new sums)) (is.stored (still honest) (now_layout layout))) in
+      let stored : a.is_honest ≡ true → HasLayout g a.size → IsStored c g.sector_size (table_in new) = λ honest layout.
+      subst (λ (n : ℕ). IsStored c n (table_in new)) are.sides.sector
+      (subst (IsStored c now.sector_size) (sym (table_sums (after_edit now edit) new sums)) (is.stored (still honest) (now_layout layout))) in
       record {
         coherent = is.coherent;
-        places = places;
+        sides = sides;
         value = value;
         exact = is.value ∙ exact_next edit long_s long_r;
         accepted = accepted_next edit is.accepted;
@@ -335,8 +347,8 @@ module _ (g : GPT) (made : List Edit) (now : GPT) (a b : DiskState) (are : AreMa
         untouched = λ honest none. absurd (omega (arith, none, length-append made (edit ∷ [])));
         stands = λ honest layout. inr (stored honest layout);
         kept = λ honest layout kept.
-            stored_is_kept c new (table_in new) (subst (λ (n : ℕ). IsStored c n (table_in new)) (sym places.sector) (stored honest layout))
-            (subst (HasLayout new.header (table_in new) new.sector_size) (sym keeps.size) (layout_still g new places a.size layout)) (record { count = refl; last = refl });
+            stored_is_kept c new (table_in new) (subst (λ (n : ℕ). IsStored c n (table_in new)) (sym sides.sector) (stored honest layout))
+            (subst (HasLayout new) (sym keeps.size) (layout_still g new sides a.size layout)) (record { count = refl; last = refl });
         leaves = λ honest layout kept. leaves_next edit c honest layout kept (is.wrote (still honest)) (is.good (still honest));
       }
 
@@ -344,7 +356,7 @@ module _ (g : GPT) (made : List Edit) (now : GPT) (a b : DiskState) (are : AreMa
 pub made_none : (g : GPT) (a : DiskState) → IsCoherent g.header (entries_in g) → (a.is_honest ≡ true → IsSound a) → AreMade g [] g a a
 made_none g a coherent sound = record {
   coherent = coherent;
-  places = record { sector = refl; header = refl; long = refl };
+  sides = record { sector = refl; header = refl; long = refl };
   value = (refl, refl);
   exact = refl;
   accepted = λ k below. absurd (omega (arith, below));
@@ -362,17 +374,17 @@ made_none g a coherent sound = record {
 
     none_some : (x : List ℕ) → HoldsOneOf x g.sector_size (table_in g ∷ []) → HoldsSome g [] x
     none_some x one = elim (contains_cases (table_in g) one.table [] one.listed) as (λ _. HoldsSome g [] x) [
-      | inl first ↦ record { k = 0; within = omega arith; place = one.place; holds = subst (Holds x g.sector_size one.place) (sym first) one.holds }
+      | inl first ↦ record { k = 0; within = omega arith; side = one.side; holds = subst (Holds x g.sector_size one.side) (sym first) one.holds }
       | inr never ↦ absurd (omega (arith, never.1))
     ]
 
 -- ---- where the loop ends
 
-pub accepted_more : (g : GPT) (made more edits : List Edit) → edits ≡ made ++ more → ((k : ℕ) → k < length made → IsAcceptedAt g made k) → (k : ℕ) → k < length made → IsAcceptedAt g edits k
+pub accepted_more : (g : GPT) (made more edits : List Edit) → edits ≡ made ++ more → ((k : ℕ) → k < length made → IsAllowedAt g made k) → (k : ℕ) → k < length made → IsAllowedAt g edits k
 accepted_more g made more edits is all k below edit at =
     let here : slice_get made k ≡ Some edit = sym (slice_get-append made more k below) ∙ (ap (λ (es : List Edit). slice_get es k) (sym is) ∙ at) in
     let same : table_after g edits k ≡ table_after g made k = ap (λ (es : List Edit). table_after g es k) is ∙ after_append g made more k (omega (arith, below)) in
-    subst (λ (x : GPT). IsAccepted x edit) (sym same) (all k below edit here)
+    subst (λ (x : GPT). IsAllowed x edit) (sym same) (all k below edit here)
 
 slice_get-next : {X : Type 0} (xs ys : List X) (x : X) → slice_get (xs ++ x ∷ ys) (length xs) ≡ Some x
 slice_get-next [] ys x = refl
@@ -394,18 +406,18 @@ stored_read b c ss t read stored = record {
 }
 
 module _ (g : GPT) (made : List Edit) (now : GPT) (a b : DiskState) (are : AreMade g made now a b) (edits more : List Edit) (done : ℕ) (is : edits ≡ made ++ more) (count : done ≡ length made) where
-  pub after_done : table_after g edits done ≡ fold edited g made
+  pub after_done : table_after g edits done ≡ fold after_edit g made
   after_done = (λ i. table_after g (is i) (count i)) ∙ (after_append g made more (length made) (omega arith) ∙ after_all g made)
 
   pub done_value : more ≡ [] → now ≡ value_after g edits done
   done_value none = are.exact ∙ sym ((λ i. value_after g (is i) (count i)) ∙ ap (λ (xs : List Edit). value_after g xs (length made)) (ap (λ (xs : List Edit). made ++ xs) none ∙ append-nil made))
 
-  pub done_stands : a.is_honest ≡ true → HasLayout g.header (table_in g) g.sector_size a.size → Stands g edits done a b
+  pub done_stands : a.is_honest ≡ true → HasLayout g a.size → Stands g edits done a b
   done_stands honest layout =
-      let same : table_in now ≡ table_in (table_after g edits done) = table_sums (fold edited g made) now are.value ∙ ap table_in (sym after_done) in
+      let same : table_in now ≡ table_in (table_after g edits done) = table_sums (fold after_edit g made) now are.value ∙ ap table_in (sym after_done) in
       ⊎_elim (λ none. inl (count ∙ none.0, none.1)) (λ stored. inr (subst (IsStored b g.sector_size) same stored)) (are.stands honest layout)
 
-  pub done_leaves : a.is_honest ≡ true → HasLayout g.header (table_in g) g.sector_size a.size → IsKeptFor a g (table_in g)
+  pub done_leaves : a.is_honest ≡ true → HasLayout g a.size → IsKeptFor a g (table_in g)
       → LeavesOnly a b (λ x. HoldsOneOf x g.sector_size (tables_to g edits done))
   done_leaves honest layout kept x left = some_listed g made more edits done x is (omega (arith, count)) (are.leaves honest layout kept x left)
 
@@ -420,11 +432,11 @@ module _ (g : GPT) (made : List Edit) (now : GPT) (a b c : DiskState) (are : Are
     edit = edit;
     is = (λ i. slice_get (is i) (count i)) ∙ slice_get-next made more edit;
     refused = subst (λ (x : GPT). RefusesEdit x edit fault new a c) (sym (after_done g made now a b are edits (edit ∷ more) done is count))
-        (refused_sums (fold edited g made) now new edit fault a b c are.value are.keeps refused);
+        (refused_sums (fold after_edit g made) now new edit fault a b c are.value are.keeps refused);
   }
 
-  pub failed_room : (fault : Fault) → HasLayout g.header (table_in g) g.sector_size a.size
-      → (HasLayout now.header (table_in now) now.sector_size b.size → (fault ≢ overflow) × (fault ≢ no_space_left)) → (fault ≢ overflow) × (fault ≢ no_space_left)
+  pub failed_room : (fault : Fault) → HasLayout g a.size
+      → (HasLayout now b.size → (fault ≢ overflow) × (fault ≢ no_space_left)) → (fault ≢ overflow) × (fault ≢ no_space_left)
   failed_room fault layout room = room (now_layout g made now a b are layout)
 
   -- a fault io is a failure of the disk
@@ -435,7 +447,7 @@ module _ (g : GPT) (made : List Edit) (now : GPT) (a b c : DiskState) (are : Are
   failed_untouched fault honest none untouched =
       ⊎_elim (λ failed. inl (ap is_io failed)) (λ read. inr (only_read_then a b c (are.untouched honest (sym count ∙ none)) read)) (untouched (are.wrote honest).honest)
 
-  pub failed_stands : (fault : Fault) → a.is_honest ≡ true → HasLayout g.header (table_in g) g.sector_size a.size → (b.is_honest ≡ true → (fault ≡ io) ⊎ OnlyRead b c)
+  pub failed_stands : (fault : Fault) → a.is_honest ≡ true → HasLayout g a.size → (b.is_honest ≡ true → (fault ≡ io) ⊎ OnlyRead b c)
       → IsTrue (is_io fault) ⊎ Stands g edits done a c
   failed_stands fault honest layout untouched =
       ⊎_elim (λ failed. inl (ap is_io failed))
@@ -446,7 +458,7 @@ module _ (g : GPT) (made : List Edit) (now : GPT) (a b c : DiskState) (are : Are
   split : edits ≡ (made ++ edit ∷ []) ++ more
   split = is ∙ sym (append_assoc made (edit ∷ []) more)
 
-  pub failed_leaves : (fault : Fault) → a.is_honest ≡ true → HasLayout g.header (table_in g) g.sector_size a.size → IsKeptFor a g (table_in g) → (b.is_honest ≡ true → IsSound b)
+  pub failed_leaves : (fault : Fault) → a.is_honest ≡ true → HasLayout g a.size → IsKeptFor a g (table_in g) → (b.is_honest ≡ true → IsSound b)
       → (b.is_honest ≡ true → (fault ≡ io) ⊎ OnlyRead b c) → LeavesOnly a c (HoldsSome g (made ++ edit ∷ []))
       → LeavesOnly a c (λ x. HoldsOneOf x g.sector_size (tables_to g edits (if is_io fault then done + 1 else done)))
   failed_leaves fault honest layout kept sound untouched next = by_fault (is_io fault) refl
@@ -464,17 +476,17 @@ module _ (g : GPT) (made : List Edit) (now : GPT) (a b c : DiskState) (are : Are
       ]
 
   -- what a stop may leave now holds the last table or the next
-  pub failed_last : a.is_honest ≡ true → HasLayout g.header (table_in g) g.sector_size a.size → IsKeptFor a g (table_in g) → b.clock ≤ c.clock → IsSound c
-      → (HasLayout now.header (table_in now) now.sector_size b.size → IsKeptFor b now (table_in now) → LeavesOnly b c (λ x. HoldsOneOf x now.sector_size (table_in now ∷ table_in (edited now edit) ∷ [])))
+  pub failed_last : a.is_honest ≡ true → HasLayout g a.size → IsKeptFor a g (table_in g) → b.clock ≤ c.clock → IsSound c
+      → (HasLayout now b.size → IsKeptFor b now (table_in now) → LeavesOnly b c (λ x. HoldsOneOf x now.sector_size (table_in now ∷ table_in (after_edit now edit) ∷ [])))
       → (x : List ℕ) → Image c x → HoldsOneOf x g.sector_size (table_in (table_after g edits done) ∷ table_in (table_after g edits (done + 1)) ∷ [])
   failed_last honest layout kept later sound good x image =
       let one = good (now_layout g made now a b are layout) (are.kept honest layout kept) x (sound.counts_now b.clock x later image) in
       let first : table_in now ≡ table_in (table_after g edits done) =
-      table_sums (fold edited g made) now are.value ∙ ap table_in (sym (after_done g made now a b are edits (edit ∷ more) done is count)) in
+      table_sums (fold after_edit g made) now are.value ∙ ap table_in (sym (after_done g made now a b are edits (edit ∷ more) done is count)) in
       let longer : done + 1 ≡ length (made ++ edit ∷ []) = omega (arith, count, length-append made (edit ∷ [])) in
-      let at : table_after g edits (done + 1) ≡ edited (fold edited g made) edit =
-      (λ i. table_after g (split i) (longer i)) ∙ (after_append g (made ++ edit ∷ []) more (length (made ++ edit ∷ [])) (omega arith) ∙ (after_all g (made ++ edit ∷ []) ∙ fold-append edited g made (edit ∷ []))) in
-      let second : table_in (edited now edit) ≡ table_in (table_after g edits (done + 1)) =
-      table_sums (edited (fold edited g made) edit) (edited now edit) (edited_sums (fold edited g made) now edit are.value) ∙ ap table_in (sym at) in
-      subst (λ (n : ℕ). HoldsOneOf x n (table_in (table_after g edits done) ∷ table_in (table_after g edits (done + 1)) ∷ [])) are.places.sector
+      let at : table_after g edits (done + 1) ≡ after_edit (fold after_edit g made) edit =
+      (λ i. table_after g (split i) (longer i)) ∙ (after_append g (made ++ edit ∷ []) more (length (made ++ edit ∷ [])) (omega arith) ∙ (after_all g (made ++ edit ∷ []) ∙ fold-append after_edit g made (edit ∷ []))) in
+      let second : table_in (after_edit now edit) ≡ table_in (table_after g edits (done + 1)) =
+      table_sums (after_edit (fold after_edit g made) edit) (after_edit now edit) (edited_sums (fold after_edit g made) now edit are.value) ∙ ap table_in (sym at) in
+      subst (λ (n : ℕ). HoldsOneOf x n (table_in (table_after g edits done) ∷ table_in (table_after g edits (done + 1)) ∷ [])) are.sides.sector
       (subst (HoldsOneOf x now.sector_size) (λ i. first i ∷ second i ∷ []) one)

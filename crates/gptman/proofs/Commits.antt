@@ -1,22 +1,22 @@
--- Edits keep a table's places on the disk, and so does making its checksums.
-use Rattle.std.proofs.Common.{◌≡◌, ◌≢◌, ◌<◌, ◌^◌, inl, inr, Some, None, Ok, Err, Bool, ℕ, suc, ◌-◌, true, false, List, [], ◌∷◌, length, nat_lt, refl, sym, ap, ◌∙◌, subst}
+-- Edits keep a table's sides on the disk, and so does making its checksums.
+use Rattle.std.proofs.Common.{◌≡◌, ◌<◌, ◌^◌, inl, inr, Some, None, Bool, ℕ, suc, ◌-◌, true, false, List, [], ◌∷◌, length, nat_lt, refl, sym, ap, ◌∙◌, subst}
 use Rattle.std.specs.Prelude.{if◌then◌else◌}
 use Rattle.std.proofs.lemmas.List.{length-map, length-set}
 use Rattle.gptman_copy.specs.Coding.{empty_entry}
-use Rattle.gptman.specs.TableWrites.{AnswersWrite}
-use Rattle.gptman.specs.TableWrites.AnswersWrite.{no_memory, not_valid, too_far, settled}
-use Rattle.gptman.specs.Commit.{IsButSums, RefusesEdit}
-use Rattle.gptman.specs.Commit.RefusesEdit.{not_applied, no_memory as unseen, not_valid as invalid, no_room, not_written}
-use Rattle.gptman.specs.Crash.{HasRangesOf, IsKeptFor, other_place}
+use Rattle.gptman.specs.TableWrites.{IsButSums, IsNotForRoom, RefusesWrite}
+use Rattle.gptman.specs.TableWrites.RefusesWrite.{no_memory, not_valid, no_room, disk_failed}
+use Rattle.gptman.specs.Commit.{RefusesEdit}
+use Rattle.gptman.specs.Commit.RefusesEdit.{not_applied, not_written}
+use Rattle.gptman.specs.Crash.{HasRangesOf, IsKeptFor, other_side, StartsFromOne}
 use Rattle.gptman_copy.specs.Disk.{DiskState, IsSound, LeavesOnly}
-use Rattle.gptman.specs.Edit.{edited, edit_fault}
-use Rattle.gptman_copy.specs.Fault.{Fault, fault_of, invalid_partition_number, no_space_left, overflow}
+use Rattle.gptman.specs.Edit.{after_edit, edit_fault}
+use Rattle.gptman_copy.specs.Fault.{Fault, invalid_partition_number}
 use Rattle.gptman_copy.specs.Ranges.{AreClear}
-use Rattle.gptman.specs.Layout.{HasLayout, Holds, IsLaidOut, ranges_at}
+use Rattle.gptman.specs.Layout.{HasLayout, Holds, IsInLayout, IsLaidOut, ranges_at}
 use Rattle.gptman.specs.Number.{has_number}
 use Rattle.gptman.specs.Order.{by_rank, put_in, rank}
-use Rattle.gptman.specs.Reading.{Place, primary, backup}
-use Rattle.gptman.specs.Stop.{HoldsOneOf, IsStored}
+use Rattle.gptman.specs.Reading.{Side, primary, backup}
+use Rattle.gptman.specs.Stop.{HoldsOneOf, IsStored, StopsHold}
 use Rattle.gptman.specs.Table.{Table, table_of, content_of, entries_in, table_in, IsHeaderForm}
 use Rattle.gptman_copy.specs.Copy.{IsCoherent}
 use Rattle.gptman.specs.Valid.{IsValidity}
@@ -26,7 +26,6 @@ use Rattle.gptman_copy.specs.declared.codec.entry.GPTPartitionEntry.{GPTPartitio
 use Rattle.gptman_copy.specs.declared.codec.header.GPTHeader.{GPTHeader}
 use Rattle.gptman.specs.declared.edit.Edit.{Edit}
 use Rattle.gptman.specs.declared.edit.Edit.TheVariants.{Put, Remove, SortEntries, DiskGuid}
-use Rattle.gptman_copy.specs.declared.error.Error.{Error}
 use Rattle.gptman.specs.declared.table.GPT.{GPT}
 use Rattle.gptman.proofs.Accepted.{layout_fits}
 use Rattle.gptman.proofs.FourRanges.{same_ranges}
@@ -39,7 +38,7 @@ abbrev with_sums : GPTHeader → List ℕ → ℕ → ℕ → GPTHeader
 with_sums h guid own array = record h { disk_guid = guid; crc32_checksum = own; partition_entry_array_crc32 = array }
 
 -- The same sector size, as many entries, and a header that differs in the disk GUID and the checksums alone.
-pub record KeepsPlaces (g new : GPT) : Type 0 where
+pub record KeepsRanges (g new : GPT) : Type 0 where
   pub sector : new.sector_size ≡ g.sector_size
   pub header : new.header ≡ with_sums g.header new.header.disk_guid new.header.crc32_checksum new.header.partition_entry_array_crc32
   pub long : length (entries_in new) ≡ length (entries_in g)
@@ -58,17 +57,17 @@ length-by_rank r [] = refl
 length-by_rank r (x ∷ xs) = length-put_in r x (by_rank r xs) ∙ ap suc (length-by_rank r xs)
 
 -- An edit does.
-pub edited_keeps : (g : GPT) (edit : Edit) → KeepsPlaces g (edited g edit)
+pub edited_keeps : (g : GPT) (edit : Edit) → KeepsRanges g (after_edit g edit)
 edited_keeps g (Put i e) = record { sector = refl; header = refl; long = length-set (entries_in g) (i - 1) e }
 edited_keeps g (Remove i) = record { sector = refl; header = refl; long = length-set (entries_in g) (i - 1) empty_entry }
 edited_keeps g SortEntries = record { sector = refl; header = refl; long = length-by_rank rank (entries_in g) }
 edited_keeps g (DiskGuid guid) = record { sector = refl; header = refl; long = refl }
 
-pub edit_keeps : (g mid : GPT) (edit : Edit) → mid ≡ edited g edit → KeepsPlaces g mid
-edit_keeps g mid edit is = subst (KeepsPlaces g) (sym is) (edited_keeps g edit)
+pub edit_keeps : (g mid : GPT) (edit : Edit) → mid ≡ after_edit g edit → KeepsRanges g mid
+edit_keeps g mid edit is = subst (KeepsRanges g) (sym is) (edited_keeps g edit)
 
 -- Making the checksums does.
-pub sums_keep : (g new : GPT) → IsButSums g new → KeepsPlaces g new
+pub sums_keep : (g new : GPT) → IsButSums g new → KeepsRanges g new
 sums_keep g new is =
     let at : GPTHeader → GPTHeader = λ h. with_sums h h.disk_guid h.crc32_checksum h.partition_entry_array_crc32 in
     record {
@@ -78,16 +77,16 @@ sums_keep g new is =
     }
 
 -- And one after the other.
-pub keeps_both : (g mid new : GPT) → KeepsPlaces g mid → KeepsPlaces mid new → KeepsPlaces g new
+pub keeps_both : (g mid new : GPT) → KeepsRanges g mid → KeepsRanges mid new → KeepsRanges g new
 keeps_both g mid new first second = record {
   sector = second.sector ∙ first.sector;
   header = second.header ∙ ap (λ (h : GPTHeader). with_sums h new.header.disk_guid new.header.crc32_checksum new.header.partition_entry_array_crc32) first.header;
   long = second.long ∙ first.long;
 }
 
--- ---- what stands on the places stays
+-- ---- what stands on the sides stays
 
-module _ (g new : GPT) (keeps : KeepsPlaces g new) where
+module _ (g new : GPT) (keeps : KeepsRanges g new) where
   abbrev like : GPTHeader
   like = with_sums g.header new.header.disk_guid new.header.crc32_checksum new.header.partition_entry_array_crc32
 
@@ -113,34 +112,34 @@ module _ (g new : GPT) (keeps : KeepsPlaces g new) where
     fits = laid.fits;
   }
 
-  pub layout_still : (len : ℕ) → HasLayout g.header (table_in g) g.sector_size len → HasLayout new.header (table_in new) new.sector_size len
+  pub layout_still : (len : ℕ) → HasLayout g len → HasLayout new len
   layout_still len layout =
-      let P : GPTHeader → ℕ → Type 0 = λ h ss. HasLayout h (table_of h (entries_in new)) ss len in
+      let P : GPTHeader → ℕ → Type 0 = λ h ss. IsInLayout h (entries_in new) ss len in
       let here : P like g.sector_size = record { table = like_laid g.sector_size len layout.table; form = layout.form } in
       subst (λ (ss : ℕ). P new.header ss) (sym keeps.sector) (subst (λ (h : GPTHeader). P h g.sector_size) (sym keeps.header) here)
 
-  pub same_places : HasRangesOf (table_in g) (table_in new)
-  same_places = record {
+  pub same_ranges_too : HasRangesOf (table_in g) (table_in new)
+  same_ranges_too = record {
     count = ap (λ (h : GPTHeader). h.number_of_partition_entries) keeps.header;
     last = ap (λ (h : GPTHeader). h.last_usable_lba) keeps.header;
   }
 
-  form_like : (place : Place) → IsHeaderForm place g.header → IsHeaderForm place like
+  form_like : (side : Side) → IsHeaderForm side g.header → IsHeaderForm side like
   form_like primary form = form
   form_like backup form = form
 
   pub kept_still : (disk : DiskState) (was : Table) → IsKeptFor disk g was → IsKeptFor disk new was
   kept_still disk was kept =
-      let place : Place = kept.place in
+      let side : Side = kept.side in
       let ss : ℕ = g.sector_size in
-      let clear : AreClear (ranges_at place was ss disk.size) (ranges_at (other_place place) (table_in new) ss disk.size) =
-      subst (λ (rs : List (ℕ × ℕ)). AreClear (ranges_at place was ss disk.size) rs) (same_ranges (other_place place) (table_in g) (table_in new) ss disk.size same_places) kept.clear in
+      let clear : AreClear (ranges_at side was ss disk.size) (ranges_at (other_side side) (table_in new) ss disk.size) =
+      subst (λ (rs : List (ℕ × ℕ)). AreClear (ranges_at side was ss disk.size) rs) (same_ranges (other_side side) (table_in g) (table_in new) ss disk.size same_ranges_too) kept.clear in
       record {
         synced = kept.synced;
-        place = place;
-        form = subst (IsHeaderForm place) (sym keeps.header) (form_like place kept.form);
-        held = subst (λ (n : ℕ). Holds disk.view n place was) (sym keeps.sector) kept.held;
-        clear = subst (λ (n : ℕ). AreClear (ranges_at place was n disk.size) (ranges_at (other_place place) (table_in new) n disk.size)) (sym keeps.sector) clear;
+        side = side;
+        form = subst (IsHeaderForm side) (sym keeps.header) (form_like side kept.form);
+        held = subst (λ (n : ℕ). Holds disk.view n side was) (sym keeps.sector) kept.held;
+        clear = subst (λ (n : ℕ). AreClear (ranges_at side was n disk.size) (ranges_at (other_side side) (table_in new) n disk.size)) (sym keeps.sector) clear;
       }
 
   -- and what a write is refused with for want of room
@@ -156,83 +155,63 @@ module _ (g new : GPT) (keeps : KeepsPlaces g new) where
 pub leaves_kept : (g : GPT) (disk : DiskState) (was : Table) (more : List Table) → IsSound disk → IsKeptFor disk g was → LeavesOnly disk disk (λ x. HoldsOneOf x g.sector_size (was ∷ more))
 leaves_kept g disk was more sound kept =
     leaves_still disk (λ x. HoldsOneOf x g.sector_size (was ∷ more)) sound kept.synced (λ x same. record {
-      place = kept.place;
+      side = kept.side;
       table = was;
       listed = contains_first was more;
-      holds = holds_local disk.view x g.sector_size kept.place was kept.held (record { long = same.long; same = λ k inside. same.same k tt });
+      holds = holds_local disk.view x g.sector_size kept.side was kept.held (record { long = same.long; same = λ k inside. same.same k tt });
     })
 
 -- what a stop leaves of the write of an edited table
-pub leaves_edited : (g mid : GPT) (edit : Edit) (a b : DiskState) → mid ≡ edited g edit → HasLayout g.header (table_in g) g.sector_size a.size → IsKeptFor a g (table_in g)
-    → (HasLayout mid.header (table_in mid) mid.sector_size a.size → (was : Table) → IsKeptFor a mid was → LeavesOnly a b (λ x. HoldsOneOf x mid.sector_size (was ∷ table_in mid ∷ [])))
-    → LeavesOnly a b (λ x. HoldsOneOf x g.sector_size (table_in g ∷ table_in (edited g edit) ∷ []))
-leaves_edited g mid edit a b is layout kept written =
+pub leaves_edited : (g mid : GPT) (edit : Edit) (a b : DiskState) → mid ≡ after_edit g edit → StartsFromOne a g (table_in g)
+    → ((was : Table) → StartsFromOne a mid was → StopsHold a b mid.sector_size (was ∷ table_in mid ∷ []))
+    → StopsHold a b g.sector_size (table_in g ∷ table_in (after_edit g edit) ∷ [])
+leaves_edited g mid edit a b is from written =
     let keeps = edited_keeps g edit in
-    let P : GPT → Type 0 = λ m. HasLayout m.header (table_in m) m.sector_size a.size → (was : Table) → IsKeptFor a m was → LeavesOnly a b (λ x. HoldsOneOf x m.sector_size (was ∷ table_in m ∷ [])) in
-    let here = (subst P is written) (layout_still g (edited g edit) keeps a.size layout) (table_in g) (kept_still g (edited g edit) keeps a (table_in g) kept) in
-    subst (λ (n : ℕ). LeavesOnly a b (λ x. HoldsOneOf x n (table_in g ∷ table_in (edited g edit) ∷ []))) keeps.sector here
+    let P : GPT → Type 0 = λ m. (was : Table) → StartsFromOne a m was → StopsHold a b m.sector_size (was ∷ table_in m ∷ []) in
+    let next : StartsFromOne a (after_edit g edit) (table_in g) = record {
+      start = record { honest = from.start.honest; layout = layout_still g (after_edit g edit) keeps a.size from.start.layout };
+      kept = kept_still g (after_edit g edit) keeps a (table_in g) from.kept;
+    } in
+    let here = (subst P is written) (table_in g) next in
+    subst (λ (n : ℕ). StopsHold a b n (table_in g ∷ table_in (after_edit g edit) ∷ [])) keeps.sector here
 
 -- what a write stores of an edited table
-pub stored_edited : (g mid : GPT) (edit : Edit) (disk : DiskState) → mid ≡ edited g edit → IsStored disk mid.sector_size (table_in mid) → IsStored disk g.sector_size (table_in (edited g edit))
+pub stored_edited : (g mid : GPT) (edit : Edit) (disk : DiskState) → mid ≡ after_edit g edit → IsStored disk mid.sector_size (table_in mid) → IsStored disk g.sector_size (table_in (after_edit g edit))
 stored_edited g mid edit disk is stored =
-    subst (λ (n : ℕ). IsStored disk n (table_in (edited g edit))) (edited_keeps g edit).sector (subst (λ (m : GPT). IsStored disk m.sector_size (table_in m)) is stored)
-
--- what a write accepts has room
-pub room_of : {T : Type 0} (h : GPTHeader) (es : List GPTPartitionEntry) (ss : ℕ) (x : T) (a b : DiskState) → AnswersWrite h es ss (Ok x) a b → write_fault h ss a.size ≡ None
-room_of h es ss x a b (no_memory out) = absurd out
-room_of h es ss x a b (not_valid fault validity refused) = absurd refused
-room_of h es ss x a b (too_far good far refused) = absurd refused
-room_of h es ss x a b (settled good near (inl said)) = sym said
-room_of h es ss x a b (settled good near (inr fails)) = absurd fails.0
+    subst (λ (n : ℕ). IsStored disk n (table_in (after_edit g edit))) (edited_keeps g edit).sector (subst (λ (m : GPT). IsStored disk m.sector_size (table_in m)) is stored)
 
 -- why a write of an edited table is refused
-refused_write : (g new : GPT) (edit : Edit) (e : Error) (a b : DiskState) → edit_fault g edit ≡ None
-    → AnswersWrite {T = GPTHeader} (edited g edit).header (entries_in (edited g edit)) (edited g edit).sector_size (Err e) a b
-    → IsButSums (edited g edit) new → RefusesEdit g edit (fault_of e) new a b
-refused_write g new edit e a b none (no_memory out) sums = unseen none out sums
-refused_write g new edit e a b none (not_valid fault validity refused) sums =
-    invalid none (subst (λ (f : Fault). IsValidity (edited g edit).header (entries_in (edited g edit)) (Some f)) (sym refused) validity) sums
-refused_write g new edit e a b none (too_far good far refused) sums = no_room (record { number = none; valid = good }) (far ∙ ap Some (sym refused)) sums
-refused_write g new edit e a b none (settled good near (inl said)) sums = no_room (record { number = none; valid = good }) (sym said) sums
-refused_write g new edit e a b none (settled good near (inr fails)) sums = not_written (record { number = none; valid = good }) fails.0 fails.1 sums
-
-pub refused_edit : (g mid new : GPT) (edit : Edit) (e : Error) (a b : DiskState) → mid ≡ edited g edit → edit_fault g edit ≡ None
-    → AnswersWrite {T = GPTHeader} mid.header (entries_in mid) mid.sector_size (Err e) a b → IsButSums mid new → RefusesEdit g edit (fault_of e) new a b
-refused_edit g mid new edit e a b is none answer sums =
-    refused_write g new edit e a b none
-    (subst (λ (m : GPT). AnswersWrite {T = GPTHeader} m.header (entries_in m) m.sector_size (Err e) a b) is answer)
-    (subst (λ (m : GPT). IsButSums m new) is sums)
+pub refused_edit : (g mid new : GPT) (edit : Edit) (fault : Fault) (a b : DiskState) → mid ≡ after_edit g edit → edit_fault g edit ≡ None
+    → RefusesWrite mid fault a b → IsButSums mid new → RefusesEdit g edit fault new a b
+refused_edit g mid new edit fault a b is none refused sums =
+    not_written none (subst (λ (m : GPT). RefusesWrite m fault a b) is refused) (subst (λ (m : GPT). IsButSums m new) is sums)
 
 -- ---- there is room on the stated layout
 
--- not refused for want of room
-abbrev HasRoom : Fault → Type 0
-HasRoom fault = (fault ≢ overflow) × (fault ≢ no_space_left)
-
-number_room : (i : ℕ) (known : Bool) (fault : Fault) → (if known then None else Some (invalid_partition_number i)) ≡ Some fault → HasRoom fault
+number_room : (i : ℕ) (known : Bool) (fault : Fault) → (if known then None else Some (invalid_partition_number i)) ≡ Some fault → IsNotForRoom fault
 number_room i true fault is = absurd (cc)
 number_room i false fault is = (λ far. let e = is ∙ ap Some far in absurd (cc), λ full. let e = is ∙ ap Some full in absurd (cc))
 
-edit_room : (g : GPT) (edit : Edit) (fault : Fault) → edit_fault g edit ≡ Some fault → HasRoom fault
+edit_room : (g : GPT) (edit : Edit) (fault : Fault) → edit_fault g edit ≡ Some fault → IsNotForRoom fault
 edit_room g (Put i e) fault is = number_room i (has_number g i) fault is
 edit_room g (Remove i) fault is = number_room i (has_number g i) fault is
 edit_room g SortEntries fault is = absurd (cc)
 edit_room g (DiskGuid guid) fault is = absurd (cc)
 
-validity_room : (h : GPTHeader) (es : List GPTPartitionEntry) (fault : Fault) → IsValidity h es (Some fault) → HasRoom fault
+validity_room : (h : GPTHeader) (es : List GPTPartitionEntry) (fault : Fault) → IsValidity h es (Some fault) → IsNotForRoom fault
 validity_room h es fault (shared_guid shared said) = (λ far. let e = sym said ∙ ap Some far in absurd (cc), λ full. let e = sym said ∙ ap Some full in absurd (cc))
 validity_room h es fault (bad_boundaries own bad said) = (λ far. let e = sym said ∙ ap Some far in absurd (cc), λ full. let e = sym said ∙ ap Some full in absurd (cc))
 validity_room h es fault (valid good said) = absurd (cc)
 
-pub refused_room : (g new : GPT) (edit : Edit) (fault : Fault) (a b : DiskState) → a.size < 2 ^ 64 → HasLayout g.header (table_in g) g.sector_size a.size → RefusesEdit g edit fault new a b
-    → (fault ≢ overflow) × (fault ≢ no_space_left)
+pub refused_room : (g new : GPT) (edit : Edit) (fault : Fault) (a b : DiskState) → a.size < 2 ^ 64 → HasLayout g a.size → RefusesEdit g edit fault new a b → IsNotForRoom fault
 refused_room g new edit fault a b small layout (not_applied (inl said) sums) = edit_room g edit fault said
 refused_room g new edit fault a b small layout (not_applied (inr out) sums) =
     let e = out.1 in (λ far. let d = sym e ∙ far in absurd (cc), λ full. let d = sym e ∙ full in absurd (cc))
-refused_room g new edit fault a b small layout (unseen none out sums) = (λ far. let d = sym out ∙ far in absurd (cc), λ full. let d = sym out ∙ full in absurd (cc))
-refused_room g new edit fault a b small layout (invalid none validity sums) = validity_room (edited g edit).header (entries_in (edited g edit)) fault validity
-refused_room g new edit fault a b small layout (no_room accepted full sums) =
-    let room = sym (room_still g (edited g edit) (edited_keeps g edit) a.size) in
+refused_room g new edit fault a b small layout (not_written none (no_memory out) sums) = (λ far. let d = sym out ∙ far in absurd (cc), λ full. let d = sym out ∙ full in absurd (cc))
+refused_room g new edit fault a b small layout (not_written none (not_valid validity) sums) = validity_room (after_edit g edit).header (entries_in (after_edit g edit)) fault validity
+refused_room g new edit fault a b small layout (not_written none (no_room good full) sums) =
+    let room = sym (room_still g (after_edit g edit) (edited_keeps g edit) a.size) in
     let fits = layout_fits g.header (entries_in g) g.sector_size a.size small layout in
     let never = sym fits ∙ (room ∙ full) in absurd (cc)
-refused_room g new edit fault a b small layout (not_written accepted failed rose sums) = (λ far. let d = sym failed ∙ far in absurd (cc), λ full. let d = sym failed ∙ full in absurd (cc))
+refused_room g new edit fault a b small layout (not_written none (disk_failed good near failed) sums) =
+    (λ far. let d = sym failed.0 ∙ far in absurd (cc), λ full. let d = sym failed.0 ∙ full in absurd (cc))

@@ -8,16 +8,21 @@ use Rattle.std.proofs.lemmas.List.{append-nil, map-append, length-append, get_or
 use Rattle.std.proofs.lemmas.List.Elements.{All-nil, All-cons, All-head, All-push, All-weaker, All-contains, Contains-push, filter_more}
 use Rattle.gptman_copy.specs.Entry.{is_used}
 use Rattle.gptman_copy.specs.declared.codec.entry.GPTPartitionEntry.{GPTPartitionEntry}
-use Rattle.gptman.specs.Alignment.{used_starts, IsCommonDivisor, IsGreatestUpTo, IsAlignmentOf}
+use Rattle.gptman.specs.Alignment.{used_starts, IsGreatestUpTo, IsAlignmentOf}
 
-pub common_none : IsCommonDivisor [] 0
+-- g is a common divisor, which each common divisor divides
+pub record IsGreatestCommonDivisor (starts : List ℕ) (g : ℕ) : Type 0 where
+  pub divides : All (λ s. g ∣ s) starts
+  pub greatest : (d : ℕ) → All (λ s. d ∣ s) starts → d ∣ g
+
+pub common_none : IsGreatestCommonDivisor [] 0
 common_none = record { divides = All-nil (λ s. 0 ∣ s); greatest = λ d all. dvd-zero d }
 
 All-init : {X : Type 0} (P : X → Type 0) (xs ys : List X) → All P (xs ++ ys) → All P xs
 All-init {X} P xs ys all k d h = subst (λ (x : X). P x) (get_or_append_left xs ys d k h) (all k d (omega (arith, h, length-append xs ys)))
 
 -- one more number
-pub common_more : (starts : List ℕ) (g s h : ℕ) → IsCommonDivisor starts g → IsGcd g s h → IsCommonDivisor (starts ++ s ∷ []) h
+pub common_more : (starts : List ℕ) (g s h : ℕ) → IsGreatestCommonDivisor starts g → IsGcd g s h → IsGreatestCommonDivisor (starts ++ s ∷ []) h
 common_more starts g s h c d = record {
   divides = All-push (λ s. h ∣ s) starts s (All-weaker (λ s. g ∣ s) (λ s. h ∣ s) (λ s e. dvd_trans h d.0 e) starts c.divides) d.1;
   greatest = λ e all. d.2 e (c.greatest e (All-init (λ s. e ∣ s) starts (s ∷ []) all)) (All-contains (λ s. e ∣ s) (starts ++ s ∷ []) s all (Contains-push starts s));
@@ -41,7 +46,7 @@ alignment_none first starts empty = record {
   other = λ some more nonzero. absurd (some (nil_from_length starts empty));
 }
 
-pub alignment_zero : (first : ℕ) (starts : List ℕ) (g : ℕ) → IsCommonDivisor starts g → g ≡ 0 → length starts ≢ 0 → IsAlignmentOf first starts 1
+pub alignment_zero : (first : ℕ) (starts : List ℕ) (g : ℕ) → IsGreatestCommonDivisor starts g → g ≡ 0 → length starts ≢ 0 → IsAlignmentOf first starts 1
 alignment_zero first starts g c e some = record {
   none = λ empty. absurd (some (ap length empty));
   alone = λ one. refl;
@@ -50,15 +55,15 @@ alignment_zero first starts g c e some = record {
 }
 
 -- the common divisor of one number is that number
-common_one : (s g : ℕ) → IsCommonDivisor (s ∷ []) g → g ≡ s
+common_one : (s g : ℕ) → IsGreatestCommonDivisor (s ∷ []) g → g ≡ s
 common_one s g c = dvd_antisymm (All-head (λ s. g ∣ s) s [] c.divides) (c.greatest s (All-cons (λ x. s ∣ x) s [] (dvd_refl s) (All-nil (λ x. s ∣ x))))
 
-one_start : (first : ℕ) (starts : List ℕ) (g : ℕ) → IsCommonDivisor starts g → length starts ≡ 1 → g ≡ first → starts ≡ first ∷ []
+one_start : (first : ℕ) (starts : List ℕ) (g : ℕ) → IsGreatestCommonDivisor starts g → length starts ≡ 1 → g ≡ first → starts ≡ first ∷ []
 one_start first [] g c l e = absurd (omega arith)
 one_start first (s ∷ []) g c l e = ap (λ (x : ℕ). x ∷ []) (sym (common_one s g c) ∙ e)
 one_start first (s ∷ t ∷ starts) g c l e = absurd (omega arith)
 
-pub alignment_alone : (first : ℕ) (starts : List ℕ) (g : ℕ) → IsCommonDivisor starts g → length starts ≡ 1 → g ≡ first → IsAlignmentOf first starts 1
+pub alignment_alone : (first : ℕ) (starts : List ℕ) (g : ℕ) → IsGreatestCommonDivisor starts g → length starts ≡ 1 → g ≡ first → IsAlignmentOf first starts 1
 alignment_alone first starts g c l e = record {
   none = λ empty. let l2 = ap length empty in absurd (omega arith);
   alone = λ one. refl;
@@ -66,10 +71,10 @@ alignment_alone first starts g c l e = record {
   other = λ some more nonzero. absurd (more (one_start first starts g c l e));
 }
 
-pub alignment_other : (first : ℕ) (starts : List ℕ) (g a : ℕ) → IsCommonDivisor starts g → length starts ≢ 0 → g ≢ 0 → (length starts ≡ 1 → g ≢ first) → IsGreatestUpTo g a → IsAlignmentOf first starts a
+pub alignment_other : (first : ℕ) (starts : List ℕ) (g a : ℕ) → IsGreatestCommonDivisor starts g → length starts ≢ 0 → g ≢ 0 → (length starts ≡ 1 → g ≢ first) → IsGreatestUpTo g a → IsAlignmentOf first starts a
 alignment_other first starts g a c some nonzero others up = record {
   none = λ empty. absurd (some (ap length empty));
-  alone = λ one. absurd (others (ap length one) (common_one first g (subst (λ (l : List ℕ). IsCommonDivisor l g) one c)));
+  alone = λ one. absurd (others (ap length one) (common_one first g (subst (λ (l : List ℕ). IsGreatestCommonDivisor l g) one c)));
   zero = λ _ all. absurd (nonzero (eq-zero_of_zero-dvd (c.greatest 0 (All-weaker (λ s. s ≡ 0) (λ s. 0 ∣ s) (λ s e. subst (λ (x : ℕ). 0 ∣ x) (sym e) (dvd-zero 0)) starts all))));
   other = λ _ _ _. record {
     low = up.low;

@@ -10,7 +10,7 @@ use Rattle.gptman_copy.specs.Fault.{Fault, fault_of, is_signature_fault, io, inv
 use Rattle.gptman.specs.Reading.{primary, backup, both, copy_in, fallback, found_sector_size, reading_of, second_copy}
 use Rattle.gptman_copy.specs.declared.error.Error.{Error}
 use Rattle.gptman.specs.declared.table.GPT.{GPT}
-use Rattle.gptman.proofs.CopyParts.{header_refused}
+use Rattle.gptman_copy.proofs.CopyParts.{header_refused}
 use Rattle.gptman_copy.proofs.CopyTests.{header_short}
 
 -- a copy's fault that is no want of memory is damage
@@ -82,7 +82,7 @@ fallback_long b ss first long =
     let choose : Bool → Result Copy Fault = λ small. elim small [ true ↦ Err invalid_signature | false ↦ second_copy first (copy_in backup b ss) ] in
     ap choose t
 
--- a disk of less than a sector has no backup place
+-- a disk of less than a sector has no backup side
 pub backup_short : (b : List ℕ) (ss : ℕ) → length b < ss → copy_in backup b ss ≡ Err invalid_signature
 unfolding copy_in
 backup_short b ss short =
@@ -117,7 +117,7 @@ reading_short b ss short =
     let far : copy_at b ss ss ≡ Err io = header_refused b ss ss io (header_short b ss (omega (arith, short))) in
     refused_first b ss io (primary_at b ss ∙ far) ∙ fallback_short b ss io short
 
--- the fault that it gives where the disk failed at the primary place
+-- the fault that it gives where the disk failed at the primary side
 fallback_err : (b : List ℕ) (ss : ℕ) (fault : Fault) → Err fault ≡ fallback b ss io → IsReadingFault b ss fault
 fallback_err b ss fault is = by_length (ltb (length b) ss) refl
   where

@@ -2,11 +2,11 @@
 use Rattle.std.proofs.Common.{◌≡◌, ℕ, ◌+◌, ◌-◌, ◌*◌, ◌/◌, ◌++◌, Bool, List, [], ◌∷◌, inl, inr, sym, ap, ◌∙◌, subst}
 use Rattle.std.specs.Prelude.{nat_eq}
 use Rattle.std.proofs.lemmas.Bool.Decides.{eqb_tells}
-use Rattle.gptman.specs.Crash.{HasRangesOf, other_place}
-use Rattle.gptman_copy.specs.Disk.{Agrees, Outside, Within}
-use Rattle.gptman_copy.specs.Ranges.{AgreesIn, AreApart, AreClear, Inside}
+use Rattle.gptman.specs.Crash.{HasRangesOf, other_side}
+use Rattle.gptman_copy.specs.Disk.{AgreesOutside, Outside, Within}
+use Rattle.gptman_copy.specs.Ranges.{AgreesInside, AreApart, AreClear, Inside}
 use Rattle.gptman.specs.Layout.{IsLaidOut, four_ranges, ranges_at}
-use Rattle.gptman.specs.Reading.{Place, primary, backup}
+use Rattle.gptman.specs.Reading.{Side, primary, backup}
 use Rattle.gptman.specs.Table.{Table, table_of, IsHeaderForm}
 use Rattle.gptman_copy.specs.Write.{other_header, both_ranges}
 use Rattle.gptman_copy.specs.declared.codec.entry.GPTPartitionEntry.{GPTPartitionEntry}
@@ -32,33 +32,33 @@ inside_clear (r ∷ rs) ss k clear (inl at) = outside_apart r ss k clear.0 at.0 
 inside_clear (r ∷ rs) ss k clear (inr later) = inside_clear rs ss k clear.1 later
 
 -- lists that agree outside of the others agree in the ones
-pub agrees_in : (rs ss : Ranges) (a b : List ℕ) → AreClear rs ss → Agrees ss a b → AgreesIn rs a b
+pub agrees_in : (rs ss : Ranges) (a b : List ℕ) → AreClear rs ss → AgreesOutside ss a b → AgreesInside rs a b
 agrees_in rs ss a b clear agrees = record { long = agrees.long; same = λ k inside. agrees.same k (inside_clear rs ss k clear inside) }
 
 -- ---- a header in a form
 
-module _ (place : Place) (h : GPTHeader) (es : List GPTPartitionEntry) (ss len : ℕ) (form : IsHeaderForm place h) (laid : IsLaidOut (table_of h es) ss len) where
-  -- its ranges are those of its table at the place
-  pub form_ranges : ranges_at place (table_of h es) ss len ≡ copy_ranges h ss
+module _ (side : Side) (h : GPTHeader) (es : List GPTPartitionEntry) (ss len : ℕ) (form : IsHeaderForm side h) (laid : IsLaidOut (table_of h es) ss len) where
+  -- its ranges are those of its table at the side
+  pub form_ranges : ranges_at side (table_of h es) ss len ≡ copy_ranges h ss
   form_ranges =
-      let start = written_start place h es ss len form laid in
-      let array = written_array place h es ss form in
+      let start = written_start side h es ss len form laid in
+      let array = written_array side h es ss form in
       λ i. (sym start i, 92) ∷ (sym array i, 128 * h.number_of_partition_entries) ∷ []
 
   pub other_laid : IsLaidOut (table_of (other_header h) es) ss len
   other_laid = subst (λ (t : Table). IsLaidOut t ss len) (sym (other_table h es)) laid
 
--- and those of the other header are the table's at the other place
-pub other_ranges : (place : Place) (h : GPTHeader) (es : List GPTPartitionEntry) (ss len : ℕ) → IsHeaderForm place h → IsLaidOut (table_of h es) ss len
-    → ranges_at (other_place place) (table_of h es) ss len ≡ copy_ranges (other_header h) ss
-other_ranges place h es ss len form laid =
-    ap (λ (t : Table). ranges_at (other_place place) t ss len) (sym (other_table h es))
-    ∙ form_ranges (other_place place) (other_header h) es ss len (other_form place h form) (other_laid place h es ss len form laid)
+-- and those of the other header are the table's at the other side
+pub other_ranges : (side : Side) (h : GPTHeader) (es : List GPTPartitionEntry) (ss len : ℕ) → IsHeaderForm side h → IsLaidOut (table_of h es) ss len
+    → ranges_at (other_side side) (table_of h es) ss len ≡ copy_ranges (other_header h) ss
+other_ranges side h es ss len form laid =
+    ap (λ (t : Table). ranges_at (other_side side) t ss len) (sym (other_table h es))
+    ∙ form_ranges (other_side side) (other_header h) es ss len (other_form side h form) (other_laid side h es ss len form laid)
 
--- a table's ranges at a place and at the other one are apart
-pub places_apart : (place : Place) (t : Table) (ss len : ℕ) → IsLaidOut t ss len → AreApart (ranges_at place t ss len ++ ranges_at (other_place place) t ss len)
-places_apart primary t ss len laid = laid.apart
-places_apart backup t ss len laid = apart_exchanged (ranges_at primary t ss len) (ranges_at backup t ss len) laid.apart
+-- a table's ranges at a side and at the other one are apart
+pub sides_apart : (side : Side) (t : Table) (ss len : ℕ) → IsLaidOut t ss len → AreApart (ranges_at side t ss len ++ ranges_at (other_side side) t ss len)
+sides_apart primary t ss len laid = laid.apart
+sides_apart backup t ss len laid = apart_exchanged (ranges_at primary t ss len) (ranges_at backup t ss len) laid.apart
 
 -- ranges that are apart stay so without those of no entries
 without_empty : (a c p q n : ℕ) → AreApart ((a, 92) ∷ (c, 128 * n) ∷ (p, 92) ∷ (q, 128 * n) ∷ [])
@@ -71,30 +71,30 @@ without_empty a c p q n apart =
     ]
 
 -- What a write of a table of the layout writes is apart.
-pub both_apart : (place : Place) (h : GPTHeader) (es : List GPTPartitionEntry) (ss len : ℕ) → IsHeaderForm place h → IsLaidOut (table_of h es) ss len → AreApart (both_ranges h ss)
-both_apart place h es ss len form laid =
-    let own = form_ranges place h es ss len form laid in
-    let other = other_ranges place h es ss len form laid in
+pub both_apart : (side : Side) (h : GPTHeader) (es : List GPTPartitionEntry) (ss len : ℕ) → IsHeaderForm side h → IsLaidOut (table_of h es) ss len → AreApart (both_ranges h ss)
+both_apart side h es ss len form laid =
+    let own = form_ranges side h es ss len form laid in
+    let other = other_ranges side h es ss len form laid in
     let apart : AreApart (copy_ranges h ss ++ copy_ranges (other_header h) ss) =
-    subst (λ (rs : Ranges). AreApart rs) (λ i. own i ++ other i) (places_apart place (table_of h es) ss len laid) in
+    subst (λ (rs : Ranges). AreApart rs) (λ i. own i ++ other i) (sides_apart side (table_of h es) ss len laid) in
     without_empty (h.primary_lba * ss) (h.partition_entry_lba * ss) ((other_header h).primary_lba * ss) ((other_header h).partition_entry_lba * ss) h.number_of_partition_entries apart
 
-in_four : (place : Place) (t : Table) (ss len : ℕ) → Within (ranges_at place t ss len ++ ranges_at (other_place place) t ss len) (four_ranges t ss len)
+in_four : (side : Side) (t : Table) (ss len : ℕ) → Within (ranges_at side t ss len ++ ranges_at (other_side side) t ss len) (four_ranges t ss len)
 in_four primary t ss len = record { covers = λ k o. o }
 in_four backup t ss len = within_both (within_right (ranges_at primary t ss len) (ranges_at backup t ss len)) (within_left (ranges_at primary t ss len) (ranges_at backup t ss len))
 
 -- And it lies in the four ranges.
-pub within_four : (place : Place) (h : GPTHeader) (es : List GPTPartitionEntry) (ss len : ℕ) → IsHeaderForm place h → IsLaidOut (table_of h es) ss len
+pub within_four : (side : Side) (h : GPTHeader) (es : List GPTPartitionEntry) (ss len : ℕ) → IsHeaderForm side h → IsLaidOut (table_of h es) ss len
     → Within (both_ranges h ss) (four_ranges (table_of h es) ss len)
-within_four place h es ss len form laid =
-    let own = form_ranges place h es ss len form laid in
-    let other = other_ranges place h es ss len form laid in
+within_four side h es ss len form laid =
+    let own = form_ranges side h es ss len form laid in
+    let other = other_ranges side h es ss len form laid in
     let both : Within (both_ranges h ss) (copy_ranges h ss ++ copy_ranges (other_header h) ss) =
     within_both (within_then (within_copy h ss) (within_left (copy_ranges h ss) (copy_ranges (other_header h) ss)))
     (within_then (within_copy (other_header h) ss) (within_right (copy_ranges h ss) (copy_ranges (other_header h) ss))) in
-    within_then both (subst (λ (rs : Ranges). Within rs (four_ranges (table_of h es) ss len)) (λ i. own i ++ other i) (in_four place (table_of h es) ss len))
+    within_then both (subst (λ (rs : Ranges). Within rs (four_ranges (table_of h es) ss len)) (λ i. own i ++ other i) (in_four side (table_of h es) ss len))
 
 -- Tables of one count and one last usable sector have the same ranges.
-pub same_ranges : (place : Place) (old new : Table) (ss len : ℕ) → HasRangesOf old new → ranges_at place old ss len ≡ ranges_at place new ss len
+pub same_ranges : (side : Side) (old new : Table) (ss len : ℕ) → HasRangesOf old new → ranges_at side old ss len ≡ ranges_at side new ss len
 same_ranges primary old new ss len same = ap (λ (n : ℕ). (ss, 92) ∷ (2 * ss, 128 * n) ∷ []) (sym same.count)
 same_ranges backup old new ss len same = λ i. ((len / ss - 1) * ss, 92) ∷ ((sym same.last i + 1) * ss, 128 * sym same.count i) ∷ []

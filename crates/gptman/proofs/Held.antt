@@ -1,4 +1,4 @@
--- What a place holds is told by its two ranges.
+-- What a side holds is told by its two ranges.
 use Rattle.std.proofs.Common.{◌≡◌, ◌*◌, ℕ, Bool, true, false, List, length, ltb, Result, Ok, Err, refl, sym, ap, ◌∙◌, inl, inr, arith}
 use Rattle.std.specs.Prelude.{Option, Some, None}
 use Rattle.gptman_copy.specs.Bytes.{part}
@@ -6,8 +6,8 @@ use Rattle.gptman_copy.specs.Coding.{header_of}
 use Rattle.gptman_copy.specs.Copy.{Copy, copy_at, copy_fault, copy_tests, copy_there, entries_of, entries_part, entries_start, entries_length}
 use Rattle.gptman_copy.specs.Fault.{Fault, first_failing, invalid_signature}
 use Rattle.gptman.specs.Layout.{Holds, ranges_at, array_start}
-use Rattle.gptman_copy.specs.Ranges.{AgreesIn}
-use Rattle.gptman.specs.Reading.{Place, primary, backup, place_start, copy_in}
+use Rattle.gptman_copy.specs.Ranges.{AgreesInside}
+use Rattle.gptman.specs.Reading.{Side, primary, backup, copy_start, copy_in}
 use Rattle.gptman.specs.Table.{Table, IsForm}
 use Rattle.gptman_copy.specs.declared.codec.header.GPTHeader.{GPTHeader}
 use Rattle.gptman_copy.proofs.Overlays.{part_in}
@@ -48,14 +48,14 @@ accepted_header b p ss copy ok = ap (λ (c : Copy). c.header) (accepted_is b p s
 
 -- ---- what two lists agree in
 
-at_place : (place : Place) (b c : List ℕ) (ss : ℕ) (t : Table) (copy : Copy) → copy_at b (place_start place (length b) ss) ss ≡ Ok copy → IsForm place t copy
-    → AgreesIn (ranges_at place t ss (length b)) b c → copy_at c (place_start place (length b) ss) ss ≡ Ok copy
-at_place place b c ss t copy ok form agrees =
-    let p : ℕ = place_start place (length b) ss in
+at_side : (side : Side) (b c : List ℕ) (ss : ℕ) (t : Table) (copy : Copy) → copy_at b (copy_start side (length b) ss) ss ≡ Ok copy → IsForm side t copy
+    → AgreesInside (ranges_at side t ss (length b)) b c → copy_at c (copy_start side (length b) ss) ss ≡ Ok copy
+at_side side b c ss t copy ok form agrees =
+    let p : ℕ = copy_start side (length b) ss in
     let h : GPTHeader = header_of (part b p 92) in
     let same_h : h ≡ copy.header = accepted_header b p ss copy ok in
-    let start : entries_start h ss ≡ array_start place t ss =
-    ap (λ (g : GPTHeader). entries_start g ss) same_h ∙ written_array place copy.header copy.entries ss form.form ∙ ap (λ (u : Table). array_start place u ss) form.table in
+    let start : entries_start h ss ≡ array_start side t ss =
+    ap (λ (g : GPTHeader). entries_start g ss) same_h ∙ written_array side copy.header copy.entries ss form.form ∙ ap (λ (u : Table). array_start side u ss) form.table in
     let size : entries_length h ≡ 128 * t.count =
     ap (λ (g : GPTHeader). entries_length g) same_h ∙ ap (λ (u : Table). 128 * u.count) form.table in
     let header : part c p 92 ≡ part b p 92 = part_in b c p 92 agrees.long (λ k low high. agrees.same k (inl (low, high))) in
@@ -63,12 +63,12 @@ at_place place b c ss t copy ok form agrees =
     part_in b c (entries_start h ss) (entries_length h) agrees.long (λ k low high. agrees.same k (inr (inl (omega (arith, low, start), omega (arith, high, start, size))))) in
     copy_at-local b c p ss agrees.long header (ap (λ (x : List ℕ). part c (entries_start (header_of x) ss) (entries_length (header_of x))) header ∙ entries) ∙ ok
 
--- What agrees with a list in the two ranges that a table has at a place holds it there too.
-pub holds_local : (b c : List ℕ) (ss : ℕ) (place : Place) (t : Table) → Holds b ss place t → AgreesIn (ranges_at place t ss (length b)) b c → Holds c ss place t
+-- What agrees with a list in the two ranges that a table has at a side holds it there too.
+pub holds_local : (b c : List ℕ) (ss : ℕ) (side : Side) (t : Table) → Holds b ss side t → AgreesInside (ranges_at side t ss (length b)) b c → Holds c ss side t
 unfolding copy_in
 holds_local b c ss primary t holds agrees = record {
   copy = holds.copy;
-  accepted = at_place primary b c ss t holds.copy holds.accepted holds.form agrees;
+  accepted = at_side primary b c ss t holds.copy holds.accepted holds.form agrees;
   form = holds.form;
 }
 holds_local b c ss backup t holds agrees = record {
@@ -78,7 +78,7 @@ holds_local b c ss backup t holds agrees = record {
 }
   where
     choose : List ℕ → ℕ → Bool → Result Copy Fault
-    choose x n short = elim short [ true ↦ Err invalid_signature | false ↦ copy_at x (place_start backup n ss) ss ]
+    choose x n short = elim short [ true ↦ Err invalid_signature | false ↦ copy_at x (copy_start backup n ss) ss ]
 
     by_length : (short : Bool) → ltb (length b) ss ≡ short → copy_in backup c ss ≡ Ok holds.copy
     by_length true is =
@@ -86,5 +86,5 @@ holds_local b c ss backup t holds agrees = record {
         absurd (cc)
     by_length false is =
         ap (choose c (length c)) (ap (λ (n : ℕ). ltb n ss) agrees.long ∙ is)
-        ∙ ap (λ (n : ℕ). copy_at c (place_start backup n ss) ss) agrees.long
-        ∙ at_place backup b c ss t holds.copy (sym (ap (choose b (length b)) is) ∙ holds.accepted) holds.form agrees
+        ∙ ap (λ (n : ℕ). copy_at c (copy_start backup n ss) ss) agrees.long
+        ∙ at_side backup b c ss t holds.copy (sym (ap (choose b (length b)) is) ∙ holds.accepted) holds.form agrees

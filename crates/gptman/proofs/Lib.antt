@@ -6,7 +6,6 @@ pub mod Choice
 pub mod CommitLoop
 pub mod Commits
 pub mod CommonDivisor
-pub mod CopyParts
 pub mod CopyThere
 pub mod Covered
 pub mod Covering

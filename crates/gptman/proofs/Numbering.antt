@@ -1,8 +1,12 @@
 -- Lists whose elements are numbered.
 use Rattle.std.proofs.Common.{◌≡◌, ℕ, ◌+◌, List, [], ◌∷◌, zero, suc, length, length-drop, Bool, refl, sym, ◌∙◌, ap, add-one, arith, count_by, drop, slice_get, Some, ◌<◌, ◌≤◌}
-use Rattle.gptman.specs.Number.{IsAt}
 use Rattle.std.specs.List.{enumerate_from, fold}
 use Rattle.std.specs.Prelude.{if◌then◌else◌}
+
+-- n elements of xs have been passed, and those of left, each with its number, are still to come
+pub record IsAt {X : Type 0} (xs : List X) (n : ℕ) (left : List (ℕ × X)) : Type 0 where
+  pub left_is : left ≡ enumerate_from (n + 1) (drop n xs)
+  pub within : n ≤ length xs
 
 pub length_numbered : {X : Type 0} (n : ℕ) (xs : List X) → length (enumerate_from n xs) ≡ length xs
 length_numbered n [] = refl

@@ -2,7 +2,7 @@
 use Rattle.std.proofs.Common.{◌≡◌, ℕ, ◌+◌, ◌-◌, ◌*◌, ◌/◌, ◌%◌, ◌^◌, ◌<◌, ◌≤◌, max, List, sym, subst, arith}
 use Rattle.std.specs.List.{All}
 use Rattle.std.proofs.lemmas.List.Elements.{All-contains}
-use Rattle.gptman.specs.Chosen.{AreShort, IsChosen, IsEarlier, IsLater, IsTighter}
+use Rattle.gptman.specs.Chosen.{AreShort, IsBestSlot, IsNoLater, IsNoEarlier, IsTighter}
 use Rattle.gptman.specs.Place.{AreSlots, HasNoPlace, IsBestPlace, IsFirstPlace, IsFreeIn, IsLastPlace}
 use Rattle.gptman.specs.Table.{entries_in}
 use Rattle.gptman.specs.declared.table.GPT.{GPT}
@@ -32,28 +32,28 @@ none_offered g size n slots a short =
     subst (λ (n : ℕ). HasNoPlace (IsFreeIn g) g.align n) a.is
     (no_place (IsFreeIn g) g.align n slots (free_settled g.header (entries_in g)) a.positive (omega arith) a.found short)
 
-pub first_offered : (g : GPT) (size n : ℕ) (slots : List (ℕ × ℕ)) (s : ℕ × ℕ) → IsAsked g size n slots → IsChosen IsEarlier n slots s
+pub first_offered : (g : GPT) (size n : ℕ) (slots : List (ℕ × ℕ)) (s : ℕ × ℕ) → IsAsked g size n slots → IsBestSlot IsNoLater n slots s
     → IsFirstPlace (IsFreeIn g) g.align (max 1 size) s.0
 first_offered g size n slots s a chosen =
     let is = a.is in
     subst (λ (n : ℕ). IsFirstPlace (IsFreeIn g) g.align n s.0) a.is
     (first_is (IsFreeIn g) g.align n slots s (free_settled g.header (entries_in g)) a.positive (omega arith) a.found chosen)
 
-pub last_offered : (g : GPT) (size n : ℕ) (slots : List (ℕ × ℕ)) (s : ℕ × ℕ) → IsAsked g size n slots → IsChosen IsLater n slots s
+pub last_offered : (g : GPT) (size n : ℕ) (slots : List (ℕ × ℕ)) (s : ℕ × ℕ) → IsAsked g size n slots → IsBestSlot IsNoEarlier n slots s
     → IsLastPlace (IsFreeIn g) g.align (max 1 size) (s.0 + (s.1 - n) / g.align * g.align)
 last_offered g size n slots s a chosen =
     let is = a.is in
     subst (λ (k : ℕ). IsLastPlace (IsFreeIn g) g.align k (s.0 + (s.1 - n) / g.align * g.align)) a.is
     (last_is (IsFreeIn g) g.align n slots s (free_settled g.header (entries_in g)) a.positive (omega arith) a.found chosen)
 
-pub best_offered : (g : GPT) (size n : ℕ) (slots : List (ℕ × ℕ)) (s : ℕ × ℕ) → IsAsked g size n slots → IsChosen IsTighter n slots s
+pub best_offered : (g : GPT) (size n : ℕ) (slots : List (ℕ × ℕ)) (s : ℕ × ℕ) → IsAsked g size n slots → IsBestSlot IsTighter n slots s
     → IsBestPlace (IsFreeIn g) g.align (max 1 size) s.0
 best_offered g size n slots s a chosen =
     subst (λ (n : ℕ). IsBestPlace (IsFreeIn g) g.align n s.0) a.is (best_is (IsFreeIn g) g.align n slots s a.found chosen)
 
 -- n sectors from the start of the chosen slot on end where the number of the last fits
 pub start_fits : (better : ℕ × ℕ → ℕ × ℕ → Type 0) (g : GPT) (size n : ℕ) (slots : List (ℕ × ℕ)) (s : ℕ × ℕ) → IsAsked g size n slots
-    → IsChosen better n slots s → s.0 + max 1 size ≤ 2 ^ 64
+    → IsBestSlot better n slots s → s.0 + max 1 size ≤ 2 ^ 64
 start_fits better g size n slots s a chosen =
     let is = a.is in
     let long = chosen.fits in
@@ -62,7 +62,7 @@ start_fits better g size n slots s a chosen =
 
 -- so do those from the last multiple on that leaves room for them
 pub last_fits : (better : ℕ × ℕ → ℕ × ℕ → Type 0) (g : GPT) (size n : ℕ) (slots : List (ℕ × ℕ)) (s : ℕ × ℕ) → IsAsked g size n slots
-    → IsChosen better n slots s → s.0 + (s.1 - n) / g.align * g.align + max 1 size ≤ 2 ^ 64
+    → IsBestSlot better n slots s → s.0 + (s.1 - n) / g.align * g.align + max 1 size ≤ 2 ^ 64
 last_fits better g size n slots s a chosen =
     let is = a.is in
     let long = chosen.fits in

@@ -8,9 +8,9 @@ use Rattle.std.proofs.lemmas.List.Folds.{list_all-append}
 use Rattle.std.proofs.lemmas.Bool.Decides.{eqb_tells}
 use Rattle.gptman_copy.specs.Bytes.{part}
 use Rattle.gptman_copy.specs.Coding.{FitsHeader, FitsEntry, header_bytes, array_bytes}
-use Rattle.gptman_copy.specs.Disk.{DiskState, Agrees, Image, Within, LeavesOnly, Wrote, OnlyRead, Untouched}
+use Rattle.gptman_copy.specs.Disk.{DiskState, AgreesOutside, Image, Within, LeavesOnly, Wrote, OnlyRead, Untouched}
 use Rattle.gptman_copy.specs.Ranges.{AreApart, AreInside}
-use Rattle.gptman_copy.specs.Copy.{sealed}
+use Rattle.gptman_copy.specs.Copy.{with_checksums}
 use Rattle.gptman_copy.specs.Write.{other_header, write_ranges, both_ranges, is_inside, IsCopyLaid, HasBytes}
 use Rattle.gptman.specs.TableWrites.{IsOneWhole, IsWhole, LeavesOnFailure}
 use Rattle.gptman.specs.TableWrites.LeavesOnFailure.{nothing, other_begun, own_not_begun, own_begun}
@@ -42,7 +42,7 @@ within_copy h ss =
 pub other_stays : (old mid new : List ℕ) (g h : GPTHeader) (es : List GPTPartitionEntry) (ss : ℕ) → AreApart (write_ranges g ss ++ write_ranges h ss)
     → list_all (is_inside (length old)) (write_ranges g ss) ≡ true → FitsHeader g → All FitsEntry es
     → length es ≡ g.number_of_partition_entries → length es ≡ h.number_of_partition_entries
-    → IsCopyLaid g es ss old mid → Agrees (write_ranges h ss) mid new → HasBytes new g es ss
+    → IsCopyLaid g es ss old mid → AgreesOutside (write_ranges h ss) mid new → HasBytes new g es ss
 other_stays old mid new g h es ss apart inside fits_g fits count_g count_h laid agrees =
     let all = copies_apart g h ss (sym count_h ∙ count_g) apart in
     let pieces : List (ℕ × List ℕ) = (g.primary_lba * ss, header_bytes g) ∷ (g.partition_entry_lba * ss, array_bytes es) ∷ [] in
@@ -62,9 +62,9 @@ other_stays old mid new g h es ss apart inside fits_g fits count_g count_h laid 
     }
 
 -- what a stop leaves of a run that began with nothing pending
-pub leaves_ranges : (rs : Ranges) (a b : DiskState) → Wrote rs a b → a.pending ≡ [] → LeavesOnly a b (Agrees rs a.view)
+pub leaves_ranges : (rs : Ranges) (a b : DiskState) → Wrote rs a b → a.pending ≡ [] → LeavesOnly a b (AgreesOutside rs a.view)
 leaves_ranges rs a b run clean = λ x left.
-    subst (λ (ps : Ranges). Agrees ps a.view x) (ap (λ (ps : Ranges). rs ++ ps) clean ∙ append-nil rs) (run.crash x left)
+    subst (λ (ps : Ranges). AgreesOutside ps a.view x) (ap (λ (ps : Ranges). rs ++ ps) clean ∙ append-nil rs) (run.crash x left)
 
 -- while the other copy is written
 pub leaves_first : (h : GPTHeader) (es : List GPTPartitionEntry) (ss : ℕ) (a b : DiskState) → a.pending ≡ [] → Wrote (write_ranges (other_header h) ss) a b
@@ -80,35 +80,35 @@ first_run h other ss a s b is read run =
 pub record IsFirstDone (h : GPTHeader) (es : List GPTPartitionEntry) (ss : ℕ) (a b : DiskState) : Type 0 where
   pub run : Wrote (write_ranges (other_header h) ss) a b
   pub synced : b.pending ≡ []
-  pub stays : (x : List ℕ) → Agrees (write_ranges h ss) b.view x → IsWhole x (sealed (other_header h) es) es ss
+  pub stays : (x : List ℕ) → AgreesOutside (write_ranges h ss) b.view x → IsWhole x (with_checksums (other_header h) es) es ss
 
 -- That is so after these calls.
 pub first_done : (h other first : GPTHeader) (es fs : List GPTPartitionEntry) (ss : ℕ) (a s b : DiskState) → AreApart (both_ranges h ss)
     → list_all (is_inside (length a.view)) (both_ranges h ss) ≡ true → length es ≡ h.number_of_partition_entries → OnlyRead a s
-    → other ≡ other_header h → fs ≡ es → first ≡ sealed other fs → FitsHeader first × All FitsEntry fs → IsCopyLaid first fs ss s.view b.view
+    → other ≡ other_header h → fs ≡ es → first ≡ with_checksums other fs → FitsHeader first × All FitsEntry fs → IsCopyLaid first fs ss s.view b.view
     → Wrote (write_ranges other ss) s b → b.pending ≡ [] → IsFirstDone h es ss a b
 first_done h other first es fs ss a s b apart inside count read other_is fs_is first_is fits laid run synced =
     let own_ranges : Ranges = write_ranges h ss in
     let ranges : Ranges = write_ranges (other_header h) ss in
     let sealed_is = sealed_ranges (other_header h) es ss in
-    let to : first ≡ sealed (other_header h) es = first_is ∙ (λ i. sealed (other_is i) (fs_is i)) in
+    let to : first ≡ with_checksums (other_header h) es = first_is ∙ (λ i. with_checksums (other_is i) (fs_is i)) in
     let parts = and_parts (list_all (is_inside (length a.view)) own_ranges) (list_all (is_inside (length a.view)) ranges)
     (sym (list_all-append (is_inside (length a.view)) own_ranges ranges) ∙ inside) in
-    let here : list_all (is_inside (length a.view)) (write_ranges (sealed (other_header h) es) ss) ≡ true =
+    let here : list_all (is_inside (length a.view)) (write_ranges (with_checksums (other_header h) es) ss) ≡ true =
     ap (list_all (is_inside (length a.view))) sealed_is ∙ parts.1 in
-    let separate : AreApart (write_ranges (sealed (other_header h) es) ss ++ own_ranges) =
+    let separate : AreApart (write_ranges (with_checksums (other_header h) es) ss ++ own_ranges) =
     subst (λ (rs : Ranges). AreApart (rs ++ own_ranges)) (sym sealed_is) (apart_exchanged own_ranges ranges apart) in
-    let laid_here : IsCopyLaid (sealed (other_header h) es) es ss a.view b.view =
-    subst (λ (v : List ℕ). IsCopyLaid (sealed (other_header h) es) es ss v b.view) read.view
-    (subst (λ (xs : List GPTPartitionEntry). IsCopyLaid (sealed (other_header h) es) xs ss s.view b.view) fs_is
+    let laid_here : IsCopyLaid (with_checksums (other_header h) es) es ss a.view b.view =
+    subst (λ (v : List ℕ). IsCopyLaid (with_checksums (other_header h) es) es ss v b.view) read.view
+    (subst (λ (xs : List GPTPartitionEntry). IsCopyLaid (with_checksums (other_header h) es) xs ss s.view b.view) fs_is
     (subst (λ (x : GPTHeader). IsCopyLaid x fs ss s.view b.view) to laid)) in
-    let header_fits : FitsHeader (sealed (other_header h) es) = subst FitsHeader to fits.0 in
+    let header_fits : FitsHeader (with_checksums (other_header h) es) = subst FitsHeader to fits.0 in
     let entries_fit : All FitsEntry es = subst (λ (xs : List GPTPartitionEntry). All FitsEntry xs) fs_is fits.1 in
     record {
       run = first_run h other ss a s b other_is read run;
       synced = synced;
       stays = λ x agrees. record {
-        bytes = other_stays a.view b.view x (sealed (other_header h) es) h es ss separate here header_fits entries_fit
+        bytes = other_stays a.view b.view x (with_checksums (other_header h) es) h es ss separate here header_fits entries_fit
             (count ∙ sym (sealed_count (other_header h) es)) count laid_here agrees;
         header_fits = header_fits;
         entries_fit = entries_fit;
@@ -139,7 +139,7 @@ failed_first h other es ss a s b synced read is run (inr begun) =
 
 -- the other copy is whole in whatever a stop may leave then
 images_whole : (h : GPTHeader) (es : List GPTPartitionEntry) (ss : ℕ) (a b c : DiskState) → IsFirstDone h es ss a b → Wrote (write_ranges h ss) b c
-    → (x : List ℕ) → Image c x → IsWhole x (sealed (other_header h) es) es ss
+    → (x : List ℕ) → Image c x → IsWhole x (with_checksums (other_header h) es) es ss
 images_whole h es ss a b c first second x image =
     first.stays x (agrees_then second.view (agrees_wider (pending_within (write_ranges h ss) b c second first.synced) image))
 
@@ -147,5 +147,5 @@ images_whole h es ss a b c first second x image =
 pub failed_second : (h : GPTHeader) (es : List GPTPartitionEntry) (ss : ℕ) (a b c : DiskState) → IsFirstDone h es ss a b → Wrote (write_ranges h ss) b c
     → Untouched b c ⊎ Contains c.pending (h.primary_lba * ss, 92) → LeavesOnFailure h es ss a c
 failed_second h es ss a b c first second (inl still) =
-    own_not_begun (images_whole h es ss a b c first second) (subst (Agrees (write_ranges (other_header h) ss) a.view) (sym still.view) first.run.view) (still.pending ∙ first.synced)
+    own_not_begun (images_whole h es ss a b c first second) (subst (AgreesOutside (write_ranges (other_header h) ss) a.view) (sym still.view) first.run.view) (still.pending ∙ first.synced)
 failed_second h es ss a b c first second (inr begun) = own_begun (images_whole h es ss a b c first second) begun

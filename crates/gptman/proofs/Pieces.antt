@@ -1,6 +1,6 @@
 -- Pieces of bytes that are laid over a list, one after the other.
 use Rattle.std.proofs.Common.{◌≡◌, ◌⊎◌, inl, inr, ◌≤◌, ℕ, ◌+◌, List, [], ◌∷◌, length, refl, sym, ◌∙◌, subst, arith}
-use Rattle.gptman_copy.specs.Disk.{Agrees, overlay}
+use Rattle.gptman_copy.specs.Disk.{AgreesOutside, overlay}
 use Rattle.gptman_copy.specs.Bytes.{part}
 use Rattle.gptman_copy.specs.Ranges.{AreApart, AreInside}
 use Rattle.gptman_copy.proofs.Ranges.{Ranges, agrees_self, agrees_then, agrees_wider, within_self, within_first, within_later}
@@ -22,9 +22,9 @@ AllStand [] b = Unit {0}
 AllStand (piece ∷ pieces) b = (part b piece.0 (length piece.1) ≡ piece.1) × AllStand pieces b
 
 -- one piece, of no bytes or within the list
-piece_agrees : (old : List ℕ) (at : ℕ) (bytes : List ℕ) → (length bytes ≡ 0) ⊎ (at + length bytes ≤ length old) → Agrees ((at, length bytes) ∷ []) old (overlay old at bytes)
+piece_agrees : (old : List ℕ) (at : ℕ) (bytes : List ℕ) → (length bytes ≡ 0) ⊎ (at + length bytes ≤ length old) → AgreesOutside ((at, length bytes) ∷ []) old (overlay old at bytes)
 piece_agrees old at bytes (inr fits) = agrees_overlay old at bytes fits
-piece_agrees old at [] (inl none) = subst (Agrees ((at, 0) ∷ []) old) (sym (overlay_nothing old at)) (agrees_self ((at, 0) ∷ []) old)
+piece_agrees old at [] (inl none) = subst (AgreesOutside ((at, 0) ∷ []) old) (sym (overlay_nothing old at)) (agrees_self ((at, 0) ∷ []) old)
 piece_agrees old at (x ∷ bytes) (inl none) = absurd (omega arith)
 
 piece_stands : (old : List ℕ) (at : ℕ) (bytes : List ℕ) → (length bytes ≡ 0) ⊎ (at + length bytes ≤ length old) → part (overlay old at bytes) at (length bytes) ≡ bytes
@@ -36,7 +36,7 @@ rest_inside : (old : List ℕ) (at : ℕ) (bytes : List ℕ) (rs : Ranges) → A
 rest_inside old at bytes rs inside = subst (AreInside rs) (sym (piece_agrees old at bytes inside.0).long) inside.1
 
 -- Outside of the pieces nothing changes.
-pub laid_agrees : (old : List ℕ) (pieces : List (ℕ × List ℕ)) → AreInside (ranges_of pieces) (length old) → Agrees (ranges_of pieces) old (laid_over old pieces)
+pub laid_agrees : (old : List ℕ) (pieces : List (ℕ × List ℕ)) → AreInside (ranges_of pieces) (length old) → AgreesOutside (ranges_of pieces) old (laid_over old pieces)
 laid_agrees old [] inside = agrees_self [] old
 laid_agrees old (piece ∷ pieces) inside =
     agrees_then (agrees_wider (within_first refl) (piece_agrees old piece.0 piece.1 inside.0))

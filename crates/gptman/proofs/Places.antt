@@ -7,7 +7,7 @@ use Rattle.std.proofs.Math.Nat.{dvd-add, dvd-mul_left}
 use Rattle.std.proofs.lemmas.Bool.{cases_lt}
 use Rattle.std.proofs.lemmas.List.Elements.{All-contains}
 use Rattle.gptman.specs.Place.{IsRun, IsAlignedSlot, AreSlots, IsPlace, IsFirstPlace, IsLastPlace, IsBestPlace, IsMaximumSize, HasNoPlace, HasNoSlot}
-use Rattle.gptman.specs.Chosen.{rounded, AreShort, IsChosen, IsEarlier, IsGreatest, IsLater, IsTighter}
+use Rattle.gptman.specs.Chosen.{round_down, AreShort, IsBestSlot, IsNoLater, IsGreatest, IsNoEarlier, IsTighter}
 use Rattle.gptman.proofs.Multiples.{one_first_multiple, multiples_apart, a_first_multiple}
 use Rattle.gptman.proofs.FreeRuns.{slot_of_run}
 
@@ -138,7 +138,7 @@ chosen_slot : (F : ℕ → Type 0) (align : ℕ) (slots : List (ℕ × ℕ)) (s 
 chosen_slot F align slots s are has = All-contains (λ s. IsAlignedSlot F align s.0 s.1) slots s are.each has
 
 pub first_is : (F : ℕ → Type 0) (align n : ℕ) (slots : List (ℕ × ℕ)) (s : ℕ × ℕ) → IsSettled F → 0 < align → 1 ≤ n → AreSlots F align slots
-    → IsChosen IsEarlier n slots s → IsFirstPlace F align n s.0
+    → IsBestSlot IsNoLater n slots s → IsFirstPlace F align n s.0
 first_is F align n slots s settled pos some are c =
     let slot = chosen_slot F align slots s are c.member in
     let fits = c.fits in
@@ -147,7 +147,7 @@ first_is F align n slots s settled pos some are c =
       least = λ t p.
           let a = around F settled align n t pos some p in
           let from = a.from in let to = a.to in
-          let early = All-contains (λ t. n ≤ t.1 → IsEarlier s t) slots (a.start, a.long) c.best (are.every a.start a.long a.slot) (omega arith) in
+          let early = All-contains (λ t. n ≤ t.1 → IsNoLater s t) slots (a.start, a.long) c.best (are.every a.start a.long a.slot) (omega arith) in
           omega arith;
     }
 
@@ -176,7 +176,7 @@ last_in align s l n pos fits ds t dt from to =
     ]
 
 pub last_is : (F : ℕ → Type 0) (align n : ℕ) (slots : List (ℕ × ℕ)) (s : ℕ × ℕ) → IsSettled F → 0 < align → 1 ≤ n → AreSlots F align slots
-    → IsChosen IsLater n slots s → IsLastPlace F align n (s.0 + (s.1 - n) / align * align)
+    → IsBestSlot IsNoEarlier n slots s → IsLastPlace F align n (s.0 + (s.1 - n) / align * align)
 last_is F align n slots s settled pos some are c =
     let slot = chosen_slot F align slots s are c.member in
     let fits = c.fits in
@@ -187,7 +187,7 @@ last_is F align n slots s settled pos some are c =
       greatest = λ t p.
           let a = around F settled align n t pos some p in
           let from = a.from in let to = a.to in
-          let late = All-contains (λ t. n ≤ t.1 → IsLater s t) slots (a.start, a.long) c.best (are.every a.start a.long a.slot) (omega arith) in
+          let late = All-contains (λ t. n ≤ t.1 → IsNoEarlier s t) slots (a.start, a.long) c.best (are.every a.start a.long a.slot) (omega arith) in
           elim (cases_lt t s.0) [
             | inl less ↦ omega arith
             | inr more ↦
@@ -205,7 +205,7 @@ tight_left : (s t : ℕ × ℕ) → IsTighter s t → s.1 ≡ t.1 → s.0 ≤ t.
 tight_left s t (inl less) e = absurd (omega arith)
 tight_left s t (inr same) e = same.1
 
-pub best_is : (F : ℕ → Type 0) (align n : ℕ) (slots : List (ℕ × ℕ)) (s : ℕ × ℕ) → AreSlots F align slots → IsChosen IsTighter n slots s
+pub best_is : (F : ℕ → Type 0) (align n : ℕ) (slots : List (ℕ × ℕ)) (s : ℕ × ℕ) → AreSlots F align slots → IsBestSlot IsTighter n slots s
     → IsBestPlace F align n s.0
 best_is F align n slots s are c = record {
   long = s.1;
@@ -216,21 +216,21 @@ best_is F align n slots s are c = record {
 }
 
 -- the greatest rounded length is the maximum
-pub max_is : (F : ℕ → Type 0) (align m : ℕ) (slots : List (ℕ × ℕ)) → AreSlots F align slots → IsGreatest (map (rounded align) slots) m
+pub max_is : (F : ℕ → Type 0) (align m : ℕ) (slots : List (ℕ × ℕ)) → AreSlots F align slots → IsGreatest (map (round_down align) slots) m
     → IsMaximumSize F align m
 max_is F align m slots are g =
     let has = g.member in
     let all = g.most in
-    let within : has.0 < length slots = omega (arith, has.1, length-map slots (rounded align)) in
+    let within : has.0 < length slots = omega (arith, has.1, length-map slots (round_down align)) in
     let s : ℕ × ℕ = get_or slots has.0 (0, 0) in
-    let below : All (λ s. rounded align s ≤ m) slots = λ j d h.
-    subst (λ (x : ℕ). x ≤ m) (get_or-map (rounded align) slots j d m h) (all j m (omega (arith, h, length-map slots (rounded align)))) in
+    let below : All (λ s. round_down align s ≤ m) slots = λ j d h.
+    subst (λ (x : ℕ). x ≤ m) (get_or-map (round_down align) slots j d m h) (all j m (omega (arith, h, length-map slots (round_down align)))) in
     record {
       start = s.0;
       long = s.1;
       slot = are.each has.0 (0, 0) within;
-      is = sym has.2 ∙ get_or-map (rounded align) slots has.0 (0, 0) m within;
-      greatest = λ t k slot. All-contains (λ s. rounded align s ≤ m) slots (t, k) below (are.every t k slot);
+      is = sym has.2 ∙ get_or-map (round_down align) slots has.0 (0, 0) m within;
+      greatest = λ t k slot. All-contains (λ s. round_down align s ≤ m) slots (t, k) below (are.every t k slot);
     }
 
 pub no_slot : (F : ℕ → Type 0) (align : ℕ) (slots : List (ℕ × ℕ)) → AreSlots F align slots → length slots ≡ 0 → HasNoSlot F align

@@ -4,8 +4,9 @@ use Rattle.std.specs.List.{range_with_len}
 use Rattle.gptman_copy.specs.Bytes.{part}
 use Rattle.gptman_copy.specs.Coding.{header_of, entry_of}
 use Rattle.gptman_copy.specs.Copy.{Copy, copy_at, copy_there, entries_of, entries_part}
-use Rattle.gptman.specs.Reading.{Place, primary, backup, copy_in}
-use Rattle.gptman.specs.Table.{TableEntry, content_of, entry_in}
+use Rattle.gptman.specs.Reading.{Side, primary, backup, copy_in}
+use Rattle.gptman.specs.Table.{TableEntry, content_of}
+use Rattle.gptman.proofs.WrittenCopy.{entry_in}
 use Rattle.gptman_copy.specs.declared.codec.entry.GPTPartitionEntry.{GPTPartitionEntry}
 use Rattle.gptman.proofs.Fallback.{backup_long, backup_room}
 use Rattle.gptman.proofs.Held.{accepted_is}
@@ -25,13 +26,13 @@ back_at b p ss copy ok =
     subst (λ (c : Copy). back c.entries ≡ c.entries) (accepted_is b p ss copy ok)
     (entries_back (λ i. part (entries_part b p ss) (128 * i) 128) (range_with_len 0 (header_of (part b p 92)).number_of_partition_entries))
 
-back_in : (place : Place) (b : List ℕ) (ss : ℕ) (copy : Copy) → copy_in place b ss ≡ Ok copy → back copy.entries ≡ copy.entries
+back_in : (side : Side) (b : List ℕ) (ss : ℕ) (copy : Copy) → copy_in side b ss ≡ Ok copy → back copy.entries ≡ copy.entries
 unfolding copy_in
 back_in primary b ss copy ok = back_at b ss ss copy ok
 back_in backup b ss copy ok = back_at b _ ss copy (sym (backup_long b ss (backup_room b ss copy ok)) ∙ ok)
 
 -- So the entries of two accepted copies are equal where they hold the same.
-pub same_entries : (first second : Place) (b c : List ℕ) (ss : ℕ) (x y : Copy) → copy_in first b ss ≡ Ok x → copy_in second c ss ≡ Ok y
+pub same_entries : (first second : Side) (b c : List ℕ) (ss : ℕ) (x y : Copy) → copy_in first b ss ≡ Ok x → copy_in second c ss ≡ Ok y
     → map content_of x.entries ≡ map content_of y.entries → x.entries ≡ y.entries
 same_entries first second b c ss x y at_first at_second same =
     sym (back_in first b ss x at_first) ∙ ap (λ (ts : List TableEntry). map entry_in ts) same ∙ back_in second c ss y at_second

@@ -1,16 +1,16 @@
--- A disk that holds a table of a list at one place at least, and whose reading takes no foreign copy, is read as one of the list.
+-- A disk that holds a table of a list at one side at least, and whose reading takes no foreign copy, is read as one of the list.
 use Rattle.std.proofs.Common.{◌≡◌, ℕ, Bool, true, false, List, length, ltb, Result, Ok, Err, refl, sym, ap, ◌∙◌, subst, inl, inr, arith}
 use Rattle.std.specs.List.{Contains}
 use Rattle.gptman_copy.specs.Fault.{Fault}
 use Rattle.gptman_copy.specs.Copy.{Copy}
 use Rattle.gptman.specs.Layout.{Holds}
-use Rattle.gptman.specs.Reading.{Place, primary, backup, copy_in, fallback, reading_of, second_copy, taken_from}
+use Rattle.gptman.specs.Reading.{Side, primary, backup, copy_in, fallback, reading_of, second_copy, taken_from}
 use Rattle.gptman.specs.Stop.{HoldsOneOf, HoldsWhatIsRead, ReadsForeign, ReadsOneOf}
 use Rattle.gptman.specs.Table.{Table, IsForm}
 use Rattle.gptman.proofs.Fallback.{backup_room, fallback_long, fallback_short, refused_first, taken_first}
 use Rattle.gptman.proofs.SameTable.{one_of_decided}
 
-abbrev from : Result Copy Fault → Place
+abbrev from : Result Copy Fault → Side
 from r = elim r [ Ok copy ↦ primary | Err fault ↦ backup ]
 
 pub from_first : (b : List ℕ) (ss : ℕ) (copy : Copy) → copy_in primary b ss ≡ Ok copy → taken_from b ss ≡ primary
@@ -26,9 +26,9 @@ pub taken_second : (b : List ℕ) (ss : ℕ) (fault : Fault) (copy : Copy) → c
 taken_second b ss fault copy refused at =
     refused_first b ss fault refused ∙ fallback_long b ss fault (backup_room b ss copy at) ∙ ap (second_copy fault) at
 
-reads_cases : (b : List ℕ) (ss : ℕ) (tables : List Table) (r : Result Copy Fault) → copy_in primary b ss ≡ r → (place : Place) (t : Table) → Contains tables t → Holds b ss place t
+reads_cases : (b : List ℕ) (ss : ℕ) (tables : List Table) (r : Result Copy Fault) → copy_in primary b ss ≡ r → (side : Side) (t : Table) → Contains tables t → Holds b ss side t
     → ¬ ReadsForeign b ss tables → ReadsOneOf b ss tables
-reads_cases b ss tables (Ok copy) is place t listed holds known =
+reads_cases b ss tables (Ok copy) is side t listed holds known =
     let taken = taken_first b ss copy is in
     elim (one_of_decided (taken_from b ss) copy tables) as (λ _. ReadsOneOf b ss tables) [
       | inl found ↦ record { copy = copy; taken = taken; table = found.table; listed = found.listed; form = found.form }
@@ -40,15 +40,15 @@ reads_cases b ss tables (Err fault) is backup t listed holds known = record {
   taken = taken_second b ss fault holds.copy is holds.accepted;
   table = t;
   listed = listed;
-  form = subst (λ (p : Place). IsForm p t holds.copy) (sym (from_second b ss fault is)) holds.form;
+  form = subst (λ (p : Side). IsForm p t holds.copy) (sym (from_second b ss fault is)) holds.form;
 }
 
 pub reads_one_of : (b : List ℕ) (ss : ℕ) (tables : List Table) → HoldsOneOf b ss tables → ¬ ReadsForeign b ss tables → ReadsOneOf b ss tables
-reads_one_of b ss tables holds known = reads_cases b ss tables (copy_in primary b ss) refl holds.place holds.table holds.listed holds.holds known
+reads_one_of b ss tables holds known = reads_cases b ss tables (copy_in primary b ss) refl holds.side holds.table holds.listed holds.holds known
 
 -- ---- what a reading takes
 
--- the fallback gives no other copy than that of the backup place
+-- the fallback gives no other copy than that of the backup side
 second_given : (b : List ℕ) (ss : ℕ) (fault : Fault) (copy : Copy) (r : Result Copy Fault) → copy_in backup b ss ≡ r → second_copy fault r ≡ Ok copy → copy_in backup b ss ≡ Ok copy
 second_given b ss fault copy (Ok second) is ok = is ∙ ok
 second_given b ss fault copy (Err second) is ok = absurd (cc)
@@ -58,12 +58,12 @@ given_by_fallback b ss fault copy true is ok = let e = sym (fallback_short b ss 
 given_by_fallback b ss fault copy false is ok = second_given b ss fault copy (copy_in backup b ss) refl (sym (fallback_long b ss fault (grind arith)) ∙ ok)
 
 taken_cases : (b : List ℕ) (ss : ℕ) (copy : Copy) (r : Result Copy Fault) → copy_in primary b ss ≡ r → reading_of b ss ≡ Ok copy → copy_in (taken_from b ss) b ss ≡ Ok copy
-taken_cases b ss copy (Ok first) is ok = ap (λ (p : Place). copy_in p b ss) (from_first b ss first is) ∙ is ∙ sym (taken_first b ss first is) ∙ ok
+taken_cases b ss copy (Ok first) is ok = ap (λ (p : Side). copy_in p b ss) (from_first b ss first is) ∙ is ∙ sym (taken_first b ss first is) ∙ ok
 taken_cases b ss copy (Err fault) is ok =
-    ap (λ (p : Place). copy_in p b ss) (from_second b ss fault is)
+    ap (λ (p : Side). copy_in p b ss) (from_second b ss fault is)
     ∙ given_by_fallback b ss fault copy (ltb (length b) ss) refl (sym (refused_first b ss fault is) ∙ ok)
 
--- What a reading takes is accepted at the place from which it is taken. In that place's form it is held there.
+-- What a reading takes is accepted at the side from which it is taken. In that side's form it is held there.
 pub holds_what_is_read : HoldsWhatIsRead
 holds_what_is_read b ss copy ok form = record {
   copy = copy;

@@ -6,7 +6,7 @@ use Rattle.std.proofs.lemmas.Bool.{and_parts, and_from}
 use Rattle.std.proofs.lemmas.Bool.Decides.{eqb_tells}
 use lib.Pointwise.{pointwise, pointwise_decides, bytes_decides}
 use Rattle.gptman_copy.specs.Copy.{Copy}
-use Rattle.gptman.specs.Reading.{Place, primary, backup}
+use Rattle.gptman.specs.Reading.{Side, primary, backup}
 use Rattle.gptman.specs.Table.{Table, TableEntry, table_of, IsForm, IsHeaderForm}
 use Rattle.gptman_copy.specs.declared.codec.header.GPTHeader.{GPTHeader}
 use Rattle.gptman_copy.proofs.Ranges.{contains_first, contains_later}
@@ -108,14 +108,14 @@ two_decided a b c d = elim (eqb_tells a b) as (λ _. ((a ≡ b) × (c ≡ d)) �
   | inr e ↦ inr (λ p. e.1 p.0)
 ]
 
-header_form_decided : (place : Place) (h : GPTHeader) → IsHeaderForm place h ⊎ (¬ IsHeaderForm place h)
+header_form_decided : (side : Side) (h : GPTHeader) → IsHeaderForm side h ⊎ (¬ IsHeaderForm side h)
 header_form_decided primary h = two_decided h.primary_lba 1 h.partition_entry_lba 2
 header_form_decided backup h = two_decided h.backup_lba 1 h.partition_entry_lba (h.last_usable_lba + 1)
 
--- A copy is a table in a place's form, or it is not.
-pub form_decided : (place : Place) (t : Table) (copy : Copy) → IsForm place t copy ⊎ (¬ IsForm place t copy)
-form_decided place t copy = elim (table_decided (table_of copy.header copy.entries) t) as (λ _. IsForm place t copy ⊎ (¬ IsForm place t copy)) [
-  | inl table ↦ elim (header_form_decided place copy.header) as (λ _. IsForm place t copy ⊎ (¬ IsForm place t copy)) [
+-- A copy is a table in a side's form, or it is not.
+pub form_decided : (side : Side) (t : Table) (copy : Copy) → IsForm side t copy ⊎ (¬ IsForm side t copy)
+form_decided side t copy = elim (table_decided (table_of copy.header copy.entries) t) as (λ _. IsForm side t copy ⊎ (¬ IsForm side t copy)) [
+  | inl table ↦ elim (header_form_decided side copy.header) as (λ _. IsForm side t copy ⊎ (¬ IsForm side t copy)) [
     | inl form ↦ inl (record { table = table; form = form })
     | inr other ↦ inr (λ is. other is.form)
   ]
@@ -130,20 +130,20 @@ contains_at x y xs (suc k) below e = inr (k, omega arith, e)
 pub contains_cases : {X : Type 0} (x y : X) (xs : List X) → Contains (x ∷ xs) y → (x ≡ y) ⊎ Contains xs y
 contains_cases x y xs has = contains_at x y xs has.0 has.1 has.2
 
--- The copy is one of the tables in the place's form, or none of them.
-pub record IsOneOf (place : Place) (copy : Copy) (tables : List Table) : Type 0 where
+-- The copy is one of the tables in the side's form, or none of them.
+pub record IsOneOf (side : Side) (copy : Copy) (tables : List Table) : Type 0 where
   pub table : Table
   pub listed : Contains tables table
-  pub form : IsForm place table copy
+  pub form : IsForm side table copy
 
-pub one_of_decided : (place : Place) (copy : Copy) (tables : List Table) → IsOneOf place copy tables ⊎ ((t : Table) → Contains tables t → ¬ IsForm place t copy)
-one_of_decided place copy [] = inr (λ t has form. absurd (omega (arith, has.1)))
-one_of_decided place copy (u ∷ tables) = elim (form_decided place u copy) as (λ _. IsOneOf place copy (u ∷ tables) ⊎ ((t : Table) → Contains (u ∷ tables) t → ¬ IsForm place t copy)) [
+pub one_of_decided : (side : Side) (copy : Copy) (tables : List Table) → IsOneOf side copy tables ⊎ ((t : Table) → Contains tables t → ¬ IsForm side t copy)
+one_of_decided side copy [] = inr (λ t has form. absurd (omega (arith, has.1)))
+one_of_decided side copy (u ∷ tables) = elim (form_decided side u copy) as (λ _. IsOneOf side copy (u ∷ tables) ⊎ ((t : Table) → Contains (u ∷ tables) t → ¬ IsForm side t copy)) [
   | inl form ↦ inl (record { table = u; listed = contains_first u tables; form = form })
-  | inr other ↦ elim (one_of_decided place copy tables) as (λ _. IsOneOf place copy (u ∷ tables) ⊎ ((t : Table) → Contains (u ∷ tables) t → ¬ IsForm place t copy)) [
+  | inr other ↦ elim (one_of_decided side copy tables) as (λ _. IsOneOf side copy (u ∷ tables) ⊎ ((t : Table) → Contains (u ∷ tables) t → ¬ IsForm side t copy)) [
     | inl found ↦ inl (record { table = found.table; listed = contains_later found.table u tables found.listed; form = found.form })
     | inr none ↦ inr (λ t has form. elim (contains_cases u t tables has) as (λ _. ⊥) [
-      | inl e ↦ other (subst (λ (v : Table). IsForm place v copy) (sym e) form)
+      | inl e ↦ other (subst (λ (v : Table). IsForm side v copy) (sym e) form)
       | inr later ↦ none t later form
     ])
   ]

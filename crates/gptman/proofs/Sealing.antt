@@ -3,8 +3,8 @@ use Rattle.std.proofs.Common.{◌≡◌, ◌++◌, ℕ, List, length, take, drop
 use Rattle.std.specs.List.{range_with_len}
 use Rattle.gptman_copy.specs.Coding.{header_bytes, array_bytes}
 use Rattle.gptman_copy.specs.Crc.{crc_of}
-use Rattle.gptman_copy.specs.Copy.{header_crc, sealed}
-use Rattle.gptman.specs.Reading.{Place, primary, backup}
+use Rattle.gptman_copy.specs.Copy.{header_crc, with_checksums}
+use Rattle.gptman.specs.Reading.{Side, primary, backup}
 use Rattle.gptman.specs.Table.{table_of, IsHeaderForm}
 use Rattle.gptman_copy.specs.Write.{write_ranges}
 use Rattle.gptman_copy.specs.declared.codec.header.GPTHeader.{GPTHeader}
@@ -40,9 +40,9 @@ cleared_same h sum long_s long_r =
     ∙ ap crc_of (cleared_listed h s r sum)
     ∙ ap (λ (g : GPTHeader). crc_of (cleared (header_bytes g))) (sym same)
 
--- Both checksums of a sealed header are right.
-pub sealed_is : (h : GPTHeader) (es : List GPTPartitionEntry) → length h.signature ≡ 8 → length h.revision ≡ 4 → IsSealed (sealed h es) es
-unfolding sealed
+-- Both checksums of a header with its checksums are right.
+pub sealed_is : (h : GPTHeader) (es : List GPTPartitionEntry) → length h.signature ≡ 8 → length h.revision ≡ 4 → IsSealed (with_checksums h es) es
+unfolding with_checksums
 sealed_is h es long_s long_r =
     let summed : GPTHeader = record h { partition_entry_array_crc32 = crc_of (array_bytes es) } in
     record {
@@ -50,23 +50,23 @@ sealed_is h es long_s long_r =
       header = sym (cleared_same summed (header_crc (header_bytes summed)) long_s long_r);
     }
 
--- a sealed header is of the same table
-pub sealed_table : (h : GPTHeader) (es : List GPTPartitionEntry) → table_of (sealed h es) es ≡ table_of h es
-unfolding sealed
+-- a header with its checksums is of the same table
+pub sealed_table : (h : GPTHeader) (es : List GPTPartitionEntry) → table_of (with_checksums h es) es ≡ table_of h es
+unfolding with_checksums
 sealed_table h es = refl
 
 -- in the same form
-pub sealed_form : (place : Place) (h : GPTHeader) (es : List GPTPartitionEntry) → IsHeaderForm place h → IsHeaderForm place (sealed h es)
-unfolding sealed
+pub sealed_form : (side : Side) (h : GPTHeader) (es : List GPTPartitionEntry) → IsHeaderForm side h → IsHeaderForm side (with_checksums h es)
+unfolding with_checksums
 sealed_form primary h es form = form
 sealed_form backup h es form = form
 
 -- and is written to the same ranges
-pub sealed_ranges : (h : GPTHeader) (es : List GPTPartitionEntry) (ss : ℕ) → write_ranges (sealed h es) ss ≡ write_ranges h ss
-unfolding sealed
+pub sealed_ranges : (h : GPTHeader) (es : List GPTPartitionEntry) (ss : ℕ) → write_ranges (with_checksums h es) ss ≡ write_ranges h ss
+unfolding with_checksums
 sealed_ranges h es ss = refl
 
 -- with the same number of entries
-pub sealed_count : (h : GPTHeader) (es : List GPTPartitionEntry) → (sealed h es).number_of_partition_entries ≡ h.number_of_partition_entries
-unfolding sealed
+pub sealed_count : (h : GPTHeader) (es : List GPTPartitionEntry) → (with_checksums h es).number_of_partition_entries ≡ h.number_of_partition_entries
+unfolding with_checksums
 sealed_count h es = refl

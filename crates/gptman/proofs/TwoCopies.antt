@@ -6,7 +6,7 @@ use Rattle.std.proofs.lemmas.List.Folds.{list_all-append}
 use Rattle.gptman_copy.specs.Coding.{FitsHeader, FitsEntry}
 use Rattle.gptman_copy.specs.Disk.{DiskState, Wrote}
 use Rattle.gptman_copy.specs.Fault.{Fault, overflow, no_space_left, first_failing}
-use Rattle.gptman_copy.specs.Copy.{sealed}
+use Rattle.gptman_copy.specs.Copy.{with_checksums}
 use Rattle.gptman_copy.specs.Write.{other_header, write_ranges, both_ranges, copy_write_fault, write_fault, has_other_header, is_addressable, is_inside, IsCopyLaid}
 use Rattle.gptman_copy.specs.declared.codec.header.GPTHeader.{GPTHeader}
 use Rattle.gptman_copy.specs.declared.codec.entry.GPTPartitionEntry.{GPTPartitionEntry}
@@ -58,27 +58,27 @@ allowed_inside h ss disk long (inr fails) = absurd fails.0
 -- The other copy was laid over old, and then the own one.
 pub record BothLaid (old new : List ℕ) (h : GPTHeader) (es : List GPTPartitionEntry) (ss : ℕ) : Type 0 where
   pub mid : List ℕ
-  pub fits_other : FitsHeader (sealed (other_header h) es)
-  pub fits_own : FitsHeader (sealed h es)
+  pub fits_other : FitsHeader (with_checksums (other_header h) es)
+  pub fits_own : FitsHeader (with_checksums h es)
   pub fits : All FitsEntry es
-  pub other : IsCopyLaid (sealed (other_header h) es) es ss old mid
-  pub own : IsCopyLaid (sealed h es) es ss mid new
+  pub other : IsCopyLaid (with_checksums (other_header h) es) es ss old mid
+  pub own : IsCopyLaid (with_checksums h es) es ss mid new
 
 -- That is so after two copies of these headers and entries.
 pub both_laid : (old start mid new : List ℕ) (h other first second : GPTHeader) (es fs gs : List GPTPartitionEntry) (ss : ℕ) → start ≡ old → other ≡ other_header h → fs ≡ es → gs ≡ es
-    → first ≡ sealed other fs → second ≡ sealed h gs → FitsHeader first × All FitsEntry fs → FitsHeader second × All FitsEntry gs
+    → first ≡ with_checksums other fs → second ≡ with_checksums h gs → FitsHeader first × All FitsEntry fs → FitsHeader second × All FitsEntry gs
     → IsCopyLaid first fs ss start mid → IsCopyLaid second gs ss mid new → BothLaid old new h es ss
 both_laid old start mid new h other first second es fs gs ss start_is other_is fs_is gs_is first_is second_is fits_first fits_second laid_first laid_second =
-    let first_to : first ≡ sealed (other_header h) es = first_is ∙ (λ i. sealed (other_is i) (fs_is i)) in
-    let second_to : second ≡ sealed h es = second_is ∙ ap (sealed h) gs_is in
+    let first_to : first ≡ with_checksums (other_header h) es = first_is ∙ (λ i. with_checksums (other_is i) (fs_is i)) in
+    let second_to : second ≡ with_checksums h es = second_is ∙ ap (with_checksums h) gs_is in
     record {
       mid = mid;
       fits_other = subst FitsHeader first_to fits_first.0;
       fits_own = subst FitsHeader second_to fits_second.0;
       fits = subst (λ (xs : List GPTPartitionEntry). All FitsEntry xs) fs_is fits_first.1;
-      other = subst (λ (b : List ℕ). IsCopyLaid (sealed (other_header h) es) es ss b mid) start_is
-          (subst (λ (xs : List GPTPartitionEntry). IsCopyLaid (sealed (other_header h) es) xs ss start mid) fs_is
+      other = subst (λ (b : List ℕ). IsCopyLaid (with_checksums (other_header h) es) es ss b mid) start_is
+          (subst (λ (xs : List GPTPartitionEntry). IsCopyLaid (with_checksums (other_header h) es) xs ss start mid) fs_is
           (subst (λ (x : GPTHeader). IsCopyLaid x fs ss start mid) first_to laid_first));
-      own = subst (λ (xs : List GPTPartitionEntry). IsCopyLaid (sealed h es) xs ss mid new) gs_is
+      own = subst (λ (xs : List GPTPartitionEntry). IsCopyLaid (with_checksums h es) xs ss mid new) gs_is
           (subst (λ (x : GPTHeader). IsCopyLaid x gs ss mid new) second_to laid_second);
     }

@@ -1,6 +1,8 @@
 -- The bytes of a header and entries, where they stand, are a copy that is accepted.
 use Rattle.std.proofs.Common.{◌≡◌, ◌≤◌, ◌<◌, ◌⊎◌, ◌+◌, ◌-◌, ◌*◌, ◌/◌, ◌^◌, ℕ, Bool, true, false, List, [], ◌∷◌, length, map, get_or, ltb, Result, Err, refl, sym, ap, ◌∙◌, subst, inl, inr, arith}
 use Rattle.std.specs.List.{All}
+use Rattle.std.specs.Prelude.{encode_utf8_all}
+use Rattle.gptman_copy.specs.Name.{text_of}
 use Rattle.std.proofs.lemmas.Bool.{ltb-true}
 use Rattle.std.proofs.lemmas.List.{get_or-map, length-map}
 use Rattle.std.proofs.lemmas.List.Elements.{All-get_or}
@@ -9,8 +11,8 @@ use Rattle.gptman_copy.specs.Coding.{IsHeaderCoding, IsEntryCoding, HasReadName,
 use Rattle.gptman_copy.specs.Crc.{crc_of}
 use Rattle.gptman_copy.specs.Fault.{Fault, invalid_signature}
 use Rattle.gptman_copy.specs.Copy.{Copy, CopyAt, copy_at, entries_start, entries_length, header_crc, right_signature, right_revision}
-use Rattle.gptman.specs.Reading.{Place, primary, backup, place_start, copy_in}
-use Rattle.gptman.specs.Table.{Table, TableEntry, IsHeaderForm, table_of, content_of, entry_in}
+use Rattle.gptman.specs.Reading.{Side, primary, backup, copy_start, copy_in}
+use Rattle.gptman.specs.Table.{Table, TableEntry, IsHeaderForm, table_of, content_of}
 use Rattle.gptman.specs.Layout.{Holds, IsLaidOut, array_start}
 use Rattle.gptman_copy.specs.Write.{HasBytes}
 use Rattle.gptman_copy.specs.declared.codec.header.GPTHeader.{GPTHeader}
@@ -21,6 +23,17 @@ use Rattle.gptman_copy.proofs.ArrayBytes.{array_long, array_part}
 use Rattle.gptman_copy.proofs.Overlays.{part-part}
 use Rattle.gptman.proofs.CopyThere.{copy_there_is}
 use Rattle.gptman.proofs.Sealing.{IsSealed}
+
+-- an entry as it is read back: its text is that of its units
+abbrev pub entry_in : TableEntry → GPTPartitionEntry
+entry_in e = record {
+  partition_type_guid = e.partition_type_guid;
+  unique_partition_guid = e.unique_partition_guid;
+  starting_lba = e.starting_lba;
+  ending_lba = e.ending_lba;
+  attribute_bits = e.attribute_bits;
+  partition_name = record { text = encode_utf8_all (text_of e.units); units = e.units };
+}
 
 -- an entry as it is read back: its text is that of its units
 abbrev pub as_read : GPTPartitionEntry → GPTPartitionEntry
@@ -87,15 +100,15 @@ read_content (e ∷ es) = ap (λ (xs : List TableEntry). content_of e ∷ xs) (r
 pub read_table : (h : GPTHeader) (es : List GPTPartitionEntry) → table_of h (map as_read es) ≡ table_of h es
 read_table h es = ap (λ (xs : List TableEntry). record (table_of h es) { entries = xs }) (read_content es)
 
--- a header of the layout is written where its place begins
-pub written_start : (place : Place) (h : GPTHeader) (es : List GPTPartitionEntry) (ss len : ℕ) → IsHeaderForm place h → IsLaidOut (table_of h es) ss len → h.primary_lba * ss ≡ place_start place len ss
+-- a header of the layout is written where its side begins
+pub written_start : (side : Side) (h : GPTHeader) (es : List GPTPartitionEntry) (ss len : ℕ) → IsHeaderForm side h → IsLaidOut (table_of h es) ss len → h.primary_lba * ss ≡ copy_start side len ss
 written_start primary h es ss len form laid = ap (λ (n : ℕ). n * ss) form.0 ∙ (let e : 1 * ss ≡ ss = omega arith in e)
 written_start backup h es ss len form laid =
     let sector : h.primary_lba ≡ len / ss - 1 = omega (arith, laid.low_sector, laid.high_sector, form.0) in
     ap (λ (n : ℕ). n * ss) sector
 
 -- and its entries where theirs do
-pub written_array : (place : Place) (h : GPTHeader) (es : List GPTPartitionEntry) (ss : ℕ) → IsHeaderForm place h → h.partition_entry_lba * ss ≡ array_start place (table_of h es) ss
+pub written_array : (side : Side) (h : GPTHeader) (es : List GPTPartitionEntry) (ss : ℕ) → IsHeaderForm side h → h.partition_entry_lba * ss ≡ array_start side (table_of h es) ss
 written_array primary h es ss form = ap (λ (n : ℕ). n * ss) form.1
 written_array backup h es ss form = ap (λ (n : ℕ). n * ss) form.1
 
@@ -103,32 +116,32 @@ on_disk : (at len : ℕ) → ((let n : ℕ = 92 in n ≡ 0) ⊎ (at + 92 ≤ len
 on_disk at len (inl e) = absurd (omega arith)
 on_disk at len (inr h) = h
 
--- a table's header at a place lies on the disk
-pub header_inside : (place : Place) (t : Table) (ss len : ℕ) → IsLaidOut t ss len → place_start place len ss + 92 ≤ len
+-- a table's header at a side lies on the disk
+pub header_inside : (side : Side) (t : Table) (ss len : ℕ) → IsLaidOut t ss len → copy_start side len ss + 92 ≤ len
 header_inside primary t ss len laid = on_disk ss len laid.inside.0
-header_inside backup t ss len laid = on_disk (place_start backup len ss) len laid.inside.1.1.0
+header_inside backup t ss len laid = on_disk (copy_start backup len ss) len laid.inside.1.1.0
 
 -- and so do its entries
-pub array_inside : (place : Place) (t : Table) (ss len : ℕ) → IsLaidOut t ss len → (128 * t.count ≡ 0) ⊎ (array_start place t ss + 128 * t.count ≤ len)
+pub array_inside : (side : Side) (t : Table) (ss len : ℕ) → IsLaidOut t ss len → (128 * t.count ≡ 0) ⊎ (array_start side t ss + 128 * t.count ≤ len)
 array_inside primary t ss len laid = laid.inside.1.0
 array_inside backup t ss len laid = laid.inside.1.1.1.0
 
--- the copy at a place of a disk with a sector
-pub copy_in-at : (place : Place) (b : List ℕ) (ss : ℕ) → ss ≤ length b → (short : Bool) → ltb (length b) ss ≡ short → copy_in place b ss ≡ copy_at b (place_start place (length b) ss) ss
+-- the copy at a side of a disk with a sector
+pub copy_in-at : (side : Side) (b : List ℕ) (ss : ℕ) → ss ≤ length b → (short : Bool) → ltb (length b) ss ≡ short → copy_in side b ss ≡ copy_at b (copy_start side (length b) ss) ss
 unfolding copy_in
 copy_in-at primary b ss long short is = refl
 copy_in-at backup b ss long true is = absurd (omega (arith, ltb-true (length b) ss is))
 copy_in-at backup b ss long false is =
-    let choose : Bool → Result Copy Fault = λ t. elim t [ true ↦ Err invalid_signature | false ↦ copy_at b (place_start backup (length b) ss) ss ] in
+    let choose : Bool → Result Copy Fault = λ t. elim t [ true ↦ Err invalid_signature | false ↦ copy_at b (copy_start backup (length b) ss) ss ] in
     ap choose is
 
--- A table of the layout whose bytes stand on the disk is held at its place.
-pub written_holds : (b : List ℕ) (ss : ℕ) (place : Place) (h : GPTHeader) (es : List GPTPartitionEntry) → length b ≤ 2 ^ 64 → IsLaidOut (table_of h es) ss (length b) → IsHeaderForm place h
-    → FitsHeader h → All FitsEntry es → IsSealed h es → HasBytes b h es ss → Holds b ss place (table_of h es)
-written_holds b ss place h es small laid form header_fits fits sums has =
-    let p : ℕ = place_start place (length b) ss in
+-- A table of the layout whose bytes stand on the disk is held at its side.
+pub written_holds : (b : List ℕ) (ss : ℕ) (side : Side) (h : GPTHeader) (es : List GPTPartitionEntry) → length b ≤ 2 ^ 64 → IsLaidOut (table_of h es) ss (length b) → IsHeaderForm side h
+    → FitsHeader h → All FitsEntry es → IsSealed h es → HasBytes b h es ss → Holds b ss side (table_of h es)
+written_holds b ss side h es small laid form header_fits fits sums has =
+    let p : ℕ = copy_start side (length b) ss in
     let t : Table = table_of h es in
-    let inside = header_inside place t ss (length b) laid in
+    let inside = header_inside side t ss (length b) laid in
     let count : length es ≡ h.number_of_partition_entries = sym (length-map es content_of) ∙ laid.entries in
     let right : IsRight h es = record {
       signature = laid.signature;
@@ -137,20 +150,20 @@ written_holds b ss place h es small laid form header_fits fits sums has =
       entry_size = inr laid.entry_size;
       count = count;
     } in
-    let start : entries_start h ss ≡ array_start place t ss = written_array place h es ss form in
+    let start : entries_start h ss ≡ array_start side t ss = written_array side h es ss form in
     let in_array : (h.number_of_partition_entries ≡ 0) ⊎ (entries_start h ss + entries_length h ≤ length b) =
-    elim (array_inside place t ss (length b) laid) as (λ _. (h.number_of_partition_entries ≡ 0) ⊎ (entries_start h ss + entries_length h ≤ length b)) [
+    elim (array_inside side t ss (length b) laid) as (λ _. (h.number_of_partition_entries ≡ 0) ⊎ (entries_start h ss + entries_length h ≤ length b)) [
       | inl none ↦ inl (omega (arith, none))
       | inr within ↦ inr (omega (arith, within, start))
     ] in
     let long : entries_length h ≡ length (array_bytes es) = omega (arith, array_long es fits, count) in
     let at = written_at b p ss h es header_fits fits sums right inside in_array
-    (ap (λ (k : ℕ). part b k 92) (sym (written_start place h es ss (length b) form laid)) ∙ has.header)
+    (ap (λ (k : ℕ). part b k 92) (sym (written_start side h es ss (length b) form laid)) ∙ has.header)
     (ap (λ (n : ℕ). part b (entries_start h ss) n) long ∙ has.entries) in
     record {
       copy = record { header = h; entries = map as_read es };
       accepted =
-          copy_in-at place b ss (omega (arith, header_inside primary t ss (length b) laid)) (ltb (length b) ss) refl
+          copy_in-at side b ss (omega (arith, header_inside primary t ss (length b) laid)) (ltb (length b) ss) refl
           ∙ copy_there_is b p ss h (map as_read es) small at;
       form = record { table = read_table h es; form = form };
     }

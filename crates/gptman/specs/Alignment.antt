@@ -26,11 +26,6 @@ pub record IsAlignmentOf (first : ℕ) (starts : List ℕ) (a : ℕ) : Type 0 wh
   pub zero : starts ≢ [] → AreZero starts → a ≡ 1
   pub other : starts ≢ [] → starts ≢ first ∷ [] → ¬ AreZero starts → IsGreatestDivisor starts a
 
--- g is a common divisor, which each common divisor divides
-pub record IsCommonDivisor (starts : List ℕ) (g : ℕ) : Type 0 where
-  pub divides : All (λ s. g ∣ s) starts
-  pub greatest : (d : ℕ) → All (λ s. d ∣ s) starts → d ∣ g
-
 -- the same for one number and up to 16384
 pub record IsGreatestUpTo (number a : ℕ) : Type 0 where
   pub low : 1 ≤ a

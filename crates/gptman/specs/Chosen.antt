@@ -6,7 +6,7 @@ abbrev pub AreShort : ℕ → List (ℕ × ℕ) → Type 0
 AreShort n slots = All (λ s. s.1 < n) slots
 
 -- Of the slots of at least n sectors, s is no worse than any.
-pub record IsChosen (better : ℕ × ℕ → ℕ × ℕ → Type 0) (n : ℕ) (slots : List (ℕ × ℕ)) (s : ℕ × ℕ) : Type 0 where
+pub record IsBestSlot (better : ℕ × ℕ → ℕ × ℕ → Type 0) (n : ℕ) (slots : List (ℕ × ℕ)) (s : ℕ × ℕ) : Type 0 where
   pub member : Contains slots s
   pub fits : n ≤ s.1
   pub best : All (λ t. n ≤ t.1 → better s t) slots
@@ -15,19 +15,19 @@ pub record IsChosen (better : ℕ × ℕ → ℕ × ℕ → Type 0) (n : ℕ) (s
 abbrev pub IsBefore : ℕ × ℕ → ℕ × ℕ → Type 0
 IsBefore s t = s.0 < t.0
 
-abbrev pub IsEarlier : ℕ × ℕ → ℕ × ℕ → Type 0
-IsEarlier s t = s.0 ≤ t.0
+abbrev pub IsNoLater : ℕ × ℕ → ℕ × ℕ → Type 0
+IsNoLater s t = s.0 ≤ t.0
 
-abbrev pub IsLater : ℕ × ℕ → ℕ × ℕ → Type 0
-IsLater s t = t.0 ≤ s.0
+abbrev pub IsNoEarlier : ℕ × ℕ → ℕ × ℕ → Type 0
+IsNoEarlier s t = t.0 ≤ s.0
 
 -- shorter, or as long and not later
 abbrev pub IsTighter : ℕ × ℕ → ℕ × ℕ → Type 0
 IsTighter s t = (s.1 < t.1) ⊎ ((s.1 ≡ t.1) × (s.0 ≤ t.0))
 
 -- the greatest multiple of align that the slot has room for
-abbrev pub rounded : ℕ → ℕ × ℕ → ℕ
-rounded align s = s.1 - s.1 % align
+abbrev pub round_down : ℕ → ℕ × ℕ → ℕ
+round_down align s = s.1 - s.1 % align
 
 -- m is the greatest of the numbers
 pub record IsGreatest (numbers : List ℕ) (m : ℕ) : Type 0 where

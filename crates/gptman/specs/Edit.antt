@@ -10,15 +10,15 @@ use Rattle.gptman.specs.declared.edit.Edit.TheVariants.{Put, Remove, SortEntries
 use Rattle.gptman.specs.declared.table.GPT.{GPT}
 
 -- what an edit makes of a table
-abbrev pub edited : GPT → Edit → GPT
-edited g (Put i e) = with_entry g i e
-edited g (Remove i) = with_entry g i empty_entry
-edited g SortEntries = with_entries g (by_rank rank (entries_in g))
-edited g (DiskGuid guid) = record g { header = record g.header { disk_guid = guid } }
+abbrev pub after_edit : GPT → Edit → GPT
+after_edit g (Put i e) = with_entry g i e
+after_edit g (Remove i) = with_entry g i empty_entry
+after_edit g SortEntries = with_entries g (by_rank rank (entries_in g))
+after_edit g (DiskGuid guid) = record g { header = record g.header { disk_guid = guid } }
 
 -- the table after the first k edits
 abbrev pub table_after : GPT → List Edit → ℕ → GPT
-table_after g edits k = fold edited g (take k edits)
+table_after g edits k = fold after_edit g (take k edits)
 
 -- what is refused of an edit's number
 abbrev pub edit_fault : GPT → Edit → Option Fault

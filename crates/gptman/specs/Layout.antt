@@ -1,19 +1,21 @@
 -- The stated layout of a disk, and where a table stands in it.
 use Rattle.std.specs.Prelude.{◌≡◌, ◌≤◌, ◌<◌, ◌⊎◌, ◌+◌, ◌-◌, ◌*◌, ◌/◌, ◌^◌, ℕ, List, [], ◌∷◌, ◌++◌, length, min, max, Ok}
 use Rattle.gptman_copy.specs.Copy.{Copy, right_signature, right_revision}
-use Rattle.gptman.specs.Reading.{Place, primary, backup, place_start, copy_in}
-use Rattle.gptman.specs.Table.{Table, IsForm, IsHeaderForm}
+use Rattle.gptman.specs.Reading.{Side, primary, backup, copy_start, copy_in}
+use Rattle.gptman.specs.Table.{Table, entries_in, table_of, IsForm, IsHeaderForm}
+use Rattle.gptman_copy.specs.declared.codec.entry.GPTPartitionEntry.{GPTPartitionEntry}
 use Rattle.gptman_copy.specs.declared.codec.header.GPTHeader.{GPTHeader}
+use Rattle.gptman.specs.declared.table.GPT.{GPT}
 use Rattle.gptman_copy.specs.Ranges.{AreApart, AreInside}
 
--- where the entries of a table in the form of a place begin
-abbrev pub array_start : Place → Table → ℕ → ℕ
+-- where the entries of a table in the form of a side begin
+abbrev pub array_start : Side → Table → ℕ → ℕ
 array_start primary t ss = 2 * ss
 array_start backup t ss = (t.last_usable_lba + 1) * ss
 
--- The two ranges of a table at a place of a disk of len bytes, each a start and a length: its header, its entries.
-abbrev pub ranges_at : Place → Table → ℕ → ℕ → List (ℕ × ℕ)
-ranges_at place t ss len = (place_start place len ss, 92) ∷ (array_start place t ss, 128 * t.count) ∷ []
+-- The two ranges of a table at a side of a disk of len bytes, each a start and a length: its header, its entries.
+abbrev pub ranges_at : Side → Table → ℕ → ℕ → List (ℕ × ℕ)
+ranges_at side t ss len = (copy_start side len ss, 92) ∷ (array_start side t ss, 128 * t.count) ∷ []
 
 -- all four
 abbrev pub four_ranges : Table → ℕ → ℕ → List (ℕ × ℕ)
@@ -33,13 +35,17 @@ pub record IsLaidOut (t : Table) (ss len : ℕ) : Type 0 where
   pub apart : AreApart (four_ranges t ss len)
   pub fits : t.last_usable_lba + 1 < 2 ^ 64
 
--- The stated layout of a header's table, with the header in one of the two forms.
-pub record HasLayout (h : GPTHeader) (t : Table) (ss len : ℕ) : Type 0 where
-  pub table : IsLaidOut t ss len
+-- The stated layout of the table of a header and entries, with the header in one of the two forms.
+pub record IsInLayout (h : GPTHeader) (es : List GPTPartitionEntry) (ss len : ℕ) : Type 0 where
+  pub table : IsLaidOut (table_of h es) ss len
   pub form : IsHeaderForm primary h ⊎ IsHeaderForm backup h
 
--- The copy at that place is accepted and is the table in that place's form.
-pub record Holds (b : List ℕ) (ss : ℕ) (place : Place) (t : Table) : Type 0 where
+-- the value has the stated layout on a disk of len bytes
+abbrev pub HasLayout : GPT → ℕ → Type 0
+HasLayout g len = IsInLayout g.header (entries_in g) g.sector_size len
+
+-- The copy at that side is accepted and is the table in that side's form.
+pub record Holds (b : List ℕ) (ss : ℕ) (side : Side) (t : Table) : Type 0 where
   pub copy : Copy
-  pub accepted : copy_in place b ss ≡ Ok copy
-  pub form : IsForm place t copy
+  pub accepted : copy_in side b ss ≡ Ok copy
+  pub form : IsForm side t copy

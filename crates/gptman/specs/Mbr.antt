@@ -1,6 +1,9 @@
 -- The protective MBR.
-use Rattle.std.specs.Prelude.{ℕ, ◌-◌, ◌/◌, Bool, List, [], ◌∷◌, ◌++◌, min, replicate, Option, nat_le, if◌then◌else◌}
+use Rattle.std.specs.Prelude.{◌≡◌, OnOk, Result, ℕ, ◌-◌, ◌/◌, Bool, List, [], ◌∷◌, ◌++◌, min, replicate, Option, nat_le, if◌then◌else◌}
 use Rattle.byteorder.specs.Endian.{little_bytes}
+use Rattle.gptman_copy.specs.Answers.{Settles}
+use Rattle.gptman_copy.specs.Disk.{overlay, DiskState, IsHonest}
+use Rattle.gptman_copy.specs.declared.error.Error.{Error}
 use Rattle.gptman_copy.specs.Fault.{Fault, overflow, no_space_left, first_failing}
 
 -- The 66 bytes from byte 446 on: one partition over all whole sectors but the first, three empty ones, and the mark.
@@ -12,3 +15,25 @@ mbr_bytes bootable ss len =
 -- What is refused: a disk below one sector, and one below the 512 bytes at whose end the MBR stands.
 abbrev pub mbr_fault : ℕ → ℕ → Option Fault
 mbr_fault ss len = first_failing ((nat_le ss len, overflow) ∷ (nat_le 512 len, no_space_left) ∷ [])
+
+-- the 66 bytes
+abbrev pub mbr_range : ℕ × ℕ
+mbr_range = (446, 66)
+
+-- The bytes became an MBR, and are not synced.
+pub record IsMbrLaid (bootable : Bool) (ss : ℕ) (old new : DiskState) : Type 0 where
+  pub view : new.view ≡ overlay old.view 446 (mbr_bytes bootable ss old.size)
+  pub pending : new.pending ≡ mbr_range ∷ old.pending
+
+-- what writing an MBR answers
+abbrev pub AnswersMbr : {T : Type 0} → ℕ → Result T Error → DiskState → DiskState → Type 0
+AnswersMbr ss result old new = Settles (mbr_fault ss old.size) result old new
+
+-- on an honest disk, Ok has laid the MBR
+abbrev pub LaysMbr : {T E : Type 0} → Bool → ℕ → Result T E → DiskState → DiskState → Type 0
+LaysMbr bootable ss result old new = IsHonest old → OnOk result (IsMbrLaid bootable ss old new)
+
+-- The bytes became an MBR, and all is synced.
+pub record IsMbrStored (bootable : Bool) (ss : ℕ) (old new : DiskState) : Type 0 where
+  pub view : new.view ≡ overlay old.view 446 (mbr_bytes bootable ss old.size)
+  pub synced : new.pending ≡ []

@@ -1,7 +1,6 @@
 -- Entries by their numbers, which count from 1.
-use Rattle.std.specs.Prelude.{◌≡◌, ◌≤◌, ℕ, ◌+◌, ◌-◌, Bool, ◌&&◌, nat_le, if◌then◌else◌, List, ◌++◌, length, take, drop, position, slice_index_or, slice_set, Option, Some, None, Result, Err}
+use Rattle.std.specs.Prelude.{◌≤◌, ℕ, ◌+◌, ◌-◌, Bool, ◌&&◌, nat_le, if◌then◌else◌, List, ◌++◌, length, take, drop, position, slice_index_or, slice_set, Option, Some, None, Result, Err}
 use Rattle.std.specs.Option.{option_map}
-use Rattle.std.specs.List.{enumerate_from}
 use Rattle.gptman_copy.specs.Coding.{empty_entry}
 use Rattle.gptman_copy.specs.Entry.{bytes_of, covers}
 use Rattle.gptman_copy.specs.Fault.{Fault, invalid_partition_number, partition_not_found}
@@ -53,8 +52,3 @@ byte_range_in g i = if has_number g i then bytes_of g.sector_size (entry_at g i)
 -- the elements ws written over xs, which keeps its length
 abbrev pub written_over : {X : Type 0} → List X → List X → List X
 written_over xs ws = take (length xs) (ws ++ drop (length ws) xs)
-
--- n elements of xs have been passed, and those of left, each with its number, are still to come
-pub record IsAt {X : Type 0} (xs : List X) (n : ℕ) (left : List (ℕ × X)) : Type 0 where
-  pub left_is : left ≡ enumerate_from (n + 1) (drop n xs)
-  pub within : n ≤ length xs

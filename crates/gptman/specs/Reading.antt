@@ -1,21 +1,21 @@
--- Reading a table: the copy at the primary place, or else the one at the backup place.
+-- Reading a table: the copy at the primary side, or else the one at the backup side.
 use Rattle.std.specs.Prelude.{ℕ, ◌-◌, ◌*◌, ◌/◌, ◌&&◌, true, false, List, length, nat_lt, Result, Ok, Err, if◌then◌else◌}
 use Rattle.gptman_copy.specs.Fault.{Fault, invalid_signature, read_error, is_signature_fault}
 use Rattle.gptman_copy.specs.Copy.{Copy, copy_at}
 
-pub data Place : Type 0 where
-  primary : Place
-  backup : Place
+pub data Side : Type 0 where
+  primary : Side
+  backup : Side
 
--- where a place begins on a disk of len bytes: in sector 1, or in the last whole sector
-abbrev pub place_start : Place → ℕ → ℕ → ℕ
-place_start primary len ss = ss
-place_start backup len ss = (len / ss - 1) * ss
+-- where a side begins on a disk of len bytes: in sector 1, or in the last whole sector
+abbrev pub copy_start : Side → ℕ → ℕ → ℕ
+copy_start primary len ss = ss
+copy_start backup len ss = (len / ss - 1) * ss
 
--- the copy at a place; a disk of less than a sector has no backup place
-unfoldable pub copy_in : Place → List ℕ → ℕ → Result Copy Fault
-copy_in primary b ss = copy_at b (place_start primary (length b) ss) ss
-copy_in backup b ss = elim (nat_lt (length b) ss) [ true ↦ Err invalid_signature | false ↦ copy_at b (place_start backup (length b) ss) ss ]
+-- the copy at a side; a disk of less than a sector has no backup side
+unfoldable pub copy_in : Side → List ℕ → ℕ → Result Copy Fault
+copy_in primary b ss = copy_at b (copy_start primary (length b) ss) ss
+copy_in backup b ss = elim (nat_lt (length b) ss) [ true ↦ Err invalid_signature | false ↦ copy_at b (copy_start backup (length b) ss) ss ]
 
 -- the one fault that is said of two
 abbrev pub both : Fault → Fault → Fault
@@ -34,8 +34,8 @@ fallback b ss first = elim (nat_lt (length b) ss) [ true ↦ Err invalid_signatu
 unfoldable pub reading_of : List ℕ → ℕ → Result Copy Fault
 reading_of b ss = elim (copy_in primary b ss) [ Ok copy ↦ Ok copy | Err first ↦ fallback b ss first ]
 
--- the place from which it takes it
-unfoldable pub taken_from : List ℕ → ℕ → Place
+-- the side from which it takes it
+unfoldable pub taken_from : List ℕ → ℕ → Side
 taken_from b ss = elim (copy_in primary b ss) [ Ok copy ↦ primary | Err fault ↦ backup ]
 
 -- the sector size that is settled on: 4096 only where 512 shows no signature

@@ -1,10 +1,9 @@
 -- What a table is, whichever of its two forms one looks at.
-use Rattle.std.specs.Prelude.{◌≡◌, ◌+◌, ℕ, List, replicate, map, min, max, encode_utf8_all}
-use Rattle.gptman_copy.specs.Name.{text_of}
+use Rattle.std.specs.Prelude.{◌≡◌, ◌+◌, ℕ, List, replicate, map, min, max}
 use Rattle.gptman_copy.specs.Coding.{empty_entry}
-use Rattle.gptman_copy.specs.Fit.{new_header, fitted}
+use Rattle.gptman_copy.specs.Fit.{new_header, fit_header}
 use Rattle.gptman_copy.specs.Copy.{Copy}
-use Rattle.gptman.specs.Reading.{Place, primary, backup}
+use Rattle.gptman.specs.Reading.{Side, primary, backup}
 use Rattle.gptman_copy.specs.declared.codec.header.GPTHeader.{GPTHeader}
 use Rattle.gptman_copy.specs.declared.codec.entry.GPTPartitionEntry.{GPTPartitionEntry}
 use Rattle.gptman.specs.declared.table.GPT.{GPT}
@@ -69,31 +68,24 @@ abbrev pub table_in : GPT → Table
 table_in g = table_of g.header (entries_in g)
 
 -- A header stands in this form: in sector 1 with its entries from sector 2, or in the other sector with its entries behind the last usable one.
-abbrev pub IsHeaderForm : Place → GPTHeader → Type 0
+abbrev pub IsHeaderForm : Side → GPTHeader → Type 0
 IsHeaderForm primary h = (h.primary_lba ≡ 1) × (h.partition_entry_lba ≡ 2)
 IsHeaderForm backup h = (h.backup_lba ≡ 1) × (h.partition_entry_lba ≡ h.last_usable_lba + 1)
 
--- the copy is the table in the form of that place
-pub record IsForm (place : Place) (t : Table) (copy : Copy) : Type 0 where
+-- the copy is the table in the form of that side
+pub record IsForm (side : Side) (t : Table) (copy : Copy) : Type 0 where
   pub table : table_of copy.header copy.entries ≡ t
-  pub form : IsHeaderForm place copy.header
-
--- an entry as it is read back: its text is that of its units
-abbrev pub entry_in : TableEntry → GPTPartitionEntry
-entry_in e = record {
-  partition_type_guid = e.partition_type_guid;
-  unique_partition_guid = e.unique_partition_guid;
-  starting_lba = e.starting_lba;
-  ending_lba = e.ending_lba;
-  attribute_bits = e.attribute_bits;
-  partition_name = record { text = encode_utf8_all (text_of e.units); units = e.units };
-}
+  pub form : IsHeaderForm side copy.header
 
 -- the value of a new table on a disk of that length: 128 unused entries
 abbrev pub new_table : List ℕ → ℕ → ℕ → GPT
 new_table guid ss len = record {
   sector_size = ss;
-  header = fitted (new_header guid) ss len;
+  header = fit_header (new_header guid) ss len;
   partitions = replicate 128 empty_entry;
   align = 2048;
 }
+
+-- the value with its header fitted to a disk of len bytes
+abbrev pub grow_to : GPT → ℕ → GPT
+grow_to g len = record g { header = fit_header g.header g.sector_size len }

@@ -1,10 +1,11 @@
 -- What reading a table answers.
 use Rattle.std.specs.Prelude.{◌≡◌, ◌⊎◌, ◌&&◌, ℕ, Bool, true, false, List, Result, Ok, Err, IsErr}
 use Rattle.gptman_copy.specs.Answers.{answer_of, Refuses, is_damage}
-use Rattle.gptman_copy.specs.Copy.{Copy}
-use Rattle.gptman_copy.specs.Disk.{DiskState, Rose}
+use Rattle.gptman_copy.specs.Copy.{Copy, IsCoherent}
+use Rattle.gptman.specs.Alignment.{IsAlignment}
+use Rattle.gptman_copy.specs.Disk.{DiskState, IsHonest, Rose}
 use Rattle.gptman_copy.specs.Fault.{Fault, io, invalid_signature, read_error, out_of_memory}
-use Rattle.gptman.specs.Reading.{Place, primary, backup, copy_in, fallback, reading_of}
+use Rattle.gptman.specs.Reading.{Side, primary, backup, copy_in, fallback, reading_of}
 use Rattle.gptman.specs.Table.{entries_in}
 use Rattle.gptman_copy.specs.declared.error.Error.{Error}
 use Rattle.gptman.specs.declared.table.GPT.{GPT}
@@ -21,14 +22,27 @@ is_reading_fault _ = false
 abbrev pub copy_of : GPT → Copy
 copy_of g = record { header = g.header; entries = entries_in g }
 
--- The copy is accepted at the primary place, or at the backup place where the primary one is not or the disk failed.
-abbrev pub IsTakenCopy : DiskState → DiskState → ℕ → Copy → Type 0
-IsTakenCopy old new ss copy =
+-- On an honest disk that did not fail the answer is this one, or that there is no memory.
+abbrev pub AnswersReading : Result Copy Fault → Result GPT Error → DiskState → DiskState → Type 0
+AnswersReading answer result old new = IsHonest old → Rose old new ⊎ (Refuses result out_of_memory ⊎ (answer_of copy_of result ≡ answer))
+
+-- a reading with sectors of 512 bytes shows no signature
+abbrev pub ShowsNoSignature : List ℕ → Type 0
+ShowsNoSignature b = reading_of b 512 ≡ Err invalid_signature
+
+-- A value as a reading makes it: its entries are as its header says, and its alignment is theirs.
+pub record IsAsRead (g : GPT) : Type 0 where
+  pub coherent : IsCoherent g.header (entries_in g)
+  pub align : IsAlignment g.header (entries_in g) g.align
+
+-- The copy is accepted at the primary side, or at the backup side where the primary one is not or the disk failed.
+abbrev pub MayBeRead : DiskState → DiskState → ℕ → Copy → Type 0
+MayBeRead old new ss copy =
     (copy_in primary old.view ss ≡ Ok copy) ⊎ ((copy_in backup old.view ss ≡ Ok copy) × (IsErr (copy_in primary old.view ss) ⊎ Rose old new))
 
 -- a copy's fault, or that the disk failed
-abbrev pub IsCopyFault : Place → List ℕ → ℕ → Fault → Type 0
-IsCopyFault place b ss fault = (fault ≡ io) ⊎ (copy_in place b ss ≡ Err fault)
+abbrev pub IsCopyFault : Side → List ℕ → ℕ → Fault → Type 0
+IsCopyFault side b ss fault = (fault ≡ io) ⊎ (copy_in side b ss ≡ Err fault)
 
 -- Both copies' faults.
 pub record AreBothFaults (b : List ℕ) (ss : ℕ) (fault : Fault) : Type 0 where

@@ -1,11 +1,11 @@
 -- What writing a table answers, and what it leaves.
-use Rattle.std.specs.Prelude.{◌≡◌, ◌≢◌, ◌⊎◌, ◌*◌, ℕ, List, [], All, Contains, Some, Result}
-use Rattle.gptman_copy.specs.Answers.{Refuses, Settles}
+use Rattle.std.specs.Prelude.{◌≡◌, ◌≢◌, ◌⊎◌, ◌*◌, ℕ, List, [], All, Contains, Option, None, Some, Result, IfErr}
+use Rattle.gptman_copy.specs.Answers.{IsFailure, Refuses}
 use Rattle.gptman_copy.specs.Coding.{FitsHeader, FitsEntry}
-use Rattle.gptman_copy.specs.Copy.{sealed}
-use Rattle.gptman_copy.specs.Disk.{DiskState, Agrees, Image, Within, Untouched}
-use Rattle.gptman_copy.specs.Fault.{Fault, overflow, out_of_memory}
-use Rattle.gptman_copy.specs.Write.{HasBytes, other_header, write_fault, write_ranges}
+use Rattle.gptman_copy.specs.Copy.{with_checksums}
+use Rattle.gptman_copy.specs.Disk.{DiskState, AgreesOutside, Image, IsHonest, OnlyRead, Within, Untouched}
+use Rattle.gptman_copy.specs.Fault.{Fault, fault_of, io, no_space_left, overflow, out_of_memory}
+use Rattle.gptman_copy.specs.Write.{both_ranges, HasBytes, other_header, SameButSums, write_fault, write_ranges}
 use Rattle.gptman.specs.Table.{entries_in}
 use Rattle.gptman.specs.Valid.{IsValid, IsValidity}
 use Rattle.gptman_copy.specs.declared.error.Error.{Error}
@@ -14,8 +14,40 @@ use Rattle.gptman_copy.specs.declared.codec.entry.GPTPartitionEntry.{GPTPartitio
 use Rattle.gptman.specs.declared.table.GPT.{GPT}
 
 -- the value with its checksums made
-abbrev pub sealed_value : GPT → GPT
-sealed_value g = record g { header = sealed g.header (entries_in g) }
+abbrev pub value_with_checksums : GPT → GPT
+value_with_checksums g = record g { header = with_checksums g.header (entries_in g) }
+
+-- the same value, but for the two checksums of its header
+abbrev pub IsButSums : GPT → GPT → Type 0
+IsButSums g new = (new ≡ record g { header = new.header }) × SameButSums g.header new.header
+
+-- the header of the other copy, with its checksums
+abbrev pub other_with_checksums : GPT → GPTHeader
+other_with_checksums g = with_checksums (other_header g.header) (entries_in g)
+
+-- what is refused of a valid value on a disk of len bytes
+abbrev pub table_write_fault : GPT → ℕ → Option Fault
+table_write_fault g len = write_fault g.header g.sector_size len
+
+-- there is room for both copies
+abbrev pub HasRoomOn : GPT → ℕ → Type 0
+HasRoomOn g len = table_write_fault g len ≡ None
+
+-- the ranges of both copies of a value
+abbrev pub table_ranges : GPT → List (ℕ × ℕ)
+table_ranges g = both_ranges g.header g.sector_size
+
+-- a refusal other than NoSpaceLeft is answered whatever the disk does
+abbrev pub RefusesAtOnce : {T : Type 0} → Option Fault → Result T Error → Type 0
+RefusesAtOnce refusal result = (fault : Fault) → refusal ≡ Some fault → (fault ≡ no_space_left) ⊎ Refuses result fault
+
+-- On an honest disk a refusal other than Io has only read.
+abbrev pub RefusesUnwritten : {T : Type 0} → Result T Error → DiskState → DiskState → Type 0
+RefusesUnwritten result old new = IsHonest old → IfErr result (λ e. (fault_of e ≡ io) ⊎ OnlyRead old new)
+
+-- The view has the value's own copy, and this header's with the same entries.
+abbrev pub HasBothCopies : List ℕ → GPT → GPTHeader → Type 0
+HasBothCopies b g h = HasBytes b g.header (entries_in g) g.sector_size × HasBytes b h (entries_in g) g.sector_size
 
 -- The same where each field of header and entries has room in its bytes, so that they can be read back.
 pub record IsWhole (b : List ℕ) (h : GPTHeader) (es : List GPTPartitionEntry) (ss : ℕ) : Type 0 where
@@ -25,22 +57,35 @@ pub record IsWhole (b : List ℕ) (h : GPTHeader) (es : List GPTPartitionEntry) 
 
 -- Outside of the other copy's ranges it is as it was, or the other copy stands there whole.
 abbrev pub IsOneWhole : GPTHeader → List GPTPartitionEntry → ℕ → List ℕ → List ℕ → Type 0
-IsOneWhole h es ss old b = Agrees (write_ranges (other_header h) ss) old b ⊎ IsWhole b (sealed (other_header h) es) es ss
+IsOneWhole h es ss old b = AgreesOutside (write_ranges (other_header h) ss) old b ⊎ IsWhole b (with_checksums (other_header h) es) es ss
 
 -- What a write of two copies leaves where it fails: nothing was written; or the other copy was begun; or it is whole in whatever a stop may leave, and
 -- the own one was not begun or its header is not synced.
 pub data LeavesOnFailure (h : GPTHeader) (es : List GPTPartitionEntry) (ss : ℕ) (old new : DiskState) : Type 0 where
   nothing : Untouched old new → LeavesOnFailure h es ss old new
-  other_begun : Agrees (write_ranges (other_header h) ss) old.view new.view → Within new.pending (write_ranges (other_header h) ss)
+  other_begun : AgreesOutside (write_ranges (other_header h) ss) old.view new.view → Within new.pending (write_ranges (other_header h) ss)
       → Contains new.pending ((other_header h).primary_lba * ss, 92) → LeavesOnFailure h es ss old new
-  own_not_begun : ((b : List ℕ) → Image new b → IsWhole b (sealed (other_header h) es) es ss)
-      → Agrees (write_ranges (other_header h) ss) old.view new.view → new.pending ≡ [] → LeavesOnFailure h es ss old new
-  own_begun : ((b : List ℕ) → Image new b → IsWhole b (sealed (other_header h) es) es ss)
+  own_not_begun : ((b : List ℕ) → Image new b → IsWhole b (with_checksums (other_header h) es) es ss)
+      → AgreesOutside (write_ranges (other_header h) ss) old.view new.view → new.pending ≡ [] → LeavesOnFailure h es ss old new
+  own_begun : ((b : List ℕ) → Image new b → IsWhole b (with_checksums (other_header h) es) es ss)
       → Contains new.pending (h.primary_lba * ss, 92) → LeavesOnFailure h es ss old new
 
--- What a write of a table answers: that there was no memory for its checks, the first check that fails, or Ok; or the disk failed.
-pub data AnswersWrite {T : Type 0} (h : GPTHeader) (es : List GPTPartitionEntry) (ss : ℕ) (result : Result T Error) (old new : DiskState) : Type 0 where
-  no_memory : Refuses result out_of_memory → AnswersWrite h es ss result old new
-  not_valid : (fault : Fault) → IsValidity h es (Some fault) → Refuses result fault → AnswersWrite h es ss result old new
-  too_far : IsValid h es → write_fault h ss old.size ≡ Some overflow → Refuses result overflow → AnswersWrite h es ss result old new
-  settled : IsValid h es → write_fault h ss old.size ≢ Some overflow → Settles (write_fault h ss old.size) result old new → AnswersWrite h es ss result old new
+-- A table that may be written to a disk of len bytes.
+pub record MayBeWritten (g : GPT) (len : ℕ) : Type 0 where
+  pub valid : IsValid g.header (entries_in g)
+  pub room : HasRoomOn g len
+
+-- Why a write of a table is refused: there is no memory for its checks, it is not valid, or the disk has no room for it; or the disk failed.
+pub data RefusesWrite (g : GPT) (fault : Fault) (old new : DiskState) : Type 0 where
+  no_memory : fault ≡ out_of_memory → RefusesWrite g fault old new
+  not_valid : IsValidity g.header (entries_in g) (Some fault) → RefusesWrite g fault old new
+  no_room : IsValid g.header (entries_in g) → table_write_fault g old.size ≡ Some fault → RefusesWrite g fault old new
+  disk_failed : IsValid g.header (entries_in g) → table_write_fault g old.size ≢ Some overflow → IsFailure fault old new → RefusesWrite g fault old new
+
+-- so of a valid one with room on the disk
+abbrev pub IsFailureOrMemory : Fault → DiskState → DiskState → Type 0
+IsFailureOrMemory fault old new = (fault ≡ out_of_memory) ⊎ IsFailure fault old new
+
+-- it is not for want of room
+abbrev pub IsNotForRoom : Fault → Type 0
+IsNotForRoom fault = (fault ≢ overflow) × (fault ≢ no_space_left)

@@ -1,18 +1,20 @@
 //! Edits of a table as values, made one after the other.
 
-ghost use Rattle.std.specs.Prelude.{◌≡◌, ◌≢◌, ◌≤◌, ◌<◌, ◌⊎◌, ◌+◌, [], ◌∷◌, ℕ, List, None, length, IsTrue, IfErr, IfNone, IfSome, OnOk, OnErr};
-ghost use Rattle.gptman_copy.specs.Answers.{refusal_of, Refuses};
-ghost use Rattle.gptman.specs.TableWrites.{sealed_value};
-ghost use Rattle.gptman_copy.specs.Disk.{OnlyRead, Agrees, Image, Keeps, LeavesOnly, Rose, Wrote};
-ghost use Rattle.gptman.specs.Commit.{is_failure, reached, tables_to, value_after, IsAccepted, IsAcceptedAt, IsRefusedAt, RefusesEdit, Stands};
-ghost use Rattle.gptman.specs.Crash.{IsKeptFor};
-ghost use Rattle.gptman.specs.Edit.{edited, edit_fault, table_after};
-ghost use Rattle.gptman_copy.specs.Fault.{fault_of, io as io_fault, no_space_left, out_of_memory, overflow};
-ghost use Rattle.gptman.specs.Layout.{four_ranges, HasLayout};
-ghost use Rattle.gptman.specs.Stop.{HoldsOneOf, IsStored, ReadsForeign, ReadsOneOf};
-ghost use Rattle.gptman.specs.Table.{entries_in, table_in};
+ghost use Rattle.std.specs.Prelude.{◌≡◌, ◌≤◌, ◌<◌, ◌⊎◌, [], ◌∷◌, ℕ, length};
+ghost use Rattle.std.specs.Prelude.{IfErr, IfNone, IfSome, IsTrue, OnErr, OnOk};
+ghost use Rattle.gptman_copy.specs.Answers.{refusal_of, HasCause, Refuses};
 ghost use Rattle.gptman_copy.specs.Copy.{IsCoherent};
-ghost use Rattle.gptman_copy.specs.Write.{both_ranges, write_fault};
+ghost use Rattle.gptman_copy.specs.Disk.{IsHonest, Keeps, OnlyRead, Rose, Writes};
+ghost use Rattle.gptman_copy.specs.Fault.{fault_of, out_of_memory};
+ghost use Rattle.gptman.specs.Commit.{is_failure, reached, tables_to, value_after, HoldsLastTwo};
+ghost use Rattle.gptman.specs.Commit.{IsAllowed, IsAllowedAt, IsRefusedAt, RefusesEdit, Stands};
+ghost use Rattle.gptman.specs.Crash.{StartsFromOne, StartsLaidOut, StartsSynced, StopsKeepOthers};
+ghost use Rattle.gptman.specs.Edit.{after_edit, edit_fault};
+ghost use Rattle.gptman.specs.Layout.{HasLayout};
+ghost use Rattle.gptman.specs.Stop.{IsStored, StopsAreReadAs, StopsHold};
+ghost use Rattle.gptman.specs.Table.{entries_in, table_in};
+ghost use Rattle.gptman.specs.TableWrites.{table_ranges, value_with_checksums, HasRoomOn, IsNotForRoom};
+ghost use Rattle.gptman.specs.TableWrites.{RefusesUnwritten};
 ghost use Rattle.gptman.specs.declared.edit.Edit.TheVariants.{SortEntries};
 
 use crate::table::GPT;
@@ -47,8 +49,9 @@ impl GPT {
     /// `InvalidPartitionNumber` where a number is 0, above the header's count or above the length of
     /// the list; `OutOfMemory` where there is no memory to sort the entries. Nothing changes then.
     pub fn apply(&mut self, edit: Edit) -> Result<()>
-        ensures answer { (refusal_of result ≡ edit_fault self.old edit) ⊎ ((edit ≡ SortEntries) × Refuses result out_of_memory) }
-        ensures changed { OnOk result (self.new ≡ edited self.old edit) }
+        ensures answer { (refusal_of result ≡ edit_fault self.old edit)
+            ⊎ ((edit ≡ SortEntries) × Refuses result out_of_memory) }
+        ensures value { OnOk result (self.new ≡ after_edit self.old edit) }
         ensures kept { OnErr result (self.new ≡ self.old) }
     {
         match edit {
@@ -82,41 +85,38 @@ impl GPT {
         // Which edits were made, and why the next one was not. On the stated layout there is room for each.
         ensures count { result.done ≤ length edits.items }
         ensures all { IfNone result.fault (result.done ≡ length edits.items) }
-        ensures accepted { (k : ℕ) → k < result.done → IsAcceptedAt self.old edits.items k }
-        ensures fits { 0 < result.done → write_fault self.old.header self.old.sector_size (D.state disk.old).size ≡ None }
-        ensures refused { IfSome result.fault (λ e. IsRefusedAt self.old edits.items result.done (fault_of e) self.new (D.state disk.old) (D.state disk.new)) }
-        ensures room { HasLayout self.old.header (table_in self.old) self.old.sector_size (D.state disk.old).size
-            → IfSome result.fault (λ e. (fault_of e ≢ overflow) × (fault_of e ≢ no_space_left)) }
+        ensures allowed { (k : ℕ) → k < result.done → IsAllowedAt self.old edits.items k }
+        ensures fits { 0 < result.done → HasRoomOn self.old (D.state disk.old).size }
+        ensures refused { IfSome result.fault (λ e. IsRefusedAt self.old edits.items result.done (fault_of e)
+            self.new (D.state disk.old) (D.state disk.new)) }
+        ensures room { HasLayout self.old (D.state disk.old).size
+            → IfSome result.fault (λ e. IsNotForRoom (fault_of e)) }
         ensures cause { IsTrue (is_failure result.fault) → Rose (D.state disk.old) (D.state disk.new) }
-        ensures empty { edits.items ≡ [] → disk.new ≡ disk.old }
+
+        // What becomes of the value.
         ensures value { IfNone result.fault (self.new ≡ value_after self.old edits.items result.done) }
 
-        // What becomes of the disk. Unless it failed, both places hold the last table, or nothing was written where there is none.
-        ensures wrote { IsTrue (D.state disk.old).is_honest → Wrote (both_ranges self.old.header self.old.sector_size) (D.state disk.old) (D.state disk.new) }
-        ensures untouched { IsTrue (D.state disk.old).is_honest → result.done ≡ 0 → IsTrue (is_failure result.fault) ⊎ OnlyRead (D.state disk.old) (D.state disk.new) }
-        ensures stands { IsTrue (D.state disk.old).is_honest
-            → HasLayout self.old.header (table_in self.old) self.old.sector_size (D.state disk.old).size
-            → IsTrue (is_failure result.fault) ⊎ Stands self.old edits.items result.done (D.state disk.old) (D.state disk.new) }
+        // What becomes of the disk. Unless it failed, both places hold the last table, or nothing was
+        // written where there is none.
+        ensures empty { edits.items ≡ [] → disk.new ≡ disk.old }
+        ensures wrote { Writes (table_ranges self.old) (D.state disk.old) (D.state disk.new) }
+        ensures untouched { IsHonest (D.state disk.old) → result.done ≡ 0
+            → IsTrue (is_failure result.fault) ⊎ OnlyRead (D.state disk.old) (D.state disk.new) }
+        ensures stands { StartsLaidOut (D.state disk.old) self.old → IsTrue (is_failure result.fault)
+            ⊎ Stands self.old edits.items result.done (D.state disk.old) (D.state disk.new) }
 
-        // From one good copy of the value's own table, a stop at any moment leaves the table after some of the edits at one place at least.
-        ensures one_good { IsTrue (D.state disk.old).is_honest
-            → HasLayout self.old.header (table_in self.old) self.old.sector_size (D.state disk.old).size
-            → IsKeptFor (D.state disk.old) self.old (table_in self.old)
-            → LeavesOnly (D.state disk.old) (D.state disk.new) (λ b. HoldsOneOf b self.old.sector_size (tables_to self.old edits.items (reached result.done result.fault))) }
-        ensures read { IsTrue (D.state disk.old).is_honest
-            → HasLayout self.old.header (table_in self.old) self.old.sector_size (D.state disk.old).size
-            → IsKeptFor (D.state disk.old) self.old (table_in self.old)
-            → LeavesOnly (D.state disk.old) (D.state disk.new)
-            (λ b. ¬ ReadsForeign b self.old.sector_size (tables_to self.old edits.items (reached result.done result.fault))
-            → ReadsOneOf b self.old.sector_size (tables_to self.old edits.items (reached result.done result.fault))) }
-        ensures outside { IsTrue (D.state disk.old).is_honest → (D.state disk.old).pending ≡ []
-            → HasLayout self.old.header (table_in self.old) self.old.sector_size (D.state disk.old).size
-            → LeavesOnly (D.state disk.old) (D.state disk.new) (Agrees (four_ranges (table_in self.old) self.old.sector_size (D.state disk.old).size) (D.state disk.old).view) }
-        ensures last { IsTrue (D.state disk.old).is_honest
-            → HasLayout self.old.header (table_in self.old) self.old.sector_size (D.state disk.old).size
-            → IsKeptFor (D.state disk.old) self.old (table_in self.old)
-            → IfSome result.fault (λ e. (b : List ℕ) → Image (D.state disk.new) b → HoldsOneOf b self.old.sector_size
-            (table_in (table_after self.old edits.items result.done) ∷ table_in (table_after self.old edits.items (result.done + 1)) ∷ [])) }
+        // From one good copy of the value's own table, a stop at any moment leaves the table after some of
+        // the edits at one place at least.
+        ensures one_good { StartsFromOne (D.state disk.old) self.old (table_in self.old)
+            → StopsHold (D.state disk.old) (D.state disk.new) self.old.sector_size
+            (tables_to self.old edits.items (reached result.done result.fault)) }
+        ensures outside { StartsSynced (D.state disk.old) self.old
+            → StopsKeepOthers (D.state disk.old) (D.state disk.new) self.old }
+        ensures read { StartsFromOne (D.state disk.old) self.old (table_in self.old)
+            → StopsAreReadAs (D.state disk.old) (D.state disk.new) self.old.sector_size
+            (tables_to self.old edits.items (reached result.done result.fault)) }
+        ensures last { StartsFromOne (D.state disk.old) self.old (table_in self.old)
+            → IfSome result.fault (λ e. HoldsLastTwo (D.state disk.new) self.old edits.items result.done) }
     {
         note_sizes(&self.header);
         let mut done = 0;
@@ -137,29 +137,28 @@ impl GPT {
         requires sector { 0 < self.old.sector_size }
         requires coherent { IsCoherent self.old.header (entries_in self.old) }
         ensures keeps { Keeps (D.state disk.old) (D.state disk.new) }
+
+        // What is answered, and what becomes of the value.
+        ensures allowed { OnOk result (IsAllowed self.old edit) }
+        ensures fits { OnOk result (HasRoomOn self.old (D.state disk.old).size) }
+        ensures refused { IfErr result (λ e. RefusesEdit self.old edit (fault_of e) self.new
+            (D.state disk.old) (D.state disk.new)) }
+        ensures room { HasLayout self.old (D.state disk.old).size
+            → IfErr result (λ e. IsNotForRoom (fault_of e)) }
+        ensures cause { HasCause result (D.state disk.old) (D.state disk.new) }
+        ensures value { OnOk result (self.new ≡ value_with_checksums (after_edit self.old edit)) }
         ensures sector { self.new.sector_size ≡ self.old.sector_size }
         ensures coherent { IsCoherent self.new.header (entries_in self.new) }
 
-        // What is answered, and what becomes of the value.
-        ensures accepted { OnOk result (IsAccepted self.old edit) }
-        ensures fits { OnOk result (write_fault self.old.header self.old.sector_size (D.state disk.old).size ≡ None) }
-        ensures value { OnOk result (self.new ≡ sealed_value (edited self.old edit)) }
-        ensures refused { IfErr result (λ e. RefusesEdit self.old edit (fault_of e) self.new (D.state disk.old) (D.state disk.new)) }
-        ensures room { HasLayout self.old.header (table_in self.old) self.old.sector_size (D.state disk.old).size
-            → IfErr result (λ e. (fault_of e ≢ overflow) × (fault_of e ≢ no_space_left)) }
-        ensures cause { Refuses result io_fault → Rose (D.state disk.old) (D.state disk.new) }
-
         // What becomes of the disk.
-        ensures wrote { IsTrue (D.state disk.old).is_honest → Wrote (both_ranges self.old.header self.old.sector_size) (D.state disk.old) (D.state disk.new) }
-        ensures untouched { IsTrue (D.state disk.old).is_honest → IfErr result (λ e. (fault_of e ≡ io_fault) ⊎ OnlyRead (D.state disk.old) (D.state disk.new)) }
-        ensures stored { IsTrue (D.state disk.old).is_honest
-            → HasLayout self.old.header (table_in self.old) self.old.sector_size (D.state disk.old).size
-            → OnOk result (IsStored (D.state disk.new) self.old.sector_size (table_in (edited self.old edit))) }
-        ensures one_good { IsTrue (D.state disk.old).is_honest
-            → HasLayout self.old.header (table_in self.old) self.old.sector_size (D.state disk.old).size
-            → IsKeptFor (D.state disk.old) self.old (table_in self.old)
-            → LeavesOnly (D.state disk.old) (D.state disk.new)
-            (λ b. HoldsOneOf b self.old.sector_size (table_in self.old ∷ table_in (edited self.old edit) ∷ [])) }
+        ensures wrote { Writes (table_ranges self.old) (D.state disk.old) (D.state disk.new) }
+        ensures untouched { RefusesUnwritten result (D.state disk.old) (D.state disk.new) }
+        ensures stored { StartsLaidOut (D.state disk.old) self.old
+            → OnOk result (IsStored (D.state disk.new) self.old.sector_size
+            (table_in (after_edit self.old edit))) }
+        ensures one_good { StartsFromOne (D.state disk.old) self.old (table_in self.old)
+            → StopsHold (D.state disk.old) (D.state disk.new) self.old.sector_size
+            (table_in self.old ∷ table_in (after_edit self.old edit) ∷ []) }
     {
         self.apply(edit)?;
         self.write_into(disk)?;

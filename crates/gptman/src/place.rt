@@ -9,7 +9,8 @@
 ghost use Rattle.std.specs.Prelude.{◌≡◌, ◌⊎◌, ◌<◌, ◌≤◌, ◌+◌, ◌^◌, max, All, IfOk, IfErr, IfSome, MatchOption};
 ghost use Rattle.gptman_copy.specs.Answers.{Refuses};
 ghost use Rattle.gptman_copy.specs.Fault.{fault_of, no_space_left, out_of_memory};
-ghost use Rattle.gptman.specs.Place.{AreSlots, HasNoPlace, HasNoSlot, IsBestPlace, IsFirstPlace, IsFreeIn, IsLastPlace, IsMaximumSize};
+ghost use Rattle.gptman.specs.Place.{AreSlots, HasNoPlace, HasNoSlot, IsBestPlace, IsFirstPlace, IsFreeIn};
+ghost use Rattle.gptman.specs.Place.{IsLastPlace, IsMaximumSize};
 
 use crate::place::choose::{first_slot, greatest_size, last_slot, shortest_slot};
 use crate::place::sweep::sweep;

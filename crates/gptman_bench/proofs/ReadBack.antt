@@ -1,13 +1,13 @@
--- A table that both places hold is what a reading answers, and what it answers is held.
+-- A table that both sides hold is what a reading answers, and what it answers is held.
 use Rattle.std.proofs.Common.{◌≡◌, ◌⊎◌, ⊎_elim, inl, inr, ℕ, List, Ok, Err, sym, ◌∙◌, subst}
 use Rattle.std.specs.Prelude.{Result, IfOk, IsErr}
 use Rattle.gptman.specs.Answers.{answer_of, Refuses}
-use Rattle.gptman.specs.TableReads.{copy_of, IsTakenCopy}
+use Rattle.gptman.specs.TableReads.{copy_of, MayBeRead}
 use Rattle.gptman.specs.Disk.{OnlyRead, DiskState, Keeps, Rose}
 use Rattle.gptman.specs.Copy.{Copy}
 use Rattle.gptman.specs.Fault.{Fault, out_of_memory}
 use Rattle.gptman.specs.Layout.{Holds}
-use Rattle.gptman.specs.Reading.{Place, primary, backup, copy_in, reading_of, taken_from}
+use Rattle.gptman.specs.Reading.{Side, primary, backup, copy_in, reading_of, taken_from}
 use Rattle.gptman.specs.Stop.{HoldsWhatIsRead}
 use Rattle.gptman.specs.Table.{Table, table_in, IsForm, IsHeaderForm}
 use Rattle.gptman_copy.specs.declared.error.Error.{Error}
@@ -17,15 +17,15 @@ use Rattle.gptman_copy.proofs.Runs.{rose_since}
 same_copy : (a b : Copy) → ◌≡◌ {A = Result Copy Fault} (Ok a) (Ok b) → a ≡ b
 same_copy a b is = cc
 
-held : (place : Place) (b : List ℕ) (ss : ℕ) (t : Table) (copy : Copy) → Holds b ss place t → copy_in place b ss ≡ Ok copy → IsForm place t copy
-held place b ss t copy holds is = subst (IsForm place t) (same_copy holds.copy copy (sym holds.accepted ∙ is)) holds.form
+held : (side : Side) (b : List ℕ) (ss : ℕ) (t : Table) (copy : Copy) → Holds b ss side t → copy_in side b ss ≡ Ok copy → IsForm side t copy
+held side b ss t copy holds is = subst (IsForm side t) (same_copy holds.copy copy (sym holds.accepted ∙ is)) holds.form
 
 not_refused : (b : List ℕ) (ss : ℕ) (t : Table) → Holds b ss primary t → ¬ IsErr (copy_in primary b ss)
 not_refused b ss t holds refused = let e = subst (λ (r : Result Copy Fault). IsErr r) holds.accepted refused in cc
 
 -- in primary form, or in backup form where the disk failed
 pub read_back : (t : Table) (ss : ℕ) (r : Result GPT Error) (a b c : DiskState) → Keeps a b → Holds b.view ss primary t → Holds b.view ss backup t
-    → IfOk r (λ g. IsTakenCopy b c ss (copy_of g)) → IfOk r (λ g. IsForm primary t (copy_of g) ⊎ (IsForm backup t (copy_of g) × Rose a c))
+    → IfOk r (λ g. MayBeRead b c ss (copy_of g)) → IfOk r (λ g. IsForm primary t (copy_of g) ⊎ (IsForm backup t (copy_of g) × Rose a c))
 read_back t ss (Err e) a b c keeps first second taken = tt
 read_back t ss (Ok g) a b c keeps first second (inl is) = inl (held primary b.view ss t (copy_of g) first is)
 read_back t ss (Ok g) a b c keeps first second (inr is) =
@@ -34,7 +34,7 @@ read_back t ss (Ok g) a b c keeps first second (inr is) =
       ⊎_elim (λ refused. absurd (not_refused b.view ss t first refused)) (λ rose. rose_since a b c keeps rose) is.1,
     )
 
--- what is read in the form of its place is held there, unless the disk failed
+-- what is read in the form of its side is held there, unless the disk failed
 pub held_read : HoldsWhatIsRead → (ss : ℕ) (r : Result GPT Error) (a b : DiskState) → OnlyRead a b → Rose a b ⊎ (Refuses r out_of_memory ⊎ (answer_of copy_of r ≡ reading_of a.view ss))
     → Rose a b ⊎ IfOk r (λ g. IsHeaderForm (taken_from a.view ss) g.header → Holds b.view ss (taken_from a.view ss) (table_in g))
 held_read law ss r a b only (inl rose) = inl rose

@@ -1,20 +1,21 @@
 //! Callers that know a table by the library's contracts alone. What each ensures is proved from them.
 
-ghost use Rattle.std.specs.Prelude.{◌≡◌, ◌≢◌, ◌<◌, ◌≤◌, ◌-◌, ◌⊎◌, ◌↔◌, [], ◌∷◌, Some, count_by, filter, length, map, slice_get, All, IsTrue, IfOk, OnOk, OnErr};
+ghost use Rattle.std.specs.Prelude.{◌≡◌, ◌≢◌, ◌<◌, ◌≤◌, ◌-◌, ◌⊎◌, ◌↔◌, [], ◌∷◌, Some, count_by, filter};
+ghost use Rattle.std.specs.Prelude.{length, map, slice_get, All, IsTrue, IfOk, OnOk, OnErr};
 ghost use Rattle.std.specs.List.{enumerate_from};
-ghost use Rattle.gptman.specs.Disk.{LeavesOnly, Rose};
+ghost use Rattle.gptman.specs.Copy.{IsCoherent};
+ghost use Rattle.gptman.specs.Crash.{StartsLaidOut, StartsSynced};
+ghost use Rattle.gptman.specs.Disk.{IsHonest, Rose};
 ghost use Rattle.gptman.specs.Entry.{is_used};
-ghost use Rattle.gptman.specs.Layout.{HasLayout, Holds};
+ghost use Rattle.gptman.specs.Layout.{Holds};
 ghost use Rattle.gptman.specs.Number.{with_entries, with_entry, IsNumber};
 ghost use Rattle.gptman.specs.Order.{by_rank, rank};
 ghost use Rattle.gptman.specs.Reading.{primary, taken_from};
-ghost use Rattle.gptman.specs.Stop.{IsStored, ReadsForeign, ReadsOneOf};
-ghost use Rattle.gptman.specs.Table.{entries_in, table_in, IsHeaderForm};
-ghost use Rattle.gptman.specs.Copy.{IsCoherent};
+ghost use Rattle.gptman.specs.Stop.{IsStored, StopsAreReadAs};
+ghost use Rattle.gptman.specs.Table.{entries_in, grow_to, table_in, IsHeaderForm};
 ghost use Rattle.gptman.specs.Valid.{IsValid};
 ghost use Rattle.gptman_copy.specs.declared.codec.entry.GPTPartitionEntry.{GPTPartitionEntry};
 ghost use Rattle.gptman_bench.specs.Cleared.{cleared};
-ghost use Rattle.gptman_bench.specs.Grown.{grown};
 
 use gptman::place::laws::placement_keeps_valid;
 use gptman::table::laws::{growing_is_safe, what_is_held_is_read, what_is_read_is_held};
@@ -50,8 +51,10 @@ pub(crate) fn sort_twice(table: &mut GPT) -> Result<()>
 pub(crate) fn exchange(table: &mut GPT, i: u32, j: u32) -> Result<()>
     requires first { IsNumber table.old i }
     requires second { IsNumber table.old j }
-    ensures exchanged { OnOk result ((a b : GPTPartitionEntry) → slice_get (entries_in table.old) (i - 1) ≡ Some a
-        → slice_get (entries_in table.old) (j - 1) ≡ Some b → table.new ≡ with_entry (with_entry table.old i b) j a) }
+    ensures exchanged { OnOk result ((a b : GPTPartitionEntry)
+        → slice_get (entries_in table.old) (i - 1) ≡ Some a
+        → slice_get (entries_in table.old) (j - 1) ≡ Some b
+        → table.new ≡ with_entry (with_entry table.old i b) j a) }
     ensures kept { OnErr result (table.new ≡ table.old) }
 {
     let a = table[i].clone()?;
@@ -73,7 +76,8 @@ pub(crate) fn add_first(
     requires aligned { 0 < table.old.align }
     requires number { IsNumber table.old number }
     ensures valid { IsValid table.old.header (entries_in table.old)
-        → All (λ e. IsTrue (is_used e) → e.unique_partition_guid ≢ entry.unique_partition_guid) (entries_in table.old)
+        → All (λ e. IsTrue (is_used e) → e.unique_partition_guid ≢ entry.unique_partition_guid)
+        (entries_in table.old)
         → OnOk result (IsValid table.new.header (entries_in table.new)) }
     ensures kept { OnErr result (table.new ≡ table.old) }
 {
@@ -139,7 +143,8 @@ pub(crate) fn last_number(table: &GPT) -> u32
 
 /// The numbers of the used entries, by a chain.
 pub(crate) fn used_numbers(alloc: Global, table: &GPT) -> std::result::Result<Vec<u32>, AllocError>
-    ensures { IfOk result (λ v. v.items ≡ map (λ p. p.0) (filter (λ p. is_used p.1) (enumerate_from 1 (entries_in table.now)))) }
+    ensures { IfOk result (λ v. v.items
+        ≡ map (λ p. p.0) (filter (λ p. is_used p.1) (enumerate_from 1 (entries_in table.now)))) }
 {
     table
         .iter()
@@ -153,9 +158,10 @@ pub(crate) fn used_numbers(alloc: Global, table: &GPT) -> std::result::Result<Ve
 pub(crate) fn read_held<D: Disk>(alloc: Global, disk: &mut D, sector_size: u64) -> Result<GPT>
     requires { 0 < sector_size }
     ensures coherent { IfOk result (λ g. IsCoherent g.header (entries_in g)) }
-    ensures held { let place = taken_from (D.state disk.old).view sector_size in
-        IsTrue (D.state disk.old).is_honest → Rose (D.state disk.old) (D.state disk.new)
-        ⊎ IfOk result (λ g. IsHeaderForm place g.header → Holds (D.state disk.new).view sector_size place (table_in g)) }
+    ensures held { let side = taken_from (D.state disk.old).view sector_size in
+        IsHonest (D.state disk.old) → Rose (D.state disk.old) (D.state disk.new)
+        ⊎ IfOk result (λ g. IsHeaderForm side g.header
+        → Holds (D.state disk.new).view sector_size side (table_in g)) }
 {
     what_is_read_is_held();
     GPT::read_from(alloc, disk, sector_size)
@@ -167,17 +173,14 @@ pub(crate) fn read_held<D: Disk>(alloc: Global, disk: &mut D, sector_size: u64) 
 pub(crate) fn grow<D: Disk>(table: &mut GPT, disk: &mut D) -> Result<GPTHeader>
     requires sector { 0 < table.old.sector_size }
     requires coherent { IsCoherent table.old.header (entries_in table.old) }
-    ensures stored { let new = grown table.old (D.state disk.old).size in
-        IsTrue (D.state disk.old).is_honest → HasLayout new.header (table_in new) new.sector_size (D.state disk.old).size
+    ensures stored { let new = grow_to table.old (D.state disk.old).size in
+        StartsLaidOut (D.state disk.old) new
         → OnOk result (IsStored (D.state disk.new) new.sector_size (table_in new)) }
-    ensures safe { let was = table_in table.old in
-        let new = grown table.old (D.state disk.old).size in
-        IsTrue (D.state disk.old).is_honest → (D.state disk.old).pending ≡ []
-        → IsHeaderForm primary table.old.header
-        → Holds (D.state disk.old).view table.old.sector_size primary was
-        → HasLayout new.header (table_in new) new.sector_size (D.state disk.old).size
-        → LeavesOnly (D.state disk.old) (D.state disk.new) (λ b. ¬ ReadsForeign b new.sector_size (was ∷ table_in new ∷ [])
-        → ReadsOneOf b new.sector_size (was ∷ table_in new ∷ [])) }
+    ensures safe { let new = grow_to table.old (D.state disk.old).size in
+        StartsSynced (D.state disk.old) new → IsHeaderForm primary table.old.header
+        → Holds (D.state disk.old).view table.old.sector_size primary (table_in table.old)
+        → StopsAreReadAs (D.state disk.old) (D.state disk.new) new.sector_size
+        (table_in table.old ∷ table_in new ∷ []) }
 {
     what_is_held_is_read();
     table.header.update_from(disk, table.sector_size)?;

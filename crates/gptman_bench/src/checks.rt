@@ -9,7 +9,8 @@ use std::alloc::Global;
 use std::process::Abort;
 
 const BOUNDARIES: &str =
-    "invalid partition boundaries: partitions must have positive size, must not overlap, and must fit within the disk";
+    "invalid partition boundaries: partitions must have positive size, must not overlap, and must fit \
+     within the disk";
 
 // The write of the table to so many bytes is answered with this text. A refused one writes no byte and
 // leaves the table as it was.

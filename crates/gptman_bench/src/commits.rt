@@ -46,7 +46,8 @@ fn put(rt: &impl Abort, alloc: Global, number: u32, guid: u8, sectors: (u64, u64
 }
 
 const BOUNDARIES: &str =
-    "invalid partition boundaries: partitions must have positive size, must not overlap, and must fit within the disk";
+    "invalid partition boundaries: partitions must have positive size, must not overlap, and must fit \
+     within the disk";
 
 // Two entries that overlap, and then this edit.
 fn overlapping(rt: &impl Abort, alloc: Global, last: Edit) -> Vec<Edit> {

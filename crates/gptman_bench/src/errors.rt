@@ -46,7 +46,8 @@ fn each_error_has_its_text(rt: HostRuntime) {
         &rt,
         alloc,
         read_error(&rt, alloc),
-        "could not read primary header (corrupted CRC32 checksum (1 != 2)) nor backup header (invalid signature)",
+        "could not read primary header (corrupted CRC32 checksum (1 != 2)) nor backup header (invalid \
+         signature)",
     );
     assert_text(&rt, alloc, Error::NoSpaceLeft, "no space left");
     assert_text(
@@ -59,7 +60,8 @@ fn each_error_has_its_text(rt: HostRuntime) {
         &rt,
         alloc,
         Error::InvalidPartitionBoundaries,
-        "invalid partition boundaries: partitions must have positive size, must not overlap, and must fit within the disk",
+        "invalid partition boundaries: partitions must have positive size, must not overlap, and must fit \
+         within the disk",
     );
     assert_text(
         &rt,

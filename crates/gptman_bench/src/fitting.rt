@@ -89,7 +89,7 @@ fn a_table_that_ends_before_its_first_sector_is_written(rt: HostRuntime) {
 }
 
 // This header, fitted to a disk of so many sectors of 512 bytes.
-fn fitted(rt: &impl Abort, alloc: Global, mut header: GPTHeader, sectors: u16) -> GPTHeader {
+fn fit_header(rt: &impl Abort, alloc: Global, mut header: GPTHeader, sectors: u16) -> GPTHeader {
     let mut disk = got(rt, disk_of(alloc, 0, 512 * usize::from(sectors)));
     got(rt, header.update_from(&mut disk, 512));
     header
@@ -98,15 +98,18 @@ fn fitted(rt: &impl Abort, alloc: Global, mut header: GPTHeader, sectors: u16) -
 #[test]
 fn a_header_is_fitted_to_a_longer_disk(rt: HostRuntime) {
     let primary = got(&rt, new_header(rt.alloc()));
-    let fitted = fitted(&rt, rt.alloc(), primary, 200);
+    let fit_header = fit_header(&rt, rt.alloc(), primary, 200);
     let wanted = GPTHeader {
         first_usable_lba: 34,
         last_usable_lba: 166,
         backup_lba: 199,
         ..primary
     };
-    holds(&rt, fitted == wanted && fitted.partition_entry_lba == 2);
-    holds(&rt, fitted.is_primary() && !fitted.is_backup());
+    holds(
+        &rt,
+        fit_header == wanted && fit_header.partition_entry_lba == 2,
+    );
+    holds(&rt, fit_header.is_primary() && !fit_header.is_backup());
 }
 
 #[test]
@@ -117,7 +120,7 @@ fn a_header_in_backup_form_is_fitted_to_a_longer_disk(rt: HostRuntime) {
         partition_entry_lba: 67,
         ..got(&rt, new_header(rt.alloc()))
     };
-    let fitted = fitted(&rt, rt.alloc(), backup, 200);
+    let fit_header = fit_header(&rt, rt.alloc(), backup, 200);
     let wanted = GPTHeader {
         first_usable_lba: 34,
         last_usable_lba: 166,
@@ -125,8 +128,8 @@ fn a_header_in_backup_form_is_fitted_to_a_longer_disk(rt: HostRuntime) {
         partition_entry_lba: 167,
         ..backup
     };
-    holds(&rt, fitted == wanted);
-    holds(&rt, fitted.is_backup() && !fitted.is_primary());
+    holds(&rt, fit_header == wanted);
+    holds(&rt, fit_header.is_backup() && !fit_header.is_primary());
 }
 
 /// The header is not fitted to a disk of so many bytes, and stays as it is.
@@ -161,8 +164,8 @@ fn a_header_that_does_not_fit_stays_as_it_is(rt: HostRuntime) {
 fn a_header_may_be_fitted_without_usable_sectors(rt: HostRuntime) {
     let mut header = got(&rt, new_header(rt.alloc()));
     header.size_of_partition_entry = 256;
-    let fitted = fitted(&rt, rt.alloc(), header, 66);
-    assert_bounds(&rt, &fitted, (66, 0, 65));
+    let fit_header = fit_header(&rt, rt.alloc(), header, 66);
+    assert_bounds(&rt, &fit_header, (66, 0, 65));
 }
 
 // The bytes of a disk of 200 sectors, on whose first 100 a table was written.

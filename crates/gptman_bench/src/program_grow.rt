@@ -108,7 +108,8 @@ const LONGER: [Row; 3] = [
     (
         "512 show",
         0,
-        "sector 512 form primary disk ffffffffffffffffffffffffffffffff usable 34..166 entries 128 align 1\n1 11111111111111111111111111111111 22222222222222222222222222222222 34..43 0000000000000000 Foo\n",
+        "sector 512 form primary disk ffffffffffffffffffffffffffffffff usable 34..166 entries 128 align 1\n\
+         1 11111111111111111111111111111111 22222222222222222222222222222222 34..43 0000000000000000 Foo\n",
     ),
 ];
 
@@ -123,7 +124,8 @@ const SHORTER: [Row; 3] = [
     (
         "512 show",
         0,
-        "sector 512 form primary disk ffffffffffffffffffffffffffffffff usable 34..65 entries 128 align 1\n1 11111111111111111111111111111111 22222222222222222222222222222222 34..43 0000000000000000 Foo\n",
+        "sector 512 form primary disk ffffffffffffffffffffffffffffffff usable 34..65 entries 128 align 1\n\
+         1 11111111111111111111111111111111 22222222222222222222222222222222 34..43 0000000000000000 Foo\n",
     ),
 ];
 

@@ -93,7 +93,8 @@ fn change(rt: &impl Abort, alloc: Global, line: &str, text: &str) {
 #[test]
 fn a_table_is_shown_or_there_is_no_memory(rt: HostRuntime) {
     let lines =
-        "sector 512 form primary disk ffffffffffffffffffffffffffffffff usable 34..66 entries 128 align 1\n1 11111111111111111111111111111111 22222222222222222222222222222222 34..43 0000000000000000 Foo\n";
+        "sector 512 form primary disk ffffffffffffffffffffffffffffffff usable 34..66 entries 128 align 1\n\
+         1 11111111111111111111111111111111 22222222222222222222222222222222 34..43 0000000000000000 Foo\n";
     read(&rt, rt.alloc(), "512 show", lines);
 }
 

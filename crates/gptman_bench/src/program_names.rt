@@ -36,12 +36,15 @@ fn shown(
 fn used_entries_are_shown(rt: HostRuntime) {
     let outcome = shown(&rt, rt.alloc(), "a\tb", (34, 43), 4);
     let lines =
-        "sector 512 form primary disk ffffffffffffffffffffffffffffffff usable 34..66 entries 2 align 1\n2 0a0a0a0a0a0a0a0a0a0a0a0a0a0a0a0a 22222222222222222222222222222222 34..43 0000000000000004 a?b\n";
+        "sector 512 form primary disk ffffffffffffffffffffffffffffffff usable 34..66 entries 2 align 1\n\
+         2 0a0a0a0a0a0a0a0a0a0a0a0a0a0a0a0a 22222222222222222222222222222222 34..43 0000000000000004 a?b\n";
     assert_prints(&rt, &outcome, 0, lines);
     let name = "\u{1f}\u{20}\u{7e}\u{7f}\u{80}é\u{1f600}";
     let outcome = shown(&rt, rt.alloc(), name, (0, u64::MAX), u64::MAX);
     let lines =
-        "sector 512 form primary disk ffffffffffffffffffffffffffffffff usable 34..66 entries 2 align 1\n2 0a0a0a0a0a0a0a0a0a0a0a0a0a0a0a0a 22222222222222222222222222222222 0..18446744073709551615 ffffffffffffffff ? ~?\u{80}é\u{1f600}\n";
+        "sector 512 form primary disk ffffffffffffffffffffffffffffffff usable 34..66 entries 2 align 1\n\
+         2 0a0a0a0a0a0a0a0a0a0a0a0a0a0a0a0a 22222222222222222222222222222222 0..18446744073709551615 \
+         ffffffffffffffff ? ~?\u{80}é\u{1f600}\n";
     assert_prints(&rt, &outcome, 0, lines);
 }
 
@@ -62,7 +65,10 @@ fn assert_name_is_shown(rt: &impl Abort, alloc: Global, name: &str, text: &str) 
     let lines = got(
         rt,
         format!(in alloc;
-            "sector 512 form primary disk ffffffffffffffffffffffffffffffff usable 34..66 entries 128 align 1\n1 11111111111111111111111111111111 22222222222222222222222222222222 34..43 0000000000000000 {text}\n"
+            "sector 512 form primary disk ffffffffffffffffffffffffffffffff \
+             usable 34..66 entries 128 align 1\n\
+             1 11111111111111111111111111111111 22222222222222222222222222222222 \
+             34..43 0000000000000000 {text}\n"
         ),
     );
     assert!(rt; is_answered(&outcome, 0, &lines), "{name:?}");

@@ -20,7 +20,8 @@ const FIRST: [Row; 6] = [
     (
         "auto show",
         0,
-        "sector 512 form primary disk ffffffffffffffffffffffffffffffff usable 34..66 entries 128 align 1\n1 11111111111111111111111111111111 22222222222222222222222222222222 34..43 0000000000000000 Foo\n",
+        "sector 512 form primary disk ffffffffffffffffffffffffffffffff usable 34..66 entries 128 align 1\n\
+         1 11111111111111111111111111111111 22222222222222222222222222222222 34..43 0000000000000000 Foo\n",
     ),
     ("0 show", 2, USAGE),
 ];
@@ -42,7 +43,9 @@ const ADDED: [Row; 5] = [
     (
         "512 show",
         0,
-        "sector 512 form primary disk ffffffffffffffffffffffffffffffff usable 34..66 entries 128 align 2\n1 11111111111111111111111111111111 22222222222222222222222222222222 34..43 0000000000000000 Foo\n2 11111111111111111111111111111111 33333333333333333333333333333333 60..64 0000000000000000 Bar\n",
+        "sector 512 form primary disk ffffffffffffffffffffffffffffffff usable 34..66 entries 128 align 2\n\
+         1 11111111111111111111111111111111 22222222222222222222222222222222 34..43 0000000000000000 Foo\n\
+         2 11111111111111111111111111111111 33333333333333333333333333333333 60..64 0000000000000000 Bar\n",
     ),
 ];
 
@@ -56,7 +59,8 @@ const REMOVED: [Row; 8] = [
     (
         "512 show",
         0,
-        "sector 512 form primary disk ffffffffffffffffffffffffffffffff usable 34..66 entries 128 align 60\n1 11111111111111111111111111111111 33333333333333333333333333333333 60..64 0000000000000000 Bar\n",
+        "sector 512 form primary disk ffffffffffffffffffffffffffffffff usable 34..66 entries 128 align 60\n\
+         1 11111111111111111111111111111111 33333333333333333333333333333333 60..64 0000000000000000 Bar\n",
     ),
     ("512 mbr plain", 0, "ok\n"),
     ("auto mbr plain", 2, USAGE),
@@ -174,7 +178,8 @@ const WIDE: [Row; 9] = [
     (
         "auto show",
         0,
-        "sector 4096 form primary disk ffffffffffffffffffffffffffffffff usable 6..94 entries 128 align 18\n1 11111111111111111111111111111111 33333333333333333333333333333333 18..37 0000000000000000 Bar\n",
+        "sector 4096 form primary disk ffffffffffffffffffffffffffffffff usable 6..94 entries 128 align 18\n\
+         1 11111111111111111111111111111111 33333333333333333333333333333333 18..37 0000000000000000 Bar\n",
     ),
     ("4096 check", 0, "primary ok\nbackup ok\nsame yes\n"),
 ];

@@ -263,7 +263,8 @@ const ANY_CASE: [Row; 2] = [
     (
         "512 show",
         0,
-        "sector 512 form primary disk 00112233445566778899aabbccddeeff usable 34..66 entries 128 align 2048\n",
+        "sector 512 form primary disk 00112233445566778899aabbccddeeff \
+         usable 34..66 entries 128 align 2048\n",
     ),
 ];
 

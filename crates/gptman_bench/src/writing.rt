@@ -1,8 +1,8 @@
 //! A whole table written to a disk, in both of its places.
 
-ghost use Rattle.std.specs.Prelude.{◌≡◌, ◌<◌, ◌⊎◌, IfOk, IsTrue};
+ghost use Rattle.std.specs.Prelude.{◌≡◌, ◌<◌, ◌⊎◌, IfOk};
 ghost use Rattle.gptman.specs.TableReads.{copy_of};
-ghost use Rattle.gptman.specs.Layout.{HasLayout};
+ghost use Rattle.gptman.specs.Crash.{StartsLaidOut};
 ghost use Rattle.gptman.specs.Disk.{Rose};
 ghost use Rattle.gptman.specs.Reading.{backup, primary};
 ghost use Rattle.gptman.specs.Table.{entries_in, table_in, IsForm};
@@ -19,8 +19,7 @@ use std::process::Abort;
 fn write_and_read<D: Disk>(alloc: Global, table: &mut GPT, disk: &mut D) -> gptman::Result<GPT>
     requires sector { 0 < table.old.sector_size }
     requires coherent { IsCoherent table.old.header (entries_in table.old) }
-    ensures { IsTrue (D.state disk.old).is_honest
-        → HasLayout table.old.header (table_in table.old) table.old.sector_size (D.state disk.old).size
+    ensures { StartsLaidOut (D.state disk.old) table.old
         → IfOk result (λ g. IsForm primary (table_in table.old) (copy_of g)
         ⊎ (IsForm backup (table_in table.old) (copy_of g) × Rose (D.state disk.old) (D.state disk.new))) }
 {

@@ -3,6 +3,7 @@ pub mod ArrayOutcomes
 pub mod Assembly
 pub mod BlockBytes
 pub mod ByTable
+pub mod CopyParts
 pub mod CopyTests
 pub mod Division
 pub mod EntryBytes

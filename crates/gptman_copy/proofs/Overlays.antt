@@ -3,7 +3,7 @@ use Rattle.std.proofs.Common.{add-zero, ◌≡◌, ◌⊎◌, inl, inr, ⊎_elim
 use Rattle.std.proofs.lemmas.List.{append-nil, take-append-drop, take_at, drop_at, get_or-take, get_or-drop, get_or_append_left, get_or-append_right, length-take-le, drop-take, take-take, drop-drop}
 use Rattle.std.proofs.lemmas.Grind.{same_number_lists}
 use Rattle.std.proofs.lemmas.Bool.{cases_lt}
-use Rattle.gptman_copy.specs.Disk.{Outside, Agrees, overlay}
+use Rattle.gptman_copy.specs.Disk.{Outside, AgreesOutside, overlay}
 use Rattle.gptman_copy.specs.Bytes.{part}
 use Rattle.gptman_copy.specs.Ranges.{IsApart, IsApartFromAll}
 use Rattle.gptman_copy.proofs.Ranges.{Ranges}
@@ -38,7 +38,7 @@ part_in a b at n long same =
     ∙ sym (get_or-take n (drop at a) k 0 small ∙ get_or-drop at a k 0))
 
 -- so one that is apart from where two lists may differ is the same in both
-pub part_same : (rs : Ranges) (a b : List ℕ) (at n : ℕ) → Agrees rs a b → IsApartFromAll (at, n) rs → part b at n ≡ part a at n
+pub part_same : (rs : Ranges) (a b : List ℕ) (at n : ℕ) → AgreesOutside rs a b → IsApartFromAll (at, n) rs → part b at n ≡ part a at n
 part_same rs a b at n agrees apart = part_in a b at n agrees.long (λ k low high. agrees.same k (outside_apart (at, n) rs k apart low high))
 
 module _ (old : List ℕ) (at : ℕ) (bytes : List ℕ) (fits : at + length bytes ≤ length old) where
@@ -63,7 +63,7 @@ module _ (old : List ℕ) (at : ℕ) (bytes : List ℕ) (fits : at + length byte
       ∙ get_or-drop (at + length bytes) old (k - (at + length bytes)) 0
       ∙ ap (λ (i : ℕ). get_or old i 0) (omega (arith, above))
 
-  pub agrees_overlay : Agrees ((at, length bytes) ∷ []) old (overlay old at bytes)
+  pub agrees_overlay : AgreesOutside ((at, length bytes) ∷ []) old (overlay old at bytes)
   agrees_overlay = record { long = length-overlay; same = λ k o. ⊎_elim (overlay_below k) (overlay_above k) o.0 }
 
   pub part-overlay : part (overlay old at bytes) at (length bytes) ≡ bytes

@@ -1,8 +1,8 @@
 -- Indexes outside of ranges, and lists that agree there.
 use Rattle.std.proofs.Common.{inl, inr, ⊎_elim, ◌≡◌, ◌⊎◌, ◌<◌, ◌≤◌, ℕ, suc, ◌+◌, List, [], ◌∷◌, ◌++◌, refl, sym, ap, ◌∙◌, subst, arith}
 use Rattle.std.specs.List.{Contains}
-use Rattle.std.specs.Prelude.{Result, Ok, Err, OnOk, OnErr}
-use Rattle.gptman_copy.specs.Disk.{Outside, Agrees, Within}
+use Rattle.std.specs.Prelude.{Result, Ok, Err, OnOk, OnErr, length}
+use Rattle.gptman_copy.specs.Disk.{Outside, AgreesOutside, Within, DiskState, IsLaid, MayBeLaid, StaysPending}
 
 abbrev pub Ranges : Type 0
 Ranges = List (ℕ × ℕ)
@@ -19,16 +19,16 @@ pub outside_right : (rs ss : Ranges) (k : ℕ) → Outside (rs ++ ss) k → Outs
 outside_right [] ss k o = o
 outside_right (x ∷ rs) ss k o = outside_right rs ss k o.1
 
-pub agrees_self : (rs : Ranges) (a : List ℕ) → Agrees rs a a
+pub agrees_self : (rs : Ranges) (a : List ℕ) → AgreesOutside rs a a
 agrees_self rs a = record { long = refl; same = λ k o. refl }
 
-pub agrees_then : {rs : Ranges} {a b c : List ℕ} → Agrees rs a b → Agrees rs b c → Agrees rs a c
+pub agrees_then : {rs : Ranges} {a b c : List ℕ} → AgreesOutside rs a b → AgreesOutside rs b c → AgreesOutside rs a c
 agrees_then ab bc = record { long = bc.long ∙ ab.long; same = λ k o. bc.same k o ∙ ab.same k o }
 
-pub agrees_back : {rs : Ranges} {a b : List ℕ} → Agrees rs a b → Agrees rs b a
+pub agrees_back : {rs : Ranges} {a b : List ℕ} → AgreesOutside rs a b → AgreesOutside rs b a
 agrees_back ab = record { long = sym ab.long; same = λ k o. sym (ab.same k o) }
 
-pub agrees_wider : {rs ss : Ranges} {a b : List ℕ} → Within rs ss → Agrees rs a b → Agrees ss a b
+pub agrees_wider : {rs ss : Ranges} {a b : List ℕ} → Within rs ss → AgreesOutside rs a b → AgreesOutside ss a b
 agrees_wider within ab = record { long = ab.long; same = λ k o. ab.same k (within.covers k o) }
 
 pub within_self : (rs : Ranges) → Within rs rs
@@ -70,11 +70,10 @@ pub contains_pushed : (r x : ℕ × ℕ) (old new : Ranges) → new ≡ x ∷ ol
 contains_pushed r x old new is has = subst (λ ps. Contains ps r) (sym is) (contains_later r x old has)
 
 -- what was pending still is after one write, whether it was served or refused
-pub contains_written : {T E : Type 0} (r : Result T E) (V : Type 0) (range x : ℕ × ℕ) (old new : Ranges) → OnOk r (new ≡ x ∷ old) → OnErr r ((V × (new ≡ old)) ⊎ (new ≡ x ∷ old))
-    → Contains old range → Contains new range
-contains_written (Ok v) V range x old new served refused has = contains_pushed range x old new served has
-contains_written (Err e) V range x old new served refused has =
-    ⊎_elim (λ same. subst (λ ps. Contains ps range) (sym same.1) has) (λ more. contains_pushed range x old new more has) refused
+pub contains_written : {T E : Type 0} (r : Result T E) (bytes : List ℕ) (a b : DiskState) → OnOk r (IsLaid bytes a b) → OnErr r (MayBeLaid (length bytes) a b) → StaysPending a b
+contains_written (Ok v) bytes a b laid failed range has = contains_pushed range _ a.pending b.pending laid.pending has
+contains_written (Err e) bytes a b laid failed range has =
+    ⊎_elim (λ same. subst (λ ps. Contains ps range) (sym same.pending) has) (λ more. contains_pushed range _ a.pending b.pending more has) failed
 
 -- the range that became pending last
 pub contains_new : (p n at m : ℕ) (old new : Ranges) → p ≡ at → n ≡ m → new ≡ (p, n) ∷ old → Contains new (at, m)

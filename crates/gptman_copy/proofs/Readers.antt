@@ -1,8 +1,8 @@
 -- Runs of calls that only read.
 use Rattle.std.proofs.Common.{◌≡◌, true, refl, ◌∙◌, []}
-use Rattle.gptman_copy.specs.Disk.{DiskState, IsSound, Wrote, OnlyRead}
+use Rattle.gptman_copy.specs.Disk.{DiskState, IsSound, OnlyRead, Reads}
 use Rattle.gptman_copy.proofs.Ranges.{within_none}
-use Rattle.gptman_copy.proofs.Runs.{wrote_not, wrote_then}
+use Rattle.gptman_copy.proofs.Runs.{keeps_then, wrote_not, wrote_then}
 
 -- before the first call
 pub reads_not : (a : DiskState) → a.is_honest ≡ true → IsSound a → OnlyRead a a
@@ -16,6 +16,9 @@ reads_then ab bc = record {
   wrote = wrote_then within_none ab.wrote bc.wrote;
 }
 
--- one call of the disk
-pub reads_seek : {a b : DiskState} → b.view ≡ a.view → b.pending ≡ a.pending → Wrote [] a b → OnlyRead a b
-reads_seek view pending wrote = record { view = view; pending = pending; wrote = wrote }
+-- one call after another
+pub both_read : {a b c : DiskState} → Reads a b → Reads b c → Reads a c
+both_read ab bc = record {
+  keeps = keeps_then ab.keeps bc.keeps;
+  only = λ honest. let first = ab.only honest in reads_then first (bc.only first.wrote.honest);
+}

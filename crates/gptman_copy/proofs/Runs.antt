@@ -1,6 +1,6 @@
 -- How a run of disk calls goes on.
 use Rattle.std.proofs.Common.{◌≡◌, true, inl, inr, ⊎_elim, ℕ, List, ◌++◌, ◌∙◌, arith}
-use Rattle.gptman_copy.specs.Disk.{DiskState, IsSound, Agrees, Within, Elapses, Keeps, LeavesOnly, Rose, Wrote}
+use Rattle.gptman_copy.specs.Disk.{DiskState, IsSound, AgreesOutside, Within, Elapses, Keeps, LeavesOnly, Rose, Wrote}
 use Rattle.gptman_copy.proofs.Ranges.{Ranges, agrees_self, agrees_then, agrees_wider, within_then, within_left, within_right, within_both}
 
 -- before the first call
@@ -49,7 +49,7 @@ wrote_then {outer} {inner} {a} {b} {c} within ab next = record {
   honest = bc.honest;
   view = agrees_then ab.view bc.view;
   pending = within_then bc.pending through;
-  crash = leaves_then (Agrees (outer ++ a.pending) a.view) ab.time bc.time ab.crash
+  crash = leaves_then (AgreesOutside (outer ++ a.pending) a.view) ab.time bc.time ab.crash
       (λ x left. agrees_then (agrees_wider (within_left outer a.pending) ab.view) (agrees_wider through (bc.crash x left)));
   time = elapses_then ab.time bc.time;
 }

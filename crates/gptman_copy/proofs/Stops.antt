@@ -4,9 +4,9 @@ use Rattle.std.proofs.lemmas.List.{length-replicate}
 use Rattle.std.proofs.lemmas.List.Sums.{fold_more}
 use Rattle.std.proofs.lemmas.Bool.{and_parts, leb-true}
 use Rattle.std.specs.List.{fold, list_all}
-use Rattle.gptman_copy.specs.Disk.{Agrees, overlay}
+use Rattle.gptman_copy.specs.Disk.{AgreesOutside, overlay}
 use Rattle.gptman_copy.specs.Memory.{view_step, pending_step, event_fits}
-use Rattle.gptman_copy.specs.Fate.{stop_step, stopped, fate_step}
+use Rattle.gptman_copy.specs.Fate.{stop_step, stop_from, fate_step}
 use Rattle.gptman_copy.specs.declared.disk.memory.Written.{Written}
 use Rattle.gptman_copy.specs.declared.disk.memory.Event.{Event}
 use Rattle.gptman_copy.specs.declared.disk.memory.Event.TheVariants.{Write, Sync}
@@ -16,26 +16,26 @@ use Rattle.gptman_copy.proofs.Ranges.{Ranges, agrees_self, agrees_then, agrees_b
 use Rattle.gptman_copy.proofs.Overlays.{agrees_overlay}
 
 pub step_is : (fates : List Fate) (start : List ℕ) (events : List Event) (i : ℕ) (e : Event) → i < length events → e ≡ get_or events i e
-    → stopped fates start (take (i + 1) events) ≡ stop_step fates (stopped fates start (take i events)) e
+    → stop_from fates start (take (i + 1) events) ≡ stop_step fates (stop_from fates start (take i events)) e
 step_is fates start events i e below is =
-    fold_more (stop_step fates) (record { view = start; left = start; next = 0 }) events i e below ∙ ap (λ x. stop_step fates (stopped fates start (take i events)) x) (sym is)
+    fold_more (stop_step fates) (record { view = start; left = start; next = 0 }) events i e below ∙ ap (λ x. stop_step fates (stop_from fates start (take i events)) x) (sym is)
 
-fate_agrees : (fate : Fate) (b : List ℕ) (at : ℕ) (bytes : List ℕ) → at + length bytes ≤ length b → Agrees ((at, length bytes) ∷ []) b (fate_step fate b at bytes)
+fate_agrees : (fate : Fate) (b : List ℕ) (at : ℕ) (bytes : List ℕ) → at + length bytes ≤ length b → AgreesOutside ((at, length bytes) ∷ []) b (fate_step fate b at bytes)
 fate_agrees Old b at bytes fits = agrees_self _ b
 fate_agrees New b at bytes fits = agrees_overlay b at bytes fits
 fate_agrees (Garbage byte) b at bytes fits =
     let same : length (replicate (length bytes) byte) ≡ length bytes = length-replicate (length bytes) byte in
-    subst (λ n. Agrees ((at, n) ∷ []) b (overlay b at (replicate (length bytes) byte))) same
+    subst (λ n. AgreesOutside ((at, n) ∷ []) b (overlay b at (replicate (length bytes) byte))) same
     (agrees_overlay b at (replicate (length bytes) byte) (omega (arith, same, fits)))
 
 view_agrees : (view : List ℕ) (w : Written) (done : Bool) → w.at + length w.bytes.items ≤ length view
-    → Agrees ((w.at, length w.bytes.items) ∷ []) view (cond done (overlay view w.at w.bytes.items) view)
+    → AgreesOutside ((w.at, length w.bytes.items) ∷ []) view (cond done (overlay view w.at w.bytes.items) view)
 view_agrees view w true fits = agrees_overlay view w.at w.bytes.items fits
 view_agrees view w false fits = agrees_self _ view
 
 pub stop_agrees : (fates : List Fate) (size : ℕ) (events : List Event) (pending : Ranges) (view left : List ℕ) (next : ℕ)
-    → length view ≡ size → Agrees pending view left → list_all (event_fits size) events ≡ true
-    → Agrees (fold pending_step pending events) (fold view_step view events) (fold (stop_step fates) (record { view = view; left = left; next = next }) events).left
+    → length view ≡ size → AgreesOutside pending view left → list_all (event_fits size) events ≡ true
+    → AgreesOutside (fold pending_step pending events) (fold view_step view events) (fold (stop_step fates) (record { view = view; left = left; next = next }) events).left
 stop_agrees fates size [] pending view left next long agrees fits = agrees
 stop_agrees fates size (Sync ∷ events) pending view left next long agrees fits = stop_agrees fates size events [] view view 0 long (agrees_self [] view) fits
 stop_agrees fates size (Write w ∷ events) pending view left next long agrees fits =

@@ -1,6 +1,6 @@
 -- What the calls answer.
-use Rattle.std.specs.Prelude.{◌≡◌, ◌⊎◌, ◌||◌, Bool, true, false, Option, Some, None, Result, Ok, Err, IsTrue}
-use Rattle.gptman_copy.specs.Disk.{DiskState, Rose}
+use Rattle.std.specs.Prelude.{◌≡◌, ◌⊎◌, ◌||◌, ℕ, Bool, true, false, Option, Some, None, Result, Ok, Err, IsTrue, IfErr, OnErr}
+use Rattle.gptman_copy.specs.Disk.{DiskState, IsHonest, LeavesPending, PassesEnd, Rose, Untouched}
 use Rattle.gptman_copy.specs.Fault.{Fault, io, invalid_signature, invalid_revision, invalid_header_size, invalid_checksum, invalid_array_checksum, overflow, out_of_memory, invalid_entry_size, fault_of}
 use Rattle.gptman_copy.specs.declared.error.Error.{Error}
 
@@ -31,6 +31,34 @@ Fails result old new = Refuses result io × Rose old new
 -- The answer is this refusal, or Ok where there is none; or the disk failed.
 abbrev pub Settles : {T : Type 0} → Option Fault → Result T Error → DiskState → DiskState → Type 0
 Settles fault result old new = (refusal_of result ≡ fault) ⊎ Fails result old new
+
+-- the disk failed, and the fault says so
+abbrev pub IsFailure : Fault → DiskState → DiskState → Type 0
+IsFailure fault old new = (fault ≡ io) × Rose old new
+
+-- Io is answered only where the disk failed
+abbrev pub HasCause : {T : Type 0} → Result T Error → DiskState → DiskState → Type 0
+HasCause result old new = Refuses result io → Rose old new
+
+-- or where the next n bytes pass the end
+abbrev pub HasCauseOrEnd : {T : Type 0} → ℕ → Result T Error → DiskState → DiskState → Type 0
+HasCauseOrEnd n result old new = Refuses result io → Rose old new ⊎ PassesEnd old n
+
+-- On an honest disk the answer, as f sees it, is this one; or the disk failed.
+abbrev pub Answers : {T A : Type 0} → (T → A) → Result A Fault → Result T Error → DiskState → DiskState → Type 0
+Answers f answer result old new = IsHonest old → Fails result old new ⊎ (answer_of f result ≡ answer)
+
+-- The same, or there is no memory for it.
+abbrev pub AnswersInMemory : {T A : Type 0} → (T → A) → Result A Fault → Result T Error → DiskState → DiskState → Type 0
+AnswersInMemory f answer result old new = IsHonest old → Fails result old new ⊎ (Refuses result out_of_memory ⊎ (answer_of f result ≡ answer))
+
+-- On an honest disk a refusal other than Io has written nothing.
+abbrev pub RefusesUntouched : {T : Type 0} → Result T Error → DiskState → DiskState → Type 0
+RefusesUntouched result old new = IsHonest old → IfErr result (λ e. (fault_of e ≡ io) ⊎ Untouched old new)
+
+-- On an honest disk an error has written nothing, or left this range unsynced.
+abbrev pub FailsPending : {T E : Type 0} → ℕ × ℕ → Result T E → DiskState → DiskState → Type 0
+FailsPending range result old new = IsHonest old → OnErr result (LeavesPending range old new)
 
 -- what reading a header may refuse with
 abbrev pub is_header_fault : Fault → Bool

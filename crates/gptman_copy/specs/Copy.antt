@@ -5,6 +5,7 @@ use Rattle.gptman_copy.specs.Bytes.{part}
 use Rattle.gptman_copy.specs.Coding.{IsHeaderCoding, IsEntryCoding, HasReadName, header_bytes, array_bytes, header_of, entry_of}
 use Rattle.gptman_copy.specs.Crc.{crc_of}
 use Rattle.gptman_copy.specs.Fault.{Fault, io, invalid_signature, invalid_revision, invalid_header_size, invalid_checksum, invalid_entry_size, overflow, invalid_array_checksum, first_failing}
+use Rattle.gptman_copy.specs.declared.copy.WholeCopy.{WholeCopy}
 use Rattle.gptman_copy.specs.declared.codec.header.GPTHeader.{GPTHeader}
 use Rattle.gptman_copy.specs.declared.codec.entry.GPTPartitionEntry.{GPTPartitionEntry}
 
@@ -116,8 +117,8 @@ unfoldable pub entry_result : List ℕ → ℕ → Result GPTPartitionEntry Faul
 entry_result b p = if nat_le (p + 128) (length b) then Ok (entry_of (part b p 128)) else Err io
 
 -- a header with both checksums made for these entries
-unfoldable pub sealed : GPTHeader → List GPTPartitionEntry → GPTHeader
-sealed h es =
+unfoldable pub with_checksums : GPTHeader → List GPTPartitionEntry → GPTHeader
+with_checksums h es =
     let summed : GPTHeader = record h { partition_entry_array_crc32 = crc_of (array_bytes es) } in
     record summed { crc32_checksum = header_crc (header_bytes summed) }
 
@@ -126,3 +127,7 @@ pub record IsCoherent (h : GPTHeader) (es : List GPTPartitionEntry) : Type 0 whe
   pub header_size : h.header_size ≡ 92
   pub count : length es ≡ h.number_of_partition_entries
   pub entry_size : (h.size_of_partition_entry ≡ 128) ⊎ (h.number_of_partition_entries ≡ 0)
+
+-- the copy that was read
+abbrev pub copy_of_whole : WholeCopy → Copy
+copy_of_whole whole = record { header = whole.header; entries = whole.entries.items }

@@ -1,5 +1,6 @@
 -- What contracts see of a disk, and what its calls do.
-use Rattle.std.specs.Prelude.{◌≡◌, ◌<◌, ◌≤◌, ◌⊎◌, ◌+◌, ◌++◌, ℕ, Bool, true, List, [], ◌∷◌, length, get_or, take, drop}
+use Rattle.std.specs.Prelude.{◌≡◌, ◌<◌, ◌≤◌, ◌⊎◌, ◌+◌, ◌++◌, ℕ, Bool, true, IsTrue, List, [], ◌∷◌, length, get_or, take, drop, Contains}
+use Rattle.gptman_copy.specs.Bytes.{part}
 
 -- A disk at one moment. `left_since t b`: a stop at some moment from t on, within calls too, may have left b.
 pub record DiskState : Type 1 where
@@ -12,13 +13,41 @@ pub record DiskState : Type 1 where
   pub left_since : ℕ → List ℕ → Type 0
   pub is_honest : Bool
 
+-- the disk gives back what was written to it, and loses nothing that was synced
+abbrev pub IsHonest : DiskState → Type 0
+IsHonest disk = IsTrue disk.is_honest
+
+-- the next n bytes, from the position on
+abbrev pub next_bytes : DiskState → ℕ → List ℕ
+next_bytes disk n = part disk.view disk.position n
+
+-- their range
+abbrev pub next_range : DiskState → ℕ → ℕ × ℕ
+next_range disk n = (disk.position, n)
+
+-- the disk has them all
+abbrev pub HasNext : DiskState → ℕ → Type 0
+HasNext disk n = disk.position + n ≤ disk.size
+
+-- it ends before
+abbrev pub PassesEnd : DiskState → ℕ → Type 0
+PassesEnd disk n = disk.size < disk.position + n
+
+-- the position went behind them
+abbrev pub Moves : DiskState → DiskState → ℕ → Type 0
+Moves old new n = new.position ≡ old.position + n
+
+-- the position is this one, and is answered
+abbrev pub StandsAt : DiskState → ℕ → ℕ → Type 0
+StandsAt disk at answer = (answer ≡ at) × (disk.position ≡ at)
+
 -- k is in none of the ranges, each a start and a length
 abbrev pub Outside : List (ℕ × ℕ) → ℕ → Type 0
 Outside [] k = Unit {0}
 Outside (range ∷ ranges) k = ((k < range.0) ⊎ (range.0 + range.1 ≤ k)) × Outside ranges k
 
 -- two byte lists of one length are the same outside the ranges
-pub record Agrees (ranges : List (ℕ × ℕ)) (a b : List ℕ) : Type 0 where
+pub record AgreesOutside (ranges : List (ℕ × ℕ)) (a b : List ℕ) : Type 0 where
   pub long : length b ≡ length a
   pub same : (k : ℕ) → Outside ranges k → get_or b k 0 ≡ get_or a k 0
 
@@ -28,7 +57,7 @@ pub record Within (inner outer : List (ℕ × ℕ)) : Type 0 where
 
 -- What a stop may leave now.
 abbrev pub Image : DiskState → List ℕ → Type 0
-Image disk b = Agrees disk.pending disk.view b
+Image disk b = AgreesOutside disk.pending disk.view b
 
 -- new is old with these bytes laid over it
 abbrev pub overlay : List ℕ → ℕ → List ℕ → List ℕ
@@ -58,10 +87,18 @@ LeavesOnly old new P = (b : List ℕ) → new.left_since old.clock b → P b
 -- On an honest disk, a run of calls that wrote in these ranges alone.
 pub record Wrote (ranges : List (ℕ × ℕ)) (old new : DiskState) : Type 0 where
   pub honest : new.is_honest ≡ true
-  pub view : Agrees ranges old.view new.view
+  pub view : AgreesOutside ranges old.view new.view
   pub pending : Within new.pending (ranges ++ old.pending)
-  pub crash : LeavesOnly old new (Agrees (ranges ++ old.pending) old.view)
+  pub crash : LeavesOnly old new (AgreesOutside (ranges ++ old.pending) old.view)
   pub time : Elapses old new
+
+-- An honest disk of these bytes, all of them stored, at position 0, that has not failed.
+pub record IsFresh (bytes : List ℕ) (disk : DiskState) : Type 0 where
+  pub honest : IsHonest disk
+  pub view : disk.view ≡ bytes
+  pub synced : disk.pending ≡ []
+  pub position : disk.position ≡ 0
+  pub failures : disk.failures ≡ 0
 
 -- The laws of an honest disk.
 pub record IsSound (disk : DiskState) : Type 0 where
@@ -76,7 +113,41 @@ pub record OnlyRead (old new : DiskState) : Type 0 where
   pub pending : new.pending ≡ old.pending
   pub wrote : Wrote [] old new
 
+-- A call that only reads: what it keeps on every disk, and that on an honest one it changes nothing.
+pub record Reads (old new : DiskState) : Type 0 where
+  pub keeps : Keeps old new
+  pub only : IsHonest old → OnlyRead old new
+
+-- a call that writes in these ranges alone
+abbrev pub Writes : List (ℕ × ℕ) → DiskState → DiskState → Type 0
+Writes ranges old new = IsHonest old → Wrote ranges old new
+
 -- nothing was written
 pub record Untouched (old new : DiskState) : Type 0 where
   pub view : new.view ≡ old.view
   pub pending : new.pending ≡ old.pending
+
+-- the disk failed, or nothing was written
+abbrev pub FailedOrUntouched : DiskState → DiskState → Type 0
+FailedOrUntouched old new = Rose old new ⊎ Untouched old new
+
+-- the next bytes became these
+abbrev pub Overlays : List ℕ → DiskState → DiskState → Type 0
+Overlays bytes old new = new.view ≡ overlay old.view old.position bytes
+
+-- what was not synced is not synced yet
+abbrev pub StaysPending : DiskState → DiskState → Type 0
+StaysPending old new = (range : ℕ × ℕ) → Contains old.pending range → Contains new.pending range
+
+-- The next bytes became these, and are not synced.
+pub record IsLaid (bytes : List ℕ) (old new : DiskState) : Type 0 where
+  pub view : Overlays bytes old new
+  pub pending : new.pending ≡ next_range old (length bytes) ∷ old.pending
+
+-- nothing was written, or the next n bytes are not synced
+abbrev pub MayBeLaid : ℕ → DiskState → DiskState → Type 0
+MayBeLaid n old new = Untouched old new ⊎ (new.pending ≡ next_range old n ∷ old.pending)
+
+-- nothing was written, or this range is not synced
+abbrev pub LeavesPending : ℕ × ℕ → DiskState → DiskState → Type 0
+LeavesPending range old new = Untouched old new ⊎ Contains new.pending range

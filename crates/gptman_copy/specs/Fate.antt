@@ -26,12 +26,20 @@ abbrev pub stop_step : List Fate → Stopping → Event → Stopping
 stop_step fates so_far (Write written) = record { view = view_step so_far.view (Write written); left = fate_step (get_or fates so_far.next Old) so_far.left written.at written.bytes.items; next = so_far.next + 1 }
 stop_step fates so_far Sync = record { view = so_far.view; left = so_far.view; next = 0 }
 
-abbrev pub stopped : List Fate → List ℕ → List Event → Stopping
-stopped fates start events = fold (stop_step fates) (record { view = start; left = start; next = 0 }) events
+abbrev pub stop_from : List Fate → List ℕ → List Event → Stopping
+stop_from fates start events = fold (stop_step fates) (record { view = start; left = start; next = 0 }) events
 
--- the bytes that a stop with these fates leaves of the disk
-abbrev pub stopped_bytes : List Fate → MemoryDisk → List ℕ
-stopped_bytes fates disk = (stopped fates disk.start.items disk.events.items).left
+-- What a disk in memory keeps: the bytes that it had at first, and its writes and syncs since.
+pub record History : Type 0 where
+  pub start : List ℕ
+  pub events : List Event
+
+abbrev pub history_of : MemoryDisk → History
+history_of disk = record { start = disk.start.items; events = disk.events.items }
+
+-- the bytes that a stop with these fates leaves
+abbrev pub bytes_left : List Fate → History → List ℕ
+bytes_left fates history = (stop_from fates history.start history.events).left
 
 -- the calls that the disk still serves; with no fuse it serves all
 abbrev pub calls_left : MemoryDisk → Option ℕ

@@ -14,5 +14,6 @@ file_state size position failures = record {
   is_honest = false;
 }
 
-pub false_is_true : IsTrue false → ⊥
-false_is_true h = cc
+-- it is not taken for honest
+pub never_honest : IsTrue false → ⊥
+never_honest h = cc

@@ -42,8 +42,8 @@ fit_fault h ss len = if nat_eq (array_size h) 0 || is_too_small (len / ss) (arra
 
 -- The header on a disk of so many sectors, where its array takes so many: new bounds, the other header in the last sector, and entries that are
 -- not in sector 2 behind the last usable one.
-abbrev pub fitted_to : GPTHeader → ℕ → ℕ → GPTHeader
-fitted_to h sectors array = record h {
+abbrev pub fit_to_sectors : GPTHeader → ℕ → ℕ → GPTHeader
+fit_to_sectors h sectors array = record h {
   primary_lba = if nat_eq h.primary_lba 1 then h.primary_lba else sectors - 1;
   backup_lba = if nat_eq h.primary_lba 1 then sectors - 1 else h.backup_lba;
   first_usable_lba = 2 + array;
@@ -52,5 +52,5 @@ fitted_to h sectors array = record h {
 }
 
 -- the same on a disk of that length in bytes
-abbrev pub fitted : GPTHeader → ℕ → ℕ → GPTHeader
-fitted h ss len = fitted_to h (len / ss) (array_sectors h ss)
+abbrev pub fit_header : GPTHeader → ℕ → ℕ → GPTHeader
+fit_header h ss len = fit_to_sectors h (len / ss) (array_sectors h ss)

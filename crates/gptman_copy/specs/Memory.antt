@@ -3,7 +3,7 @@ use Rattle.std.specs.Prelude.{◌≡◌, ◌≤◌, ◌+◌, ℕ, Bool, true, le
 use Rattle.std.specs.List.{fold}
 use Rattle.std.proofs.Common.{subst, sym, arith}
 use Rattle.std.proofs.lemmas.List.{take_all}
-use Rattle.gptman_copy.specs.Disk.{DiskState, IsSound, Agrees, overlay}
+use Rattle.gptman_copy.specs.Disk.{DiskState, IsSound, AgreesOutside, overlay}
 use Rattle.gptman_copy.specs.declared.disk.memory.Event.{Event}
 use Rattle.gptman_copy.specs.declared.disk.memory.Event.TheVariants.{Write, Sync}
 
@@ -35,7 +35,7 @@ pub record LeftSince (start : List ℕ) (events : List Event) (t : ℕ) (b : Lis
   pub after : ℕ
   pub since : t ≤ after
   pub until : after ≤ length events
-  pub image : Agrees (pending_of (take after events)) (view_of start (take after events)) b
+  pub image : AgreesOutside (pending_of (take after events)) (view_of start (take after events)) b
 
 -- the disk as contracts see it; its clock counts the events
 abbrev pub memory_state : List ℕ → List ℕ → List Event → ℕ → ℕ → DiskState
@@ -58,12 +58,12 @@ memory_sound start bytes events position failures replays = record {
     after = length events;
     since = le;
     until = omega arith;
-    image = subst (λ (l : List Event). Agrees (pending_of l) (view_of start l) b) (sym whole) (subst (λ v. Agrees (pending_of events) v b) replays image);
+    image = subst (λ (l : List Event). AgreesOutside (pending_of l) (view_of start l) b) (sym whole) (subst (λ v. AgreesOutside (pending_of events) v b) replays image);
   };
   only_now = λ b left.
       let last : length events ≤ left.after = left.since in
       let all : take left.after events ≡ events = take_all left.after events last in
-      subst (λ v. Agrees (pending_of events) v b) (sym replays) (subst (λ (l : List Event). Agrees (pending_of l) (view_of start l) b) all left.image);
+      subst (λ v. AgreesOutside (pending_of events) v b) (sym replays) (subst (λ (l : List Event). AgreesOutside (pending_of l) (view_of start l) b) all left.image);
   earlier = λ t u b le left. record { after = left.after; since = omega (arith, le, left.since); until = left.until; image = left.image };
 }
   where

@@ -7,7 +7,7 @@ Inside [] k = ⊥
 Inside (r ∷ ranges) k = ((r.0 ≤ k) × (k < r.0 + r.1)) ⊎ Inside ranges k
 
 -- Two byte lists of one length are the same in the ranges.
-pub record AgreesIn (ranges : List (ℕ × ℕ)) (a b : List ℕ) : Type 0 where
+pub record AgreesInside (ranges : List (ℕ × ℕ)) (a b : List ℕ) : Type 0 where
   pub long : length b ≡ length a
   pub same : (k : ℕ) → Inside ranges k → get_or b k 0 ≡ get_or a k 0
 

@@ -1,13 +1,13 @@
 -- What reading the entries of a header meets.
 use Rattle.std.specs.Prelude.{◌≡◌, ◌≢◌, ◌≤◌, ◌<◌, ◌⊎◌, ◌+◌, ◌^◌, ℕ}
-use Rattle.gptman_copy.specs.Disk.{DiskState, Rose}
+use Rattle.gptman_copy.specs.Disk.{DiskState, PassesEnd, Rose}
 use Rattle.gptman_copy.specs.Fault.{Fault, io, overflow, out_of_memory, invalid_entry_size}
 use Rattle.gptman_copy.specs.Copy.{entries_start, entries_length}
 use Rattle.gptman_copy.specs.declared.codec.header.GPTHeader.{GPTHeader}
 
 -- what a block of so many bytes may be refused with: there is no memory, or the disk failed or ends before
 abbrev pub IsBlockFault : ℕ → Fault → DiskState → DiskState → Type 0
-IsBlockFault len fault old new = (fault ≡ out_of_memory) ⊎ ((fault ≡ io) × (Rose old new ⊎ (old.size < old.position + len)))
+IsBlockFault len fault old new = (fault ≡ out_of_memory) ⊎ ((fault ≡ io) × (Rose old new ⊎ PassesEnd old len))
 
 -- A header's entries, of the right size and at a place that fits in 64 bits, pass the end of a disk of so many bytes.
 pub record PassTheEnd (h : GPTHeader) (ss size : ℕ) : Type 0 where
@@ -15,6 +15,14 @@ pub record PassTheEnd (h : GPTHeader) (ss size : ℕ) : Type 0 where
   pub entry_size : h.size_of_partition_entry ≡ 128
   pub fits : entries_start h ss < 2 ^ 64
   pub past : size < entries_start h ss + entries_length h
+
+-- a header has entries, and they pass the end of a disk of so many bytes
+abbrev pub HasTooMany : GPTHeader → ℕ → ℕ → Type 0
+HasTooMany h ss size = (h.number_of_partition_entries ≢ 0) × (size < entries_start h ss + entries_length h)
+
+-- its entries are of the right size, unless there are none
+abbrev pub HasEntrySize : GPTHeader → Type 0
+HasEntrySize h = (h.number_of_partition_entries ≡ 0) ⊎ (h.size_of_partition_entry ≡ 128)
 
 -- what going to the entries may be refused with: their size or their place is wrong, they pass the end of the disk, or it failed
 pub data IsSeekFault (h : GPTHeader) (ss : ℕ) (fault : Fault) (old new : DiskState) : Type 0 where

@@ -1,9 +1,9 @@
 -- Writing a table: what is refused, and what is written.
-use Rattle.std.specs.Prelude.{◌≡◌, ℕ, ◌+◌, ◌*◌, ◌^◌, ◌&&◌, ◌||◌, Bool, not, List, [], ◌∷◌, ◌++◌, Option, nat_eq, nat_le, nat_lt, length, if◌then◌else◌}
+use Rattle.std.specs.Prelude.{◌≡◌, ℕ, All, OnOk, Result, ◌+◌, ◌*◌, ◌^◌, ◌&&◌, ◌||◌, Bool, not, List, [], ◌∷◌, ◌++◌, Option, nat_eq, nat_le, nat_lt, length, if◌then◌else◌}
 use Rattle.std.specs.List.{list_all}
 use Rattle.gptman_copy.specs.Bytes.{part}
-use Rattle.gptman_copy.specs.Coding.{header_bytes, array_bytes}
-use Rattle.gptman_copy.specs.Disk.{overlay}
+use Rattle.gptman_copy.specs.Coding.{header_bytes, array_bytes, FitsEntry, FitsHeader}
+use Rattle.gptman_copy.specs.Disk.{DiskState, IsHonest, overlay}
 use Rattle.gptman_copy.specs.Fault.{Fault, overflow, no_space_left, first_failing}
 use Rattle.gptman_copy.specs.declared.codec.header.GPTHeader.{GPTHeader}
 use Rattle.gptman_copy.specs.declared.codec.entry.GPTPartitionEntry.{GPTPartitionEntry}
@@ -20,9 +20,13 @@ other_header h = record h {
 abbrev pub array_range : GPTHeader → ℕ → List (ℕ × ℕ)
 array_range h ss = if nat_eq h.number_of_partition_entries 0 then [] else ((h.partition_entry_lba * ss, 128 * h.number_of_partition_entries) ∷ [])
 
+-- the bytes of the header
+abbrev pub header_range : GPTHeader → ℕ → ℕ × ℕ
+header_range h ss = (h.primary_lba * ss, 92)
+
 -- the ranges of a copy that is written: its header, its entries
 abbrev pub write_ranges : GPTHeader → ℕ → List (ℕ × ℕ)
-write_ranges h ss = (h.primary_lba * ss, 92) ∷ array_range h ss
+write_ranges h ss = header_range h ss ∷ array_range h ss
 
 -- the range's start and end fit in 64 bits
 abbrev pub is_addressable : ℕ × ℕ → Bool
@@ -61,6 +65,14 @@ SameButSums old new = new ≡ record old { crc32_checksum = new.crc32_checksum; 
 -- new is old with the header's bytes laid over it, and then those of the entries
 abbrev pub IsCopyLaid : GPTHeader → List GPTPartitionEntry → ℕ → List ℕ → List ℕ → Type 0
 IsCopyLaid h es ss old new = new ≡ overlay (overlay old (h.primary_lba * ss) (header_bytes h)) (h.partition_entry_lba * ss) (array_bytes es)
+
+-- each field of header and entries has room in its bytes
+abbrev pub FitsCopy : GPTHeader → List GPTPartitionEntry → Type 0
+FitsCopy h es = FitsHeader h × All FitsEntry es
+
+-- on an honest disk, Ok has laid the copy over what was there
+abbrev pub LaysCopy : {T E : Type 0} → GPTHeader → List GPTPartitionEntry → ℕ → Result T E → DiskState → DiskState → Type 0
+LaysCopy h es ss result old new = IsHonest old → OnOk result (IsCopyLaid h es ss old.view new.view)
 
 -- The view has the bytes of a header and of its entries in their places.
 pub record HasBytes (b : List ℕ) (h : GPTHeader) (es : List GPTPartitionEntry) (ss : ℕ) : Type 0 where

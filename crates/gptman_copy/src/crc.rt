@@ -63,6 +63,6 @@ fn take_in_all(mut register: u32, bytes: &[u8]) -> u32
 fn take_in(register: u32, byte: u8) -> u32
     ensures { result ≡ with_byte register byte }
 {
-    let place = (register ^ byte as u32) & 0xff;
-    TABLE[place as usize] ^ (register >> 8)
+    let index = (register ^ byte as u32) & 0xff;
+    TABLE[index as usize] ^ (register >> 8)
 }

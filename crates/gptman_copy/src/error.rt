@@ -39,7 +39,8 @@ pub enum Error {
     #[error("conflict of partition GUIDs")]
     ConflictPartitionGUID,
     /// The boundaries of the partitions, or the usable sectors, are not in order.
-    #[error("invalid partition boundaries: partitions must have positive size, must not overlap, and must fit within the disk")]
+    #[error("invalid partition boundaries: partitions must have positive size, must not overlap, \
+             and must fit within the disk")]
     InvalidPartitionBoundaries,
     /// There is no entry of this number. Entries are numbered from 1.
     #[error("invalid partition number: {0}")]

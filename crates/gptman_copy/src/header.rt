@@ -1,15 +1,16 @@
 //! The header of one copy of the table: its checksums, its form, and how it is fitted to a disk.
 //!
-//! This room knows one copy, header and entries, and not that there are two.
+//! This room knows one copy, header and entries, and of a second one its header alone.
 
 ghost use Rattle.std.specs.Prelude.{◌≡◌, ◌<◌, ◌↔◌, ◌⊎◌, ℕ, if◌then◌else◌, IsTrue, IfOk, IfErr, OnOk, OnErr};
-ghost use Rattle.gptman_copy.specs.Disk.{Keeps, Rose, OnlyRead};
+ghost use Rattle.gptman_copy.specs.Disk.{Reads};
 ghost use Rattle.gptman_copy.specs.Coding.{header_bytes, array_bytes};
 ghost use Rattle.gptman_copy.specs.Crc.{crc_of};
 ghost use Rattle.gptman_copy.specs.Copy.{header_crc, IsCoherent};
-ghost use Rattle.gptman_copy.specs.Fault.{fault_of, io as io_fault, overflow};
-ghost use Rattle.gptman_copy.specs.Fit.{array_size, new_header, fit_fault, fitted, fitted_to, is_too_small};
-ghost use Rattle.gptman_copy.specs.Answers.{refusal_of, Refuses, Settles};
+ghost use Rattle.gptman_copy.specs.Fault.{fault_of, overflow};
+ghost use Rattle.gptman_copy.specs.Fit.{array_size, fit_fault, fit_header, fit_to_sectors, is_too_small};
+ghost use Rattle.gptman_copy.specs.Fit.{new_header};
+ghost use Rattle.gptman_copy.specs.Answers.{refusal_of, IsFailure, Refuses, Settles};
 
 use crate::cells::{note_bytes, put};
 use crate::codec::entry::GPTPartitionEntry;
@@ -39,11 +40,13 @@ impl GPTHeader {
         disk_guid: [u8; 16],
     ) -> Result<GPTHeader>
         requires { 0 < sector_size }
-        ensures keeps { Keeps (D.state disk.old) (D.state disk.new) }
-        ensures reads { IsTrue (D.state disk.old).is_honest → OnlyRead (D.state disk.old) (D.state disk.new) }
-        ensures answer { Settles (fit_fault (new_header disk_guid) sector_size (D.state disk.old).size) result (D.state disk.old) (D.state disk.new) }
-        ensures fits { IfOk result (λ h. h ≡ fitted (new_header disk_guid) sector_size (D.state disk.old).size) }
-        ensures refused { IfErr result (λ e. (fault_of e ≡ overflow) ⊎ ((fault_of e ≡ io_fault) × Rose (D.state disk.old) (D.state disk.new))) }
+        ensures reads { Reads (D.state disk.old) (D.state disk.new) }
+        ensures answer { Settles (fit_fault (new_header disk_guid) sector_size (D.state disk.old).size) result
+            (D.state disk.old) (D.state disk.new) }
+        ensures refused { IfErr result (λ e. (fault_of e ≡ overflow)
+            ⊎ IsFailure (fault_of e) (D.state disk.old) (D.state disk.new)) }
+        ensures value { IfOk result (λ h. h ≡ fit_header (new_header disk_guid) sector_size
+            (D.state disk.old).size) }
     {
         let mut header = GPTHeader {
             signature: SIGNATURE,
@@ -73,13 +76,14 @@ impl GPTHeader {
     /// where it has too few sectors for two copies. A refused call changes no field.
     pub fn update_from<D: Disk>(&mut self, disk: &mut D, sector_size: u64) -> Result<()>
         requires { 0 < sector_size }
-        ensures keeps { Keeps (D.state disk.old) (D.state disk.new) }
-        ensures reads { IsTrue (D.state disk.old).is_honest → OnlyRead (D.state disk.old) (D.state disk.new) }
-        ensures empty { array_size self.old ≡ 0 → Refuses result overflow }
-        ensures answer { Settles (fit_fault self.old sector_size (D.state disk.old).size) result (D.state disk.old) (D.state disk.new) }
-        ensures fits { OnOk result (self.new ≡ fitted self.old sector_size (D.state disk.old).size) }
+        ensures reads { Reads (D.state disk.old) (D.state disk.new) }
+        ensures at_once { array_size self.old ≡ 0 → Refuses result overflow }
+        ensures answer { Settles (fit_fault self.old sector_size (D.state disk.old).size) result
+            (D.state disk.old) (D.state disk.new) }
+        ensures refused { IfErr result (λ e. (fault_of e ≡ overflow)
+            ⊎ IsFailure (fault_of e) (D.state disk.old) (D.state disk.new)) }
+        ensures value { OnOk result (self.new ≡ fit_header self.old sector_size (D.state disk.old).size) }
         ensures kept { OnErr result (self.new ≡ self.old) }
-        ensures refused { IfErr result (λ e. (fault_of e ≡ overflow) ⊎ ((fault_of e ≡ io_fault) × Rose (D.state disk.old) (D.state disk.new))) }
     {
         let array_size = u64::from(self.number_of_partition_entries)
             * u64::from(self.size_of_partition_entry);
@@ -92,8 +96,9 @@ impl GPTHeader {
 
     // Fits the header to a disk of so many sectors, where its array takes so many.
     fn fit(&mut self, sectors: u64, array_sectors: u64) -> Result<()>
-        ensures answer { refusal_of result ≡ (if is_too_small sectors array_sectors then Some overflow else None) }
-        ensures fits { OnOk result (self.new ≡ fitted_to self.old sectors array_sectors) }
+        ensures answer { refusal_of result
+            ≡ (if is_too_small sectors array_sectors then Some overflow else None) }
+        ensures value { OnOk result (self.new ≡ fit_to_sectors self.old sectors array_sectors) }
         ensures kept { OnErr result (self.new ≡ self.old) }
     {
         if sectors < 2 || sectors - 2 < array_sectors {
@@ -161,7 +166,10 @@ impl GPTHeader {
     /// under the same conditions. No other field changes.
     pub fn update_partition_entry_array_crc32(&mut self, partitions: &[GPTPartitionEntry])
         requires { IsCoherent self.old partitions.now }
-        ensures { self.new ≡ record self.old { partition_entry_array_crc32 = crc_of (array_bytes partitions.now) } }
+        ensures { self.new ≡ record self.old {
+          partition_entry_array_crc32 = crc_of
+              (array_bytes partitions.now);
+        } }
     {
         self.partition_entry_array_crc32 = self.generate_partition_entry_array_crc32(partitions);
     }

@@ -7,6 +7,7 @@
 
 pub mod cells;
 pub mod codec;
+pub mod copy;
 pub mod crc;
 pub mod disk;
 pub mod error;

@@ -1,35 +1,35 @@
 use Rattle.std.proofs.Common.{◌≡◌, ⊎_elim, inr, false, sym, ◌∙◌, rules}
 use Rattle.gptimg_core.specs.Changes.{report_of}
 use Rattle.gptimg_core.specs.Checks.{is_good}
-use Rattle.gptimg_core.specs.declared.commands.Report.TheVariants.{Written, Table}
+use Rattle.gptimg_core.specs.declared.commands.Report.TheVariants.{Done, Table}
 use Rattle.gptimg_core.specs.declared.words.Command.TheVariants.{New, Mbr, Check, Show, Free, Change as Changing}
 use Rattle.gptimg_core.proofs.Told.{bad_by, change_as, difference_printed, lines_as, same_printed, slots_printed, told_as}
 use Rattle.gptimg_core.proofs.run.Goals as goal
 
 pub returns-in_err-print_report-in-Ok-clause-wrote : goal.returns-in_err-print_report-in-Ok-clause-wrote
-returns-in_err-print_report-in-Ok-clause-wrote g c honest ss guid asks =
+returns-in_err-print_report-in-Ok-clause-wrote g c ss guid asks =
     let new : c.in-Some.command ≡ New ss guid = cc c.in-Some.ensures.value in
-    c.perform.ensures.wrote honest ss guid new
+    c.perform.ensures.wrote ss guid new
 
 pub returns-in_err-print_fault-in-Err-clause-wrote : goal.returns-in_err-print_fault-in-Err-clause-wrote
-returns-in_err-print_fault-in-Err-clause-wrote g c honest ss guid asks =
+returns-in_err-print_fault-in-Err-clause-wrote g c ss guid asks =
     let new : c.in-Some.command ≡ New ss guid = cc c.in-Some.ensures.value in
-    c.perform.ensures.wrote honest ss guid new
+    c.perform.ensures.wrote ss guid new
 
 pub returns-in_ok-print_report-in-Ok-clause-wrote : goal.returns-in_ok-print_report-in-Ok-clause-wrote
-returns-in_ok-print_report-in-Ok-clause-wrote g c honest ss guid asks =
+returns-in_ok-print_report-in-Ok-clause-wrote g c ss guid asks =
     let new : c.in-Some.command ≡ New ss guid = cc c.in-Some.ensures.value in
-    c.perform.ensures.wrote honest ss guid new
+    c.perform.ensures.wrote ss guid new
 
 pub returns-in_ok-print_fault-in-Err-clause-wrote : goal.returns-in_ok-print_fault-in-Err-clause-wrote
-returns-in_ok-print_fault-in-Err-clause-wrote g c honest ss guid asks =
+returns-in_ok-print_fault-in-Err-clause-wrote g c ss guid asks =
     let new : c.in-Some.command ≡ New ss guid = cc c.in-Some.ensures.value in
-    c.perform.ensures.wrote honest ss guid new
+    c.perform.ensures.wrote ss guid new
 
 pub returns-in_ok-print_report-in-Ok-clause-stored : goal.returns-in_ok-print_report-in-Ok-clause-stored
-returns-in_ok-print_report-in-Ok-clause-stored g c honest ss guid asks layout done =
+returns-in_ok-print_report-in-Ok-clause-stored g c ss guid asks start done =
     let new : c.in-Some.command ≡ New ss guid = cc c.in-Some.ensures.value in
-    c.in-Ok.ensures.stored honest ss guid new layout
+    c.in-Ok.ensures.stored ss guid new start
 
 -- Only a look at both copies ends with status 1 where nothing is refused.
 pub returns-in_ok-print_report-in-Ok-clause-prints_refusal : goal.returns-in_ok-print_report-in-Ok-clause-prints_refusal
@@ -65,8 +65,8 @@ returns-in_ok-print_report-in-Ok-clause-differ g c honest ss asks done =
 pub returns-in_ok-print_report-in-Ok-clause-mbr_stored : goal.returns-in_ok-print_report-in-Ok-clause-mbr_stored
 returns-in_ok-print_report-in-Ok-clause-mbr_stored g c honest ss bootable asks done =
     let mbr : c.in-Some.command ≡ Mbr ss bootable = cc c.in-Some.ensures.value in
-    let laid = c.in-Ok.ensures.mbr_laid honest ss bootable mbr in
-    (lines_as (g.W.Write.contents c.args.out.now) (g.W.Write.contents c.print_report.new.out) c.in-Ok.report Written c.in_ok-print_report-in-Ok.ensures laid.0, laid.1, laid.2)
+    let stored = c.in-Ok.ensures.mbr_stored honest ss bootable mbr in
+    (lines_as (g.W.Write.contents c.args.out.now) (g.W.Write.contents c.print_report.new.out) c.in-Ok.report Done c.in_ok-print_report-in-Ok.ensures stored.0, stored.1)
 
 pub returns-in_ok-print_report-in-Ok-clause-changed : goal.returns-in_ok-print_report-in-Ok-clause-changed
 returns-in_ok-print_report-in-Ok-clause-changed g c honest size change asks done =
@@ -108,7 +108,7 @@ pub returns-in_ok-print_fault-in-Err-clause-prints_ok : goal.returns-in_ok-print
 returns-in_ok-print_fault-in-Err-clause-prints_ok g c ss guid asks done = absurd (cc)
 
 pub returns-in_ok-print_fault-in-Err-clause-stored : goal.returns-in_ok-print_fault-in-Err-clause-stored
-returns-in_ok-print_fault-in-Err-clause-stored g c honest ss guid asks layout done = absurd (cc)
+returns-in_ok-print_fault-in-Err-clause-stored g c ss guid asks start done = absurd (cc)
 
 pub returns-in_ok-print_fault-in-Err-clause-mbr_stored : goal.returns-in_ok-print_fault-in-Err-clause-mbr_stored
 returns-in_ok-print_fault-in-Err-clause-mbr_stored g c honest ss bootable asks done = absurd (cc)

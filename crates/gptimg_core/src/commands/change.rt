@@ -1,22 +1,22 @@
 //! Changes of a table in memory.
 
-ghost use Rattle.std.specs.Prelude.{◌≡◌, ◌⊎◌, ◌<◌, ◌≤◌, ◌+◌, ◌^◌, max, false, None, Some, IsTrue, IfOk, IfErr, IfSome, OnOk, OnErr, MatchOption};
-ghost use Rattle.gptman.specs.Disk.{Keeps, Rose, OnlyRead};
-ghost use Rattle.gptman.specs.Answers.{Refuses};
-ghost use Rattle.gptman.specs.Entry.{is_unused};
-ghost use Rattle.gptman.specs.Fault.{fault_of, invalid_partition_number, io as io_fault, out_of_memory};
-ghost use Rattle.gptman.specs.Fit.{fit_fault};
+ghost use Rattle.std.specs.Prelude.{◌≡◌, ◌⊎◌, ◌<◌, ◌≤◌, ◌+◌, ◌^◌, max, false, None, Some};
+ghost use Rattle.std.specs.Prelude.{IfErr, IfOk, IfSome, IsTrue, MatchOption, OnOk};
+ghost use Rattle.gptman.specs.Answers.{HasCause};
 ghost use Rattle.gptman.specs.Coding.{empty_entry};
-ghost use Rattle.gptman.specs.Order.{by_rank, rank};
+ghost use Rattle.gptman.specs.Copy.{IsCoherent};
+ghost use Rattle.gptman.specs.Disk.{Reads};
+ghost use Rattle.gptman.specs.Entry.{is_unused};
+ghost use Rattle.gptman.specs.Fault.{fault_of, invalid_partition_number, out_of_memory};
 ghost use Rattle.gptman.specs.Number.{entry_at, number_fault, with_entries, with_entry, IsNumber};
+ghost use Rattle.gptman.specs.Order.{by_rank, rank};
 ghost use Rattle.gptman.specs.Place.{HasNoPlace, IsFreeIn};
 ghost use Rattle.gptman.specs.Table.{entries_in};
-ghost use Rattle.gptman.specs.Copy.{IsCoherent};
+ghost use Rattle.gptimg_core.specs.Changes.{report_of, IsAdded, IsChanged, IsChosenPlace};
+ghost use Rattle.gptimg_core.specs.Refusals.{RefusesAddition, RefusesMaking};
 ghost use Rattle.gptimg_core.specs.Words.{IsSizedAddition, IsSizedChange};
-ghost use Rattle.gptimg_core.specs.Refusals.{IsFailure, RefusesAddition, RefusesMaking};
-ghost use Rattle.gptimg_core.specs.Changes.{grown, report_of, IsAdded, IsChanged, IsChosen};
-ghost use Rattle.gptimg_core.specs.declared.commands.Report.TheVariants.{Written};
-ghost use Rattle.gptimg_core.specs.declared.words.Change.TheVariants.{Add};
+ghost use Rattle.gptimg_core.specs.declared.commands.Report.TheVariants.{Done};
+ghost use Rattle.gptimg_core.specs.declared.words.Change.TheVariants.{Add, Grow};
 
 use crate::commands::Report;
 use crate::words::{Addition, Change, Choice};
@@ -36,14 +36,14 @@ pub fn make_change<D: Disk>(
     requires sector { 0 < table.old.sector_size }
     requires coherent { IsCoherent table.old.header (entries_in table.old) }
     requires sized { IsSizedChange change.now }
-    ensures keeps { Keeps (D.state disk.old) (D.state disk.new) }
-    ensures reads { IsTrue (D.state disk.old).is_honest → OnlyRead (D.state disk.old) (D.state disk.new) }
-    ensures cause { Refuses result io_fault → Rose (D.state disk.old) (D.state disk.new) }
+    ensures reads { Reads (D.state disk.old) (D.state disk.new) }
+    ensures told { IfOk result (λ report. report ≡ report_of change.now table.new) }
+    ensures refused { IfErr result (λ e. RefusesMaking change.now table.old (fault_of e)
+        (D.state disk.old) (D.state disk.new)) }
+    ensures cause { HasCause result (D.state disk.old) (D.state disk.new) }
+    ensures value { OnOk result (IsChanged (D.state disk.old).size change.now table.old table.new) }
     ensures sector { OnOk result (table.new.sector_size ≡ table.old.sector_size) }
     ensures coherent { OnOk result (IsCoherent table.new.header (entries_in table.new)) }
-    ensures changed { OnOk result (IsChanged (D.state disk.old).size change.now table.old table.new) }
-    ensures told { IfOk result (λ report. report ≡ report_of change.now table.new) }
-    ensures refused { IfErr result (λ e. RefusesMaking change.now table.old (fault_of e) (D.state disk.old) (D.state disk.new)) }
 {
     match change {
         Change::Add(addition) => add(alloc, table, addition),
@@ -56,44 +56,44 @@ pub fn make_change<D: Disk>(
 // Removes an entry.
 fn remove(table: &mut GPT, number: u32) -> Result<Report>
     requires coherent { IsCoherent table.old.header (entries_in table.old) }
-    ensures coherent { OnOk result (IsCoherent table.new.header (entries_in table.new)) }
-    ensures removed { OnOk result ((number_fault table.old number ≡ None) × (table.new ≡ with_entry table.old number empty_entry)) }
-    ensures told { IfOk result (λ report. report ≡ Written) }
+    ensures told { IfOk result (λ report. report ≡ Done) }
     ensures refused { IfErr result (λ e. number_fault table.old number ≡ Some (fault_of e)) }
+    ensures value { OnOk result ((number_fault table.old number ≡ None)
+        × (table.new ≡ with_entry table.old number empty_entry)) }
+    ensures coherent { OnOk result (IsCoherent table.new.header (entries_in table.new)) }
 {
     table.remove(number)?;
-    Ok(Report::Written)
+    Ok(Report::Done)
 }
 
 // Puts the entries in order.
 fn sort(table: &mut GPT) -> Result<Report>
     requires coherent { IsCoherent table.old.header (entries_in table.old) }
-    ensures coherent { OnOk result (IsCoherent table.new.header (entries_in table.new)) }
-    ensures sorted { OnOk result (table.new ≡ with_entries table.old (by_rank rank (entries_in table.old))) }
-    ensures told { IfOk result (λ report. report ≡ Written) }
+    ensures told { IfOk result (λ report. report ≡ Done) }
     ensures refused { IfErr result (λ e. fault_of e ≡ out_of_memory) }
+    ensures value { OnOk result (table.new
+        ≡ with_entries table.old (by_rank rank (entries_in table.old))) }
+    ensures coherent { OnOk result (IsCoherent table.new.header (entries_in table.new)) }
 {
     table.sort()?;
-    Ok(Report::Written)
+    Ok(Report::Done)
 }
 
 // Fits the table's header to the disk.
 fn fit<D: Disk>(disk: &mut D, table: &mut GPT) -> Result<Report>
     requires sector { 0 < table.old.sector_size }
     requires coherent { IsCoherent table.old.header (entries_in table.old) }
-    ensures keeps { Keeps (D.state disk.old) (D.state disk.new) }
-    ensures reads { IsTrue (D.state disk.old).is_honest → OnlyRead (D.state disk.old) (D.state disk.new) }
-    ensures cause { Refuses result io_fault → Rose (D.state disk.old) (D.state disk.new) }
+    ensures reads { Reads (D.state disk.old) (D.state disk.new) }
+    ensures told { IfOk result (λ report. report ≡ Done) }
+    ensures refused { IfErr result (λ e. RefusesMaking Grow table.old (fault_of e)
+        (D.state disk.old) (D.state disk.new)) }
+    ensures cause { HasCause result (D.state disk.old) (D.state disk.new) }
+    ensures value { OnOk result (IsChanged (D.state disk.old).size Grow table.old table.new) }
     ensures coherent { OnOk result (IsCoherent table.new.header (entries_in table.new)) }
-    ensures fitted { OnOk result ((fit_fault table.old.header table.old.sector_size (D.state disk.old).size ≡ None)
-        × (table.new ≡ grown table.old (D.state disk.old).size)) }
-    ensures told { IfOk result (λ report. report ≡ Written) }
-    ensures refused { IfErr result (λ e. (fit_fault table.old.header table.old.sector_size (D.state disk.old).size ≡ Some (fault_of e))
-        ⊎ IsFailure (fault_of e) (D.state disk.old) (D.state disk.new)) }
 {
     let sector_size = table.sector_size;
     table.header.update_from(disk, sector_size)?;
-    Ok(Report::Written)
+    Ok(Report::Done)
 }
 
 // Adds a partition at a free place, under the number of an unused entry.
@@ -103,10 +103,10 @@ fn fit<D: Disk>(disk: &mut D, table: &mut GPT) -> Result<Report>
 fn add(alloc: Global, table: &mut GPT, addition: &Addition) -> Result<Report>
     requires coherent { IsCoherent table.old.header (entries_in table.old) }
     requires sized { IsSizedAddition addition.now }
-    ensures coherent { OnOk result (IsCoherent table.new.header (entries_in table.new)) }
-    ensures added { OnOk result (IsAdded addition.now table.old table.new) }
     ensures told { IfOk result (λ report. report ≡ report_of (Add addition.now) table.new) }
     ensures refused { IfErr result (λ e. RefusesAddition addition.now table.old (fault_of e)) }
+    ensures value { OnOk result (IsAdded addition.now table.old table.new) }
+    ensures coherent { OnOk result (IsCoherent table.new.header (entries_in table.new)) }
 {
     let number = addition.number;
     if !has_unused(table, number) {
@@ -138,7 +138,8 @@ fn has_unused(table: &GPT, number: u32) -> bool
     requires { IsCoherent table.now.header (entries_in table.now) }
     ensures number { IsTrue result → (number_fault table.now number ≡ None) × IsNumber table.now number }
     ensures unused { IsTrue result → IsTrue (is_unused (entry_at table.now number)) }
-    ensures neither { result ≡ false → (number_fault table.now number ≡ Some (invalid_partition_number number))
+    ensures neither { result ≡ false
+        → (number_fault table.now number ≡ Some (invalid_partition_number number))
         ⊎ ((number_fault table.now number ≡ None) × ¬ IsTrue (is_unused (entry_at table.now number))) }
 {
     number >= 1 && number <= table.header.number_of_partition_entries && table[number].is_unused()
@@ -148,7 +149,8 @@ fn has_unused(table: &GPT, number: u32) -> bool
 fn find_place(table: &GPT, choice: Choice, size: u64) -> Result<Option<u64>>
     requires aligned { 0 < table.now.align }
     ensures place { let free = IsFreeIn table.now in let align = table.now.align in let n = max 1 size in
-        IfOk result (λ place. MatchOption place (HasNoPlace free align n) (IsChosen choice free align n)) }
+        IfOk result (λ place. MatchOption place (HasNoPlace free align n)
+        (IsChosenPlace choice free align n)) }
     ensures fits { IfOk result (λ place. IfSome place (λ s. s + max 1 size ≤ 2 ^ 64)) }
     ensures refused { IfErr result (λ e. fault_of e ≡ out_of_memory) }
 {

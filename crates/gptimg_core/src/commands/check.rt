@@ -1,31 +1,26 @@
 //! A look at both copies of a table, each by itself.
 
-ghost use Rattle.std.specs.Prelude.{◌≡◌, ◌↔◌, ◌⊎◌, ◌<◌, IsTrue, IfOk, IfErr};
-ghost use Rattle.gptman.specs.Disk.{Keeps, Rose, OnlyRead};
-ghost use Rattle.gptman.specs.Answers.{answer_of, Fails, Refuses};
-ghost use Rattle.gptman.specs.Copy.{copy_at};
-ghost use Rattle.gptman.specs.Fault.{fault_of, io as io_fault, out_of_memory};
+ghost use Rattle.std.specs.Prelude.{◌≡◌, ◌↔◌, ◌⊎◌, ◌<◌, IfErr, IfOk, IsTrue};
+ghost use Rattle.gptman.specs.Answers.{answer_of, AnswersInMemory, IsFailure};
+ghost use Rattle.gptman.specs.Copy.{copy_at, copy_of_whole};
+ghost use Rattle.gptman.specs.Disk.{IsHonest, Reads};
+ghost use Rattle.gptman.specs.Fault.{fault_of, out_of_memory};
 ghost use Rattle.gptman.specs.Reading.{primary as at_primary, backup as at_backup, copy_in};
 ghost use Rattle.gptman.specs.Table.{IsHeaderForm};
-ghost use Rattle.gptimg_core.specs.Checks.{seen_as, turned, AreBothForms, AreFoundSame, AreOneTable, IsChecked};
+ghost use Rattle.gptimg_core.specs.Checks.{with_sectors_exchanged, AreBothForms, AreFoundSame, AreOneTable};
+ghost use Rattle.gptimg_core.specs.Checks.{IsChecked, IsSeenAs};
 
 use gptman::{Disk, Error, GPTHeader, GPTPartitionEntry, Result};
+use gptman_copy::copy::{WholeCopy, last_sector, read_copy};
 use std::alloc::Global;
-
-/// An accepted copy of a table.
-#[derive(Drop)]
-pub struct FoundCopy {
-    header: GPTHeader,
-    entries: Vec<GPTPartitionEntry>,
-}
 
 /// What the two copies are: each one, or its fault.
 #[derive(Drop)]
 pub struct BothCopies {
     /// The copy in sector 1.
-    pub primary: Result<FoundCopy>,
+    pub primary: Result<WholeCopy>,
     /// The copy in the last whole sector.
-    pub backup: Result<FoundCopy>,
+    pub backup: Result<WholeCopy>,
     /// Whether both places hold one table, each in the form of its place.
     pub are_same: bool,
 }
@@ -36,10 +31,11 @@ pub struct BothCopies {
 /// `Io` where the length cannot be taken, `OutOfMemory` where there is no memory for the entries.
 pub fn check<D: Disk>(alloc: Global, disk: &mut D, sector_size: u64) -> Result<BothCopies>
     requires { 0 < sector_size }
-    ensures keeps { Keeps (D.state disk.old) (D.state disk.new) }
-    ensures reads { IsTrue (D.state disk.old).is_honest → OnlyRead (D.state disk.old) (D.state disk.new) }
-    ensures checked { IsTrue (D.state disk.old).is_honest → IfOk result (IsChecked sector_size (D.state disk.old) (D.state disk.new)) }
-    ensures refused { IfErr result (λ e. (fault_of e ≡ out_of_memory) ⊎ ((fault_of e ≡ io_fault) × Rose (D.state disk.old) (D.state disk.new))) }
+    ensures reads { Reads (D.state disk.old) (D.state disk.new) }
+    ensures refused { IfErr result (λ e. (fault_of e ≡ out_of_memory)
+        ⊎ IsFailure (fault_of e) (D.state disk.old) (D.state disk.new)) }
+    ensures value { IsHonest (D.state disk.old)
+        → IfOk result (IsChecked sector_size (D.state disk.old) (D.state disk.new)) }
 {
     let size = disk.seek_end()?;
     let primary = look_at(alloc, disk, sector_size, sector_size)?;
@@ -58,24 +54,18 @@ fn look_at_backup<D: Disk>(
     disk: &mut D,
     sector_size: u64,
     size: u64,
-) -> Result<Result<FoundCopy>>
+) -> Result<Result<WholeCopy>>
     requires sector { 0 < sector_size }
     requires whole { size ≡ (D.state disk.old).size }
-    ensures keeps { Keeps (D.state disk.old) (D.state disk.new) }
-    ensures reads { IsTrue (D.state disk.old).is_honest → OnlyRead (D.state disk.old) (D.state disk.new) }
-    ensures found { IsTrue (D.state disk.old).is_honest → IfOk result (λ found. Fails found (D.state disk.old) (D.state disk.new)
-        ⊎ (answer_of seen_as found ≡ copy_in at_backup (D.state disk.old).view sector_size)) }
+    ensures reads { Reads (D.state disk.old) (D.state disk.new) }
     ensures refused { IfErr result (λ e. fault_of e ≡ out_of_memory) }
+    ensures value { IsHonest (D.state disk.old) → IfOk result (IsSeenAs
+        (copy_in at_backup (D.state disk.old).view sector_size) (D.state disk.old) (D.state disk.new)) }
 {
     if size < sector_size {
         return Ok(Err(Error::InvalidSignature));
     }
-    look_at(
-        alloc,
-        disk,
-        sector_size,
-        (size / sector_size - 1) * sector_size,
-    )
+    look_at(alloc, disk, sector_size, last_sector(size, sector_size))
 }
 
 // Reads the copy whose header is at that byte. Want of memory is no fault of the copy.
@@ -84,49 +74,34 @@ fn look_at<D: Disk>(
     disk: &mut D,
     sector_size: u64,
     at: u64,
-) -> Result<Result<FoundCopy>>
+) -> Result<Result<WholeCopy>>
     requires { 0 < sector_size }
-    ensures keeps { Keeps (D.state disk.old) (D.state disk.new) }
-    ensures reads { IsTrue (D.state disk.old).is_honest → OnlyRead (D.state disk.old) (D.state disk.new) }
-    ensures found { IsTrue (D.state disk.old).is_honest → IfOk result (λ found. Fails found (D.state disk.old) (D.state disk.new)
-        ⊎ (answer_of seen_as found ≡ copy_at (D.state disk.old).view at sector_size)) }
+    ensures reads { Reads (D.state disk.old) (D.state disk.new) }
     ensures refused { IfErr result (λ e. fault_of e ≡ out_of_memory) }
+    ensures value { IsHonest (D.state disk.old) → IfOk result (IsSeenAs
+        (copy_at (D.state disk.old).view at sector_size) (D.state disk.old) (D.state disk.new)) }
 {
-    match read_copy(alloc, disk, sector_size, at) {
+    match read_at(alloc, disk, sector_size, at) {
         Err(Error::OutOfMemory) => Err(Error::OutOfMemory),
         found => Ok(found),
     }
 }
 
 // The copy whose header is at that byte.
-fn read_copy<D: Disk>(alloc: Global, disk: &mut D, sector_size: u64, at: u64) -> Result<FoundCopy>
+fn read_at<D: Disk>(alloc: Global, disk: &mut D, sector_size: u64, at: u64) -> Result<WholeCopy>
     requires { 0 < sector_size }
-    ensures keeps { Keeps (D.state disk.old) (D.state disk.new) }
-    ensures reads { IsTrue (D.state disk.old).is_honest → OnlyRead (D.state disk.old) (D.state disk.new) }
-    ensures answer { IsTrue (D.state disk.old).is_honest → Fails result (D.state disk.old) (D.state disk.new)
-        ⊎ (Refuses result out_of_memory ⊎ (answer_of seen_as result ≡ copy_at (D.state disk.old).view at sector_size)) }
+    ensures reads { Reads (D.state disk.old) (D.state disk.new) }
+    ensures answer { AnswersInMemory copy_of_whole (copy_at (D.state disk.old).view at sector_size) result
+        (D.state disk.old) (D.state disk.new) }
 {
     disk.seek_start(at)?;
-    read_here(alloc, disk, sector_size)
-}
-
-// The copy whose header is at the disk's position.
-fn read_here<D: Disk>(alloc: Global, disk: &mut D, sector_size: u64) -> Result<FoundCopy>
-    requires { 0 < sector_size }
-    ensures keeps { Keeps (D.state disk.old) (D.state disk.new) }
-    ensures reads { IsTrue (D.state disk.old).is_honest → OnlyRead (D.state disk.old) (D.state disk.new) }
-    ensures answer { IsTrue (D.state disk.old).is_honest → Fails result (D.state disk.old) (D.state disk.new)
-        ⊎ (Refuses result out_of_memory
-        ⊎ (answer_of seen_as result ≡ copy_at (D.state disk.old).view (D.state disk.old).position sector_size)) }
-{
-    let header = GPTHeader::read_from(disk)?;
-    let entries = header.read_partitions(alloc, disk, sector_size)?;
-    Ok(FoundCopy { header, entries })
+    read_copy(alloc, disk, sector_size)
 }
 
 // Whether both copies were found, and are one table.
-fn are_same(primary: &Result<FoundCopy>, backup: &Result<FoundCopy>) -> bool
-    ensures { IsTrue result ↔ AreFoundSame (answer_of seen_as primary.now) (answer_of seen_as backup.now) }
+fn are_same(primary: &Result<WholeCopy>, backup: &Result<WholeCopy>) -> bool
+    ensures { IsTrue result ↔ AreFoundSame (answer_of copy_of_whole primary.now)
+        (answer_of copy_of_whole backup.now) }
 {
     match (primary, backup) {
         (Ok(primary), Ok(backup)) => are_one_table(primary, backup),
@@ -135,8 +110,8 @@ fn are_same(primary: &Result<FoundCopy>, backup: &Result<FoundCopy>) -> bool
 }
 
 // Whether the two copies are one table, the first in primary form and the second in backup form.
-fn are_one_table(primary: &FoundCopy, backup: &FoundCopy) -> bool
-    ensures { IsTrue result ↔ AreOneTable (seen_as primary.now) (seen_as backup.now) }
+fn are_one_table(primary: &WholeCopy, backup: &WholeCopy) -> bool
+    ensures { IsTrue result ↔ AreOneTable (copy_of_whole primary.now) (copy_of_whole backup.now) }
 {
     are_both_forms(&primary.header, &backup.header)
         && are_same_entries(&primary.entries, &backup.entries)
@@ -147,7 +122,9 @@ fn are_one_table(primary: &FoundCopy, backup: &FoundCopy) -> bool
 fn are_both_forms(primary: &GPTHeader, backup: &GPTHeader) -> bool
     ensures { IsTrue result ↔ AreBothForms primary.now backup.now }
 {
-    is_in_primary_form(primary) && is_in_backup_form(backup) && is_turned(primary, backup)
+    is_in_primary_form(primary)
+        && is_in_backup_form(backup)
+        && has_sectors_exchanged(primary, backup)
 }
 
 // Whether the header stands in sector 1, and its entries from sector 2.
@@ -167,8 +144,8 @@ fn is_in_backup_form(header: &GPTHeader) -> bool
 
 // Whether the second header is the first with its two sectors the other way round. The place of the
 // entries and the checksums, which each copy has of its own, are not compared.
-fn is_turned(primary: &GPTHeader, backup: &GPTHeader) -> bool
-    ensures { IsTrue result ↔ (backup.now ≡ turned primary.now backup.now) }
+fn has_sectors_exchanged(primary: &GPTHeader, backup: &GPTHeader) -> bool
+    ensures { IsTrue result ↔ (backup.now ≡ with_sectors_exchanged primary.now backup.now) }
 {
     let other = GPTHeader {
         crc32_checksum: backup.crc32_checksum,

@@ -3,15 +3,16 @@
 ghost use Rattle.std.specs.Prelude.{◌≡◌, ◌<◌, IfSome};
 ghost use Rattle.std.specs.Char.{is_ascii_digit};
 ghost use Rattle.std.specs.List.{list_all};
-ghost use Rattle.gptimg_core.specs.Words.{choice_in, entry_number_in, guid_in, kind_in, number_in, sectors_in, size_in, type_in};
+ghost use Rattle.gptimg_core.specs.Words.{choice_in, entry_number_in, guid_in, kind_in, number_in};
+ghost use Rattle.gptimg_core.specs.Words.{sector_size_in, size_in, type_in};
 
 use crate::words::Choice;
 use hex::FromHex;
 
 /// A number above 0, or none where the word is `auto`.
-pub fn parse_sectors(text: &str) -> Option<Option<u64>>
+pub fn parse_sector_size(text: &str) -> Option<Option<u64>>
     ensures sized { IfSome result (λ size. IfSome size (λ n. 0 < n)) }
-    ensures value { result ≡ sectors_in text.now }
+    ensures value { result ≡ sector_size_in text.now }
 {
     if text == "auto" {
         return Some(None);

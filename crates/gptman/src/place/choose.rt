@@ -1,13 +1,15 @@
 //! The slot of a list that serves a size. A slot is (start, length) in sectors, and a list of them is
 //! by ascending start.
 
-ghost use Rattle.std.specs.Prelude.{◌≡◌, ◌<◌, ◌≤◌, length, map, AllPairs, IfSome, IsSomeAnd, MatchBool, MatchOption};
-ghost use Rattle.gptman.specs.Chosen.{rounded, AreShort, IsBefore, IsChosen, IsEarlier, IsGreatest, IsLater, IsTighter};
+ghost use Rattle.std.specs.Prelude.{◌≡◌, ◌<◌, ◌≤◌, length, map, AllPairs, IfSome, IsSomeAnd, MatchBool};
+ghost use Rattle.std.specs.Prelude.{MatchOption};
+ghost use Rattle.gptman.specs.Chosen.{round_down, AreShort, IsBefore, IsBestSlot, IsNoLater, IsGreatest};
+ghost use Rattle.gptman.specs.Chosen.{IsNoEarlier, IsTighter};
 
 /// The first slot of at least `size` sectors.
 pub(crate) fn first_slot(slots: &[(u64, u64)], size: u64) -> Option<(u64, u64)>
     requires { AllPairs IsBefore slots.now }
-    ensures { MatchOption result (AreShort size slots.now) (λ s. IsChosen IsEarlier size slots.now s) }
+    ensures { MatchOption result (AreShort size slots.now) (λ s. IsBestSlot IsNoLater size slots.now s) }
 {
     for slot in slots {
         if slot.1 >= size {
@@ -20,7 +22,7 @@ pub(crate) fn first_slot(slots: &[(u64, u64)], size: u64) -> Option<(u64, u64)>
 /// The last slot of at least `size` sectors.
 pub(crate) fn last_slot(slots: &[(u64, u64)], size: u64) -> Option<(u64, u64)>
     requires { AllPairs IsBefore slots.now }
-    ensures { MatchOption result (AreShort size slots.now) (λ s. IsChosen IsLater size slots.now s) }
+    ensures { MatchOption result (AreShort size slots.now) (λ s. IsBestSlot IsNoEarlier size slots.now s) }
 {
     let mut found = None;
     for slot in slots {
@@ -34,7 +36,7 @@ pub(crate) fn last_slot(slots: &[(u64, u64)], size: u64) -> Option<(u64, u64)>
 /// The shortest slot of at least `size` sectors, and the first of equally short ones.
 pub(crate) fn shortest_slot(slots: &[(u64, u64)], size: u64) -> Option<(u64, u64)>
     requires { AllPairs IsBefore slots.now }
-    ensures { MatchOption result (AreShort size slots.now) (λ s. IsChosen IsTighter size slots.now s) }
+    ensures { MatchOption result (AreShort size slots.now) (λ s. IsBestSlot IsTighter size slots.now s) }
 {
     let mut shortest = None;
     for slot in slots {
@@ -47,7 +49,8 @@ pub(crate) fn shortest_slot(slots: &[(u64, u64)], size: u64) -> Option<(u64, u64
 
 // Whether the slot has at least `size` sectors and is shorter than the shortest so far.
 fn is_shorter(slot: (u64, u64), shortest: Option<(u64, u64)>, size: u64) -> bool
-    ensures { MatchBool result (size ≤ slot.1 × IfSome shortest (λ s. slot.1 < s.1)) (size ≤ slot.1 → IsSomeAnd shortest (λ s. s.1 ≤ slot.1)) }
+    ensures { MatchBool result (size ≤ slot.1 × IfSome shortest (λ s. slot.1 < s.1))
+        (size ≤ slot.1 → IsSomeAnd shortest (λ s. s.1 ≤ slot.1)) }
 {
     slot.1 >= size
         && match shortest {
@@ -59,7 +62,8 @@ fn is_shorter(slot: (u64, u64), shortest: Option<(u64, u64)>, size: u64) -> bool
 /// The greatest multiple of `align` that a slot has room for, in sectors.
 pub(crate) fn greatest_size(slots: &[(u64, u64)], align: u64) -> Option<u64>
     requires { 0 < align }
-    ensures { MatchOption result (length slots.now ≡ 0) (λ m. IsGreatest (map (rounded align) slots.now) m) }
+    ensures { MatchOption result (length slots.now ≡ 0)
+        (λ m. IsGreatest (map (round_down align) slots.now) m) }
 {
     slots.iter().map(|slot| slot.1 - slot.1 % align).max()
 }

@@ -9,7 +9,8 @@ ghost use Rattle.std.specs.BTreeSet.{IsFromIterResult};
 ghost use Rattle.gptman_copy.specs.Answers.{refusal_of, Refuses};
 ghost use Rattle.gptman_copy.specs.Entry.{used_guid};
 ghost use Rattle.gptman_copy.specs.Fault.{out_of_memory};
-ghost use Rattle.gptman.specs.Valid.{AreDisjoint, EndsBefore, HasGoodBoundaries, HasOwnGuids, IsValidity, LiesWithin};
+ghost use Rattle.gptman.specs.Valid.{AreDisjoint, EndsBefore, HasGoodBoundaries, HasOwnGuids, IsValidity};
+ghost use Rattle.gptman.specs.Valid.{LiesWithin};
 
 use crate::table::covered::sorted_ranges;
 use gptman_copy::{Error, GPTHeader, GPTPartitionEntry, Result};

@@ -1,6 +1,7 @@
 //! The list of a table's entries, of which contracts see the list alone.
 
-ghost use Rattle.std.specs.Prelude.{◌≡◌, ◌↔◌, ◌<◌, ◌^◌, Some, length, slice_get, vec_len, IsTrue, IfOk, IfErr};
+ghost use Rattle.std.specs.Prelude.{◌≡◌, ◌↔◌, ◌<◌, ◌^◌, Some, length, slice_get, vec_len, IsTrue, IfOk};
+ghost use Rattle.std.specs.Prelude.{IfErr};
 ghost use Rattle.std.specs.Borrow.{sem};
 ghost use Rattle.std.specs.Cmp.{partial_equiv_from_equiv};
 ghost use Rattle.std.specs.Cmp.Lexicographic.{lists_equiv};
@@ -58,7 +59,7 @@ impl Entries {
         self.items.as_mut_slice()
     }
 
-    /// The entry at place `k`, for writing. Places count from 0.
+    /// The entry at index `k`, for writing. Indexes count from 0.
     pub(crate) fn at_mut(&mut self, k: usize) -> &mut GPTPartitionEntry
         requires { k < length self.old }
         ensures* writes_back { sem 𝓛 (LendsItem self.entry k result) }

@@ -84,7 +84,8 @@ impl<'a> IterMut<'a> {
 impl<'a> Iterator for IterMut<'a> {
     type Item = (u32, &'a mut GPTPartitionEntry);
 
-    ghost next_gives = { YieldsFirstBy (λ p. (p.0, p.1.now)) (λ s. enumerate_from (s.passed + 1) (iter_mut_rest s.rest)) };
+    ghost next_gives = { YieldsFirstBy (λ p. (p.0, p.1.now))
+        (λ s. enumerate_from (s.passed + 1) (iter_mut_rest s.rest)) };
 
     ghost remaining = { item_count (λ s. enumerate_from (s.passed + 1) (iter_mut_rest s.rest)) };
 

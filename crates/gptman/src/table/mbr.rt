@@ -1,12 +1,10 @@
 //! The protective MBR: 66 bytes in the first 512, which show the whole disk as one partition to a
 //! program that knows no GUID partition tables.
 
-ghost use Rattle.std.specs.Prelude.{◌≡◌, ◌≤◌, ◌<◌, ◌⊎◌, ◌∷◌, [], ℕ, true, false};
-ghost use Rattle.std.specs.Prelude.{Contains, IsTrue, IfErr, OnOk, OnErr};
-ghost use Rattle.gptman_copy.specs.Disk.{Keeps, Rose, Wrote, overlay, Untouched};
-ghost use Rattle.gptman_copy.specs.Fault.{fault_of, io as io_fault};
-ghost use Rattle.gptman.specs.Mbr.{mbr_bytes, mbr_fault};
-ghost use Rattle.gptman_copy.specs.Answers.{Refuses, Settles};
+ghost use Rattle.std.specs.Prelude.{◌≡◌, ◌≤◌, ◌<◌, ◌∷◌, [], true, false};
+ghost use Rattle.gptman_copy.specs.Answers.{FailsPending, HasCause, RefusesUntouched};
+ghost use Rattle.gptman_copy.specs.Disk.{Keeps, Writes};
+ghost use Rattle.gptman.specs.Mbr.{mbr_bytes, mbr_range, AnswersMbr, LaysMbr};
 
 use crate::table::GPT;
 use gptman_copy::cells::{put, put_u32};
@@ -32,26 +30,12 @@ impl GPT {
     pub fn write_protective_mbr_into<D: Disk>(disk: &mut D, sector_size: u64) -> Result<()>
         requires { 0 < sector_size }
         ensures keeps { Keeps (D.state disk.old) (D.state disk.new) }
-
-        // What is answered.
-        ensures answer { Settles (mbr_fault sector_size (D.state disk.old).size) result
-            (D.state disk.old) (D.state disk.new) }
-        ensures cause { Refuses result io_fault → Rose (D.state disk.old) (D.state disk.new) }
-
-        // What becomes of the disk.
-        ensures wrote { IsTrue (D.state disk.old).is_honest
-            → Wrote ((446, 66) ∷ []) (D.state disk.old) (D.state disk.new) }
-        ensures laid { IsTrue (D.state disk.old).is_honest
-            → OnOk result ((D.state disk.new).view ≡ overlay (D.state disk.old).view 446
-            (mbr_bytes false sector_size (D.state disk.old).size)) }
-        ensures pending { IsTrue (D.state disk.old).is_honest
-            → OnOk result ((D.state disk.new).pending ≡ (446, 66) ∷ (D.state disk.old).pending) }
-        ensures untouched { IsTrue (D.state disk.old).is_honest
-            → IfErr result (λ e. (fault_of e ≡ io_fault)
-            ⊎ Untouched (D.state disk.old) (D.state disk.new)) }
-        ensures failed { IsTrue (D.state disk.old).is_honest
-            → OnErr result (Untouched (D.state disk.old) (D.state disk.new)
-            ⊎ Contains (D.state disk.new).pending (446, 66)) }
+        ensures answer { AnswersMbr sector_size result (D.state disk.old) (D.state disk.new) }
+        ensures cause { HasCause result (D.state disk.old) (D.state disk.new) }
+        ensures wrote { Writes (mbr_range ∷ []) (D.state disk.old) (D.state disk.new) }
+        ensures laid { LaysMbr false sector_size result (D.state disk.old) (D.state disk.new) }
+        ensures untouched { RefusesUntouched result (D.state disk.old) (D.state disk.new) }
+        ensures failed { FailsPending mbr_range result (D.state disk.old) (D.state disk.new) }
     {
         write_mbr(disk, sector_size, false)
     }
@@ -65,26 +49,12 @@ impl GPT {
     pub fn write_bootable_protective_mbr_into<D: Disk>(disk: &mut D, sector_size: u64) -> Result<()>
         requires { 0 < sector_size }
         ensures keeps { Keeps (D.state disk.old) (D.state disk.new) }
-
-        // What is answered.
-        ensures answer { Settles (mbr_fault sector_size (D.state disk.old).size) result
-            (D.state disk.old) (D.state disk.new) }
-        ensures cause { Refuses result io_fault → Rose (D.state disk.old) (D.state disk.new) }
-
-        // What becomes of the disk.
-        ensures wrote { IsTrue (D.state disk.old).is_honest
-            → Wrote ((446, 66) ∷ []) (D.state disk.old) (D.state disk.new) }
-        ensures laid { IsTrue (D.state disk.old).is_honest
-            → OnOk result ((D.state disk.new).view ≡ overlay (D.state disk.old).view 446
-            (mbr_bytes true sector_size (D.state disk.old).size)) }
-        ensures pending { IsTrue (D.state disk.old).is_honest
-            → OnOk result ((D.state disk.new).pending ≡ (446, 66) ∷ (D.state disk.old).pending) }
-        ensures untouched { IsTrue (D.state disk.old).is_honest
-            → IfErr result (λ e. (fault_of e ≡ io_fault)
-            ⊎ Untouched (D.state disk.old) (D.state disk.new)) }
-        ensures failed { IsTrue (D.state disk.old).is_honest
-            → OnErr result (Untouched (D.state disk.old) (D.state disk.new)
-            ⊎ Contains (D.state disk.new).pending (446, 66)) }
+        ensures answer { AnswersMbr sector_size result (D.state disk.old) (D.state disk.new) }
+        ensures cause { HasCause result (D.state disk.old) (D.state disk.new) }
+        ensures wrote { Writes (mbr_range ∷ []) (D.state disk.old) (D.state disk.new) }
+        ensures laid { LaysMbr true sector_size result (D.state disk.old) (D.state disk.new) }
+        ensures untouched { RefusesUntouched result (D.state disk.old) (D.state disk.new) }
+        ensures failed { FailsPending mbr_range result (D.state disk.old) (D.state disk.new) }
     {
         write_mbr(disk, sector_size, true)
     }
@@ -94,22 +64,12 @@ impl GPT {
 fn write_mbr<D: Disk>(disk: &mut D, sector_size: u64, bootable: bool) -> Result<()>
     requires { 0 < sector_size }
     ensures keeps { Keeps (D.state disk.old) (D.state disk.new) }
-    ensures answer { Settles (mbr_fault sector_size (D.state disk.old).size) result
-        (D.state disk.old) (D.state disk.new) }
-    ensures cause { Refuses result io_fault → Rose (D.state disk.old) (D.state disk.new) }
-    ensures wrote { IsTrue (D.state disk.old).is_honest
-        → Wrote ((446, 66) ∷ []) (D.state disk.old) (D.state disk.new) }
-    ensures laid { IsTrue (D.state disk.old).is_honest
-        → OnOk result ((D.state disk.new).view ≡ overlay (D.state disk.old).view 446
-        (mbr_bytes bootable sector_size (D.state disk.old).size)) }
-    ensures pending { IsTrue (D.state disk.old).is_honest
-        → OnOk result ((D.state disk.new).pending ≡ (446, 66) ∷ (D.state disk.old).pending) }
-    ensures untouched { IsTrue (D.state disk.old).is_honest
-        → IfErr result (λ e. (fault_of e ≡ io_fault)
-        ⊎ Untouched (D.state disk.old) (D.state disk.new)) }
-    ensures failed { IsTrue (D.state disk.old).is_honest
-        → OnErr result (Untouched (D.state disk.old) (D.state disk.new)
-        ⊎ Contains (D.state disk.new).pending (446, 66)) }
+    ensures answer { AnswersMbr sector_size result (D.state disk.old) (D.state disk.new) }
+    ensures cause { HasCause result (D.state disk.old) (D.state disk.new) }
+    ensures wrote { Writes (mbr_range ∷ []) (D.state disk.old) (D.state disk.new) }
+    ensures laid { LaysMbr bootable sector_size result (D.state disk.old) (D.state disk.new) }
+    ensures untouched { RefusesUntouched result (D.state disk.old) (D.state disk.new) }
+    ensures failed { FailsPending mbr_range result (D.state disk.old) (D.state disk.new) }
 {
     let size = disk.seek_end()?;
     if size < sector_size {

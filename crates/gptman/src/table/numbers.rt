@@ -1,12 +1,14 @@
 //! Entries by their numbers, which count from 1, and by the sectors that they cover.
 
-ghost use Rattle.std.specs.Prelude.{◌≡◌, ◌-◌, ◌<◌, ℕ, Some, length, position, slice_get, IfSome, IsTrue, OnOk, OnErr};
+ghost use Rattle.std.specs.Prelude.{◌≡◌, ◌-◌, ◌<◌, ℕ, Some, length, position, slice_get, IfSome, IsTrue};
+ghost use Rattle.std.specs.Prelude.{OnOk, OnErr};
 ghost use Rattle.std.specs.Borrow.{sem};
 ghost use Rattle.gptman_copy.specs.Answers.{answer_of, refusal_of};
 ghost use Rattle.gptman_copy.specs.Coding.{empty_entry};
 ghost use Rattle.gptman_copy.specs.Entry.{bytes_of, covers, ends_of};
 ghost use Rattle.gptman.specs.Lending.{LendsEntry};
-ghost use Rattle.gptman.specs.Number.{byte_range_in, entry_at, has_number, number_at, number_fault, sector_fault, with_entry, without, IsNumber};
+ghost use Rattle.gptman.specs.Number.{byte_range_in, entry_at, has_number, number_at, number_fault};
+ghost use Rattle.gptman.specs.Number.{sector_fault, with_entry, without, IsNumber};
 ghost use Rattle.gptman.specs.Table.{entries_in};
 ghost use Rattle.gptman.specs.Valid.{IsValid};
 
@@ -53,8 +55,8 @@ impl GPT {
         ensures only { IsValid self.now.header (entries_in self.now) → (i : ℕ) → IsNumber self.now i
             → IsTrue (covers sector (entry_at self.now i)) → result ≡ Some i }
     {
-        match place_at(self.partitions.as_slice(), sector) {
-            Some(place) => Some(place as u32 + 1),
+        match index_at(self.partitions.as_slice(), sector) {
+            Some(index) => Some(index as u32 + 1),
             None => None,
         }
     }
@@ -128,7 +130,7 @@ fn is_at(entry: &GPTPartitionEntry, sector: u64) -> bool
 }
 
 // Where the first entry that covers the sector stands.
-fn place_at(entries: &[GPTPartitionEntry], sector: u64) -> Option<usize>
+fn index_at(entries: &[GPTPartitionEntry], sector: u64) -> Option<usize>
     ensures first { result ≡ position (covers sector) entries.now }
     ensures within { IfSome result (λ k. k < length entries.now) }
 {

@@ -1,20 +1,22 @@
 //! Making a table for a disk, and reading the one that a disk holds.
 
-ghost use Rattle.std.specs.Prelude.{◌≡◌, ◌≢◌, ◌≤◌, ◌<◌, ◌-◌, ◌*◌, ◌/◌, ◌⊎◌, Ok, Err, replicate, IsTrue, IfOk, IfErr, OnOk};
+ghost use Rattle.std.specs.Prelude.{◌≡◌, ◌≢◌, ◌≤◌, ◌<◌, ◌⊎◌, Ok, replicate, IfErr, IfOk, IsTrue};
+ghost use Rattle.gptman_copy.specs.Answers.{answer_of, is_copy_fault, is_damage};
+ghost use Rattle.gptman_copy.specs.Answers.{AnswersInMemory, HasCause, Refuses, RefusesOnly, Settles};
 ghost use Rattle.gptman_copy.specs.Coding.{empty_entry};
-ghost use Rattle.gptman_copy.specs.Disk.{Keeps, Rose, OnlyRead};
-ghost use Rattle.gptman_copy.specs.Fault.{fault_of, invalid_signature, io as io_fault, out_of_memory};
-ghost use Rattle.gptman_copy.specs.Fit.{new_header, fit_fault};
-ghost use Rattle.gptman.specs.Alignment.{IsAlignment};
-ghost use Rattle.gptman_copy.specs.Copy.{copy_at, IsCoherent};
+ghost use Rattle.gptman_copy.specs.Copy.{copy_at};
+ghost use Rattle.gptman_copy.specs.Disk.{IsHonest, Reads, Rose};
+ghost use Rattle.gptman_copy.specs.Fault.{fault_of, io as io_fault, out_of_memory};
+ghost use Rattle.gptman_copy.specs.Fit.{fit_fault, new_header};
 ghost use Rattle.gptman.specs.Reading.{both, copy_in, found_sector_size, primary, reading_of, second_copy};
-ghost use Rattle.gptman.specs.Table.{entries_in, new_table};
-ghost use Rattle.gptman_copy.specs.Answers.{answer_of, Refuses, RefusesOnly, Fails, Settles, is_copy_fault, is_damage};
-ghost use Rattle.gptman.specs.TableReads.{FallsBack, IsTakenCopy, IsReadingFault, copy_of, is_reading_fault};
+ghost use Rattle.gptman.specs.Table.{new_table};
+ghost use Rattle.gptman.specs.TableReads.{copy_of, is_reading_fault, AnswersReading, FallsBack, IsAsRead};
+ghost use Rattle.gptman.specs.TableReads.{IsReadingFault, MayBeRead, ShowsNoSignature};
 
 use crate::table::GPT;
 use crate::table::align::{DEFAULT_ALIGN, find_alignment};
 use crate::table::entries::Entries;
+use gptman_copy::copy::{last_sector, read_copy};
 use gptman_copy::{Disk, Error, GPTHeader, GPTPartitionEntry, Result};
 use std::alloc::Global;
 
@@ -35,10 +37,10 @@ impl GPT {
         disk_guid: [u8; 16],
     ) -> Result<GPT>
         requires { 0 < sector_size }
-        ensures keeps { Keeps (D.state disk.old) (D.state disk.new) }
-        ensures reads { IsTrue (D.state disk.old).is_honest → OnlyRead (D.state disk.old) (D.state disk.new) }
+        ensures reads { Reads (D.state disk.old) (D.state disk.new) }
         ensures answer { Refuses result out_of_memory
-            ⊎ Settles (fit_fault (new_header disk_guid) sector_size (D.state disk.old).size) result (D.state disk.old) (D.state disk.new) }
+            ⊎ Settles (fit_fault (new_header disk_guid) sector_size (D.state disk.old).size) result
+            (D.state disk.old) (D.state disk.new) }
         ensures value { IfOk result (λ g. g ≡ new_table disk_guid sector_size (D.state disk.old).size) }
     {
         let header = GPTHeader::new_from(disk, sector_size, disk_guid)?;
@@ -71,26 +73,24 @@ impl GPT {
     /// is no memory for the entries or for the two faults.
     pub fn read_from<D: Disk>(alloc: Global, disk: &mut D, sector_size: u64) -> Result<GPT>
         requires { 0 < sector_size }
-        ensures keeps { Keeps (D.state disk.old) (D.state disk.new) }
-        ensures reads { IsTrue (D.state disk.old).is_honest → OnlyRead (D.state disk.old) (D.state disk.new) }
+        ensures reads { Reads (D.state disk.old) (D.state disk.new) }
 
         // Where the disk did not fail, the answer is the reading's, or that there is no memory.
-        ensures answer { IsTrue (D.state disk.old).is_honest → Rose (D.state disk.old) (D.state disk.new)
-            ⊎ (Refuses result out_of_memory
-            ⊎ (answer_of copy_of result ≡ reading_of (D.state disk.old).view sector_size)) }
+        ensures answer { AnswersReading (reading_of (D.state disk.old).view sector_size) result
+            (D.state disk.old) (D.state disk.new) }
 
-        // Also where it failed, what is read is an accepted copy, and a refusal is the disk's or a copy's own.
-        ensures accepted { IsTrue (D.state disk.old).is_honest
-            → IfOk result (λ g. IsTakenCopy (D.state disk.old) (D.state disk.new) sector_size (copy_of g)) }
-        ensures refused { IsTrue (D.state disk.old).is_honest
+        // Also where it failed, what is read is an accepted copy, and a refusal is the disk's or a copy's
+        // own.
+        ensures accepted { IsHonest (D.state disk.old)
+            → IfOk result (λ g. MayBeRead (D.state disk.old) (D.state disk.new) sector_size (copy_of g)) }
+        ensures refused { IsHonest (D.state disk.old)
             → IfErr result (λ e. IsReadingFault (D.state disk.old).view sector_size (fault_of e)) }
         ensures kinds { RefusesOnly is_reading_fault result }
-        ensures cause { Refuses result io_fault → Rose (D.state disk.old) (D.state disk.new) }
+        ensures cause { HasCause result (D.state disk.old) (D.state disk.new) }
 
         // What is read.
-        ensures coherent { IfOk result (λ g. IsCoherent g.header (entries_in g)) }
         ensures sector { IfOk result (λ g. g.sector_size ≡ sector_size) }
-        ensures align { IfOk result (λ g. IsAlignment g.header (entries_in g) g.align) }
+        ensures value { IfOk result IsAsRead }
     {
         let primary = match read_primary(alloc, disk, sector_size) {
             Ok(table) => return Ok(table),
@@ -107,31 +107,31 @@ impl GPT {
     ///
     /// The errors are those of `read_from`.
     pub fn find_from<D: Disk>(alloc: Global, disk: &mut D) -> Result<GPT>
-        ensures keeps { Keeps (D.state disk.old) (D.state disk.new) }
-        ensures reads { IsTrue (D.state disk.old).is_honest → OnlyRead (D.state disk.old) (D.state disk.new) }
+        ensures reads { Reads (D.state disk.old) (D.state disk.new) }
 
-        // Where the disk did not fail, the answer is that of the reading with one of the sizes, or that there is no memory.
-        ensures answer { IsTrue (D.state disk.old).is_honest → Rose (D.state disk.old) (D.state disk.new)
-            ⊎ (Refuses result out_of_memory
-            ⊎ (answer_of copy_of result ≡ reading_of (D.state disk.old).view (found_sector_size (D.state disk.old).view))) }
+        // Where the disk did not fail, the answer is that of the reading with one of the sizes, or that
+        // there is no memory.
+        ensures answer { AnswersReading
+            (reading_of (D.state disk.old).view (found_sector_size (D.state disk.old).view))
+            result (D.state disk.old) (D.state disk.new) }
 
         // Also where it failed, 4096 is tried only where 512 shows no signature.
-        ensures accepted { IsTrue (D.state disk.old).is_honest
-            → IfOk result (λ g. IsTakenCopy (D.state disk.old) (D.state disk.new) g.sector_size (copy_of g)) }
-        ensures found { IsTrue (D.state disk.old).is_honest → Rose (D.state disk.old) (D.state disk.new)
+        ensures accepted { IsHonest (D.state disk.old)
+            → IfOk result (λ g. MayBeRead (D.state disk.old) (D.state disk.new) g.sector_size (copy_of g)) }
+        ensures found { IsHonest (D.state disk.old) → Rose (D.state disk.old) (D.state disk.new)
             ⊎ IfOk result (λ g. g.sector_size ≡ found_sector_size (D.state disk.old).view) }
-        ensures second { IsTrue (D.state disk.old).is_honest
-            → IfOk result (λ g. (g.sector_size ≡ 512) ⊎ ((g.sector_size ≡ 4096) × (reading_of (D.state disk.old).view 512 ≡ Err invalid_signature))) }
-        ensures refused { IsTrue (D.state disk.old).is_honest
+        ensures second { IsHonest (D.state disk.old) → IfOk result (λ g. (g.sector_size ≡ 512)
+            ⊎ ((g.sector_size ≡ 4096) × ShowsNoSignature (D.state disk.old).view)) }
+        ensures refused { IsHonest (D.state disk.old)
             → IfErr result (λ e. IsReadingFault (D.state disk.old).view 512 (fault_of e)
-            ⊎ ((reading_of (D.state disk.old).view 512 ≡ Err invalid_signature) × IsReadingFault (D.state disk.old).view 4096 (fault_of e))) }
+            ⊎ (ShowsNoSignature (D.state disk.old).view
+            × IsReadingFault (D.state disk.old).view 4096 (fault_of e))) }
         ensures kinds { RefusesOnly is_reading_fault result }
-        ensures cause { Refuses result io_fault → Rose (D.state disk.old) (D.state disk.new) }
+        ensures cause { HasCause result (D.state disk.old) (D.state disk.new) }
 
         // What is read.
-        ensures coherent { IfOk result (λ g. IsCoherent g.header (entries_in g)) }
         ensures sector { IfOk result (λ g. (g.sector_size ≡ 512) ⊎ (g.sector_size ≡ 4096)) }
-        ensures align { IfOk result (λ g. IsAlignment g.header (entries_in g) g.align) }
+        ensures value { IfOk result IsAsRead }
     {
         let fault = match GPT::read_from(alloc, disk, 512) {
             Ok(table) => return Ok(table),
@@ -147,18 +147,15 @@ impl GPT {
 // The copy at the primary place.
 fn read_primary<D: Disk>(alloc: Global, disk: &mut D, sector_size: u64) -> Result<GPT>
     requires { 0 < sector_size }
-    ensures keeps { Keeps (D.state disk.old) (D.state disk.new) }
-    ensures reads { IsTrue (D.state disk.old).is_honest → OnlyRead (D.state disk.old) (D.state disk.new) }
-    ensures answer { IsTrue (D.state disk.old).is_honest → Fails result (D.state disk.old) (D.state disk.new)
-        ⊎ (Refuses result out_of_memory
-        ⊎ (answer_of copy_of result ≡ copy_in primary (D.state disk.old).view sector_size)) }
+    ensures reads { Reads (D.state disk.old) (D.state disk.new) }
+    ensures answer { AnswersInMemory copy_of (copy_in primary (D.state disk.old).view sector_size) result
+        (D.state disk.old) (D.state disk.new) }
     ensures refused { RefusesOnly is_copy_fault result }
-    ensures coherent { IfOk result (λ g. IsCoherent g.header (entries_in g)) }
     ensures sector { IfOk result (λ g. g.sector_size ≡ sector_size) }
-    ensures align { IfOk result (λ g. IsAlignment g.header (entries_in g) g.align) }
+    ensures value { IfOk result IsAsRead }
 {
     disk.seek_start(sector_size)?;
-    read_copy(alloc, disk, sector_size)
+    read_table(alloc, disk, sector_size)
 }
 
 // The copy at the backup place, where the primary one has this fault.
@@ -170,22 +167,21 @@ fn read_backup<D: Disk>(
 ) -> Result<GPT>
     requires sector { 0 < sector_size }
     requires damage { IsTrue (is_damage (fault_of primary)) }
-    ensures keeps { Keeps (D.state disk.old) (D.state disk.new) }
-    ensures reads { IsTrue (D.state disk.old).is_honest → OnlyRead (D.state disk.old) (D.state disk.new) }
-    ensures answer { IsTrue (D.state disk.old).is_honest
-        → FallsBack result copy_of (D.state disk.old).view sector_size (fault_of primary) (D.state disk.old) (D.state disk.new) }
+    ensures reads { Reads (D.state disk.old) (D.state disk.new) }
+    ensures answer { IsHonest (D.state disk.old)
+        → FallsBack result copy_of (D.state disk.old).view sector_size
+        (fault_of primary) (D.state disk.old) (D.state disk.new) }
     ensures kinds { RefusesOnly is_reading_fault result }
-    ensures cause { Refuses result io_fault → Rose (D.state disk.old) (D.state disk.new) }
-    ensures coherent { IfOk result (λ g. IsCoherent g.header (entries_in g)) }
-    ensures sector_size { IfOk result (λ g. g.sector_size ≡ sector_size) }
-    ensures align { IfOk result (λ g. IsAlignment g.header (entries_in g) g.align) }
+    ensures cause { HasCause result (D.state disk.old) (D.state disk.new) }
+    ensures sector { IfOk result (λ g. g.sector_size ≡ sector_size) }
+    ensures value { IfOk result IsAsRead }
 {
     let size = disk.seek_end()?;
     if size < sector_size {
         return Err(Error::InvalidSignature);
     }
     disk.seek_start(last_sector(size, sector_size))?;
-    let backup = read_copy(alloc, disk, sector_size);
+    let backup = read_table(alloc, disk, sector_size);
     settle(alloc, primary, backup)
 }
 
@@ -193,10 +189,11 @@ fn read_backup<D: Disk>(
 fn settle(alloc: Global, primary: Error, backup: Result<GPT>) -> Result<GPT>
     requires damage { IsTrue (is_damage (fault_of primary)) }
     requires faults { RefusesOnly is_copy_fault backup }
-    ensures answer { Refuses result out_of_memory ⊎ (answer_of copy_of result ≡ second_copy (fault_of primary) (answer_of copy_of backup)) }
-    ensures same { IfOk result (λ g. backup ≡ Ok g) }
-    ensures memory { Refuses backup out_of_memory → Refuses result out_of_memory }
+    ensures answer { Refuses result out_of_memory
+        ⊎ (answer_of copy_of result ≡ second_copy (fault_of primary) (answer_of copy_of backup)) }
     ensures kinds { IfErr result (λ e. (fault_of e ≢ io_fault) × IsTrue (is_reading_fault (fault_of e))) }
+    ensures memory { Refuses backup out_of_memory → Refuses result out_of_memory }
+    ensures same { IfOk result (λ g. backup ≡ Ok g) }
 {
     let backup = match backup {
         Ok(table) => return Ok(table),
@@ -208,35 +205,23 @@ fn settle(alloc: Global, primary: Error, backup: Result<GPT>) -> Result<GPT>
     Err(both(alloc, primary, backup)?)
 }
 
-// The first byte of the last whole sector.
-fn last_sector(size: u64, sector_size: u64) -> u64
-    requires sector { 0 < sector_size }
-    requires room { sector_size ≤ size }
-    ensures { result ≡ (size / sector_size - 1) * sector_size }
-{
-    (size / sector_size - 1) * sector_size
-}
-
-// The copy whose header is at the disk's position.
-fn read_copy<D: Disk>(alloc: Global, disk: &mut D, sector_size: u64) -> Result<GPT>
+// The table of the copy whose header is at the disk's position.
+fn read_table<D: Disk>(alloc: Global, disk: &mut D, sector_size: u64) -> Result<GPT>
     requires { 0 < sector_size }
-    ensures keeps { Keeps (D.state disk.old) (D.state disk.new) }
-    ensures reads { IsTrue (D.state disk.old).is_honest → OnlyRead (D.state disk.old) (D.state disk.new) }
-    ensures answer { IsTrue (D.state disk.old).is_honest → Fails result (D.state disk.old) (D.state disk.new)
-        ⊎ (Refuses result out_of_memory
-        ⊎ (answer_of copy_of result ≡ copy_at (D.state disk.old).view (D.state disk.old).position sector_size)) }
+    ensures reads { Reads (D.state disk.old) (D.state disk.new) }
+    ensures answer { AnswersInMemory copy_of
+        (copy_at (D.state disk.old).view (D.state disk.old).position sector_size)
+        result (D.state disk.old) (D.state disk.new) }
     ensures refused { RefusesOnly is_copy_fault result }
-    ensures coherent { IfOk result (λ g. IsCoherent g.header (entries_in g)) }
     ensures sector { IfOk result (λ g. g.sector_size ≡ sector_size) }
-    ensures align { IfOk result (λ g. IsAlignment g.header (entries_in g) g.align) }
+    ensures value { IfOk result IsAsRead }
 {
-    let header = GPTHeader::read_from(disk)?;
-    let partitions = header.read_partitions(alloc, disk, sector_size)?;
-    let align = find_alignment(&partitions, header.first_usable_lba);
+    let copy = read_copy(alloc, disk, sector_size)?;
+    let align = find_alignment(&copy.entries, copy.header.first_usable_lba);
     Ok(GPT {
         sector_size,
-        header,
-        partitions: Entries::new(partitions),
+        header: copy.header,
+        partitions: Entries::new(copy.entries),
         align,
     })
 }

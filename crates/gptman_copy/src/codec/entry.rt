@@ -3,7 +3,8 @@
 ghost use Rattle.std.specs.Prelude.{◌≡◌, ℕ, ◌^◌, ◌<◌, [], length, flat_map, slice_index, IfOk, IfErr};
 ghost use Rattle.byteorder.specs.Endian.{little_bytes};
 ghost use Rattle.gptman_copy.specs.Bytes.{AreBytes};
-ghost use Rattle.gptman_copy.specs.Coding.{FitsEntry, IsEntryCoding, HasReadName, units_at, entry_bytes, empty_entry};
+ghost use Rattle.gptman_copy.specs.Coding.{FitsEntry, IsEntryCoding, HasReadName, units_at, entry_bytes};
+ghost use Rattle.gptman_copy.specs.Coding.{empty_entry};
 ghost use Rattle.gptman_copy.specs.Answers.{answer_of};
 ghost use Rattle.gptman_copy.specs.Entry.{ends_of, is_unused, is_used, sectors_of, size_of};
 ghost use Rattle.gptman_copy.specs.Fault.{fault_of, out_of_memory};

@@ -1,6 +1,7 @@
 //! The name of a partition: a text, and the 36 units of UTF-16 that stand on the disk.
 
-ghost use Rattle.std.specs.Prelude.{◌≡◌, ℕ, List, [], ◌∷◌, ◌++◌, nat_eq, IfOk, IfErr, Some, encode_utf8_all, position, replicate};
+ghost use Rattle.std.specs.Prelude.{◌≡◌, ℕ, List, [], ◌∷◌, ◌++◌, nat_eq, IfOk, IfErr, Some, encode_utf8_all};
+ghost use Rattle.std.specs.Prelude.{position, replicate};
 ghost use Rattle.std.specs.List.{before_first};
 ghost use Rattle.std.specs.Str.{chars};
 ghost use Rattle.std.specs.Char.Escape.{encode_utf16};

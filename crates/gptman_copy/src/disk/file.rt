@@ -2,9 +2,9 @@
 //!
 //! It counts the failures of the system's calls. Nothing is claimed of what the system keeps.
 
-ghost use Rattle.std.specs.Prelude.{◌≡◌, ◌≤◌, ◌+◌, ◌<◌, ◌^◌, ◌⊎◌, length, IfOk, IfErr, OnOk, OnErr, IsErr};
-ghost use Rattle.gptman_copy.specs.Disk.{Keeps, Rose};
-ghost use Rattle.gptman_copy.specs.File.{file_state, false_is_true};
+ghost use Rattle.std.specs.Prelude.{◌≡◌, ◌<◌, ◌^◌, ◌⊎◌, length, IfOk, IfErr, OnOk, OnErr, IsErr};
+ghost use Rattle.gptman_copy.specs.Disk.{next_bytes, HasNext, IsHonest, Moves, PassesEnd, Reads, Rose};
+ghost use Rattle.gptman_copy.specs.File.{file_state, never_honest};
 
 use super::{Disk, count_failure, past_end};
 use crate::error::Result;
@@ -103,12 +103,18 @@ impl Disk for FileDisk {
     /// As the trait says. A read that passes the end fails without a call of the system, and is no
     /// failure of the device.
     fn read_exact(&mut self, buf: &mut [u8]) -> io::Result<()>
-        ensures keeps { Keeps (⟦<FileDisk as Disk>⟧.state self.old) (⟦<FileDisk as Disk>⟧.state self.new) }
-        ensures moves { OnOk result ((⟦<FileDisk as Disk>⟧.state self.new).position ≡ (⟦<FileDisk as Disk>⟧.state self.old).position + length buf.old) }
-        ensures within { OnOk result ((⟦<FileDisk as Disk>⟧.state self.old).position + length buf.old ≤ (⟦<FileDisk as Disk>⟧.state self.old).size) }
-        ensures cause { OnErr result (Rose (⟦<FileDisk as Disk>⟧.state self.old) (⟦<FileDisk as Disk>⟧.state self.new) ⊎ ((⟦<FileDisk as Disk>⟧.state self.old).size < (⟦<FileDisk as Disk>⟧.state self.old).position + length buf.old)) }
-        ensures past_end { (⟦<FileDisk as Disk>⟧.state self.old).size < (⟦<FileDisk as Disk>⟧.state self.old).position + length buf.old
-            → IsErr result × ((⟦<FileDisk as Disk>⟧.state self.new).failures ≡ (⟦<FileDisk as Disk>⟧.state self.old).failures) }
+        ensures reads { Reads (⟦<FileDisk as Disk>⟧.state self.old) (⟦<FileDisk as Disk>⟧.state self.new) }
+        ensures within { OnOk result (HasNext (⟦<FileDisk as Disk>⟧.state self.old) (length buf.old)) }
+        ensures cause { OnErr result (Rose (⟦<FileDisk as Disk>⟧.state self.old)
+            (⟦<FileDisk as Disk>⟧.state self.new)
+            ⊎ PassesEnd (⟦<FileDisk as Disk>⟧.state self.old) (length buf.old)) }
+        ensures past_end { PassesEnd (⟦<FileDisk as Disk>⟧.state self.old) (length buf.old)
+            → IsErr result × ((⟦<FileDisk as Disk>⟧.state self.new).failures ≡
+            (⟦<FileDisk as Disk>⟧.state self.old).failures) }
+        ensures value { IsHonest (⟦<FileDisk as Disk>⟧.state self.old)
+            → OnOk result (buf.new ≡ next_bytes (⟦<FileDisk as Disk>⟧.state self.old) (length buf.old)) }
+        ensures moves { OnOk result (Moves (⟦<FileDisk as Disk>⟧.state self.old)
+            (⟦<FileDisk as Disk>⟧.state self.new) (length buf.old)) }
     {
         let len = buf.len() as u64;
         if self.position > self.size || len > self.size - self.position {
@@ -141,5 +147,5 @@ impl Disk for FileDisk {
 
     ghost bounded = { λ d. d.small };
 
-    ghost sound = { λ d honest. absurd (false_is_true honest) };
+    ghost sound = { λ d honest. absurd (never_honest honest) };
 }

@@ -3,10 +3,13 @@
 //! It keeps a record of its writes and syncs. A stop goes through that record and makes of it one
 //! of the disks that a crash may leave. A fuse lets every call from a chosen one on fail.
 
-ghost use Rattle.std.specs.Prelude.{◌≡◌, ◌≤◌, ◌+◌, ◌<◌, ◌^◌, ◌⊎◌, ◌↔◌, [], ◌∷◌, Some, None, true, length, take, drop, IfOk, IfErr, OnOk, OnErr, IsOk, IsErr, IsTrue};
+ghost use Rattle.std.specs.Prelude.{◌≡◌, ◌≤◌, ◌+◌, ◌<◌, ◌^◌, ◌⊎◌, ◌↔◌, [], ◌∷◌, Some, None, true, length};
+ghost use Rattle.std.specs.Prelude.{IfOk, IfErr, OnOk, OnErr, IsOk, IsErr, IsTrue};
 ghost use Rattle.std.specs.List.{list_all};
-ghost use Rattle.gptman_copy.specs.Disk.{Image, Keeps, Rose, Wrote, overlay};
-ghost use Rattle.gptman_copy.specs.Memory.{memory_state, memory_sound, view_of, event_fits, serves, after_call};
+ghost use Rattle.gptman_copy.specs.Disk.{next_bytes, next_range, overlay, HasNext, Image, IsFresh, IsHonest, IsLaid};
+ghost use Rattle.gptman_copy.specs.Disk.{Keeps, MayBeLaid, Moves, PassesEnd, Reads, Rose, StandsAt, Writes};
+ghost use Rattle.gptman_copy.specs.Memory.{after_call, event_fits, memory_sound, memory_state, serves};
+ghost use Rattle.gptman_copy.specs.Memory.{view_of};
 
 use super::{Disk, count_failure, past_end};
 use crate::error::Result;
@@ -58,19 +61,15 @@ pub struct MemoryDisk {
 
 impl MemoryDisk {
     ghost use Rattle.gptman_copy.specs.Fault.{fault_of, out_of_memory};
-    ghost use Rattle.gptman_copy.specs.Fate.{stopped_bytes, calls_left};
+    ghost use Rattle.gptman_copy.specs.Fate.{bytes_left, calls_left, history_of};
 
     /// A disk of these bytes, all of them stored, at position 0, that serves every call.
     ///
     /// It keeps a copy of the bytes; `OutOfMemory` where there is no room for it.
     pub fn new(alloc: Global, bytes: Vec<u8>) -> Result<MemoryDisk>
-        ensures view { IfOk result (λ disk. (⟦<MemoryDisk as Disk>⟧.state disk).view ≡ bytes.items) }
-        ensures pending { IfOk result (λ disk. (⟦<MemoryDisk as Disk>⟧.state disk).pending ≡ []) }
-        ensures position { IfOk result (λ disk. (⟦<MemoryDisk as Disk>⟧.state disk).position ≡ 0) }
-        ensures failures { IfOk result (λ disk. (⟦<MemoryDisk as Disk>⟧.state disk).failures ≡ 0) }
-        ensures honest { IfOk result (λ disk. IsTrue (⟦<MemoryDisk as Disk>⟧.state disk).is_honest) }
-        ensures fuse { IfOk result (λ disk. calls_left disk ≡ None) }
         ensures refused { IfErr result (λ e. fault_of e ≡ out_of_memory) }
+        ensures value { IfOk result (λ disk. IsFresh bytes.items (⟦<MemoryDisk as Disk>⟧.state disk)) }
+        ensures fuse { IfOk result (λ disk. calls_left disk ≡ None) }
     {
         Ok(MemoryDisk {
             alloc,
@@ -88,13 +87,9 @@ impl MemoryDisk {
     ///
     /// `OutOfMemory` where there is no room for the copy of the bytes.
     pub fn with_fuse(alloc: Global, bytes: Vec<u8>, calls: u64) -> Result<MemoryDisk>
-        ensures view { IfOk result (λ disk. (⟦<MemoryDisk as Disk>⟧.state disk).view ≡ bytes.items) }
-        ensures pending { IfOk result (λ disk. (⟦<MemoryDisk as Disk>⟧.state disk).pending ≡ []) }
-        ensures position { IfOk result (λ disk. (⟦<MemoryDisk as Disk>⟧.state disk).position ≡ 0) }
-        ensures failures { IfOk result (λ disk. (⟦<MemoryDisk as Disk>⟧.state disk).failures ≡ 0) }
-        ensures honest { IfOk result (λ disk. IsTrue (⟦<MemoryDisk as Disk>⟧.state disk).is_honest) }
-        ensures fuse { IfOk result (λ disk. calls_left disk ≡ Some calls) }
         ensures refused { IfErr result (λ e. fault_of e ≡ out_of_memory) }
+        ensures value { IfOk result (λ disk. IsFresh bytes.items (⟦<MemoryDisk as Disk>⟧.state disk)) }
+        ensures fuse { IfOk result (λ disk. calls_left disk ≡ Some calls) }
     {
         let mut disk = MemoryDisk::new(alloc, bytes)?;
         disk.fuse = Some(calls);
@@ -107,14 +102,12 @@ impl MemoryDisk {
     /// then in their order, each with its fate. A write with no fate of its own has `Old`, and
     /// fates behind the last write are ignored. `OutOfMemory` where there is no room for the bytes.
     pub fn stop(self, fates: &[Fate]) -> Result<MemoryDisk>
-        ensures image { IfOk result (λ disk. Image (⟦<MemoryDisk as Disk>⟧.state self) (⟦<MemoryDisk as Disk>⟧.state disk).view) }
-        ensures fates { IfOk result (λ disk. (⟦<MemoryDisk as Disk>⟧.state disk).view ≡ stopped_bytes fates.now self) }
-        ensures pending { IfOk result (λ disk. (⟦<MemoryDisk as Disk>⟧.state disk).pending ≡ []) }
-        ensures position { IfOk result (λ disk. (⟦<MemoryDisk as Disk>⟧.state disk).position ≡ 0) }
-        ensures failures { IfOk result (λ disk. (⟦<MemoryDisk as Disk>⟧.state disk).failures ≡ 0) }
-        ensures honest { IfOk result (λ disk. IsTrue (⟦<MemoryDisk as Disk>⟧.state disk).is_honest) }
-        ensures fuse { IfOk result (λ disk. calls_left disk ≡ None) }
         ensures refused { IfErr result (λ e. fault_of e ≡ out_of_memory) }
+        ensures image { IfOk result (λ disk. Image (⟦<MemoryDisk as Disk>⟧.state self)
+            (⟦<MemoryDisk as Disk>⟧.state disk).view) }
+        ensures value { IfOk result (λ disk. IsFresh (bytes_left fates.now (history_of self))
+            (⟦<MemoryDisk as Disk>⟧.state disk)) }
+        ensures fuse { IfOk result (λ disk. calls_left disk ≡ None) }
     {
         let mut view = self.start.to_vec(self.alloc)?;
         let mut left = self.start.to_vec(self.alloc)?;
@@ -204,14 +197,13 @@ impl Disk for MemoryDisk {
 
     /// As the trait says. It fails where the fuse does not serve the call, and nowhere else.
     fn seek_start(&mut self, at: u64) -> io::Result<u64>
-        ensures keeps { Keeps (⟦<MemoryDisk as Disk>⟧.state self.old) (⟦<MemoryDisk as Disk>⟧.state self.new) }
-        ensures moves { IfOk result (λ position. (position ≡ at) × ((⟦<MemoryDisk as Disk>⟧.state self.new).position ≡ at)) }
-        ensures cause { OnErr result (Rose (⟦<MemoryDisk as Disk>⟧.state self.old) (⟦<MemoryDisk as Disk>⟧.state self.new)) }
-        ensures wrote { IsTrue (⟦<MemoryDisk as Disk>⟧.state self.old).is_honest → Wrote [] (⟦<MemoryDisk as Disk>⟧.state self.old) (⟦<MemoryDisk as Disk>⟧.state self.new) }
-        ensures view { IsTrue (⟦<MemoryDisk as Disk>⟧.state self.old).is_honest → (⟦<MemoryDisk as Disk>⟧.state self.new).view ≡ (⟦<MemoryDisk as Disk>⟧.state self.old).view }
-        ensures pending { IsTrue (⟦<MemoryDisk as Disk>⟧.state self.old).is_honest → (⟦<MemoryDisk as Disk>⟧.state self.new).pending ≡ (⟦<MemoryDisk as Disk>⟧.state self.old).pending }
-        ensures fuse { calls_left self.new ≡ after_call (calls_left self.old) }
+        ensures reads { Reads (⟦<MemoryDisk as Disk>⟧.state self.old)
+            (⟦<MemoryDisk as Disk>⟧.state self.new) }
+        ensures answer { IfOk result (StandsAt (⟦<MemoryDisk as Disk>⟧.state self.new) at) }
+        ensures cause { OnErr result (Rose (⟦<MemoryDisk as Disk>⟧.state self.old)
+            (⟦<MemoryDisk as Disk>⟧.state self.new)) }
         ensures served { IsOk result ↔ IsTrue (serves (calls_left self.old)) }
+        ensures fuse { calls_left self.new ≡ after_call (calls_left self.old) }
     {
         if !is_served(&mut self.fuse) {
             return Err(fail(&mut self.failures));
@@ -222,14 +214,14 @@ impl Disk for MemoryDisk {
 
     /// As the trait says. It fails where the fuse does not serve the call, and nowhere else.
     fn seek_end(&mut self) -> io::Result<u64>
-        ensures keeps { Keeps (⟦<MemoryDisk as Disk>⟧.state self.old) (⟦<MemoryDisk as Disk>⟧.state self.new) }
-        ensures moves { IfOk result (λ position. (position ≡ (⟦<MemoryDisk as Disk>⟧.state self.old).size) × ((⟦<MemoryDisk as Disk>⟧.state self.new).position ≡ (⟦<MemoryDisk as Disk>⟧.state self.old).size)) }
-        ensures cause { OnErr result (Rose (⟦<MemoryDisk as Disk>⟧.state self.old) (⟦<MemoryDisk as Disk>⟧.state self.new)) }
-        ensures wrote { IsTrue (⟦<MemoryDisk as Disk>⟧.state self.old).is_honest → Wrote [] (⟦<MemoryDisk as Disk>⟧.state self.old) (⟦<MemoryDisk as Disk>⟧.state self.new) }
-        ensures view { IsTrue (⟦<MemoryDisk as Disk>⟧.state self.old).is_honest → (⟦<MemoryDisk as Disk>⟧.state self.new).view ≡ (⟦<MemoryDisk as Disk>⟧.state self.old).view }
-        ensures pending { IsTrue (⟦<MemoryDisk as Disk>⟧.state self.old).is_honest → (⟦<MemoryDisk as Disk>⟧.state self.new).pending ≡ (⟦<MemoryDisk as Disk>⟧.state self.old).pending }
-        ensures fuse { calls_left self.new ≡ after_call (calls_left self.old) }
+        ensures reads { Reads (⟦<MemoryDisk as Disk>⟧.state self.old)
+            (⟦<MemoryDisk as Disk>⟧.state self.new) }
+        ensures answer { IfOk result
+            (StandsAt (⟦<MemoryDisk as Disk>⟧.state self.new) (⟦<MemoryDisk as Disk>⟧.state self.old).size) }
+        ensures cause { OnErr result (Rose (⟦<MemoryDisk as Disk>⟧.state self.old)
+            (⟦<MemoryDisk as Disk>⟧.state self.new)) }
         ensures served { IsOk result ↔ IsTrue (serves (calls_left self.old)) }
+        ensures fuse { calls_left self.new ≡ after_call (calls_left self.old) }
     {
         if !is_served(&mut self.fuse) {
             return Err(fail(&mut self.failures));
@@ -241,18 +233,22 @@ impl Disk for MemoryDisk {
     /// As the trait says. It fails where the read passes the end, which is no failure of the device,
     /// and where the fuse does not serve the call, and nowhere else.
     fn read_exact(&mut self, buf: &mut [u8]) -> io::Result<()>
-        ensures keeps { Keeps (⟦<MemoryDisk as Disk>⟧.state self.old) (⟦<MemoryDisk as Disk>⟧.state self.new) }
-        ensures moves { OnOk result ((⟦<MemoryDisk as Disk>⟧.state self.new).position ≡ (⟦<MemoryDisk as Disk>⟧.state self.old).position + length buf.old) }
-        ensures within { OnOk result ((⟦<MemoryDisk as Disk>⟧.state self.old).position + length buf.old ≤ (⟦<MemoryDisk as Disk>⟧.state self.old).size) }
-        ensures cause { OnErr result (Rose (⟦<MemoryDisk as Disk>⟧.state self.old) (⟦<MemoryDisk as Disk>⟧.state self.new) ⊎ ((⟦<MemoryDisk as Disk>⟧.state self.old).size < (⟦<MemoryDisk as Disk>⟧.state self.old).position + length buf.old)) }
-        ensures read { IsTrue (⟦<MemoryDisk as Disk>⟧.state self.old).is_honest → OnOk result (buf.new ≡ take (length buf.old) (drop (⟦<MemoryDisk as Disk>⟧.state self.old).position (⟦<MemoryDisk as Disk>⟧.state self.old).view)) }
-        ensures wrote { IsTrue (⟦<MemoryDisk as Disk>⟧.state self.old).is_honest → Wrote [] (⟦<MemoryDisk as Disk>⟧.state self.old) (⟦<MemoryDisk as Disk>⟧.state self.new) }
-        ensures view { IsTrue (⟦<MemoryDisk as Disk>⟧.state self.old).is_honest → (⟦<MemoryDisk as Disk>⟧.state self.new).view ≡ (⟦<MemoryDisk as Disk>⟧.state self.old).view }
-        ensures pending { IsTrue (⟦<MemoryDisk as Disk>⟧.state self.old).is_honest → (⟦<MemoryDisk as Disk>⟧.state self.new).pending ≡ (⟦<MemoryDisk as Disk>⟧.state self.old).pending }
-        ensures past_end { (⟦<MemoryDisk as Disk>⟧.state self.old).size < (⟦<MemoryDisk as Disk>⟧.state self.old).position + length buf.old
-            → IsErr result × ((⟦<MemoryDisk as Disk>⟧.state self.new).failures ≡ (⟦<MemoryDisk as Disk>⟧.state self.old).failures) }
+        ensures reads { Reads (⟦<MemoryDisk as Disk>⟧.state self.old)
+            (⟦<MemoryDisk as Disk>⟧.state self.new) }
+        ensures within { OnOk result (HasNext (⟦<MemoryDisk as Disk>⟧.state self.old) (length buf.old)) }
+        ensures cause { OnErr result (Rose (⟦<MemoryDisk as Disk>⟧.state self.old)
+            (⟦<MemoryDisk as Disk>⟧.state self.new)
+            ⊎ PassesEnd (⟦<MemoryDisk as Disk>⟧.state self.old) (length buf.old)) }
+        ensures past_end { PassesEnd (⟦<MemoryDisk as Disk>⟧.state self.old) (length buf.old)
+            → IsErr result × ((⟦<MemoryDisk as Disk>⟧.state self.new).failures ≡
+            (⟦<MemoryDisk as Disk>⟧.state self.old).failures) }
+        ensures served { IsOk result ↔ (IsTrue (serves (calls_left self.old))
+            × HasNext (⟦<MemoryDisk as Disk>⟧.state self.old) (length buf.old)) }
+        ensures value { IsHonest (⟦<MemoryDisk as Disk>⟧.state self.old)
+            → OnOk result (buf.new ≡ next_bytes (⟦<MemoryDisk as Disk>⟧.state self.old) (length buf.old)) }
+        ensures moves { OnOk result (Moves (⟦<MemoryDisk as Disk>⟧.state self.old)
+            (⟦<MemoryDisk as Disk>⟧.state self.new) (length buf.old)) }
         ensures fuse { calls_left self.new ≡ after_call (calls_left self.old) }
-        ensures served { IsOk result ↔ (IsTrue (serves (calls_left self.old)) × ((⟦<MemoryDisk as Disk>⟧.state self.old).position + length buf.old ≤ (⟦<MemoryDisk as Disk>⟧.state self.old).size)) }
     {
         let served = is_served(&mut self.fuse);
         let size = self.bytes.len() as u64;
@@ -272,18 +268,23 @@ impl Disk for MemoryDisk {
     /// As the trait says. It fails where the fuse does not serve the call, and where there is no memory
     /// for the record.
     fn write_all(&mut self, buf: &[u8]) -> io::Result<()>
-        requires { (⟦<MemoryDisk as Disk>⟧.state self.old).position + length buf.now ≤ (⟦<MemoryDisk as Disk>⟧.state self.old).size }
-        ensures keeps { Keeps (⟦<MemoryDisk as Disk>⟧.state self.old) (⟦<MemoryDisk as Disk>⟧.state self.new) }
-        ensures moves { OnOk result ((⟦<MemoryDisk as Disk>⟧.state self.new).position ≡ (⟦<MemoryDisk as Disk>⟧.state self.old).position + length buf.now) }
-        ensures cause { OnErr result (Rose (⟦<MemoryDisk as Disk>⟧.state self.old) (⟦<MemoryDisk as Disk>⟧.state self.new)) }
-        ensures wrote { IsTrue (⟦<MemoryDisk as Disk>⟧.state self.old).is_honest → Wrote (((⟦<MemoryDisk as Disk>⟧.state self.old).position, length buf.now) ∷ []) (⟦<MemoryDisk as Disk>⟧.state self.old) (⟦<MemoryDisk as Disk>⟧.state self.new) }
-        ensures view { IsTrue (⟦<MemoryDisk as Disk>⟧.state self.old).is_honest → OnOk result ((⟦<MemoryDisk as Disk>⟧.state self.new).view ≡ overlay (⟦<MemoryDisk as Disk>⟧.state self.old).view (⟦<MemoryDisk as Disk>⟧.state self.old).position buf.now) }
-        ensures pending { IsTrue (⟦<MemoryDisk as Disk>⟧.state self.old).is_honest → OnOk result ((⟦<MemoryDisk as Disk>⟧.state self.new).pending ≡ ((⟦<MemoryDisk as Disk>⟧.state self.old).position, length buf.now) ∷ (⟦<MemoryDisk as Disk>⟧.state self.old).pending) }
-        ensures refused { IsTrue (⟦<MemoryDisk as Disk>⟧.state self.old).is_honest → OnErr result (
-            (((⟦<MemoryDisk as Disk>⟧.state self.new).view ≡ (⟦<MemoryDisk as Disk>⟧.state self.old).view) × ((⟦<MemoryDisk as Disk>⟧.state self.new).pending ≡ (⟦<MemoryDisk as Disk>⟧.state self.old).pending))
-            ⊎ ((⟦<MemoryDisk as Disk>⟧.state self.new).pending ≡ ((⟦<MemoryDisk as Disk>⟧.state self.old).position, length buf.now) ∷ (⟦<MemoryDisk as Disk>⟧.state self.old).pending)) }
-        ensures fuse { calls_left self.new ≡ after_call (calls_left self.old) }
+        requires { HasNext (⟦<MemoryDisk as Disk>⟧.state self.old) (length buf.now) }
+        ensures keeps { Keeps (⟦<MemoryDisk as Disk>⟧.state self.old)
+            (⟦<MemoryDisk as Disk>⟧.state self.new) }
+        ensures cause { OnErr result (Rose (⟦<MemoryDisk as Disk>⟧.state self.old)
+            (⟦<MemoryDisk as Disk>⟧.state self.new)) }
         ensures served { OnOk result (IsTrue (serves (calls_left self.old))) }
+        ensures moves { OnOk result (Moves (⟦<MemoryDisk as Disk>⟧.state self.old)
+            (⟦<MemoryDisk as Disk>⟧.state self.new) (length buf.now)) }
+        ensures wrote { Writes (next_range (⟦<MemoryDisk as Disk>⟧.state self.old) (length buf.now) ∷ [])
+            (⟦<MemoryDisk as Disk>⟧.state self.old) (⟦<MemoryDisk as Disk>⟧.state self.new) }
+        ensures laid { IsHonest (⟦<MemoryDisk as Disk>⟧.state self.old)
+            → OnOk result (IsLaid buf.now (⟦<MemoryDisk as Disk>⟧.state self.old)
+            (⟦<MemoryDisk as Disk>⟧.state self.new)) }
+        ensures failed { IsHonest (⟦<MemoryDisk as Disk>⟧.state self.old)
+            → OnErr result (MayBeLaid (length buf.now) (⟦<MemoryDisk as Disk>⟧.state self.old)
+            (⟦<MemoryDisk as Disk>⟧.state self.new)) }
+        ensures fuse { calls_left self.new ≡ after_call (calls_left self.old) }
     {
         let done = is_served(&mut self.fuse);
         let Ok(bytes) = buf.to_vec(self.alloc) else {
@@ -309,15 +310,23 @@ impl Disk for MemoryDisk {
     /// As the trait says. It fails where the fuse does not serve the call, and where there is no memory
     /// for the record.
     fn sync(&mut self) -> io::Result<()>
-        ensures keeps { Keeps (⟦<MemoryDisk as Disk>⟧.state self.old) (⟦<MemoryDisk as Disk>⟧.state self.new) }
-        ensures stays { OnOk result ((⟦<MemoryDisk as Disk>⟧.state self.new).position ≡ (⟦<MemoryDisk as Disk>⟧.state self.old).position) }
-        ensures cause { OnErr result (Rose (⟦<MemoryDisk as Disk>⟧.state self.old) (⟦<MemoryDisk as Disk>⟧.state self.new)) }
-        ensures wrote { IsTrue (⟦<MemoryDisk as Disk>⟧.state self.old).is_honest → Wrote [] (⟦<MemoryDisk as Disk>⟧.state self.old) (⟦<MemoryDisk as Disk>⟧.state self.new) }
-        ensures view { IsTrue (⟦<MemoryDisk as Disk>⟧.state self.old).is_honest → (⟦<MemoryDisk as Disk>⟧.state self.new).view ≡ (⟦<MemoryDisk as Disk>⟧.state self.old).view }
-        ensures pending { IsTrue (⟦<MemoryDisk as Disk>⟧.state self.old).is_honest → OnOk result ((⟦<MemoryDisk as Disk>⟧.state self.new).pending ≡ []) }
-        ensures refused { IsTrue (⟦<MemoryDisk as Disk>⟧.state self.old).is_honest → OnErr result ((⟦<MemoryDisk as Disk>⟧.state self.new).pending ≡ (⟦<MemoryDisk as Disk>⟧.state self.old).pending) }
-        ensures fuse { calls_left self.new ≡ after_call (calls_left self.old) }
+        ensures keeps { Keeps (⟦<MemoryDisk as Disk>⟧.state self.old)
+            (⟦<MemoryDisk as Disk>⟧.state self.new) }
+        ensures cause { OnErr result (Rose (⟦<MemoryDisk as Disk>⟧.state self.old)
+            (⟦<MemoryDisk as Disk>⟧.state self.new)) }
         ensures served { OnOk result (IsTrue (serves (calls_left self.old))) }
+        ensures stays { OnOk result ((⟦<MemoryDisk as Disk>⟧.state self.new).position ≡
+            (⟦<MemoryDisk as Disk>⟧.state self.old).position) }
+        ensures wrote { Writes [] (⟦<MemoryDisk as Disk>⟧.state self.old)
+            (⟦<MemoryDisk as Disk>⟧.state self.new) }
+        ensures view { IsHonest (⟦<MemoryDisk as Disk>⟧.state self.old)
+            → (⟦<MemoryDisk as Disk>⟧.state self.new).view ≡ (⟦<MemoryDisk as Disk>⟧.state self.old).view }
+        ensures synced { IsHonest (⟦<MemoryDisk as Disk>⟧.state self.old)
+            → OnOk result ((⟦<MemoryDisk as Disk>⟧.state self.new).pending ≡ []) }
+        ensures failed { IsHonest (⟦<MemoryDisk as Disk>⟧.state self.old)
+            → OnErr result ((⟦<MemoryDisk as Disk>⟧.state self.new).pending ≡
+            (⟦<MemoryDisk as Disk>⟧.state self.old).pending) }
+        ensures fuse { calls_left self.new ≡ after_call (calls_left self.old) }
     {
         if !is_served(&mut self.fuse) || self.events.push(Event::Sync).is_err() {
             return Err(fail(&mut self.failures));
@@ -327,5 +336,6 @@ impl Disk for MemoryDisk {
 
     ghost bounded = { λ d. d.small };
 
-    ghost sound = { λ d honest. memory_sound d.start.items d.bytes.items d.events.items d.position d.failures d.replays };
+    ghost sound = { λ d honest.
+        memory_sound d.start.items d.bytes.items d.events.items d.position d.failures d.replays };
 }

@@ -3,16 +3,19 @@
 //! Entries come in blocks of up to 32, in a fixed array. No memory is asked for by the count that
 //! the header gives.
 
-ghost use Rattle.std.specs.Prelude.{◌≡◌, ◌≢◌, ◌≤◌, ◌<◌, ◌+◌, ◌*◌, ◌^◌, ◌⊎◌, ◌++◌, ℕ, List, length, IsTrue, IfOk, IfErr, OnOk, OnErr};
-ghost use Rattle.gptman_copy.specs.Bytes.{part};
+ghost use Rattle.std.specs.Prelude.{◌≡◌, ◌≢◌, ◌≤◌, ◌<◌, ◌+◌, ◌*◌, ◌⊎◌, ◌++◌, ℕ, List, length};
+ghost use Rattle.std.specs.Prelude.{IfOk, IfErr, OnOk, OnErr};
+ghost use Rattle.gptman_copy.specs.Answers.{answer_of, is_array_fault, is_header_fault};
+ghost use Rattle.gptman_copy.specs.Answers.{Answers, AnswersInMemory, HasCauseOrEnd, Refuses, RefusesOnly};
 ghost use Rattle.gptman_copy.specs.Coding.{header_bytes};
-ghost use Rattle.gptman_copy.specs.Copy.{value_tests, array_tests, header_result, array_result, entry_result, unless, entries_of, entries_start, entries_length};
+ghost use Rattle.gptman_copy.specs.Copy.{array_result, entries_of, entry_result, header_result, unless};
+ghost use Rattle.gptman_copy.specs.Copy.{value_tests};
 ghost use Rattle.gptman_copy.specs.Crc.{crc_of};
-ghost use Rattle.gptman_copy.specs.Disk.{Keeps, Rose, OnlyRead};
+ghost use Rattle.gptman_copy.specs.Disk.{next_bytes, HasNext, IsHonest, Moves, Reads, Rose};
 ghost use Rattle.gptman_copy.specs.Fault.{fault_of, first_failing, io as io_fault, out_of_memory};
+ghost use Rattle.gptman_copy.specs.Reads.{HasEntrySize, HasTooMany, IsBlockFault, IsReadyFor, IsSeekFault};
+ghost use Rattle.gptman_copy.specs.Reads.{PassTheEnd};
 ghost use Rattle.gptman_copy.specs.Register.{HasTaken};
-ghost use Rattle.gptman_copy.specs.Answers.{answer_of, Refuses, RefusesOnly, Fails, is_header_fault, is_array_fault};
-ghost use Rattle.gptman_copy.specs.Reads.{IsBlockFault, IsSeekFault, IsReadyFor, PassTheEnd};
 
 use crate::cells::part_at;
 use crate::codec::entry::GPTPartitionEntry;
@@ -30,24 +33,23 @@ impl GPTHeader {
     /// The first test that fails names the error: `Io` where the disk failed or ends before, then
     /// `InvalidSignature`, `InvalidRevision`, `InvalidHeaderSize`, `InvalidChecksum`.
     pub fn read_from<D: Disk>(disk: &mut D) -> Result<GPTHeader>
-        ensures keeps { Keeps (D.state disk.old) (D.state disk.new) }
-        ensures reads { IsTrue (D.state disk.old).is_honest → OnlyRead (D.state disk.old) (D.state disk.new) }
-        ensures moves { OnOk result ((D.state disk.new).position ≡ (D.state disk.old).position + 92) }
-        ensures answer { IsTrue (D.state disk.old).is_honest → Fails result (D.state disk.old) (D.state disk.new)
-            ⊎ (answer_of (λ h. h) result ≡ header_result (D.state disk.old).view (D.state disk.old).position) }
-        ensures size { IfOk result (λ h. h.header_size ≡ 92) }
+        ensures reads { Reads (D.state disk.old) (D.state disk.new) }
+        ensures answer { Answers (λ h. h) (header_result (D.state disk.old).view (D.state disk.old).position)
+            result (D.state disk.old) (D.state disk.new) }
         ensures refused { RefusesOnly is_header_fault result }
-        ensures cause { Refuses result io_fault → Rose (D.state disk.old) (D.state disk.new)
-            ⊎ ((D.state disk.old).size < (D.state disk.old).position + 92) }
+        ensures cause { HasCauseOrEnd 92 result (D.state disk.old) (D.state disk.new) }
+        ensures size { IfOk result (λ h. h.header_size ≡ 92) }
+        ensures moves { OnOk result (Moves (D.state disk.old) (D.state disk.new) 92) }
     {
         let mut bytes = [0; 92];
         disk.read_exact(&mut bytes)?;
-        GPTHeader::decode(&bytes).tested()
+        GPTHeader::decode(&bytes).test()
     }
 
     // The header, where its values pass the tests.
-    fn tested(self) -> Result<GPTHeader>
-        ensures answer { answer_of (λ h. h) result ≡ unless (first_failing (value_tests self (header_bytes self))) self }
+    fn test(self) -> Result<GPTHeader>
+        ensures answer { answer_of (λ h. h) result
+            ≡ unless (first_failing (value_tests self (header_bytes self))) self }
         ensures refused { RefusesOnly is_header_fault result }
         ensures not_io { Refuses result io_fault → ⊥ }
         ensures size { IfOk result (λ h. h.header_size ≡ 92) }
@@ -83,18 +85,16 @@ impl GPTHeader {
         sector_size: u64,
     ) -> Result<Vec<GPTPartitionEntry>>
         requires { 0 < sector_size }
-        ensures keeps { Keeps (D.state disk.old) (D.state disk.new) }
-        ensures reads { IsTrue (D.state disk.old).is_honest → OnlyRead (D.state disk.old) (D.state disk.new) }
-        ensures answer { IsTrue (D.state disk.old).is_honest → Fails result (D.state disk.old) (D.state disk.new)
-            ⊎ (Refuses result out_of_memory
-            ⊎ (answer_of (λ v. v.items) result ≡ array_result (D.state disk.old).view sector_size self.now)) }
-        ensures count { IfOk result (λ v. length v.items ≡ self.now.number_of_partition_entries) }
-        ensures entry_size { OnOk result ((self.now.number_of_partition_entries ≡ 0) ⊎ (self.now.size_of_partition_entry ≡ 128)) }
+        ensures reads { Reads (D.state disk.old) (D.state disk.new) }
         ensures past_end { PassTheEnd self.now sector_size (D.state disk.old).size → Refuses result io_fault }
+        ensures answer { AnswersInMemory (λ v. v.items)
+            (array_result (D.state disk.old).view sector_size self.now)
+            result (D.state disk.old) (D.state disk.new) }
         ensures refused { RefusesOnly is_array_fault result }
         ensures cause { Refuses result io_fault → Rose (D.state disk.old) (D.state disk.new)
-            ⊎ ((self.now.number_of_partition_entries ≢ 0)
-            × ((D.state disk.old).size < entries_start self.now sector_size + entries_length self.now)) }
+            ⊎ HasTooMany self.now sector_size (D.state disk.old).size }
+        ensures count { IfOk result (λ v. length v.items ≡ self.now.number_of_partition_entries) }
+        ensures entry_size { OnOk result (HasEntrySize self.now) }
     {
         self.seek_entries(disk, sector_size)?;
         let array = read_array(alloc, disk, self.number_of_partition_entries)?;
@@ -109,11 +109,11 @@ impl GPTHeader {
 
     // Goes to the first byte of the entries, where there are some and the disk has them all.
     fn seek_entries<D: Disk>(&self, disk: &mut D, sector_size: u64) -> Result<()>
-        ensures keeps { Keeps (D.state disk.old) (D.state disk.new) }
-        ensures reads { IsTrue (D.state disk.old).is_honest → OnlyRead (D.state disk.old) (D.state disk.new) }
-        ensures ready { OnOk result (IsReadyFor self.now sector_size (D.state disk.new)) }
+        ensures reads { Reads (D.state disk.old) (D.state disk.new) }
         ensures past_end { PassTheEnd self.now sector_size (D.state disk.old).size → Refuses result io_fault }
-        ensures refused { IfErr result (λ e. IsSeekFault self.now sector_size (fault_of e) (D.state disk.old) (D.state disk.new)) }
+        ensures refused { IfErr result (λ e. IsSeekFault self.now sector_size (fault_of e)
+            (D.state disk.old) (D.state disk.new)) }
+        ensures ready { OnOk result (IsReadyFor self.now sector_size (D.state disk.new)) }
     {
         if self.number_of_partition_entries == 0 {
             return Ok(());
@@ -138,15 +138,13 @@ impl GPTPartitionEntry {
     ///
     /// `Io` where the disk failed or ends before, `OutOfMemory` where there is no memory for the text.
     pub fn read_from<D: Disk>(alloc: Global, disk: &mut D) -> Result<GPTPartitionEntry>
-        ensures keeps { Keeps (D.state disk.old) (D.state disk.new) }
-        ensures reads { IsTrue (D.state disk.old).is_honest → OnlyRead (D.state disk.old) (D.state disk.new) }
-        ensures moves { OnOk result ((D.state disk.new).position ≡ (D.state disk.old).position + 128) }
-        ensures answer { IsTrue (D.state disk.old).is_honest → Fails result (D.state disk.old) (D.state disk.new)
-            ⊎ (Refuses result out_of_memory
-            ⊎ (answer_of (λ e. e) result ≡ entry_result (D.state disk.old).view (D.state disk.old).position)) }
+        ensures reads { Reads (D.state disk.old) (D.state disk.new) }
+        ensures answer { AnswersInMemory (λ e. e)
+            (entry_result (D.state disk.old).view (D.state disk.old).position)
+            result (D.state disk.old) (D.state disk.new) }
         ensures refused { IfErr result (λ e. (fault_of e ≡ out_of_memory) ⊎ (fault_of e ≡ io_fault)) }
-        ensures cause { Refuses result io_fault → Rose (D.state disk.old) (D.state disk.new)
-            ⊎ ((D.state disk.old).size < (D.state disk.old).position + 128) }
+        ensures cause { HasCauseOrEnd 128 result (D.state disk.old) (D.state disk.new) }
+        ensures moves { OnOk result (Moves (D.state disk.old) (D.state disk.new) 128) }
     {
         let mut bytes = [0; 128];
         disk.read_exact(&mut bytes)?;
@@ -163,16 +161,17 @@ struct EntryArray {
 
 // So many entries from the disk's position on.
 fn read_array<D: Disk>(alloc: Global, disk: &mut D, count: u32) -> Result<EntryArray>
-    ensures keeps { Keeps (D.state disk.old) (D.state disk.new) }
-    ensures reads { IsTrue (D.state disk.old).is_honest → OnlyRead (D.state disk.old) (D.state disk.new) }
-    ensures count { IfOk result (λ a. length a.partitions.items ≡ count) }
-    ensures within { OnOk result ((count ≡ 0) ⊎ ((D.state disk.old).position + 128 * count ≤ (D.state disk.old).size)) }
-    ensures entries { IsTrue (D.state disk.old).is_honest
-        → IfOk result (λ a. a.partitions.items ≡ entries_of (part (D.state disk.old).view (D.state disk.old).position (128 * count)) count) }
-    ensures checksum { IsTrue (D.state disk.old).is_honest
-        → IfOk result (λ a. a.checksum ≡ crc_of (part (D.state disk.old).view (D.state disk.old).position (128 * count))) }
-    ensures refused { IfErr result (λ e. IsBlockFault (128 * count) (fault_of e) (D.state disk.old) (D.state disk.new)) }
+    ensures reads { Reads (D.state disk.old) (D.state disk.new) }
+    ensures within { OnOk result ((count ≡ 0) ⊎ HasNext (D.state disk.old) (128 * count)) }
+    ensures refused { IfErr result (λ e. IsBlockFault (128 * count) (fault_of e)
+        (D.state disk.old) (D.state disk.new)) }
     ensures some { OnErr result (count ≢ 0) }
+    ensures count { IfOk result (λ a. length a.partitions.items ≡ count) }
+    ensures entries { IsHonest (D.state disk.old)
+        → IfOk result (λ a. a.partitions.items
+        ≡ entries_of (next_bytes (D.state disk.old) (128 * count)) count) }
+    ensures checksum { IsHonest (D.state disk.old)
+        → IfOk result (λ a. a.checksum ≡ crc_of (next_bytes (D.state disk.old) (128 * count))) }
 {
     let mut partitions = Vec::new(alloc);
     let mut checksum = Checksum::new();
@@ -197,16 +196,16 @@ fn read_block<D: Disk>(
     checksum: &mut Checksum,
 ) -> Result<()>
     requires { count ≤ 32 }
-    ensures keeps { Keeps (D.state disk.old) (D.state disk.new) }
-    ensures reads { IsTrue (D.state disk.old).is_honest → OnlyRead (D.state disk.old) (D.state disk.new) }
-    ensures moves { OnOk result ((D.state disk.new).position ≡ (D.state disk.old).position + 128 * count) }
-    ensures within { OnOk result ((D.state disk.old).position + 128 * count ≤ (D.state disk.old).size) }
+    ensures reads { Reads (D.state disk.old) (D.state disk.new) }
+    ensures within { OnOk result (HasNext (D.state disk.old) (128 * count)) }
+    ensures refused { IfErr result (λ e. IsBlockFault (128 * count) (fault_of e)
+        (D.state disk.old) (D.state disk.new)) }
     ensures count { OnOk result (length partitions.new.items ≡ length partitions.old.items + count) }
-    ensures entries { IsTrue (D.state disk.old).is_honest → OnOk result (partitions.new.items
-        ≡ partitions.old.items ++ entries_of (part (D.state disk.old).view (D.state disk.old).position (128 * count)) count) }
-    ensures checksum { IsTrue (D.state disk.old).is_honest → OnOk result ((m : List ℕ) → HasTaken checksum.old m
-        → HasTaken checksum.new (m ++ part (D.state disk.old).view (D.state disk.old).position (128 * count))) }
-    ensures refused { IfErr result (λ e. IsBlockFault (128 * count) (fault_of e) (D.state disk.old) (D.state disk.new)) }
+    ensures entries { IsHonest (D.state disk.old) → OnOk result (partitions.new.items
+        ≡ partitions.old.items ++ entries_of (next_bytes (D.state disk.old) (128 * count)) count) }
+    ensures checksum { IsHonest (D.state disk.old) → OnOk result ((m : List ℕ) → HasTaken checksum.old m
+        → HasTaken checksum.new (m ++ next_bytes (D.state disk.old) (128 * count))) }
+    ensures moves { OnOk result (Moves (D.state disk.old) (D.state disk.new) (128 * count)) }
 {
     let mut bytes = [0; 4096];
     let block = &mut bytes[..128 * count as usize];
@@ -223,7 +222,8 @@ fn decode_block(
     partitions: &mut Vec<GPTPartitionEntry>,
 ) -> Result<()>
     requires { length bytes.now ≡ 128 * count }
-    ensures entries { OnOk result (partitions.new.items ≡ partitions.old.items ++ entries_of bytes.now count) }
+    ensures entries { OnOk result
+        (partitions.new.items ≡ partitions.old.items ++ entries_of bytes.now count) }
     ensures refused { IfErr result (λ e. fault_of e ≡ out_of_memory) }
 {
     for k in 0..count as usize {

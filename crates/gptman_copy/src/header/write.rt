@@ -1,13 +1,21 @@
 //! Writing one copy: the header with both checksums, then its entries in blocks of up to 32.
 
-ghost use Rattle.std.specs.Prelude.{◌≡◌, ◌≤◌, ◌<◌, ◌+◌, ◌*◌, ◌⊎◌, ◌∷◌, [], ℕ, nat_eq, if◌then◌else◌, All, Contains, MatchOption, true, false, Some, length, take, IsTrue, IfErr, OnOk, OnErr};
+ghost use Rattle.std.specs.Prelude.{◌≡◌, ◌≤◌, ◌<◌, ◌+◌, ◌*◌, ◌⊎◌, ◌∷◌, [], nat_eq, if◌then◌else◌, length};
+ghost use Rattle.std.specs.Prelude.{take};
+ghost use Rattle.std.specs.Prelude.{true, false, Some, All, Contains, IfErr, IsTrue, MatchOption, OnErr};
+ghost use Rattle.std.specs.Prelude.{OnOk};
 ghost use Rattle.std.specs.List.{list_all};
-ghost use Rattle.gptman_copy.specs.Coding.{FitsHeader, FitsEntry, header_bytes, array_bytes};
-ghost use Rattle.gptman_copy.specs.Disk.{Keeps, Rose, Wrote, overlay, Untouched};
+ghost use Rattle.gptman_copy.specs.Answers.{FailsPending, HasCause, Refuses, RefusesUntouched, Settles};
+ghost use Rattle.gptman_copy.specs.Coding.{array_bytes, FitsEntry};
+ghost use Rattle.gptman_copy.specs.Copy.{with_checksums, IsCoherent};
+ghost use Rattle.gptman_copy.specs.Disk.{next_range, HasNext, IsHonest, Keeps, Moves, Overlays, Rose};
+ghost use Rattle.gptman_copy.specs.Disk.{StaysPending, Writes};
 ghost use Rattle.gptman_copy.specs.Fault.{fault_of, io as io_fault, overflow};
-ghost use Rattle.gptman_copy.specs.Copy.{IsCoherent, sealed};
-ghost use Rattle.gptman_copy.specs.Write.{copy_write_fault, write_ranges, is_addressable as is_range_addressable, is_inside as is_range_inside, has_other_header, other_header, SameButSums, IsCopyLaid};
-ghost use Rattle.gptman_copy.specs.Answers.{Refuses, Settles};
+ghost use Rattle.gptman_copy.specs.Write.{copy_write_fault, has_other_header, header_range, other_header};
+ghost use Rattle.gptman_copy.specs.Write.{write_ranges};
+ghost use Rattle.gptman_copy.specs.Write.{is_addressable as is_range_addressable};
+ghost use Rattle.gptman_copy.specs.Write.{is_inside as is_range_inside};
+ghost use Rattle.gptman_copy.specs.Write.{FitsCopy, LaysCopy, SameButSums};
 
 use crate::cells::put;
 use crate::codec::entry::GPTPartitionEntry;
@@ -40,26 +48,27 @@ impl GPTHeader {
         ensures keeps { Keeps (D.state disk.old) (D.state disk.new) }
 
         // What is answered.
-        ensures beyond { copy_write_fault self.old sector_size (D.state disk.old).size ≡ Some overflow → Refuses result overflow }
-        ensures answer { Settles (copy_write_fault self.old sector_size (D.state disk.old).size) result (D.state disk.old) (D.state disk.new) }
-        ensures cause { Refuses result io_fault → Rose (D.state disk.old) (D.state disk.new) }
+        ensures at_once { copy_write_fault self.old sector_size (D.state disk.old).size ≡ Some overflow
+            → Refuses result overflow }
+        ensures answer { Settles (copy_write_fault self.old sector_size (D.state disk.old).size) result
+            (D.state disk.old) (D.state disk.new) }
+        ensures cause { HasCause result (D.state disk.old) (D.state disk.new) }
 
         // What becomes of the header.
-        ensures sealed { OnOk result (self.new ≡ sealed self.old partitions.now) }
+        ensures value { OnOk result (self.new ≡ with_checksums self.old partitions.now) }
+        ensures fits { OnOk result (FitsCopy self.new partitions.now) }
         ensures kept { IfErr result (λ e. (fault_of e ≡ io_fault) ⊎ (self.new ≡ self.old)) }
         ensures sums { SameButSums self.old self.new }
-        ensures fits { OnOk result (FitsHeader self.new × All FitsEntry partitions.now) }
 
         // What becomes of the disk.
-        ensures wrote { IsTrue (D.state disk.old).is_honest → Wrote (write_ranges self.old sector_size) (D.state disk.old) (D.state disk.new) }
-        ensures laid { IsTrue (D.state disk.old).is_honest
-            → OnOk result (IsCopyLaid self.new partitions.now sector_size (D.state disk.old).view (D.state disk.new).view) }
-        ensures pending { IsTrue (D.state disk.old).is_honest
-            → OnOk result (Contains (D.state disk.new).pending (self.old.primary_lba * sector_size, 92)) }
-        ensures untouched { IsTrue (D.state disk.old).is_honest
-            → IfErr result (λ e. (fault_of e ≡ io_fault) ⊎ Untouched (D.state disk.old) (D.state disk.new)) }
-        ensures failed { IsTrue (D.state disk.old).is_honest → OnErr result (Untouched (D.state disk.old) (D.state disk.new)
-            ⊎ Contains (D.state disk.new).pending (self.old.primary_lba * sector_size, 92)) }
+        ensures wrote { Writes (write_ranges self.old sector_size) (D.state disk.old) (D.state disk.new) }
+        ensures laid { LaysCopy self.new partitions.now sector_size result
+            (D.state disk.old) (D.state disk.new) }
+        ensures pending { IsHonest (D.state disk.old)
+            → OnOk result (Contains (D.state disk.new).pending (header_range self.old sector_size)) }
+        ensures untouched { RefusesUntouched result (D.state disk.old) (D.state disk.new) }
+        ensures failed { FailsPending (header_range self.old sector_size) result
+            (D.state disk.old) (D.state disk.new) }
     {
         if !self.is_addressable(sector_size) {
             return Err(Error::Overflow);
@@ -76,7 +85,8 @@ impl GPTHeader {
 
     /// The header of the other copy, unless its first entry sector does not fit in 64 bits.
     pub fn other(&self) -> Option<GPTHeader>
-        ensures { MatchOption result (has_other_header self.now ≡ false) (λ h. (has_other_header self.now ≡ true) × (h ≡ other_header self.now)) }
+        ensures { MatchOption result (has_other_header self.now ≡ false)
+            (λ h. (has_other_header self.now ≡ true) × (h ≡ other_header self.now)) }
     {
         let entries = if self.partition_entry_lba == 2 {
             self.last_usable_lba.checked_add(1)?
@@ -135,17 +145,18 @@ fn write_copy<D: Disk>(
     partitions: &[GPTPartitionEntry],
 ) -> io::Result<()>
     requires count { length partitions.now ≡ header.now.number_of_partition_entries }
-    requires inside { IsTrue (list_all (is_range_inside (D.state disk.old).size) (write_ranges header.now sector_size)) }
+    requires inside { IsTrue (list_all (is_range_inside (D.state disk.old).size)
+        (write_ranges header.now sector_size)) }
     ensures keeps { Keeps (D.state disk.old) (D.state disk.new) }
     ensures cause { OnErr result (Rose (D.state disk.old) (D.state disk.new)) }
-    ensures fits { OnOk result (FitsHeader header.now × All FitsEntry partitions.now) }
-    ensures wrote { IsTrue (D.state disk.old).is_honest → Wrote (write_ranges header.now sector_size) (D.state disk.old) (D.state disk.new) }
-    ensures laid { IsTrue (D.state disk.old).is_honest
-        → OnOk result (IsCopyLaid header.now partitions.now sector_size (D.state disk.old).view (D.state disk.new).view) }
-    ensures pending { IsTrue (D.state disk.old).is_honest
-        → OnOk result (Contains (D.state disk.new).pending (header.now.primary_lba * sector_size, 92)) }
-    ensures failed { IsTrue (D.state disk.old).is_honest → OnErr result (Untouched (D.state disk.old) (D.state disk.new)
-        ⊎ Contains (D.state disk.new).pending (header.now.primary_lba * sector_size, 92)) }
+    ensures fits { OnOk result (FitsCopy header.now partitions.now) }
+    ensures wrote { Writes (write_ranges header.now sector_size) (D.state disk.old) (D.state disk.new) }
+    ensures laid { LaysCopy header.now partitions.now sector_size result
+        (D.state disk.old) (D.state disk.new) }
+    ensures pending { IsHonest (D.state disk.old)
+        → OnOk result (Contains (D.state disk.new).pending (header_range header.now sector_size)) }
+    ensures failed { FailsPending (header_range header.now sector_size) result
+        (D.state disk.old) (D.state disk.new) }
 {
     disk.seek_start(header.primary_lba * sector_size)?;
     disk.write_all(&header.encode())?;
@@ -158,16 +169,16 @@ fn write_copy<D: Disk>(
 
 // Writes the entries from the disk's position on.
 fn write_entries<D: Disk>(disk: &mut D, partitions: &[GPTPartitionEntry]) -> io::Result<()>
-    requires { (D.state disk.old).position + 128 * length partitions.now ≤ (D.state disk.old).size }
+    requires { HasNext (D.state disk.old) (128 * length partitions.now) }
     ensures keeps { Keeps (D.state disk.old) (D.state disk.new) }
     ensures cause { OnErr result (Rose (D.state disk.old) (D.state disk.new)) }
     ensures fits { OnOk result (All FitsEntry partitions.now) }
-    ensures wrote { IsTrue (D.state disk.old).is_honest
-        → Wrote (((D.state disk.old).position, 128 * length partitions.now) ∷ []) (D.state disk.old) (D.state disk.new) }
-    ensures laid { IsTrue (D.state disk.old).is_honest
-        → OnOk result ((D.state disk.new).view ≡ overlay (D.state disk.old).view (D.state disk.old).position (array_bytes partitions.now)) }
-    ensures still_pending { IsTrue (D.state disk.old).is_honest
-        → (range : ℕ × ℕ) → Contains (D.state disk.old).pending range → Contains (D.state disk.new).pending range }
+    ensures wrote { Writes (next_range (D.state disk.old) (128 * length partitions.now) ∷ [])
+        (D.state disk.old) (D.state disk.new) }
+    ensures laid { IsHonest (D.state disk.old)
+        → OnOk result (Overlays (array_bytes partitions.now) (D.state disk.old) (D.state disk.new)) }
+    ensures still_pending { IsHonest (D.state disk.old)
+        → StaysPending (D.state disk.old) (D.state disk.new) }
 {
     let mut done = 0;
     while done < partitions.len() {
@@ -181,17 +192,17 @@ fn write_entries<D: Disk>(disk: &mut D, partitions: &[GPTPartitionEntry]) -> io:
 // Writes up to 32 entries from the disk's position on, by one call.
 fn write_block<D: Disk>(disk: &mut D, block: &[GPTPartitionEntry]) -> io::Result<()>
     requires few { length block.now ≤ 32 }
-    requires room { (D.state disk.old).position + 128 * length block.now ≤ (D.state disk.old).size }
+    requires room { HasNext (D.state disk.old) (128 * length block.now) }
     ensures keeps { Keeps (D.state disk.old) (D.state disk.new) }
-    ensures moves { OnOk result ((D.state disk.new).position ≡ (D.state disk.old).position + 128 * length block.now) }
     ensures cause { OnErr result (Rose (D.state disk.old) (D.state disk.new)) }
     ensures fits { All FitsEntry block.now }
-    ensures wrote { IsTrue (D.state disk.old).is_honest
-        → Wrote (((D.state disk.old).position, 128 * length block.now) ∷ []) (D.state disk.old) (D.state disk.new) }
-    ensures laid { IsTrue (D.state disk.old).is_honest
-        → OnOk result ((D.state disk.new).view ≡ overlay (D.state disk.old).view (D.state disk.old).position (array_bytes block.now)) }
-    ensures still_pending { IsTrue (D.state disk.old).is_honest
-        → (range : ℕ × ℕ) → Contains (D.state disk.old).pending range → Contains (D.state disk.new).pending range }
+    ensures moves { OnOk result (Moves (D.state disk.old) (D.state disk.new) (128 * length block.now)) }
+    ensures wrote { Writes (next_range (D.state disk.old) (128 * length block.now) ∷ [])
+        (D.state disk.old) (D.state disk.new) }
+    ensures laid { IsHonest (D.state disk.old)
+        → OnOk result (Overlays (array_bytes block.now) (D.state disk.old) (D.state disk.new)) }
+    ensures still_pending { IsHonest (D.state disk.old)
+        → StaysPending (D.state disk.old) (D.state disk.new) }
 {
     let mut bytes = [0; 4096];
     encode_block(&mut bytes, block);

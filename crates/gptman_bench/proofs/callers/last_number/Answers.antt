@@ -1,6 +1,6 @@
 use Rattle.std.proofs.Common.{subst, sym}
 use Rattle.gptman.proofs.Numbering.{turn}
-use Rattle.gptman.specs.Number.{IsAt}
+use Rattle.gptman.proofs.Numbering.{IsAt}
 use Rattle.gptman.specs.Table.{entries_in}
 use Rattle.gptman_bench.proofs.callers.last_number.Goals as goal
 

@@ -1,4 +1,4 @@
-use Rattle.gptman.specs.Number.{IsAt}
+use Rattle.gptman.proofs.Numbering.{IsAt}
 use Rattle.gptman.specs.Table.{entries_in}
 use Rattle.gptman_bench.proofs.callers.last_number.Given as goal
 

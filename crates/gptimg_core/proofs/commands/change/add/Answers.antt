@@ -1,8 +1,8 @@
 use Rattle.std.proofs.Common.{rules}
 use Rattle.gptimg_core.proofs.commands.change.add.Goals as goal
 
-pub returns-clause-added : goal.returns-clause-added
-returns-clause-added c = search rules
+pub returns-clause-value : goal.returns-clause-value
+returns-clause-value c = search rules
 
 pub returns-clause-told : goal.returns-clause-told
 returns-clause-told c = search rules

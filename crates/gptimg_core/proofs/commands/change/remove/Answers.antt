@@ -1,5 +1,5 @@
 use Rattle.std.proofs.Common.{rules}
 use Rattle.gptimg_core.proofs.commands.change.remove.Goals as goal
 
-pub returns-clause-removed : goal.returns-clause-removed
-returns-clause-removed c = search rules
+pub returns-clause-value : goal.returns-clause-value
+returns-clause-value c = search rules

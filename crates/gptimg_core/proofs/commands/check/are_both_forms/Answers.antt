@@ -10,6 +10,6 @@ returns-then-is_in_backup_form c =
     let second = c.args.backup.now in
     let at_primary : IsHeaderForm primary first = search rules in
     let at_backup : IsHeaderForm backup second = search rules in (
-      λ yes. both_forms first second at_primary at_backup (c.is_turned.ensures.0 yes),
-      λ are. c.is_turned.ensures.1 (forms_turned first second are),
+      λ yes. both_forms first second at_primary at_backup (c.has_sectors_exchanged.ensures.0 yes),
+      λ are. c.has_sectors_exchanged.ensures.1 (forms_turned first second are),
     )

@@ -1,6 +1,6 @@
 use Rattle.std.proofs.Common.{◌≡◌, ◌⊎◌, ⊎_elim, inl, inr, ℕ, List, map, Result, Ok, Err, refl, sym, ap, subst, ◌∙◌}
 use Rattle.gptman.specs.Answers.{answer_of, Fails}
-use Rattle.gptman.specs.Copy.{Copy, copy_at}
+use Rattle.gptman.specs.Copy.{copy_of_whole, Copy, copy_at}
 use Rattle.gptman.specs.Disk.{DiskState, Rose}
 use Rattle.gptman.specs.Fault.{Fault}
 use Rattle.gptman.specs.Reading.{primary, backup, copy_in}
@@ -8,25 +8,25 @@ use Rattle.gptman.specs.Table.{Table, content_of, table_of}
 use Rattle.gptman_copy.specs.declared.codec.entry.GPTPartitionEntry.{GPTPartitionEntry}
 use Rattle.gptman_copy.specs.declared.error.Error.{Error}
 use Rattle.gptman.proofs.ReadBack.{same_entries}
-use Rattle.gptman_copy.proofs.Readers.{reads_then, reads_seek}
+use Rattle.gptman_copy.proofs.Readers.{both_read, reads_then}
 use Rattle.gptman_copy.proofs.Runs.{keeps_then}
-use Rattle.gptimg_core.specs.Checks.{seen_as, AreFoundSame, AreOneTable, HoldOneTable}
-use Rattle.gptimg_core.specs.declared.commands.check.FoundCopy.{FoundCopy}
+use Rattle.gptimg_core.specs.Checks.{AreFoundSame, AreOneTable, HoldOneTable}
+use Rattle.gptman_copy.specs.declared.copy.WholeCopy.{WholeCopy}
 use Rattle.gptimg_core.proofs.Read.{found_before, found_since}
 use Rattle.gptimg_core.proofs.commands.check.check.Goals as goal
 
 -- what was found as one table is held so
-both_hold : (view : List ℕ) (ss : ℕ) (p b : Result FoundCopy Error) (old new : DiskState) → Fails p old new ⊎ (answer_of seen_as p ≡ copy_in primary view ss)
-    → Fails b old new ⊎ (answer_of seen_as b ≡ copy_in backup view ss) → AreFoundSame (answer_of seen_as p) (answer_of seen_as b)
-    → HoldOneTable view ss × AreFoundSame (answer_of seen_as p) (answer_of seen_as b)
+both_hold : (view : List ℕ) (ss : ℕ) (p b : Result WholeCopy Error) (old new : DiskState) → Fails p old new ⊎ (answer_of copy_of_whole p ≡ copy_in primary view ss)
+    → Fails b old new ⊎ (answer_of copy_of_whole b ≡ copy_in backup view ss) → AreFoundSame (answer_of copy_of_whole p) (answer_of copy_of_whole b)
+    → HoldOneTable view ss × AreFoundSame (answer_of copy_of_whole p) (answer_of copy_of_whole b)
 both_hold view ss (Ok p) (Ok b) old new (inl fails) at_backup same = absurd fails.0
 both_hold view ss (Ok p) (Ok b) old new (inr first) (inl fails) same = absurd fails.0
 both_hold view ss (Ok p) (Ok b) old new (inr first) (inr second) same = (
   record {
     table = table_of p.header p.entries.items;
-    at_primary = record { copy = seen_as p; accepted = sym first; form = record { table = refl; form = same.forms.at_primary } };
+    at_primary = record { copy = copy_of_whole p; accepted = sym first; form = record { table = refl; form = same.forms.at_primary } };
     at_backup = record {
-      copy = seen_as b;
+      copy = copy_of_whole b;
       accepted = sym second;
       form = record {
         table = ap (λ (es : List GPTPartitionEntry). table_of b.header es) (sym same.entries) ∙ same.forms.same p.entries.items;
@@ -41,9 +41,9 @@ both_hold view ss (Err e) (Ok b) old new at_primary at_backup same = absurd same
 both_hold view ss (Err e) (Err d) old new at_primary at_backup same = absurd same
 
 -- what is held as one table is found so
-found_so : (view : List ℕ) (ss : ℕ) (p b : Result FoundCopy Error) (old new : DiskState) → Fails p old new ⊎ (answer_of seen_as p ≡ copy_in primary view ss)
-    → Fails b old new ⊎ (answer_of seen_as b ≡ copy_in backup view ss) → HoldOneTable view ss
-    → AreFoundSame (answer_of seen_as p) (answer_of seen_as b) ⊎ Rose old new
+found_so : (view : List ℕ) (ss : ℕ) (p b : Result WholeCopy Error) (old new : DiskState) → Fails p old new ⊎ (answer_of copy_of_whole p ≡ copy_in primary view ss)
+    → Fails b old new ⊎ (answer_of copy_of_whole b ≡ copy_in backup view ss) → HoldOneTable view ss
+    → AreFoundSame (answer_of copy_of_whole p) (answer_of copy_of_whole b) ⊎ Rose old new
 found_so view ss p b old new at_primary at_backup holds =
     let first : Copy = holds.at_primary.copy in
     let second : Copy = holds.at_backup.copy in
@@ -61,7 +61,7 @@ found_so view ss p b old new at_primary at_backup holds =
     (λ fails. inr fails.1)
     (λ here. ⊎_elim
     (λ fails. inr fails.1)
-    (λ there. inl (subst (λ (x : Result Copy Fault). AreFoundSame x (answer_of seen_as b)) (sym (here ∙ holds.at_primary.accepted))
+    (λ there. inl (subst (λ (x : Result Copy Fault). AreFoundSame x (answer_of copy_of_whole b)) (sym (here ∙ holds.at_primary.accepted))
     (subst (λ (y : Result Copy Fault). AreFoundSame (Ok first) y) (sym (there ∙ holds.at_backup.accepted)) are)))
     at_backup)
     at_primary
@@ -70,14 +70,14 @@ primary_as : (old start : List ℕ) (ss : ℕ) → start ≡ old → copy_at sta
 unfolding copy_in
 primary_as old start ss same = ap (λ (x : List ℕ). copy_at x ss ss) same
 
-pub returns-in_err-backup-clause-reads : goal.returns-in_err-backup-clause-reads
-returns-in_err-backup-clause-reads g c = λ honest.
-    let end = reads_seek (c.seek_end.ensures.view honest) (c.seek_end.ensures.pending honest) (c.seek_end.ensures.wrote honest) in
-    let first = reads_then end (c.look_at.ensures.reads end.wrote.honest) in
-    reads_then first (c.look_at_backup.ensures.reads first.wrote.honest)
+pub returns-clause-reads : goal.returns-clause-reads
+returns-clause-reads g c = both_read (both_read c.seek_end.ensures.reads c.look_at.ensures.reads) c.look_at_backup.ensures.reads
 
-pub returns-clause-checked : goal.returns-clause-checked
-returns-clause-checked g c = λ honest.
+pub returns-in_err-backup-clause-reads : goal.returns-in_err-backup-clause-reads
+returns-in_err-backup-clause-reads g c = both_read (both_read c.seek_end.ensures.reads c.look_at.ensures.reads) c.look_at_backup.ensures.reads
+
+pub returns-clause-value : goal.returns-clause-value
+returns-clause-value g c = λ honest.
     let ss = c.args.sector_size in
     let old = g.D.Disk.state c.args.disk.now in
     let start = g.D.Disk.state c.seek_end.new.self in
@@ -85,12 +85,12 @@ returns-clause-checked g c = λ honest.
     let new = g.D.Disk.state c.look_at_backup.new.disk in
     let p = c.in_ok-primary.primary in
     let b = c.in_ok-backup.backup in
-    let end = reads_seek (c.seek_end.ensures.view honest) (c.seek_end.ensures.pending honest) (c.seek_end.ensures.wrote honest) in
-    let first = reads_then end (c.look_at.ensures.reads end.wrote.honest) in
-    let at_primary = found_before seen_as p old mid new (copy_in primary old.view ss) c.look_at_backup.ensures.keeps
-    (found_since seen_as p old start mid _ _ c.seek_end.ensures.keeps (primary_as old.view start.view ss end.view) (c.in_ok-primary.ensures.found end.wrote.honest)) in
-    let at_backup = found_since seen_as b old mid new (copy_in backup old.view ss) _ (keeps_then c.seek_end.ensures.keeps c.look_at.ensures.keeps)
-    (ap (λ (x : List ℕ). copy_in backup x ss) first.view) (c.in_ok-backup.ensures.found first.wrote.honest) in
+    let end = c.seek_end.ensures.reads.only honest in
+    let first = reads_then end (c.look_at.ensures.reads.only end.wrote.honest) in
+    let at_primary = found_before copy_of_whole p old mid new (copy_in primary old.view ss) c.look_at_backup.ensures.reads.keeps
+    (found_since copy_of_whole p old start mid _ _ c.seek_end.ensures.reads.keeps (primary_as old.view start.view ss end.view) (c.in_ok-primary.ensures.value end.wrote.honest)) in
+    let at_backup = found_since copy_of_whole b old mid new (copy_in backup old.view ss) _ (keeps_then c.seek_end.ensures.reads.keeps c.look_at.ensures.reads.keeps)
+    (ap (λ (x : List ℕ). copy_in backup x ss) first.view) (c.in_ok-backup.ensures.value first.wrote.honest) in
     record {
       at_primary = at_primary;
       at_backup = at_backup;

@@ -1,19 +1,19 @@
-use Rattle.std.proofs.Common.{◌≡◌, ◌≢◌, ⊎_elim, inr, refl, [], Result, Err, None, rules, sym, subst}
+use Rattle.std.proofs.Common.{◌≡◌, ◌≢◌, ⊎_elim, ℕ, List, inr, refl, [], Result, Err, None, rules, sym, subst}
 use Rattle.std.specs.Prelude.{IfErr}
-use Rattle.gptman_copy.specs.Disk.{OnlyRead}
+use Rattle.gptman_copy.specs.Disk.{OnlyRead, Wrote}
 use Rattle.gptman.specs.Commit.{RefusesEdit}
 use Rattle.gptman.specs.Edit.{edit_fault}
 use Rattle.gptman_copy.specs.Fault.{fault_of, no_space_left, overflow}
 use Rattle.gptman_copy.specs.declared.error.Error.{Error}
-use Rattle.gptman.proofs.Commits.{coherent_still, edit_keeps, keeps_both, layout_still, leaves_edited, leaves_kept, refused_edit, refused_room, stored_edited, sums_keep}
+use Rattle.gptman.proofs.Commits.{coherent_still, edit_keeps, keeps_both, layout_still, leaves_edited, leaves_kept, ranges_still, refused_edit, refused_room, stored_edited, sums_keep}
 use Rattle.gptman_copy.proofs.Outcomes.{if_err_of}
 use Rattle.gptman_copy.proofs.Runs.{wrote_not}
 use Rattle.gptman.proofs.table.GPT.commit.Given.{Over}
 use Rattle.gptman.proofs.table.GPT.commit.Goals as goal
 
 pub returns-in_err-apply-clause-one_good : goal.returns-in_err-apply-clause-one_good
-returns-in_err-apply-clause-one_good g c = λ honest layout kept.
-    leaves_kept c.args.self.now (g.D.Disk.state c.args.disk.now) _ _ (g.met.D.Disk.sound c.args.disk.now honest) kept
+returns-in_err-apply-clause-one_good g c = λ from.
+    leaves_kept c.args.self.now (g.D.Disk.state c.args.disk.now) _ _ (g.met.D.Disk.sound c.args.disk.now from.start.honest) from.kept
 
 pub returns-in_err-apply-clause-untouched : goal.returns-in_err-apply-clause-untouched
 returns-in_err-apply-clause-untouched g c = λ honest.
@@ -23,20 +23,20 @@ returns-in_err-apply-clause-untouched g c = λ honest.
 
 pub write_into-requires-clause-coherent : goal.write_into-requires-clause-coherent
 write_into-requires-clause-coherent g c =
-    coherent_still c.args.self.now c.apply.new.self (edit_keeps c.args.self.now c.apply.new.self c.args.edit c.in_ok-apply.ensures.changed) c.requires.coherent
+    coherent_still c.args.self.now c.apply.new.self (edit_keeps c.args.self.now c.apply.new.self c.args.edit c.in_ok-apply.ensures.value) c.requires.coherent
 
 pub returns-in_err-write_into-clause-coherent : goal.returns-in_err-write_into-clause-coherent
 returns-in_err-write_into-clause-coherent g c =
     coherent_still c.args.self.now c.write_into.new.self (keeps_both c.args.self.now c.apply.new.self c.write_into.new.self
-    (edit_keeps c.args.self.now c.apply.new.self c.args.edit c.in_ok-apply.ensures.changed) (sums_keep c.apply.new.self c.write_into.new.self c.write_into.ensures.sums)) c.requires.coherent
+    (edit_keeps c.args.self.now c.apply.new.self c.args.edit c.in_ok-apply.ensures.value) (sums_keep c.apply.new.self c.write_into.new.self c.write_into.ensures.sums)) c.requires.coherent
 
 -- why the write is refused
 why : (g : Over) (c : goal.After-from_residual-in_err-write_into g)
     → RefusesEdit c.args.self.now c.args.edit (fault_of c.in_err-write_into.field-0.0) c.write_into.new.self (g.D.Disk.state c.args.disk.now) (g.D.Disk.state c.write_into.new.disk)
 why g c =
     let none : edit_fault c.args.self.now c.args.edit ≡ None = ⊎_elim (λ said. sym said) (λ never. absurd never.1) c.in_ok-apply.ensures.answer in
-    refused_edit c.args.self.now c.apply.new.self c.write_into.new.self c.args.edit c.in_err-write_into.field-0.0 (g.D.Disk.state c.args.disk.now) (g.D.Disk.state c.write_into.new.disk)
-    c.in_ok-apply.ensures.changed none c.in_err-write_into.ensures.answer c.write_into.ensures.sums
+    refused_edit c.args.self.now c.apply.new.self c.write_into.new.self c.args.edit (fault_of c.in_err-write_into.field-0.0) (g.D.Disk.state c.args.disk.now) (g.D.Disk.state c.write_into.new.disk)
+    c.in_ok-apply.ensures.value none c.in_err-write_into.ensures.refused c.write_into.ensures.sums
 
 refusal : (g : Over) (c : goal.After-from_residual-in_err-write_into g) → c.from_residual-in_err-write_into.result ≡ Err c.in_err-write_into.field-0.0
 refusal g c = search rules
@@ -52,28 +52,28 @@ returns-in_err-write_into-clause-room g c = λ layout.
     (refused_room c.args.self.now c.write_into.new.self c.args.edit (fault_of c.in_err-write_into.field-0.0) _ _ (g.met.D.Disk.bounded c.args.disk.now) layout (why g c))
 
 pub returns-in_err-write_into-clause-one_good : goal.returns-in_err-write_into-clause-one_good
-returns-in_err-write_into-clause-one_good g c = λ honest layout kept.
-    leaves_edited c.args.self.now c.apply.new.self c.args.edit (g.D.Disk.state c.args.disk.now) (g.D.Disk.state c.write_into.new.disk) c.in_ok-apply.ensures.changed layout kept
-    (c.write_into.ensures.one_good honest)
+returns-in_err-write_into-clause-one_good g c = λ from.
+    leaves_edited c.args.self.now c.apply.new.self c.args.edit (g.D.Disk.state c.args.disk.now) (g.D.Disk.state c.write_into.new.disk) c.in_ok-apply.ensures.value from
+    c.write_into.ensures.one_good
 
 pub returns-clause-coherent : goal.returns-clause-coherent
 returns-clause-coherent g c =
     coherent_still c.args.self.now c.write_into.new.self (keeps_both c.args.self.now c.apply.new.self c.write_into.new.self
-    (edit_keeps c.args.self.now c.apply.new.self c.args.edit c.in_ok-apply.ensures.changed) (sums_keep c.apply.new.self c.write_into.new.self c.write_into.ensures.sums)) c.requires.coherent
+    (edit_keeps c.args.self.now c.apply.new.self c.args.edit c.in_ok-apply.ensures.value) (sums_keep c.apply.new.self c.write_into.new.self c.write_into.ensures.sums)) c.requires.coherent
 
 pub returns-clause-stored : goal.returns-clause-stored
-returns-clause-stored g c = λ honest layout.
-    let keeps = edit_keeps c.args.self.now c.apply.new.self c.args.edit c.in_ok-apply.ensures.changed in
-    stored_edited c.args.self.now c.apply.new.self c.args.edit (g.D.Disk.state c.write_into.new.disk) c.in_ok-apply.ensures.changed
-    (c.in_ok-write_into.ensures.stored honest (layout_still c.args.self.now c.apply.new.self keeps _ layout))
+returns-clause-stored g c = λ start.
+    let keeps = edit_keeps c.args.self.now c.apply.new.self c.args.edit c.in_ok-apply.ensures.value in
+    stored_edited c.args.self.now c.apply.new.self c.args.edit (g.D.Disk.state c.write_into.new.disk) c.in_ok-apply.ensures.value
+    (c.in_ok-write_into.ensures.stored (record { honest = start.honest; layout = layout_still c.args.self.now c.apply.new.self keeps _ start.layout }))
 
 pub returns-clause-one_good : goal.returns-clause-one_good
-returns-clause-one_good g c = λ honest layout kept.
-    leaves_edited c.args.self.now c.apply.new.self c.args.edit (g.D.Disk.state c.args.disk.now) (g.D.Disk.state c.write_into.new.disk) c.in_ok-apply.ensures.changed layout kept
-    (c.write_into.ensures.one_good honest)
+returns-clause-one_good g c = λ from.
+    leaves_edited c.args.self.now c.apply.new.self c.args.edit (g.D.Disk.state c.args.disk.now) (g.D.Disk.state c.write_into.new.disk) c.in_ok-apply.ensures.value from
+    c.write_into.ensures.one_good
 
-pub returns-clause-accepted : goal.returns-clause-accepted
-returns-clause-accepted g c = search rules
+pub returns-clause-allowed : goal.returns-clause-allowed
+returns-clause-allowed g c = search rules
 
 pub returns-clause-fits : goal.returns-clause-fits
 returns-clause-fits g c = search rules
@@ -82,4 +82,7 @@ pub returns-clause-value : goal.returns-clause-value
 returns-clause-value g c = search rules
 
 pub returns-clause-wrote : goal.returns-clause-wrote
-returns-clause-wrote g c = search rules
+returns-clause-wrote g c = λ honest.
+    let keeps = edit_keeps c.args.self.now c.apply.new.self c.args.edit c.in_ok-apply.ensures.value in
+    subst (λ (rs : List (ℕ × ℕ)). Wrote rs (g.D.Disk.state c.args.disk.now) (g.D.Disk.state c.write_into.new.disk)) (ranges_still c.args.self.now c.apply.new.self keeps)
+    (c.write_into.ensures.wrote honest)

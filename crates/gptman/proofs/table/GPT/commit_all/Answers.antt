@@ -1,11 +1,9 @@
-use Rattle.std.proofs.Common.{◌≡◌, ◌++◌, List, [], ◌∷◌, length, refl, sym, ap, ◌∙◌, append_assoc, length-append, arith, inr, rules, Some, IsTrue}
+use Rattle.std.proofs.Common.{◌≡◌, ◌++◌, List, [], ◌∷◌, length, refl, sym, ap, ◌∙◌, append_assoc, length-append, arith, inr, rules, Some}
 use Rattle.std.specs.Vec.Iter.{into_iter_items}
 use Rattle.gptman.specs.Commit.{reached, tables_to}
-use Rattle.gptman.specs.Crash.{IsKeptFor}
-use Rattle.gptman_copy.specs.Disk.{LeavesOnly}
+use Rattle.gptman.specs.Crash.{StartsFromOne}
 use Rattle.gptman_copy.specs.Fault.{fault_of}
-use Rattle.gptman.specs.Layout.{HasLayout}
-use Rattle.gptman.specs.Stop.{HoldsOneOf}
+use Rattle.gptman.specs.Stop.{StopsHold}
 use Rattle.gptman.specs.Table.{table_in}
 use Rattle.gptman.specs.declared.edit.Edit.{Edit}
 use Rattle.gptman.proofs.CommitLoop.{accepted_more, done_leaves, done_stands, done_value, failed_cause, failed_last, failed_leaves, failed_refused, failed_room, failed_stands, failed_untouched, leaves_next, made_next, made_none, wrote_next}
@@ -40,13 +38,13 @@ loop-edit-preserved g c =
     let long_r : length c.args.self.now.header.revision ≡ 4 = c.note_sizes.ensures.revision in (
       made_next c.args.self.now at.yielded at.self (g.D.Disk.state c.args.disk.now) (g.D.Disk.state at.disk) are edit c.commit.new.self (g.D.Disk.state c.commit.new.disk) long_s long_r (record {
         coherent = next.coherent;
-        accepted = done.accepted;
+        accepted = done.allowed;
         fits = done.fits;
         value = done.value;
         keeps = next.keeps;
         wrote = next.wrote;
-        stored = done.stored;
-        good = next.one_good;
+        stored = λ honest layout. done.stored (record { honest = honest; layout = layout });
+        good = λ honest layout kept. next.one_good (record { start = record { honest = honest; layout = layout }; kept = kept });
       }),
       append_assoc at.yielded (edit ∷ []) (into_iter_items c.next.new.self) ∙ (ap (λ (l : List Edit). at.yielded ++ l) (sym steps) ∙ at.invariant.1),
       omega (arith, count, length-append at.yielded (edit ∷ [])),
@@ -66,8 +64,8 @@ all_edits g c =
     let steps : into_iter_items at.edit-iterator ≡ c.in-Some.edit ∷ into_iter_items c.next.new.self = c.in-Some.ensures.steps.0 in
     sym c.into_iter-edit-iterator.ensures.into_iter_gives.0 ∙ (sym at.invariant.1 ∙ ap (λ (l : List Edit). at.yielded ++ l) steps)
 
-pub returns-in-Err-clause-accepted : goal.returns-in-Err-clause-accepted
-returns-in-Err-clause-accepted g c k below =
+pub returns-in-Err-clause-allowed : goal.returns-in-Err-clause-allowed
+returns-in-Err-clause-allowed g c k below =
     let count = c.loop-edit.invariant.2 in
     accepted_more c.args.self.now c.loop-edit.yielded _ c.args.edits.items (all_edits g c) c.loop-edit.invariant.0.accepted k (omega (arith, below, count))
 
@@ -101,24 +99,27 @@ returns-in-Err-clause-untouched g c = λ honest none.
     c.in-Some.edit (all_edits g c) at.invariant.2 (fault_of c.in-Err.fault) honest none c.in-Err.ensures.untouched
 
 pub returns-in-Err-clause-stands : goal.returns-in-Err-clause-stands
-returns-in-Err-clause-stands g c = λ honest layout.
+returns-in-Err-clause-stands g c = λ start.
     let at = c.loop-edit in
     failed_stands c.args.self.now at.yielded at.self (g.D.Disk.state c.args.disk.now) (g.D.Disk.state at.disk) (g.D.Disk.state c.commit.new.disk) at.invariant.0 c.args.edits.items _ at.done
-    c.in-Some.edit (all_edits g c) at.invariant.2 (fault_of c.in-Err.fault) honest layout c.in-Err.ensures.untouched
+    c.in-Some.edit (all_edits g c) at.invariant.2 (fault_of c.in-Err.fault) start.honest start.layout c.in-Err.ensures.untouched
 
 -- a stop leaves the table after some of the edits
-failed_good : (g : Over) (c : goal.After-drop-edit-iterator g) → IsTrue (g.D.Disk.state c.args.disk.now).is_honest
-    → HasLayout c.args.self.now.header (table_in c.args.self.now) c.args.self.now.sector_size (g.D.Disk.state c.args.disk.now).size → IsKeptFor (g.D.Disk.state c.args.disk.now) c.args.self.now (table_in c.args.self.now)
-    → LeavesOnly (g.D.Disk.state c.args.disk.now) (g.D.Disk.state c.commit.new.disk)
-    (λ b. HoldsOneOf b c.args.self.now.sector_size (tables_to c.args.self.now c.args.edits.items (reached c.loop-edit.done (Some c.in-Err.fault))))
-failed_good g c honest layout kept =
+failed_good : (g : Over) (c : goal.After-drop-edit-iterator g) → StartsFromOne (g.D.Disk.state c.args.disk.now) c.args.self.now (table_in c.args.self.now)
+    → StopsHold (g.D.Disk.state c.args.disk.now) (g.D.Disk.state c.commit.new.disk) c.args.self.now.sector_size
+    (tables_to c.args.self.now c.args.edits.items (reached c.loop-edit.done (Some c.in-Err.fault)))
+failed_good g c from =
+    let honest = from.start.honest in
+    let layout = from.start.layout in
+    let kept = from.kept in
     let at = c.loop-edit in
     let own = c.args.self.now in
     let a = g.D.Disk.state c.args.disk.now in
     let b = g.D.Disk.state at.disk in
     let new = g.D.Disk.state c.commit.new.disk in
     let still = (at.invariant.0.wrote honest).honest in
-    let next = leaves_next own at.yielded at.self a b at.invariant.0 c.in-Some.edit new honest layout kept (c.commit.ensures.wrote still) (c.commit.ensures.one_good still) in
+    let next = leaves_next own at.yielded at.self a b at.invariant.0 c.in-Some.edit new honest layout kept (c.commit.ensures.wrote still)
+    (λ here good. c.commit.ensures.one_good (record { start = record { honest = still; layout = here }; kept = good })) in
     failed_leaves own at.yielded at.self a b new at.invariant.0 c.args.edits.items _ at.done c.in-Some.edit (all_edits g c) at.invariant.2 (fault_of c.in-Err.fault) honest layout kept
     (g.met.D.Disk.sound at.disk) c.in-Err.ensures.untouched next
 
@@ -126,21 +127,22 @@ pub returns-in-Err-clause-one_good : goal.returns-in-Err-clause-one_good
 returns-in-Err-clause-one_good g c = failed_good g c
 
 pub returns-in-Err-clause-read : goal.returns-in-Err-clause-read
-returns-in-Err-clause-read g c = λ honest layout kept x left known. reads_one_of x _ _ (failed_good g c honest layout kept x left) known
+returns-in-Err-clause-read g c = λ from x left known. reads_one_of x _ _ (failed_good g c from x left) known
 
 pub returns-in-Err-clause-outside : goal.returns-in-Err-clause-outside
-returns-in-Err-clause-outside g c = λ honest synced layout.
+returns-in-Err-clause-outside g c = λ from.
     let at = c.loop-edit in
-    leaves_outside c.args.self.now (g.D.Disk.state c.args.disk.now) (g.D.Disk.state c.commit.new.disk) synced layout
-    (wrote_next c.args.self.now at.yielded at.self (g.D.Disk.state c.args.disk.now) (g.D.Disk.state at.disk) at.invariant.0 (g.D.Disk.state c.commit.new.disk) honest c.commit.ensures.wrote)
+    leaves_outside c.args.self.now (g.D.Disk.state c.args.disk.now) (g.D.Disk.state c.commit.new.disk) from.synced from.start.layout
+    (wrote_next c.args.self.now at.yielded at.self (g.D.Disk.state c.args.disk.now) (g.D.Disk.state at.disk) at.invariant.0 (g.D.Disk.state c.commit.new.disk) from.start.honest c.commit.ensures.wrote)
 
 pub returns-in-Err-clause-last : goal.returns-in-Err-clause-last
-returns-in-Err-clause-last g c = λ honest layout kept.
+returns-in-Err-clause-last g c = λ from.
     let at = c.loop-edit in
-    let still = (at.invariant.0.wrote honest).honest in
+    let still = (at.invariant.0.wrote from.start.honest).honest in
     let wrote = c.commit.ensures.wrote still in
     failed_last c.args.self.now at.yielded at.self (g.D.Disk.state c.args.disk.now) (g.D.Disk.state at.disk) (g.D.Disk.state c.commit.new.disk) at.invariant.0 c.args.edits.items _ at.done
-    c.in-Some.edit (all_edits g c) at.invariant.2 honest layout kept wrote.time.later (g.met.D.Disk.sound c.commit.new.disk wrote.honest) (c.commit.ensures.one_good still)
+    c.in-Some.edit (all_edits g c) at.invariant.2 from.start.honest from.start.layout from.kept wrote.time.later (g.met.D.Disk.sound c.commit.new.disk wrote.honest)
+    (λ here good. c.commit.ensures.one_good (record { start = record { honest = still; layout = here }; kept = good }))
 
 pub returns-in-Err-clause-empty : goal.returns-in-Err-clause-empty
 returns-in-Err-clause-empty g c = λ empty.
@@ -169,22 +171,22 @@ pub returns-clause-untouched : goal.returns-clause-untouched
 returns-clause-untouched g c = λ honest none. inr (c.loop-edit.invariant.0.untouched honest (sym c.loop-edit.invariant.2 ∙ none))
 
 pub returns-clause-stands : goal.returns-clause-stands
-returns-clause-stands g c = λ honest layout.
+returns-clause-stands g c = λ start.
     let at = c.loop-edit in
-    inr (done_stands c.args.self.now at.yielded at.self (g.D.Disk.state c.args.disk.now) (g.D.Disk.state at.disk) at.invariant.0 c.args.edits.items [] at.done (made_all g c) at.invariant.2 honest layout)
+    inr (done_stands c.args.self.now at.yielded at.self (g.D.Disk.state c.args.disk.now) (g.D.Disk.state at.disk) at.invariant.0 c.args.edits.items [] at.done (made_all g c) at.invariant.2 start.honest start.layout)
 
-done_good : (g : Over) (c : goal.After-drop-edit-iterator-2 g) → IsTrue (g.D.Disk.state c.args.disk.now).is_honest
-    → HasLayout c.args.self.now.header (table_in c.args.self.now) c.args.self.now.sector_size (g.D.Disk.state c.args.disk.now).size → IsKeptFor (g.D.Disk.state c.args.disk.now) c.args.self.now (table_in c.args.self.now)
-    → LeavesOnly (g.D.Disk.state c.args.disk.now) (g.D.Disk.state c.loop-edit.disk) (λ b. HoldsOneOf b c.args.self.now.sector_size (tables_to c.args.self.now c.args.edits.items c.loop-edit.done))
-done_good g c =
+done_good : (g : Over) (c : goal.After-drop-edit-iterator-2 g) → StartsFromOne (g.D.Disk.state c.args.disk.now) c.args.self.now (table_in c.args.self.now)
+    → StopsHold (g.D.Disk.state c.args.disk.now) (g.D.Disk.state c.loop-edit.disk) c.args.self.now.sector_size (tables_to c.args.self.now c.args.edits.items c.loop-edit.done)
+done_good g c from =
     let at = c.loop-edit in
     done_leaves c.args.self.now at.yielded at.self (g.D.Disk.state c.args.disk.now) (g.D.Disk.state at.disk) at.invariant.0 c.args.edits.items [] at.done (made_all g c) at.invariant.2
+    from.start.honest from.start.layout from.kept
 
 pub returns-clause-one_good : goal.returns-clause-one_good
 returns-clause-one_good g c = done_good g c
 
 pub returns-clause-read : goal.returns-clause-read
-returns-clause-read g c = λ honest layout kept x left known. reads_one_of x _ _ (done_good g c honest layout kept x left) known
+returns-clause-read g c = λ from x left known. reads_one_of x _ _ (done_good g c from x left) known
 
 pub returns-clause-outside : goal.returns-clause-outside
-returns-clause-outside g c = λ honest synced layout. leaves_outside c.args.self.now _ (g.D.Disk.state c.loop-edit.disk) synced layout (c.loop-edit.invariant.0.wrote honest)
+returns-clause-outside g c = λ from. leaves_outside c.args.self.now _ (g.D.Disk.state c.loop-edit.disk) from.synced from.start.layout (c.loop-edit.invariant.0.wrote from.start.honest)

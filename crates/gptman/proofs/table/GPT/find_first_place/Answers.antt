@@ -1,5 +1,5 @@
 use Rattle.std.proofs.Common.{arith}
-use Rattle.gptman.specs.Chosen.{IsEarlier}
+use Rattle.gptman.specs.Chosen.{IsNoLater}
 use Rattle.gptman.proofs.Offers.{asked, first_offered, none_offered, start_fits}
 use Rattle.gptman.proofs.table.GPT.find_first_place.Goals as goal
 
@@ -10,7 +10,7 @@ returns-in-Some-clause-place c =
 
 pub returns-in-Some-clause-fits : goal.returns-in-Some-clause-fits
 returns-in-Some-clause-fits c =
-    start_fits IsEarlier c.args.self.now c.args.size c.max-size.result c.deref.result.now _
+    start_fits IsNoLater c.args.self.now c.args.size c.max-size.result c.deref.result.now _
     (asked _ _ _ _ _ c.requires (omega arith) c.deref.ensures.value c.in_ok-slots.ensures.slots c.in_ok-slots.ensures.fits) c.in-Some.ensures
 
 pub returns-clause-place : goal.returns-clause-place

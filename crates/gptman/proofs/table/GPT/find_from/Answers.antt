@@ -3,7 +3,7 @@ use Rattle.std.specs.Prelude.{IfOk}
 use Rattle.gptman_copy.specs.Fault.{fault_of, is_signature_fault, out_of_memory}
 use Rattle.gptman.specs.Reading.{reading_of}
 use Rattle.gptman.proofs.Fallback.{found_first, found_ok, found_second}
-use Rattle.gptman_copy.proofs.Readers.{reads_then}
+use Rattle.gptman_copy.proofs.Readers.{both_read}
 use Rattle.gptman_copy.proofs.Runs.{rose_before, rose_since}
 use Rattle.gptman.proofs.table.GPT.find_from.Goals as goal
 
@@ -23,21 +23,19 @@ returns-then-not-is_invalid_signature-clause-answer g c = λ honest.
     (c.in-Err.ensures.answer honest)
 
 pub returns-clause-reads : goal.returns-clause-reads
-returns-clause-reads g c = λ honest.
-    let first = c.read_from.ensures.reads honest in
-    reads_then first (c.read_from-2.ensures.reads first.wrote.honest)
+returns-clause-reads g c = both_read c.read_from.ensures.reads c.read_from-2.ensures.reads
 
 pub returns-clause-answer : goal.returns-clause-answer
 returns-clause-answer g c = λ honest.
     let old = g.D.Disk.state c.args.disk.now in
     let mid = g.D.Disk.state c.read_from.new.disk in
     let new = g.D.Disk.state c.read_from-2.new.disk in
-    let first = c.read_from.ensures.reads honest in
+    let first = c.read_from.ensures.reads.only honest in
     let none : is_signature_fault (fault_of c.in-Err.fault) ≡ true = search rules in
     let known : fault_of c.in-Err.fault ≢ out_of_memory = λ out. let e = ap is_signature_fault out in cc in
-    ⊎_elim (λ rose. inl (rose_before old mid new rose c.read_from-2.ensures.keeps))
+    ⊎_elim (λ rose. inl (rose_before old mid new rose c.read_from-2.ensures.reads.keeps))
     (λ rest. ⊎_elim (λ out. absurd (known out))
-    (λ is. ⊎_elim (λ rose. inl (rose_since old mid new c.read_from.ensures.keeps rose))
+    (λ is. ⊎_elim (λ rose. inl (rose_since old mid new c.read_from.ensures.reads.keeps rose))
     (λ second. ⊎_elim (λ out. inr (inl out))
     (λ said. inr (inr (said ∙ ap (λ (b : List ℕ). reading_of b 4096) first.view ∙ ap (reading_of old.view) (sym (found_second old.view _ (sym is) none)))))
     second)
@@ -59,7 +57,7 @@ returns-clause-found g c = λ honest.
     let new = g.D.Disk.state c.read_from-2.new.disk in
     let none : is_signature_fault (fault_of c.in-Err.fault) ≡ true = search rules in
     let known : fault_of c.in-Err.fault ≢ out_of_memory = λ out. let e = ap is_signature_fault out in cc in
-    ⊎_elim (λ rose. inl (rose_before old mid new rose c.read_from-2.ensures.keeps))
+    ⊎_elim (λ rose. inl (rose_before old mid new rose c.read_from-2.ensures.reads.keeps))
     (λ rest. ⊎_elim (λ out. absurd (known out))
     (λ is. inr (subst (λ (n : ℕ). IfOk c.read_from-2.result (λ g. g.sector_size ≡ n)) (sym (found_second old.view _ (sym is) none)) c.read_from-2.ensures.sector))
     rest)

@@ -1,5 +1,5 @@
 use Rattle.std.proofs.Common.{arith}
-use Rattle.gptman.specs.Chosen.{IsLater}
+use Rattle.gptman.specs.Chosen.{IsNoEarlier}
 use Rattle.gptman.proofs.Offers.{asked, last_offered, none_offered, last_fits}
 use Rattle.gptman.proofs.table.GPT.find_last_place.Goals as goal
 
@@ -10,7 +10,7 @@ returns-in-Some-clause-place c =
 
 pub returns-in-Some-clause-fits : goal.returns-in-Some-clause-fits
 returns-in-Some-clause-fits c =
-    last_fits IsLater c.args.self.now c.args.size c.max-size.result c.deref.result.now _
+    last_fits IsNoEarlier c.args.self.now c.args.size c.max-size.result c.deref.result.now _
     (asked _ _ _ _ _ c.requires (omega arith) c.deref.ensures.value c.in_ok-slots.ensures.slots c.in_ok-slots.ensures.fits) c.in-Some.ensures
 
 pub returns-clause-place : goal.returns-clause-place
@@ -20,6 +20,6 @@ returns-clause-place c =
 
 pub overflow_add-result : goal.overflow_add-result
 overflow_add-result c =
-    let fits = last_fits IsLater c.args.self.now c.args.size c.max-size.result c.deref.result.now _
+    let fits = last_fits IsNoEarlier c.args.self.now c.args.size c.max-size.result c.deref.result.now _
     (asked _ _ _ _ _ c.requires (omega arith) c.deref.ensures.value c.in_ok-slots.ensures.slots c.in_ok-slots.ensures.fits) c.in-Some.ensures in
     omega arith

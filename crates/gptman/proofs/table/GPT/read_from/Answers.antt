@@ -3,7 +3,7 @@ use Rattle.gptman.specs.TableReads.{copy_of, FallsBack, IsCopyFault, read, no_me
 use Rattle.gptman_copy.specs.Fault.{fault_of, out_of_memory}
 use Rattle.gptman.specs.Reading.{primary, fallback}
 use Rattle.gptman.proofs.Fallback.{reading_refused, refused_first, taken_first}
-use Rattle.gptman_copy.proofs.Readers.{reads_then}
+use Rattle.gptman_copy.proofs.Readers.{both_read}
 use Rattle.gptman_copy.proofs.Runs.{rose_before, rose_since}
 use Rattle.gptman.proofs.table.GPT.read_from.Goals as goal
 
@@ -15,9 +15,7 @@ returns-in-Ok-clause-answer g c = λ honest.
     (c.in-Ok.ensures.answer honest)
 
 pub returns-clause-reads : goal.returns-clause-reads
-returns-clause-reads g c = λ honest.
-    let first = c.read_primary.ensures.reads honest in
-    reads_then first (c.read_backup.ensures.reads first.wrote.honest)
+returns-clause-reads g c = both_read c.read_primary.ensures.reads c.read_backup.ensures.reads
 
 pub returns-clause-answer : goal.returns-clause-answer
 returns-clause-answer g c = λ honest.
@@ -26,15 +24,15 @@ returns-clause-answer g c = λ honest.
     let mid = g.D.Disk.state c.read_primary.new.disk in
     let new = g.D.Disk.state c.read_backup.new.disk in
     let first = fault_of c.in-Err.primary in
-    let reads = c.read_primary.ensures.reads honest in
+    let reads = c.read_primary.ensures.reads.only honest in
     let known : first ≢ out_of_memory = search rules in
-    ⊎_elim (λ fails. inl (rose_before old mid new fails.1 c.read_backup.ensures.keeps))
+    ⊎_elim (λ fails. inl (rose_before old mid new fails.1 c.read_backup.ensures.reads.keeps))
     (λ rest. ⊎_elim (λ out. absurd (known out))
     (λ is. elim (c.read_backup.ensures.answer reads.wrote.honest) [
       | read said ↦ inr (inr (said ∙ ap (λ (b : List ℕ). fallback b ss first) reads.view ∙ sym (refused_first old.view ss first (sym is))))
       | no_memory out ↦ inr (inl out)
-      | no_seek failed rose ↦ inl (rose_since old mid new c.read_primary.ensures.keeps rose)
-      | no_backup failed rose ↦ inl (rose_since old mid new c.read_primary.ensures.keeps rose)
+      | no_seek failed rose ↦ inl (rose_since old mid new c.read_primary.ensures.reads.keeps rose)
+      | no_backup failed rose ↦ inl (rose_since old mid new c.read_primary.ensures.reads.keeps rose)
     ])
     rest)
     (c.in-Err.ensures.answer honest)
@@ -46,7 +44,7 @@ returns-clause-refused g c = λ honest.
     let mid = g.D.Disk.state c.read_primary.new.disk in
     let new = g.D.Disk.state c.read_backup.new.disk in
     let first = fault_of c.in-Err.primary in
-    let reads = c.read_primary.ensures.reads honest in
+    let reads = c.read_primary.ensures.reads.only honest in
     let known : first ≢ out_of_memory = search rules in
     let at : IsCopyFault primary old.view ss first =
     ⊎_elim (λ fails. inl fails.0) (λ rest. ⊎_elim (λ out. absurd (known out)) (λ is. inr (sym is)) rest) (c.in-Err.ensures.answer honest) in

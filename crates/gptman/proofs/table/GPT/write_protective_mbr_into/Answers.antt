@@ -4,9 +4,6 @@ use Rattle.gptman.proofs.table.GPT.write_protective_mbr_into.Goals as goal
 pub returns-clause-laid : goal.returns-clause-laid
 returns-clause-laid g c = search rules
 
-pub returns-clause-pending : goal.returns-clause-pending
-returns-clause-pending g c = search rules
-
 pub returns-clause-untouched : goal.returns-clause-untouched
 returns-clause-untouched g c = c.write_mbr.ensures.untouched
 

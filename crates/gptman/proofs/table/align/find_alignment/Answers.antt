@@ -3,18 +3,18 @@ use Rattle.std.proofs.lemmas.List.{take_all, length_push}
 use Rattle.std.specs.Int.{IsGcd}
 use Rattle.gptman_copy.specs.Entry.{is_used}
 use Rattle.gptman_copy.specs.declared.codec.entry.GPTPartitionEntry.{GPTPartitionEntry}
-use Rattle.gptman.specs.Alignment.{used_starts, IsCommonDivisor}
-use Rattle.gptman.proofs.CommonDivisor.{common_more, starts_used, starts_unused, alignment_zero, alignment_alone, alignment_other}
+use Rattle.gptman.specs.Alignment.{used_starts}
+use Rattle.gptman.proofs.CommonDivisor.{IsGreatestCommonDivisor, common_more, starts_used, starts_unused, alignment_zero, alignment_alone, alignment_other}
 use Rattle.gptman.proofs.table.align.find_alignment.Goals as goal
 use Rattle.gptman.proofs.table.align.find_alignment.Goals.{then-is_used, else-is_used, else-count-eq1-via-then-count-eq1+else-common-first_usable_lba, else-count-eq1-via-else-count-eq1}
 
 -- what the loop knows of the entries so far
 abbrev Counted : List ℕ → ℕ → ℕ → ℕ → Type 0
-Counted starts common count i = IsCommonDivisor starts common × (count ≡ length starts) × (count ≤ i)
+Counted starts common count i = IsGreatestCommonDivisor starts common × (count ≡ length starts) × (count ≤ i)
 
 -- at the end, of all entries
-whole : (es : List GPTPartitionEntry) (i common : ℕ) → length es ≤ i → IsCommonDivisor (used_starts (take i es)) common → IsCommonDivisor (used_starts es) common
-whole es i common h c = subst (λ (l : List GPTPartitionEntry). IsCommonDivisor (used_starts l) common) (take_all i es h) c
+whole : (es : List GPTPartitionEntry) (i common : ℕ) → length es ≤ i → IsGreatestCommonDivisor (used_starts (take i es)) common → IsGreatestCommonDivisor (used_starts es) common
+whole es i common h c = subst (λ (l : List GPTPartitionEntry). IsGreatestCommonDivisor (used_starts l) common) (take_all i es h) c
 
 count_all : (es : List GPTPartitionEntry) (i count : ℕ) → length es ≤ i → count ≡ length (used_starts (take i es)) → count ≡ length (used_starts es)
 count_all es i count h e = subst (λ (l : List GPTPartitionEntry). count ≡ length (used_starts l)) (take_all i es h) e
@@ -26,14 +26,14 @@ used_more es i d common count new g n h inv used gcd is more =
     let l : length (used_starts (take i es) ++ (get_or es i d).starting_lba ∷ []) ≡ length (used_starts (take i es)) + 1 = length_push (used_starts (take i es)) (get_or es i d).starting_lba in
     let now = inv.1 in let le = inv.2 in
     subst (λ (starts : List ℕ). Counted starts g n (i + 1)) (sym e)
-    (subst (λ (g : ℕ). IsCommonDivisor (used_starts (take i es) ++ (get_or es i d).starting_lba ∷ []) g) (sym is) (common_more (used_starts (take i es)) common (get_or es i d).starting_lba new inv.0 gcd), omega arith, omega arith)
+    (subst (λ (g : ℕ). IsGreatestCommonDivisor (used_starts (take i es) ++ (get_or es i d).starting_lba ∷ []) g) (sym is) (common_more (used_starts (take i es)) common (get_or es i d).starting_lba new inv.0 gcd), omega arith, omega arith)
 
 -- an unused one
 unused_more : (es : List GPTPartitionEntry) (i : ℕ) (d : GPTPartitionEntry) (common count g n : ℕ) → i < length es → Counted (used_starts (take i es)) common count i → is_used (get_or es i d) ≡ false → g ≡ common → n ≡ count → Counted (used_starts (take (i + 1) es)) g n (i + 1)
 unused_more es i d common count g n h inv unused is same =
     let now = inv.1 in let le = inv.2 in
     subst (λ (starts : List ℕ). Counted starts g n (i + 1)) (sym (starts_unused es i d h unused))
-    (subst (λ (g : ℕ). IsCommonDivisor (used_starts (take i es)) g) (sym is) inv.0, omega arith, omega arith)
+    (subst (λ (g : ℕ). IsGreatestCommonDivisor (used_starts (take i es)) g) (sym is) inv.0, omega arith, omega arith)
 
 pub loop-entry-preserved : goal.loop-entry-preserved
 loop-entry-preserved c =

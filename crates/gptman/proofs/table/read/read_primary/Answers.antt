@@ -10,10 +10,10 @@ returns-clause-answer g c = λ honest.
     let ss = c.args.sector_size in
     let old = g.D.Disk.state c.args.disk.now in
     let mid = g.D.Disk.state c.seek_start.new.self in
-    let new = g.D.Disk.state c.read_copy.new.disk in
+    let new = g.D.Disk.state c.read_table.new.disk in
     let here : copy_at mid.view mid.position ss ≡ copy_at old.view ss ss =
-    ap (λ (b : List ℕ). copy_at b mid.position ss) (c.seek_start.ensures.view honest) ∙ ap (λ (p : ℕ). copy_at old.view p ss) c.in_ok-seek_start.ensures.moves.1 in
+    ap (λ (b : List ℕ). copy_at b mid.position ss) ((c.seek_start.ensures.reads.only honest).view) ∙ ap (λ (p : ℕ). copy_at old.view p ss) c.in_ok-seek_start.ensures.answer.1 in
     ⊎_elim
-    (λ fails. inl (fails.0, rose_since old mid new c.seek_start.ensures.keeps fails.1))
+    (λ fails. inl (fails.0, rose_since old mid new c.seek_start.ensures.reads.keeps fails.1))
     (λ rest. inr (⊎_elim (λ memory. inl memory) (λ is. inr (is ∙ here)) rest))
-    (c.read_copy.ensures.answer (c.seek_start.ensures.wrote honest).honest)
+    (c.read_table.ensures.answer ((c.seek_start.ensures.reads.only honest).wrote).honest)

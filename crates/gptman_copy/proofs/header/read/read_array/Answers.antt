@@ -34,7 +34,7 @@ loop-done-preserved g c =
       position = omega (arith, c.in_ok-read_block.ensures.moves, inv.position);
       within = inr (omega (arith, c.in_ok-read_block.ensures.within, inv.position, inv.keeps.size));
       long = omega (arith, c.in_ok-read_block.ensures.count, inv.long);
-      reads = λ honest. reads_then (inv.reads honest) (c.read_block.ensures.reads (inv.reads honest).wrote.honest);
+      reads = λ honest. reads_then (inv.reads honest) (c.read_block.ensures.reads.only (inv.reads honest).wrote.honest);
       entries = λ honest.
           let reads = inv.reads honest in
           c.in_ok-read_block.ensures.entries reads.wrote.honest

@@ -2,5 +2,4 @@ use Rattle.gptman_copy.proofs.Ranges.{contains_written}
 use Rattle.gptman_copy.proofs.header.write.write_block.Goals as goal
 
 pub returns-clause-still_pending : goal.returns-clause-still_pending
-returns-clause-still_pending g c = λ honest range has.
-    contains_written c.write_all.result _ range _ _ _ (c.write_all.ensures.pending honest) (c.write_all.ensures.refused honest) has
+returns-clause-still_pending g c = λ honest. contains_written c.write_all.result _ _ _ (c.write_all.ensures.laid honest) (c.write_all.ensures.failed honest)

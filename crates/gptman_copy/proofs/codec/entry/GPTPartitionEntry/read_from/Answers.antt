@@ -18,4 +18,4 @@ returns-clause-answer g c = λ honest.
     let old = g.D.Disk.state c.args.disk.now in
     let size : length old.view ≡ old.size = (g.met.D.Disk.sound c.args.disk.now honest).size in
     let inside : old.position + 128 ≤ length old.view = omega (arith, size, c.in_ok-read_exact.ensures.within) in
-    inr (entry_decoded old.view old.position c.decode.result _ inside (c.in_ok-read_exact.ensures.read honest) c.decode.ensures.coding c.decode.ensures.name c.decode.ensures.refused)
+    inr (entry_decoded old.view old.position c.decode.result _ inside (c.in_ok-read_exact.ensures.value honest) c.decode.ensures.coding c.decode.ensures.name c.decode.ensures.refused)

@@ -4,11 +4,11 @@ use Rattle.gptman_copy.proofs.codec.header.GPTHeader.fit.Goals as goal
 pub returns-then-sectors-lt2-clause-answer : goal.returns-then-sectors-lt2-clause-answer
 returns-then-sectors-lt2-clause-answer c = search rules
 
-pub returns-then-sectors-lt2-clause-fits : goal.returns-then-sectors-lt2-clause-fits
-returns-then-sectors-lt2-clause-fits c = search rules
+pub returns-then-sectors-lt2-clause-value : goal.returns-then-sectors-lt2-clause-value
+returns-then-sectors-lt2-clause-value c = search rules
 
 pub returns-clause-answer : goal.returns-clause-answer
 returns-clause-answer c = search rules
 
-pub returns-clause-fits : goal.returns-clause-fits
-returns-clause-fits c = search rules
+pub returns-clause-value : goal.returns-clause-value
+returns-clause-value c = search rules

@@ -1,5 +1,5 @@
 use Rattle.std.proofs.Common.{rules}
 use Rattle.gptman_copy.proofs.codec.header.GPTHeader.new_from.Goals as goal
 
-pub returns-clause-fits : goal.returns-clause-fits
-returns-clause-fits g c = search rules
+pub returns-clause-value : goal.returns-clause-value
+returns-clause-value g c = search rules

@@ -21,6 +21,6 @@ returns-clause-answer g c = λ honest.
     let old = g.D.Disk.state c.args.disk.now in
     let size : length old.view ≡ old.size = (g.met.D.Disk.sound c.args.disk.now honest).size in
     let inside : old.position + 92 ≤ length old.view = omega (arith, size, c.in_ok-read_exact.ensures.within) in
-    let bytes : header_bytes c.decode.result ≡ part old.view old.position 92 = sym c.decode.ensures.spelled ∙ c.in_ok-read_exact.ensures.read honest in
-    inr (c.tested.ensures.answer
+    let bytes : header_bytes c.decode.result ≡ part old.view old.position 92 = sym c.decode.ensures.spelled ∙ c.in_ok-read_exact.ensures.value honest in
+    inr (c.test.ensures.answer
     ∙ sym (header_inside old.view old.position c.decode.result (header_bytes c.decode.result) inside bytes (header_is c.decode.result _ c.decode.ensures.coding ∙ ap header_of c.decode.ensures.spelled)))

@@ -18,9 +18,9 @@ pub returns-in_err-array-clause-answer : goal.returns-in_err-array-clause-answer
 returns-in_err-array-clause-answer g c = λ honest.
     let old = g.D.Disk.state c.args.disk.now in
     let mid = g.D.Disk.state c.seek_entries.new.disk in
-    let size : length old.view ≡ mid.size = (g.met.D.Disk.sound c.args.disk.now honest).size ∙ sym c.seek_entries.ensures.keeps.size in
+    let size : length old.view ≡ mid.size = (g.met.D.Disk.sound c.args.disk.now honest).size ∙ sym c.seek_entries.ensures.reads.keeps.size in
     let p = err_from_is_err_and c.from_residual-in_err-array.result c.from_residual-in_err-array.ensures.1 in
-    rw (p.1, p.2) (block_refused old.view c.args.sector_size c.args.self.now _ old mid (g.D.Disk.state c.read_array.new.disk) c.in_ok-seek_entries.ensures.ready size c.seek_entries.ensures.keeps
+    rw (p.1, p.2) (block_refused old.view c.args.sector_size c.args.self.now _ old mid (g.D.Disk.state c.read_array.new.disk) c.in_ok-seek_entries.ensures.ready size c.seek_entries.ensures.reads.keeps
     c.in_err-array.ensures.some c.in_err-array.ensures.refused)
 
 pub returns-then-self-array-clause-answer : goal.returns-then-self-array-clause-answer
@@ -29,8 +29,8 @@ returns-then-self-array-clause-answer g c = λ honest.
     let ss = c.args.sector_size in
     let old = g.D.Disk.state c.args.disk.now in
     let mid = g.D.Disk.state c.seek_entries.new.disk in
-    let reads = c.seek_entries.ensures.reads honest in
-    let size : length old.view ≡ mid.size = (g.met.D.Disk.sound c.args.disk.now honest).size ∙ sym c.seek_entries.ensures.keeps.size in
+    let reads = c.seek_entries.ensures.reads.only honest in
+    let size : length old.view ≡ mid.size = (g.met.D.Disk.sound c.args.disk.now honest).size ∙ sym c.seek_entries.ensures.reads.keeps.size in
     let ready = c.in_ok-seek_entries.ensures.ready in
     let placed = in_place old.view ss h mid ready size c.in_ok-array.ensures.within in
     let sum : c.in_ok-array.array.checksum ≡ crc_of (part old.view (entries_start h ss) (entries_length h)) =
@@ -46,8 +46,8 @@ returns-clause-answer g c = λ honest.
     let ss = c.args.sector_size in
     let old = g.D.Disk.state c.args.disk.now in
     let mid = g.D.Disk.state c.seek_entries.new.disk in
-    let reads = c.seek_entries.ensures.reads honest in
-    let size : length old.view ≡ mid.size = (g.met.D.Disk.sound c.args.disk.now honest).size ∙ sym c.seek_entries.ensures.keeps.size in
+    let reads = c.seek_entries.ensures.reads.only honest in
+    let size : length old.view ≡ mid.size = (g.met.D.Disk.sound c.args.disk.now honest).size ∙ sym c.seek_entries.ensures.reads.keeps.size in
     let ready = c.in_ok-seek_entries.ensures.ready in
     let n : ℕ = h.number_of_partition_entries in
     let placed = in_place old.view ss h mid ready size c.in_ok-array.ensures.within in

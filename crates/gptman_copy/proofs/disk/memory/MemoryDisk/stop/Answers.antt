@@ -6,8 +6,8 @@ use Rattle.gptman_copy.specs.declared.disk.memory.Fate.TheVariants.{Old}
 use Rattle.std.proofs.lemmas.Grind.{common_steps}
 use Rattle.std.proofs.lemmas.List.{take_all}
 use Rattle.std.proofs.lemmas.Result.{IfOk-weaker}
-use Rattle.gptman_copy.specs.Disk.{Agrees}
-use Rattle.gptman_copy.specs.Fate.{fate_step, stopped, stop_step}
+use Rattle.gptman_copy.specs.Disk.{AgreesOutside}
+use Rattle.gptman_copy.specs.Fate.{fate_step, stop_from, stop_step}
 use Rattle.gptman_copy.specs.Memory.{view_step, view_of, pending_of}
 use Rattle.gptman_copy.proofs.Ranges.{agrees_self}
 use Rattle.gptman_copy.proofs.Stops.{step_is, stop_agrees}
@@ -24,7 +24,7 @@ loop-event-preserved c =
     let inv = c.loop-event.invariant in
     elim c.match-event.branch [
       | in-Sync+in_ok-left-in-Sync w ↦
-          let full = step ∙ ap (λ e. stop_step fates (stopped fates start (take i events)) e) w.in-Sync.is in
+          let full = step ∙ ap (λ e. stop_step fates (stop_from fates start (take i events)) e) w.in-Sync.is in
           let copied : w.in_ok-left-in-Sync.left.items ≡ c.loop-event.view.items = search rules in
           let view_is = ap (λ (v : Vec ℕ Global). v.items) w.view-is in
           let left_is = ap (λ (v : Vec ℕ Global). v.items) w.left-is in
@@ -37,7 +37,7 @@ loop-event-preserved c =
             long_left = ap length (left_is ∙ copied) ∙ inv.long_view;
           }
       | in-Write+then-written w ↦
-          let full = step ∙ ap (λ e. stop_step fates (stopped fates start (take i events)) e) w.in-Write.is in
+          let full = step ∙ ap (λ e. stop_step fates (stop_from fates start (take i events)) e) w.in-Write.is in
           let here = w.in-Write.written in
           let view_is : c.match-event.view.items ≡ view_step c.loop-event.view.items (Write here) = grind (arith, common_steps) in
           let fate : w.unwrap_or-fate.result ≡ get_or fates c.loop-event.next Old = grind (arith, common_steps) in
@@ -45,14 +45,14 @@ loop-event-preserved c =
           record {
             view = view_is ∙ ap (λ v. view_step v (Write here)) inv.view ∙ sym (ap (λ s. s.view) full);
             left = left_is ∙ ap (λ n. fate_step (get_or fates n Old) c.loop-event.left.items here.at here.bytes.items) inv.next
-                ∙ ap (λ b. fate_step (get_or fates (stopped fates start (take i events)).next Old) b here.at here.bytes.items) inv.left ∙ sym (ap (λ s. s.left) full);
+                ∙ ap (λ b. fate_step (get_or fates (stop_from fates start (take i events)).next Old) b here.at here.bytes.items) inv.left ∙ sym (ap (λ s. s.left) full);
             next = w.next-is ∙ ap (λ n. n + 1) inv.next ∙ sym (ap (λ s. s.next) full);
             few = omega (arith, w.next-is, inv.few);
             long_view = ap (λ (v : Vec ℕ Global). length v.items) w.view-is ∙ w.lay.ensures.len ∙ inv.long_view;
             long_left = ap (λ (v : Vec ℕ Global). length v.items) w.left-is ∙ w.leave.ensures.len ∙ inv.long_left;
           }
       | in-Write+else-written w ↦
-          let full = step ∙ ap (λ e. stop_step fates (stopped fates start (take i events)) e) w.in-Write.is in
+          let full = step ∙ ap (λ e. stop_step fates (stop_from fates start (take i events)) e) w.in-Write.is in
           let here = w.in-Write.written in
           let view_is : c.match-event.view.items ≡ view_step c.loop-event.view.items (Write here) = grind (arith, common_steps) in
           let fate : w.unwrap_or-fate.result ≡ get_or fates c.loop-event.next Old = grind (arith, common_steps) in
@@ -60,7 +60,7 @@ loop-event-preserved c =
           record {
             view = view_is ∙ ap (λ v. view_step v (Write here)) inv.view ∙ sym (ap (λ s. s.view) full);
             left = left_is ∙ ap (λ n. fate_step (get_or fates n Old) c.loop-event.left.items here.at here.bytes.items) inv.next
-                ∙ ap (λ b. fate_step (get_or fates (stopped fates start (take i events)).next Old) b here.at here.bytes.items) inv.left ∙ sym (ap (λ s. s.left) full);
+                ∙ ap (λ b. fate_step (get_or fates (stop_from fates start (take i events)).next Old) b here.at here.bytes.items) inv.left ∙ sym (ap (λ s. s.left) full);
             next = w.next-is ∙ ap (λ n. n + 1) inv.next ∙ sym (ap (λ s. s.next) full);
             few = omega (arith, w.next-is, inv.few);
             long_view = ap (λ (v : Vec ℕ Global). length v.items) w.view-is ∙ inv.long_view;
@@ -74,9 +74,9 @@ returns-clause-image c =
     let events = c.deref-event-items.result.now in
     let same : events ≡ d.events.items = search rules in
     let whole : take c.loop-event.event-index events ≡ d.events.items = take_all _ _ c.loop-event-test.false ∙ same in
-    let image : Agrees (pending_of d.events.items) (view_of d.start.items d.events.items) (stopped c.args.fates.now d.start.items d.events.items).left =
+    let image : AgreesOutside (pending_of d.events.items) (view_of d.start.items d.events.items) (stop_from c.args.fates.now d.start.items d.events.items).left =
     stop_agrees c.args.fates.now (length d.start.items) d.events.items [] d.start.items d.start.items 0 refl (agrees_self [] d.start.items) d.fits in
-    let left_is : c.loop-event.left.items ≡ (stopped c.args.fates.now d.start.items d.events.items).left =
-    c.loop-event.invariant.left ∙ ap (λ (l : List Event). (stopped c.args.fates.now d.start.items l).left) whole in
-    IfOk-weaker c.new.result _ _ (λ disk is. subst (λ v. Agrees (pending_of d.events.items) v disk.bytes.items) (sym d.replays)
-    (subst (λ b. Agrees (pending_of d.events.items) (view_of d.start.items d.events.items) b) (sym (is ∙ left_is)) image)) c.new.ensures.view
+    let left_is : c.loop-event.left.items ≡ (stop_from c.args.fates.now d.start.items d.events.items).left =
+    c.loop-event.invariant.left ∙ ap (λ (l : List Event). (stop_from c.args.fates.now d.start.items l).left) whole in
+    IfOk-weaker c.new.result _ _ (λ disk is. subst (λ v. AgreesOutside (pending_of d.events.items) v disk.bytes.items) (sym d.replays)
+    (subst (λ b. AgreesOutside (pending_of d.events.items) (view_of d.start.items d.events.items) b) (sym (is.view ∙ left_is)) image)) c.new.ensures.value
