@@ -6,7 +6,8 @@
 ghost use Rattle.std.specs.Prelude.{◌≡◌, ◌≤◌, ◌+◌, ◌<◌, ◌^◌, ◌⊎◌, ◌↔◌, [], ◌∷◌, Some, None, true, length};
 ghost use Rattle.std.specs.Prelude.{IfOk, IfErr, OnOk, OnErr, IsOk, IsErr, IsTrue};
 ghost use Rattle.std.specs.List.{list_all};
-ghost use Rattle.gptman_copy.specs.Disk.{next_bytes, next_range, overlay, HasNext, Image, IsFresh, IsHonest, IsLaid};
+ghost use Rattle.gptman_copy.specs.Disk.{next_bytes, next_range, overlay, HasNext, Image, IsFresh, IsHonest};
+ghost use Rattle.gptman_copy.specs.Disk.{IsLaid};
 ghost use Rattle.gptman_copy.specs.Disk.{Keeps, MayBeLaid, Moves, PassesEnd, Reads, Rose, StandsAt, Writes};
 ghost use Rattle.gptman_copy.specs.Memory.{after_call, event_fits, memory_sound, memory_state, serves};
 ghost use Rattle.gptman_copy.specs.Memory.{view_of};
