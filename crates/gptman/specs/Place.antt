@@ -1,6 +1,6 @@
 -- Free sectors, runs of them, aligned slots, and the places that they offer.
 use Prim.Native.Nat.{◌∣◌}
-use Rattle.std.specs.Prelude.{◌≡◌, ℕ, ◌+◌, ◌-◌, ◌%◌, ◌<◌, ◌≤◌, IsTrue, List, All, AllPairs, Contains}
+use Rattle.std.specs.Prelude.{◌≡◌, ℕ, ◌+◌, ◌-◌, ◌%◌, ◌^◌, max, Option, IfSome, MatchOption, ◌<◌, ◌≤◌, IsTrue, List, All, AllPairs, Contains}
 use Rattle.gptman_copy.specs.Entry.{covers}
 use Rattle.gptman.specs.Table.{entries_in}
 use Rattle.gptman_copy.specs.declared.codec.header.GPTHeader.{GPTHeader}
@@ -88,3 +88,11 @@ pub record IsMaximumSize (free : ℕ → Type 0) (align m : ℕ) : Type 0 where
   pub slot : IsAlignedSlot free align start long
   pub is : m ≡ long - long % align
   pub greatest : (t k : ℕ) → IsAlignedSlot free align t k → k - k % align ≤ m
+
+-- a search for so many sectors, at least one, finds such a place in the value, or there is none
+abbrev pub FindsPlace : ((ℕ → Type 0) → ℕ → ℕ → ℕ → Type 0) → GPT → ℕ → Option ℕ → Type 0
+FindsPlace IsSuch g size found = MatchOption found (HasNoPlace (IsFreeIn g) g.align (max 1 size)) (IsSuch (IsFreeIn g) g.align (max 1 size))
+
+-- the number of the last of so many sectors fits in 64 bits
+abbrev pub EndsIn64Bits : ℕ → Option ℕ → Type 0
+EndsIn64Bits size found = IfSome found (λ s. s + max 1 size ≤ 2 ^ 64)

@@ -6,11 +6,11 @@
 //! its end; a run with no such multiple has none. Entries may overlap, lie outside of the bounds or end
 //! before they start, and the bounds may stand in any order.
 
-ghost use Rattle.std.specs.Prelude.{◌≡◌, ◌⊎◌, ◌<◌, ◌≤◌, ◌+◌, ◌^◌, max, All, IfOk, IfErr, IfSome, MatchOption};
+ghost use Rattle.std.specs.Prelude.{◌≡◌, ◌⊎◌, ◌<◌, ◌≤◌, ◌+◌, ◌^◌, All, IfErr, IfOk};
 ghost use Rattle.gptman_copy.specs.Answers.{Refuses};
 ghost use Rattle.gptman_copy.specs.Fault.{fault_of, no_space_left, out_of_memory};
-ghost use Rattle.gptman.specs.Place.{AreSlots, HasNoPlace, HasNoSlot, IsBestPlace, IsFirstPlace, IsFreeIn};
-ghost use Rattle.gptman.specs.Place.{IsLastPlace, IsMaximumSize};
+ghost use Rattle.gptman.specs.Place.{AreSlots, EndsIn64Bits, FindsPlace, HasNoSlot, IsBestPlace, IsFirstPlace};
+ghost use Rattle.gptman.specs.Place.{IsFreeIn, IsLastPlace, IsMaximumSize};
 
 use crate::place::choose::{first_slot, greatest_size, last_slot, shortest_slot};
 use crate::place::sweep::sweep;
@@ -31,9 +31,9 @@ impl GPT {
     /// `OutOfMemory` where there is no memory to find them.
     pub fn find_free_sectors(&self) -> Result<Vec<(u64, u64)>>
         requires { 0 < self.now.align }
-        ensures slots { IfOk result (λ v. AreSlots (IsFreeIn self.now) self.now.align v.items) }
-        ensures fits { IfOk result (λ v. All (λ s. s.0 + s.1 ≤ 2 ^ 64) v.items) }
         ensures refused { IfErr result (λ e. fault_of e ≡ out_of_memory) }
+        ensures value { IfOk result (λ v. AreSlots (IsFreeIn self.now) self.now.align v.items) }
+        ensures fits { IfOk result (λ v. All (λ s. s.0 + s.1 ≤ 2 ^ 64) v.items) }
     {
         let alloc = self.partitions.alloc();
         let ranges = sorted_ranges(alloc, self.partitions.as_slice())?;
@@ -51,10 +51,9 @@ impl GPT {
     /// `OutOfMemory` where there is no memory to find it.
     pub fn find_first_place(&self, size: u64) -> Result<Option<u64>>
         requires { 0 < self.now.align }
-        ensures place { let free = IsFreeIn self.now in let align = self.now.align in let n = max 1 size in
-            IfOk result (λ place. MatchOption place (HasNoPlace free align n) (IsFirstPlace free align n)) }
-        ensures fits { IfOk result (λ place. IfSome place (λ s. s + max 1 size ≤ 2 ^ 64)) }
         ensures refused { IfErr result (λ e. fault_of e ≡ out_of_memory) }
+        ensures value { IfOk result (FindsPlace IsFirstPlace self.now size) }
+        ensures fits { IfOk result (EndsIn64Bits size) }
     {
         let size = size.max(1);
         let slots = self.find_free_sectors()?;
@@ -71,10 +70,9 @@ impl GPT {
     /// `OutOfMemory` where there is no memory to find it.
     pub fn find_last_place(&self, size: u64) -> Result<Option<u64>>
         requires { 0 < self.now.align }
-        ensures place { let free = IsFreeIn self.now in let align = self.now.align in let n = max 1 size in
-            IfOk result (λ place. MatchOption place (HasNoPlace free align n) (IsLastPlace free align n)) }
-        ensures fits { IfOk result (λ place. IfSome place (λ s. s + max 1 size ≤ 2 ^ 64)) }
         ensures refused { IfErr result (λ e. fault_of e ≡ out_of_memory) }
+        ensures value { IfOk result (FindsPlace IsLastPlace self.now size) }
+        ensures fits { IfOk result (EndsIn64Bits size) }
     {
         let size = size.max(1);
         let align = self.align;
@@ -92,10 +90,9 @@ impl GPT {
     /// `OutOfMemory` where there is no memory to find it.
     pub fn find_optimal_place(&self, size: u64) -> Result<Option<u64>>
         requires { 0 < self.now.align }
-        ensures place { let free = IsFreeIn self.now in let align = self.now.align in let n = max 1 size in
-            IfOk result (λ place. MatchOption place (HasNoPlace free align n) (IsBestPlace free align n)) }
-        ensures fits { IfOk result (λ place. IfSome place (λ s. s + max 1 size ≤ 2 ^ 64)) }
         ensures refused { IfErr result (λ e. fault_of e ≡ out_of_memory) }
+        ensures value { IfOk result (FindsPlace IsBestPlace self.now size) }
+        ensures fits { IfOk result (EndsIn64Bits size) }
     {
         let size = size.max(1);
         let slots = self.find_free_sectors()?;
@@ -112,9 +109,9 @@ impl GPT {
     /// memory to tell, comes in its stead.
     pub fn get_maximum_partition_size(&self) -> Result<u64>
         requires { 0 < self.now.align }
-        ensures maximum { IfOk result (IsMaximumSize (IsFreeIn self.now) self.now.align) }
-        ensures full { Refuses result no_space_left → HasNoSlot (IsFreeIn self.now) self.now.align }
         ensures refused { IfErr result (λ e. (fault_of e ≡ no_space_left) ⊎ (fault_of e ≡ out_of_memory)) }
+        ensures full { Refuses result no_space_left → HasNoSlot (IsFreeIn self.now) self.now.align }
+        ensures value { IfOk result (IsMaximumSize (IsFreeIn self.now) self.now.align) }
     {
         let slots = self.find_free_sectors()?;
         match greatest_size(&slots, self.align) {

@@ -1,7 +1,6 @@
 //! Changes of a table in memory.
 
-ghost use Rattle.std.specs.Prelude.{◌≡◌, ◌⊎◌, ◌<◌, ◌≤◌, ◌+◌, ◌^◌, max, false, None, Some};
-ghost use Rattle.std.specs.Prelude.{IfErr, IfOk, IfSome, IsTrue, MatchOption, OnOk};
+ghost use Rattle.std.specs.Prelude.{◌≡◌, ◌⊎◌, ◌<◌, false, None, Some, IfErr, IfOk, IsTrue, OnOk};
 ghost use Rattle.gptman.specs.Answers.{HasCause};
 ghost use Rattle.gptman.specs.Coding.{empty_entry};
 ghost use Rattle.gptman.specs.Copy.{IsCoherent};
@@ -10,7 +9,7 @@ ghost use Rattle.gptman.specs.Entry.{is_unused};
 ghost use Rattle.gptman.specs.Fault.{fault_of, invalid_partition_number, out_of_memory};
 ghost use Rattle.gptman.specs.Number.{entry_at, number_fault, with_entries, with_entry, IsNumber};
 ghost use Rattle.gptman.specs.Order.{by_rank, rank};
-ghost use Rattle.gptman.specs.Place.{HasNoPlace, IsFreeIn};
+ghost use Rattle.gptman.specs.Place.{EndsIn64Bits, FindsPlace};
 ghost use Rattle.gptman.specs.Table.{entries_in};
 ghost use Rattle.gptimg_core.specs.Changes.{report_of, IsAdded, IsChanged, IsChosenPlace};
 ghost use Rattle.gptimg_core.specs.Refusals.{RefusesAddition, RefusesMaking};
@@ -148,11 +147,9 @@ fn has_unused(table: &GPT, number: u32) -> bool
 // The place that is chosen for so many sectors.
 fn find_place(table: &GPT, choice: Choice, size: u64) -> Result<Option<u64>>
     requires aligned { 0 < table.now.align }
-    ensures place { let free = IsFreeIn table.now in let align = table.now.align in let n = max 1 size in
-        IfOk result (λ place. MatchOption place (HasNoPlace free align n)
-        (IsChosenPlace choice free align n)) }
-    ensures fits { IfOk result (λ place. IfSome place (λ s. s + max 1 size ≤ 2 ^ 64)) }
     ensures refused { IfErr result (λ e. fault_of e ≡ out_of_memory) }
+    ensures value { IfOk result (FindsPlace (IsChosenPlace choice) table.now size) }
+    ensures fits { IfOk result (EndsIn64Bits size) }
 {
     match choice {
         Choice::First => table.find_first_place(size),

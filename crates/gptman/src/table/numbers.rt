@@ -67,7 +67,7 @@ impl GPT {
     /// the list; nothing changes then.
     pub(crate) fn put(&mut self, i: u32, entry: GPTPartitionEntry) -> Result<()>
         ensures answer { refusal_of result ≡ number_fault self.old i }
-        ensures changed { OnOk result (self.new ≡ with_entry self.old i entry) }
+        ensures value { OnOk result (self.new ≡ with_entry self.old i entry) }
         ensures kept { OnErr result (self.new ≡ self.old) }
     {
         if !self.has_number(i) {
@@ -83,7 +83,7 @@ impl GPT {
     /// the list; nothing changes then.
     pub fn remove(&mut self, i: u32) -> Result<()>
         ensures answer { refusal_of result ≡ number_fault self.old i }
-        ensures changed { OnOk result (self.new ≡ with_entry self.old i empty_entry) }
+        ensures value { OnOk result (self.new ≡ with_entry self.old i empty_entry) }
         ensures kept { OnErr result (self.new ≡ self.old) }
     {
         let empty = self.partitions.empty_entry();
@@ -96,7 +96,7 @@ impl GPT {
     /// number is above the header's count; nothing changes then.
     pub fn remove_at_sector(&mut self, sector: u64) -> Result<()>
         ensures answer { refusal_of result ≡ sector_fault self.old (number_at sector (entries_in self.old)) }
-        ensures changed { OnOk result (self.new ≡ without self.old (number_at sector (entries_in self.old))) }
+        ensures value { OnOk result (self.new ≡ without self.old (number_at sector (entries_in self.old))) }
         ensures kept { OnErr result (self.new ≡ self.old) }
     {
         match self.find_at_sector(sector) {

@@ -19,9 +19,9 @@ impl GPT {
     /// `OutOfMemory` where there is no memory to sort them; nothing changes then.
     #[tactic(auto, using(crate::proofs::WrittenOver::written_over_same))]
     pub fn sort(&mut self) -> Result<()>
-        ensures sorted { OnOk result (self.new ≡ with_entries self.old (by_rank rank (entries_in self.old))) }
-        ensures kept { OnErr result (self.new ≡ self.old) }
         ensures refused { IfErr result (λ e. fault_of e ≡ out_of_memory) }
+        ensures value { OnOk result (self.new ≡ with_entries self.old (by_rank rank (entries_in self.old))) }
+        ensures kept { OnErr result (self.new ≡ self.old) }
     {
         let alloc = self.partitions.alloc();
         let entries = self.entries_mut();
@@ -35,7 +35,7 @@ fn sort_list(
     alloc: Global,
     entries: &mut [GPTPartitionEntry],
 ) -> std::result::Result<(), AllocError>
-    ensures sorted { OnOk result (entries.new ≡ by_rank rank entries.old) }
+    ensures value { OnOk result (entries.new ≡ by_rank rank entries.old) }
     ensures kept { OnErr result (entries.new ≡ entries.old) }
 {
     sort_stably(alloc, entries)

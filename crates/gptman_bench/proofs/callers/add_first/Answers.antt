@@ -10,6 +10,6 @@ returns-clause-valid c = λ valid own_guid.
     let n : ℕ = max 1 c.max-size.result in
     let s : ℕ = c.in-Some.start in
     let e : GPTPartitionEntry = record c.args.entry { starting_lba = s; ending_lba = s + (c.max-size.result - 1) } in
-    let first = MatchOption-at_some (HasNoPlace (IsFreeIn table) table.align n) (λ s. IsFirstPlace (IsFreeIn table) table.align n s) s c.in-Some.is c.in_ok-start.ensures.place in
+    let first = MatchOption-at_some (HasNoPlace (IsFreeIn table) table.align n) (λ s. IsFirstPlace (IsFreeIn table) table.align n s) s c.in-Some.is c.in_ok-start.ensures.value in
     c.placement_keeps_valid.ensures table table.align n s c.args.number e valid (omega arith) first.place c.requires.number
     (record { start = refl; end = omega arith; fresh = own_guid })

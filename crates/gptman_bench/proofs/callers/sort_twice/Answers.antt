@@ -10,5 +10,5 @@ use Rattle.gptman_bench.proofs.callers.sort_twice.Goals as goal
 pub returns : goal.returns
 returns c =
     on_ok_weaker c.sort-2.result
-    (λ twice. twice ∙ ap (λ (g : GPT). with_entries g (by_rank rank (entries_in g))) c.in_ok-sort.ensures.sorted ∙ ap (with_entries c.args.table.now) (by_rank_twice rank (entries_in c.args.table.now)))
-    c.sort-2.ensures.sorted
+    (λ twice. twice ∙ ap (λ (g : GPT). with_entries g (by_rank rank (entries_in g))) c.in_ok-sort.ensures.value ∙ ap (with_entries c.args.table.now) (by_rank_twice rank (entries_in c.args.table.now)))
+    c.sort-2.ensures.value

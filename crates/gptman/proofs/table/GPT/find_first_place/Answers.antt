@@ -3,17 +3,17 @@ use Rattle.gptman.specs.Chosen.{IsNoLater}
 use Rattle.gptman.proofs.Offers.{asked, first_offered, none_offered, start_fits}
 use Rattle.gptman.proofs.table.GPT.find_first_place.Goals as goal
 
-pub returns-in-Some-clause-place : goal.returns-in-Some-clause-place
-returns-in-Some-clause-place c =
+pub returns-in-Some-clause-value : goal.returns-in-Some-clause-value
+returns-in-Some-clause-value c =
     first_offered c.args.self.now c.args.size c.max-size.result c.deref.result.now _
-    (asked _ _ _ _ _ c.requires (omega arith) c.deref.ensures.value c.in_ok-slots.ensures.slots c.in_ok-slots.ensures.fits) c.in-Some.ensures
+    (asked _ _ _ _ _ c.requires (omega arith) c.deref.ensures.value c.in_ok-slots.ensures.value c.in_ok-slots.ensures.fits) c.in-Some.ensures
 
 pub returns-in-Some-clause-fits : goal.returns-in-Some-clause-fits
 returns-in-Some-clause-fits c =
     start_fits IsNoLater c.args.self.now c.args.size c.max-size.result c.deref.result.now _
-    (asked _ _ _ _ _ c.requires (omega arith) c.deref.ensures.value c.in_ok-slots.ensures.slots c.in_ok-slots.ensures.fits) c.in-Some.ensures
+    (asked _ _ _ _ _ c.requires (omega arith) c.deref.ensures.value c.in_ok-slots.ensures.value c.in_ok-slots.ensures.fits) c.in-Some.ensures
 
-pub returns-clause-place : goal.returns-clause-place
-returns-clause-place c =
+pub returns-clause-value : goal.returns-clause-value
+returns-clause-value c =
     none_offered c.args.self.now c.args.size c.max-size.result c.deref.result.now
-    (asked _ _ _ _ _ c.requires (omega arith) c.deref.ensures.value c.in_ok-slots.ensures.slots c.in_ok-slots.ensures.fits) c.in-None.ensures
+    (asked _ _ _ _ _ c.requires (omega arith) c.deref.ensures.value c.in_ok-slots.ensures.value c.in_ok-slots.ensures.fits) c.in-None.ensures

@@ -18,6 +18,6 @@ moved es list rs ranges same here p =
 pub sweep-requires-clause-ordered : goal.sweep-requires-clause-ordered
 sweep-requires-clause-ordered c = ordered_ranges (entries_in c.args.self.now) c.deref.result.now (moved _ _ _ _ c.as_slice.ensures.items c.deref.ensures.value c.in_ok-ranges.ensures.whole)
 
-pub returns-clause-slots : goal.returns-clause-slots
-returns-clause-slots c = slots_of_entries c.args.self.now.header (entries_in c.args.self.now) c.deref.result.now
+pub returns-clause-value : goal.returns-clause-value
+returns-clause-value c = slots_of_entries c.args.self.now.header (entries_in c.args.self.now) c.deref.result.now
     (moved _ _ _ _ c.as_slice.ensures.items c.deref.ensures.value c.in_ok-ranges.ensures.whole) c.args.self.now.align _ c.in_ok-slots.ensures.slots

@@ -1,5 +1,5 @@
 use Rattle.std.proofs.Common.{rules}
 use Rattle.gptman.proofs.table.GPT.remove.Goals as goal
 
-pub returns-clause-changed : goal.returns-clause-changed
-returns-clause-changed c = search rules
+pub returns-clause-value : goal.returns-clause-value
+returns-clause-value c = search rules

@@ -2,5 +2,5 @@ use Rattle.std.proofs.Common.{arith}
 use Rattle.std.proofs.lemmas.Grind.{common_steps}
 use Rattle.gptman.proofs.table.GPT.sort.Goals as goal
 
-pub returns-clause-sorted : goal.returns-clause-sorted
-returns-clause-sorted c = grind (arith, common_steps)
+pub returns-clause-value : goal.returns-clause-value
+returns-clause-value c = grind (arith, common_steps)
