@@ -7,7 +7,7 @@ use Rattle.std.proofs.lemmas.Bool.Decides.{eqb_tells}
 use Rattle.gptman_copy.specs.Bytes.{part}
 use Rattle.gptman_copy.specs.Coding.{FitsHeader, FitsEntry, header_bytes, array_bytes}
 use Rattle.gptman_copy.specs.Disk.{overlay}
-use Rattle.gptman_copy.specs.Ranges.{AreApart, AreInside}
+use Rattle.gptman_copy.specs.Ranges.{ranges_from, AreApart, AreInside}
 use Rattle.gptman_copy.specs.Write.{array_range, write_ranges, is_inside, IsCopyLaid, HasBytes}
 use Rattle.gptman_copy.specs.declared.codec.header.GPTHeader.{GPTHeader}
 use Rattle.gptman_copy.specs.declared.codec.entry.GPTPartitionEntry.{GPTPartitionEntry}
@@ -18,7 +18,7 @@ use Rattle.gptman_copy.proofs.Ranges.{Ranges}
 
 -- the two ranges of a copy, its header and its entries, also where there are no entries
 abbrev pub copy_ranges : GPTHeader → ℕ → Ranges
-copy_ranges h ss = (h.primary_lba * ss, 92) ∷ (h.partition_entry_lba * ss, 128 * h.number_of_partition_entries) ∷ []
+copy_ranges h ss = ranges_from (h.primary_lba * ss) (h.partition_entry_lba * ss) h.number_of_partition_entries
 
 -- Both copies stand there, and the list is as long as it was.
 pub record BothStand (old new : List ℕ) (g h : GPTHeader) (es : List GPTPartitionEntry) (ss : ℕ) : Type 0 where

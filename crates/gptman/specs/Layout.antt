@@ -6,7 +6,7 @@ use Rattle.gptman.specs.Table.{Table, entries_in, table_of, IsForm, IsHeaderForm
 use Rattle.gptman_copy.specs.declared.codec.entry.GPTPartitionEntry.{GPTPartitionEntry}
 use Rattle.gptman_copy.specs.declared.codec.header.GPTHeader.{GPTHeader}
 use Rattle.gptman.specs.declared.table.GPT.{GPT}
-use Rattle.gptman_copy.specs.Ranges.{AreApart, AreInside}
+use Rattle.gptman_copy.specs.Ranges.{ranges_from, AreApart, AreInside}
 
 -- where the entries of a table in the form of a side begin
 abbrev pub array_start : Side → Table → ℕ → ℕ
@@ -15,7 +15,7 @@ array_start backup t ss = (t.last_usable_lba + 1) * ss
 
 -- The two ranges of a table at a side of a disk of len bytes, each a start and a length: its header, its entries.
 abbrev pub ranges_at : Side → Table → ℕ → ℕ → List (ℕ × ℕ)
-ranges_at side t ss len = (copy_start side len ss, 92) ∷ (array_start side t ss, 128 * t.count) ∷ []
+ranges_at side t ss len = ranges_from (copy_start side len ss) (array_start side t ss) t.count
 
 -- all four
 abbrev pub four_ranges : Table → ℕ → ℕ → List (ℕ × ℕ)
