@@ -4,7 +4,7 @@ use Rattle.gptman_copy.specs.Bytes.{part}
 use Rattle.gptman_copy.specs.Copy.{array_result, entries_start, entries_length}
 use Rattle.gptman_copy.specs.Disk.{DiskState, Rose, Keeps}
 use Rattle.gptman_copy.specs.Fault.{Fault, io, out_of_memory}
-use Rattle.gptman_copy.specs.Reads.{IsBlockFault, IsSeekFault, wrong_size, wrong_place, past_end, disk_failed, IsReadyFor, empty, there}
+use Rattle.gptman_copy.specs.Reads.{IsBlockFault, IsSeekFault, wrong_size, too_far, past_end, disk_failed, IsReadyFor, empty, there}
 use Rattle.gptman_copy.specs.declared.codec.header.GPTHeader.{GPTHeader}
 use Rattle.gptman_copy.proofs.Runs.{rose_since}
 use Rattle.gptman_copy.proofs.CopyTests.{IsInPlace, array_size_wrong, array_beyond, array_short}
@@ -15,8 +15,8 @@ IsOutcome b ss h fault old new = ((fault ≡ io) × Rose old new) ⊎ ((fault �
 
 -- going to the entries was refused
 pub seek_refused : (b : List ℕ) (ss : ℕ) (h : GPTHeader) (fault : Fault) (old new : DiskState) → length b ≡ old.size → IsSeekFault h ss fault old new → IsOutcome b ss h fault old new
-seek_refused b ss h fault old new size (wrong_size some wrong is) = inr (inr (ap Err is ∙ sym (array_size_wrong b ss h some wrong)))
-seek_refused b ss h fault old new size (wrong_place some right beyond is) = inr (inr (ap Err is ∙ sym (array_beyond b ss h some right beyond)))
+seek_refused b ss h fault old new size (wrong_size are is) = inr (inr (ap Err is ∙ sym (array_size_wrong b ss h are.some are.wrong)))
+seek_refused b ss h fault old new size (too_far they is) = inr (inr (ap Err is ∙ sym (array_beyond b ss h they.some they.entry_size they.far)))
 seek_refused b ss h fault old new size (past_end is they) =
     inr (inr (ap Err is ∙ sym (array_short b ss h they.some they.entry_size they.fits (omega (arith, size, they.past)))))
 seek_refused b ss h fault old new size (disk_failed is rose) = inl (is, rose)

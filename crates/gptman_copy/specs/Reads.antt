@@ -9,6 +9,17 @@ use Rattle.gptman_copy.specs.declared.codec.header.GPTHeader.{GPTHeader}
 abbrev pub IsBlockFault : ℕ → Fault → DiskState → DiskState → Type 0
 IsBlockFault len fault old new = (fault ≡ out_of_memory) ⊎ ((fault ≡ io) × (Rose old new ⊎ PassesEnd old len))
 
+-- A header has entries, and counts another size than 128 for them.
+pub record HasWrongSize (h : GPTHeader) : Type 0 where
+  pub some : h.number_of_partition_entries ≢ 0
+  pub wrong : h.size_of_partition_entry ≢ 128
+
+-- A header's entries, of the right size, begin at a byte whose number does not fit in 64 bits.
+pub record BeginsTooFar (h : GPTHeader) (ss : ℕ) : Type 0 where
+  pub some : h.number_of_partition_entries ≢ 0
+  pub entry_size : h.size_of_partition_entry ≡ 128
+  pub far : 2 ^ 64 ≤ entries_start h ss
+
 -- A header's entries, of the right size and at a place that fits in 64 bits, pass the end of a disk of so many bytes.
 pub record PassTheEnd (h : GPTHeader) (ss size : ℕ) : Type 0 where
   pub some : h.number_of_partition_entries ≢ 0
@@ -26,8 +37,8 @@ HasEntrySize h = (h.number_of_partition_entries ≡ 0) ⊎ (h.size_of_partition_
 
 -- what going to the entries may be refused with: their size or their place is wrong, they pass the end of the disk, or it failed
 pub data IsSeekFault (h : GPTHeader) (ss : ℕ) (fault : Fault) (old new : DiskState) : Type 0 where
-  wrong_size : h.number_of_partition_entries ≢ 0 → h.size_of_partition_entry ≢ 128 → fault ≡ invalid_entry_size h.size_of_partition_entry → IsSeekFault h ss fault old new
-  wrong_place : h.number_of_partition_entries ≢ 0 → h.size_of_partition_entry ≡ 128 → 2 ^ 64 ≤ entries_start h ss → fault ≡ overflow → IsSeekFault h ss fault old new
+  wrong_size : HasWrongSize h → fault ≡ invalid_entry_size h.size_of_partition_entry → IsSeekFault h ss fault old new
+  too_far : BeginsTooFar h ss → fault ≡ overflow → IsSeekFault h ss fault old new
   past_end : fault ≡ io → PassTheEnd h ss old.size → IsSeekFault h ss fault old new
   disk_failed : fault ≡ io → Rose old new → IsSeekFault h ss fault old new
 

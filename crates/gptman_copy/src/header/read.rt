@@ -12,8 +12,10 @@ ghost use Rattle.gptman_copy.specs.Copy.{array_result, entries_of, entry_result,
 ghost use Rattle.gptman_copy.specs.Copy.{value_tests};
 ghost use Rattle.gptman_copy.specs.Crc.{crc_of};
 ghost use Rattle.gptman_copy.specs.Disk.{next_bytes, HasNext, IsHonest, Moves, Reads, Rose};
-ghost use Rattle.gptman_copy.specs.Fault.{fault_of, first_failing, io as io_fault, out_of_memory};
-ghost use Rattle.gptman_copy.specs.Reads.{HasEntrySize, HasTooMany, IsBlockFault, IsReadyFor, IsSeekFault};
+ghost use Rattle.gptman_copy.specs.Fault.{fault_of, first_failing, io as io_fault};
+ghost use Rattle.gptman_copy.specs.Fault.{invalid_entry_size, out_of_memory, overflow};
+ghost use Rattle.gptman_copy.specs.Reads.{BeginsTooFar, HasEntrySize, HasTooMany, HasWrongSize, IsBlockFault};
+ghost use Rattle.gptman_copy.specs.Reads.{IsReadyFor, IsSeekFault};
 ghost use Rattle.gptman_copy.specs.Reads.{PassTheEnd};
 ghost use Rattle.gptman_copy.specs.Register.{HasTaken};
 
@@ -86,6 +88,9 @@ impl GPTHeader {
     ) -> Result<Vec<GPTPartitionEntry>>
         requires { 0 < sector_size }
         ensures reads { Reads (D.state disk.old) (D.state disk.new) }
+        ensures wrong_size { HasWrongSize self.now
+            → Refuses result (invalid_entry_size self.now.size_of_partition_entry) }
+        ensures too_far { BeginsTooFar self.now sector_size → Refuses result overflow }
         ensures past_end { PassTheEnd self.now sector_size (D.state disk.old).size → Refuses result io_fault }
         ensures answer { AnswersInMemory (λ v. v.items)
             (array_result (D.state disk.old).view sector_size self.now)
@@ -110,6 +115,9 @@ impl GPTHeader {
     // Goes to the first byte of the entries, where there are some and the disk has them all.
     fn seek_entries<D: Disk>(&self, disk: &mut D, sector_size: u64) -> Result<()>
         ensures reads { Reads (D.state disk.old) (D.state disk.new) }
+        ensures wrong_size { HasWrongSize self.now
+            → Refuses result (invalid_entry_size self.now.size_of_partition_entry) }
+        ensures too_far { BeginsTooFar self.now sector_size → Refuses result overflow }
         ensures past_end { PassTheEnd self.now sector_size (D.state disk.old).size → Refuses result io_fault }
         ensures refused { IfErr result (λ e. IsSeekFault self.now sector_size (fault_of e)
             (D.state disk.old) (D.state disk.new)) }

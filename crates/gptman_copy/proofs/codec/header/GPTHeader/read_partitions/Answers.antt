@@ -6,6 +6,7 @@ use Rattle.gptman_copy.specs.Crc.{crc_of}
 use Rattle.gptman_copy.specs.Fault.{invalid_array_checksum}
 use Rattle.gptman_copy.proofs.ArrayOutcomes.{seek_refused, block_refused, in_place, array_read}
 use Rattle.gptman_copy.proofs.CopyTests.{array_changed, array_good}
+use Rattle.gptman_copy.proofs.Readers.{both_read}
 use Rattle.gptman_copy.proofs.codec.header.GPTHeader.read_partitions.Goals as goal
 
 pub returns-in_err-seek_entries-clause-answer : goal.returns-in_err-seek_entries-clause-answer
@@ -22,6 +23,9 @@ returns-in_err-array-clause-answer g c = λ honest.
     let p = err_from_is_err_and c.from_residual-in_err-array.result c.from_residual-in_err-array.ensures.1 in
     rw (p.1, p.2) (block_refused old.view c.args.sector_size c.args.self.now _ old mid (g.D.Disk.state c.read_array.new.disk) c.in_ok-seek_entries.ensures.ready size c.seek_entries.ensures.reads.keeps
     c.in_err-array.ensures.some c.in_err-array.ensures.refused)
+
+pub returns-then-self-array-clause-reads : goal.returns-then-self-array-clause-reads
+returns-then-self-array-clause-reads g c = both_read c.seek_entries.ensures.reads c.read_array.ensures.reads
 
 pub returns-then-self-array-clause-answer : goal.returns-then-self-array-clause-answer
 returns-then-self-array-clause-answer g c = λ honest.
