@@ -3,8 +3,6 @@ use Rattle.std.proofs.Common.{◌≡◌, ◌⊎◌, inl, inr, refl, sym, ap, ◌
 use Rattle.std.specs.Prelude.{Option, Some, None, Result, Ok, Err, IfErr}
 use Rattle.gptman.specs.Answers.{answer_of, IsFailure, Refuses, Settles}
 use Rattle.gptman.specs.TableReads.{copy_of, IsReadingFault}
-use Rattle.gptman.specs.TableWrites.{table_write_fault, RefusesWrite}
-use Rattle.gptman.specs.TableWrites.RefusesWrite.{no_memory as no_memory_to_check, not_valid, no_room, disk_failed as failed_in_writing}
 use Rattle.gptman.specs.Disk.{DiskState, Keeps, Rose}
 use Rattle.gptman.specs.Fault.{Fault, fault_of, invalid_signature, out_of_memory}
 use Rattle.gptman.specs.Fit.{fit_fault}
@@ -56,11 +54,3 @@ pub settled_refused : {T : Type 0} (fault : Option Fault) (r : Result T Error) (
 settled_refused fault (Ok x) old new settles = tt
 settled_refused fault (Err e) old new (inl is) = inl (sym is)
 settled_refused fault (Err e) old new (inr failed) = inr failed
-
--- a write on a disk that keeps its length
-pub write_since : (g : GPT) (fault : Fault) (old mid new : DiskState) → Keeps old mid → RefusesWrite g fault mid new → RefusesWrite g fault old new
-write_since g fault old mid new keeps (no_memory_to_check memory) = no_memory_to_check memory
-write_since g fault old mid new keeps (not_valid validity) = not_valid validity
-write_since g fault old mid new keeps (no_room valid full) = no_room valid (ap (table_write_fault g) (sym keeps.size) ∙ full)
-write_since g fault old mid new keeps (failed_in_writing valid near failed) =
-    failed_in_writing valid (λ far. near (ap (table_write_fault g) keeps.size ∙ far)) (failed_since fault old mid new keeps failed)

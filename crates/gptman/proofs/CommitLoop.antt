@@ -5,12 +5,10 @@ use Rattle.std.proofs.lemmas.Bool.{cases_lt}
 use Rattle.std.proofs.lemmas.List.{append-nil, take-append-le, take_all}
 use Rattle.std.proofs.lemmas.List.FromFn.{length-map-range_with_len, get_or-map-range_with_len}
 use Rattle.std.proofs.lemmas.List.Sums.{fold-append}
-use Rattle.gptman.specs.TableWrites.{table_write_fault, value_with_checksums, IsButSums, RefusesWrite}
-use Rattle.gptman.specs.TableWrites.RefusesWrite.{no_memory, not_valid, no_room, disk_failed}
-use Rattle.gptman_copy.specs.Disk.{OnlyRead, DiskState, Image, IsSound, Keeps, LeavesOnly, Rose, Wrote}
+use Rattle.gptman.specs.TableWrites.{value_with_checksums, IsButSums}
+use Rattle.gptman_copy.specs.Disk.{AgreesOutside, OnlyRead, DiskState, Image, IsSound, Keeps, LeavesOnly, Rose, Wrote}
 use Rattle.gptman_copy.specs.Coding.{array_bytes}
-use Rattle.gptman.specs.Commit.{is_io, tables_to, value_after, IsAllowed, IsAllowedAt, IsRefusedAt, RefusesEdit, Stands}
-use Rattle.gptman.specs.Commit.RefusesEdit.{not_applied, not_written}
+use Rattle.gptman.specs.Commit.{is_io, tables_to, value_after, HoldsLast, IsAllowed, IsAllowedAt, IsRefusedAt, RefusesEdit, Stands}
 use Rattle.gptman.specs.Crash.{IsKeptFor}
 use Rattle.gptman_copy.specs.Crc.{crc_of}
 use Rattle.gptman.specs.Edit.{after_edit, edit_fault, table_after}
@@ -27,7 +25,7 @@ use Rattle.gptman_copy.specs.declared.codec.header.GPTHeader.{GPTHeader}
 use Rattle.gptman.specs.declared.edit.Edit.{Edit}
 use Rattle.gptman.specs.declared.edit.Edit.TheVariants.{Put, Remove, SortEntries, DiskGuid}
 use Rattle.gptman.specs.declared.table.GPT.{GPT}
-use Rattle.gptman.proofs.Commits.{KeepsRanges, edited_keeps, keeps_both, layout_still, leaves_kept, ranges_still, room_still, sums_keep}
+use Rattle.gptman.proofs.Commits.{KeepsRanges, edit_since, edited_keeps, keeps_both, layout_still, leaves_kept, ranges_still, room_still, sums_keep}
 use Rattle.gptman.proofs.OneGood.{stored_is_kept}
 use Rattle.gptman_copy.proofs.Runs.{keeps_then, leaves_then, rose_since, wrote_not, wrote_then}
 use Rattle.gptman_copy.proofs.Ranges.{Ranges, within_self}
@@ -103,37 +101,6 @@ accepted_sums g new edit is accepted =
       valid = valid_summed (after_edit g edit) own array (subst (λ (x : GPT). IsValid x.header (entries_in x)) moved accepted.valid);
     }
 
--- nor does a write
-write_sums : (g new : GPT) (fault : Fault) (a b c : DiskState) → IsButSums g new → Keeps a b → RefusesWrite new fault b c → RefusesWrite g fault a c
-write_sums g new fault a b c is keeps = by_case
-  where
-    own : ℕ
-    own = new.header.crc32_checksum
-
-    array : ℕ
-    array = new.header.partition_entry_array_crc32
-
-    good_sums : IsValid new.header (entries_in new) → IsValid g.header (entries_in g)
-    good_sums good = valid_summed g own array (subst (λ (x : GPT). IsValid x.header (entries_in x)) (is_summed g new is) good)
-
-    same : table_write_fault new b.size ≡ table_write_fault g a.size
-    same = room_still g new (sums_keep g new is) b.size ∙ ap (table_write_fault g) keeps.size
-
-    by_case : RefusesWrite new fault b c → RefusesWrite g fault a c
-    by_case (no_memory out) = no_memory out
-    by_case (not_valid validity) =
-        not_valid (validity_summed g own array (Some fault) (subst (λ (x : GPT). IsValidity x.header (entries_in x) (Some fault)) (is_summed g new is) validity))
-    by_case (no_room good full) = no_room (good_sums good) (sym same ∙ full)
-    by_case (disk_failed good near failed) = disk_failed (good_sums good) (λ far. near (same ∙ far)) (failed.0, rose_since a b c keeps failed.1)
-
-pub refused_sums : (g new last : GPT) (edit : Edit) (fault : Fault) (a b c : DiskState) → IsButSums g new → Keeps a b → RefusesEdit new edit fault last b c → RefusesEdit g edit fault last a c
-refused_sums g new last edit fault a b c is keeps (not_applied why sums) =
-    not_applied (⊎_elim (λ said. inl (sym (fault_sums g new edit is) ∙ said)) (λ out. inr out) why) (sums_then g new last is sums)
-refused_sums g new last edit fault a b c is keeps (not_written none refused sums) =
-    let more = edited_sums g new edit is in
-    not_written (sym (fault_sums g new edit is) ∙ none) (write_sums (after_edit g edit) (after_edit new edit) fault a b c more keeps refused)
-    (sums_then (after_edit g edit) (after_edit new edit) last more sums)
-
 -- ---- the value after some of the edits
 
 sealed_sums : (g : GPT) → IsButSums g (value_with_checksums g)
@@ -161,6 +128,10 @@ value_some g edits (suc k) some = refl
 -- what comes after the first edits does not count for them
 pub after_append : (g : GPT) (made more : List Edit) (k : ℕ) → k ≤ length made → table_after g (made ++ more) k ≡ table_after g made k
 after_append g made more k within = ap (fold after_edit g) (take-append-le k made more within)
+
+value_append : (g : GPT) (made more : List Edit) (k : ℕ) → k ≤ length made → value_after g (made ++ more) k ≡ value_after g made k
+value_append g made more zero within = refl
+value_append g made more (suc k) within = ap value_with_checksums (after_append g made more (suc k) within)
 
 pub after_all : (g : GPT) (made : List Edit) → table_after g made (length made) ≡ fold after_edit g made
 after_all g made = ap (fold after_edit g) (take_all (length made) made (omega arith))
@@ -409,8 +380,8 @@ module _ (g : GPT) (made : List Edit) (now : GPT) (a b : DiskState) (are : AreMa
   pub after_done : table_after g edits done ≡ fold after_edit g made
   after_done = (λ i. table_after g (is i) (count i)) ∙ (after_append g made more (length made) (omega arith) ∙ after_all g made)
 
-  pub done_value : more ≡ [] → now ≡ value_after g edits done
-  done_value none = are.exact ∙ sym ((λ i. value_after g (is i) (count i)) ∙ ap (λ (xs : List Edit). value_after g xs (length made)) (ap (λ (xs : List Edit). made ++ xs) none ∙ append-nil made))
+  pub done_value : now ≡ value_after g edits done
+  done_value = are.exact ∙ sym ((λ i. value_after g (is i) (count i)) ∙ value_append g made more (length made) (omega arith))
 
   pub done_stands : a.is_honest ≡ true → HasLayout g a.size → Stands g edits done a b
   done_stands honest layout =
@@ -431,8 +402,7 @@ module _ (g : GPT) (made : List Edit) (now : GPT) (a b c : DiskState) (are : Are
   failed_refused fault new refused = record {
     edit = edit;
     is = (λ i. slice_get (is i) (count i)) ∙ slice_get-next made more edit;
-    refused = subst (λ (x : GPT). RefusesEdit x edit fault new a c) (sym (after_done g made now a b are edits (edit ∷ more) done is count))
-        (refused_sums (fold after_edit g made) now new edit fault a b c are.value are.keeps refused);
+    refused = subst (λ (x : GPT). RefusesEdit x edit fault new a c) (done_value g made now a b are edits (edit ∷ more) done is count) (edit_since now new edit fault a b c are.keeps refused);
   }
 
   pub failed_room : (fault : Fault) → HasLayout g a.size
@@ -475,18 +445,47 @@ module _ (g : GPT) (made : List Edit) (now : GPT) (a b c : DiskState) (are : Are
             (⊎_elim (λ before. before) (λ since. (sound wrote.honest).counts_now a.clock x wrote.time.later (read.wrote.crash x since)) (read.wrote.time.nothing_else a.clock x wrote.time.later left))
       ]
 
-  -- what a stop may leave now holds the last table or the next
-  pub failed_last : a.is_honest ≡ true → HasLayout g a.size → IsKeptFor a g (table_in g) → b.clock ≤ c.clock → IsSound c
+  -- what a stop may leave now holds the last table, or where the disk failed the next
+  pub failed_last : (fault : Fault) → a.is_honest ≡ true → HasLayout g a.size → IsKeptFor a g (table_in g) → (b.is_honest ≡ true → IsSound b) → b.clock ≤ c.clock → IsSound c
+      → (b.is_honest ≡ true → (fault ≡ io) ⊎ OnlyRead b c)
       → (HasLayout now b.size → IsKeptFor b now (table_in now) → LeavesOnly b c (λ x. HoldsOneOf x now.sector_size (table_in now ∷ table_in (after_edit now edit) ∷ [])))
-      → (x : List ℕ) → Image c x → HoldsOneOf x g.sector_size (table_in (table_after g edits done) ∷ table_in (table_after g edits (done + 1)) ∷ [])
-  failed_last honest layout kept later sound good x image =
-      let one = good (now_layout g made now a b are layout) (are.kept honest layout kept) x (sound.counts_now b.clock x later image) in
-      let first : table_in now ≡ table_in (table_after g edits done) =
-      table_sums (fold after_edit g made) now are.value ∙ ap table_in (sym (after_done g made now a b are edits (edit ∷ more) done is count)) in
-      let longer : done + 1 ≡ length (made ++ edit ∷ []) = omega (arith, count, length-append made (edit ∷ [])) in
-      let at : table_after g edits (done + 1) ≡ after_edit (fold after_edit g made) edit =
-      (λ i. table_after g (split i) (longer i)) ∙ (after_append g (made ++ edit ∷ []) more (length (made ++ edit ∷ [])) (omega arith) ∙ (after_all g (made ++ edit ∷ []) ∙ fold-append after_edit g made (edit ∷ []))) in
-      let second : table_in (after_edit now edit) ≡ table_in (table_after g edits (done + 1)) =
-      table_sums (after_edit (fold after_edit g made) edit) (after_edit now edit) (edited_sums (fold after_edit g made) now edit are.value) ∙ ap table_in (sym at) in
-      subst (λ (n : ℕ). HoldsOneOf x n (table_in (table_after g edits done) ∷ table_in (table_after g edits (done + 1)) ∷ [])) are.sides.sector
-      (subst (HoldsOneOf x now.sector_size) (λ i. first i ∷ second i ∷ []) one)
+      → HoldsLast c g edits done (is_io fault)
+  failed_last fault honest layout kept sound_before later sound untouched good x image = by_fault (is_io fault) refl
+    where
+      last : Table
+      last = table_in (table_after g edits done)
+
+      kept_now : IsKeptFor b now (table_in now)
+      kept_now = are.kept honest layout kept
+
+      still : b.is_honest ≡ true
+      still = (are.wrote honest).honest
+
+      first : table_in now ≡ last
+      first = table_sums (fold after_edit g made) now are.value ∙ ap table_in (sym (after_done g made now a b are edits (edit ∷ more) done is count))
+
+      longer : done + 1 ≡ length (made ++ edit ∷ [])
+      longer = omega (arith, count, length-append made (edit ∷ []))
+
+      at : table_after g edits (done + 1) ≡ after_edit (fold after_edit g made) edit
+      at = (λ i. table_after g (split i) (longer i)) ∙ (after_append g (made ++ edit ∷ []) more (length (made ++ edit ∷ [])) (omega arith) ∙ (after_all g (made ++ edit ∷ []) ∙ fold-append after_edit g made (edit ∷ [])))
+
+      second : table_in (after_edit now edit) ≡ table_in (table_after g edits (done + 1))
+      second = table_sums (after_edit (fold after_edit g made) edit) (after_edit now edit) (edited_sums (fold after_edit g made) now edit are.value) ∙ ap table_in (sym at)
+
+      of_now : (tables : List Table) → HoldsOneOf x now.sector_size tables → HoldsOneOf x g.sector_size tables
+      of_now tables = subst (λ (n : ℕ). HoldsOneOf x n tables) are.sides.sector
+
+      was_left : OnlyRead b c → Image b x
+      was_left read = subst (λ (v : List ℕ). AgreesOutside b.pending v x) read.view (subst (λ (ps : Ranges). AgreesOutside ps c.view x) read.pending image)
+
+      by_fault : (t : Bool) → is_io fault ≡ t → HoldsOneOf x g.sector_size (last ∷ (if t then table_in (table_after g edits (done + 1)) ∷ [] else []))
+      by_fault true failed =
+          let one = good (now_layout g made now a b are layout) kept_now x (sound.counts_now b.clock x later image) in
+          of_now (last ∷ table_in (table_after g edits (done + 1)) ∷ []) (subst (HoldsOneOf x now.sector_size) (λ i. first i ∷ second i ∷ []) one)
+      by_fault false other = elim (untouched still) as (λ _. HoldsOneOf x g.sector_size (last ∷ [])) [
+        | inl failed ↦ let never = sym other ∙ ap is_io failed in absurd (cc)
+        | inr read ↦
+            let here = leaves_kept now b (table_in now) [] (sound_before still) kept_now x ((sound_before still).counts_now b.clock x (omega arith) (was_left read)) in
+            of_now (last ∷ []) (subst (HoldsOneOf x now.sector_size) (λ i. first i ∷ []) here)
+      ]

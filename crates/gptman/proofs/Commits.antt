@@ -1,16 +1,16 @@
 -- Edits keep a table's sides on the disk, and so does making its checksums.
-use Rattle.std.proofs.Common.{◌≡◌, ◌<◌, ◌^◌, inl, inr, Some, None, Bool, ℕ, suc, ◌-◌, true, false, List, [], ◌∷◌, length, nat_lt, refl, sym, ap, ◌∙◌, subst}
+use Rattle.std.proofs.Common.{◌≡◌, ◌⊎◌, ⊎_elim, ◌<◌, ◌^◌, inl, inr, Some, None, Bool, ℕ, suc, ◌-◌, true, false, List, [], ◌∷◌, length, nat_lt, refl, sym, ap, ◌∙◌, subst}
 use Rattle.std.specs.Prelude.{if◌then◌else◌}
 use Rattle.std.proofs.lemmas.List.{length-map, length-set}
 use Rattle.gptman_copy.specs.Coding.{empty_entry}
-use Rattle.gptman.specs.TableWrites.{IsButSums, IsNotForRoom, RefusesWrite}
+use Rattle.gptman.specs.TableWrites.{table_write_fault, IsButSums, IsNotForRoom, RefusesWrite}
 use Rattle.gptman.specs.TableWrites.RefusesWrite.{no_memory, not_valid, no_room, disk_failed}
 use Rattle.gptman.specs.Commit.{RefusesEdit}
 use Rattle.gptman.specs.Commit.RefusesEdit.{not_applied, not_written}
 use Rattle.gptman.specs.Crash.{HasRangesOf, IsKeptFor, other_side, StartsFromOne}
-use Rattle.gptman_copy.specs.Disk.{DiskState, IsSound, LeavesOnly}
+use Rattle.gptman_copy.specs.Disk.{DiskState, IsSound, Keeps, LeavesOnly}
 use Rattle.gptman.specs.Edit.{after_edit, edit_fault}
-use Rattle.gptman_copy.specs.Fault.{Fault, invalid_partition_number}
+use Rattle.gptman_copy.specs.Fault.{Fault, io, invalid_partition_number}
 use Rattle.gptman_copy.specs.Ranges.{AreClear}
 use Rattle.gptman.specs.Layout.{HasLayout, Holds, IsInLayout, IsLaidOut, ranges_at}
 use Rattle.gptman.specs.Number.{has_number}
@@ -32,6 +32,7 @@ use Rattle.gptman.proofs.FourRanges.{same_ranges}
 use Rattle.gptman.proofs.Held.{holds_local}
 use Rattle.gptman.proofs.OneGood.{leaves_still}
 use Rattle.gptman_copy.proofs.Ranges.{contains_first}
+use Rattle.gptman_copy.proofs.Runs.{rose_since}
 
 -- a header with another disk GUID and other checksums
 abbrev with_sums : GPTHeader → List ℕ → ℕ → ℕ → GPTHeader
@@ -182,9 +183,22 @@ stored_edited g mid edit disk is stored =
 
 -- why a write of an edited table is refused
 pub refused_edit : (g mid new : GPT) (edit : Edit) (fault : Fault) (a b : DiskState) → mid ≡ after_edit g edit → edit_fault g edit ≡ None
-    → RefusesWrite mid fault a b → IsButSums mid new → RefusesEdit g edit fault new a b
-refused_edit g mid new edit fault a b is none refused sums =
-    not_written none (subst (λ (m : GPT). RefusesWrite m fault a b) is refused) (subst (λ (m : GPT). IsButSums m new) is sums)
+    → RefusesWrite mid fault a b → (fault ≡ io) ⊎ (new ≡ mid) → IsButSums mid new → RefusesEdit g edit fault new a b
+refused_edit g mid new edit fault a b is none refused kept sums =
+    not_written none (subst (λ (m : GPT). RefusesWrite m fault a b) is refused)
+    (⊎_elim (λ failed. inr (failed, subst (λ (m : GPT). IsButSums m new) is sums)) (λ same. inl (same ∙ is)) kept)
+
+-- a write that is refused on a disk that keeps its length
+pub write_since : (g : GPT) (fault : Fault) (a b c : DiskState) → Keeps a b → RefusesWrite g fault b c → RefusesWrite g fault a c
+write_since g fault a b c keeps (no_memory out) = no_memory out
+write_since g fault a b c keeps (not_valid validity) = not_valid validity
+write_since g fault a b c keeps (no_room good full) = no_room good (ap (table_write_fault g) (sym keeps.size) ∙ full)
+write_since g fault a b c keeps (disk_failed good near failed) =
+    disk_failed good (λ far. near (ap (table_write_fault g) keeps.size ∙ far)) (failed.0, rose_since a b c keeps failed.1)
+
+pub edit_since : (g new : GPT) (edit : Edit) (fault : Fault) (a b c : DiskState) → Keeps a b → RefusesEdit g edit fault new b c → RefusesEdit g edit fault new a c
+edit_since g new edit fault a b c keeps (not_applied why same) = not_applied why same
+edit_since g new edit fault a b c keeps (not_written none refused left) = not_written none (write_since (after_edit g edit) fault a b c keeps refused) left
 
 -- ---- there is room on the stated layout
 

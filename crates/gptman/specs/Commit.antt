@@ -27,21 +27,25 @@ pub record IsAllowed (g : GPT) (edit : Edit) : Type 0 where
   pub number : edit_fault g edit ≡ None
   pub valid : let g' = after_edit g edit in IsValid g'.header (entries_in g')
 
--- Why one edit was not made and written, and what the value is then: it was not applied, which wants memory to sort alone; or the write of what it makes of
--- the table was refused.
+-- The value is still this one; a write that the disk failed in may have made its checksums.
+abbrev pub IsLeftAs : GPT → Fault → GPT → Type 0
+IsLeftAs g fault new = (new ≡ g) ⊎ ((fault ≡ io) × IsButSums g new)
+
+-- Why one edit was not made and written, and what the value is then: it was not applied, which wants memory to sort alone, and the value is as it was; or the
+-- write of what it makes of the table was refused, and the value is that.
 pub data RefusesEdit (g : GPT) (edit : Edit) (fault : Fault) (new : GPT) (old after : DiskState) : Type 0 where
-  not_applied : (edit_fault g edit ≡ Some fault) ⊎ ((edit ≡ SortEntries) × (fault ≡ out_of_memory)) → IsButSums g new → RefusesEdit g edit fault new old after
-  not_written : edit_fault g edit ≡ None → RefusesWrite (after_edit g edit) fault old after → IsButSums (after_edit g edit) new → RefusesEdit g edit fault new old after
+  not_applied : (edit_fault g edit ≡ Some fault) ⊎ ((edit ≡ SortEntries) × (fault ≡ out_of_memory)) → new ≡ g → RefusesEdit g edit fault new old after
+  not_written : edit_fault g edit ≡ None → RefusesWrite (after_edit g edit) fault old after → IsLeftAs (after_edit g edit) fault new → RefusesEdit g edit fault new old after
 
 -- Edit k + 1 of a list is allowed.
 abbrev pub IsAllowedAt : GPT → List Edit → ℕ → Type 0
 IsAllowedAt g edits k = (edit : Edit) → slice_get edits k ≡ Some edit → IsAllowed (table_after g edits k) edit
 
--- Edit k + 1 of a list is refused.
+-- Edit k + 1 of a list is refused, of the value after k of them.
 pub record IsRefusedAt (g : GPT) (edits : List Edit) (k : ℕ) (fault : Fault) (new : GPT) (old after : DiskState) : Type 0 where
   pub edit : Edit
   pub is : slice_get edits k ≡ Some edit
-  pub refused : RefusesEdit (table_after g edits k) edit fault new old after
+  pub refused : RefusesEdit (value_after g edits k) edit fault new old after
 
 abbrev pub is_io : Fault → Bool
 is_io io = true
@@ -60,7 +64,7 @@ reached done fault = if is_failure fault then done + 1 else done
 abbrev pub Stands : GPT → List Edit → ℕ → DiskState → DiskState → Type 0
 Stands g edits k old new = ((k ≡ 0) × OnlyRead old new) ⊎ IsStored new g.sector_size (table_in (table_after g edits k))
 
--- Whatever a stop may leave now holds the table after k edits, or after one more.
-abbrev pub HoldsLastTwo : DiskState → GPT → List Edit → ℕ → Type 0
-HoldsLastTwo disk g edits k = (b : List ℕ) → Image disk b
-    → HoldsOneOf b g.sector_size (table_in (table_after g edits k) ∷ table_in (table_after g edits (k + 1)) ∷ [])
+-- Whatever a stop may leave now holds the table after k edits; or where the disk failed in the next write, the table after that edit.
+abbrev pub HoldsLast : DiskState → GPT → List Edit → ℕ → Bool → Type 0
+HoldsLast disk g edits k failed = (b : List ℕ) → Image disk b
+    → HoldsOneOf b g.sector_size (table_in (table_after g edits k) ∷ (if failed then table_in (table_after g edits (k + 1)) ∷ [] else []))

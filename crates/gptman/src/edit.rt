@@ -6,9 +6,10 @@ ghost use Rattle.gptman_copy.specs.Answers.{refusal_of, HasCause, Refuses};
 ghost use Rattle.gptman_copy.specs.Copy.{IsCoherent};
 ghost use Rattle.gptman_copy.specs.Disk.{IsHonest, Keeps, OnlyRead, Rose, Writes};
 ghost use Rattle.gptman_copy.specs.Fault.{fault_of, out_of_memory};
-ghost use Rattle.gptman.specs.Commit.{is_failure, reached, tables_to, value_after, HoldsLastTwo};
+ghost use Rattle.gptman.specs.Commit.{is_failure, is_io, reached, tables_to, value_after, HoldsLast};
 ghost use Rattle.gptman.specs.Commit.{IsAllowed, IsAllowedAt, IsRefusedAt, RefusesEdit, Stands};
-ghost use Rattle.gptman.specs.Crash.{StartsFromOne, StartsLaidOut, StartsSynced, StopsKeepOthers};
+ghost use Rattle.gptman.specs.Crash.{StartsFromOne, StartsLaidOut, StartsStored, StartsSynced};
+ghost use Rattle.gptman.specs.Crash.{StopsKeepOthers};
 ghost use Rattle.gptman.specs.Edit.{after_edit, edit_fault};
 ghost use Rattle.gptman.specs.Layout.{HasLayout};
 ghost use Rattle.gptman.specs.Stop.{IsStored, StopsAreReadAs, StopsHold};
@@ -116,7 +117,13 @@ impl GPT {
             → StopsAreReadAs (D.state disk.old) (D.state disk.new) self.old.sector_size
             (tables_to self.old edits.items (reached result.done result.fault)) }
         ensures last { StartsFromOne (D.state disk.old) self.old (table_in self.old)
-            → IfSome result.fault (λ e. HoldsLastTwo (D.state disk.new) self.old edits.items result.done) }
+            → IfSome result.fault (λ e. HoldsLast (D.state disk.new) self.old edits.items result.done
+            (is_io (fault_of e))) }
+
+        // From two good copies of it, so the disk is read as one of these tables.
+        ensures crash_safe { StartsStored (D.state disk.old) self.old (table_in self.old)
+            → StopsAreReadAs (D.state disk.old) (D.state disk.new) self.old.sector_size
+            (tables_to self.old edits.items (reached result.done result.fault)) }
     {
         note_sizes(&self.header);
         let mut done = 0;

@@ -9,7 +9,8 @@ use Rattle.gptman_copy.proofs.Runs.{keeps_then, rose_since, wrote_then, wrote_wi
 use Rattle.gptimg_core.specs.Changes.{IsChanged, unwritten}
 use Rattle.gptimg_core.specs.Refusals.RefusesChange.{not_made, not_read, not_written}
 use Rattle.gptimg_core.proofs.Read.{read_before}
-use Rattle.gptimg_core.proofs.Refused.{making_since, write_since}
+use Rattle.gptman.proofs.Commits.{write_since}
+use Rattle.gptimg_core.proofs.Refused.{making_since}
 use Rattle.gptimg_core.proofs.Written.{change_written}
 use Rattle.gptimg_core.proofs.commands.change_table.Goals as goal
 

@@ -14,7 +14,7 @@ use Rattle.gptman_copy.proofs.Ranges.{within_none, within_self}
 use Rattle.gptman_copy.proofs.Runs.{rose_since, wrote_then, wrote_wider}
 use Rattle.gptman.specs.TableWrites.{table_ranges, RefusesWrite}
 use Rattle.gptimg_core.specs.Refusals.RefusesNew.{not_written}
-use Rattle.gptimg_core.proofs.Refused.{write_since}
+use Rattle.gptman.proofs.Commits.{write_since}
 use Rattle.gptimg_core.proofs.commands.write_new.Goals as goal
 
 -- a new table was written, after the disk's length was taken

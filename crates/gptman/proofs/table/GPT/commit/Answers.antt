@@ -36,7 +36,7 @@ why : (g : Over) (c : goal.After-from_residual-in_err-write_into g)
 why g c =
     let none : edit_fault c.args.self.now c.args.edit ≡ None = ⊎_elim (λ said. sym said) (λ never. absurd never.1) c.in_ok-apply.ensures.answer in
     refused_edit c.args.self.now c.apply.new.self c.write_into.new.self c.args.edit (fault_of c.in_err-write_into.field-0.0) (g.D.Disk.state c.args.disk.now) (g.D.Disk.state c.write_into.new.disk)
-    c.in_ok-apply.ensures.value none c.in_err-write_into.ensures.refused c.write_into.ensures.sums
+    c.in_ok-apply.ensures.value none c.in_err-write_into.ensures.refused c.in_err-write_into.ensures.kept c.write_into.ensures.sums
 
 refusal : (g : Over) (c : goal.After-from_residual-in_err-write_into g) → c.from_residual-in_err-write_into.result ≡ Err c.in_err-write_into.field-0.0
 refusal g c = search rules

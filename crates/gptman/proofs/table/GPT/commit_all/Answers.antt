@@ -7,7 +7,7 @@ use Rattle.gptman.specs.Stop.{StopsHold}
 use Rattle.gptman.specs.Table.{table_in}
 use Rattle.gptman.specs.declared.edit.Edit.{Edit}
 use Rattle.gptman.proofs.CommitLoop.{accepted_more, done_leaves, done_stands, done_value, failed_cause, failed_last, failed_leaves, failed_refused, failed_room, failed_stands, failed_untouched, leaves_next, made_next, made_none, wrote_next}
-use Rattle.gptman.proofs.OneGood.{leaves_outside}
+use Rattle.gptman.proofs.OneGood.{leaves_outside, one_of_stored}
 use Rattle.gptman.proofs.ReadingLaw.{reads_one_of}
 use Rattle.gptman.proofs.table.GPT.commit_all.Given.{Over}
 use Rattle.gptman.proofs.table.GPT.commit_all.Goals as goal
@@ -141,8 +141,12 @@ returns-in-Err-clause-last g c = λ from.
     let still = (at.invariant.0.wrote from.start.honest).honest in
     let wrote = c.commit.ensures.wrote still in
     failed_last c.args.self.now at.yielded at.self (g.D.Disk.state c.args.disk.now) (g.D.Disk.state at.disk) (g.D.Disk.state c.commit.new.disk) at.invariant.0 c.args.edits.items _ at.done
-    c.in-Some.edit (all_edits g c) at.invariant.2 from.start.honest from.start.layout from.kept wrote.time.later (g.met.D.Disk.sound c.commit.new.disk wrote.honest)
+    c.in-Some.edit (all_edits g c) at.invariant.2 (fault_of c.in-Err.fault) from.start.honest from.start.layout from.kept (g.met.D.Disk.sound at.disk) wrote.time.later
+    (g.met.D.Disk.sound c.commit.new.disk wrote.honest) c.in-Err.ensures.untouched
     (λ here good. c.commit.ensures.one_good (record { start = record { honest = still; layout = here }; kept = good }))
+
+pub returns-in-Err-clause-crash_safe : goal.returns-in-Err-clause-crash_safe
+returns-in-Err-clause-crash_safe g c = λ from x left known. reads_one_of x _ _ (failed_good g c (one_of_stored _ _ _ from) x left) known
 
 pub returns-in-Err-clause-empty : goal.returns-in-Err-clause-empty
 returns-in-Err-clause-empty g c = λ empty.
@@ -165,7 +169,7 @@ returns-clause-empty g c = λ empty.
 pub returns-clause-value : goal.returns-clause-value
 returns-clause-value g c =
     let at = c.loop-edit in
-    done_value c.args.self.now at.yielded at.self (g.D.Disk.state c.args.disk.now) (g.D.Disk.state at.disk) at.invariant.0 c.args.edits.items [] at.done (made_all g c) at.invariant.2 refl
+    done_value c.args.self.now at.yielded at.self (g.D.Disk.state c.args.disk.now) (g.D.Disk.state at.disk) at.invariant.0 c.args.edits.items [] at.done (made_all g c) at.invariant.2
 
 pub returns-clause-untouched : goal.returns-clause-untouched
 returns-clause-untouched g c = λ honest none. inr (c.loop-edit.invariant.0.untouched honest (sym c.loop-edit.invariant.2 ∙ none))
@@ -187,6 +191,9 @@ returns-clause-one_good g c = done_good g c
 
 pub returns-clause-read : goal.returns-clause-read
 returns-clause-read g c = λ from x left known. reads_one_of x _ _ (done_good g c from x left) known
+
+pub returns-clause-crash_safe : goal.returns-clause-crash_safe
+returns-clause-crash_safe g c = λ from x left known. reads_one_of x _ _ (done_good g c (one_of_stored _ _ _ from) x left) known
 
 pub returns-clause-outside : goal.returns-clause-outside
 returns-clause-outside g c = λ from. leaves_outside c.args.self.now _ (g.D.Disk.state c.loop-edit.disk) from.synced from.start.layout (c.loop-edit.invariant.0.wrote from.start.honest)
