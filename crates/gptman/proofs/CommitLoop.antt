@@ -5,10 +5,10 @@ use Rattle.std.proofs.lemmas.Bool.{cases_lt}
 use Rattle.std.proofs.lemmas.List.{append-nil, take-append-le, take_all}
 use Rattle.std.proofs.lemmas.List.FromFn.{length-map-range_with_len, get_or-map-range_with_len}
 use Rattle.std.proofs.lemmas.List.Sums.{fold-append}
-use Rattle.gptman.specs.TableWrites.{value_with_checksums, IsButSums}
+use Rattle.gptman.specs.TableWrites.{other_with_checksums, table_ranges, value_with_checksums, HasBothCopies, IsButSums}
 use Rattle.gptman_copy.specs.Disk.{AgreesOutside, OnlyRead, DiskState, Image, IsSound, Keeps, LeavesOnly, Rose, Wrote}
 use Rattle.gptman_copy.specs.Coding.{array_bytes}
-use Rattle.gptman.specs.Commit.{is_io, tables_to, value_after, HoldsLast, IsAllowed, IsAllowedAt, IsRefusedAt, RefusesEdit, Stands}
+use Rattle.gptman.specs.Commit.{is_io, tables_to, value_after, HoldsLast, IsAllowed, IsLaidAfter, IsAllowedAt, IsRefusedAt, RefusesEdit, Stands}
 use Rattle.gptman.specs.Crash.{IsKeptFor}
 use Rattle.gptman_copy.specs.Crc.{crc_of}
 use Rattle.gptman.specs.Edit.{after_edit, edit_fault, table_after}
@@ -20,7 +20,8 @@ use Rattle.gptman.specs.Table.{Table, entries_in, table_in}
 use Rattle.gptman_copy.specs.Copy.{with_checksums, IsCoherent}
 use Rattle.gptman.specs.Valid.{HasGoodBoundaries, IsValid, IsValidity}
 use Rattle.gptman.specs.Valid.IsValidity.{shared_guid, bad_boundaries, valid}
-use Rattle.gptman_copy.specs.Write.{both_ranges, write_fault}
+use Rattle.gptman_copy.specs.Ranges.{AreApart}
+use Rattle.gptman_copy.specs.Write.{both_ranges, other_header, write_fault}
 use Rattle.gptman_copy.specs.declared.codec.header.GPTHeader.{GPTHeader}
 use Rattle.gptman.specs.declared.edit.Edit.{Edit}
 use Rattle.gptman.specs.declared.edit.Edit.TheVariants.{Put, Remove, SortEntries, DiskGuid}
@@ -119,6 +120,19 @@ sealed_again : (g new : GPT) → IsButSums g new → length g.header.signature �
 sealed_again g new is long_s long_r =
     ap value_with_checksums (is_summed g new is) ∙ sealed_summed g new.header.crc32_checksum new.header.partition_entry_array_crc32 long_s long_r
 
+-- nor do those of the other header
+other_summed : (g : GPT) (own array : ℕ) → length g.header.signature ≡ 8 → length g.header.revision ≡ 4 → other_with_checksums (summed g own array) ≡ other_with_checksums g
+unfolding with_checksums
+other_summed g own array long_s long_r =
+    let sum : ℕ = crc_of (array_bytes (entries_in g)) in
+    let other : GPTHeader = other_header g.header in
+    ap (λ (x : ℕ). record other { crc32_checksum = x; partition_entry_array_crc32 = sum })
+    (cleared_same (record other { partition_entry_array_crc32 = sum }) own long_s long_r)
+
+other_again : (g new : GPT) → IsButSums g new → length g.header.signature ≡ 8 → length g.header.revision ≡ 4 → other_with_checksums new ≡ other_with_checksums g
+other_again g new is long_s long_r =
+    ap other_with_checksums (is_summed g new is) ∙ other_summed g new.header.crc32_checksum new.header.partition_entry_array_crc32 long_s long_r
+
 value_some : (g : GPT) (edits : List Edit) (k : ℕ) → 0 < k → value_after g edits k ≡ value_with_checksums (table_after g edits k)
 value_some g edits zero some = absurd (omega (arith, some))
 value_some g edits (suc k) some = refl
@@ -196,6 +210,7 @@ pub record AreMade (g : GPT) (made : List Edit) (now : GPT) (a b : DiskState) : 
   pub wrote : a.is_honest ≡ true → Wrote (both_ranges g.header g.sector_size) a b
   pub untouched : a.is_honest ≡ true → length made ≡ 0 → OnlyRead a b
   pub stands : a.is_honest ≡ true → HasLayout g a.size → ((length made ≡ 0) × OnlyRead a b) ⊎ IsStored b g.sector_size (table_in now)
+  pub laid : a.is_honest ≡ true → 0 < length made → IsLaidAfter b g made (length made)
   pub kept : a.is_honest ≡ true → HasLayout g a.size → IsKeptFor a g (table_in g) → IsKeptFor b now (table_in now)
   pub leaves : a.is_honest ≡ true → HasLayout g a.size → IsKeptFor a g (table_in g) → LeavesOnly a b (HoldsSome g made)
 
@@ -207,6 +222,8 @@ pub record IsMade (g : GPT) (edit : Edit) (new : GPT) (a b : DiskState) : Type 0
   pub value : new ≡ value_with_checksums (after_edit g edit)
   pub keeps : Keeps a b
   pub wrote : a.is_honest ≡ true → Wrote (both_ranges g.header g.sector_size) a b
+  pub synced : a.is_honest ≡ true → b.pending ≡ []
+  pub laid : a.is_honest ≡ true → AreApart (table_ranges g) → HasBothCopies b.view new (other_with_checksums (after_edit g edit))
   pub stored : a.is_honest ≡ true → HasLayout g a.size → IsStored b g.sector_size (table_in (after_edit g edit))
   pub good : a.is_honest ≡ true → HasLayout g a.size → IsKeptFor a g (table_in g)
       → LeavesOnly a b (λ x. HoldsOneOf x g.sector_size (table_in g ∷ table_in (after_edit g edit) ∷ []))
@@ -280,18 +297,37 @@ module _ (g : GPT) (made : List Edit) (now : GPT) (a b : DiskState) (are : AreMa
         subst (λ (x : GPT). IsAllowed x e) (sym where_it_is) (subst (IsAllowed (fold after_edit g made)) (sym same) (accepted_sums (fold after_edit g made) now edit are.value accepted))
   ]
 
+  -- an edit keeps how long a header's texts are
+  next_long : (edit : Edit) → length g.header.signature ≡ 8 → length g.header.revision ≡ 4
+      → (let last = after_edit (fold after_edit g made) edit in (length last.header.signature ≡ 8) × (length last.header.revision ≡ 4))
+  next_long edit long_s long_r =
+      let last : GPT = after_edit (fold after_edit g made) edit in
+      let same = sym (is_summed last (after_edit now edit) (edited_sums (fold after_edit g made) now edit are.value)) in
+      let keeps = keeps_both g now (after_edit now edit) are.sides (edited_keeps now edit) in (
+        ap (λ (x : GPT). length x.header.signature) same ∙ ap (λ (h : GPTHeader). length h.signature) keeps.header ∙ long_s,
+        ap (λ (x : GPT). length x.header.revision) same ∙ ap (λ (h : GPTHeader). length h.revision) keeps.header ∙ long_r,
+      )
+
+  next_at : (edit : Edit) → table_after g (made ++ edit ∷ []) (length (made ++ edit ∷ [])) ≡ after_edit (fold after_edit g made) edit
+  next_at edit = after_all g (made ++ edit ∷ []) ∙ fold-append after_edit g made (edit ∷ [])
+
   -- the value that is written next, with its checksums made
   exact_next : (edit : Edit) → length g.header.signature ≡ 8 → length g.header.revision ≡ 4 → value_with_checksums (after_edit now edit) ≡ value_after g (made ++ edit ∷ []) (length (made ++ edit ∷ []))
   exact_next edit long_s long_r =
       let last : GPT = after_edit (fold after_edit g made) edit in
       let sums : IsButSums last (after_edit now edit) = edited_sums (fold after_edit g made) now edit are.value in
-      let keeps = keeps_both g now (after_edit now edit) are.sides (edited_keeps now edit) in
-      let same = sym (is_summed last (after_edit now edit) sums) in
-      let first : length last.header.signature ≡ 8 = ap (λ (x : GPT). length x.header.signature) same ∙ ap (λ (h : GPTHeader). length h.signature) keeps.header ∙ long_s in
-      let second : length last.header.revision ≡ 4 = ap (λ (x : GPT). length x.header.revision) same ∙ ap (λ (h : GPTHeader). length h.revision) keeps.header ∙ long_r in
-      let at : table_after g (made ++ edit ∷ []) (length (made ++ edit ∷ [])) ≡ last = after_all g (made ++ edit ∷ []) ∙ fold-append after_edit g made (edit ∷ []) in
-      sealed_again last (after_edit now edit) sums first second
-      ∙ sym (value_some g (made ++ edit ∷ []) (length (made ++ edit ∷ [])) (omega (arith, length-append made (edit ∷ []))) ∙ ap value_with_checksums at)
+      let long = next_long edit long_s long_r in
+      sealed_again last (after_edit now edit) sums long.0 long.1
+      ∙ sym (value_some g (made ++ edit ∷ []) (length (made ++ edit ∷ [])) (omega (arith, length-append made (edit ∷ []))) ∙ ap value_with_checksums (next_at edit))
+
+  -- and the other header that is written with it
+  other_next : (edit : Edit) → length g.header.signature ≡ 8 → length g.header.revision ≡ 4
+      → other_with_checksums (after_edit now edit) ≡ other_with_checksums (table_after g (made ++ edit ∷ []) (length (made ++ edit ∷ [])))
+  other_next edit long_s long_r =
+      let last : GPT = after_edit (fold after_edit g made) edit in
+      let sums : IsButSums last (after_edit now edit) = edited_sums (fold after_edit g made) now edit are.value in
+      let long = next_long edit long_s long_r in
+      other_again last (after_edit now edit) sums long.0 long.1 ∙ sym (ap other_with_checksums (next_at edit))
 
   -- One edit more.
   pub made_next : (edit : Edit) (new : GPT) (c : DiskState) → length g.header.signature ≡ 8 → length g.header.revision ≡ 4 → IsMade now edit new b c → AreMade g (made ++ edit ∷ []) new a c
@@ -306,17 +342,25 @@ module _ (g : GPT) (made : List Edit) (now : GPT) (a b : DiskState) (are : AreMa
       let stored : a.is_honest ≡ true → HasLayout g a.size → IsStored c g.sector_size (table_in new) = λ honest layout.
       subst (λ (n : ℕ). IsStored c n (table_in new)) are.sides.sector
       (subst (IsStored c now.sector_size) (sym (table_sums (after_edit now edit) new sums)) (is.stored (still honest) (now_layout layout))) in
+      let exact : new ≡ value_after g (made ++ edit ∷ []) (length (made ++ edit ∷ [])) = is.value ∙ exact_next edit long_s long_r in
+      let both : b.is_honest ≡ true → AreApart (table_ranges g) → HasBothCopies c.view new (other_with_checksums (after_edit now edit)) = λ here apart.
+      is.laid here (subst (λ (rs : Ranges). AreApart rs) (sym (ranges_still g now are.sides)) apart) in
       record {
         coherent = is.coherent;
         sides = sides;
         value = value;
-        exact = is.value ∙ exact_next edit long_s long_r;
+        exact = exact;
         accepted = accepted_next edit is.accepted;
         fits = λ some. fits_next is.fits;
         keeps = keeps;
         wrote = λ honest. wrote_next c honest is.wrote;
         untouched = λ honest none. absurd (omega (arith, none, length-append made (edit ∷ [])));
         stands = λ honest layout. inr (stored honest layout);
+        laid = λ honest some. record {
+          synced = is.synced (still honest);
+          copies = λ apart. subst (λ (x : GPT). HasBothCopies c.view x (other_with_checksums (table_after g (made ++ edit ∷ []) (length (made ++ edit ∷ []))))) exact
+              (subst (λ (h : GPTHeader). HasBothCopies c.view new h) (other_next edit long_s long_r) (both (still honest) apart));
+        };
         kept = λ honest layout kept.
             stored_is_kept c new (table_in new) (subst (λ (n : ℕ). IsStored c n (table_in new)) (sym sides.sector) (stored honest layout))
             (subst (HasLayout new) (sym keeps.size) (layout_still g new sides a.size layout)) (record { count = refl; last = refl });
@@ -336,6 +380,7 @@ made_none g a coherent sound = record {
   wrote = λ honest. wrote_not (both_ranges g.header g.sector_size) a honest (sound honest);
   untouched = λ honest none. still honest;
   stands = λ honest layout. inl (refl, still honest);
+  laid = λ honest some. absurd (omega (arith, some));
   kept = λ honest layout kept. kept;
   leaves = λ honest layout kept x left. none_some x (leaves_kept g a (table_in g) [] (sound honest) kept x left);
 }
@@ -376,12 +421,31 @@ stored_read b c ss t read stored = record {
   at_backup = subst (λ (v : List ℕ). Holds v ss backup t) (sym read.view) stored.at_backup;
 }
 
+laid_read : (b c : DiskState) (g : GPT) (edits : List Edit) (k : ℕ) → OnlyRead b c → IsLaidAfter b g edits k → IsLaidAfter c g edits k
+laid_read b c g edits k read laid = record {
+  synced = read.pending ∙ laid.synced;
+  copies = λ apart. subst (λ (v : List ℕ). HasBothCopies v (value_after g edits k) (other_with_checksums (table_after g edits k))) (sym read.view) (laid.copies apart);
+}
+
 module _ (g : GPT) (made : List Edit) (now : GPT) (a b : DiskState) (are : AreMade g made now a b) (edits more : List Edit) (done : ℕ) (is : edits ≡ made ++ more) (count : done ≡ length made) where
   pub after_done : table_after g edits done ≡ fold after_edit g made
   after_done = (λ i. table_after g (is i) (count i)) ∙ (after_append g made more (length made) (omega arith) ∙ after_all g made)
 
+  made_value : value_after g edits done ≡ value_after g made (length made)
+  made_value = (λ i. value_after g (is i) (count i)) ∙ value_append g made more (length made) (omega arith)
+
   pub done_value : now ≡ value_after g edits done
-  done_value = are.exact ∙ sym ((λ i. value_after g (is i) (count i)) ∙ value_append g made more (length made) (omega arith))
+  done_value = are.exact ∙ sym made_value
+
+  pub done_laid : a.is_honest ≡ true → 0 < done → IsLaidAfter b g edits done
+  done_laid honest some =
+      let laid = are.laid honest (omega (arith, some, count)) in
+      let table : table_after g edits done ≡ table_after g made (length made) = (λ i. table_after g (is i) (count i)) ∙ after_append g made more (length made) (omega arith) in
+      record {
+        synced = laid.synced;
+        copies = λ apart. subst (λ (x : GPT). HasBothCopies b.view x (other_with_checksums (table_after g edits done))) (sym made_value)
+            (subst (λ (t : GPT). HasBothCopies b.view (value_after g made (length made)) (other_with_checksums t)) (sym table) (laid.copies apart));
+      }
 
   pub done_stands : a.is_honest ≡ true → HasLayout g a.size → Stands g edits done a b
   done_stands honest layout =
@@ -416,6 +480,12 @@ module _ (g : GPT) (made : List Edit) (now : GPT) (a b c : DiskState) (are : Are
   pub failed_untouched : (fault : Fault) → a.is_honest ≡ true → done ≡ 0 → (b.is_honest ≡ true → (fault ≡ io) ⊎ OnlyRead b c) → IsTrue (is_io fault) ⊎ OnlyRead a c
   failed_untouched fault honest none untouched =
       ⊎_elim (λ failed. inl (ap is_io failed)) (λ read. inr (only_read_then a b c (are.untouched honest (sym count ∙ none)) read)) (untouched (are.wrote honest).honest)
+
+  pub failed_laid : (fault : Fault) → a.is_honest ≡ true → 0 < done → (b.is_honest ≡ true → (fault ≡ io) ⊎ OnlyRead b c) → IsTrue (is_io fault) ⊎ IsLaidAfter c g edits done
+  failed_laid fault honest some untouched =
+      ⊎_elim (λ failed. inl (ap is_io failed))
+      (λ read. inr (laid_read b c g edits done read (done_laid g made now a b are edits (edit ∷ more) done is count honest some)))
+      (untouched (are.wrote honest).honest)
 
   pub failed_stands : (fault : Fault) → a.is_honest ≡ true → HasLayout g a.size → (b.is_honest ≡ true → (fault ≡ io) ⊎ OnlyRead b c)
       → IsTrue (is_io fault) ⊎ Stands g edits done a c

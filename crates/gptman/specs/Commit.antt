@@ -1,7 +1,8 @@
 -- Lists of edits that are written one after the other.
 use Rattle.std.specs.Prelude.{◌≡◌, ◌⊎◌, ◌+◌, ℕ, zero, suc, Bool, true, false, List, [], ◌∷◌, map, slice_get, Option, Some, None, if◌then◌else◌}
 use Rattle.std.specs.List.{range_with_len}
-use Rattle.gptman.specs.TableWrites.{value_with_checksums, IsButSums, RefusesWrite}
+use Rattle.gptman_copy.specs.Ranges.{AreApart}
+use Rattle.gptman.specs.TableWrites.{other_with_checksums, table_ranges, value_with_checksums, HasBothCopies, IsButSums, RefusesWrite}
 use Rattle.gptman_copy.specs.Disk.{OnlyRead, DiskState, Image}
 use Rattle.gptman.specs.Edit.{after_edit, edit_fault, table_after}
 use Rattle.gptman_copy.specs.Fault.{Fault, fault_of, io, out_of_memory}
@@ -68,3 +69,8 @@ Stands g edits k old new = ((k ≡ 0) × OnlyRead old new) ⊎ IsStored new g.se
 abbrev pub HoldsLast : DiskState → GPT → List Edit → ℕ → Bool → Type 0
 HoldsLast disk g edits k failed = (b : List ℕ) → Image disk b
     → HoldsOneOf b g.sector_size (table_in (table_after g edits k) ∷ (if failed then table_in (table_after g edits (k + 1)) ∷ [] else []))
+
+-- Nothing is pending; and where no two ranges of the value's copies have a byte in common, they hold both copies of the value after k edits.
+pub record IsLaidAfter (disk : DiskState) (g : GPT) (edits : List Edit) (k : ℕ) : Type 0 where
+  pub synced : disk.pending ≡ []
+  pub copies : AreApart (table_ranges g) → HasBothCopies disk.view (value_after g edits k) (other_with_checksums (table_after g edits k))

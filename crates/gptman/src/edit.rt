@@ -6,7 +6,8 @@ ghost use Rattle.gptman_copy.specs.Answers.{refusal_of, HasCause, Refuses};
 ghost use Rattle.gptman_copy.specs.Copy.{IsCoherent};
 ghost use Rattle.gptman_copy.specs.Disk.{IsHonest, Keeps, OnlyRead, Rose, Writes};
 ghost use Rattle.gptman_copy.specs.Fault.{fault_of, out_of_memory};
-ghost use Rattle.gptman.specs.Commit.{is_failure, is_io, reached, tables_to, value_after, HoldsLast};
+ghost use Rattle.gptman_copy.specs.Ranges.{AreApart};
+ghost use Rattle.gptman.specs.Commit.{is_failure, is_io, reached, tables_to, value_after, HoldsLast, IsLaidAfter};
 ghost use Rattle.gptman.specs.Commit.{IsAllowed, IsAllowedAt, IsRefusedAt, RefusesEdit, Stands};
 ghost use Rattle.gptman.specs.Crash.{StartsFromOne, StartsLaidOut, StartsStored, StartsSynced};
 ghost use Rattle.gptman.specs.Crash.{StopsKeepOthers};
@@ -14,8 +15,8 @@ ghost use Rattle.gptman.specs.Edit.{after_edit, edit_fault};
 ghost use Rattle.gptman.specs.Layout.{HasLayout};
 ghost use Rattle.gptman.specs.Stop.{IsStored, StopsAreReadAs, StopsHold};
 ghost use Rattle.gptman.specs.Table.{entries_in, table_in};
-ghost use Rattle.gptman.specs.TableWrites.{table_ranges, value_with_checksums, HasRoomOn, IsNotForRoom};
-ghost use Rattle.gptman.specs.TableWrites.{RefusesUnwritten};
+ghost use Rattle.gptman.specs.TableWrites.{other_with_checksums, table_ranges, value_with_checksums};
+ghost use Rattle.gptman.specs.TableWrites.{HasBothCopies, HasRoomOn, IsNotForRoom, RefusesUnwritten};
 ghost use Rattle.gptman.specs.declared.edit.Edit.TheVariants.{SortEntries};
 
 use crate::table::GPT;
@@ -103,6 +104,8 @@ impl GPT {
         ensures wrote { Writes (table_ranges self.old) (D.state disk.old) (D.state disk.new) }
         ensures untouched { IsHonest (D.state disk.old) → result.done ≡ 0
             → IsTrue (is_failure result.fault) ⊎ OnlyRead (D.state disk.old) (D.state disk.new) }
+        ensures laid { IsHonest (D.state disk.old) → 0 < result.done → IsTrue (is_failure result.fault)
+            ⊎ IsLaidAfter (D.state disk.new) self.old edits.items result.done }
         ensures stands { StartsLaidOut (D.state disk.old) self.old → IsTrue (is_failure result.fault)
             ⊎ Stands self.old edits.items result.done (D.state disk.old) (D.state disk.new) }
 
@@ -159,6 +162,9 @@ impl GPT {
 
         // What becomes of the disk.
         ensures wrote { Writes (table_ranges self.old) (D.state disk.old) (D.state disk.new) }
+        ensures synced { IsHonest (D.state disk.old) → OnOk result ((D.state disk.new).pending ≡ []) }
+        ensures laid { IsHonest (D.state disk.old) → AreApart (table_ranges self.old) → OnOk result
+            (HasBothCopies (D.state disk.new).view self.new (other_with_checksums (after_edit self.old edit))) }
         ensures untouched { RefusesUnwritten result (D.state disk.old) (D.state disk.new) }
         ensures stored { StartsLaidOut (D.state disk.old) self.old
             → OnOk result (IsStored (D.state disk.new) self.old.sector_size

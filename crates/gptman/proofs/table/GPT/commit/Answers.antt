@@ -1,9 +1,12 @@
-use Rattle.std.proofs.Common.{◌≡◌, ◌≢◌, ⊎_elim, ℕ, List, inr, refl, [], Result, Err, None, rules, sym, subst}
+use Rattle.std.proofs.Common.{◌≡◌, ◌≢◌, ⊎_elim, ℕ, List, inr, refl, [], Result, Err, None, rules, sym, ap, ◌∙◌, subst}
 use Rattle.std.specs.Prelude.{IfErr}
 use Rattle.gptman_copy.specs.Disk.{OnlyRead, Wrote}
 use Rattle.gptman.specs.Commit.{RefusesEdit}
 use Rattle.gptman.specs.Edit.{edit_fault}
 use Rattle.gptman_copy.specs.Fault.{fault_of, no_space_left, overflow}
+use Rattle.gptman_copy.specs.Ranges.{AreApart}
+use Rattle.gptman.specs.TableWrites.{other_with_checksums, table_ranges, HasBothCopies}
+use Rattle.gptman_copy.specs.declared.codec.header.GPTHeader.{GPTHeader}
 use Rattle.gptman_copy.specs.declared.error.Error.{Error}
 use Rattle.gptman.proofs.Commits.{coherent_still, edit_keeps, keeps_both, layout_still, leaves_edited, leaves_kept, ranges_still, refused_edit, refused_room, stored_edited, sums_keep}
 use Rattle.gptman_copy.proofs.Outcomes.{if_err_of}
@@ -80,6 +83,14 @@ returns-clause-fits g c = search rules
 
 pub returns-clause-value : goal.returns-clause-value
 returns-clause-value g c = search rules
+
+pub returns-clause-laid : goal.returns-clause-laid
+returns-clause-laid g c = λ honest apart.
+    let new = g.D.Disk.state c.write_into.new.disk in
+    let keeps = edit_keeps c.args.self.now c.apply.new.self c.args.edit c.in_ok-apply.ensures.value in
+    let here : AreApart (table_ranges c.apply.new.self) = subst (λ (rs : List (ℕ × ℕ)). AreApart rs) (sym (ranges_still c.args.self.now c.apply.new.self keeps)) apart in
+    subst (λ (h : GPTHeader). HasBothCopies new.view c.write_into.new.self h) (c.in_ok-write_into.ensures.other ∙ ap other_with_checksums c.in_ok-apply.ensures.value)
+    (c.in_ok-write_into.ensures.laid honest here)
 
 pub returns-clause-wrote : goal.returns-clause-wrote
 returns-clause-wrote g c = λ honest.

@@ -6,7 +6,7 @@ use Rattle.gptman_copy.specs.Fault.{fault_of}
 use Rattle.gptman.specs.Stop.{StopsHold}
 use Rattle.gptman.specs.Table.{table_in}
 use Rattle.gptman.specs.declared.edit.Edit.{Edit}
-use Rattle.gptman.proofs.CommitLoop.{accepted_more, done_leaves, done_stands, done_value, failed_cause, failed_last, failed_leaves, failed_refused, failed_room, failed_stands, failed_untouched, leaves_next, made_next, made_none, wrote_next}
+use Rattle.gptman.proofs.CommitLoop.{accepted_more, done_laid, done_leaves, done_stands, done_value, failed_cause, failed_laid, failed_last, failed_leaves, failed_refused, failed_room, failed_stands, failed_untouched, leaves_next, made_next, made_none, wrote_next}
 use Rattle.gptman.proofs.OneGood.{leaves_outside, one_of_stored}
 use Rattle.gptman.proofs.ReadingLaw.{reads_one_of}
 use Rattle.gptman.proofs.table.GPT.commit_all.Given.{Over}
@@ -43,6 +43,8 @@ loop-edit-preserved g c =
         value = done.value;
         keeps = next.keeps;
         wrote = next.wrote;
+        synced = done.synced;
+        laid = done.laid;
         stored = λ honest layout. done.stored (record { honest = honest; layout = layout });
         good = λ honest layout kept. next.one_good (record { start = record { honest = honest; layout = layout }; kept = kept });
       }),
@@ -97,6 +99,12 @@ returns-in-Err-clause-untouched g c = λ honest none.
     let at = c.loop-edit in
     failed_untouched c.args.self.now at.yielded at.self (g.D.Disk.state c.args.disk.now) (g.D.Disk.state at.disk) (g.D.Disk.state c.commit.new.disk) at.invariant.0 c.args.edits.items _ at.done
     c.in-Some.edit (all_edits g c) at.invariant.2 (fault_of c.in-Err.fault) honest none c.in-Err.ensures.untouched
+
+pub returns-in-Err-clause-laid : goal.returns-in-Err-clause-laid
+returns-in-Err-clause-laid g c = λ honest some.
+    let at = c.loop-edit in
+    failed_laid c.args.self.now at.yielded at.self (g.D.Disk.state c.args.disk.now) (g.D.Disk.state at.disk) (g.D.Disk.state c.commit.new.disk) at.invariant.0 c.args.edits.items _ at.done
+    c.in-Some.edit (all_edits g c) at.invariant.2 (fault_of c.in-Err.fault) honest some c.in-Err.ensures.untouched
 
 pub returns-in-Err-clause-stands : goal.returns-in-Err-clause-stands
 returns-in-Err-clause-stands g c = λ start.
@@ -173,6 +181,11 @@ returns-clause-value g c =
 
 pub returns-clause-untouched : goal.returns-clause-untouched
 returns-clause-untouched g c = λ honest none. inr (c.loop-edit.invariant.0.untouched honest (sym c.loop-edit.invariant.2 ∙ none))
+
+pub returns-clause-laid : goal.returns-clause-laid
+returns-clause-laid g c = λ honest some.
+    let at = c.loop-edit in
+    inr (done_laid c.args.self.now at.yielded at.self (g.D.Disk.state c.args.disk.now) (g.D.Disk.state at.disk) at.invariant.0 c.args.edits.items [] at.done (made_all g c) at.invariant.2 honest some)
 
 pub returns-clause-stands : goal.returns-clause-stands
 returns-clause-stands g c = λ start.
