@@ -1,5 +1,5 @@
 -- Why a call is refused, said of the disk from which a command began.
-use Rattle.std.proofs.Common.{◌≡◌, ◌⊎◌, inl, inr, refl, sym, ap, ◌∙◌, subst, ℕ}
+use Rattle.std.proofs.Common.{◌≡◌, ◌⊎◌, inl, inr, refl, sym, subst, ℕ}
 use Rattle.std.specs.Prelude.{Option, Some, None, Result, Ok, Err, IfErr}
 use Rattle.gptman.specs.Answers.{answer_of, IsFailure, Refuses, Settles}
 use Rattle.gptman.specs.TableReads.{copy_of, IsReadingFault}

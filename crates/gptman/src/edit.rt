@@ -7,7 +7,8 @@ ghost use Rattle.gptman_copy.specs.Copy.{IsCoherent};
 ghost use Rattle.gptman_copy.specs.Disk.{IsHonest, Keeps, OnlyRead, Rose, Writes};
 ghost use Rattle.gptman_copy.specs.Fault.{fault_of, out_of_memory};
 ghost use Rattle.gptman_copy.specs.Ranges.{AreApart};
-ghost use Rattle.gptman.specs.Commit.{is_failure, is_io, reached, tables_to, value_after, HoldsLast, IsLaidAfter};
+ghost use Rattle.gptman.specs.Commit.{is_failure, is_io, reached, tables_to, value_after, HoldsLast};
+ghost use Rattle.gptman.specs.Commit.{IsLaidAfter};
 ghost use Rattle.gptman.specs.Commit.{IsAllowed, IsAllowedAt, IsRefusedAt, RefusesEdit, Stands};
 ghost use Rattle.gptman.specs.Crash.{StartsFromOne, StartsLaidOut, StartsStored, StartsSynced};
 ghost use Rattle.gptman.specs.Crash.{StopsKeepOthers};
@@ -164,7 +165,8 @@ impl GPT {
         ensures wrote { Writes (table_ranges self.old) (D.state disk.old) (D.state disk.new) }
         ensures synced { IsHonest (D.state disk.old) → OnOk result ((D.state disk.new).pending ≡ []) }
         ensures laid { IsHonest (D.state disk.old) → AreApart (table_ranges self.old) → OnOk result
-            (HasBothCopies (D.state disk.new).view self.new (other_with_checksums (after_edit self.old edit))) }
+            (HasBothCopies (D.state disk.new).view self.new
+            (other_with_checksums (after_edit self.old edit))) }
         ensures untouched { RefusesUnwritten result (D.state disk.old) (D.state disk.new) }
         ensures stored { StartsLaidOut (D.state disk.old) self.old
             → OnOk result (IsStored (D.state disk.new) self.old.sector_size

@@ -9,7 +9,8 @@
 ghost use Rattle.std.specs.Prelude.{◌≡◌, ◌⊎◌, ◌<◌, ◌≤◌, ◌+◌, ◌^◌, All, IfErr, IfOk};
 ghost use Rattle.gptman_copy.specs.Answers.{Refuses};
 ghost use Rattle.gptman_copy.specs.Fault.{fault_of, no_space_left, out_of_memory};
-ghost use Rattle.gptman.specs.Place.{AreSlots, EndsIn64Bits, FindsPlace, HasNoSlot, IsBestPlace, IsFirstPlace};
+ghost use Rattle.gptman.specs.Place.{AreSlots, EndsIn64Bits, FindsPlace, HasNoSlot, IsBestPlace};
+ghost use Rattle.gptman.specs.Place.{IsFirstPlace};
 ghost use Rattle.gptman.specs.Place.{IsFreeIn, IsLastPlace, IsMaximumSize};
 
 use crate::place::choose::{first_slot, greatest_size, last_slot, shortest_slot};
