@@ -10,8 +10,8 @@ use std::alloc::Global;
 use std::io;
 use std::process::Abort;
 
-/// A disk that passes its calls on to the one below, but for one, which fails. A write that fails
-/// so is passed on as well.
+/// A disk that passes its calls on to the one below, but for one, which fails. A write or a read that
+/// fails so is passed on as well. A read that fails below is not counted: it may pass the end.
 #[derive(Drop)]
 pub(crate) struct FaultyDisk<D> {
     below: D,
@@ -73,8 +73,8 @@ impl<D: Disk> Disk for FaultyDisk<D> {
     }
 
     fn read_exact(&mut self, buf: &mut [u8]) -> io::Result<()> {
-        count_call(&mut self.calls_left)?;
-        self.below.read_exact(buf)
+        self.below.read_exact(buf)?;
+        count_call(&mut self.calls_left)
     }
 
     fn write_all(&mut self, buf: &[u8]) -> io::Result<()> {
@@ -137,11 +137,18 @@ fn a_seek_to_the_end_that_fails_is_not_passed_on(rt: HostRuntime) {
 }
 
 #[test]
-fn a_read_that_fails_is_not_passed_on(rt: HostRuntime) {
-    let mut disk = failing_once(&rt, rt.alloc(), &[1, 2, 3, 4], 1);
-    assert_pair(&rt, &mut disk, [1, 2]);
+fn a_read_that_fails_is_passed_on(rt: HostRuntime) {
+    let mut disk = failing_once(&rt, rt.alloc(), &[1, 2, 3, 4], 0);
     holds(&rt, pair(&mut disk).is_err());
     assert_pair(&rt, &mut disk, [3, 4]);
+}
+
+#[test]
+fn a_read_past_the_end_is_not_counted(rt: HostRuntime) {
+    let mut disk = failing_once(&rt, rt.alloc(), &[1, 2, 3], 1);
+    assert_pair(&rt, &mut disk, [1, 2]);
+    holds(&rt, pair(&mut disk).is_err());
+    assert_eq!(rt; disk.calls_left(), Some(0));
 }
 
 // The bytes 1 to 4, after 07 07 at 1 and a sync that failed.

@@ -37,6 +37,10 @@ PassesEnd disk n = disk.size < disk.position + n
 abbrev pub Moves : DiskState → DiskState → ℕ → Type 0
 Moves old new n = new.position ≡ old.position + n
 
+-- the position is as it was
+abbrev pub StaysAt : DiskState → DiskState → Type 0
+StaysAt old new = new.position ≡ old.position
+
 -- the position is this one, and is answered
 abbrev pub StandsAt : DiskState → ℕ → ℕ → Type 0
 StandsAt disk at answer = (answer ≡ at) × (disk.position ≡ at)
@@ -66,6 +70,10 @@ overlay old at bytes = take at old ++ bytes ++ drop (at + length bytes) old
 -- the failures rose, or stand where they stop
 abbrev pub Rose : DiskState → DiskState → Type 0
 Rose old new = (old.failures < new.failures) ⊎ (18446744073709551615 ≤ new.failures)
+
+-- the failures stay
+abbrev pub HasFailedAsOften : DiskState → DiskState → Type 0
+HasFailedAsOften old new = new.failures ≡ old.failures
 
 -- On every disk.
 pub record Keeps (old new : DiskState) : Type 0 where
@@ -126,6 +134,10 @@ Writes ranges old new = IsHonest old → Wrote ranges old new
 pub record Untouched (old new : DiskState) : Type 0 where
   pub view : new.view ≡ old.view
   pub pending : new.pending ≡ old.pending
+
+-- what a read gives from the position on is as it was
+abbrev pub IsLeftAlone : DiskState → DiskState → Type 0
+IsLeftAlone old new = StaysAt old new × (new.view ≡ old.view)
 
 -- the disk failed, or nothing was written
 abbrev pub FailedOrUntouched : DiskState → DiskState → Type 0

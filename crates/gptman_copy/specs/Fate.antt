@@ -1,10 +1,14 @@
 -- What a stop makes of a record of writes and syncs.
-use Rattle.std.specs.Prelude.{ℕ, ◌+◌, List, Option, length, get_or, replicate}
+use Rattle.std.specs.Prelude.{◌≡◌, ℕ, ◌+◌, Bool, List, [], ◌∷◌, ◌++◌, Option, length, get_or, replicate}
 use Rattle.std.specs.List.{fold}
+use Rattle.std.specs.IoError.{error_kind}
+use Rattle.std.specs.declared.io.Error.{Error}
+use Rattle.std.specs.declared.io.ErrorKind.TheVariants.{OutOfMemory}
 use Rattle.gptman_copy.specs.Disk.{overlay}
 use Rattle.gptman_copy.specs.Memory.{view_step}
 use Rattle.gptman_copy.specs.declared.disk.memory.Event.{Event}
 use Rattle.gptman_copy.specs.declared.disk.memory.Event.TheVariants.{Write, Sync}
+use Rattle.gptman_copy.specs.declared.disk.memory.Written.{Written}
 use Rattle.gptman_copy.specs.declared.disk.memory.Fate.{Fate}
 use Rattle.gptman_copy.specs.declared.disk.memory.Fate.TheVariants.{Old, New, Garbage}
 use Rattle.gptman_copy.specs.declared.disk.memory.MemoryDisk.{MemoryDisk}
@@ -44,3 +48,20 @@ bytes_left fates history = (stop_from fates history.start history.events).left
 -- the calls that the disk still serves; with no fuse it serves all
 abbrev pub calls_left : MemoryDisk → Option ℕ
 calls_left disk = disk.fuse
+
+-- The record has one write more: where it was, its bytes, and whether the device did it.
+pub record HasWrite (at : ℕ) (bytes : List ℕ) (done : Bool) (old new : History) : Type 0 where
+  pub written : Written
+  pub place : written.at ≡ at
+  pub bytes_are : written.bytes.items ≡ bytes
+  pub done_is : written.done ≡ done
+  pub start : new.start ≡ old.start
+  pub events : new.events ≡ old.events ++ Write written ∷ []
+
+-- the record has one sync more
+abbrev pub HasSync : History → History → Type 0
+HasSync old new = new ≡ record { start = old.start; events = old.events ++ Sync ∷ [] }
+
+-- there was no memory for the record, and it is as it was; the error's kind says so
+abbrev pub HasNoMemory : Error → History → History → Type 0
+HasNoMemory e old new = (error_kind e ≡ OutOfMemory) × (new ≡ old)

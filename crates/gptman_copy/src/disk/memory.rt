@@ -3,12 +3,16 @@
 //! It keeps a record of its writes and syncs. A stop goes through that record and makes of it one
 //! of the disks that a crash may leave. A fuse lets every call from a chosen one on fail.
 
-ghost use Rattle.std.specs.Prelude.{◌≡◌, ◌≤◌, ◌+◌, ◌<◌, ◌^◌, ◌⊎◌, ◌↔◌, [], ◌∷◌, Some, None, true, length};
+ghost use Rattle.std.specs.Prelude.{◌≡◌, ◌≤◌, ◌+◌, ◌<◌, ◌^◌, ◌⊎◌, ◌↔◌, [], ◌∷◌, true, false, length};
+ghost use Rattle.std.specs.Prelude.{Some, None};
 ghost use Rattle.std.specs.Prelude.{IfOk, IfErr, OnOk, OnErr, IsOk, IsErr, IsTrue};
 ghost use Rattle.std.specs.List.{list_all};
-ghost use Rattle.gptman_copy.specs.Disk.{next_bytes, next_range, overlay, HasNext, Image, IsFresh, IsHonest};
-ghost use Rattle.gptman_copy.specs.Disk.{IsLaid};
-ghost use Rattle.gptman_copy.specs.Disk.{Keeps, MayBeLaid, Moves, PassesEnd, Reads, Rose, StandsAt, Writes};
+ghost use Rattle.std.specs.IoError.{error_kind};
+ghost use Rattle.std.specs.declared.io.ErrorKind.TheVariants.{OutOfMemory};
+ghost use Rattle.gptman_copy.specs.Disk.{next_bytes, next_range, overlay, HasFailedAsOften, HasNext};
+ghost use Rattle.gptman_copy.specs.Disk.{Image, IsFresh, IsHonest, IsLaid};
+ghost use Rattle.gptman_copy.specs.Disk.{IsLeftAlone, Keeps, MayBeLaid, Moves, PassesEnd, Reads, Rose};
+ghost use Rattle.gptman_copy.specs.Disk.{StandsAt, StaysAt, Writes};
 ghost use Rattle.gptman_copy.specs.Memory.{after_call, event_fits, memory_sound, memory_state, serves};
 ghost use Rattle.gptman_copy.specs.Memory.{view_of};
 
@@ -191,12 +195,23 @@ fn fail(failures: &mut u64) -> io::Error
     io::Error::other("the device failed")
 }
 
+// The failure of a disk that has no memory for its record, which is counted.
+fn lack_memory(failures: &mut u64) -> io::Error
+    ensures later { failures.old ≤ failures.new }
+    ensures rose { (failures.old < failures.new) ⊎ (18446744073709551615 ≤ failures.new) }
+    ensures kind { error_kind result ≡ OutOfMemory }
+{
+    count_failure(failures);
+    io::Error::new(io::ErrorKind::OutOfMemory, "no memory for the record")
+}
+
 impl Disk for MemoryDisk {
-    ghost use Rattle.gptman_copy.specs.Fate.{calls_left};
+    ghost use Rattle.gptman_copy.specs.Fate.{calls_left, history_of, HasNoMemory, HasSync, HasWrite};
 
     ghost state = { λ d. memory_state d.start.items d.bytes.items d.events.items d.position d.failures };
 
-    /// As the trait says. It fails where the fuse does not serve the call, and nowhere else.
+    /// As the trait says. It fails where the fuse does not serve the call, and nowhere else. Then the
+    /// position stays.
     fn seek_start(&mut self, at: u64) -> io::Result<u64>
         ensures reads { Reads (⟦<MemoryDisk as Disk>⟧.state self.old)
             (⟦<MemoryDisk as Disk>⟧.state self.new) }
@@ -204,6 +219,8 @@ impl Disk for MemoryDisk {
         ensures cause { OnErr result (Rose (⟦<MemoryDisk as Disk>⟧.state self.old)
             (⟦<MemoryDisk as Disk>⟧.state self.new)) }
         ensures served { IsOk result ↔ IsTrue (serves (calls_left self.old)) }
+        ensures refused { OnErr result (StaysAt (⟦<MemoryDisk as Disk>⟧.state self.old)
+            (⟦<MemoryDisk as Disk>⟧.state self.new)) }
         ensures fuse { calls_left self.new ≡ after_call (calls_left self.old) }
     {
         if !is_served(&mut self.fuse) {
@@ -213,7 +230,8 @@ impl Disk for MemoryDisk {
         Ok(at)
     }
 
-    /// As the trait says. It fails where the fuse does not serve the call, and nowhere else.
+    /// As the trait says. It fails where the fuse does not serve the call, and nowhere else. Then the
+    /// position stays.
     fn seek_end(&mut self) -> io::Result<u64>
         ensures reads { Reads (⟦<MemoryDisk as Disk>⟧.state self.old)
             (⟦<MemoryDisk as Disk>⟧.state self.new) }
@@ -222,6 +240,8 @@ impl Disk for MemoryDisk {
         ensures cause { OnErr result (Rose (⟦<MemoryDisk as Disk>⟧.state self.old)
             (⟦<MemoryDisk as Disk>⟧.state self.new)) }
         ensures served { IsOk result ↔ IsTrue (serves (calls_left self.old)) }
+        ensures refused { OnErr result (StaysAt (⟦<MemoryDisk as Disk>⟧.state self.old)
+            (⟦<MemoryDisk as Disk>⟧.state self.new)) }
         ensures fuse { calls_left self.new ≡ after_call (calls_left self.old) }
     {
         if !is_served(&mut self.fuse) {
@@ -232,7 +252,8 @@ impl Disk for MemoryDisk {
     }
 
     /// As the trait says. It fails where the read passes the end, which is no failure of the device,
-    /// and where the fuse does not serve the call, and nowhere else.
+    /// and where the fuse does not serve the call, and nowhere else. Then the position stays, and the
+    /// buffer is as it was.
     fn read_exact(&mut self, buf: &mut [u8]) -> io::Result<()>
         ensures reads { Reads (⟦<MemoryDisk as Disk>⟧.state self.old)
             (⟦<MemoryDisk as Disk>⟧.state self.new) }
@@ -241,10 +262,12 @@ impl Disk for MemoryDisk {
             (⟦<MemoryDisk as Disk>⟧.state self.new)
             ⊎ PassesEnd (⟦<MemoryDisk as Disk>⟧.state self.old) (length buf.old)) }
         ensures past_end { PassesEnd (⟦<MemoryDisk as Disk>⟧.state self.old) (length buf.old)
-            → IsErr result × ((⟦<MemoryDisk as Disk>⟧.state self.new).failures ≡
-            (⟦<MemoryDisk as Disk>⟧.state self.old).failures) }
+            → IsErr result × HasFailedAsOften (⟦<MemoryDisk as Disk>⟧.state self.old)
+            (⟦<MemoryDisk as Disk>⟧.state self.new) }
         ensures served { IsOk result ↔ (IsTrue (serves (calls_left self.old))
             × HasNext (⟦<MemoryDisk as Disk>⟧.state self.old) (length buf.old)) }
+        ensures refused { OnErr result (StaysAt (⟦<MemoryDisk as Disk>⟧.state self.old)
+            (⟦<MemoryDisk as Disk>⟧.state self.new) × (buf.new ≡ buf.old)) }
         ensures value { IsHonest (⟦<MemoryDisk as Disk>⟧.state self.old)
             → OnOk result (buf.new ≡ next_bytes (⟦<MemoryDisk as Disk>⟧.state self.old) (length buf.old)) }
         ensures moves { OnOk result (Moves (⟦<MemoryDisk as Disk>⟧.state self.old)
@@ -266,8 +289,9 @@ impl Disk for MemoryDisk {
         Ok(())
     }
 
-    /// As the trait says. It fails where the fuse does not serve the call, and where there is no memory
-    /// for the record.
+    /// As the trait says. It fails where the fuse does not serve the call: then the write is pending
+    /// with its bytes, which a read does not give. And it fails where there is no memory for the record:
+    /// then nothing changes, and the error is of the kind `OutOfMemory`.
     fn write_all(&mut self, buf: &[u8]) -> io::Result<()>
         requires { HasNext (⟦<MemoryDisk as Disk>⟧.state self.old) (length buf.now) }
         ensures keeps { Keeps (⟦<MemoryDisk as Disk>⟧.state self.old)
@@ -285,11 +309,20 @@ impl Disk for MemoryDisk {
         ensures failed { IsHonest (⟦<MemoryDisk as Disk>⟧.state self.old)
             → OnErr result (MayBeLaid (length buf.now) (⟦<MemoryDisk as Disk>⟧.state self.old)
             (⟦<MemoryDisk as Disk>⟧.state self.new)) }
+        ensures recorded { OnOk result
+            (HasWrite ((⟦<MemoryDisk as Disk>⟧.state self.old).position) buf.now true
+            (history_of self.old) (history_of self.new)) }
+        ensures refused { OnErr result (IsLeftAlone (⟦<MemoryDisk as Disk>⟧.state self.old)
+            (⟦<MemoryDisk as Disk>⟧.state self.new)) }
+        ensures pending { IfErr result (λ e. HasNoMemory e (history_of self.old) (history_of self.new)
+            ⊎ (serves (calls_left self.old) ≡ false)
+            × HasWrite ((⟦<MemoryDisk as Disk>⟧.state self.old).position) buf.now false
+            (history_of self.old) (history_of self.new)) }
         ensures fuse { calls_left self.new ≡ after_call (calls_left self.old) }
     {
         let done = is_served(&mut self.fuse);
         let Ok(bytes) = buf.to_vec(self.alloc) else {
-            return Err(fail(&mut self.failures));
+            return Err(lack_memory(&mut self.failures));
         };
         let event = Event::Write(Written {
             at: self.position,
@@ -297,7 +330,7 @@ impl Disk for MemoryDisk {
             done,
         });
         if self.events.push(event).is_err() {
-            return Err(fail(&mut self.failures));
+            return Err(lack_memory(&mut self.failures));
         }
         if !done {
             return Err(fail(&mut self.failures));
@@ -309,7 +342,7 @@ impl Disk for MemoryDisk {
     }
 
     /// As the trait says. It fails where the fuse does not serve the call, and where there is no memory
-    /// for the record.
+    /// for the record, with an error of the kind `OutOfMemory`. Then the record stays.
     fn sync(&mut self) -> io::Result<()>
         ensures keeps { Keeps (⟦<MemoryDisk as Disk>⟧.state self.old)
             (⟦<MemoryDisk as Disk>⟧.state self.new) }
@@ -327,10 +360,16 @@ impl Disk for MemoryDisk {
         ensures failed { IsHonest (⟦<MemoryDisk as Disk>⟧.state self.old)
             → OnErr result ((⟦<MemoryDisk as Disk>⟧.state self.new).pending ≡
             (⟦<MemoryDisk as Disk>⟧.state self.old).pending) }
+        ensures recorded { OnOk result (HasSync (history_of self.old) (history_of self.new)) }
+        ensures refused { IfErr result (λ e. HasNoMemory e (history_of self.old) (history_of self.new)
+            ⊎ (serves (calls_left self.old) ≡ false) × (history_of self.new ≡ history_of self.old)) }
         ensures fuse { calls_left self.new ≡ after_call (calls_left self.old) }
     {
-        if !is_served(&mut self.fuse) || self.events.push(Event::Sync).is_err() {
+        if !is_served(&mut self.fuse) {
             return Err(fail(&mut self.failures));
+        }
+        if self.events.push(Event::Sync).is_err() {
+            return Err(lack_memory(&mut self.failures));
         }
         Ok(())
     }

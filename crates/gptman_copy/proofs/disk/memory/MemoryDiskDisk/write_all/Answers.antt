@@ -1,4 +1,4 @@
-use Rattle.std.proofs.Common.{arith, rules, ◌≡◌, ◌++◌, [], ◌∷◌, refl}
+use Rattle.std.proofs.Common.{arith, rules, ◌≡◌, ◌∙◌, ◌++◌, [], ◌∷◌, inr, refl, sym}
 use Rattle.std.proofs.lemmas.Grind.{common_steps}
 use Rattle.gptman_copy.specs.declared.disk.memory.Written.{Written}
 use Rattle.gptman_copy.specs.declared.disk.memory.Event.TheVariants.{Write}
@@ -23,3 +23,19 @@ returns-clause-wrote c = λ honest.
 
 pub returns-clause-moves : goal.returns-clause-moves
 returns-clause-moves c = grind (arith, common_steps)
+
+pub returns-then-not-done-clause-pending : goal.returns-then-not-done-clause-pending
+returns-then-not-done-clause-pending c =
+    let d = c.args.self.now in
+    let w : Written = record { at = d.position; bytes = c.in-Ok.bytes; done = c.is_served-done.result } in
+    let one_more : c.push.new.self.items ≡ d.events.items ++ Write w ∷ [] = search rules in
+    let same : c.in-Ok.bytes.items ≡ c.args.buf.now = search rules in
+    inr (sym c.is_served-done.ensures.answers ∙ c.if-not-done.true, record { written = w; place = refl; bytes_are = same; done_is = c.if-not-done.true; start = refl; events = one_more })
+
+pub returns-clause-recorded : goal.returns-clause-recorded
+returns-clause-recorded c =
+    let d = c.args.self.now in
+    let w : Written = record { at = d.position; bytes = c.in-Ok.bytes; done = c.is_served-done.result } in
+    let one_more : c.push.new.self.items ≡ d.events.items ++ Write w ∷ [] = search rules in
+    let same : c.in-Ok.bytes.items ≡ c.args.buf.now = search rules in
+    record { written = w; place = refl; bytes_are = same; done_is = c.if-not-done.false; start = refl; events = one_more }
