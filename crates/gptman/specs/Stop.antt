@@ -1,7 +1,9 @@
 -- What a disk holds, and what a reading of it gives.
-use Rattle.std.specs.Prelude.{◌≡◌, ℕ, List, [], Ok, Contains}
+use Rattle.std.specs.Prelude.{◌≡◌, ◌<◌, ◌^◌, ◌↔◌, ℕ, List, [], length, Ok, Contains}
 use Rattle.gptman_copy.specs.Disk.{DiskState, LeavesOnly}
-use Rattle.gptman_copy.specs.Copy.{Copy}
+use Rattle.gptman_copy.specs.Copy.{Copy, CopyAt, copy_at}
+use Rattle.gptman_copy.specs.declared.codec.header.GPTHeader.{GPTHeader}
+use Rattle.gptman_copy.specs.declared.codec.entry.GPTPartitionEntry.{GPTPartitionEntry}
 use Rattle.gptman.specs.Reading.{Side, primary, backup, reading_of, taken_from}
 use Rattle.gptman.specs.Table.{Table, table_of, IsForm, IsHeaderForm}
 use Rattle.gptman.specs.Layout.{Holds}
@@ -56,3 +58,8 @@ ReadsWhatItHolds = (b : List ℕ) (ss : ℕ) (tables : List Table) → HoldsOneO
 abbrev pub HoldsWhatIsRead : Type 0
 HoldsWhatIsRead = (b : List ℕ) (ss : ℕ) (copy : Copy) → reading_of b ss ≡ Ok copy → IsHeaderForm (taken_from b ss) copy.header
     → Holds b ss (taken_from b ss) (table_of copy.header copy.entries)
+
+-- A copy is accepted, with this header and these entries, exactly where they stand.
+abbrev pub AcceptsWhatStands : Type 0
+AcceptsWhatStands = (b : List ℕ) (p ss : ℕ) (h : GPTHeader) (es : List GPTPartitionEntry) → length b < 2 ^ 64
+    → (copy_at b p ss ≡ Ok (record { header = h; entries = es })) ↔ CopyAt b p ss h es

@@ -2,7 +2,7 @@
 //! calls do nothing.
 
 ghost use Rattle.gptman.specs.Crash.{GrowingIsSafe};
-ghost use Rattle.gptman.specs.Stop.{HoldsWhatIsRead, ReadsWhatItHolds};
+ghost use Rattle.gptman.specs.Stop.{AcceptsWhatStands, HoldsWhatIsRead, ReadsWhatItHolds};
 
 use gptman_copy::Disk;
 
@@ -16,6 +16,14 @@ pub fn what_is_held_is_read()
 /// needs nothing of the disk's layout.
 pub fn what_is_read_is_held()
     ensures { HoldsWhatIsRead }
+{}
+
+/// At a byte of a byte list shorter than 2^64 a copy is accepted, with this header and these entries,
+/// exactly where they stand there: a header of right signature, revision, size and checksum, each field
+/// at its place, and where it says the entries of right checksum, on the disk, each name with the text
+/// of its units.
+pub fn what_stands_is_accepted()
+    ensures { AcceptsWhatStands }
 {}
 
 /// A table that the primary place holds is one good copy for the write of a value whose header was
