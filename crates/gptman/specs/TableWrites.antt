@@ -49,7 +49,7 @@ RefusesUnwritten result old new = IsHonest old → IfErr result (λ e. (fault_of
 abbrev pub HasBothCopies : List ℕ → GPT → GPTHeader → Type 0
 HasBothCopies b g h = HasBytes b g.header (entries_in g) g.sector_size × HasBytes b h (entries_in g) g.sector_size
 
--- The same where each field of header and entries has room in its bytes, so that they can be read back.
+-- The bytes have a copy in its place, and each field of header and entries has room in its bytes, so that they can be read back.
 pub record IsWhole (b : List ℕ) (h : GPTHeader) (es : List GPTPartitionEntry) (ss : ℕ) : Type 0 where
   pub bytes : HasBytes b h es ss
   pub header_fits : FitsHeader h
