@@ -27,6 +27,7 @@ fi
 . "$top/tests/program/files.sh"
 . "$top/tests/program/memory.sh"
 . "$top/tests/program/counts.sh"
+. "$top/tests/program/faults.sh"
 . "$top/tests/program/writers.sh"
 . "$top/tests/program/kills.sh"
 . "$top/tests/program/other_tools.sh"
@@ -67,6 +68,8 @@ try "killed writers" try_kills
 try "images of sgdisk" try_sgdisk
 try "images of sfdisk" try_sfdisk
 try "calls of the system" try_calls
+try "calls of the system that fail" try_failing_calls
+try "calls of the system that are interrupted" try_interrupted_calls
 
 echo "$passed passed, $failed failed"
 [ "$failed" -eq 0 ]

@@ -34,6 +34,14 @@ can_trace() {
     command -v strace > /dev/null && strace -q -o traced true 2> /dev/null
 }
 
+# The same, with a line where they cannot.
+can_trace_calls() {
+    has strace || return
+    can_trace && return
+    echo "-- strace may trace nothing here: what is tried with it is left out"
+    return 1
+}
+
 # The calls of the program on the image that have these names go to the file `calls`.
 trace() {
     strace -q -P "$2" -e "trace=$1" -o calls "$program" "${@:2}" > /dev/null
@@ -72,13 +80,43 @@ opens_of() {
     printf '%s' "${order# }"
 }
 
+# What a command asks of the image, in order: how it is opened, the places that it goes to, how many
+# bytes are read and written there, the syncs.
+asked_of() {
+    local call asked=""
+    trace open,openat,lseek,read,write,fsync,fdatasync "$@"
+    while read -r call; do
+        case $call in
+            open*O_RDONLY*) asked+=", open to read" ;;
+            open*O_RDWR*) asked+=", open to write" ;;
+            lseek*SEEK_END*) asked+=", end ${call##* }" ;;
+            lseek*SEEK_SET*) asked+=", to ${call##* }" ;;
+            read*) asked+=", read ${call##* }" ;;
+            write*) asked+=", write ${call##* }" ;;
+            *sync*) asked+=", sync" ;;
+        esac
+    done < calls
+    printf '%s' "${asked#, }"
+}
+
+# The length is the one that the system told, to the byte, each seek and each sync asks the system, and
+# what only reads opens for reading alone.
+try_file_disk() {
+    local image=$folder/odd.img
+    local entries="read 4096, read 4096, read 4096, read 4096"
+    make_table "$image" 51201
+    equals "what show asks of an image of 51,201 bytes" \
+        "open to read, end 51201, to 0, to 512, read 92, to 51201, to 1024, $entries" \
+        "$(asked_of "$image" 512 show)"
+    equals "what mbr asks of an image of 51,201 bytes" \
+        "open to read, open to write, end 51201, to 0, to 51201, to 446, write 66, sync" \
+        "$(asked_of "$image" 512 mbr plain)"
+}
+
 try_calls() {
     local image=$folder/order.img line
-    has strace || return
-    if ! can_trace; then
-        echo "-- strace may trace nothing here: what is tried with it is left out"
-        return
-    fi
+    can_trace_calls || return
+    try_file_disk
     make_table "$image" 10M
     equals "the copies and syncs of add" "backup sync primary sync" \
         "$(order_of "$image" 512 add 1 $data $one 10 first 1 x)"
