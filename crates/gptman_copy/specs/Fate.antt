@@ -1,11 +1,11 @@
 -- What a stop makes of a record of writes and syncs.
-use Rattle.std.specs.Prelude.{◌≡◌, ℕ, ◌+◌, Bool, List, [], ◌∷◌, ◌++◌, Option, length, get_or, replicate}
-use Rattle.std.specs.List.{fold}
+use Rattle.std.specs.Prelude.{◌≡◌, ℕ, Bool, true, false, List, [], ◌∷◌, ◌++◌, Option, length, replicate, if◌then◌else◌}
+use Rattle.std.specs.List.{list_any}
 use Rattle.std.specs.IoError.{error_kind}
 use Rattle.std.specs.declared.io.Error.{Error}
 use Rattle.std.specs.declared.io.ErrorKind.TheVariants.{OutOfMemory}
 use Rattle.gptman_copy.specs.Disk.{overlay}
-use Rattle.gptman_copy.specs.Memory.{view_step}
+use Rattle.gptman_copy.specs.Memory.{view_of}
 use Rattle.gptman_copy.specs.declared.disk.memory.Event.{Event}
 use Rattle.gptman_copy.specs.declared.disk.memory.Event.TheVariants.{Write, Sync}
 use Rattle.gptman_copy.specs.declared.disk.memory.Written.{Written}
@@ -19,19 +19,26 @@ fate_step Old before at bytes = before
 fate_step New before at bytes = overlay before at bytes
 fate_step (Garbage byte) before at bytes = overlay before at (replicate (length bytes) byte)
 
--- the view so far, what a stop leaves of it, and how many fates are used
-pub record Stopping : Type 0 where
-  pub view : List ℕ
-  pub left : List ℕ
-  pub next : ℕ
+abbrev pub is_sync : Event → Bool
+is_sync (Write written) = false
+is_sync Sync = true
 
--- a sync keeps the view, and a write after it has the first fate
-abbrev pub stop_step : List Fate → Stopping → Event → Stopping
-stop_step fates so_far (Write written) = record { view = view_step so_far.view (Write written); left = fate_step (get_or fates so_far.next Old) so_far.left written.at written.bytes.items; next = so_far.next + 1 }
-stop_step fates so_far Sync = record { view = so_far.view; left = so_far.view; next = 0 }
+-- the events up to the last sync, or none where there is no sync
+abbrev pub until_sync : List Event → List Event
+until_sync [] = []
+until_sync (event ∷ events) = if list_any is_sync (event ∷ events) then event ∷ until_sync events else []
 
-abbrev pub stop_from : List Fate → List ℕ → List Event → Stopping
-stop_from fates start events = fold (stop_step fates) (record { view = start; left = start; next = 0 }) events
+-- the writes since then, or all of them
+abbrev pub since_sync : List Event → List Written
+since_sync [] = []
+since_sync (Sync ∷ events) = since_sync events
+since_sync (Write written ∷ events) = if list_any is_sync events then since_sync events else written ∷ since_sync events
+
+-- the bytes after these writes, each with its fate; a write with no fate has Old
+abbrev pub with_fates : List Fate → List Written → List ℕ → List ℕ
+with_fates fates [] bytes = bytes
+with_fates [] (written ∷ writes) bytes = with_fates [] writes (fate_step Old bytes written.at written.bytes.items)
+with_fates (fate ∷ fates) (written ∷ writes) bytes = with_fates fates writes (fate_step fate bytes written.at written.bytes.items)
 
 -- What a disk in memory keeps: the bytes that it had at first, and its writes and syncs since.
 pub record History : Type 0 where
@@ -41,9 +48,9 @@ pub record History : Type 0 where
 abbrev pub history_of : MemoryDisk → History
 history_of disk = record { start = disk.start.items; events = disk.events.items }
 
--- the bytes that a stop with these fates leaves
+-- the bytes that a stop with these fates leaves: those at the last sync, or at first, after the writes since then
 abbrev pub bytes_left : List Fate → History → List ℕ
-bytes_left fates history = (stop_from fates history.start history.events).left
+bytes_left fates history = with_fates fates (since_sync history.events) (view_of history.start (until_sync history.events))
 
 -- the calls that the disk still serves; with no fuse it serves all
 abbrev pub calls_left : MemoryDisk → Option ℕ

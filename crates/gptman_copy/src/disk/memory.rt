@@ -219,7 +219,7 @@ impl Disk for MemoryDisk {
         ensures cause { OnErr result (Rose (⟦<MemoryDisk as Disk>⟧.state self.old)
             (⟦<MemoryDisk as Disk>⟧.state self.new)) }
         ensures served { IsOk result ↔ IsTrue (serves (calls_left self.old)) }
-        ensures refused { OnErr result (StaysAt (⟦<MemoryDisk as Disk>⟧.state self.old)
+        ensures kept { OnErr result (StaysAt (⟦<MemoryDisk as Disk>⟧.state self.old)
             (⟦<MemoryDisk as Disk>⟧.state self.new)) }
         ensures fuse { calls_left self.new ≡ after_call (calls_left self.old) }
     {
@@ -240,7 +240,7 @@ impl Disk for MemoryDisk {
         ensures cause { OnErr result (Rose (⟦<MemoryDisk as Disk>⟧.state self.old)
             (⟦<MemoryDisk as Disk>⟧.state self.new)) }
         ensures served { IsOk result ↔ IsTrue (serves (calls_left self.old)) }
-        ensures refused { OnErr result (StaysAt (⟦<MemoryDisk as Disk>⟧.state self.old)
+        ensures kept { OnErr result (StaysAt (⟦<MemoryDisk as Disk>⟧.state self.old)
             (⟦<MemoryDisk as Disk>⟧.state self.new)) }
         ensures fuse { calls_left self.new ≡ after_call (calls_left self.old) }
     {
@@ -266,7 +266,7 @@ impl Disk for MemoryDisk {
             (⟦<MemoryDisk as Disk>⟧.state self.new) }
         ensures served { IsOk result ↔ (IsTrue (serves (calls_left self.old))
             × HasNext (⟦<MemoryDisk as Disk>⟧.state self.old) (length buf.old)) }
-        ensures refused { OnErr result (StaysAt (⟦<MemoryDisk as Disk>⟧.state self.old)
+        ensures kept { OnErr result (StaysAt (⟦<MemoryDisk as Disk>⟧.state self.old)
             (⟦<MemoryDisk as Disk>⟧.state self.new) × (buf.new ≡ buf.old)) }
         ensures value { IsHonest (⟦<MemoryDisk as Disk>⟧.state self.old)
             → OnOk result (buf.new ≡ next_bytes (⟦<MemoryDisk as Disk>⟧.state self.old) (length buf.old)) }
@@ -312,12 +312,12 @@ impl Disk for MemoryDisk {
         ensures recorded { OnOk result
             (HasWrite ((⟦<MemoryDisk as Disk>⟧.state self.old).position) buf.now true
             (history_of self.old) (history_of self.new)) }
-        ensures refused { OnErr result (IsLeftAlone (⟦<MemoryDisk as Disk>⟧.state self.old)
-            (⟦<MemoryDisk as Disk>⟧.state self.new)) }
-        ensures pending { IfErr result (λ e. HasNoMemory e (history_of self.old) (history_of self.new)
+        ensures refused { IfErr result (λ e. HasNoMemory e (history_of self.old) (history_of self.new)
             ⊎ (serves (calls_left self.old) ≡ false)
             × HasWrite ((⟦<MemoryDisk as Disk>⟧.state self.old).position) buf.now false
             (history_of self.old) (history_of self.new)) }
+        ensures kept { OnErr result (IsLeftAlone (⟦<MemoryDisk as Disk>⟧.state self.old)
+            (⟦<MemoryDisk as Disk>⟧.state self.new)) }
         ensures fuse { calls_left self.new ≡ after_call (calls_left self.old) }
     {
         let done = is_served(&mut self.fuse);
@@ -342,7 +342,7 @@ impl Disk for MemoryDisk {
     }
 
     /// As the trait says. It fails where the fuse does not serve the call, and where there is no memory
-    /// for the record, with an error of the kind `OutOfMemory`. Then the record stays.
+    /// for the record, with an error of the kind `OutOfMemory`. Then record and position stay.
     fn sync(&mut self) -> io::Result<()>
         ensures keeps { Keeps (⟦<MemoryDisk as Disk>⟧.state self.old)
             (⟦<MemoryDisk as Disk>⟧.state self.new) }
@@ -363,6 +363,8 @@ impl Disk for MemoryDisk {
         ensures recorded { OnOk result (HasSync (history_of self.old) (history_of self.new)) }
         ensures refused { IfErr result (λ e. HasNoMemory e (history_of self.old) (history_of self.new)
             ⊎ (serves (calls_left self.old) ≡ false) × (history_of self.new ≡ history_of self.old)) }
+        ensures kept { OnErr result (StaysAt (⟦<MemoryDisk as Disk>⟧.state self.old)
+            (⟦<MemoryDisk as Disk>⟧.state self.new)) }
         ensures fuse { calls_left self.new ≡ after_call (calls_left self.old) }
     {
         if !is_served(&mut self.fuse) {

@@ -8,3 +8,6 @@ returns-clause-wrote c = λ honest.
     let d = c.args.self.now in
     let one_more : c.push.new.self.items ≡ d.events.items ++ Sync ∷ [] = search rules in
     synced d.start.items d.bytes.items d.bytes.items d.events.items c.push.new.self.items d.replays one_more refl _ _ _ _
+
+pub returns-then-is_err-clause-kept : goal.returns-then-is_err-clause-kept
+returns-then-is_err-clause-kept c = search rules

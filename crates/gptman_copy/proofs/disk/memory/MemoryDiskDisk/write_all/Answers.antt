@@ -24,8 +24,8 @@ returns-clause-wrote c = λ honest.
 pub returns-clause-moves : goal.returns-clause-moves
 returns-clause-moves c = grind (arith, common_steps)
 
-pub returns-then-not-done-clause-pending : goal.returns-then-not-done-clause-pending
-returns-then-not-done-clause-pending c =
+pub returns-then-not-done-clause-refused : goal.returns-then-not-done-clause-refused
+returns-then-not-done-clause-refused c =
     let d = c.args.self.now in
     let w : Written = record { at = d.position; bytes = c.in-Ok.bytes; done = c.is_served-done.result } in
     let one_more : c.push.new.self.items ≡ d.events.items ++ Write w ∷ [] = search rules in
