@@ -9,10 +9,15 @@ use std::fs::File;
 use std::process::Abort;
 use std::rt::Files;
 
+// A file of so many bytes, all of them 2.
+fn make_file_of<R: Abort + Files<File = File> + AllocGlobal>(rt: &R, path: &str, len: usize) {
+    let bytes = got(rt, vec![in rt.alloc(); 2_u8; len]);
+    got(rt, fs::write(rt, path, bytes.as_slice()));
+}
+
 // A file of 100 sectors of 512 bytes, all of them 2.
 fn make_file<R: Abort + Files<File = File> + AllocGlobal>(rt: &R, path: &str) {
-    let bytes = got(rt, vec![in rt.alloc(); 2_u8; 51_200]);
-    got(rt, fs::write(rt, path, bytes.as_slice()));
+    make_file_of(rt, path, 51_200);
 }
 
 // The disk over such a file, open for reading alone.
@@ -80,4 +85,22 @@ fn a_file_that_is_not_there_is_not_opened(rt: HostRuntime) {
     assert_failed(&rt, rt.alloc(), FileDisk::open(&rt, path));
     assert_failed(&rt, rt.alloc(), FileDisk::open_read(&rt, path));
     holds(&rt, fs::read(&rt, path).is_err());
+}
+
+// The disk has 51,201 bytes, and the last of them can be read.
+fn assert_odd_length<D: Disk>(rt: &impl Abort, disk: &mut D) {
+    assert_eq!(rt; got(rt, disk.seek_end()), 51_201);
+    got(rt, disk.seek_start(51_200));
+    let mut last = [0];
+    got(rt, disk.read_exact(&mut last));
+    assert_eq!(rt; last, [2]);
+}
+
+#[test]
+fn a_file_keeps_the_bytes_past_its_last_whole_sector(rt: HostRuntime) {
+    let path = "odd.img";
+    make_file_of(&rt, path, 51_201);
+    assert_odd_length(&rt, &mut got(&rt, FileDisk::open(&rt, path)));
+    assert_odd_length(&rt, &mut got(&rt, FileDisk::open_read(&rt, path)));
+    got(&rt, fs::remove_file(&rt, path));
 }
