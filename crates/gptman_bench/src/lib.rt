@@ -35,6 +35,8 @@ mod headers;
 #[cfg(test)]
 mod list;
 #[cfg(test)]
+mod long_disk;
+#[cfg(test)]
 mod mbr;
 #[cfg(test)]
 mod memory;
