@@ -59,6 +59,8 @@ mod ported_writing;
 #[cfg(test)]
 mod program;
 #[cfg(test)]
+mod program_damage;
+#[cfg(test)]
 mod program_failures;
 #[cfg(test)]
 mod program_grow;
@@ -72,6 +74,8 @@ mod program_rows;
 mod program_words;
 #[cfg(test)]
 mod reading;
+#[cfg(test)]
+mod refused_edits;
 #[cfg(test)]
 mod searches;
 #[cfg(test)]
