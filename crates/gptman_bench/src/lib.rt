@@ -13,6 +13,8 @@ mod codec;
 #[cfg(test)]
 mod commits;
 #[cfg(test)]
+mod counts;
+#[cfg(test)]
 mod crafted;
 #[cfg(test)]
 mod damage;

@@ -4,8 +4,8 @@
 use crate::asserts::{assert_said, got, holds, places_of};
 use crate::fitting::assert_kept;
 use crate::fixtures::{
-    complement, disk_2, disk_of, image_of, image_of_new_table, new_header, partition, put,
-    read_image, read_with_sectors,
+    complement, disk_2, disk_of, image_of_new_table, new_header, partition, put, read_image,
+    read_with_sectors, written_image,
 };
 use crate::headers::write_entries;
 use gptman::{GPT, GPTHeader, GPTPartitionEntry, MemoryDisk, Result};
@@ -127,7 +127,7 @@ fn find_in_image(alloc: Global, bytes: &[u8]) -> Result<GPT> {
 
 // The bytes of a disk of 100 sectors of 4096, with a table.
 fn image_of_large_sectors(rt: &impl Abort, alloc: Global) -> Vec<u8> {
-    image_of(rt, alloc, &got(rt, disk_2(alloc)))
+    written_image(rt, alloc, &got(rt, disk_2(alloc)))
 }
 
 // The sector size that is found on a disk of these bytes.
