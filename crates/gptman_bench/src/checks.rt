@@ -8,13 +8,20 @@ use gptman::{Edit, GPT};
 use std::alloc::Global;
 use std::process::Abort;
 
-const BOUNDARIES: &str =
+/// What is said where an entry has no place of its own within the usable sectors.
+pub(crate) const BOUNDARIES: &str =
     "invalid partition boundaries: partitions must have positive size, must not overlap, and must fit \
      within the disk";
 
-// The write of the table to so many bytes is answered with this text. A refused one writes no byte and
-// leaves the table as it was.
-fn assert_answered(rt: &impl Abort, alloc: Global, table: &mut GPT, len: usize, said: &str) {
+/// The write of the table to so many bytes is answered with this text. A refused one writes no byte and
+/// leaves the table as it was.
+pub(crate) fn assert_answered(
+    rt: &impl Abort,
+    alloc: Global,
+    table: &mut GPT,
+    len: usize,
+    said: &str,
+) {
     let given = got(rt, table.clone());
     let mut disk = got(rt, disk_of(alloc, 2, len));
     assert_said(rt, alloc, &write(rt, table, &mut disk), said);

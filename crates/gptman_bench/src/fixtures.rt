@@ -247,9 +247,9 @@ fn write_both(rt: &impl Abort, disk: &mut MemoryDisk, table: &GPT, entries: &[GP
     }
 }
 
-/// The table that is read of an image of this one.
+/// The table that is read of a disk of 100 sectors to which this one was written.
 pub(crate) fn reread(rt: &impl Abort, alloc: Global, table: &GPT) -> GPT {
-    let image = image_of(rt, alloc, table);
+    let image = written_image(rt, alloc, table);
     got(rt, read_with_sectors(alloc, &image, table.sector_size))
 }
 
@@ -279,4 +279,11 @@ pub(crate) fn used_names(alloc: Global, table: &GPT) -> std::result::Result<Stri
         }
     }
     Ok(names)
+}
+
+/// The bytes of a zero disk of 100 sectors after the table was written to it as a whole.
+pub(crate) fn written_image(rt: &impl Abort, alloc: Global, table: &GPT) -> Vec<u8> {
+    assert!(rt; table.sector_size <= 4096);
+    let len = 100 * table.sector_size as usize;
+    image_after(rt, alloc, &mut got(rt, table.clone()), len)
 }

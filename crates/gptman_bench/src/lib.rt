@@ -13,6 +13,10 @@ mod codec;
 #[cfg(test)]
 mod commits;
 #[cfg(test)]
+mod counts;
+#[cfg(test)]
+mod crafted;
+#[cfg(test)]
 mod damage;
 #[cfg(test)]
 mod entries;
@@ -35,6 +39,8 @@ mod headers;
 #[cfg(test)]
 mod list;
 #[cfg(test)]
+mod long_disk;
+#[cfg(test)]
 mod mbr;
 #[cfg(test)]
 mod memory;
@@ -55,6 +61,8 @@ mod ported_writing;
 #[cfg(test)]
 mod program;
 #[cfg(test)]
+mod program_damage;
+#[cfg(test)]
 mod program_failures;
 #[cfg(test)]
 mod program_grow;
@@ -68,6 +76,8 @@ mod program_rows;
 mod program_words;
 #[cfg(test)]
 mod reading;
+#[cfg(test)]
+mod refused_edits;
 #[cfg(test)]
 mod searches;
 #[cfg(test)]

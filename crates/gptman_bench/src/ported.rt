@@ -2,8 +2,10 @@
 
 use crate::asserts::{assert_names, assert_said, got, holds, places_of};
 use crate::fixtures::{
-    complement, disk_1, disk_2, image_of, partition, put, read_image, read_with_sectors, reread,
+    complement, disk_1, disk_2, new_table, partition, put, read_image, read_with_sectors, reread,
+    write, written_image,
 };
+use crate::long_disk::LongDisk;
 use crate::names::name_of_units;
 use crate::oracle::{header_checksum, slow_checksum};
 use gptman::{Edit, GPT, GPTPartitionEntry, MemoryDisk, PartitionName};
@@ -38,7 +40,7 @@ fn has_checksums(table: &GPT, array: &[u8]) -> bool {
 
 // The table is read from an image of it with two used entries, which stand in its third sector.
 fn assert_read(rt: &impl Abort, alloc: Global, table: &GPT, sector_size: u16) {
-    let image = image_of(rt, alloc, table);
+    let image = written_image(rt, alloc, table);
     let read = got(rt, read_with_sectors(alloc, &image, u64::from(sector_size)));
     holds(rt, counts_of(&read) == (2, 126));
     let array = array_of(rt, alloc, &read);
@@ -74,9 +76,9 @@ fn assert_found(rt: &impl Abort, alloc: Global, image: Vec<u8>, sector_size: u64
 
 #[test]
 fn read_and_find_from_primary(rt: HostRuntime) {
-    let first = image_of(&rt, rt.alloc(), &got(&rt, disk_1(rt.alloc())));
+    let first = written_image(&rt, rt.alloc(), &got(&rt, disk_1(rt.alloc())));
     assert_found(&rt, rt.alloc(), first, 512, 4096);
-    let second = image_of(&rt, rt.alloc(), &got(&rt, disk_2(rt.alloc())));
+    let second = written_image(&rt, rt.alloc(), &got(&rt, disk_2(rt.alloc())));
     assert_found(&rt, rt.alloc(), second, 4096, 512);
 }
 
@@ -96,7 +98,7 @@ fn assert_backup(rt: &impl Abort, alloc: Global, image: &[u8], sector_size: u64,
 
 // An image of the table with another checksum in its primary header.
 fn broken(rt: &impl Abort, alloc: Global, table: &GPT, sector_size: u16) -> Vec<u8> {
-    let mut image = image_of(rt, alloc, table);
+    let mut image = written_image(rt, alloc, table);
     let checksum_at = usize::from(sector_size) + 16;
     put(&mut image, checksum_at, &1_u32.to_le_bytes());
     image
@@ -120,8 +122,8 @@ fn garbage(rt: &impl Abort, alloc: Global) -> PartitionName {
 }
 
 // The table with this name in its second entry is read with the name's text alone.
-fn assert_label(rt: &impl Abort, alloc: Global, mut table: GPT) {
-    let mut bar = got(rt, partition(alloc, "", [0x0c; 16], 70, 79));
+fn assert_label(rt: &impl Abort, alloc: Global, mut table: GPT, sectors: (u64, u64)) {
+    let mut bar = got(rt, partition(alloc, "", [0x0c; 16], sectors.0, sectors.1));
     bar.partition_name = garbage(rt, alloc);
     holds(rt, bar.partition_name.units()[35] == 0x41);
     got(rt, table.apply(Edit::Put(2, bar)));
@@ -131,14 +133,14 @@ fn assert_label(rt: &impl Abort, alloc: Global, mut table: GPT) {
 
 #[test]
 fn read_label_with_trailing_garbage_in_names(rt: HostRuntime) {
-    assert_label(&rt, rt.alloc(), got(&rt, disk_1(rt.alloc())));
-    assert_label(&rt, rt.alloc(), got(&rt, disk_2(rt.alloc())));
+    assert_label(&rt, rt.alloc(), got(&rt, disk_1(rt.alloc())), (48, 52));
+    assert_label(&rt, rt.alloc(), got(&rt, disk_2(rt.alloc())), (70, 79));
 }
 
 #[test]
 fn gpt_read_from_on_image_with_corrupted_partition_entry_array_crc32_in_primary(rt: HostRuntime) {
     let table = got(&rt, disk_1(rt.alloc()));
-    let mut image = image_of(&rt, rt.alloc(), &table);
+    let mut image = written_image(&rt, rt.alloc(), &table);
     complement(&mut image, 1024);
     assert_backup(&rt, rt.alloc(), &image, 512, 67);
 }
@@ -170,26 +172,35 @@ fn determine_partition_alignment_no_partition(rt: HostRuntime) {
     assert_unused_align(&rt, rt.alloc(), got(&rt, disk_2(rt.alloc())), 2048);
 }
 
-// Disk 1 with two entries that start and end at multiples of this alignment is read with it.
-fn assert_multiples(rt: &impl Abort, alloc: Global, align: u32) {
+// A used entry from 5 to 6 times the alignment, and one from 8 to 16 times.
+fn put_multiples(rt: &impl Abort, alloc: Global, table: &mut GPT, align: u16) {
     let align = u64::from(align);
-    let mut table = got(rt, disk_1(alloc));
-    let foo = got(
-        rt,
-        partition(alloc, "Foo", [0x0b; 16], 5 * align, 6 * align),
+    let foo = partition(alloc, "Foo", [0x0b; 16], align * 5, align * 6);
+    let bar = partition(alloc, "Bar", [0x0c; 16], align * 8, align * 16);
+    got(rt, table.apply(Edit::Put(1, got(rt, foo))));
+    got(rt, table.apply(Edit::Put(2, got(rt, bar))));
+}
+
+// A table with these two, written to a disk of 21 times the alignment, is read with it.
+fn assert_multiples(rt: &impl Abort, alloc: Global, sector_size: u16, align: u16) {
+    assert!(rt; 0 < sector_size);
+    let size = u64::from(sector_size);
+    let mut disk = LongDisk::new(alloc, size * u64::from(align) * 21);
+    let mut table = got(rt, new_table(alloc, &mut disk, size, [1; 16]));
+    put_multiples(rt, alloc, &mut table, align);
+    got(rt, write(rt, &mut table, &mut disk));
+    let read = got(rt, GPT::read_from(alloc, &mut disk, size));
+    assert!(rt;
+        read.align == u64::from(align) && read.iter().eq(table.iter()),
+        "{align}"
     );
-    let bar = got(
-        rt,
-        partition(alloc, "Bar", [0x0c; 16], 8 * align, 16 * align),
-    );
-    let read = align_of(rt, alloc, &mut table, foo, bar);
-    assert!(rt; read == align, "{read} of {align}");
 }
 
 #[test]
 fn determine_partition_alignment(rt: HostRuntime) {
     for align in [8, 2048, 8192] {
-        assert_multiples(&rt, rt.alloc(), align);
+        assert_multiples(&rt, rt.alloc(), 512, align);
+        assert_multiples(&rt, rt.alloc(), 4096, align);
     }
 }
 

@@ -1,11 +1,9 @@
 //! Tests of the Rust crate on writing, each under its own name, over disks made from numbers.
 
-use crate::asserts::{
-    assert_boundaries, assert_bounds, assert_said, bounds_of, got, holds, places_of,
-};
+use crate::asserts::{assert_boundaries, assert_bounds, got, holds, places_of};
 use crate::fixtures::{
-    complement, disk_1, disk_2, disk_of, image_after, image_of, partition, read_image,
-    read_with_sectors, reread, write,
+    are_all, complement, disk_1, disk_2, disk_of, image_after, partition, read_with_sectors,
+    reread, write, written_image,
 };
 use gptman::{Edit, GPT, GPTHeader, MemoryDisk};
 use std::alloc::Global;
@@ -73,7 +71,7 @@ fn write_with_changes(rt: HostRuntime) {
 
 // The table as it is read of an image of it whose primary copy is broken.
 fn read_backup(rt: &impl Abort, alloc: Global, table: &GPT) -> GPT {
-    let mut image = image_of(rt, alloc, table);
+    let mut image = written_image(rt, alloc, table);
     break_primary(&mut image, table);
     got(rt, read_with_sectors(alloc, &image, table.sector_size))
 }
@@ -94,52 +92,63 @@ fn write_from_backup(rt: HostRuntime) {
     assert_backup(&rt, rt.alloc(), &second, 95);
 }
 
-// What the write of disk 1 with its entry 1 from and to these sectors answers.
-fn write_with_foo(
-    rt: &impl Abort,
-    alloc: Global,
-    sectors: (u64, u64),
-) -> gptman::Result<GPTHeader> {
-    let mut table = got(rt, disk_1(alloc));
-    let foo = got(
-        rt,
-        partition(alloc, "Foo", [0x0b; 16], sectors.0, sectors.1),
-    );
-    got(rt, table.apply(Edit::Put(1, foo)));
-    let mut disk = got(rt, disk_of(alloc, 0, 51_200));
-    write(rt, &mut table, &mut disk)
+// The write of the table with other sectors of its first entry is refused for them.
+fn assert_not_written(rt: &impl Abort, alloc: Global, table: &GPT, sectors: (u64, u64)) {
+    let mut table = got(rt, table.clone());
+    let foo = partition(alloc, "Foo", [0x0b; 16], sectors.0, sectors.1);
+    got(rt, table.apply(Edit::Put(1, got(rt, foo))));
+    let mut disk = got(rt, disk_of(alloc, 2, 409_600));
+    let outcome = write(rt, &mut table, &mut disk);
+    assert_boundaries(rt, alloc, &outcome);
+    holds(rt, are_all(disk.bytes(), 2));
 }
 
 #[test]
 fn write_invalid_boundaries(rt: HostRuntime) {
-    for sectors in [(33, 43), (34, 33), (34, 48), (53, 67)] {
-        let outcome = write_with_foo(&rt, rt.alloc(), sectors);
-        assert_boundaries(&rt, rt.alloc(), &outcome);
+    let first = reread(&rt, rt.alloc(), &got(&rt, disk_1(rt.alloc())));
+    for sectors in [(33, 43), (43, 34), (34, 48), (53, 67)] {
+        assert_not_written(&rt, rt.alloc(), &first, sectors);
     }
-    let outcome = write_with_foo(&rt, rt.alloc(), (34, 43));
-    assert_said(&rt, rt.alloc(), &outcome, "ok");
+    let second = reread(&rt, rt.alloc(), &got(&rt, disk_2(rt.alloc())));
+    for sectors in [(5, 15), (15, 6), (6, 70), (80, 95)] {
+        assert_not_written(&rt, rt.alloc(), &second, sectors);
+    }
+    written_image(&rt, rt.alloc(), &first);
+    written_image(&rt, rt.alloc(), &second);
 }
 
-// A new table for an image of this one has its bounds.
-fn assert_fitted(rt: &impl Abort, alloc: Global, table: &GPT) {
-    let image = image_of(rt, alloc, table);
+// A new table for a disk with this table has these bounds, which are the table's too.
+fn assert_fitted(rt: &impl Abort, alloc: Global, table: &GPT, bounds: (u64, u64, u64)) {
+    let image = written_image(rt, alloc, table);
     let mut disk = got(rt, MemoryDisk::new(alloc, image));
     let size = table.sector_size.max(1);
-    let new = got(rt, GPT::new_from(alloc, &mut disk, size, [0xff; 16]));
-    assert_bounds(rt, &new.header, bounds_of(&table.header));
+    let new = got(rt, GPT::new_from(alloc, &mut disk, size, [1; 16]));
+    assert_bounds(rt, &new.header, bounds);
+    assert_bounds(rt, &table.header, bounds);
 }
 
 #[test]
 fn create_new_gpt(rt: HostRuntime) {
     let first = got(&rt, disk_1(rt.alloc()));
-    assert_fitted(&rt, rt.alloc(), &first);
+    assert_fitted(&rt, rt.alloc(), &first, (34, 66, 99));
     let second = got(&rt, disk_2(rt.alloc()));
-    assert_fitted(&rt, rt.alloc(), &second);
+    assert_fitted(&rt, rt.alloc(), &second, (6, 94, 99));
+}
+
+// The table as it is read is written to a disk of so many bytes, and read back equal.
+fn assert_on_bigger_disk(rt: &impl Abort, alloc: Global, table: &GPT, len: usize) {
+    let mut table = reread(rt, alloc, table);
+    let image = image_after(rt, alloc, &mut table, len);
+    holds(
+        rt,
+        got(rt, read_with_sectors(alloc, &image, table.sector_size)) == table,
+    );
 }
 
 #[test]
 fn read_from_smaller_disk_and_write_to_bigger_disk(rt: HostRuntime) {
-    let mut table = reread(&rt, rt.alloc(), &got(&rt, disk_1(rt.alloc())));
-    let image = image_after(&rt, rt.alloc(), &mut table, 102_400);
-    holds(&rt, got(&rt, read_image(rt.alloc(), &image)) == table);
+    let first = got(&rt, disk_1(rt.alloc()));
+    assert_on_bigger_disk(&rt, rt.alloc(), &first, 102_400);
+    let second = got(&rt, disk_2(rt.alloc()));
+    assert_on_bigger_disk(&rt, rt.alloc(), &second, 819_200);
 }

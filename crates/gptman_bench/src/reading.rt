@@ -4,8 +4,8 @@
 use crate::asserts::{assert_said, got, holds, places_of};
 use crate::fitting::assert_kept;
 use crate::fixtures::{
-    complement, disk_2, disk_of, image_of, image_of_new_table, new_header, partition, put,
-    read_image, read_with_sectors,
+    complement, disk_2, disk_of, image_of_new_table, new_header, partition, put, read_image,
+    read_with_sectors, written_image,
 };
 use crate::headers::write_entries;
 use gptman::{GPT, GPTHeader, GPTPartitionEntry, MemoryDisk, Result};
@@ -127,7 +127,7 @@ fn find_in_image(alloc: Global, bytes: &[u8]) -> Result<GPT> {
 
 // The bytes of a disk of 100 sectors of 4096, with a table.
 fn image_of_large_sectors(rt: &impl Abort, alloc: Global) -> Vec<u8> {
-    image_of(rt, alloc, &got(rt, disk_2(alloc)))
+    written_image(rt, alloc, &got(rt, disk_2(alloc)))
 }
 
 // The sector size that is found on a disk of these bytes.
@@ -195,15 +195,20 @@ fn the_alignment_is_derived(rt: HostRuntime) {
     }
 }
 
-// What is read from a disk of 100 sectors of 512 with a new table and this header, its checksum made
-// right, in sector 1. The last sector is zero.
-fn read_crafted(rt: &impl Abort, alloc: Global, mut header: GPTHeader) -> Result<GPT> {
+/// The bytes of a disk of 100 sectors of 512 with a new table and this header, its checksum made right,
+/// in sector 1. The last sector is zero.
+pub(crate) fn crafted_image(rt: &impl Abort, alloc: Global, mut header: GPTHeader) -> Vec<u8> {
     assert!(rt; header.header_size == 92);
     let mut image = image_of_new_table(rt, alloc, 0);
     header.update_crc32_checksum();
     put(&mut image, 512, &header.encode());
     put(&mut image, 50_688, &[0; 512]);
-    read_image(alloc, &image)
+    image
+}
+
+// What is read of that disk.
+fn read_crafted(rt: &impl Abort, alloc: Global, header: GPTHeader) -> Result<GPT> {
+    read_image(alloc, &crafted_image(rt, alloc, header))
 }
 
 #[test]
@@ -241,17 +246,31 @@ fn a_crafted_header_is_refused(rt: HostRuntime) {
     }
 }
 
-#[test]
-fn a_table_without_entries_is_read(rt: HostRuntime) {
-    let header = GPTHeader {
+/// A new header that counts no entries, which would be of 256 bytes.
+pub(crate) fn header_without_entries(rt: &impl Abort, alloc: Global) -> GPTHeader {
+    GPTHeader {
         number_of_partition_entries: 0,
         size_of_partition_entry: 256,
-        ..got(&rt, new_header(rt.alloc()))
-    };
+        ..got(rt, new_header(alloc))
+    }
+}
+
+#[test]
+fn a_table_without_entries_is_read(rt: HostRuntime) {
+    let header = header_without_entries(&rt, rt.alloc());
     let table = got(&rt, read_crafted(&rt, rt.alloc(), header));
     holds(&rt, table.is_coherent() && table.align == 2048);
     holds(&rt, table.header.number_of_partition_entries == 0);
     assert_kept(&rt, rt.alloc(), table.header, 51_200);
+}
+
+// The table has so many entries, each of them the empty one.
+fn assert_empty(rt: &impl Abort, alloc: Global, table: &GPT, count: usize) {
+    let empty = GPTPartitionEntry::empty(alloc);
+    for (number, entry) in table.iter() {
+        assert!(rt; *entry == empty, "entry {number}");
+    }
+    holds(rt, table.iter().count() == count);
 }
 
 #[test]
@@ -267,4 +286,5 @@ fn entries_may_stand_in_any_sector(rt: HostRuntime) {
         &rt,
         table.header.partition_entry_lba == 0 && table.is_coherent(),
     );
+    assert_empty(&rt, rt.alloc(), &table, 4);
 }
