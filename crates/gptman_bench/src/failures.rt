@@ -89,7 +89,7 @@ fn assert_from(rt: &impl Abort, alloc: Global, image: &[u8], call: u64, said: &s
 // The bytes of a new table whose primary header has a fault, where this byte is complemented.
 fn broken_image(rt: &impl Abort, alloc: Global, at: usize) -> Vec<u8> {
     let mut image = image_of_new_table(rt, alloc, 0);
-    complement(&mut image, at);
+    complement(rt, &mut image, at);
     image
 }
 

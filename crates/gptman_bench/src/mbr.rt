@@ -13,18 +13,18 @@ const PARTITION: [u8; 16] = [
 ];
 
 // That partition with another byte at this place.
-fn partition_with(at: usize, byte: u8) -> [u8; 16] {
+fn partition_with(rt: &impl Abort, at: usize, byte: u8) -> [u8; 16] {
     let mut partition = PARTITION;
-    put(&mut partition, at, &[byte]);
+    put(rt, &mut partition, at, &[byte]);
     partition
 }
 
 // So many bytes 2, with an MBR of this partition alone.
 fn image_with(rt: &impl Abort, alloc: Global, len: usize, partition: &[u8; 16]) -> Vec<u8> {
     let mut image = got(rt, vec![in alloc; 2; len]);
-    put(&mut image, 446, partition);
-    put(&mut image, 462, &[0; 48]);
-    put(&mut image, 510, &[0x55, 0xaa]);
+    put(rt, &mut image, 446, partition);
+    put(rt, &mut image, 462, &[0; 48]);
+    put(rt, &mut image, 510, &[0x55, 0xaa]);
     image
 }
 
@@ -65,14 +65,14 @@ fn writing_protective_mbr(rt: HostRuntime) {
 
 #[test]
 fn a_bootable_mbr_differs_in_its_first_byte(rt: HostRuntime) {
-    let partition = partition_with(0, 0x80);
+    let partition = partition_with(&rt, 0, 0x80);
     assert_writes(&rt, rt.alloc(), (51_200, 512), true, &partition);
 }
 
 #[test]
 fn whole_sectors_but_the_first_are_counted(rt: HostRuntime) {
     for (len, count) in [(512, 0), (1023, 0), (1024, 1), (51_711, 99), (51_712, 100)] {
-        let partition = partition_with(12, count);
+        let partition = partition_with(&rt, 12, count);
         assert_writes(&rt, rt.alloc(), (len, 512), false, &partition);
     }
 }
@@ -113,7 +113,7 @@ fn a_disk_that_is_too_short_is_not_changed(rt: HostRuntime) {
 fn image(rt: &impl Abort, alloc: Global, is_torn: bool) -> Vec<u8> {
     let mut image = got(rt, vec![in alloc; 2; 51_200]);
     if is_torn {
-        put(&mut image, 446, &[7; 66]);
+        put(rt, &mut image, 446, &[7; 66]);
     }
     image
 }

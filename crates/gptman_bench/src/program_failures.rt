@@ -42,7 +42,7 @@ fn refusals_are_named(rt: HostRuntime) {
 fn shown_with(rt: &impl Abort, alloc: Global, damaged: &[usize]) -> Outcome {
     let mut image = image_of_new_table(rt, alloc, 0);
     for at in damaged {
-        complement(&mut image, *at);
+        complement(rt, &mut image, *at);
     }
     let mut disk = got(rt, MemoryDisk::new(alloc, image));
     call_line(rt, alloc, &mut disk, "512 show")
@@ -167,7 +167,7 @@ const FAILED_LATER: [&str; 2] = [FAILED, "fault: ReadError(InvalidSignature, Io)
 #[test]
 fn a_failing_disk_with_one_copy_is_named(rt: HostRuntime) {
     let mut image = image_with_foo(&rt, rt.alloc());
-    put(&mut image, 512, &[0; 92]);
+    put(&rt, &mut image, 512, &[0; 92]);
     assert_all_fail(&rt, rt.alloc(), &image, &FAILED_LATER);
 }
 

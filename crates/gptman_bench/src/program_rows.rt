@@ -123,7 +123,7 @@ fn assert_mbr(rt: &impl Abort, alloc: Global, image: &[u8], line: &str, wanted: 
 #[test]
 fn an_mbr_is_written_and_the_table_is_kept(rt: HostRuntime) {
     let mut image = image_with_foo(&rt, rt.alloc());
-    put(&mut image, 0, &[2; 512]);
+    put(&rt, &mut image, 0, &[2; 512]);
     let mut bootable = PARTITION;
     bootable[0] = 0x80;
     let wanted = with_mbr(&rt, rt.alloc(), &image, &PARTITION);

@@ -24,7 +24,7 @@ struct Case {
 fn image(rt: &impl Abort, alloc: Global, zeroed: Option<usize>) -> Vec<u8> {
     let mut image = image_of(rt, alloc, &got(rt, disk_1(alloc)));
     if let Some(at) = zeroed {
-        put(&mut image, at, &[0; 92]);
+        put(rt, &mut image, at, &[0; 92]);
     }
     image
 }
@@ -84,7 +84,7 @@ fn is_written<D: Disk>(rt: &impl Abort, disk: &mut D, table: &GPT) -> bool {
 // The table that is read where the header at this byte is broken.
 fn read_without(rt: &impl Abort, alloc: Global, bytes: &[u8], header: usize) -> Result<GPT> {
     let mut bytes = got(rt, bytes.to_vec(alloc));
-    put(&mut bytes, header, &[0; 8]);
+    put(rt, &mut bytes, header, &[0; 8]);
     read_image(alloc, &bytes)
 }
 
