@@ -109,6 +109,13 @@ pub(crate) fn put(rt: &impl Abort, bytes: &mut [u8], at: usize, over: &[u8]) {
     bytes[at..at + over.len()].copy_from_slice(over);
 }
 
+/// Puts an MBR of this partition alone into the image.
+pub(crate) fn put_mbr(rt: &impl Abort, image: &mut [u8], partition: &[u8; 16]) {
+    put(rt, image, 446, partition);
+    put(rt, image, 462, &[0; 48]);
+    put(rt, image, 510, &[0x55, 0xaa]);
+}
+
 /// Complements the byte at this place.
 pub(crate) fn complement(rt: &impl Abort, bytes: &mut [u8], at: usize) {
     assert!(rt; at < bytes.len(), "no byte at {at} to be complemented");

@@ -1,7 +1,7 @@
 //! The protective MBR: its 66 bytes, the disks that are too short for it, and a disk that fails.
 
 use crate::asserts::{assert_said, got, holds};
-use crate::fixtures::{are_all, disk_of, put};
+use crate::fixtures::{are_all, disk_of, put, put_mbr};
 use crate::memory::fused;
 use gptman::{Fate, GPT, MemoryDisk};
 use std::alloc::Global;
@@ -22,9 +22,7 @@ fn partition_with(rt: &impl Abort, at: usize, byte: u8) -> [u8; 16] {
 // So many bytes 2, with an MBR of this partition alone.
 fn image_with(rt: &impl Abort, alloc: Global, len: usize, partition: &[u8; 16]) -> Vec<u8> {
     let mut image = got(rt, vec![in alloc; 2; len]);
-    put(rt, &mut image, 446, partition);
-    put(rt, &mut image, 462, &[0; 48]);
-    put(rt, &mut image, 510, &[0x55, 0xaa]);
+    put_mbr(rt, &mut image, partition);
     image
 }
 

@@ -130,13 +130,16 @@ fn assert_only_reads(rt: &impl Abort, alloc: Global, image: &[u8], line: &str) {
 
 const READERS: [&str; 4] = ["512 show", "auto show", "512 free 1", "auto free 1"];
 
-const CHANGES: [&str; 8] = [
+const CHANGES: [&str; 11] = [
     "512 new V",
     "512 mbr plain",
+    "512 mbr bootable",
     "512 add 2 T V 5 last 4 Bar",
     "auto add 2 T V 5 last 4 Bar",
     "512 remove 1",
+    "auto remove 1",
     "512 sort",
+    "auto sort",
     "512 grow",
     "auto grow",
 ];
@@ -171,7 +174,14 @@ fn a_failing_disk_with_one_copy_is_named(rt: HostRuntime) {
     assert_all_fail(&rt, rt.alloc(), &image, &FAILED_LATER);
 }
 
-const FINDERS: [&str; 4] = ["auto show", "auto free 1", "auto sort", "auto grow"];
+const FINDERS: [&str; 6] = [
+    "auto show",
+    "auto free 1",
+    "auto add 3 T V 5 last 1 Baz",
+    "auto remove 1",
+    "auto sort",
+    "auto grow",
+];
 
 #[test]
 fn a_failing_disk_has_no_sector_size(rt: HostRuntime) {
