@@ -174,8 +174,7 @@ fn only_the_new_copies_are_written(rt: HostRuntime) {
 
 // Whether the table is one of the two.
 fn is_one_of(table: &GPT, tables: (&GPT, &GPT)) -> bool {
-    (is_same_table(table, tables.0) || is_same_table(table, tables.1))
-        && matches!(table.header.last_usable_lba, 66 | 166)
+    is_same_table(table, tables.0) || is_same_table(table, tables.1)
 }
 
 // Stops a `grow` of this image after so many calls, with these fates. What is left is read as one of
