@@ -1,9 +1,10 @@
 //! The protective MBR: its 66 bytes, the disks that are too short for it, and a disk that fails.
 
 use crate::asserts::{assert_said, got, holds};
+use crate::faulty::failing_once;
 use crate::fixtures::{are_all, disk_of, put, put_mbr};
 use crate::memory::fused;
-use gptman::{Fate, GPT, MemoryDisk};
+use gptman::{Disk, Fate, GPT, MemoryDisk};
 use std::alloc::Global;
 use std::process::Abort;
 
@@ -27,9 +28,9 @@ fn image_with(rt: &impl Abort, alloc: Global, len: usize, partition: &[u8; 16]) 
 }
 
 // Writes one of the two, with sectors of this many bytes.
-fn write(
+fn write<D: Disk>(
     rt: &impl Abort,
-    disk: &mut MemoryDisk,
+    disk: &mut D,
     sector_size: u16,
     is_bootable: bool,
 ) -> gptman::Result<()> {
@@ -155,6 +156,36 @@ fn write_at_last(rt: &impl Abort, alloc: Global, is_bootable: bool) {
 fn a_disk_that_fails_keeps_all_other_bytes(rt: HostRuntime) {
     write_at_last(&rt, rt.alloc(), false);
     write_at_last(&rt, rt.alloc(), true);
+}
+
+// Writes an MBR over bytes 2 on a disk of which one call fails, or none, and stops it then with this
+// fate. The third call is the write, and from it on these bytes are left; before it nothing changes.
+fn fail_once(rt: &impl Abort, alloc: Global, is_bootable: bool, call: u64, left: (Fate, &[u8])) {
+    let old = image(rt, alloc, false);
+    let mut disk = failing_once(rt, alloc, &old, call);
+    let outcome = write(rt, &mut disk, 512, is_bootable);
+    let said = if call < 3 { "generic I/O error" } else { "ok" };
+    assert_said(rt, alloc, &outcome, said);
+    let stopped = got(rt, disk.into_inner().stop(&[left.0]));
+    let wanted = if call < 2 { old.as_slice() } else { left.1 };
+    assert!(rt; stopped.bytes() == wanted, "call {call}");
+}
+
+// The same with each fate. What was written begins with this byte.
+fn fail_once_and_stop(rt: &impl Abort, alloc: Global, is_bootable: bool, first: u8, call: u64) {
+    let (old, torn) = (image(rt, alloc, false), image(rt, alloc, true));
+    let new = image_with(rt, alloc, 51_200, &partition_with(rt, 0, first));
+    fail_once(rt, alloc, is_bootable, call, (Fate::Old, &old));
+    fail_once(rt, alloc, is_bootable, call, (Fate::New, &new));
+    fail_once(rt, alloc, is_bootable, call, (Fate::Garbage(7), &torn));
+}
+
+#[test]
+fn one_failed_call_leaves_an_mbr_or_what_was_there(rt: HostRuntime) {
+    for call in 0..=3 {
+        fail_once_and_stop(&rt, rt.alloc(), false, 0, call);
+        fail_once_and_stop(&rt, rt.alloc(), true, 0x80, call);
+    }
 }
 
 #[test]
