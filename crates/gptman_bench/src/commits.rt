@@ -1,18 +1,19 @@
 //! Lists of edits that are written one after the other.
 
 use crate::asserts::{assert_names, got, holds};
+use crate::faulty::failing_once;
 use crate::fixtures::{
     DISK_GUID, are_all, disk_of, image_of_new_table, new_small_table, new_table, new_written,
     partition, read_image,
 };
 use crate::memory::fused;
-use crate::stops::count_used;
-use gptman::{Edit, Error, Fate, GPT, MemoryDisk, Progress};
+use crate::stops::is_same_table;
+use gptman::{Disk, Edit, Error, Fate, GPT, MemoryDisk, Progress};
 use std::alloc::{AllocError, Global};
 use std::process::Abort;
 
 // Commits the edits to the table that is on the disk, and gives back what came of it.
-fn commit(rt: &impl Abort, table: &mut GPT, disk: &mut MemoryDisk, edits: Vec<Edit>) -> Progress {
+fn commit<D: Disk>(rt: &impl Abort, table: &mut GPT, disk: &mut D, edits: Vec<Edit>) -> Progress {
     assert!(rt; table.sector_size > 0 && table.is_coherent());
     table.commit_all(disk, edits)
 }
@@ -129,33 +130,74 @@ fn three_edits(rt: &impl Abort, alloc: Global) -> Vec<Edit> {
     edits
 }
 
+// How many calls the writes of the three edits make, 19 each.
+const CALLS: u64 = 57;
+
 // How many of the three edits are done on this disk, which holds the image and may fail.
-fn commit_three(rt: &impl Abort, alloc: Global, disk: &mut MemoryDisk, image: &[u8]) -> usize {
+fn commit_three<D: Disk>(rt: &impl Abort, alloc: Global, disk: &mut D, image: &[u8]) -> usize {
     let mut table = got(rt, read_image(alloc, image));
     let progress = commit(rt, &mut table, disk, three_edits(rt, alloc));
     holds(rt, matches!(&progress.fault, None | Some(Error::Io(_))));
     progress.done
 }
 
-// The number of used entries of the table that is read after three edits were stopped after so many
-// calls, with all that is pending of one fate, and how many edits were done.
-fn left_after(rt: &impl Abort, alloc: Global, calls: u64, fate: Fate) -> (usize, usize) {
-    let image = image_of_new_table(rt, alloc, 0);
-    let mut disk = fused(rt, alloc, &image, calls);
-    let done = commit_three(rt, alloc, &mut disk, &image);
+// The table of the image after so many of the three edits.
+fn table_after(rt: &impl Abort, alloc: Global, image: &[u8], count: usize) -> GPT {
+    let mut table = got(rt, read_image(alloc, image));
+    for edit in three_edits(rt, alloc).into_iter().take(count) {
+        got(rt, table.apply(edit));
+    }
+    table
+}
+
+// These bytes are read as the table after so many of the edits, or after one more.
+fn assert_after(rt: &impl Abort, alloc: Global, bytes: &[u8], image: &[u8], done: usize) {
+    let read = got(rt, read_image(alloc, bytes));
+    let last = table_after(rt, alloc, image, done);
+    let next = table_after(rt, alloc, image, done.saturating_add(1));
+    assert!(rt;
+        is_same_table(&read, &last) || is_same_table(&read, &next),
+        "{done} edits"
+    );
+}
+
+// Stops the three edits after so many calls, with all that is pending of one fate.
+fn stop_after(rt: &impl Abort, alloc: Global, image: &[u8], calls: u64, fate: Fate) {
+    let mut disk = fused(rt, alloc, image, calls);
+    let done = commit_three(rt, alloc, &mut disk, image);
+    assert!(rt; (done == 3) == (calls == CALLS), "{calls} calls");
     let left = got(rt, disk.stop(&[fate; 6]));
-    let read = got(rt, read_image(alloc, left.bytes()));
-    (count_used(&read), done)
+    assert_after(rt, alloc, left.bytes(), image, done);
 }
 
 #[test]
 fn a_stop_leaves_the_table_after_some_of_the_edits(rt: HostRuntime) {
+    let image = image_of_new_table(&rt, rt.alloc(), 0);
     for fate in [Fate::Old, Fate::New, Fate::Garbage(7)] {
-        for calls in 0..=57 {
-            let (used, done) = left_after(&rt, rt.alloc(), calls, fate);
-            let is_one = done <= 3 && (used == done || used == done + 1);
-            let is_right = is_one && (done == 3) == (calls == 57);
-            assert!(rt; is_right, "{calls} calls, {fate:?}");
+        for calls in 0..=CALLS {
+            stop_after(&rt, rt.alloc(), &image, calls, fate);
+        }
+    }
+}
+
+// Makes the three edits on a disk of which one call fails, or none, and stops it then, with all that is
+// pending of one fate.
+fn fail_once(rt: &impl Abort, alloc: Global, image: &[u8], call: u64, fate: Fate) {
+    let mut disk = failing_once(rt, alloc, image, call);
+    let done = commit_three(rt, alloc, &mut disk, image);
+    assert!(rt; (done == 3) == (call == CALLS), "call {call}");
+    let left = disk.into_inner();
+    assert_after(rt, alloc, left.bytes(), image, done);
+    let stopped = got(rt, left.stop(&[fate; 6]));
+    assert_after(rt, alloc, stopped.bytes(), image, done);
+}
+
+#[test]
+fn one_failed_call_leaves_the_table_after_some_of_the_edits(rt: HostRuntime) {
+    let image = image_of_new_table(&rt, rt.alloc(), 0);
+    for fate in [Fate::Old, Fate::New, Fate::Garbage(7)] {
+        for call in 0..=CALLS {
+            fail_once(&rt, rt.alloc(), &image, call, fate);
         }
     }
 }

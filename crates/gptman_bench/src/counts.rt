@@ -81,7 +81,7 @@ fn assert_written(rt: &impl Abort, alloc: Global, mut table: GPT, last: u64) {
         rt,
         read.header == table.header && read.iter().eq(table.iter()),
     );
-    complement(&mut image, 512);
+    complement(rt, &mut image, 512);
     let read = got(rt, read_image(alloc, &image));
     holds(rt, places_of(&other) == (99, 1, last.saturating_add(1)));
     holds(rt, read.header == other && read.iter().eq(table.iter()));

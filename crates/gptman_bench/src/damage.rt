@@ -51,7 +51,7 @@ fn image(rt: &impl Abort, alloc: Global) -> Vec<u8> {
 fn each_copy_of_the_image_is_whole(rt: HostRuntime) {
     for (broken, primary_lba) in [(19_968, 1), (512, 39)] {
         let mut bytes = image(&rt, rt.alloc());
-        complement(&mut bytes, broken);
+        complement(&rt, &mut bytes, broken);
         let table = got(&rt, read_image(rt.alloc(), &bytes));
         holds(&rt, table.header.primary_lba == primary_lba);
         assert_names(&rt, rt.alloc(), &table, "1 Foo, 3 Bar, ");
@@ -66,14 +66,14 @@ fn agree(rt: &impl Abort, alloc: Global, bytes: &[u8], what: &str, at: usize) {
 // Both agree on the image with the byte of this place complemented, alone and with each of the two
 // headers broken. The image is then as it was.
 fn agree_damaged(rt: &impl Abort, alloc: Global, image: &mut [u8], at: usize) {
-    complement(image, at);
+    complement(rt, image, at);
     agree(rt, alloc, image, "damaged", at);
     for header in HEADERS {
-        complement(image, header);
+        complement(rt, image, header);
         agree(rt, alloc, image, "damaged twice", at);
-        complement(image, header);
+        complement(rt, image, header);
     }
-    complement(image, at);
+    complement(rt, image, at);
 }
 
 #[test]
@@ -98,24 +98,27 @@ fn damaged_entries_are_read_alike(rt: HostRuntime) {
 }
 
 // The image with this byte of a header complemented and the header's checksum made right again.
-fn craft(image: &mut [u8], header: usize, at: usize) {
+fn craft(rt: &impl Abort, image: &mut [u8], header: usize, at: usize) {
+    let len = image.len();
+    assert!(rt;
+        header <= len && 92 <= len - header,
+        "no header at {header}"
+    );
     let mut bytes = [0; 92];
-    for (byte, from) in bytes.iter_mut().zip(image.iter().skip(header)) {
-        *byte = *from;
-    }
-    complement(&mut bytes, at);
+    bytes.copy_from_slice(&image[header..header + 92]);
+    complement(rt, &mut bytes, at);
     let checksum = header_checksum(&bytes);
-    put(&mut bytes, 16, &checksum.to_le_bytes());
-    put(image, header, &bytes);
+    put(rt, &mut bytes, 16, &checksum.to_le_bytes());
+    put(rt, image, header, &bytes);
 }
 
 // Both agree on the image with a byte of the first header crafted so, alone and with the other header
 // broken.
 fn agree_crafted(rt: &impl Abort, alloc: Global, headers: (usize, usize), at: usize) {
     let mut bytes = image(rt, alloc);
-    craft(&mut bytes, headers.0, at);
+    craft(rt, &mut bytes, headers.0, at);
     agree(rt, alloc, &bytes, "crafted", at);
-    complement(&mut bytes, headers.1);
+    complement(rt, &mut bytes, headers.1);
     agree(rt, alloc, &bytes, "crafted alone", at);
 }
 
@@ -145,8 +148,8 @@ fn cut_images_are_read_alike(rt: HostRuntime) {
 // Both agree on the image with these two sectors zeroed.
 fn agree_zeroed(rt: &impl Abort, alloc: Global, image: &[u8], sectors: (u16, u16)) {
     let mut bytes = got(rt, image.to_vec(alloc));
-    put(&mut bytes, 512 * usize::from(sectors.0), &[0; 512]);
-    put(&mut bytes, 512 * usize::from(sectors.1), &[0; 512]);
+    put(rt, &mut bytes, 512 * usize::from(sectors.0), &[0; 512]);
+    put(rt, &mut bytes, 512 * usize::from(sectors.1), &[0; 512]);
     agree(rt, alloc, &bytes, "zeroed", usize::from(sectors.0));
 }
 

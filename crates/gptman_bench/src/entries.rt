@@ -66,7 +66,7 @@ fn an_entry_that_is_reversed_or_unused_has_no_range(rt: HostRuntime) {
 // A disk of 300 bytes, all 2 but for "Foo" at byte 100, at this position.
 fn disk_with_foo(rt: &impl Abort, alloc: Global, at: u64) -> MemoryDisk {
     let mut bytes = got(rt, vec![in alloc; 2; 300]);
-    put(&mut bytes, 100, &foo(rt, alloc, 34, 43).encode());
+    put(rt, &mut bytes, 100, &foo(rt, alloc, 34, 43).encode());
     let mut disk = got(rt, MemoryDisk::new(alloc, bytes));
     got(rt, disk.seek_start(at));
     disk

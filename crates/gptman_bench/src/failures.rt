@@ -89,7 +89,7 @@ fn assert_from(rt: &impl Abort, alloc: Global, image: &[u8], call: u64, said: &s
 // The bytes of a new table whose primary header has a fault, where this byte is complemented.
 fn broken_image(rt: &impl Abort, alloc: Global, at: usize) -> Vec<u8> {
     let mut image = image_of_new_table(rt, alloc, 0);
-    complement(&mut image, at);
+    complement(rt, &mut image, at);
     image
 }
 
@@ -122,6 +122,29 @@ fn a_device_that_fails_from_a_call_on_is_answered(rt: HostRuntime) {
             };
             assert_from(&rt, rt.alloc(), &image, call, said);
         }
+    }
+}
+
+// A reading of these bytes from a disk that serves so many calls changes no byte. It takes eight calls,
+// and is refused where there are fewer.
+fn assert_fused(rt: &impl Abort, alloc: Global, image: &[u8], calls: u64, is_found: bool) {
+    let mut disk = fused(rt, alloc, image, calls);
+    let read = if is_found {
+        GPT::find_from(alloc, &mut disk)
+    } else {
+        GPT::read_from(alloc, &mut disk, 512)
+    };
+    let said = if calls < 8 { FAILED } else { PRIMARY };
+    assert_told(rt, alloc, &read, calls, said);
+    assert!(rt; disk.bytes() == image, "{calls} calls");
+}
+
+#[test]
+fn a_good_table_is_read_where_eight_calls_are_served(rt: HostRuntime) {
+    let image = image_of_new_table(&rt, rt.alloc(), 0);
+    for calls in 0..10 {
+        assert_fused(&rt, rt.alloc(), &image, calls, false);
+        assert_fused(&rt, rt.alloc(), &image, calls, true);
     }
 }
 

@@ -106,7 +106,7 @@ pub(crate) fn failing_once(
 #[test]
 fn a_write_that_fails_is_passed_on(rt: HostRuntime) {
     let mut disk = failing_once(&rt, rt.alloc(), &[1, 2, 3, 4], 2);
-    holds(&rt, put(&mut disk, 1, &[7, 7]).is_err());
+    holds(&rt, put(&rt, &mut disk, 1, &[7, 7]).is_err());
     holds(&rt, disk.into_inner().bytes() == [1, 7, 7, 4].as_slice());
 }
 
@@ -154,7 +154,7 @@ fn a_read_past_the_end_is_not_counted(rt: HostRuntime) {
 // The bytes 1 to 4, after 07 07 at 1 and a sync that failed.
 fn not_synced(rt: &impl Abort, alloc: Global) -> FaultyDisk<MemoryDisk> {
     let mut disk = failing_once(rt, alloc, &[1, 2, 3, 4], 3);
-    got(rt, put(&mut disk, 1, &[7, 7]));
+    got(rt, put(rt, &mut disk, 1, &[7, 7]));
     holds(rt, disk.sync().is_err());
     disk
 }

@@ -99,18 +99,27 @@ pub(crate) fn bytes_at<const N: usize>(disk: &mut MemoryDisk, at: u64) -> io::Re
     Ok(bytes)
 }
 
-/// Puts these bytes over those from `at` on, as far as there are any.
-pub(crate) fn put(bytes: &mut [u8], at: usize, over: &[u8]) {
-    for (byte, new) in bytes.iter_mut().skip(at).zip(over) {
-        *byte = *new;
-    }
+/// Puts these bytes over as many others, from `at` on.
+pub(crate) fn put(rt: &impl Abort, bytes: &mut [u8], at: usize, over: &[u8]) {
+    let len = bytes.len();
+    assert!(rt;
+        at <= len && over.len() <= len - at,
+        "no bytes at {at} to be replaced"
+    );
+    bytes[at..at + over.len()].copy_from_slice(over);
+}
+
+/// Puts an MBR of this partition alone into the image.
+pub(crate) fn put_mbr(rt: &impl Abort, image: &mut [u8], partition: &[u8; 16]) {
+    put(rt, image, 446, partition);
+    put(rt, image, 462, &[0; 48]);
+    put(rt, image, 510, &[0x55, 0xaa]);
 }
 
 /// Complements the byte at this place.
-pub(crate) fn complement(bytes: &mut [u8], at: usize) {
-    if let Some(byte) = bytes.get_mut(at) {
-        *byte = !*byte;
-    }
+pub(crate) fn complement(rt: &impl Abort, bytes: &mut [u8], at: usize) {
+    assert!(rt; at < bytes.len(), "no byte at {at} to be complemented");
+    bytes[at] = !bytes[at];
 }
 
 /// What a call answered, to be compared: "ok", or the text of its error.
@@ -142,7 +151,8 @@ pub(crate) fn used_entries(alloc: Global, count: u32) -> Result<Vec<GPTPartition
 fn used_entry(alloc: Global, number: u32) -> Result<GPTPartitionEntry> {
     let name = format!(in alloc; "part {number}")?;
     let mut unique_partition_guid = [0x0b; 16];
-    put(&mut unique_partition_guid, 0, &number.to_le_bytes());
+    let start = number.to_le_bytes();
+    unique_partition_guid[..4].copy_from_slice(&start);
     Ok(GPTPartitionEntry {
         partition_type_guid: [0x0a; 16],
         unique_partition_guid,

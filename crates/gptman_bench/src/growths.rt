@@ -124,7 +124,7 @@ fn written_image(alloc: Global) -> Result<Vec<u8>> {
 fn damaged(rt: &impl Abort, alloc: Global, damaged: &[usize]) -> Option<Held> {
     let mut image = written_image(alloc).ok()?;
     for at in damaged {
-        complement(&mut image, *at);
+        complement(rt, &mut image, *at);
     }
     let disk = made(rt, MemoryDisk::new(alloc, image.clone().ok()?))?;
     Some(Held { disk, image })

@@ -124,8 +124,8 @@ fn bytes_at<const N: usize>(rt: &impl Abort, disk: &mut LongDisk, at: u64) -> [u
 #[test]
 fn a_long_disk_keeps_what_was_written_last(rt: HostRuntime) {
     let mut disk = LongDisk::new(rt.alloc(), u64::MAX);
-    got(&rt, put(&mut disk, 1 << 40, &[1, 2, 3]));
-    got(&rt, put(&mut disk, (1 << 40) + 1, &[4]));
+    got(&rt, put(&rt, &mut disk, 1 << 40, &[1, 2, 3]));
+    got(&rt, put(&rt, &mut disk, (1 << 40) + 1, &[4]));
     let bytes = bytes_at::<5>(&rt, &mut disk, (1 << 40) - 1);
     holds(&rt, bytes == [0, 1, 4, 3, 0]);
     holds(&rt, bytes_at(&rt, &mut disk, u64::MAX - 1) == [0]);
@@ -202,7 +202,7 @@ fn a_table_is_written_past_32_bits_of_sectors(rt: HostRuntime) {
         &rt,
         read.header == table.header && read.iter().eq(table.iter()),
     );
-    got(&rt, put(&mut disk, 512, &[0; 8]));
+    got(&rt, put(&rt, &mut disk, 512, &[0; 8]));
     let read = got(&rt, GPT::read_from(rt.alloc(), &mut disk, 512));
     holds(&rt, read.header == other && read.iter().eq(table.iter()));
 }

@@ -1,9 +1,10 @@
 //! The protective MBR: its 66 bytes, the disks that are too short for it, and a disk that fails.
 
 use crate::asserts::{assert_said, got, holds};
-use crate::fixtures::{are_all, disk_of, put};
+use crate::faulty::failing_once;
+use crate::fixtures::{are_all, disk_of, put, put_mbr};
 use crate::memory::fused;
-use gptman::{Fate, GPT, MemoryDisk};
+use gptman::{Disk, Fate, GPT, MemoryDisk};
 use std::alloc::Global;
 use std::process::Abort;
 
@@ -13,25 +14,23 @@ const PARTITION: [u8; 16] = [
 ];
 
 // That partition with another byte at this place.
-fn partition_with(at: usize, byte: u8) -> [u8; 16] {
+fn partition_with(rt: &impl Abort, at: usize, byte: u8) -> [u8; 16] {
     let mut partition = PARTITION;
-    put(&mut partition, at, &[byte]);
+    put(rt, &mut partition, at, &[byte]);
     partition
 }
 
 // So many bytes 2, with an MBR of this partition alone.
 fn image_with(rt: &impl Abort, alloc: Global, len: usize, partition: &[u8; 16]) -> Vec<u8> {
     let mut image = got(rt, vec![in alloc; 2; len]);
-    put(&mut image, 446, partition);
-    put(&mut image, 462, &[0; 48]);
-    put(&mut image, 510, &[0x55, 0xaa]);
+    put_mbr(rt, &mut image, partition);
     image
 }
 
 // Writes one of the two, with sectors of this many bytes.
-fn write(
+fn write<D: Disk>(
     rt: &impl Abort,
-    disk: &mut MemoryDisk,
+    disk: &mut D,
     sector_size: u16,
     is_bootable: bool,
 ) -> gptman::Result<()> {
@@ -65,14 +64,14 @@ fn writing_protective_mbr(rt: HostRuntime) {
 
 #[test]
 fn a_bootable_mbr_differs_in_its_first_byte(rt: HostRuntime) {
-    let partition = partition_with(0, 0x80);
+    let partition = partition_with(&rt, 0, 0x80);
     assert_writes(&rt, rt.alloc(), (51_200, 512), true, &partition);
 }
 
 #[test]
 fn whole_sectors_but_the_first_are_counted(rt: HostRuntime) {
     for (len, count) in [(512, 0), (1023, 0), (1024, 1), (51_711, 99), (51_712, 100)] {
-        let partition = partition_with(12, count);
+        let partition = partition_with(&rt, 12, count);
         assert_writes(&rt, rt.alloc(), (len, 512), false, &partition);
     }
 }
@@ -113,7 +112,7 @@ fn a_disk_that_is_too_short_is_not_changed(rt: HostRuntime) {
 fn image(rt: &impl Abort, alloc: Global, is_torn: bool) -> Vec<u8> {
     let mut image = got(rt, vec![in alloc; 2; 51_200]);
     if is_torn {
-        put(&mut image, 446, &[7; 66]);
+        put(rt, &mut image, 446, &[7; 66]);
     }
     image
 }
@@ -157,6 +156,36 @@ fn write_at_last(rt: &impl Abort, alloc: Global, is_bootable: bool) {
 fn a_disk_that_fails_keeps_all_other_bytes(rt: HostRuntime) {
     write_at_last(&rt, rt.alloc(), false);
     write_at_last(&rt, rt.alloc(), true);
+}
+
+// Writes an MBR over bytes 2 on a disk of which one call fails, or none, and stops it then with this
+// fate. The third call is the write, and from it on these bytes are left; before it nothing changes.
+fn fail_once(rt: &impl Abort, alloc: Global, is_bootable: bool, call: u64, left: (Fate, &[u8])) {
+    let old = image(rt, alloc, false);
+    let mut disk = failing_once(rt, alloc, &old, call);
+    let outcome = write(rt, &mut disk, 512, is_bootable);
+    let said = if call < 3 { "generic I/O error" } else { "ok" };
+    assert_said(rt, alloc, &outcome, said);
+    let stopped = got(rt, disk.into_inner().stop(&[left.0]));
+    let wanted = if call < 2 { old.as_slice() } else { left.1 };
+    assert!(rt; stopped.bytes() == wanted, "call {call}");
+}
+
+// The same with each fate. What was written begins with this byte.
+fn fail_once_and_stop(rt: &impl Abort, alloc: Global, is_bootable: bool, first: u8, call: u64) {
+    let (old, torn) = (image(rt, alloc, false), image(rt, alloc, true));
+    let new = image_with(rt, alloc, 51_200, &partition_with(rt, 0, first));
+    fail_once(rt, alloc, is_bootable, call, (Fate::Old, &old));
+    fail_once(rt, alloc, is_bootable, call, (Fate::New, &new));
+    fail_once(rt, alloc, is_bootable, call, (Fate::Garbage(7), &torn));
+}
+
+#[test]
+fn one_failed_call_leaves_an_mbr_or_what_was_there(rt: HostRuntime) {
+    for call in 0..=3 {
+        fail_once_and_stop(&rt, rt.alloc(), false, 0, call);
+        fail_once_and_stop(&rt, rt.alloc(), true, 0x80, call);
+    }
 }
 
 #[test]

@@ -19,13 +19,14 @@ pub(crate) fn fused(rt: &impl Abort, alloc: Global, bytes: &[u8], calls: u64) ->
 }
 
 /// Writes the bytes from `at` on. Three calls: the length, the position and the write.
-pub(crate) fn put<D: Disk>(disk: &mut D, at: u64, bytes: &[u8]) -> io::Result<()> {
+pub(crate) fn put<D: Disk>(rt: &impl Abort, disk: &mut D, at: u64, bytes: &[u8]) -> io::Result<()> {
     let size = disk.seek_end()?;
     disk.seek_start(at)?;
-    if at <= size && bytes.len() as u64 <= size - at {
-        disk.write_all(bytes)?;
-    }
-    Ok(())
+    assert!(rt;
+        at <= size && bytes.len() as u64 <= size - at,
+        "no bytes at {at} to be written"
+    );
+    disk.write_all(bytes)
 }
 
 /// A stop with these fates leaves these bytes.
@@ -37,8 +38,8 @@ pub(crate) fn assert_left(rt: &impl Abort, disk: MemoryDisk, fates: &[Fate], byt
 // Eight zero bytes, after 01 02 at 0 and 03 04 at 1.
 fn twice_written(rt: &impl Abort, alloc: Global) -> MemoryDisk {
     let mut disk = holding(rt, alloc, &[0; 8]);
-    got(rt, put(&mut disk, 0, &[1, 2]));
-    got(rt, put(&mut disk, 1, &[3, 4]));
+    got(rt, put(rt, &mut disk, 0, &[1, 2]));
+    got(rt, put(rt, &mut disk, 1, &[3, 4]));
     disk
 }
 
@@ -71,15 +72,15 @@ fn a_sync_keeps_what_was_written(rt: HostRuntime) {
     let kept = [1, 3, 4, 0, 0, 0, 0, 0];
     assert_left(&rt, synced(&rt, rt.alloc()), &[], &kept);
     let mut disk = synced(&rt, rt.alloc());
-    got(&rt, put(&mut disk, 2, &[7, 7]));
+    got(&rt, put(&rt, &mut disk, 2, &[7, 7]));
     assert_left(&rt, disk, &[Fate::Old, Fate::New], &kept);
 }
 
 // Eight zero bytes, after 01 02 at 0, and 03 04 at 1 that the fuse refused.
 fn refused(rt: &impl Abort, alloc: Global) -> MemoryDisk {
     let mut disk = fused(rt, alloc, &[0; 8], 5);
-    got(rt, put(&mut disk, 0, &[1, 2]));
-    holds(rt, put(&mut disk, 1, &[3, 4]).is_err());
+    got(rt, put(rt, &mut disk, 0, &[1, 2]));
+    holds(rt, put(rt, &mut disk, 1, &[3, 4]).is_err());
     disk
 }
 

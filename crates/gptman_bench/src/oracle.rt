@@ -103,14 +103,13 @@ fn entries_fault(bytes: &[u8], header: &[u8; 92], sector_size: u64) -> Option<Er
 }
 
 // The fault of the copy at this byte, if there is one.
-fn copy_fault(bytes: &[u8], at: u64, sector_size: u64) -> Option<Error> {
-    let mut header = [0; 92];
+fn copy_fault(rt: &impl Abort, bytes: &[u8], at: u64, sector_size: u64) -> Option<Error> {
     let Some(found) = part(bytes, u128::from(at), 92) else {
         return Some(Error::Io(std::io::Error::other("past the end")));
     };
-    if found.len() == 92 {
-        header.copy_from_slice(found);
-    }
+    assert!(rt; found.len() == 92);
+    let mut header = [0; 92];
+    header.copy_from_slice(found);
     match header_fault(&header) {
         None => entries_fault(bytes, &header, sector_size),
         fault => fault,
@@ -126,7 +125,7 @@ fn backup_place(bytes: &[u8], sector_size: u64) -> Option<u64> {
 
 // What a reading says: the header and entries that it takes, or its fault.
 fn expected(rt: &impl Abort, alloc: Global, bytes: &[u8], sector_size: u64) -> String {
-    match copy_fault(bytes, sector_size, sector_size) {
+    match copy_fault(rt, bytes, sector_size, sector_size) {
         None => taken(rt, alloc, bytes, sector_size, sector_size),
         Some(primary) => fallback(rt, alloc, bytes, sector_size, &primary),
     }
@@ -143,7 +142,7 @@ fn fallback(
     let Some(place) = backup_place(bytes, sector_size) else {
         return got(rt, Error::InvalidSignature.to_string(alloc));
     };
-    match copy_fault(bytes, place, sector_size) {
+    match copy_fault(rt, bytes, place, sector_size) {
         None => taken(rt, alloc, bytes, place, sector_size),
         Some(backup) => two_faults(rt, alloc, primary, &backup),
     }

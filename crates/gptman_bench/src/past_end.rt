@@ -51,7 +51,7 @@ fn image_counting(rt: &impl Abort, alloc: Global, count: u32) -> Vec<u8> {
     let mut image = image_of_new_table(rt, alloc, 0);
     assert!(rt; header.header_size == 92);
     header.update_crc32_checksum();
-    put(&mut image, 512, &header.encode());
+    put(rt, &mut image, 512, &header.encode());
     image
 }
 

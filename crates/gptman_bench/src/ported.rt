@@ -100,7 +100,7 @@ fn assert_backup(rt: &impl Abort, alloc: Global, image: &[u8], sector_size: u64,
 fn broken(rt: &impl Abort, alloc: Global, table: &GPT, sector_size: u16) -> Vec<u8> {
     let mut image = written_image(rt, alloc, table);
     let checksum_at = usize::from(sector_size) + 16;
-    put(&mut image, checksum_at, &1_u32.to_le_bytes());
+    put(rt, &mut image, checksum_at, &1_u32.to_le_bytes());
     image
 }
 
@@ -141,7 +141,7 @@ fn read_label_with_trailing_garbage_in_names(rt: HostRuntime) {
 fn gpt_read_from_on_image_with_corrupted_partition_entry_array_crc32_in_primary(rt: HostRuntime) {
     let table = got(&rt, disk_1(rt.alloc()));
     let mut image = written_image(&rt, rt.alloc(), &table);
-    complement(&mut image, 1024);
+    complement(&rt, &mut image, 1024);
     assert_backup(&rt, rt.alloc(), &image, 512, 67);
 }
 

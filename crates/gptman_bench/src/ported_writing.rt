@@ -10,8 +10,8 @@ use std::alloc::Global;
 use std::process::Abort;
 
 // Complements the first byte of the primary header in the image of the table.
-fn break_primary(image: &mut [u8], table: &GPT) {
-    complement(image, table.sector_size.min(4096) as usize);
+fn break_primary(rt: &impl Abort, image: &mut [u8], table: &GPT) {
+    complement(rt, image, table.sector_size.min(4096) as usize);
 }
 
 // The image is read as this header and the table's entries.
@@ -37,7 +37,7 @@ fn assert_both(rt: &impl Abort, alloc: Global, mut image: Vec<u8>, table: &GPT, 
     holds(rt, places_of(&primary) == (1, 99, 2));
     holds(rt, backup.primary_lba == 99 && backup.backup_lba == 1);
     assert_reads(rt, alloc, &image, &primary, table);
-    break_primary(&mut image, table);
+    break_primary(rt, &mut image, table);
     assert_reads(rt, alloc, &image, &backup, table);
 }
 
@@ -72,7 +72,7 @@ fn write_with_changes(rt: HostRuntime) {
 // The table as it is read of an image of it whose primary copy is broken.
 fn read_backup(rt: &impl Abort, alloc: Global, table: &GPT) -> GPT {
     let mut image = written_image(rt, alloc, table);
-    break_primary(&mut image, table);
+    break_primary(rt, &mut image, table);
     got(rt, read_with_sectors(alloc, &image, table.sector_size))
 }
 

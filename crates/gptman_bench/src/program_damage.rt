@@ -100,7 +100,7 @@ const FROM_BACKUP: [Row; 3] = [
 #[test]
 fn the_backup_copy_is_shown(rt: HostRuntime) {
     let mut image = image_of_new_table(&rt, rt.alloc(), 0);
-    complement(&mut image, 536);
+    complement(&rt, &mut image, 536);
     let mut disk = disk_with(&rt, rt.alloc(), &image);
     assert_rows(&rt, rt.alloc(), &mut disk, &FROM_BACKUP);
 }

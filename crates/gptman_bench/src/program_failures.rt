@@ -42,7 +42,7 @@ fn refusals_are_named(rt: HostRuntime) {
 fn shown_with(rt: &impl Abort, alloc: Global, damaged: &[usize]) -> Outcome {
     let mut image = image_of_new_table(rt, alloc, 0);
     for at in damaged {
-        complement(&mut image, *at);
+        complement(rt, &mut image, *at);
     }
     let mut disk = got(rt, MemoryDisk::new(alloc, image));
     call_line(rt, alloc, &mut disk, "512 show")
@@ -130,13 +130,16 @@ fn assert_only_reads(rt: &impl Abort, alloc: Global, image: &[u8], line: &str) {
 
 const READERS: [&str; 4] = ["512 show", "auto show", "512 free 1", "auto free 1"];
 
-const CHANGES: [&str; 8] = [
+const CHANGES: [&str; 11] = [
     "512 new V",
     "512 mbr plain",
+    "512 mbr bootable",
     "512 add 2 T V 5 last 4 Bar",
     "auto add 2 T V 5 last 4 Bar",
     "512 remove 1",
+    "auto remove 1",
     "512 sort",
+    "auto sort",
     "512 grow",
     "auto grow",
 ];
@@ -167,11 +170,18 @@ const FAILED_LATER: [&str; 2] = [FAILED, "fault: ReadError(InvalidSignature, Io)
 #[test]
 fn a_failing_disk_with_one_copy_is_named(rt: HostRuntime) {
     let mut image = image_with_foo(&rt, rt.alloc());
-    put(&mut image, 512, &[0; 92]);
+    put(&rt, &mut image, 512, &[0; 92]);
     assert_all_fail(&rt, rt.alloc(), &image, &FAILED_LATER);
 }
 
-const FINDERS: [&str; 4] = ["auto show", "auto free 1", "auto sort", "auto grow"];
+const FINDERS: [&str; 6] = [
+    "auto show",
+    "auto free 1",
+    "auto add 3 T V 5 last 1 Baz",
+    "auto remove 1",
+    "auto sort",
+    "auto grow",
+];
 
 #[test]
 fn a_failing_disk_has_no_sector_size(rt: HostRuntime) {

@@ -1,7 +1,7 @@
 //! Worked examples of the commands, over a disk in memory and over a file.
 
 use crate::asserts::{got, holds};
-use crate::fixtures::{disk_of, put};
+use crate::fixtures::{disk_of, put, put_mbr};
 use crate::program::{
     Row, assert_rows, assert_rows_on_disk_of, bytes_of, call_line, disk_with, image_with_foo,
 };
@@ -77,7 +77,7 @@ fn assert_all_rows<D: Disk>(rt: &impl Abort, alloc: Global, disk: &mut D) {
     assert_rows(rt, alloc, disk, &ADDED);
     assert_rows(rt, alloc, disk, &REMOVED);
     let mut wanted = [0; 512];
-    put_mbr(&mut wanted, &PARTITION);
+    put_mbr(rt, &mut wanted, &PARTITION);
     holds(rt, bytes_of(rt, alloc, disk).starts_with(&wanted));
 }
 
@@ -96,17 +96,10 @@ fn the_rows_hold_in_a_file(rt: HostRuntime) {
     got(&rt, fs::remove_file(&rt, path));
 }
 
-// Puts an MBR of this partition alone into the image.
-fn put_mbr(image: &mut [u8], partition: &[u8; 16]) {
-    put(image, 446, partition);
-    put(image, 462, &[0; 48]);
-    put(image, 510, &[0x55, 0xaa]);
-}
-
 // The image with an MBR of this partition alone.
 fn with_mbr(rt: &impl Abort, alloc: Global, image: &[u8], partition: &[u8; 16]) -> Vec<u8> {
     let mut wanted = got(rt, image.to_vec(alloc));
-    put_mbr(&mut wanted, partition);
+    put_mbr(rt, &mut wanted, partition);
     wanted
 }
 
@@ -123,7 +116,7 @@ fn assert_mbr(rt: &impl Abort, alloc: Global, image: &[u8], line: &str, wanted: 
 #[test]
 fn an_mbr_is_written_and_the_table_is_kept(rt: HostRuntime) {
     let mut image = image_with_foo(&rt, rt.alloc());
-    put(&mut image, 0, &[2; 512]);
+    put(&rt, &mut image, 0, &[2; 512]);
     let mut bootable = PARTITION;
     bootable[0] = 0x80;
     let wanted = with_mbr(&rt, rt.alloc(), &image, &PARTITION);

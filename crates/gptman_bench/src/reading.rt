@@ -49,7 +49,7 @@ fn assert_fault(rt: &impl Abort, alloc: Global, read: Result<GPT>, fault: &str) 
 fn read_damaged(rt: &impl Abort, alloc: Global, places: &[usize]) -> Result<GPT> {
     let mut image = image_of_new_table(rt, alloc, 0);
     for at in places {
-        complement(&mut image, *at);
+        complement(rt, &mut image, *at);
     }
     read_image(alloc, &image)
 }
@@ -114,7 +114,7 @@ fn a_sector_size_may_leave_no_place_for_a_copy(rt: HostRuntime) {
 #[test]
 fn the_backup_is_in_the_last_whole_sector(rt: HostRuntime) {
     let mut image = image_of_new_table(&rt, rt.alloc(), 0);
-    complement(&mut image, 512);
+    complement(&rt, &mut image, 512);
     got(&rt, image.resize(51_200 + 511, 9));
     let read = got(&rt, read_image(rt.alloc(), &image));
     holds(&rt, read.header.primary_lba == 99);
@@ -148,7 +148,7 @@ fn the_sector_size_is_found(rt: HostRuntime) {
 fn sectors_of_4096_are_not_tried_after_a_signature(rt: HostRuntime) {
     let mut image = image_of_large_sectors(&rt, rt.alloc());
     let table = got(&rt, find_in_image(rt.alloc(), &image));
-    put(&mut image, 512, b"EFI PART");
+    put(&rt, &mut image, 512, b"EFI PART");
     let found = find_in_image(rt.alloc(), &image);
     assert_fault(&rt, rt.alloc(), found, "invalid revision");
     let read = read_with_sectors(rt.alloc(), &image, 4096);
@@ -201,8 +201,8 @@ pub(crate) fn crafted_image(rt: &impl Abort, alloc: Global, mut header: GPTHeade
     assert!(rt; header.header_size == 92);
     let mut image = image_of_new_table(rt, alloc, 0);
     header.update_crc32_checksum();
-    put(&mut image, 512, &header.encode());
-    put(&mut image, 50_688, &[0; 512]);
+    put(rt, &mut image, 512, &header.encode());
+    put(rt, &mut image, 50_688, &[0; 512]);
     image
 }
 

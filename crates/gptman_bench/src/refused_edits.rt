@@ -83,6 +83,6 @@ fn both_copies_on_the_disk_hold_the_first_edit(rt: HostRuntime) {
     let left = got(&rt, disk.stop(&[]));
     assert_first_alone(&rt, rt.alloc(), left.bytes(), (1, 99, 2));
     let mut image = got(&rt, left.bytes().to_vec(rt.alloc()));
-    put(&mut image, 512, &[0; 8]);
+    put(&rt, &mut image, 512, &[0; 8]);
     assert_first_alone(&rt, rt.alloc(), &image, (99, 1, 67));
 }

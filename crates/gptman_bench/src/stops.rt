@@ -5,7 +5,7 @@ use crate::asserts::{got, holds};
 use crate::faulty::failing_once;
 use crate::fixtures::{disk_1, image_of, partition, put, read_image, write};
 use crate::memory::fused;
-use gptman::{Disk, Edit, Error, Fate, GPT, MemoryDisk, Result};
+use gptman::{Disk, Edit, Error, Fate, GPT, GPTHeader, MemoryDisk, Result};
 use std::alloc::Global;
 use std::process::Abort;
 
@@ -24,7 +24,7 @@ struct Case {
 fn image(rt: &impl Abort, alloc: Global, zeroed: Option<usize>) -> Vec<u8> {
     let mut image = image_of(rt, alloc, &got(rt, disk_1(alloc)));
     if let Some(at) = zeroed {
-        put(&mut image, at, &[0; 92]);
+        put(rt, &mut image, at, &[0; 92]);
     }
     image
 }
@@ -53,19 +53,33 @@ fn in_other_form(mut case: Case) -> Case {
     case
 }
 
-/// Whether two values are one table, in whichever form.
-pub(crate) fn is_same_table(a: &GPT, b: &GPT) -> bool {
-    let (first, second) = (&a.header, &b.header);
-    a.iter().eq(b.iter())
-        && first.disk_guid == second.disk_guid
-        && first.first_usable_lba == second.first_usable_lba
-        && first.last_usable_lba == second.last_usable_lba
-        && first.primary_lba.min(first.backup_lba) == second.primary_lba.min(second.backup_lba)
-        && first.primary_lba.max(first.backup_lba) == second.primary_lba.max(second.backup_lba)
+// The header in primary form, with no checksums.
+fn primary_form(header: &GPTHeader) -> GPTHeader {
+    let entries = match (header.primary_lba, header.partition_entry_lba) {
+        (1, sector) => sector,
+        (_, sector) if header.last_usable_lba.checked_add(1) == Some(sector) => 2,
+        _ => 0,
+    };
+    GPTHeader {
+        primary_lba: header.primary_lba.min(header.backup_lba),
+        backup_lba: header.primary_lba.max(header.backup_lba),
+        partition_entry_lba: entries,
+        crc32_checksum: 0,
+        partition_entry_array_crc32: 0,
+        ..*header
+    }
 }
 
-/// How many entries of the table are used.
-pub(crate) fn count_used(table: &GPT) -> usize {
+/// Whether two values are one table, in whichever form: all entries and all fields of the header are
+/// equal, but for the checksums.
+pub(crate) fn is_same_table(a: &GPT, b: &GPT) -> bool {
+    a.sector_size == b.sector_size
+        && a.iter().eq(b.iter())
+        && primary_form(&a.header) == primary_form(&b.header)
+}
+
+// How many entries of the table are used.
+fn count_used(table: &GPT) -> usize {
     let mut used = 0_usize;
     for (_, entry) in table.iter() {
         used = used.saturating_add(usize::from(entry.is_used()));
@@ -84,7 +98,7 @@ fn is_written<D: Disk>(rt: &impl Abort, disk: &mut D, table: &GPT) -> bool {
 // The table that is read where the header at this byte is broken.
 fn read_without(rt: &impl Abort, alloc: Global, bytes: &[u8], header: usize) -> Result<GPT> {
     let mut bytes = got(rt, bytes.to_vec(alloc));
-    put(&mut bytes, header, &[0; 8]);
+    put(rt, &mut bytes, header, &[0; 8]);
     read_image(alloc, &bytes)
 }
 
@@ -248,14 +262,26 @@ fn a_table_is_written_and_read_in_few_calls(rt: HostRuntime) {
     assert_read_in_16(&rt, rt.alloc(), &case, disk.bytes());
 }
 
-// Writes the new table on a disk of which one call of the write's 19 fails, or none.
-fn fail_once(rt: &impl Abort, alloc: Global, case: &Case, call: u64) {
+// How many calls a write of 128 entries makes.
+const CALLS: u64 = 19;
+
+// Writes the new table on a disk of which one call fails, or none, and stops it then, with all that is
+// pending of this fate.
+fn fail_once(rt: &impl Abort, alloc: Global, case: &Case, call: u64, fate: Fate) {
     let mut disk = failing_once(rt, alloc, &case.image, call);
     let is_done = is_written(rt, &mut disk, &case.new);
-    assert!(rt; is_done == (call == 19), "call {call}");
+    assert!(rt; is_done == (call == CALLS), "call {call}");
     let left = disk.into_inner();
     assert_reads_one(rt, alloc, case, left.bytes());
-    assert_reads_one(rt, alloc, case, got(rt, left.stop(&[])).bytes());
+    let stopped = got(rt, left.stop(&[fate; 6]));
+    assert_reads_one(rt, alloc, case, stopped.bytes());
+}
+
+// The same with each fate.
+fn fail_once_and_stop(rt: &impl Abort, alloc: Global, case: &Case, call: u64) {
+    for fate in [Fate::Old, Fate::New, Fate::Garbage(7)] {
+        fail_once(rt, alloc, case, call, fate);
+    }
 }
 
 // A call that fails once is answered too, though all later ones are served, and what it leaves is read
@@ -264,8 +290,8 @@ fn fail_once(rt: &impl Abort, alloc: Global, case: &Case, call: u64) {
 fn a_write_of_which_one_call_fails_is_refused(rt: HostRuntime) {
     for zeroed in [None, Some(512), Some(50_688)] {
         let case = one_more(&rt, rt.alloc(), zeroed);
-        for call in 0..=19 {
-            fail_once(&rt, rt.alloc(), &case, call);
+        for call in 0..=CALLS {
+            fail_once_and_stop(&rt, rt.alloc(), &case, call);
         }
     }
 }
