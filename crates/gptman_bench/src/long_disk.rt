@@ -5,7 +5,7 @@ ghost use Rattle.std.specs.Prelude.{◌<◌, ◌^◌};
 ghost use Rattle.gptman_copy.specs.File.{file_state, never_honest};
 
 use crate::asserts::{assert_bounds, got, holds, places_of};
-use crate::fixtures::{DISK_GUID, are_all, new_table, partition, put as put_over, write};
+use crate::fixtures::{DISK_GUID, are_all, new_table, partition, put as put_over, put_mbr, write};
 use crate::memory::put;
 use gptman::{Disk, Edit, GPT};
 use std::alloc::Global;
@@ -133,15 +133,13 @@ fn a_long_disk_keeps_what_was_written_last(rt: HostRuntime) {
 }
 
 // The first two sectors of a disk with this byte first in its MBR, and with so many sectors in it.
-fn two_sectors_with_mbr(status: u8, count: u32) -> [u8; 1024] {
+fn two_sectors_with_mbr(rt: &impl Abort, status: u8, count: u32) -> [u8; 1024] {
+    let mut partition = [
+        status, 0, 2, 0, 0xee, 0xff, 0xff, 0xff, 1, 0, 0, 0, 0, 0, 0, 0,
+    ];
+    put_over(rt, &mut partition, 12, &count.to_le_bytes());
     let mut bytes = [0; 1024];
-    put_over(
-        &mut bytes,
-        446,
-        &[status, 0, 2, 0, 0xee, 0xff, 0xff, 0xff, 1],
-    );
-    put_over(&mut bytes, 458, &count.to_le_bytes());
-    put_over(&mut bytes, 510, &[0x55, 0xaa]);
+    put_mbr(rt, &mut bytes, &partition);
     bytes
 }
 
@@ -151,14 +149,14 @@ fn assert_counts(rt: &impl Abort, alloc: Global, (len, sector_size): (u64, u64),
     let mut disk = LongDisk::new(alloc, len);
     got(rt, GPT::write_protective_mbr_into(&mut disk, sector_size));
     let plain = bytes_at::<1024>(rt, &mut disk, 0);
-    assert!(rt; plain == two_sectors_with_mbr(0, count), "{len} bytes");
+    assert!(rt; plain == two_sectors_with_mbr(rt, 0, count), "{len} bytes");
     got(
         rt,
         GPT::write_bootable_protective_mbr_into(&mut disk, sector_size),
     );
     let bootable = bytes_at::<1024>(rt, &mut disk, 0);
     assert!(rt;
-        bootable == two_sectors_with_mbr(0x80, count),
+        bootable == two_sectors_with_mbr(rt, 0x80, count),
         "{len} bytes"
     );
 }
