@@ -4,7 +4,7 @@ use crate::fixtures::{image_of, new_table, unsorted_table, write};
 use crate::memory::Memory;
 use crate::verdict::{Verdict, of_answer, of_refusal};
 use gptman::{Error, FileDisk, GPT, GPTHeader, Result};
-use std::alloc::Global;
+use std::alloc::{AllocGlobal, Global};
 use std::fs;
 use std::fs::File;
 use std::rt::Files;
@@ -12,7 +12,7 @@ use std::rt::Files;
 const PATH: &str = "growths.img";
 
 /// Makes the call of this name. None where it is none of these.
-pub fn try_call<R: Files<File = File>>(
+pub fn try_call<R: Files<File = File> + AllocGlobal>(
     files: &R,
     name: &str,
     memory: &mut Memory,
@@ -26,14 +26,14 @@ pub fn try_call<R: Files<File = File>>(
 }
 
 // The bytes of a disk that holds an empty table, and a file of them.
-fn make_file<R: Files<File = File>>(files: &R, alloc: Global) -> Result<Vec<u8>> {
+fn make_file<R: Files<File = File> + AllocGlobal>(files: &R, alloc: Global) -> Result<Vec<u8>> {
     let image = image_of(alloc, &mut new_table(alloc)?)?;
     fs::write(files, PATH, image.as_slice())?;
     Ok(image)
 }
 
 // What came of opening it. The system's own want of memory is `Io`.
-fn of_opening<R: Files<File = File>>(files: &R, outcome: &Result<FileDisk>) -> Result<Verdict> {
+fn of_opening<R: Files<File = File> + AllocGlobal>(files: &R, outcome: &Result<FileDisk>) -> Result<Verdict> {
     fs::remove_file(files, PATH)?;
     match outcome {
         Ok(_) => Ok(Verdict::Done),
@@ -42,7 +42,7 @@ fn of_opening<R: Files<File = File>>(files: &R, outcome: &Result<FileDisk>) -> R
     }
 }
 
-fn open_file<R: Files<File = File>>(files: &R, memory: &mut Memory) -> Result<Verdict> {
+fn open_file<R: Files<File = File> + AllocGlobal>(files: &R, memory: &mut Memory) -> Result<Verdict> {
     make_file(files, memory.alloc())?;
     memory.begin();
     let outcome = FileDisk::open(files, PATH);
@@ -50,7 +50,7 @@ fn open_file<R: Files<File = File>>(files: &R, memory: &mut Memory) -> Result<Ve
     of_opening(files, &outcome)
 }
 
-fn open_to_read<R: Files<File = File>>(files: &R, memory: &mut Memory) -> Result<Verdict> {
+fn open_to_read<R: Files<File = File> + AllocGlobal>(files: &R, memory: &mut Memory) -> Result<Verdict> {
     make_file(files, memory.alloc())?;
     memory.begin();
     let outcome = FileDisk::open_read(files, PATH);
@@ -58,7 +58,7 @@ fn open_to_read<R: Files<File = File>>(files: &R, memory: &mut Memory) -> Result
     of_opening(files, &outcome)
 }
 
-fn write_table<R: Files<File = File>>(files: &R, memory: &mut Memory) -> Result<Verdict> {
+fn write_table<R: Files<File = File> + AllocGlobal>(files: &R, memory: &mut Memory) -> Result<Verdict> {
     let image = make_file(files, memory.alloc())?;
     let mut table = unsorted_table(memory.alloc())?;
     let before = table.clone()?;
@@ -66,7 +66,7 @@ fn write_table<R: Files<File = File>>(files: &R, memory: &mut Memory) -> Result<
     memory.begin();
     let outcome = write(&mut table, &mut disk);
     memory.end();
-    let bytes = fs::read_in(files, memory.alloc(), PATH)?;
+    let bytes = fs::read(files, PATH)?;
     fs::remove_file(files, PATH)?;
     Ok(of_write(&outcome, bytes == image, table == before))
 }

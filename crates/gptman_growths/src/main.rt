@@ -57,7 +57,7 @@ fn said_of(made: &Option<Result<Verdict>>) -> &'static str {
 }
 
 // Makes the call of this name. None where there is none.
-fn try_call<R: Files<File = File>>(
+fn try_call<R: Files<File = File> + AllocGlobal>(
     files: &R,
     name: &str,
     memory: &mut Memory,

@@ -33,6 +33,7 @@ impl Turn {
 }
 
 /// The allocator of a call, and its turn.
+#[derive(Drop)]
 pub struct Memory {
     alloc: Global,
     turn: Turn,
