@@ -33,7 +33,11 @@ const COMMANDS: [Command; 20] = [
     ("check", "512 check", "primary ok\nbackup ok\nsame yes\n"),
     ("new", "512 new V", "ok\n"),
     ("add_first", "512 add 2 T V 5 first 4 Bar", "2 44..48\n"),
-    ("add_first_auto", "auto add 2 T V 5 first 4 Bar", "2 44..48\n"),
+    (
+        "add_first_auto",
+        "auto add 2 T V 5 first 4 Bar",
+        "2 44..48\n",
+    ),
     ("add_last", "512 add 2 T V 5 last 4 Bar", "2 60..64\n"),
     ("add_last_auto", "auto add 2 T V 5 last 4 Bar", "2 60..64\n"),
     ("add_best", "512 add 2 T V 5 best 4 Bar", "2 44..48\n"),
@@ -99,7 +103,13 @@ fn try_command(memory: &mut Memory, line: &str, wanted: &str) -> Result<Verdict>
 }
 
 // What came of a command that ended with this status and printed this, where a table is left or not.
-fn of_command(status: Result<u8>, printed: &[u8], wanted: &str, held: &Held, is_left: bool) -> Verdict {
+fn of_command(
+    status: Result<u8>,
+    printed: &[u8],
+    wanted: &str,
+    held: &Held,
+    is_left: bool,
+) -> Verdict {
     let is_want = printed == b"fault: OutOfMemory\n".as_slice();
     let is_failure = printed == b"fault: Io\n".as_slice();
     match status {

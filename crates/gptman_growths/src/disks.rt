@@ -83,7 +83,11 @@ fn write_bytes(memory: &mut Memory) -> Result<Verdict> {
     memory.end();
     let is_right = disk.bytes() == [7, 7, 7, 7].as_slice();
     let is_kept = disk.bytes() == [7, 7, 7, 4].as_slice();
-    let pending = if outcome.is_ok() { [7, 9, 8, 8] } else { [7, 9, 9, 4] };
+    let pending = if outcome.is_ok() {
+        [7, 9, 8, 8]
+    } else {
+        [7, 9, 9, 4]
+    };
     let is_pending = is_left(disk, &[Fate::Garbage(9), Fate::Garbage(8)], pending)?;
     Ok(of_record(&outcome, is_right && is_pending, is_kept && is_pending))
 }
@@ -94,7 +98,11 @@ fn sync_disk(memory: &mut Memory) -> Result<Verdict> {
     memory.begin();
     let outcome = disk.sync();
     memory.end();
-    let bytes = if outcome.is_ok() { [7, 7, 7, 4] } else { [7, 9, 9, 4] };
+    let bytes = if outcome.is_ok() {
+        [7, 7, 7, 4]
+    } else {
+        [7, 9, 9, 4]
+    };
     let is_so = is_left(disk, &[Fate::Garbage(9)], bytes)?;
     Ok(of_record(&outcome, is_so, is_so))
 }

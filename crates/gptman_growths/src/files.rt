@@ -33,7 +33,10 @@ fn make_file<R: Files<File = File> + AllocGlobal>(files: &R, alloc: Global) -> R
 }
 
 // What came of opening it. The system's own want of memory is `Io`.
-fn of_opening<R: Files<File = File> + AllocGlobal>(files: &R, outcome: &Result<FileDisk>) -> Result<Verdict> {
+fn of_opening<R: Files<File = File> + AllocGlobal>(
+    files: &R,
+    outcome: &Result<FileDisk>,
+) -> Result<Verdict> {
     fs::remove_file(files, PATH)?;
     match outcome {
         Ok(_) => Ok(Verdict::Done),
@@ -42,7 +45,10 @@ fn of_opening<R: Files<File = File> + AllocGlobal>(files: &R, outcome: &Result<F
     }
 }
 
-fn open_file<R: Files<File = File> + AllocGlobal>(files: &R, memory: &mut Memory) -> Result<Verdict> {
+fn open_file<R: Files<File = File> + AllocGlobal>(
+    files: &R,
+    memory: &mut Memory,
+) -> Result<Verdict> {
     make_file(files, memory.alloc())?;
     memory.begin();
     let outcome = FileDisk::open(files, PATH);
@@ -50,7 +56,10 @@ fn open_file<R: Files<File = File> + AllocGlobal>(files: &R, memory: &mut Memory
     of_opening(files, &outcome)
 }
 
-fn open_to_read<R: Files<File = File> + AllocGlobal>(files: &R, memory: &mut Memory) -> Result<Verdict> {
+fn open_to_read<R: Files<File = File> + AllocGlobal>(
+    files: &R,
+    memory: &mut Memory,
+) -> Result<Verdict> {
     make_file(files, memory.alloc())?;
     memory.begin();
     let outcome = FileDisk::open_read(files, PATH);
@@ -58,7 +67,10 @@ fn open_to_read<R: Files<File = File> + AllocGlobal>(files: &R, memory: &mut Mem
     of_opening(files, &outcome)
 }
 
-fn write_table<R: Files<File = File> + AllocGlobal>(files: &R, memory: &mut Memory) -> Result<Verdict> {
+fn write_table<R: Files<File = File> + AllocGlobal>(
+    files: &R,
+    memory: &mut Memory,
+) -> Result<Verdict> {
     let image = make_file(files, memory.alloc())?;
     let mut table = unsorted_table(memory.alloc())?;
     let before = table.clone()?;

@@ -1,6 +1,8 @@
 //! Disks, tables and entries of which the cases are made.
 
-use gptman::{Disk, Edit, Error, GPT, GPTHeader, GPTPartitionEntry, MemoryDisk, PartitionName, Result};
+use gptman::{
+    Disk, Edit, Error, GPT, GPTHeader, GPTPartitionEntry, MemoryDisk, PartitionName, Result,
+};
 use std::alloc::Global;
 
 /// The GUID of each disk.
@@ -12,7 +14,13 @@ pub fn zero_disk(alloc: Global) -> Result<MemoryDisk> {
 }
 
 /// A used entry with this name, unique GUID and place.
-pub fn partition(alloc: Global, name: &str, guid: u8, from: u64, to: u64) -> Result<GPTPartitionEntry> {
+pub fn partition(
+    alloc: Global,
+    name: &str,
+    guid: u8,
+    from: u64,
+    to: u64,
+) -> Result<GPTPartitionEntry> {
     Ok(GPTPartitionEntry {
         partition_type_guid: [0x0a; 16],
         unique_partition_guid: [guid; 16],

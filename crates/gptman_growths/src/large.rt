@@ -8,7 +8,9 @@ use crate::fixtures::{DISK_GUID, partition, write};
 use crate::memory::Memory;
 use crate::verdict::{Verdict, of_answer};
 use gptimg_core::run;
-use gptman::{Disk, Edit, Error, GPT, GPTHeader, GPTPartitionEntry, MemoryDisk, PartitionName, Result};
+use gptman::{
+    Disk, Edit, Error, GPT, GPTHeader, GPTPartitionEntry, MemoryDisk, PartitionName, Result,
+};
 use std::alloc::Global;
 
 /// Makes the call of this name. None where it is none of these.
@@ -35,7 +37,11 @@ fn entry_at(alloc: Global, index: u32) -> Result<GPTPartitionEntry> {
     let sector = 252 + 2 * u64::from(COUNT.saturating_sub(index).min(COUNT));
     let mut entry = partition(alloc, "Foo", 7, sector, sector)?;
     entry.attribute_bits = u64::from(index);
-    for (byte, new) in entry.unique_partition_guid.iter_mut().zip(index.to_le_bytes()) {
+    for (byte, new) in entry
+        .unique_partition_guid
+        .iter_mut()
+        .zip(index.to_le_bytes())
+    {
         *byte = new;
     }
     Ok(entry)
@@ -88,7 +94,10 @@ fn table(alloc: Global) -> Result<GPT> {
 
 // Whether these are the entries of the table.
 fn are_those_of(entries: &[GPTPartitionEntry], table: &GPT) -> bool {
-    let are_equal = table.iter().zip(entries).all(|(one, other)| *one.1 == *other);
+    let are_equal = table
+        .iter()
+        .zip(entries)
+        .all(|(one, other)| *one.1 == *other);
     are_equal && table.iter().count() == entries.len()
 }
 
@@ -150,7 +159,12 @@ fn commit(alloc: Global) -> Result<Verdict> {
 // A line for the table and one for each entry.
 fn show(alloc: Global) -> Result<Verdict> {
     let mut printed = Vec::new(alloc);
-    let status = run(alloc, &split(alloc, "512 show")?, &mut disk(alloc)?, &mut printed)?;
+    let status = run(
+        alloc,
+        &split(alloc, "512 show")?,
+        &mut disk(alloc)?,
+        &mut printed,
+    )?;
     let lines = printed.iter().filter(|byte| **byte == b'\n').count();
     Ok(of_answer(status == 0 && lines == 1001))
 }
@@ -171,7 +185,10 @@ fn name_in_memory(alloc: Global) -> Result<Verdict> {
 
 // Whether the units are those of the first 36 letters.
 fn has_kept_units(name: &PartitionName) -> bool {
-    name.units().iter().copied().eq(KEPT.bytes().map(|byte| u16::from(byte)))
+    name.units()
+        .iter()
+        .copied()
+        .eq(KEPT.bytes().map(|byte| u16::from(byte)))
 }
 
 // On the disk 36 letters stand.

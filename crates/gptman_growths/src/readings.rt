@@ -1,6 +1,8 @@
 //! Readings of a disk. None of them writes to it.
 
-use crate::fixtures::{DISK_GUID, complement, have_same_entries, image_of, partition, unsorted_table};
+use crate::fixtures::{
+    DISK_GUID, complement, have_same_entries, image_of, partition, unsorted_table,
+};
 use crate::held::Held;
 use crate::memory::Memory;
 use crate::verdict::{Verdict, of_answer, of_refusal, of_value};
@@ -57,7 +59,11 @@ fn make_table(memory: &mut Memory) -> Result<Verdict> {
 // Whether it is a new table for 100 sectors of 512 bytes.
 fn is_new(table: &GPT) -> bool {
     let header = &table.header;
-    let bounds = (header.first_usable_lba, header.last_usable_lba, header.backup_lba);
+    let bounds = (
+        header.first_usable_lba,
+        header.last_usable_lba,
+        header.backup_lba,
+    );
     bounds == (34, 66, 99) && table.align == 2048 && table.iter().count() == 128
 }
 
@@ -119,7 +125,9 @@ fn read_partitions(memory: &mut Memory) -> Result<Verdict> {
     let mut table = unsorted_table(memory.alloc())?;
     let mut held = damaged(memory.alloc(), &mut table, &[])?;
     memory.begin();
-    let outcome = table.header.read_partitions(memory.alloc(), &mut held.disk, 512);
+    let outcome = table
+        .header
+        .read_partitions(memory.alloc(), &mut held.disk, 512);
     memory.end();
     match &outcome {
         Ok(entries) => Ok(of_answer(are_those_of(entries, &table) && held.is_kept())),
@@ -129,6 +137,9 @@ fn read_partitions(memory: &mut Memory) -> Result<Verdict> {
 
 // Whether these are the entries of the table.
 fn are_those_of(entries: &[GPTPartitionEntry], table: &GPT) -> bool {
-    let are_equal = table.iter().zip(entries).all(|(one, other)| *one.1 == *other);
+    let are_equal = table
+        .iter()
+        .zip(entries)
+        .all(|(one, other)| *one.1 == *other);
     are_equal && entries.len() == table.iter().count()
 }

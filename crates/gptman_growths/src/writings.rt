@@ -128,9 +128,17 @@ fn of_progress(alloc: Global, writing: &mut Writing, progress: &Progress) -> Res
         None => {
             let is_right = progress.done == 2 && is_after(&writing.table, 2);
             let done = writing.done(alloc)?;
-            Ok(if is_right { done } else { Verdict::AnsweredWrongly })
+            Ok(if is_right {
+                done
+            } else {
+                Verdict::AnsweredWrongly
+            })
         }
-        Some(Error::Io(_)) if writing.held.has_no_record() => of_failure(alloc, writing, progress.done),
+        Some(Error::Io(_)) if writing.held.has_no_record() => of_failure(
+            alloc,
+            writing,
+            progress.done,
+        ),
         Some(Error::OutOfMemory) if !writing.held.has_no_record() => {
             of_want(alloc, writing, progress.done)
         }
@@ -156,7 +164,11 @@ fn of_want(alloc: Global, writing: &mut Writing, done: usize) -> Result<Verdict>
     } else {
         is_after(&writing.held.read(alloc)?, done)
     };
-    Ok(if is_value && is_kept { Verdict::Refused } else { Verdict::Changed })
+    Ok(if is_value && is_kept {
+        Verdict::Refused
+    } else {
+        Verdict::Changed
+    })
 }
 
 // The disk holds the table after the edits that were done, or the next one.
@@ -164,5 +176,9 @@ fn of_failure(alloc: Global, writing: &mut Writing, done: usize) -> Result<Verdi
     let read = writing.held.read(alloc)?;
     let is_before = done == 0 && have_same_entries(&read, &writing.empty);
     let is_one = is_after(&read, done) || is_after(&read, done.saturating_add(1));
-    Ok(if is_before || is_one { Verdict::Refused } else { Verdict::Changed })
+    Ok(if is_before || is_one {
+        Verdict::Refused
+    } else {
+        Verdict::Changed
+    })
 }
