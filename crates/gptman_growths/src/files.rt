@@ -1,0 +1,92 @@
+//! Disks over a file, which keep no record: what is refused there is the call's own growth.
+
+use crate::fixtures::{image_of, new_table, unsorted_table, write};
+use crate::memory::Memory;
+use crate::verdict::{Verdict, of_answer, of_refusal};
+use gptman::{Error, FileDisk, GPT, GPTHeader, Result};
+use std::alloc::{AllocGlobal, Global};
+use std::fs;
+use std::fs::File;
+use std::rt::Files;
+
+const PATH: &str = "growths.img";
+
+/// Makes the call of this name. None where it is none of these.
+pub fn try_call<R: Files<File = File> + AllocGlobal>(
+    files: &R,
+    name: &str,
+    memory: &mut Memory,
+) -> Option<Result<Verdict>> {
+    match name {
+        "file_open" => Some(open_file(files, memory)),
+        "file_open_read" => Some(open_to_read(files, memory)),
+        "file_table_write" => Some(write_table(files, memory)),
+        _ => None,
+    }
+}
+
+// The bytes of a disk that holds an empty table, and a file of them.
+fn make_file<R: Files<File = File> + AllocGlobal>(files: &R, alloc: Global) -> Result<Vec<u8>> {
+    let image = image_of(alloc, &mut new_table(alloc)?)?;
+    fs::write(files, PATH, image.as_slice())?;
+    Ok(image)
+}
+
+// What came of opening it. The system's own want of memory is `Io`.
+fn of_opening<R: Files<File = File> + AllocGlobal>(
+    files: &R,
+    outcome: &Result<FileDisk>,
+) -> Result<Verdict> {
+    fs::remove_file(files, PATH)?;
+    match outcome {
+        Ok(_) => Ok(Verdict::Done),
+        Err(Error::Io(_)) => Ok(Verdict::Refused),
+        Err(_) => Ok(Verdict::RefusedWrongly),
+    }
+}
+
+fn open_file<R: Files<File = File> + AllocGlobal>(
+    files: &R,
+    memory: &mut Memory,
+) -> Result<Verdict> {
+    make_file(files, memory.alloc())?;
+    memory.begin();
+    let outcome = FileDisk::open(files, PATH);
+    memory.end();
+    of_opening(files, &outcome)
+}
+
+fn open_to_read<R: Files<File = File> + AllocGlobal>(
+    files: &R,
+    memory: &mut Memory,
+) -> Result<Verdict> {
+    make_file(files, memory.alloc())?;
+    memory.begin();
+    let outcome = FileDisk::open_read(files, PATH);
+    memory.end();
+    of_opening(files, &outcome)
+}
+
+fn write_table<R: Files<File = File> + AllocGlobal>(
+    files: &R,
+    memory: &mut Memory,
+) -> Result<Verdict> {
+    let image = make_file(files, memory.alloc())?;
+    let mut table = unsorted_table(memory.alloc())?;
+    let before = table.clone()?;
+    let mut disk = FileDisk::open(files, PATH)?;
+    memory.begin();
+    let outcome = write(&mut table, &mut disk);
+    memory.end();
+    let bytes = fs::read(files, PATH)?;
+    fs::remove_file(files, PATH)?;
+    Ok(of_write(&outcome, bytes == image, table == before))
+}
+
+// What came of writing a table, which left the file and the value as they were or not.
+fn of_write(outcome: &Result<GPTHeader>, is_file_kept: bool, is_kept: bool) -> Verdict {
+    match outcome {
+        Ok(header) => of_answer(header.primary_lba == 99 && !is_file_kept),
+        Err(error) => of_refusal(error, is_file_kept && is_kept),
+    }
+}

@@ -1,0 +1,92 @@
+//! Calls that take memory. Each is made with as much as it asks for, or with one growth refused, and
+//! says whether it did what it promises then.
+//!
+//! A line of standard input is the name of a call, and perhaps a word behind it (`Turn`). For each a
+//! line is printed: the name and `done`, `refused`, or what is wrong. Which growth is refused is the
+//! affair of whoever runs the program: `scripts/growths` has each of a call refused in turn.
+#![tactic(auto)]
+
+mod commands;
+mod copies;
+mod disks;
+mod files;
+mod fixtures;
+mod held;
+mod large;
+mod memory;
+mod noted;
+mod places;
+mod readings;
+mod verdict;
+mod writings;
+
+use crate::memory::{Memory, Turn};
+use crate::verdict::Verdict;
+use gptman::Result;
+use std::fs::File;
+use std::io;
+use std::rt::Files;
+
+fn main(rt: HostRuntime) -> io::Result<()> {
+    for line in rt.lines(rt.alloc()) {
+        try_line(&rt, line?.as_str())?;
+    }
+    Ok(())
+}
+
+// Makes the call that this line names, and prints what came of it.
+fn try_line<R: Files<File = File> + Print + AllocGlobal>(rt: &R, line: &str) -> io::Result<()> {
+    let mut words = line.split_whitespace();
+    let name = words.next().unwrap_or("");
+    let turn = Turn::named(words.next().unwrap_or(""));
+    let mut memory = Memory::new(rt.alloc(), turn);
+    let said = said_of(&try_call(rt, name, &mut memory));
+    match memory.counted() {
+        Some(growths) => println!(rt; "{name}: {said} {growths}"),
+        None => println!(rt; "{name}: {said}"),
+    }
+}
+
+// What is printed of a call.
+fn said_of(made: &Option<Result<Verdict>>) -> &'static str {
+    match made {
+        Some(Ok(verdict)) => verdict.text(),
+        Some(Err(_)) => "what it needs could not be made",
+        None => "there is no such call",
+    }
+}
+
+// Makes the call of this name. None where there is none.
+fn try_call<R: Files<File = File> + AllocGlobal>(
+    files: &R,
+    name: &str,
+    memory: &mut Memory,
+) -> Option<Result<Verdict>> {
+    if let Some(made) = try_of_table(name, memory) {
+        return Some(made);
+    }
+    if let Some(made) = writings::try_call(name, memory) {
+        return Some(made);
+    }
+    if let Some(made) = commands::try_call(name, memory) {
+        return Some(made);
+    }
+    if let Some(made) = large::try_call(name, memory) {
+        return Some(made);
+    }
+    files::try_call(files, name, memory)
+}
+
+// The same of the calls that write no table.
+fn try_of_table(name: &str, memory: &mut Memory) -> Option<Result<Verdict>> {
+    if let Some(made) = copies::try_call(name, memory) {
+        return Some(made);
+    }
+    if let Some(made) = readings::try_call(name, memory) {
+        return Some(made);
+    }
+    if let Some(made) = places::try_call(name, memory) {
+        return Some(made);
+    }
+    disks::try_call(name, memory)
+}
