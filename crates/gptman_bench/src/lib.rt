@@ -33,8 +33,6 @@ mod fitting;
 #[cfg(test)]
 mod fixtures;
 #[cfg(test)]
-mod growths;
-#[cfg(test)]
 mod headers;
 #[cfg(test)]
 mod list;
@@ -66,8 +64,6 @@ mod program_damage;
 mod program_failures;
 #[cfg(test)]
 mod program_grow;
-#[cfg(test)]
-mod program_growths;
 #[cfg(test)]
 mod program_names;
 #[cfg(test)]
