@@ -12,11 +12,6 @@ pub(crate) fn got<T, E: Debug>(rt: &impl Abort, outcome: Result<T, E>) -> T {
     outcome.expect(rt, "a call that should be done was refused")
 }
 
-/// This is so.
-pub(crate) fn holds(rt: &impl Abort, is_so: bool) {
-    assert!(rt; is_so);
-}
-
 /// The call was answered with this text: "ok", or that of its error.
 pub(crate) fn assert_said<T>(
     rt: &impl Abort,

@@ -1,6 +1,6 @@
 //! The checks before a write: which tables are written, and which are refused with nothing changed.
 
-use crate::asserts::{assert_said, got, holds};
+use crate::asserts::{assert_said, got};
 use crate::fixtures::{
     are_all, disk_1, disk_of, new_small_table, partition, read_image, table_with, write,
 };
@@ -26,7 +26,7 @@ pub(crate) fn assert_answered(
     let mut disk = got(rt, disk_of(alloc, 2, len));
     assert_said(rt, alloc, &write(rt, table, &mut disk), said);
     let is_kept = are_all(disk.bytes(), 2) && *table == given;
-    holds(rt, is_kept || said == "ok");
+    assert!(rt; is_kept || said == "ok");
 }
 
 // The table that is read from 100 sectors where this one was written. The write gave back a header in
@@ -34,7 +34,7 @@ pub(crate) fn assert_answered(
 fn read_back(rt: &impl Abort, alloc: Global, table: &mut GPT, other_at: u64) -> GPT {
     let mut disk = got(rt, disk_of(alloc, 2, 51_200));
     let other = got(rt, write(rt, table, &mut disk));
-    holds(rt, other.primary_lba == other_at);
+    assert!(rt; other.primary_lba == other_at);
     got(rt, read_image(alloc, disk.bytes()))
 }
 
@@ -49,7 +49,7 @@ fn used_entries_may_fill_the_usable_sectors(rt: HostRuntime) {
         let mut table = got(&rt, table_with(rt.alloc(), (34, 66), 2048, used));
         let read = read_back(&rt, rt.alloc(), &mut table, 99);
         table.align = align;
-        holds(&rt, read == table);
+        assert!(rt; read == table);
     }
 }
 
@@ -134,8 +134,8 @@ fn a_table_that_ends_with_64_bits_is_written_in_backup_form(rt: HostRuntime) {
     table.header.backup_lba = 1;
     table.header.partition_entry_lba = 67;
     let read = read_back(&rt, rt.alloc(), &mut table, 1);
-    holds(&rt, read.is_primary() && read.align == 40);
-    holds(&rt, read.header.last_usable_lba == u64::MAX);
+    assert!(rt; read.is_primary() && read.align == 40);
+    assert!(rt; read.header.last_usable_lba == u64::MAX);
 }
 
 #[test]

@@ -1,7 +1,7 @@
 //! Checksums, a header and an entry against the vectors of the format.
 
-use crate::asserts::{got, holds};
-use crate::fixtures::new_header;
+use crate::asserts::got;
+use crate::fixtures::{new_header, put};
 use crate::names::padded;
 use gptman::crc::crc32;
 use gptman::{GPTHeader, GPTPartitionEntry, PartitionName};
@@ -40,6 +40,41 @@ fn checksums_of_known_messages(rt: HostRuntime) {
     }
 }
 
+// Eight bytes are taken in at once, and what is left a byte at a time. The checksums were made by another
+// program.
+#[test]
+fn checksums_of_messages_of_some_blocks(rt: HostRuntime) {
+    let rows: [(&[u8], u32); 4] = [
+        (b"12345678", 0x9ae0_daaf),
+        (b"abcdefghijklmno", 0x5191_67df),
+        (b"abcdefghijklmnop", 0x943a_c093),
+        (b"abcdefghijklmnopqrstuvwx", 0x2183_6df4),
+    ];
+    for (message, checksum) in rows {
+        assert!(rt; crc32(message) == checksum, "of {message:?}");
+    }
+}
+
+// A byte in each place of a block. The checksums were made by another program.
+#[test]
+fn a_byte_of_a_block_is_taken_in_by_its_place(rt: HostRuntime) {
+    let checksums = [
+        0x4369_d98f,
+        0xf714_9559,
+        0x81e6_74a5,
+        0xaf46_18e5,
+        0xbb27_d998,
+        0xdbba_eb84,
+        0xf606_221b,
+        0x4820_30e4,
+    ];
+    for (place, checksum) in checksums.into_iter().enumerate() {
+        let mut block = [0; 8];
+        put(&rt, &mut block, place, &[0xff]);
+        assert!(rt; crc32(&block) == checksum, "place {place}");
+    }
+}
+
 // The checksum of one byte is a word of the table, which the byte alone chooses, over ff000000.
 #[test]
 fn words_of_the_table(rt: HostRuntime) {
@@ -58,7 +93,7 @@ fn words_of_the_table(rt: HostRuntime) {
 // The bytes are these, as hex text.
 fn assert_vector(rt: &impl Abort, alloc: Global, bytes: &[u8], vector: &str) {
     let text = got(rt, hex::encode(alloc, bytes));
-    holds(rt, text.as_str() == vector);
+    assert!(rt; text.as_str() == vector);
 }
 
 // The bytes of a hex text.
@@ -73,7 +108,7 @@ fn a_new_header_is_the_vector(rt: HostRuntime) {
     let header = got(&rt, new_header(rt.alloc()));
     assert_vector(&rt, rt.alloc(), &header.encode(), HEADER);
     let decoded = GPTHeader::decode(&bytes_of(&rt, HEADER));
-    holds(&rt, decoded == header);
+    assert!(rt; decoded == header);
 }
 
 // The entry of the vector.
@@ -94,7 +129,7 @@ fn an_entry_is_the_vector(rt: HostRuntime) {
     assert_vector(&rt, rt.alloc(), &entry.encode(), ENTRY);
     let bytes = bytes_of(&rt, ENTRY);
     let decoded = got(&rt, GPTPartitionEntry::decode(rt.alloc(), &bytes));
-    holds(&rt, decoded == entry);
+    assert!(rt; decoded == entry);
 }
 
 // Whether the name is "Foo", in its text and in its units.
@@ -106,14 +141,14 @@ fn is_foo(name: &PartitionName) -> bool {
 fn the_name_of_the_vector_is_read(rt: HostRuntime) {
     let bytes = got(&rt, foo(rt.alloc())).encode();
     let decoded = got(&rt, GPTPartitionEntry::decode(rt.alloc(), &bytes));
-    holds(&rt, is_foo(&decoded.partition_name));
-    holds(&rt, got(&rt, decoded.clone()) == decoded);
+    assert!(rt; is_foo(&decoded.partition_name));
+    assert!(rt; got(&rt, decoded.clone()) == decoded);
 }
 
 #[test]
 fn the_empty_entry_is_zeros(rt: HostRuntime) {
     let empty = GPTPartitionEntry::empty(rt.alloc());
-    holds(&rt, empty.encode() == [0; 128]);
+    assert!(rt; empty.encode() == [0; 128]);
     let decoded = got(&rt, GPTPartitionEntry::decode(rt.alloc(), &[0; 128]));
-    holds(&rt, decoded == empty);
+    assert!(rt; decoded == empty);
 }

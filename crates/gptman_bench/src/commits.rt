@@ -1,6 +1,6 @@
 //! Lists of edits that are written one after the other.
 
-use crate::asserts::{assert_names, got, holds};
+use crate::asserts::{assert_names, got};
 use crate::faulty::failing_once;
 use crate::fixtures::{
     DISK_GUID, are_all, disk_of, image_of_new_table, new_small_table, new_table, new_written,
@@ -36,8 +36,8 @@ fn assert_commits(
     (done, said): (usize, &str),
 ) {
     let progress = commit(rt, table, disk, edits);
-    holds(rt, progress.done == done);
-    holds(rt, got(rt, fault(alloc, &progress)).as_str() == said);
+    assert!(rt; progress.done == done);
+    assert!(rt; got(rt, fault(alloc, &progress)).as_str() == said);
 }
 
 // An entry from and to these sectors, with a GUID of its own by this byte, put under this number.
@@ -84,9 +84,9 @@ fn a_number_that_is_no_entry_stops_the_edits(rt: HostRuntime) {
     let edits = to_number_129(&rt, rt.alloc());
     let told = (1, "invalid partition number: 129");
     assert_commits(&rt, rt.alloc(), &mut table, &mut disk, edits, told);
-    holds(&rt, table.header.disk_guid == [5; 16]);
+    assert!(rt; table.header.disk_guid == [5; 16]);
     let read = got(&rt, read_image(rt.alloc(), disk.bytes()));
-    holds(&rt, read == table);
+    assert!(rt; read == table);
 }
 
 // The disk's GUID is changed in the table, and its write is refused with this text.
@@ -99,7 +99,7 @@ fn assert_not_written(
 ) {
     let edits = got(rt, vec![in alloc; Edit::DiskGuid([5; 16])]);
     assert_commits(rt, alloc, table, disk, edits, (0, said));
-    holds(rt, table.header.disk_guid == [5; 16]);
+    assert!(rt; table.header.disk_guid == [5; 16]);
 }
 
 #[test]
@@ -107,7 +107,7 @@ fn an_edit_of_a_table_that_does_not_fit_the_disk_is_not_written(rt: HostRuntime)
     let mut table = got(&rt, new_small_table(rt.alloc()));
     let mut disk = got(&rt, disk_of(rt.alloc(), 2, 30_000));
     assert_not_written(&rt, rt.alloc(), &mut table, &mut disk, "no space left");
-    holds(&rt, are_all(disk.bytes(), 2));
+    assert!(rt; are_all(disk.bytes(), 2));
 }
 
 #[test]
@@ -117,7 +117,7 @@ fn a_disk_that_fails_at_once_takes_no_edit(rt: HostRuntime) {
     let none = Vec::new(rt.alloc());
     assert_commits(&rt, rt.alloc(), &mut table, &mut disk, none, (0, "none"));
     assert_not_written(&rt, rt.alloc(), &mut table, &mut disk, "generic I/O error");
-    holds(&rt, disk.bytes() == written.bytes());
+    assert!(rt; disk.bytes() == written.bytes());
 }
 
 // Three entries, each put behind the one before.
@@ -137,7 +137,7 @@ const CALLS: u64 = 57;
 fn commit_three<D: Disk>(rt: &impl Abort, alloc: Global, disk: &mut D, image: &[u8]) -> usize {
     let mut table = got(rt, read_image(alloc, image));
     let progress = commit(rt, &mut table, disk, three_edits(rt, alloc));
-    holds(rt, matches!(&progress.fault, None | Some(Error::Io(_))));
+    assert!(rt; matches!(&progress.fault, None | Some(Error::Io(_))));
     progress.done
 }
 
@@ -217,9 +217,9 @@ fn five_edits(rt: &impl Abort, alloc: Global) -> Vec<Edit> {
 fn assert_five_done(rt: &impl Abort, alloc: Global, disk: &MemoryDisk, table: &GPT) {
     let read = got(rt, read_image(alloc, disk.bytes()));
     assert_names(rt, alloc, &read, "1 Foo, ");
-    holds(rt, read.header.disk_guid == [9; 16]);
-    holds(rt, read.header == table.header);
-    holds(rt, read.iter().eq(table.iter()));
+    assert!(rt; read.header.disk_guid == [9; 16]);
+    assert!(rt; read.header == table.header);
+    assert!(rt; read.iter().eq(table.iter()));
 }
 
 #[test]

@@ -1,6 +1,6 @@
 //! Tables of other counts of entries than 128: read, given a partition, written and read back.
 
-use crate::asserts::{assert_bounds, assert_said, got, holds, places_of};
+use crate::asserts::{assert_bounds, assert_said, got, places_of};
 use crate::fixtures::{
     DISK_GUID, complement, disk_of, partition, read_image, used_entries, write, write_copy,
 };
@@ -47,10 +47,7 @@ fn table_of_count(rt: &impl Abort, alloc: Global, count: u32) -> GPT {
         rt,
         read_image(alloc, disk_of_count(rt, alloc, count).bytes()),
     );
-    holds(
-        rt,
-        table.iter().count() == count as usize && table.align == 2048,
-    );
+    assert!(rt; table.iter().count() == count as usize && table.align == 2048);
     table
 }
 
@@ -77,14 +74,11 @@ fn assert_written(rt: &impl Abort, alloc: Global, mut table: GPT, last: u64) {
     let other = got(rt, write(rt, &mut table, &mut disk));
     let mut image = got(rt, disk.bytes().to_vec(alloc));
     let read = got(rt, read_image(alloc, &image));
-    holds(
-        rt,
-        read.header == table.header && read.iter().eq(table.iter()),
-    );
+    assert!(rt; read.header == table.header && read.iter().eq(table.iter()));
     complement(rt, &mut image, 512);
     let read = got(rt, read_image(alloc, &image));
-    holds(rt, places_of(&other) == (99, 1, last.saturating_add(1)));
-    holds(rt, read.header == other && read.iter().eq(table.iter()));
+    assert!(rt; places_of(&other) == (99, 1, last.saturating_add(1)));
+    assert!(rt; read.header == other && read.iter().eq(table.iter()));
 }
 
 #[test]
@@ -111,11 +105,11 @@ fn places(rt: &impl Abort, mut table: GPT) -> [Option<u64>; 2] {
 fn a_table_of_any_count_has_places(rt: HostRuntime) {
     for (count, first, _, at_last) in ROWS {
         let table = table_of_count(&rt, rt.alloc(), count);
-        holds(&rt, places(&rt, table) == [Some(first), Some(at_last)]);
+        assert!(rt; places(&rt, table) == [Some(first), Some(at_last)]);
         let table = with_foo(&rt, rt.alloc(), count, first);
         let behind = first.saturating_add(5);
-        holds(&rt, places(&rt, table) == [Some(behind), Some(at_last)]);
+        assert!(rt; places(&rt, table) == [Some(behind), Some(at_last)]);
     }
     let none = table_of_count(&rt, rt.alloc(), 0);
-    holds(&rt, places(&rt, none) == [Some(34), Some(62)]);
+    assert!(rt; places(&rt, none) == [Some(34), Some(62)]);
 }

@@ -1,7 +1,7 @@
 //! Tables that were made by hand: with no entry, or with used entries that overlap or are reversed.
 //! They are read, and their free sectors are those that no entry covers, but they are not written.
 
-use crate::asserts::{assert_said, got, holds};
+use crate::asserts::{assert_said, got};
 use crate::checks::{BOUNDARIES, assert_answered};
 use crate::fixtures::{image_of, read_image, table_with};
 use crate::reading::{crafted_image, header_without_entries};
@@ -14,7 +14,7 @@ use std::process::Abort;
 fn without_entries(rt: &impl Abort, alloc: Global, align: u64) -> GPT {
     let image = crafted_image(rt, alloc, header_without_entries(rt, alloc));
     let mut table = got(rt, read_image(alloc, &image));
-    holds(rt, table.align == 2048 && table.iter().count() == 0);
+    assert!(rt; table.align == 2048 && table.iter().count() == 0);
     table.align = align;
     table
 }
@@ -29,7 +29,7 @@ fn a_table_without_entries_has_no_entry_to_remove(rt: HostRuntime) {
     let refusal = "partition not found";
     assert_said(&rt, rt.alloc(), &table.remove_at_sector(34), refusal);
     got(&rt, table.sort());
-    holds(&rt, table == given);
+    assert!(rt; table == given);
 }
 
 #[test]
@@ -55,7 +55,7 @@ fn read_with(rt: &impl Abort, alloc: Global, used: &[(u64, u64)], align: u64) ->
     let written = got(rt, table_with(alloc, (34, 66), 2048, used));
     let image = image_of(rt, alloc, &written);
     let mut table = got(rt, read_image(alloc, &image));
-    holds(rt, table.align == align && table.iter().eq(written.iter()));
+    assert!(rt; table.align == align && table.iter().eq(written.iter()));
     table.align = 1;
     table
 }

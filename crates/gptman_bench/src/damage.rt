@@ -1,6 +1,6 @@
 //! Images that are damaged, cut, zeroed and crafted, each read by the library and by a plain reader.
 
-use crate::asserts::{assert_names, got, holds};
+use crate::asserts::{assert_names, got};
 use crate::fixtures::{complement, disk_of, new_header, partition, put, read_image, write_copy};
 use crate::oracle::{header_checksum, is_read_alike};
 use gptman::{GPTHeader, GPTPartitionEntry};
@@ -53,7 +53,7 @@ fn each_copy_of_the_image_is_whole(rt: HostRuntime) {
         let mut bytes = image(&rt, rt.alloc());
         complement(&rt, &mut bytes, broken);
         let table = got(&rt, read_image(rt.alloc(), &bytes));
-        holds(&rt, table.header.primary_lba == primary_lba);
+        assert!(rt; table.header.primary_lba == primary_lba);
         assert_names(&rt, rt.alloc(), &table, "1 Foo, 3 Bar, ");
     }
 }

@@ -1,6 +1,6 @@
 //! One entry: whether it is used, its sectors, and reading it from a disk.
 
-use crate::asserts::{assert_boundaries, assert_said, got, holds};
+use crate::asserts::{assert_boundaries, assert_said, got};
 use crate::callers::are_equal_entries;
 use crate::fixtures::{partition, printed, put};
 use gptman::{Disk, GPTPartitionEntry, MemoryDisk, PartitionName};
@@ -15,12 +15,12 @@ fn is_used_alone(entry: &GPTPartitionEntry) -> bool {
 #[test]
 fn an_entry_is_used_where_a_byte_of_its_type_is_set(rt: HostRuntime) {
     let mut entry = GPTPartitionEntry::empty(rt.alloc());
-    holds(&rt, entry.is_unused() && !entry.is_used());
+    assert!(rt; entry.is_unused() && !entry.is_used());
     entry.partition_type_guid = [0, 0, 0, 0, 0, 0, 0, 0, 0, 0, 0, 0, 0, 0, 0, 1];
-    holds(&rt, is_used_alone(&entry));
+    assert!(rt; is_used_alone(&entry));
     entry.partition_type_guid = [0; 16];
     entry.unique_partition_guid = [1; 16];
-    holds(&rt, entry.is_unused());
+    assert!(rt; entry.is_unused());
 }
 
 // The entry "Foo" from and to these sectors.
@@ -37,10 +37,10 @@ fn range_of(rt: &impl Abort, entry: &GPTPartitionEntry) -> (u64, u64) {
 #[test]
 fn an_entry_has_its_sectors(rt: HostRuntime) {
     let entry = foo(&rt, rt.alloc(), 2048, 4096);
-    holds(&rt, range_of(&rt, &entry) == (2048, 4096));
-    holds(&rt, got(&rt, entry.size()) == 2049);
+    assert!(rt; range_of(&rt, &entry) == (2048, 4096));
+    assert!(rt; got(&rt, entry.size()) == 2049);
     let one = foo(&rt, rt.alloc(), u64::MAX, u64::MAX);
-    holds(&rt, got(&rt, one.size()) == 1);
+    assert!(rt; got(&rt, one.size()) == 1);
 }
 
 #[test]
@@ -76,10 +76,10 @@ fn disk_with_foo(rt: &impl Abort, alloc: Global, at: u64) -> MemoryDisk {
 fn an_entry_is_read_at_the_position(rt: HostRuntime) {
     let mut disk = disk_with_foo(&rt, rt.alloc(), 100);
     let read = got(&rt, GPTPartitionEntry::read_from(rt.alloc(), &mut disk));
-    holds(&rt, read == foo(&rt, rt.alloc(), 34, 43));
+    assert!(rt; read == foo(&rt, rt.alloc(), 34, 43));
     let mut next = [0; 72];
     got(&rt, disk.read_exact(&mut next));
-    holds(&rt, next == [2; 72]);
+    assert!(rt; next == [2; 72]);
 }
 
 #[test]
@@ -93,12 +93,12 @@ fn an_entry_that_is_cut_off_is_not_read(rt: HostRuntime) {
 fn entries_are_equal_where_all_their_fields_are(rt: HostRuntime) {
     let entry = foo(&rt, rt.alloc(), 34, 43);
     let mut other = got(&rt, entry.clone());
-    holds(&rt, are_equal_entries(&entry, &other));
+    assert!(rt; are_equal_entries(&entry, &other));
     other.attribute_bits = 4;
-    holds(&rt, !are_equal_entries(&entry, &other));
+    assert!(rt; !are_equal_entries(&entry, &other));
     other.attribute_bits = entry.attribute_bits;
     other.partition_name = got(&rt, PartitionName::new(rt.alloc(), "Fou"));
-    holds(&rt, !are_equal_entries(&entry, &other));
+    assert!(rt; !are_equal_entries(&entry, &other));
 }
 
 #[test]
@@ -107,6 +107,6 @@ fn an_entry_is_printed_for_debugging(rt: HostRuntime) {
     let text = printed(&rt, rt.alloc(), &entry);
     let start = "GPTPartitionEntry { partition_type_guid: [10, 10, ";
     let sectors = "starting_lba: 34, ending_lba: 43, attribute_bits: 0";
-    holds(&rt, text.as_str().starts_with(start));
-    holds(&rt, text.as_str().contains(sectors));
+    assert!(rt; text.as_str().starts_with(start));
+    assert!(rt; text.as_str().contains(sectors));
 }

@@ -177,3 +177,20 @@ fn one_failed_call_finds_no_other_sector_size(rt: HostRuntime) {
         assert_found(&rt, rt.alloc(), disk, call, said);
     }
 }
+
+// The five calls for sectors of 512 are served, and then the eight for those of 4096.
+#[test]
+fn a_table_of_great_sectors_is_found_where_thirteen_calls_are_served(rt: HostRuntime) {
+    let backup =
+        "could not read primary header (invalid signature) nor backup header (generic I/O error)";
+    let image = image_of(&rt, rt.alloc(), &got(&rt, disk_2(rt.alloc())));
+    for calls in 0..15_u64 {
+        let said = match calls {
+            4 => backup,
+            0..=12 => FAILED,
+            _ => "sectors of 4096, header in 1",
+        };
+        let disk = fused(&rt, rt.alloc(), &image, calls);
+        assert_found(&rt, rt.alloc(), disk, calls, said);
+    }
+}

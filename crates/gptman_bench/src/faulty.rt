@@ -3,7 +3,7 @@
 ghost use Rattle.std.specs.Prelude.{◌≡◌, ◌+◌, OnOk, OnErr};
 ghost use Rattle.gptman_bench.specs.Faulty.{faulty_sound, faulty_state, own_failures};
 
-use crate::asserts::{got, holds};
+use crate::asserts::got;
 use crate::memory::{assert_left, holding, put};
 use gptman::{Disk, MemoryDisk};
 use std::alloc::Global;
@@ -106,8 +106,8 @@ pub(crate) fn failing_once(
 #[test]
 fn a_write_that_fails_is_passed_on(rt: HostRuntime) {
     let mut disk = failing_once(&rt, rt.alloc(), &[1, 2, 3, 4], 2);
-    holds(&rt, put(&rt, &mut disk, 1, &[7, 7]).is_err());
-    holds(&rt, disk.into_inner().bytes() == [1, 7, 7, 4].as_slice());
+    assert!(rt; put(&rt, &mut disk, 1, &[7, 7]).is_err());
+    assert!(rt; disk.into_inner().bytes() == [1, 7, 7, 4].as_slice());
 }
 
 // The two bytes at the disk's position.
@@ -119,27 +119,27 @@ fn pair(disk: &mut FaultyDisk<MemoryDisk>) -> io::Result<[u8; 2]> {
 
 // These are the two bytes at the disk's position.
 fn assert_pair(rt: &impl Abort, disk: &mut FaultyDisk<MemoryDisk>, bytes: [u8; 2]) {
-    holds(rt, got(rt, pair(disk)) == bytes);
+    assert!(rt; got(rt, pair(disk)) == bytes);
 }
 
 #[test]
 fn a_seek_that_fails_is_not_passed_on(rt: HostRuntime) {
     let mut disk = failing_once(&rt, rt.alloc(), &[1, 2, 3, 4], 0);
-    holds(&rt, disk.seek_start(2).is_err());
+    assert!(rt; disk.seek_start(2).is_err());
     assert_pair(&rt, &mut disk, [1, 2]);
 }
 
 #[test]
 fn a_seek_to_the_end_that_fails_is_not_passed_on(rt: HostRuntime) {
     let mut disk = failing_once(&rt, rt.alloc(), &[1, 2, 3, 4], 0);
-    holds(&rt, disk.seek_end().is_err());
+    assert!(rt; disk.seek_end().is_err());
     assert_pair(&rt, &mut disk, [1, 2]);
 }
 
 #[test]
 fn a_read_that_fails_is_passed_on(rt: HostRuntime) {
     let mut disk = failing_once(&rt, rt.alloc(), &[1, 2, 3, 4], 0);
-    holds(&rt, pair(&mut disk).is_err());
+    assert!(rt; pair(&mut disk).is_err());
     assert_pair(&rt, &mut disk, [3, 4]);
 }
 
@@ -147,7 +147,7 @@ fn a_read_that_fails_is_passed_on(rt: HostRuntime) {
 fn a_read_past_the_end_is_not_counted(rt: HostRuntime) {
     let mut disk = failing_once(&rt, rt.alloc(), &[1, 2, 3], 1);
     assert_pair(&rt, &mut disk, [1, 2]);
-    holds(&rt, pair(&mut disk).is_err());
+    assert!(rt; pair(&mut disk).is_err());
     assert_eq!(rt; disk.calls_left(), Some(0));
 }
 
@@ -155,7 +155,7 @@ fn a_read_past_the_end_is_not_counted(rt: HostRuntime) {
 fn not_synced(rt: &impl Abort, alloc: Global) -> FaultyDisk<MemoryDisk> {
     let mut disk = failing_once(rt, alloc, &[1, 2, 3, 4], 3);
     got(rt, put(rt, &mut disk, 1, &[7, 7]));
-    holds(rt, disk.sync().is_err());
+    assert!(rt; disk.sync().is_err());
     disk
 }
 

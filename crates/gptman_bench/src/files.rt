@@ -1,6 +1,6 @@
 //! The disk over a file. Each test has a file of its own in the folder that it runs in.
 
-use crate::asserts::{assert_said, got, holds};
+use crate::asserts::{assert_said, got};
 use crate::fixtures::{DISK_GUID, are_all, image_of_new_table, new_table, write};
 use gptman::{Disk, FileDisk, GPT};
 use std::alloc::{AllocGlobal, Global};
@@ -33,7 +33,7 @@ fn assert_failed<T: Drop>(rt: &impl Abort, alloc: Global, outcome: gptman::Resul
 
 // The table is read from the disk.
 fn assert_reads<D: Disk>(rt: &impl Abort, alloc: Global, disk: &mut D, table: &GPT) {
-    holds(rt, got(rt, GPT::read_from(alloc, disk, 512)) == *table);
+    assert!(rt; got(rt, GPT::read_from(alloc, disk, 512)) == *table);
 }
 
 #[test]
@@ -43,12 +43,12 @@ fn a_table_is_written_to_a_file_and_read_back(rt: HostRuntime) {
     let mut disk = got(&rt, FileDisk::open(&rt, path));
     let mut table = got(&rt, new_table(rt.alloc(), &mut disk, 512, DISK_GUID));
     let other = got(&rt, write(&rt, &mut table, &mut disk));
-    holds(&rt, other.primary_lba == 99);
+    assert!(rt; other.primary_lba == 99);
     assert_reads(&rt, rt.alloc(), &mut disk, &table);
     let mut again = got(&rt, FileDisk::open_read(&rt, path));
     assert_reads(&rt, rt.alloc(), &mut again, &table);
     let bytes = got(&rt, fs::read(&rt, path));
-    holds(&rt, bytes == image_of_new_table(&rt, rt.alloc(), 2));
+    assert!(rt; bytes == image_of_new_table(&rt, rt.alloc(), 2));
     got(&rt, fs::remove_file(&rt, path));
 }
 
@@ -56,13 +56,13 @@ fn a_table_is_written_to_a_file_and_read_back(rt: HostRuntime) {
 fn a_read_past_the_end_of_a_file_is_refused(rt: HostRuntime) {
     let path = "short.img";
     let mut disk = make_read_only(&rt, path);
-    holds(&rt, got(&rt, disk.seek_end()) == 51_200);
-    holds(&rt, disk.read_exact(&mut [0]).is_err());
+    assert!(rt; got(&rt, disk.seek_end()) == 51_200);
+    assert!(rt; disk.read_exact(&mut [0]).is_err());
     got(&rt, disk.seek_start(51_198));
-    holds(&rt, disk.read_exact(&mut [0; 3]).is_err());
+    assert!(rt; disk.read_exact(&mut [0; 3]).is_err());
     let mut last = [0; 2];
     got(&rt, disk.read_exact(&mut last));
-    holds(&rt, last == [2, 2]);
+    assert!(rt; last == [2, 2]);
     got(&rt, disk.sync());
     got(&rt, fs::remove_file(&rt, path));
 }
@@ -75,7 +75,7 @@ fn a_file_that_is_open_for_reading_is_not_written(rt: HostRuntime) {
     let outcome = write(&rt, &mut table, &mut disk);
     assert_failed(&rt, rt.alloc(), outcome);
     let bytes = got(&rt, fs::read(&rt, path));
-    holds(&rt, bytes.len() == 51_200 && are_all(&bytes, 2));
+    assert!(rt; bytes.len() == 51_200 && are_all(&bytes, 2));
     got(&rt, fs::remove_file(&rt, path));
 }
 
@@ -84,7 +84,7 @@ fn a_file_that_is_not_there_is_not_opened(rt: HostRuntime) {
     let path = "missing.img";
     assert_failed(&rt, rt.alloc(), FileDisk::open(&rt, path));
     assert_failed(&rt, rt.alloc(), FileDisk::open_read(&rt, path));
-    holds(&rt, fs::read(&rt, path).is_err());
+    assert!(rt; fs::read(&rt, path).is_err());
 }
 
 // The disk has 51,201 bytes, and the last of them can be read.

@@ -1,6 +1,6 @@
 //! Fitting a header to a disk: a new one, and one that comes to a disk of another length.
 
-use crate::asserts::{assert_boundaries, assert_bounds, assert_said, got, holds};
+use crate::asserts::{assert_boundaries, assert_bounds, assert_said, got};
 use crate::callers::{grow, read_held};
 use crate::fixtures::{
     DISK_GUID, are_all, disk_of, image_of_new_table, new_header, new_table, read_image, write,
@@ -27,7 +27,7 @@ fn assert_fitted(rt: &impl Abort, alloc: Global, sector_size: u16, bounds: (u64,
         new_table(alloc, &mut disk, u64::from(sector_size), DISK_GUID),
     );
     assert_bounds(rt, &table.header, bounds);
-    holds(rt, is_new(&table, u64::from(sector_size)));
+    assert!(rt; is_new(&table, u64::from(sector_size)));
 }
 
 #[test]
@@ -69,8 +69,8 @@ fn assert_unusable(rt: &impl Abort, alloc: Global, sectors: u16, bounds: (u64, u
     let mut disk = got(rt, disk_of(alloc, 2, 512 * usize::from(sectors)));
     let mut table = new_bounded(rt, alloc, &mut disk, bounds);
     assert_boundaries(rt, alloc, &write(rt, &mut table, &mut disk));
-    holds(rt, are_all(disk.bytes(), 2));
-    holds(rt, table == new_bounded(rt, alloc, &mut disk, bounds));
+    assert!(rt; are_all(disk.bytes(), 2));
+    assert!(rt; table == new_bounded(rt, alloc, &mut disk, bounds));
 }
 
 #[test]
@@ -85,7 +85,7 @@ fn a_table_that_ends_before_its_first_sector_is_written(rt: HostRuntime) {
     let mut table = new_bounded(&rt, rt.alloc(), &mut disk, (34, 33, 66));
     got(&rt, write(&rt, &mut table, &mut disk));
     let read = got(&rt, GPT::read_from(rt.alloc(), &mut disk, 512));
-    holds(&rt, read == table);
+    assert!(rt; read == table);
 }
 
 // This header, fitted to a disk of so many sectors of 512 bytes.
@@ -105,11 +105,8 @@ fn a_header_is_fitted_to_a_longer_disk(rt: HostRuntime) {
         backup_lba: 199,
         ..primary
     };
-    holds(
-        &rt,
-        fit_header == wanted && fit_header.partition_entry_lba == 2,
-    );
-    holds(&rt, fit_header.is_primary() && !fit_header.is_backup());
+    assert!(rt; fit_header == wanted && fit_header.partition_entry_lba == 2);
+    assert!(rt; fit_header.is_primary() && !fit_header.is_backup());
 }
 
 #[test]
@@ -128,8 +125,8 @@ fn a_header_in_backup_form_is_fitted_to_a_longer_disk(rt: HostRuntime) {
         partition_entry_lba: 167,
         ..backup
     };
-    holds(&rt, fit_header == wanted);
-    holds(&rt, fit_header.is_backup() && !fit_header.is_primary());
+    assert!(rt; fit_header == wanted);
+    assert!(rt; fit_header.is_backup() && !fit_header.is_primary());
 }
 
 /// The header is not fitted to a disk of so many bytes, and stays as it is.
@@ -137,7 +134,7 @@ pub(crate) fn assert_kept(rt: &impl Abort, alloc: Global, given: GPTHeader, len:
     let mut header = given;
     let fits = header.update_from(&mut got(rt, disk_of(alloc, 0, len)), 512);
     assert_said(rt, alloc, &fits, "an arithmetic operation overflowed");
-    holds(rt, header == given);
+    assert!(rt; header == given);
 }
 
 #[test]
@@ -181,7 +178,7 @@ fn grown(rt: &impl Abort, table: &mut GPT, disk: &mut MemoryDisk) -> Option<u64>
     match grow(table, disk) {
         Ok(other) => Some(other.primary_lba),
         Err(error) => {
-            holds(rt, matches!(error, Error::Io(_)));
+            assert!(rt; matches!(error, Error::Io(_)));
             None
         }
     }
@@ -192,14 +189,11 @@ fn a_table_grows_with_its_disk(rt: HostRuntime) {
     let image = longer_image(&rt, rt.alloc());
     let mut disk = got(&rt, MemoryDisk::new(rt.alloc(), image));
     let mut table = got(&rt, read_held(rt.alloc(), &mut disk, 512));
-    holds(
-        &rt,
-        table.sector_size == 512 && table.header.last_usable_lba == 66,
-    );
-    holds(&rt, grown(&rt, &mut table, &mut disk) == Some(199));
-    holds(&rt, table.header.last_usable_lba == 166);
+    assert!(rt; table.sector_size == 512 && table.header.last_usable_lba == 66);
+    assert!(rt; grown(&rt, &mut table, &mut disk) == Some(199));
+    assert!(rt; table.header.last_usable_lba == 166);
     let read = got(&rt, read_image(rt.alloc(), disk.bytes()));
-    holds(&rt, read == table);
+    assert!(rt; read == table);
 }
 
 // The last usable sector of the table that a stop after so many calls of `grow` leaves, with this fate
@@ -226,8 +220,8 @@ fn assert_survives(rt: &impl Abort, alloc: Global, image: &[u8], fate: Fate) {
         let (last, done) = grown_until(rt, alloc, image, calls, fate);
         assert!(rt; last == 166 || (last == 66 && !done), "{calls} calls");
     }
-    holds(rt, grown_until(rt, alloc, image, 0, fate) == (66, false));
-    holds(rt, grown_until(rt, alloc, image, 32, fate) == (166, true));
+    assert!(rt; grown_until(rt, alloc, image, 0, fate) == (66, false));
+    assert!(rt; grown_until(rt, alloc, image, 32, fate) == (166, true));
 }
 
 #[test]

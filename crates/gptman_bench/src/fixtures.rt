@@ -240,16 +240,20 @@ pub(crate) fn image_of(rt: &impl Abort, alloc: Global, table: &GPT) -> Vec<u8> {
     got(rt, disk.bytes().to_vec(alloc))
 }
 
+/// The header of the backup copy, of a header in primary form, with its checksums.
+pub(crate) fn backup_form(header: &GPTHeader) -> GPTHeader {
+    GPTHeader {
+        primary_lba: header.backup_lba,
+        backup_lba: header.primary_lba,
+        partition_entry_lba: header.last_usable_lba.saturating_add(1),
+        ..*header
+    }
+}
+
 // Writes both copies of a table in primary form, each alone.
 fn write_both(rt: &impl Abort, disk: &mut MemoryDisk, table: &GPT, entries: &[GPTPartitionEntry]) {
     let own = table.header;
-    let other = GPTHeader {
-        primary_lba: own.backup_lba,
-        backup_lba: own.primary_lba,
-        partition_entry_lba: own.last_usable_lba.saturating_add(1),
-        ..own
-    };
-    for mut header in [own, other] {
+    for mut header in [own, backup_form(&own)] {
         got(
             rt,
             write_copy(rt, &mut header, disk, table.sector_size, entries),

@@ -1,6 +1,6 @@
 //! One copy of a table, header and entries, written to a disk and read from it.
 
-use crate::asserts::{assert_said, got, holds};
+use crate::asserts::{assert_said, got};
 use crate::fixtures::{
     DISK_GUID, are_all, bytes_at, disk_of, entries_of, new_header, new_small_table, used_entries,
     write_copy,
@@ -28,11 +28,8 @@ fn assert_checksums(rt: &impl Abort, header: &GPTHeader, entries: &[GPTPartition
     assert!(rt; header.header_size == 92 && header.size_of_partition_entry == 128);
     assert!(rt; entries.len() == header.number_of_partition_entries as usize);
     let checksum = header.generate_partition_entry_array_crc32(entries);
-    holds(rt, checksum == header.partition_entry_array_crc32);
-    holds(
-        rt,
-        header.generate_crc32_checksum() == header.crc32_checksum,
-    );
+    assert!(rt; checksum == header.partition_entry_array_crc32);
+    assert!(rt; header.generate_crc32_checksum() == header.crc32_checksum);
 }
 
 // The copy of this header, in sector 1, is read with the header and these entries.
@@ -44,9 +41,9 @@ fn assert_copy(
     entries: &[GPTPartitionEntry],
 ) {
     got(rt, disk.seek_start(512));
-    holds(rt, got(rt, GPTHeader::read_from(disk)) == *header);
+    assert!(rt; got(rt, GPTHeader::read_from(disk)) == *header);
     let read = got(rt, header.read_partitions(alloc, disk, 512));
-    holds(rt, read.as_slice() == entries);
+    assert!(rt; read.as_slice() == entries);
 }
 
 // A copy of so many entries is read back as it was written.
@@ -84,6 +81,12 @@ fn assert_entries_at(
     }
 }
 
+// How many bytes 33 entries are.
+const ARRAY: usize = 33 * 128;
+
+// How many bytes of 100 sectors of 512 stand behind 33 entries, which begin in sector 2.
+const BEHIND: usize = 51_200 - 1024 - ARRAY;
+
 #[test]
 fn entries_stand_one_after_the_other(rt: HostRuntime) {
     let mut disk = got(&rt, disk_of(rt.alloc(), 2, 51_200));
@@ -91,9 +94,9 @@ fn entries_stand_one_after_the_other(rt: HostRuntime) {
     let header = write_entries(&rt, &mut disk, &entries, 33);
     assert_entries_at(&rt, &mut disk, 1024, &entries);
     let bytes = got(&rt, bytes_at::<92>(&mut disk, 512));
-    holds(&rt, bytes == header.encode());
-    let array = got(&rt, bytes_at::<4224>(&mut disk, 1024));
-    holds(&rt, crc32(&array) == header.partition_entry_array_crc32);
+    assert!(rt; bytes == header.encode());
+    let array = got(&rt, bytes_at::<ARRAY>(&mut disk, 1024));
+    assert!(rt; crc32(&array) == header.partition_entry_array_crc32);
 }
 
 #[test]
@@ -102,8 +105,8 @@ fn bytes_around_a_copy_do_not_change(rt: HostRuntime) {
     let entries = got(&rt, used_entries(rt.alloc(), 33));
     write_entries(&rt, &mut disk, &entries, 33);
     let before = got(&rt, bytes_at::<420>(&mut disk, 604));
-    let behind = got(&rt, bytes_at::<45952>(&mut disk, 5248));
-    holds(&rt, are_all(&before, 2) && are_all(&behind, 2));
+    let behind = got(&rt, bytes_at::<BEHIND>(&mut disk, 1024 + ARRAY as u64));
+    assert!(rt; are_all(&before, 2) && are_all(&behind, 2));
 }
 
 // Makes both checksums of a header of these entries.
@@ -120,11 +123,11 @@ fn update_checksums(rt: &impl Abort, header: &mut GPTHeader, entries: &[GPTParti
 fn the_checksums_are_those_of_another_program(rt: HostRuntime) {
     let table = got(&rt, new_small_table(rt.alloc()));
     let entries = got(&rt, entries_of(rt.alloc(), &table));
-    holds(&rt, entries.len() == 128);
+    assert!(rt; entries.len() == 128);
     let mut header = table.header;
     update_checksums(&rt, &mut header, &entries);
-    holds(&rt, header.partition_entry_array_crc32 == 0xab54_d286);
-    holds(&rt, header.crc32_checksum == 0xa4fd_9f64);
+    assert!(rt; header.partition_entry_array_crc32 == 0xab54_d286);
+    assert!(rt; header.crc32_checksum == 0xa4fd_9f64);
 }
 
 // The copy is refused on 99 sectors, which stay as they are, and so does the header.
@@ -139,7 +142,7 @@ fn assert_refused(
     let mut header = given;
     let outcome = write_copy(rt, &mut header, &mut disk, 512, entries);
     assert_said(rt, alloc, &outcome, refusal);
-    holds(rt, header == given && are_all(disk.bytes(), 2));
+    assert!(rt; header == given && are_all(disk.bytes(), 2));
 }
 
 #[test]

@@ -69,6 +69,8 @@ mod program_names;
 #[cfg(test)]
 mod program_rows;
 #[cfg(test)]
+mod program_stops;
+#[cfg(test)]
 mod program_words;
 #[cfg(test)]
 mod reading;

@@ -1,6 +1,6 @@
 //! The list of a table's entries: looked at, changed, put in order.
 
-use crate::asserts::{assert_entry, assert_names, assert_said, got, holds};
+use crate::asserts::{assert_entry, assert_names, assert_said, got};
 use crate::callers::{
     are_equal, clear_by_iterator, clear_by_number, count_used, exchange, last_number, sort_twice,
     used_numbers,
@@ -25,10 +25,10 @@ fn count_numbers(rt: &impl Abort, table: &GPT) -> u32 {
 fn entries_are_numbered_from_one(rt: HostRuntime) {
     let table = got(&rt, disk_1_unsorted(rt.alloc()));
     let last = count_numbers(&rt, &table);
-    holds(&rt, last == 128 && last_number(&table) == 128);
-    holds(&rt, count_used(&table) == 3);
+    assert!(rt; last == 128 && last_number(&table) == 128);
+    assert!(rt; count_used(&table) == 3);
     let used = got(&rt, used_numbers(rt.alloc(), &table));
-    holds(&rt, used.as_slice() == [1, 2, 10].as_slice());
+    assert!(rt; used.as_slice() == [1, 2, 10].as_slice());
 }
 
 // Gives each entry its number as its attributes. The numbers count from one to 128.
@@ -69,14 +69,11 @@ fn assert_disk_1(rt: &impl Abort, alloc: Global, table: &GPT) {
 fn each_entry_can_be_written(rt: HostRuntime) {
     let mut table = disk_1_with_attributes(&rt, rt.alloc());
     let mut other = got(&rt, table.clone());
-    holds(
-        &rt,
-        table.is_coherent() && table.header.number_of_partition_entries == 128,
-    );
+    assert!(rt; table.is_coherent() && table.header.number_of_partition_entries == 128);
     clear_by_iterator(&mut table);
-    holds(&rt, !are_equal(&table, &other));
+    assert!(rt; !are_equal(&table, &other));
     clear_by_iterator(&mut other);
-    holds(&rt, are_equal(&table, &other));
+    assert!(rt; are_equal(&table, &other));
     assert_disk_1(&rt, rt.alloc(), &table);
 }
 
@@ -113,7 +110,7 @@ fn of_two_entries_on_a_sector_the_lower_number_is_found(rt: HostRuntime) {
     let alloc = rt.alloc();
     put(&rt, &mut table, 5, partition(alloc, "A", [2; 16], 40, 50));
     put(&rt, &mut table, 4, partition(alloc, "B", [3; 16], 45, 60));
-    holds(&rt, table.find_at_sector(47) == Some(4));
+    assert!(rt; table.find_at_sector(47) == Some(4));
 }
 
 #[test]
@@ -123,7 +120,7 @@ fn an_entry_is_removed(rt: HostRuntime) {
     assert_names(&rt, rt.alloc(), &table, "2 Bar, 10 Baz, ");
     got(&rt, table.remove_at_sector(52));
     assert_names(&rt, rt.alloc(), &table, "10 Baz, ");
-    holds(&rt, table.iter().count() == 128);
+    assert!(rt; table.iter().count() == 128);
 }
 
 // A change of an entry that the table does not have is refused.
@@ -167,14 +164,14 @@ fn entries_are_put_in_order(rt: HostRuntime) {
     let mut table = disk_1_sorted(&rt, rt.alloc());
     assert_names(&rt, rt.alloc(), &table, "1 Foo, 2 Baz, 3 Bar, ");
     got(&rt, sort_twice(&mut table));
-    holds(&rt, are_equal(&table, &disk_1_sorted(&rt, rt.alloc())));
+    assert!(rt; are_equal(&table, &disk_1_sorted(&rt, rt.alloc())));
 }
 
 #[test]
 fn an_edit_puts_entries_in_order(rt: HostRuntime) {
     let mut table = got(&rt, disk_1_unsorted(rt.alloc()));
     got(&rt, table.apply(Edit::SortEntries));
-    holds(&rt, are_equal(&table, &disk_1_sorted(&rt, rt.alloc())));
+    assert!(rt; are_equal(&table, &disk_1_sorted(&rt, rt.alloc())));
 }
 
 // An unused entry that has a name.
@@ -206,7 +203,7 @@ fn entries_that_tie_keep_their_order(rt: HostRuntime) {
     let names = "1 First, 2 Foo, 3 Second, 4 Bar, ";
     assert_names(&rt, rt.alloc(), &table, names);
     assert_entry(&rt, &table, 4, &got(&rt, named(rt.alloc())));
-    holds(&rt, table.iter().count() == 128);
+    assert!(rt; table.iter().count() == 128);
 }
 
 #[test]
@@ -266,25 +263,25 @@ fn a_partition_has_its_bytes(rt: HostRuntime) {
     }
     let reversed = bytes_of(&rt, rt.alloc(), &table, 5);
     let refusal = "invalid partition boundaries: ";
-    holds(&rt, reversed.as_str().starts_with(refusal));
+    assert!(rt; reversed.as_str().starts_with(refusal));
 }
 
 #[test]
 fn clones_are_equal(rt: HostRuntime) {
     let table = got(&rt, disk_1(rt.alloc()));
     let mut other = got(&rt, table.clone());
-    holds(&rt, are_equal(&table, &other));
+    assert!(rt; are_equal(&table, &other));
     got(&rt, other.apply(Edit::DiskGuid([5; 16])));
-    holds(&rt, other.header.disk_guid == [5; 16]);
-    holds(&rt, !are_equal(&table, &other));
+    assert!(rt; other.header.disk_guid == [5; 16]);
+    assert!(rt; !are_equal(&table, &other));
 }
 
 #[test]
 fn clones_of_an_entry_and_of_its_name_are_equal(rt: HostRuntime) {
     let entry = got(&rt, partition(rt.alloc(), "Foo", [0x0b; 16], 34, 43));
-    holds(&rt, got(&rt, entry.clone()) == entry);
+    assert!(rt; got(&rt, entry.clone()) == entry);
     let name = got(&rt, entry.partition_name.clone());
-    holds(&rt, name == entry.partition_name);
+    assert!(rt; name == entry.partition_name);
 }
 
 #[test]
@@ -293,11 +290,11 @@ fn edits_are_printed_for_debugging(rt: HostRuntime) {
     let text = printed(&rt, rt.alloc(), &edits);
     let wanted =
         "[Remove(3), SortEntries, DiskGuid([5, 5, 5, 5, 5, 5, 5, 5, 5, 5, 5, 5, 5, 5, 5, 5])]";
-    holds(&rt, text.as_str() == wanted);
+    assert!(rt; text.as_str() == wanted);
     let put = Edit::Put(1, GPTPartitionEntry::empty(rt.alloc()));
     let text = printed(&rt, rt.alloc(), &put);
     let wanted = "Put(1, GPTPartitionEntry { partition_type_guid: [0, 0, ";
-    holds(&rt, text.as_str().starts_with(wanted));
+    assert!(rt; text.as_str().starts_with(wanted));
 }
 
 #[test]
@@ -305,13 +302,13 @@ fn a_table_is_printed_for_debugging(rt: HostRuntime) {
     let table = got(&rt, disk_1(rt.alloc()));
     let text = printed(&rt, rt.alloc(), &table);
     let start = "GPT { sector_size: 512, header: GPTHeader { signature: [69, 70, ";
-    holds(&rt, text.as_str().starts_with(start));
-    holds(&rt, text.as_str().ends_with(", align: 2048 }"));
+    assert!(rt; text.as_str().starts_with(start));
+    assert!(rt; text.as_str().ends_with(", align: 2048 }"));
 }
 
 #[test]
 fn fates_are_printed_for_debugging(rt: HostRuntime) {
     let fates = [Fate::Old, Fate::New, Fate::Garbage(7)];
     let text = printed(&rt, rt.alloc(), &fates);
-    holds(&rt, text.as_str() == "[Old, New, Garbage(7)]");
+    assert!(rt; text.as_str() == "[Old, New, Garbage(7)]");
 }

@@ -4,7 +4,7 @@
 ghost use Rattle.std.specs.Prelude.{◌<◌, ◌^◌};
 ghost use Rattle.gptman_copy.specs.File.{file_state, never_honest};
 
-use crate::asserts::{assert_bounds, got, holds, places_of};
+use crate::asserts::{assert_bounds, got, places_of};
 use crate::fixtures::{DISK_GUID, are_all, new_table, partition, put as put_over, put_mbr, write};
 use crate::memory::put;
 use gptman::{Disk, Edit, GPT};
@@ -127,9 +127,9 @@ fn a_long_disk_keeps_what_was_written_last(rt: HostRuntime) {
     got(&rt, put(&rt, &mut disk, 1 << 40, &[1, 2, 3]));
     got(&rt, put(&rt, &mut disk, (1 << 40) + 1, &[4]));
     let bytes = bytes_at::<5>(&rt, &mut disk, (1 << 40) - 1);
-    holds(&rt, bytes == [0, 1, 4, 3, 0]);
-    holds(&rt, bytes_at(&rt, &mut disk, u64::MAX - 1) == [0]);
-    holds(&rt, disk.read_exact(&mut [0]).is_err());
+    assert!(rt; bytes == [0, 1, 4, 3, 0]);
+    assert!(rt; bytes_at(&rt, &mut disk, u64::MAX - 1) == [0]);
+    assert!(rt; disk.read_exact(&mut [0]).is_err());
 }
 
 // The first two sectors of a disk with this byte first in its MBR, and with so many sectors in it.
@@ -194,15 +194,12 @@ fn a_table_is_written_past_32_bits_of_sectors(rt: HostRuntime) {
     let mut table = with_foo_at_the_end(&rt, rt.alloc(), &mut disk);
     assert_bounds(&rt, &table.header, (34, 8_589_934_558, 8_589_934_591));
     let other = got(&rt, write(&rt, &mut table, &mut disk));
-    holds(&rt, places_of(&other) == (8_589_934_591, 1, 8_589_934_559));
+    assert!(rt; places_of(&other) == (8_589_934_591, 1, 8_589_934_559));
     let read = got(&rt, GPT::read_from(rt.alloc(), &mut disk, 512));
-    holds(
-        &rt,
-        read.header == table.header && read.iter().eq(table.iter()),
-    );
+    assert!(rt; read.header == table.header && read.iter().eq(table.iter()));
     got(&rt, put(&rt, &mut disk, 512, &[0; 8]));
     let read = got(&rt, GPT::read_from(rt.alloc(), &mut disk, 512));
-    holds(&rt, read.header == other && read.iter().eq(table.iter()));
+    assert!(rt; read.header == other && read.iter().eq(table.iter()));
 }
 
 #[test]

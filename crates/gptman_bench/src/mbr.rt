@@ -1,6 +1,6 @@
 //! The protective MBR: its 66 bytes, the disks that are too short for it, and a disk that fails.
 
-use crate::asserts::{assert_said, got, holds};
+use crate::asserts::{assert_said, got};
 use crate::faulty::failing_once;
 use crate::fixtures::{are_all, disk_of, put, put_mbr};
 use crate::memory::fused;
@@ -78,7 +78,7 @@ fn whole_sectors_but_the_first_are_counted(rt: HostRuntime) {
 
 // A stop with these fates leaves no other bytes than 2.
 fn assert_left_as_it_was(rt: &impl Abort, disk: MemoryDisk, fates: &[Fate]) {
-    holds(rt, are_all(got(rt, disk.stop(fates)).bytes(), 2));
+    assert!(rt; are_all(got(rt, disk.stop(fates)).bytes(), 2));
 }
 
 // Both writes are refused on a disk of so many bytes, which stays as it was.
@@ -126,7 +126,7 @@ fn has_image(rt: &impl Abort, alloc: Global, disk: &MemoryDisk, is_torn: bool) -
 fn assert_torn(rt: &impl Abort, alloc: Global, disk: MemoryDisk, is_done: bool) {
     let left = got(rt, disk.stop(&[Fate::Garbage(7)]));
     let is_old = !is_done && has_image(rt, alloc, &left, false);
-    holds(rt, is_old || has_image(rt, alloc, &left, true));
+    assert!(rt; is_old || has_image(rt, alloc, &left, true));
 }
 
 // Writes an MBR over bytes that are all 2, on a disk that fails after so many calls and is stopped.

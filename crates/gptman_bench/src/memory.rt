@@ -1,6 +1,6 @@
 //! What a stop leaves of the disk in memory, and a read past its end.
 
-use crate::asserts::{got, holds};
+use crate::asserts::got;
 use crate::fixtures::bytes_at;
 use gptman::{Disk, Fate, MemoryDisk};
 use std::alloc::Global;
@@ -32,7 +32,7 @@ pub(crate) fn put<D: Disk>(rt: &impl Abort, disk: &mut D, at: u64, bytes: &[u8])
 /// A stop with these fates leaves these bytes.
 pub(crate) fn assert_left(rt: &impl Abort, disk: MemoryDisk, fates: &[Fate], bytes: &[u8]) {
     let left = got(rt, disk.stop(fates));
-    holds(rt, left.bytes() == bytes);
+    assert!(rt; left.bytes() == bytes);
 }
 
 // Eight zero bytes, after 01 02 at 0 and 03 04 at 1.
@@ -80,7 +80,7 @@ fn a_sync_keeps_what_was_written(rt: HostRuntime) {
 fn refused(rt: &impl Abort, alloc: Global) -> MemoryDisk {
     let mut disk = fused(rt, alloc, &[0; 8], 5);
     got(rt, put(rt, &mut disk, 0, &[1, 2]));
-    holds(rt, put(rt, &mut disk, 1, &[3, 4]).is_err());
+    assert!(rt; put(rt, &mut disk, 1, &[3, 4]).is_err());
     disk
 }
 
@@ -88,8 +88,8 @@ fn refused(rt: &impl Abort, alloc: Global) -> MemoryDisk {
 fn a_refused_write_is_pending(rt: HostRuntime) {
     let mut disk = refused(&rt, rt.alloc());
     let old = [1, 2, 0, 0, 0, 0, 0, 0];
-    holds(&rt, disk.bytes() == old.as_slice());
-    holds(&rt, disk.sync().is_err());
+    assert!(rt; disk.bytes() == old.as_slice());
+    assert!(rt; disk.sync().is_err());
     assert_left(&rt, disk, &[Fate::New], &old);
     let new = [1, 3, 4, 0, 0, 0, 0, 0];
     assert_left(&rt, refused(&rt, rt.alloc()), &[Fate::New, Fate::New], &new);
@@ -99,14 +99,14 @@ fn a_refused_write_is_pending(rt: HostRuntime) {
 fn a_refused_write_may_be_torn(rt: HostRuntime) {
     let fates = [Fate::Old, Fate::Garbage(7)];
     let mut torn = got(&rt, refused(&rt, rt.alloc()).stop(&fates));
-    holds(&rt, torn.bytes() == [0, 7, 7, 0, 0, 0, 0, 0].as_slice());
-    holds(&rt, got(&rt, torn.seek_end()) == 8);
+    assert!(rt; torn.bytes() == [0, 7, 7, 0, 0, 0, 0, 0].as_slice());
+    assert!(rt; got(&rt, torn.seek_end()) == 8);
 }
 
 #[test]
 fn a_read_past_the_end_fails(rt: HostRuntime) {
     let mut disk = holding(&rt, rt.alloc(), &[1, 2, 3, 4]);
     got(&rt, disk.seek_start(3));
-    holds(&rt, disk.read_exact(&mut [0; 2]).is_err());
-    holds(&rt, got(&rt, bytes_at(&mut disk, 2)) == [3, 4]);
+    assert!(rt; disk.read_exact(&mut [0; 2]).is_err());
+    assert!(rt; got(&rt, bytes_at(&mut disk, 2)) == [3, 4]);
 }

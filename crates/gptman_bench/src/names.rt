@@ -1,6 +1,6 @@
 //! Names: their text, their 36 units, and what is left of the text once it was written and read.
 
-use crate::asserts::{got, holds};
+use crate::asserts::got;
 use gptman::{GPTPartitionEntry, PartitionName};
 use std::alloc::Global;
 use std::process::Abort;
@@ -48,10 +48,10 @@ fn has_units(name: &PartitionName, text: &str, first: &[u16]) -> bool {
 fn a_name_is_cut_at_36_units_where_it_is_read_back(rt: HostRuntime) {
     let cut = "aaaaaaaaaaaaaaaaaaaaaaaaaaaaaaaaaaaa";
     let name = name_of(&rt, rt.alloc(), LETTERS);
-    holds(&rt, has_units(&name, LETTERS, &[0x61; 36]));
+    assert!(rt; has_units(&name, LETTERS, &[0x61; 36]));
     let read = read_back(&rt, rt.alloc(), LETTERS);
-    holds(&rt, has_units(&read, cut, &[0x61; 36]));
-    holds(&rt, LETTERS.len() == 37 && cut.len() == 36);
+    assert!(rt; has_units(&read, cut, &[0x61; 36]));
+    assert!(rt; LETTERS.len() == 37 && cut.len() == 36);
 }
 
 // Whether the name has this text, and these as its last units.
@@ -63,18 +63,18 @@ fn has_last_units(name: &PartitionName, text: &str, last: &[u16]) -> bool {
 fn a_pair_of_surrogates_may_end_a_name(rt: HostRuntime) {
     let text = "aaaaaaaaaaaaaaaaaaaaaaaaaaaaaaaaaa\u{1f600}";
     let whole = name_of(&rt, rt.alloc(), text);
-    holds(&rt, has_last_units(&whole, text, &[0x61, 0xd83d, 0xde00]));
-    holds(&rt, read_back(&rt, rt.alloc(), text) == whole);
+    assert!(rt; has_last_units(&whole, text, &[0x61, 0xd83d, 0xde00]));
+    assert!(rt; read_back(&rt, rt.alloc(), text) == whole);
 }
 
 #[test]
 fn a_pair_of_surrogates_may_be_cut_in_two(rt: HostRuntime) {
     let text = "aaaaaaaaaaaaaaaaaaaaaaaaaaaaaaaaaaa\u{1f600}";
     let name = name_of(&rt, rt.alloc(), text);
-    holds(&rt, has_last_units(&name, text, &[0x61, 0xd83d]));
+    assert!(rt; has_last_units(&name, text, &[0x61, 0xd83d]));
     let cut = "aaaaaaaaaaaaaaaaaaaaaaaaaaaaaaaaaaa\u{fffd}";
     let read = read_back(&rt, rt.alloc(), text);
-    holds(&rt, has_last_units(&read, cut, &[0x61, 0xd83d]));
+    assert!(rt; has_last_units(&read, cut, &[0x61, 0xd83d]));
 }
 
 // The name of an entry with these units, and then zeros, has them and this text.
@@ -87,7 +87,7 @@ fn assert_text(rt: &impl Abort, alloc: Global, first: &[u16], text: &str) {
 fn the_text_of_units_ends_at_the_first_zero(rt: HostRuntime) {
     let units = [0x61, 0x62, 0, 0x63, 0x64];
     let read = read_back(&rt, rt.alloc(), "ab\0cd");
-    holds(&rt, has_units(&read, "ab", &units));
+    assert!(rt; has_units(&read, "ab", &units));
     let rows: [(&[u16], &str); 4] = [
         (&units, "ab"),
         (&[0x46, 0x6f, 0x6f], "Foo"),
@@ -108,9 +108,9 @@ fn formatted(rt: &impl Abort, alloc: Global, name: &PartitionName) -> String {
 fn a_name_is_shown_as_its_text_alone(rt: HostRuntime) {
     let name = name_of(&rt, rt.alloc(), "Foo");
     let text = got(&rt, name.to_string(rt.alloc()));
-    holds(&rt, text.as_str() == "Foo");
+    assert!(rt; text.as_str() == "Foo");
     let shown = formatted(&rt, rt.alloc(), &name);
-    holds(&rt, shown.as_str() == "Foo|Foo|");
+    assert!(rt; shown.as_str() == "Foo|Foo|");
 }
 
 // Whether the name equals the one of this text.
@@ -121,16 +121,16 @@ fn is_name_of(rt: &impl Abort, alloc: Global, name: &PartitionName, text: &str) 
 #[test]
 fn names_are_equal_where_text_and_units_are(rt: HostRuntime) {
     let name = name_of(&rt, rt.alloc(), "ab");
-    holds(&rt, is_name_of(&rt, rt.alloc(), &name, "ab"));
-    holds(&rt, name == got(&rt, name.clone()));
-    holds(&rt, !is_name_of(&rt, rt.alloc(), &name, "ac"));
+    assert!(rt; is_name_of(&rt, rt.alloc(), &name, "ab"));
+    assert!(rt; name == got(&rt, name.clone()));
+    assert!(rt; !is_name_of(&rt, rt.alloc(), &name, "ac"));
 }
 
 #[test]
 fn names_of_one_text_differ_where_their_units_do(rt: HostRuntime) {
     let name = name_of_units(&rt, rt.alloc(), &[0x61, 0x62, 0, 0x63]);
-    holds(&rt, name.as_str() == "ab");
-    holds(&rt, !is_name_of(&rt, rt.alloc(), &name, "ab"));
+    assert!(rt; name.as_str() == "ab");
+    assert!(rt; !is_name_of(&rt, rt.alloc(), &name, "ab"));
     let read = read_back(&rt, rt.alloc(), LETTERS);
-    holds(&rt, !is_name_of(&rt, rt.alloc(), &read, LETTERS));
+    assert!(rt; !is_name_of(&rt, rt.alloc(), &read, LETTERS));
 }

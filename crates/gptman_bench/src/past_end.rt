@@ -1,7 +1,7 @@
 //! A header that counts its entries past the end of the disk: no entry is read, no memory is taken
 //! for any, and the other copy is not lost.
 
-use crate::asserts::{assert_said, got, holds, places_of};
+use crate::asserts::{assert_said, got, places_of};
 use crate::faulty::{FaultyDisk, failing_once};
 use crate::fixtures::{image_of_new_table, new_header, put};
 use gptman::{GPT, GPTHeader, MemoryDisk};
@@ -63,7 +63,7 @@ fn a_count_past_the_end_does_not_lose_the_table(rt: HostRuntime) {
         let image = image_counting(&rt, rt.alloc(), count);
         let mut disk = counting(&rt, rt.alloc(), &image);
         let table = got(&rt, GPT::read_from(rt.alloc(), &mut disk, 512));
-        holds(&rt, places_of(&table.header) == (99, 1, 67));
+        assert!(rt; places_of(&table.header) == (99, 1, 67));
         assert_calls(&rt, &disk, 12);
     }
 }
@@ -73,6 +73,6 @@ fn a_good_table_is_read_by_eight_calls(rt: HostRuntime) {
     let image = image_of_new_table(&rt, rt.alloc(), 0);
     let mut disk = counting(&rt, rt.alloc(), &image);
     let table = got(&rt, GPT::read_from(rt.alloc(), &mut disk, 512));
-    holds(&rt, places_of(&table.header) == (1, 99, 2));
+    assert!(rt; places_of(&table.header) == (1, 99, 2));
     assert_calls(&rt, &disk, 8);
 }

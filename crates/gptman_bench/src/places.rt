@@ -1,6 +1,6 @@
 //! Free sectors, and the places and the greatest size that they offer.
 
-use crate::asserts::{assert_bounds, assert_entry, assert_names, got, holds};
+use crate::asserts::{assert_bounds, assert_entry, assert_names, got};
 use crate::callers::{add_first, exchange};
 use crate::fixtures::{
     DISK_GUID, disk_1, disk_of, image_after, new_table, partition, read_image, reread, table_with,
@@ -106,7 +106,7 @@ fn a_table_in_backup_form_has_the_same_places(rt: HostRuntime) {
     table.header.primary_lba = 99;
     table.header.backup_lba = 1;
     table.header.partition_entry_lba = 67;
-    holds(&rt, table.is_backup());
+    assert!(rt; table.is_backup());
     assert_free(&rt, &table, &[(34, 6)]);
     assert_sizes(&rt, table, &[(1, Some(6))]);
 }
@@ -119,10 +119,7 @@ fn read_disk_1(rt: &impl Abort, alloc: Global) -> GPT {
 #[test]
 fn places_are_offered_by_the_alignment_that_is_read(rt: HostRuntime) {
     let table = read_disk_1(&rt, rt.alloc());
-    holds(
-        &rt,
-        table.align == 2 && maximum_size(&rt, &table) == Some(12),
-    );
+    assert!(rt; table.align == 2 && maximum_size(&rt, &table) == Some(12));
     assert_places(&rt, Search::Optimal, table, &[(2, 12, Some(54))]);
 }
 
@@ -174,7 +171,7 @@ fn a_changed_entry_is_read_back(rt: HostRuntime) {
     let bar = got(&rt, partition(rt.alloc(), "Bar", [0x0c; 16], 48, 52));
     assert_entry(&rt, &read, 0, &bar);
     assert_entry(&rt, &read, 1, &robot(&rt, rt.alloc()));
-    holds(&rt, read.header.disk_guid == [9; 16] && read.align == 2);
+    assert!(rt; read.header.disk_guid == [9; 16] && read.align == 2);
 }
 
 // The changed entry as it is read back.
@@ -194,7 +191,7 @@ fn an_entry_is_put_on_another_disk(rt: HostRuntime) {
     let read = written(&rt, rt.alloc(), &mut other);
     assert_entry(&rt, &read, 0, &robot(&rt, rt.alloc()));
     assert_names(&rt, rt.alloc(), &read, "1 A Robot Named Fight!, ");
-    holds(&rt, read.align == 1);
+    assert!(rt; read.align == 1);
 }
 
 #[test]
@@ -204,7 +201,7 @@ fn a_name_of_20_letters_has_16_zeros(rt: HostRuntime) {
         0x69, 0x67, 0x68, 0x74, 0x21,
     ];
     let entry = robot(&rt, rt.alloc());
-    holds(&rt, *entry.partition_name.units() == padded(&units));
+    assert!(rt; *entry.partition_name.units() == padded(&units));
 }
 
 // Adds the entry at the first place, where the table has an alignment and the number, and answers
@@ -236,6 +233,6 @@ fn an_entry_is_added_at_the_first_place(rt: HostRuntime) {
 fn an_entry_that_has_no_place_is_not_added(rt: HostRuntime) {
     let mut table = disk_1_with_baz(&rt, rt.alloc());
     let too_large = got(&rt, partition(rt.alloc(), "", [2; 16], 0, 0));
-    holds(&rt, !add(&rt, &mut table, 4, too_large, 15));
+    assert!(rt; !add(&rt, &mut table, 4, too_large, 15));
     assert_names(&rt, rt.alloc(), &table, "1 Foo, 2 Bar, 3 Baz, ");
 }

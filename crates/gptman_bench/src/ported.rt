@@ -1,6 +1,6 @@
 //! Tests of the Rust crate on reading, each under its own name, over disks made from numbers.
 
-use crate::asserts::{assert_names, assert_said, got, holds, places_of};
+use crate::asserts::{assert_names, assert_said, got, places_of};
 use crate::fixtures::{
     complement, disk_1, disk_2, new_table, partition, put, read_image, read_with_sectors, reread,
     write, written_image,
@@ -42,11 +42,11 @@ fn has_checksums(table: &GPT, array: &[u8]) -> bool {
 fn assert_read(rt: &impl Abort, alloc: Global, table: &GPT, sector_size: u16) {
     let image = written_image(rt, alloc, table);
     let read = got(rt, read_with_sectors(alloc, &image, u64::from(sector_size)));
-    holds(rt, counts_of(&read) == (2, 126));
+    assert!(rt; counts_of(&read) == (2, 126));
     let array = array_of(rt, alloc, &read);
     let entries = image.get(2 * usize::from(sector_size)..);
-    holds(rt, entries.unwrap_or_default().starts_with(&array));
-    holds(rt, has_checksums(&read, &array));
+    assert!(rt; entries.unwrap_or_default().starts_with(&array));
+    assert!(rt; has_checksums(&read, &array));
 }
 
 #[test]
@@ -70,7 +70,7 @@ fn assert_found(rt: &impl Abort, alloc: Global, image: Vec<u8>, sector_size: u64
     assert_primary(rt, alloc, &image, sector_size);
     let mut disk = got(rt, MemoryDisk::new(alloc, image));
     let found = got(rt, GPT::find_from(alloc, &mut disk));
-    holds(rt, found.sector_size == sector_size);
+    assert!(rt; found.sector_size == sector_size);
     assert_names(rt, alloc, &found, "1 Foo, 2 Bar, ");
 }
 
@@ -91,8 +91,8 @@ fn input_too_short(rt: HostRuntime) {
 // The table that is read of the image is in backup form and has its entries from this sector on.
 fn assert_backup(rt: &impl Abort, alloc: Global, image: &[u8], sector_size: u64, entries_at: u64) {
     let read = got(rt, read_with_sectors(alloc, image, sector_size));
-    holds(rt, places_of(&read.header) == (99, 1, entries_at));
-    holds(rt, read.is_backup());
+    assert!(rt; places_of(&read.header) == (99, 1, entries_at));
+    assert!(rt; read.is_backup());
     assert_names(rt, alloc, &read, "1 Foo, 2 Bar, ");
 }
 
@@ -125,7 +125,7 @@ fn garbage(rt: &impl Abort, alloc: Global) -> PartitionName {
 fn assert_label(rt: &impl Abort, alloc: Global, mut table: GPT, sectors: (u64, u64)) {
     let mut bar = got(rt, partition(alloc, "", [0x0c; 16], sectors.0, sectors.1));
     bar.partition_name = garbage(rt, alloc);
-    holds(rt, bar.partition_name.units()[35] == 0x41);
+    assert!(rt; bar.partition_name.units()[35] == 0x41);
     got(rt, table.apply(Edit::Put(2, bar)));
     let read = reread(rt, alloc, &table);
     assert_names(rt, alloc, &read, "1 Foo, 2 Name with garbage, ");

@@ -1,6 +1,6 @@
 //! Tests of the Rust crate on places, each under its own name, over disks made from numbers.
 
-use crate::asserts::{assert_names, got, holds};
+use crate::asserts::{assert_names, got};
 use crate::fixtures::{disk_1, disk_1_unsorted, disk_2, image_after, partition, table_with};
 use crate::searches::{Search, assert_places, assert_sizes, place_by};
 use gptman::Edit;
@@ -69,7 +69,7 @@ fn sort_partitions(rt: HostRuntime) {
 fn add_partition_on_unsorted_table(rt: HostRuntime) {
     let mut table = got(&rt, disk_1(rt.alloc()));
     table.align = 1;
-    holds(&rt, place_by(&rt, Search::First, &table, 4) == Some(44));
+    assert!(rt; place_by(&rt, Search::First, &table, 4) == Some(44));
     let baz = got(&rt, partition(rt.alloc(), "Baz", [1; 16], 44, 47));
     got(&rt, table.apply(Edit::Put(11, baz)));
     assert_places(&rt, Search::First, table, &[(1, 8, Some(53))]);

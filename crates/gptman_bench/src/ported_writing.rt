@@ -1,6 +1,6 @@
 //! Tests of the Rust crate on writing, each under its own name, over disks made from numbers.
 
-use crate::asserts::{assert_boundaries, assert_bounds, got, holds, places_of};
+use crate::asserts::{assert_boundaries, assert_bounds, got, places_of};
 use crate::fixtures::{
     are_all, complement, disk_1, disk_2, disk_of, image_after, partition, read_with_sectors,
     reread, write, written_image,
@@ -34,8 +34,8 @@ fn in_order(own: GPTHeader, other: GPTHeader) -> (GPTHeader, GPTHeader) {
 // the table's own, and the other one.
 fn assert_both(rt: &impl Abort, alloc: Global, mut image: Vec<u8>, table: &GPT, other: GPTHeader) {
     let (primary, backup) = in_order(table.header, other);
-    holds(rt, places_of(&primary) == (1, 99, 2));
-    holds(rt, backup.primary_lba == 99 && backup.backup_lba == 1);
+    assert!(rt; places_of(&primary) == (1, 99, 2));
+    assert!(rt; backup.primary_lba == 99 && backup.backup_lba == 1);
     assert_reads(rt, alloc, &image, &primary, table);
     break_primary(rt, &mut image, table);
     assert_reads(rt, alloc, &image, &backup, table);
@@ -79,8 +79,8 @@ fn read_backup(rt: &impl Abort, alloc: Global, table: &GPT) -> GPT {
 // The table is read from its backup copy, which has its entries from this sector on, and written.
 fn assert_backup(rt: &impl Abort, alloc: Global, table: &GPT, entries_at: u64) {
     let backup = read_backup(rt, alloc, table);
-    holds(rt, places_of(&backup.header) == (99, 1, entries_at));
-    holds(rt, backup.iter().eq(table.iter()));
+    assert!(rt; places_of(&backup.header) == (99, 1, entries_at));
+    assert!(rt; backup.iter().eq(table.iter()));
     assert_written(rt, alloc, backup);
 }
 
@@ -100,7 +100,7 @@ fn assert_not_written(rt: &impl Abort, alloc: Global, table: &GPT, sectors: (u64
     let mut disk = got(rt, disk_of(alloc, 2, 409_600));
     let outcome = write(rt, &mut table, &mut disk);
     assert_boundaries(rt, alloc, &outcome);
-    holds(rt, are_all(disk.bytes(), 2));
+    assert!(rt; are_all(disk.bytes(), 2));
 }
 
 #[test]
@@ -139,10 +139,7 @@ fn create_new_gpt(rt: HostRuntime) {
 fn assert_on_bigger_disk(rt: &impl Abort, alloc: Global, table: &GPT, len: usize) {
     let mut table = reread(rt, alloc, table);
     let image = image_after(rt, alloc, &mut table, len);
-    holds(
-        rt,
-        got(rt, read_with_sectors(alloc, &image, table.sector_size)) == table,
-    );
+    assert!(rt; got(rt, read_with_sectors(alloc, &image, table.sector_size)) == table);
 }
 
 #[test]

@@ -3,6 +3,7 @@
 
 use crate::asserts::got;
 use crate::fixtures::disk_of;
+use crate::memory::holding;
 use gptimg_core::run;
 use gptman::{Disk, FileDisk, MemoryDisk};
 use std::alloc::{AllocError, Global};
@@ -113,21 +114,10 @@ pub(crate) fn assert_rows_on<R: Abort + Files<File = File> + AllocGlobal>(
     rows: &[Row],
 ) {
     let alloc = rt.alloc();
-    assert_rows(rt, alloc, &mut disk_with(rt, alloc, image), rows);
+    assert_rows(rt, alloc, &mut holding(rt, alloc, image), rows);
     got(rt, fs::write(rt, path, image));
     assert_rows(rt, alloc, &mut got(rt, FileDisk::open(rt, path)), rows);
     got(rt, fs::remove_file(rt, path));
-}
-
-/// A disk in memory with these bytes.
-pub(crate) fn disk_with(rt: &impl Abort, alloc: Global, image: &[u8]) -> MemoryDisk {
-    got(rt, MemoryDisk::new(alloc, got(rt, image.to_vec(alloc))))
-}
-
-/// A disk in memory with these bytes that fails after so many calls.
-pub(crate) fn failing_disk(rt: &impl Abort, alloc: Global, image: &[u8], calls: u64) -> MemoryDisk {
-    let bytes = got(rt, image.to_vec(alloc));
-    got(rt, MemoryDisk::with_fuse(alloc, bytes, calls))
 }
 
 /// All bytes of the disk.

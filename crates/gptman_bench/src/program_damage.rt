@@ -1,10 +1,9 @@
 //! Commands on crafted headers, and on a disk that fails at its first call.
 
-use crate::asserts::{got, holds};
+use crate::asserts::got;
 use crate::fixtures::{complement, image_of_new_table, new_header};
-use crate::program::{
-    Row, assert_prints, assert_rows, call_line, disk_with, failing_disk, image_with_foo,
-};
+use crate::memory::{fused, holding};
+use crate::program::{Row, assert_prints, assert_rows, call_line, image_with_foo};
 use crate::reading::{crafted_image, header_without_entries};
 use gptman::GPTHeader;
 use std::alloc::Global;
@@ -14,16 +13,16 @@ use std::process::Abort;
 fn a_disk_that_fails_at_once_shows_no_table(rt: HostRuntime) {
     let image = image_with_foo(&rt, rt.alloc());
     for line in ["512 show", "auto show", "512 free 1", "512 remove 1"] {
-        let mut disk = failing_disk(&rt, rt.alloc(), &image, 0);
+        let mut disk = fused(&rt, rt.alloc(), &image, 0);
         let outcome = call_line(&rt, rt.alloc(), &mut disk, line);
         assert_prints(&rt, &outcome, 1, "fault: Io\n");
-        holds(&rt, disk.bytes() == image.as_slice());
+        assert!(rt; disk.bytes() == image.as_slice());
     }
 }
 
 // On a disk with this header, no backup copy and a new table's entries, `512 show` prints this.
 fn assert_refused(rt: &impl Abort, alloc: Global, header: GPTHeader, text: &str) {
-    let mut disk = disk_with(rt, alloc, &crafted_image(rt, alloc, header));
+    let mut disk = holding(rt, alloc, &crafted_image(rt, alloc, header));
     assert_rows(rt, alloc, &mut disk, &[("512 show", 1, text)]);
 }
 
@@ -78,7 +77,7 @@ const WITHOUT_ENTRIES: [Row; 5] = [
 fn a_table_without_entries_is_shown(rt: HostRuntime) {
     let header = header_without_entries(&rt, rt.alloc());
     let image = crafted_image(&rt, rt.alloc(), header);
-    let mut disk = disk_with(&rt, rt.alloc(), &image);
+    let mut disk = holding(&rt, rt.alloc(), &image);
     assert_rows(&rt, rt.alloc(), &mut disk, &WITHOUT_ENTRIES);
 }
 
@@ -101,6 +100,6 @@ const FROM_BACKUP: [Row; 3] = [
 fn the_backup_copy_is_shown(rt: HostRuntime) {
     let mut image = image_of_new_table(&rt, rt.alloc(), 0);
     complement(&rt, &mut image, 536);
-    let mut disk = disk_with(&rt, rt.alloc(), &image);
+    let mut disk = holding(&rt, rt.alloc(), &image);
     assert_rows(&rt, rt.alloc(), &mut disk, &FROM_BACKUP);
 }

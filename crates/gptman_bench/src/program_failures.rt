@@ -2,9 +2,9 @@
 
 use crate::asserts::got;
 use crate::fixtures::{complement, disk_1, disk_2, image_of, image_of_new_table, put};
+use crate::memory::{fused, holding};
 use crate::program::{
-    Outcome, Row, assert_prints, assert_rows_on_disk_of, call_line, disk_with, failing_disk,
-    image_with_foo, words_of,
+    Outcome, Row, assert_prints, assert_rows_on_disk_of, call_line, image_with_foo, words_of,
 };
 use gptimg_core::run;
 use gptman::{Error, MemoryDisk};
@@ -76,8 +76,8 @@ fn damage_in_both_copies_is_named(rt: HostRuntime) {
     assert_prints(&rt, &shown, 0, line);
 }
 
-// Whether what was printed is one of these texts.
-fn is_one_of(printed: &[u8], texts: &[&str]) -> bool {
+/// Whether what was printed is one of these texts.
+pub(crate) fn is_one_of(printed: &[u8], texts: &[&str]) -> bool {
     for text in texts {
         if text.as_bytes() == printed {
             return true;
@@ -96,7 +96,7 @@ fn is_done(
     texts: &[&str],
     calls: u64,
 ) -> bool {
-    let mut disk = failing_disk(rt, alloc, image, calls);
+    let mut disk = fused(rt, alloc, image, calls);
     let outcome = call_line(rt, alloc, &mut disk, line);
     let is_named = outcome.status == 1 && is_one_of(&outcome.printed, texts);
     assert!(rt; outcome.status == 0 || is_named, "{line}, {calls} calls");
@@ -122,7 +122,7 @@ fn assert_fails_until_done(
 // Then it changes no byte, done or not.
 fn assert_only_reads(rt: &impl Abort, alloc: Global, image: &[u8], line: &str) {
     for calls in 0..=40 {
-        let mut disk = failing_disk(rt, alloc, image, calls);
+        let mut disk = fused(rt, alloc, image, calls);
         call_line(rt, alloc, &mut disk, line);
         assert!(rt; disk.bytes() == image, "{line}, {calls} calls");
     }
@@ -130,7 +130,8 @@ fn assert_only_reads(rt: &impl Abort, alloc: Global, image: &[u8], line: &str) {
 
 const READERS: [&str; 4] = ["512 show", "auto show", "512 free 1", "auto free 1"];
 
-const CHANGES: [&str; 11] = [
+/// Lines that change a table, or the MBR, of an image with one partition.
+pub(crate) const CHANGES: [&str; 11] = [
     "512 new V",
     "512 mbr plain",
     "512 mbr bootable",
@@ -263,7 +264,7 @@ fn status_and_done(
     done: &[u8],
     room: usize,
 ) -> Option<u8> {
-    let mut disk = disk_with(rt, alloc, image);
+    let mut disk = holding(rt, alloc, image);
     let status = status_with_room(rt, alloc, &mut disk, line, room);
     assert!(rt; disk.bytes() == done, "{line}, {room} bytes");
     status
@@ -286,7 +287,7 @@ fn assert_less_room_is_refused(
 
 // The command needs room for all that it prints. It writes the same to the disk with less.
 fn assert_needs_its_room(rt: &impl Abort, alloc: Global, image: &[u8], line: &str) {
-    let mut disk = disk_with(rt, alloc, image);
+    let mut disk = holding(rt, alloc, image);
     let outcome = call_line(rt, alloc, &mut disk, line);
     let (done, len) = (disk.bytes(), outcome.printed.len());
     assert_less_room_is_refused(rt, alloc, image, line, done, len);

@@ -1,8 +1,9 @@
 //! Images whose length was changed: what `check` says of them, and what `grow` makes of them.
 
-use crate::asserts::{got, holds};
+use crate::asserts::got;
 use crate::fixtures::{put, read_image};
-use crate::program::{Row, assert_rows_on, call_line, disk_with, failing_disk, image_with_foo};
+use crate::memory::{fused, holding};
+use crate::program::{Row, assert_rows_on, call_line, image_with_foo};
 use crate::stops::{fates, is_same_table};
 use gptman::{Fate, GPT, MemoryDisk};
 use std::alloc::Global;
@@ -81,7 +82,7 @@ fn the_fault_of_each_copy_is_told(rt: HostRuntime) {
 
 // The disk of this image after this line.
 fn disk_after(rt: &impl Abort, alloc: Global, image: &[u8], line: &str) -> MemoryDisk {
-    let mut disk = disk_with(rt, alloc, image);
+    let mut disk = holding(rt, alloc, image);
     call_line(rt, alloc, &mut disk, line);
     disk
 }
@@ -167,9 +168,9 @@ fn without_copies(rt: &impl Abort, alloc: Global, image: &[u8]) -> Vec<u8> {
 fn only_the_new_copies_are_written(rt: HostRuntime) {
     let image = image_of(&rt, rt.alloc(), 200);
     let disk = disk_after(&rt, rt.alloc(), &image, "512 grow");
-    holds(&rt, disk.bytes() != image.as_slice());
+    assert!(rt; disk.bytes() != image.as_slice());
     let grown = without_copies(&rt, rt.alloc(), disk.bytes());
-    holds(&rt, grown == without_copies(&rt, rt.alloc(), &image));
+    assert!(rt; grown == without_copies(&rt, rt.alloc(), &image));
 }
 
 // Whether the table is one of the two.
@@ -187,7 +188,7 @@ fn stop_grow(
     fates: &[Fate],
     tables: (&GPT, &GPT),
 ) -> u8 {
-    let mut disk = failing_disk(rt, alloc, image, calls);
+    let mut disk = fused(rt, alloc, image, calls);
     let status = call_line(rt, alloc, &mut disk, "512 grow").status;
     let left = got(rt, disk.stop(fates));
     let table = got(rt, read_image(alloc, left.bytes()));
@@ -215,7 +216,7 @@ fn stop_grow_after(
 // The table of these bytes, whose last usable sector is this one.
 fn table_until(rt: &impl Abort, alloc: Global, bytes: &[u8], last_usable_lba: u64) -> GPT {
     let table = got(rt, read_image(alloc, bytes));
-    holds(rt, table.header.last_usable_lba == last_usable_lba);
+    assert!(rt; table.header.last_usable_lba == last_usable_lba);
     table
 }
 

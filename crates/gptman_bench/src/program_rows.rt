@@ -1,9 +1,10 @@
 //! Worked examples of the commands, over a disk in memory and over a file.
 
-use crate::asserts::{got, holds};
+use crate::asserts::got;
 use crate::fixtures::{disk_of, put, put_mbr};
+use crate::memory::holding;
 use crate::program::{
-    Row, assert_rows, assert_rows_on_disk_of, bytes_of, call_line, disk_with, image_with_foo,
+    Row, assert_rows, assert_rows_on_disk_of, bytes_of, call_line, image_with_foo,
 };
 use gptimg_core::USAGE;
 use gptman::{Disk, FileDisk};
@@ -78,7 +79,7 @@ fn assert_all_rows<D: Disk>(rt: &impl Abort, alloc: Global, disk: &mut D) {
     assert_rows(rt, alloc, disk, &REMOVED);
     let mut wanted = [0; 512];
     put_mbr(rt, &mut wanted, &PARTITION);
-    holds(rt, bytes_of(rt, alloc, disk).starts_with(&wanted));
+    assert!(rt; bytes_of(rt, alloc, disk).starts_with(&wanted));
 }
 
 #[test]
@@ -106,7 +107,7 @@ fn with_mbr(rt: &impl Abort, alloc: Global, image: &[u8], partition: &[u8; 16]) 
 // On this image the line writes an MBR, which makes it the wanted one. The MBR is synced, so a stop
 // leaves it.
 fn assert_mbr(rt: &impl Abort, alloc: Global, image: &[u8], line: &str, wanted: &[u8]) {
-    let mut disk = disk_with(rt, alloc, image);
+    let mut disk = holding(rt, alloc, image);
     assert_rows(rt, alloc, &mut disk, &[(line, 0, "ok\n")]);
     let is_written = disk.bytes() == wanted;
     let left = got(rt, disk.stop(&[]));
@@ -138,7 +139,7 @@ fn a_disk_shorter_than_an_mbr_gets_none(rt: HostRuntime) {
 
 // The command is done on this image, and changes no byte.
 fn assert_reads(rt: &impl Abort, alloc: Global, image: &[u8], line: &str) {
-    let mut disk = disk_with(rt, alloc, image);
+    let mut disk = holding(rt, alloc, image);
     let outcome = call_line(rt, alloc, &mut disk, line);
     assert!(rt; outcome.status == 0 && disk.bytes() == image, "{line}");
 }

@@ -2,9 +2,9 @@
 
 use crate::asserts::got;
 use crate::fixtures::are_all;
+use crate::memory::{fused, holding};
 use crate::program::{
-    Row, assert_rows, assert_rows_on_disk_of, call, disk_with, failing_disk, image_with_foo,
-    is_answered, words_of,
+    Row, assert_rows, assert_rows_on_disk_of, call, image_with_foo, is_answered, words_of,
 };
 use gptimg_core::USAGE;
 use std::alloc::Global;
@@ -25,7 +25,7 @@ const COMMANDS: [&str; 9] = [
 
 // Whether the words are usage. Each call to the disk would fail.
 fn are_usage(rt: &impl Abort, alloc: Global, words: &[String]) -> bool {
-    let mut disk = failing_disk(rt, alloc, &[7; 2048], 0);
+    let mut disk = fused(rt, alloc, &[7; 2048], 0);
     let outcome = call(rt, alloc, &mut disk, words);
     is_answered(&outcome, 2, USAGE) && are_all(disk.bytes(), 7)
 }
@@ -254,7 +254,7 @@ const FITTING: [Row; 8] = [
 #[test]
 fn the_last_numbers_that_fit_are_no_usage(rt: HostRuntime) {
     let image = image_with_foo(&rt, rt.alloc());
-    let mut disk = disk_with(&rt, rt.alloc(), &image);
+    let mut disk = holding(&rt, rt.alloc(), &image);
     assert_rows(&rt, rt.alloc(), &mut disk, &FITTING);
 }
 

@@ -1,7 +1,7 @@
 //! Damaged and crafted copies: the first test of a copy that fails names its fault, and the other copy
 //! is read. What is read has the alignment that its entries give.
 
-use crate::asserts::{assert_said, got, holds, places_of};
+use crate::asserts::{assert_said, got, places_of};
 use crate::fitting::assert_kept;
 use crate::fixtures::{
     complement, disk_2, disk_of, image_of_new_table, new_header, partition, put, read_image,
@@ -117,7 +117,7 @@ fn the_backup_is_in_the_last_whole_sector(rt: HostRuntime) {
     complement(&rt, &mut image, 512);
     got(&rt, image.resize(51_200 + 511, 9));
     let read = got(&rt, read_image(rt.alloc(), &image));
-    holds(&rt, read.header.primary_lba == 99);
+    assert!(rt; read.header.primary_lba == 99);
 }
 
 // The table that is found, with its sector size, on a disk of these bytes.
@@ -139,9 +139,9 @@ fn size_found(rt: &impl Abort, alloc: Global, image: &[u8]) -> u64 {
 fn the_sector_size_is_found(rt: HostRuntime) {
     let small = image_of_new_table(&rt, rt.alloc(), 0);
     let large = image_of_large_sectors(&rt, rt.alloc());
-    holds(&rt, size_found(&rt, rt.alloc(), &small) == 512);
-    holds(&rt, size_found(&rt, rt.alloc(), &large) == 4096);
-    holds(&rt, read_image(rt.alloc(), &large).is_err());
+    assert!(rt; size_found(&rt, rt.alloc(), &small) == 512);
+    assert!(rt; size_found(&rt, rt.alloc(), &large) == 4096);
+    assert!(rt; read_image(rt.alloc(), &large).is_err());
 }
 
 #[test]
@@ -152,7 +152,7 @@ fn sectors_of_4096_are_not_tried_after_a_signature(rt: HostRuntime) {
     let found = find_in_image(rt.alloc(), &image);
     assert_fault(&rt, rt.alloc(), found, "invalid revision");
     let read = read_with_sectors(rt.alloc(), &image, 4096);
-    holds(&rt, got(&rt, read) == table);
+    assert!(rt; got(&rt, read) == table);
 }
 
 // A used entry that starts at this sector, or an unused one.
@@ -259,8 +259,8 @@ pub(crate) fn header_without_entries(rt: &impl Abort, alloc: Global) -> GPTHeade
 fn a_table_without_entries_is_read(rt: HostRuntime) {
     let header = header_without_entries(&rt, rt.alloc());
     let table = got(&rt, read_crafted(&rt, rt.alloc(), header));
-    holds(&rt, table.is_coherent() && table.align == 2048);
-    holds(&rt, table.header.number_of_partition_entries == 0);
+    assert!(rt; table.is_coherent() && table.align == 2048);
+    assert!(rt; table.header.number_of_partition_entries == 0);
     assert_kept(&rt, rt.alloc(), table.header, 51_200);
 }
 
@@ -270,7 +270,7 @@ fn assert_empty(rt: &impl Abort, alloc: Global, table: &GPT, count: usize) {
     for (number, entry) in table.iter() {
         assert!(rt; *entry == empty, "entry {number}");
     }
-    holds(rt, table.iter().count() == count);
+    assert!(rt; table.iter().count() == count);
 }
 
 #[test]
@@ -282,9 +282,6 @@ fn entries_may_stand_in_any_sector(rt: HostRuntime) {
         ..got(&rt, new_header(rt.alloc()))
     };
     let table = got(&rt, read_crafted(&rt, rt.alloc(), header));
-    holds(
-        &rt,
-        table.header.partition_entry_lba == 0 && table.is_coherent(),
-    );
+    assert!(rt; table.header.partition_entry_lba == 0 && table.is_coherent());
     assert_empty(&rt, rt.alloc(), &table, 4);
 }

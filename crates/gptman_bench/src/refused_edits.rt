@@ -1,7 +1,7 @@
 //! A list of edits of which the second is refused: how far it came, what the value holds and what the
 //! disk does.
 
-use crate::asserts::{assert_entry, got, holds, places_of};
+use crate::asserts::{assert_entry, got, places_of};
 use crate::fixtures::{new_written, partition, put, read_image};
 use gptman::{Edit, Error, GPT, GPTPartitionEntry, MemoryDisk, Progress};
 use std::alloc::Global;
@@ -32,12 +32,9 @@ fn commit(rt: &impl Abort, alloc: Global) -> (Progress, GPT, MemoryDisk) {
 #[test]
 fn the_second_of_three_edits_is_refused(rt: HostRuntime) {
     let (progress, ..) = commit(&rt, rt.alloc());
-    holds(&rt, progress.done == 1);
+    assert!(rt; progress.done == 1);
     let fault = progress.fault;
-    holds(
-        &rt,
-        matches!(&fault, Some(Error::InvalidPartitionBoundaries)),
-    );
+    assert!(rt; matches!(&fault, Some(Error::InvalidPartitionBoundaries)));
 }
 
 // The table has these as its first two entries, and 126 unused ones behind them.
@@ -56,7 +53,7 @@ fn assert_entries(
         assert!(rt; *entry == empty);
         count = count.saturating_add(1);
     }
-    holds(rt, count == 126);
+    assert!(rt; count == 126);
 }
 
 #[test]
@@ -64,7 +61,7 @@ fn the_value_holds_both_edits_and_is_not_sorted(rt: HostRuntime) {
     let (_, table, _) = commit(&rt, rt.alloc());
     let (first, second) = entries(&rt, rt.alloc());
     assert_entries(&rt, rt.alloc(), &table, &first, &second);
-    holds(&rt, table.align == 2048 && table.is_primary());
+    assert!(rt; table.align == 2048 && table.is_primary());
 }
 
 // The table with the first edit alone is read of these bytes, with its header at this place.
@@ -72,8 +69,8 @@ fn assert_first_alone(rt: &impl Abort, alloc: Global, image: &[u8], places: (u64
     let read = got(rt, read_image(alloc, image));
     let (first, _) = entries(rt, alloc);
     assert_entries(rt, alloc, &read, &first, &GPTPartitionEntry::empty(alloc));
-    holds(rt, places_of(&read.header) == places);
-    holds(rt, read.align == 1 && read.header.disk_guid == [0xff; 16]);
+    assert!(rt; places_of(&read.header) == places);
+    assert!(rt; read.align == 1 && read.header.disk_guid == [0xff; 16]);
 }
 
 #[test]

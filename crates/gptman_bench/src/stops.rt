@@ -1,9 +1,9 @@
 //! A write that is stopped or fails at any call: what is left is read as the table that was there or
 //! as the one that was being written, and so is each copy alone that can be read.
 
-use crate::asserts::{got, holds};
+use crate::asserts::got;
 use crate::faulty::failing_once;
-use crate::fixtures::{disk_1, image_of, partition, put, read_image, write};
+use crate::fixtures::{backup_form, disk_1, image_of, partition, put, read_image, write};
 use crate::memory::fused;
 use gptman::{Disk, Edit, Error, Fate, GPT, GPTHeader, MemoryDisk, Result};
 use std::alloc::Global;
@@ -12,12 +12,12 @@ use std::process::Abort;
 // The first bytes of the two headers.
 const HEADERS: [usize; 2] = [512, 50_688];
 
-// A write of a new table over an image, which is read as the old one.
+/// A write of a new table over an image, which is read as the old one.
 #[derive(Drop)]
-struct Case {
-    image: Vec<u8>,
-    old: GPT,
-    new: GPT,
+pub(crate) struct Case {
+    pub(crate) image: Vec<u8>,
+    pub(crate) old: GPT,
+    pub(crate) new: GPT,
 }
 
 // The image that both copies of the table stand on, with one header zeroed or none.
@@ -43,13 +43,9 @@ fn one_more(rt: &impl Abort, alloc: Global, zeroed: Option<usize>) -> Case {
     edit_over(rt, alloc, image(rt, alloc, zeroed), Edit::Put(3, baz))
 }
 
-// The same with the value of the new table in the other form.
-fn in_other_form(mut case: Case) -> Case {
-    let header = &mut case.new.header;
-    let primary_lba = header.primary_lba;
-    header.primary_lba = header.backup_lba;
-    header.backup_lba = primary_lba;
-    header.partition_entry_lba = if primary_lba == 1 { 67 } else { 2 };
+// The same with the value of the new table, which is in primary form, in backup form.
+fn in_backup_form(mut case: Case) -> Case {
+    case.new.header = backup_form(&case.new.header);
     case
 }
 
@@ -91,7 +87,7 @@ fn count_used(table: &GPT) -> usize {
 fn is_written<D: Disk>(rt: &impl Abort, disk: &mut D, table: &GPT) -> bool {
     let mut table = got(rt, table.clone());
     let outcome = write(rt, &mut table, disk);
-    holds(rt, matches!(&outcome, Ok(_) | Err(Error::Io(_))));
+    assert!(rt; matches!(&outcome, Ok(_) | Err(Error::Io(_))));
     outcome.is_ok()
 }
 
@@ -104,14 +100,11 @@ fn read_without(rt: &impl Abort, alloc: Global, bytes: &[u8], header: usize) -> 
 
 // The table is the old or the new one.
 fn assert_one(rt: &impl Abort, case: &Case, table: &GPT) {
-    holds(
-        rt,
-        is_same_table(table, &case.old) || is_same_table(table, &case.new),
-    );
+    assert!(rt; is_same_table(table, &case.old) || is_same_table(table, &case.new));
 }
 
-// The disk is read as one of the two tables, and so is each copy alone that can be read.
-fn assert_reads_one(rt: &impl Abort, alloc: Global, case: &Case, bytes: &[u8]) {
+/// The disk is read as one of the two tables, and so is each copy alone that can be read.
+pub(crate) fn assert_reads_one(rt: &impl Abort, alloc: Global, case: &Case, bytes: &[u8]) {
     assert_one(rt, case, &got(rt, read_image(alloc, bytes)));
     for header in HEADERS {
         if let Ok(table) = read_without(rt, alloc, bytes, header) {
@@ -168,7 +161,7 @@ fn stop_anywhere(rt: &impl Abort, alloc: Global, case: &Case) {
 fn two_good_copies_survive_a_stop(rt: HostRuntime) {
     let case = one_more(&rt, rt.alloc(), None);
     stop_anywhere(&rt, rt.alloc(), &case);
-    stop_anywhere(&rt, rt.alloc(), &in_other_form(case));
+    stop_anywhere(&rt, rt.alloc(), &in_backup_form(case));
 }
 
 #[test]
@@ -211,7 +204,7 @@ fn assert_order(
     let case = one_more(rt, alloc, zeroed);
     let torn = read_after(rt, alloc, &case, 4, &[Fate::Garbage(7)]);
     let synced = read_after(rt, alloc, &case, 10, &[]);
-    holds(rt, torn == after_a_write && synced == after_a_sync);
+    assert!(rt; torn == after_a_write && synced == after_a_sync);
 }
 
 #[test]
@@ -242,8 +235,8 @@ fn a_disk_that_fails_at_once_is_not_changed(rt: HostRuntime) {
     let case = one_more(&rt, rt.alloc(), None);
     for calls in 0..=2 {
         let mut disk = fused(&rt, rt.alloc(), &case.image, calls);
-        holds(&rt, !is_written(&rt, &mut disk, &case.new));
-        holds(&rt, disk.bytes() == case.image.as_slice());
+        assert!(rt; !is_written(&rt, &mut disk, &case.new));
+        assert!(rt; disk.bytes() == case.image.as_slice());
     }
 }
 
@@ -251,19 +244,49 @@ fn a_disk_that_fails_at_once_is_not_changed(rt: HostRuntime) {
 fn assert_read_in_16(rt: &impl Abort, alloc: Global, case: &Case, bytes: &[u8]) {
     let mut disk = fused(rt, alloc, bytes, 16);
     let table = got(rt, GPT::read_from(alloc, &mut disk, 512));
-    holds(rt, is_same_table(&table, &case.new));
+    assert!(rt; is_same_table(&table, &case.new));
 }
 
 #[test]
 fn a_table_is_written_and_read_in_few_calls(rt: HostRuntime) {
     let case = one_more(&rt, rt.alloc(), None);
     let mut disk = fused(&rt, rt.alloc(), &case.image, 32);
-    holds(&rt, is_written(&rt, &mut disk, &case.new));
+    assert!(rt; is_written(&rt, &mut disk, &case.new));
     assert_read_in_16(&rt, rt.alloc(), &case, disk.bytes());
 }
 
 // How many calls a write of 128 entries makes.
 const CALLS: u64 = 19;
+
+// How many writes of a write of 128 entries are pending after so many calls. Each copy is four blocks of
+// entries behind a header, and is synced; the call that fails may be a write, which is pending too.
+const PENDING: [usize; 20] = [0, 0, 0, 1, 1, 2, 3, 4, 5, 5, 0, 0, 1, 1, 2, 3, 4, 5, 5, 0];
+
+// Whether what is left differs where this write is torn and all others are lost.
+fn is_pending(rt: &impl Abort, alloc: Global, case: &Case, calls: u64, write: usize) -> bool {
+    let lost = left_of(rt, alloc, case, calls, &[]);
+    let torn = left_of(rt, alloc, case, calls, &fates(Fate::Old, write));
+    lost.bytes() != torn.bytes()
+}
+
+// How many of the first six writes are pending after so many calls.
+fn count_pending(rt: &impl Abort, alloc: Global, case: &Case, calls: u64) -> usize {
+    let mut pending = 0_usize;
+    for write in 0..6 {
+        let is_pending = is_pending(rt, alloc, case, calls, write);
+        pending = pending.saturating_add(usize::from(is_pending));
+    }
+    pending
+}
+
+#[test]
+fn a_sync_leaves_no_write_pending(rt: HostRuntime) {
+    let case = one_more(&rt, rt.alloc(), None);
+    for (calls, pending) in (0..=CALLS).zip(PENDING) {
+        let counted = count_pending(&rt, rt.alloc(), &case, calls);
+        assert!(rt; counted == pending, "after {calls} calls: {counted}");
+    }
+}
 
 // Writes the new table on a disk of which one call fails, or none, and stops it then, with all that is
 // pending of this fate.
@@ -313,6 +336,6 @@ fn a_life_of_stopped_writes_never_loses_the_table(rt: HostRuntime) {
         left = live(&rt, rt.alloc(), left, round);
     }
     let last = got(&rt, read_image(rt.alloc(), &left));
-    holds(&rt, last.header.disk_guid == [19; 16]);
-    holds(&rt, count_used(&last) == 2);
+    assert!(rt; last.header.disk_guid == [19; 16]);
+    assert!(rt; count_used(&last) == 2);
 }

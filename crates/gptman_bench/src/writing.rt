@@ -8,7 +8,7 @@ ghost use Rattle.gptman.specs.Reading.{backup, primary};
 ghost use Rattle.gptman.specs.Table.{entries_in, table_in, IsForm};
 ghost use Rattle.gptman.specs.Copy.{IsCoherent};
 
-use crate::asserts::{assert_bounds, assert_said, got, holds, places_of};
+use crate::asserts::{assert_bounds, assert_said, got, places_of};
 use crate::fixtures::{DISK_GUID, are_all, bytes_at, disk_of, new_table, new_written, write};
 use gptman::{Disk, GPT, GPTHeader, MemoryDisk};
 use std::alloc::Global;
@@ -45,20 +45,17 @@ fn a_new_table_is_written_with_its_checksums(rt: HostRuntime) {
         ..table.header
     };
     let other = got(&rt, write(&rt, &mut table, &mut disk));
-    holds(&rt, table.header == wanted);
-    holds(&rt, places_of(&other) == (99, 1, 67));
-    holds(&rt, other.crc32_checksum == 0x18ff_8a28);
+    assert!(rt; table.header == wanted);
+    assert!(rt; places_of(&other) == (99, 1, 67));
+    assert!(rt; other.crc32_checksum == 0x18ff_8a28);
 }
 
 #[test]
 fn a_new_table_is_written_and_read_back(rt: HostRuntime) {
     let (table, mut disk) = new_written(&rt, rt.alloc(), 2);
     let read = got(&rt, GPT::read_from(rt.alloc(), &mut disk, 512));
-    holds(
-        &rt,
-        read == table && read.is_coherent() && read.is_primary(),
-    );
-    holds(&rt, read.sector_size == 512 && read.align == 2048);
+    assert!(rt; read == table && read.is_coherent() && read.is_primary());
+    assert!(rt; read.sector_size == 512 && read.align == 2048);
 }
 
 #[test]
@@ -67,7 +64,7 @@ fn a_table_is_written_again_over_itself(rt: HostRuntime) {
     let mut again = got(&rt, new_table(rt.alloc(), &mut disk, 512, DISK_GUID));
     assert!(rt; again.is_coherent() && again.sector_size == 512);
     let read = got(&rt, write_and_read(rt.alloc(), &mut again, &mut disk));
-    holds(&rt, read == table);
+    assert!(rt; read == table);
 }
 
 // The disk holds this header at one byte and 128 unused entries at another.
@@ -116,7 +113,7 @@ fn a_written_table_is_stored(rt: HostRuntime) {
     let (_, disk) = new_written(&rt, rt.alloc(), 2);
     let written = got(&rt, disk.bytes().to_vec(rt.alloc()));
     let stopped = got(&rt, disk.stop(&[]));
-    holds(&rt, stopped.bytes() == written.as_slice());
+    assert!(rt; stopped.bytes() == written.as_slice());
 }
 
 // The write of the table is refused with this text, and leaves the disk, which is all 2, and the
@@ -130,8 +127,8 @@ fn assert_refused(
 ) {
     let given = table.header;
     assert_said(rt, alloc, &write(rt, table, disk), refusal);
-    holds(rt, are_all(disk.bytes(), 2));
-    holds(rt, table.header == given);
+    assert!(rt; are_all(disk.bytes(), 2));
+    assert!(rt; table.header == given);
 }
 
 #[test]
@@ -140,7 +137,7 @@ fn a_table_for_a_longer_disk_is_not_written(rt: HostRuntime) {
     let mut disk = got(&rt, disk_of(rt.alloc(), 2, 512 * 99));
     assert_refused(&rt, rt.alloc(), &mut table, &mut disk, "no space left");
     let again = got(&rt, new_table(rt.alloc(), &mut longer, 512, DISK_GUID));
-    holds(&rt, table == again);
+    assert!(rt; table == again);
 }
 
 #[test]
