@@ -1,6 +1,6 @@
 # Needs `rt` of the Rattle kit on the PATH, bash and coreutils, and nothing else.
 
-.PHONY: gptimg demo test
+.PHONY: gptimg demo test bench
 
 # Proves and builds the program, and leaves it at ./gptimg.
 gptimg:
@@ -14,3 +14,8 @@ demo: gptimg
 # is 'N passed, M failed'.
 test:
 	@scripts/gate
+
+# Tells how long calls of the library take, and what the program costs beside others. Looks at those of
+# valgrind, strace, sgdisk, sfdisk, parted and cgpt that are installed.
+bench:
+	@scripts/bench

@@ -2,6 +2,7 @@ pub mod ArrayBytes
 pub mod ArrayOutcomes
 pub mod Assembly
 pub mod BlockBytes
+pub mod ByBlock
 pub mod ByTable
 pub mod CopyParts
 pub mod CopyTests

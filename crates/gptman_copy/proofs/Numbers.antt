@@ -1,9 +1,11 @@
 -- Numbers as bytes, the lowest first.
-use Rattle.std.proofs.Common.{lit<, ◌≡◌, ℕ, zero, suc, ◌+◌, ◌-◌, ◌/◌, ◌^◌, ◌<◌, ◌≤◌, List, [], ◌∷◌, length, take, drop, arith, refl, sym, ap, ◌∙◌}
-use Rattle.std.specs.Prelude.{slice_range}
+use Rattle.std.proofs.Common.{lit<, ◌≡◌, ℕ, zero, suc, ◌+◌, ◌*◌, ◌-◌, ◌/◌, ◌^◌, ◌<◌, ◌≤◌, List, [], ◌∷◌, length, take, drop, arith, refl, sym, ap, ◌∙◌}
+use Rattle.std.specs.Prelude.{slice_range, Bool, false, ◌&&◌, nat_eq}
+use Rattle.std.specs.List.{list_all}
 use Rattle.std.specs.Int.{byte_at, bytes_low_first}
 use Rattle.std.proofs.Math.Nat.{pow-suc}
 use Rattle.std.proofs.lemmas.List.{append-nil, length-take, length-drop}
+use Rattle.std.proofs.lemmas.Bool.Decides.{nat_tests}
 use Rattle.std.proofs.lemmas.Nat.{mod_below}
 use Rattle.byteorder.specs.Endian.{little_from, little_number, little_bytes}
 use Rattle.byteorder.specs.Numbers.{little_from-cons, little_number-reads_back, length-bytes_low_first}
@@ -26,8 +28,24 @@ le_of n x h =
     sym (little_number_is n (little_bytes n x) (length-bytes_low_first 0 n x))
     ∙ ap (little_number n) (sym (append-nil (little_bytes n x))) ∙ little_number-reads_back n x [] h
 
-head_below : (x : ℕ) (xs : List ℕ) → AreBytes (x ∷ xs) → x < 256
+pub head_below : (x : ℕ) (xs : List ℕ) → AreBytes (x ∷ xs) → x < 256
 head_below x xs h = h 0
+
+no_sum : (x n : ℕ) → nat_eq (x + 256 * n) 0 ≡ nat_eq x 0 && nat_eq n 0
+no_sum zero zero = refl
+no_sum zero (suc n) =
+    let more : nat_eq (0 + 256 * suc n) 0 ≡ false = grind (arith, nat_tests) in
+    let second : nat_eq (suc n) 0 ≡ false = grind (arith, nat_tests) in
+    rw (more, second) refl
+no_sum (suc x) n =
+    let more : nat_eq (suc x + 256 * n) 0 ≡ false = grind (arith, nat_tests) in
+    let first : nat_eq (suc x) 0 ≡ false = grind (arith, nat_tests) in
+    rw (more, first) refl
+
+-- a number is zero where all its bytes are
+pub zero_bytes : (xs : List ℕ) → nat_eq (le xs) 0 ≡ list_all (λ x. nat_eq x 0) xs
+zero_bytes [] = refl
+zero_bytes (x ∷ xs) = no_sum x (le xs) ∙ ap (λ (b : Bool). nat_eq x 0 && b) (zero_bytes xs)
 
 -- bytes with one number are the same
 pub le_injective : (b c : List ℕ) → length b ≡ length c → AreBytes b → AreBytes c → le b ≡ le c → b ≡ c
@@ -54,7 +72,7 @@ bytes_drop (suc n) [] h = h
 bytes_drop (suc n) (x ∷ b) h = bytes_drop n b (λ k. h (suc k))
 
 -- a number of n bytes is below 256 ^ n
-le_below : (b : List ℕ) (n : ℕ) → length b ≡ n → AreBytes b → le b < 256 ^ n
+pub le_below : (b : List ℕ) (n : ℕ) → length b ≡ n → AreBytes b → le b < 256 ^ n
 le_below [] zero len h = omega arith
 le_below [] (suc n) len h = absurd (omega arith)
 le_below (x ∷ b) zero len h = absurd (omega arith)
@@ -68,7 +86,7 @@ byte_below : (i n : ℕ) → byte_at i n < 256
 byte_below zero n = omega arith
 byte_below (suc i) n = mod_below (n / 256 ^ suc i) 256 (lit< tt)
 
-bytes_low : (i k n : ℕ) → AreBytes (bytes_low_first i k n)
+pub bytes_low : (i k n : ℕ) → AreBytes (bytes_low_first i k n)
 bytes_low i zero n j = lit< tt
 bytes_low i (suc k) n zero = byte_below i n
 bytes_low i (suc k) n (suc j) = bytes_low (suc i) k n j

@@ -102,7 +102,7 @@ fn clone_all(alloc: Global, entries: &[GPTPartitionEntry]) -> Result<Vec<GPTPart
     ensures ok { IfOk result (λ v. v.items ≡ entries.now) }
     ensures refused { IfErr result (λ e. fault_of e ≡ out_of_memory) }
 {
-    let mut all = Vec::new(alloc);
+    let mut all = Vec::with_capacity(alloc, entries.len())?;
     for entry in entries {
         all.push(entry.clone()?)?;
     }

@@ -244,7 +244,7 @@ fn empty_entries(alloc: Global) -> Result<Vec<GPTPartitionEntry>>
     ensures entries { IfOk result (λ v. v.items ≡ replicate 128 empty_entry) }
     ensures refused { IfErr result (λ e. fault_of e ≡ out_of_memory) }
 {
-    let mut partitions = Vec::new(alloc);
+    let mut partitions = Vec::with_capacity(alloc, 128)?;
     for _ in 0..128_u32 {
         partitions.push(GPTPartitionEntry::empty(alloc))?;
     }

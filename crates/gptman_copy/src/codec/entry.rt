@@ -12,6 +12,7 @@ ghost use Rattle.gptman_copy.specs.Fault.{fault_of, out_of_memory};
 use crate::cells::{note_bytes, part_at, put, put_u16, put_u64, u16_at, u64_at};
 use crate::codec::name::PartitionName;
 use crate::error::{Error, Result};
+use byteorder::{ByteOrder, LittleEndian};
 use std::alloc::Global;
 use std::ops::RangeInclusive;
 
@@ -94,7 +95,7 @@ impl GPTPartitionEntry {
     pub fn is_unused(&self) -> bool
         ensures { result ≡ is_unused self.now }
     {
-        self.partition_type_guid.iter().all(|byte| *byte == 0)
+        LittleEndian::read_u128(&self.partition_type_guid) == 0
     }
 
     /// Whether the entry is used: its type is not all zero.

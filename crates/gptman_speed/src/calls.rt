@@ -1,0 +1,167 @@
+//! The calls that are timed.
+
+use crate::plain::PlainDisk;
+use crate::tables::{array_of, table_on};
+use gptman::{Edit, Error, GPT, Result};
+use std::alloc::Global;
+
+/// A call of the library.
+#[derive(Clone, Copy)]
+pub enum Call {
+    Checksum,
+    Read,
+    Write,
+    FreeSectors,
+    FirstPlace,
+    LastPlace,
+    OptimalPlace,
+    MaximumSize,
+    Sort,
+    Clone,
+    CommitTen,
+}
+
+/// All calls, in the order in which they are told.
+pub const CALLS: [Call; 11] = [
+    Call::Checksum,
+    Call::Read,
+    Call::Write,
+    Call::FreeSectors,
+    Call::FirstPlace,
+    Call::LastPlace,
+    Call::OptimalPlace,
+    Call::MaximumSize,
+    Call::Sort,
+    Call::Clone,
+    Call::CommitTen,
+];
+
+impl Call {
+    pub fn name(self) -> &'static str {
+        match self {
+            Call::Checksum => "crc32",
+            Call::Read => "read",
+            Call::Write => "write",
+            Call::FreeSectors => "free sectors",
+            Call::FirstPlace => "first place",
+            Call::LastPlace => "last place",
+            Call::OptimalPlace => "optimal place",
+            Call::MaximumSize => "maximum size",
+            Call::Sort => "sort",
+            Call::Clone => "clone",
+            Call::CommitTen => "commit 10",
+        }
+    }
+}
+
+/// A table, the disk on which it stands, and the bytes of its entries.
+#[derive(Drop)]
+pub struct Case {
+    alloc: Global,
+    disk: PlainDisk,
+    table: GPT,
+    array: Vec<u8>,
+}
+
+impl Case {
+    /// With so many used entries. They are in order, with one sector each and a free one behind it.
+    pub fn new(alloc: Global, used: u32) -> Result<Case> {
+        let (disk, table) = table_on(alloc, used)?;
+        let array = array_of(alloc, &table)?;
+        Ok(Case {
+            alloc,
+            disk,
+            table,
+            array,
+        })
+    }
+
+    /// How many bytes go through this call, where that is to be told.
+    pub fn bytes_of(&self, call: Call) -> Option<usize> {
+        match call {
+            Call::Checksum | Call::Read => Some(self.array.len()),
+            Call::Write => Some(self.array.len().saturating_mul(2)),
+            _ => None,
+        }
+    }
+
+    /// Makes the call once.
+    pub fn make(&mut self, call: Call) -> Result<()> {
+        match call {
+            Call::Checksum => self.sum(),
+            Call::Read => self.read(),
+            Call::Write => self.write(),
+            Call::Sort => self.table.sort(),
+            Call::Clone => self.clone_table(),
+            Call::CommitTen => self.commit(),
+            _ => self.find(call),
+        }
+    }
+
+    // The checksum of the bytes of all entries.
+    fn sum(&self) -> Result<()> {
+        if gptman::crc::crc32(&self.array) == self.table.header.partition_entry_array_crc32 {
+            Ok(())
+        } else {
+            Err(Error::Overflow)
+        }
+    }
+
+    fn read(&mut self) -> Result<()> {
+        GPT::read_from(self.alloc, &mut self.disk, 512)?;
+        Ok(())
+    }
+
+    fn write(&mut self) -> Result<()> {
+        if self.table.sector_size == 0 || !self.table.is_coherent() {
+            return Err(Error::Overflow);
+        }
+        self.table.write_into(&mut self.disk)?;
+        Ok(())
+    }
+
+    fn clone_table(&self) -> Result<()> {
+        self.table.clone()?;
+        Ok(())
+    }
+
+    // The free sectors, or a place for one sector.
+    fn find(&self, call: Call) -> Result<()> {
+        if self.table.align == 0 {
+            return Err(Error::Overflow);
+        }
+        match call {
+            Call::FirstPlace => {
+                self.table.find_first_place(1)?;
+            }
+            Call::LastPlace => {
+                self.table.find_last_place(1)?;
+            }
+            Call::OptimalPlace => {
+                self.table.find_optimal_place(1)?;
+            }
+            Call::MaximumSize => {
+                self.table.get_maximum_partition_size()?;
+            }
+            _ => {
+                self.table.find_free_sectors()?;
+            }
+        }
+        Ok(())
+    }
+
+    // Ten edits, each written.
+    fn commit(&mut self) -> Result<()> {
+        let mut edits = Vec::new(self.alloc);
+        for number in 0..10 {
+            edits.push(Edit::DiskGuid([number; 16]))?;
+        }
+        if self.table.sector_size == 0 || !self.table.is_coherent() {
+            return Err(Error::Overflow);
+        }
+        match self.table.commit_all(&mut self.disk, edits).fault {
+            None => Ok(()),
+            Some(error) => Err(error),
+        }
+    }
+}
