@@ -36,6 +36,7 @@ pub mod Sealing
 pub mod Sorting
 pub mod Stored
 pub mod Sweeping
+pub mod Taken
 pub mod ThereCopy
 pub mod TwoCopies
 pub mod WrittenCopy

@@ -1,9 +1,12 @@
-//! All tables of three used entries over the sectors from 0 to 12, searched as in `slow_places`.
+//! All tables of three used entries over the sectors from 0 to 9, searched as in `slow_places`.
 
-use crate::slow_places::{LAST, Sectors, intervals, search_all, table_of_three};
+use crate::slow_places::{Sectors, intervals, search_all, table_of_three};
 use gptman::GPT;
 use std::alloc::Global;
 use std::process::Abort;
+
+// The last sector of their entries. To the last sector of all cases there are five times as many tables.
+const LAST: u64 = 9;
 
 // All of them with this first entry, whose others are among these.
 fn search_with(

@@ -46,17 +46,21 @@ fn have_own_guids(
     are_distinct(alloc, &guids)
 }
 
-// The unique GUIDs of the used entries.
+// The unique GUIDs of the used entries. It takes no memory for the others.
+#[tactic(auto, using(crate::proofs::Taken::one_kept, crate::proofs::Taken::one_left))]
 fn used_guids(
     alloc: Global,
     entries: &[GPTPartitionEntry],
 ) -> std::result::Result<Vec<[u8; 16]>, AllocError>
     ensures { IfOk result (λ guids. guids.items ≡ filter_map used_guid entries.now) }
 {
-    entries
-        .iter()
-        .filter_map(|entry| used_guid(entry))
-        .collect(alloc)
+    let mut guids = Vec::new(alloc);
+    for entry in entries {
+        if let Some(guid) = used_guid(entry) {
+            guids.push(guid)?;
+        }
+    }
+    Ok(guids)
 }
 
 // The unique GUID of an entry that is used.

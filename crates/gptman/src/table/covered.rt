@@ -21,17 +21,21 @@ pub(crate) fn sorted_ranges(
     Ok(ranges)
 }
 
-// The same in the order of the entries.
+// The same in the order of the entries. It takes no memory for those that cover nothing.
+#[tactic(auto, using(crate::proofs::Taken::one_kept, crate::proofs::Taken::one_left))]
 fn covered_ranges(
     alloc: Global,
     entries: &[GPTPartitionEntry],
 ) -> Result<Vec<(u64, u64)>, AllocError>
     ensures { IfOk result (λ v. v.items ≡ filter_map covered_range entries.now) }
 {
-    entries
-        .iter()
-        .filter_map(|entry| covered_range(entry))
-        .collect(alloc)
+    let mut ranges = Vec::new(alloc);
+    for entry in entries {
+        if let Some(range) = covered_range(entry) {
+            ranges.push(range)?;
+        }
+    }
+    Ok(ranges)
 }
 
 // The first and the last sector that the entry covers, if it covers any.
