@@ -60,13 +60,13 @@ le_injective (x ∷ b) (y ∷ c) len hb hc e =
     let tails = le_injective b c (omega arith) (λ i. hb (suc i)) (λ i. hc (suc i)) rest in
     cc
 
-bytes_take : (n : ℕ) (b : List ℕ) → AreBytes b → AreBytes (take n b)
+pub bytes_take : (n : ℕ) (b : List ℕ) → AreBytes b → AreBytes (take n b)
 bytes_take zero b h i = lit< tt
 bytes_take (suc n) [] h i = h i
 bytes_take (suc n) (x ∷ b) h zero = h 0
 bytes_take (suc n) (x ∷ b) h (suc i) = bytes_take n b (λ k. h (suc k)) i
 
-bytes_drop : (n : ℕ) (b : List ℕ) → AreBytes b → AreBytes (drop n b)
+pub bytes_drop : (n : ℕ) (b : List ℕ) → AreBytes b → AreBytes (drop n b)
 bytes_drop zero b h = h
 bytes_drop (suc n) [] h = h
 bytes_drop (suc n) (x ∷ b) h = bytes_drop n b (λ k. h (suc k))

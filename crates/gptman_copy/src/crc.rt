@@ -79,20 +79,15 @@ fn take_in_bytes(mut register: u32, bytes: &[u8]) -> u32
 }
 
 // The register with eight bytes taken in. What steps make of a sum without carries is the sum of what
-// they make of its parts, so each byte of the sum has a word of its own.
+// they make of its parts, so each byte has a word of its own; the register reaches the first four alone.
 fn take_in_block(register: u32, block: &[u8; 8]) -> u32
     ensures { result ≡ with_message register block.now }
 {
-    let sum = LittleEndian::read_u64(block) ^ u64::from(register);
-    let [a, b, c, d, e, f, g, h] = sum.to_le_bytes();
-    word(7, a)
-        ^ word(6, b)
-        ^ word(5, c)
-        ^ word(4, d)
-        ^ word(3, e)
-        ^ word(2, f)
-        ^ word(1, g)
-        ^ word(0, h)
+    let [a, b, c, d, e, f, g, h] = *block;
+    let sum = LittleEndian::read_u32(&[a, b, c, d]) ^ register;
+    let [a, b, c, d] = sum.to_le_bytes();
+    let behind = word(3, e) ^ word(2, f) ^ word(1, g) ^ word(0, h);
+    behind ^ word(7, a) ^ word(6, b) ^ word(5, c) ^ word(4, d)
 }
 
 // The register with a byte taken in.

@@ -183,10 +183,18 @@ fn read_array<D: Disk>(alloc: Global, disk: &mut D, count: u32) -> Result<EntryA
 {
     let mut partitions = Vec::new(alloc);
     let mut checksum = Checksum::new();
+    let mut bytes = [0; 4096];
     let mut done = 0;
     while done < count {
         let block = (count - done).min(32);
-        read_block(alloc, disk, block, &mut partitions, &mut checksum)?;
+        read_block(
+            alloc,
+            disk,
+            &mut bytes,
+            block,
+            &mut partitions,
+            &mut checksum,
+        )?;
         done += block;
     }
     Ok(EntryArray {
@@ -195,10 +203,12 @@ fn read_array<D: Disk>(alloc: Global, disk: &mut D, count: u32) -> Result<EntryA
     })
 }
 
-// Up to 32 entries more from the disk's position on, behind those of the list.
+// Up to 32 entries more from the disk's position on, behind those of the list. Their bytes go through
+// this buffer.
 fn read_block<D: Disk>(
     alloc: Global,
     disk: &mut D,
+    bytes: &mut [u8; 4096],
     count: u32,
     partitions: &mut Vec<GPTPartitionEntry>,
     checksum: &mut Checksum,
@@ -215,7 +225,6 @@ fn read_block<D: Disk>(
         → HasTaken checksum.new (m ++ next_bytes (D.state disk.old) (128 * count))) }
     ensures moves { OnOk result (Moves (D.state disk.old) (D.state disk.new) (128 * count)) }
 {
-    let mut bytes = [0; 4096];
     let block = &mut bytes[..128 * count as usize];
     disk.read_exact(block)?;
     checksum.update(block);

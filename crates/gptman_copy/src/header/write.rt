@@ -180,17 +180,23 @@ fn write_entries<D: Disk>(disk: &mut D, partitions: &[GPTPartitionEntry]) -> io:
     ensures still_pending { IsHonest (D.state disk.old)
         → StaysPending (D.state disk.old) (D.state disk.new) }
 {
+    let mut bytes = [0; 4096];
     let mut done = 0;
     while done < partitions.len() {
         let end = partitions.len().min(done + 32);
-        write_block(disk, &partitions[done..end])?;
+        write_block(disk, &mut bytes, &partitions[done..end])?;
         done = end;
     }
     Ok(())
 }
 
-// Writes up to 32 entries from the disk's position on, by one call.
-fn write_block<D: Disk>(disk: &mut D, block: &[GPTPartitionEntry]) -> io::Result<()>
+// Writes up to 32 entries from the disk's position on, by one call. Their bytes are put into this
+// buffer.
+fn write_block<D: Disk>(
+    disk: &mut D,
+    bytes: &mut [u8; 4096],
+    block: &[GPTPartitionEntry],
+) -> io::Result<()>
     requires few { length block.now ≤ 32 }
     requires room { HasNext (D.state disk.old) (128 * length block.now) }
     ensures keeps { Keeps (D.state disk.old) (D.state disk.new) }
@@ -204,8 +210,7 @@ fn write_block<D: Disk>(disk: &mut D, block: &[GPTPartitionEntry]) -> io::Result
     ensures still_pending { IsHonest (D.state disk.old)
         → StaysPending (D.state disk.old) (D.state disk.new) }
 {
-    let mut bytes = [0; 4096];
-    encode_block(&mut bytes, block);
+    encode_block(bytes, block);
     disk.write_all(&bytes[..128 * block.len()])
 }
 
