@@ -1,14 +1,14 @@
 #!/usr/bin/env bash
 # Tries gptimg as a process: its words and files, its standard streams, its memory, many of it at once,
-# one that is killed, and all that the documents say it prints.
+# one that is killed, and what docs/GUIDE.md and docs/FAULTS.md say that it prints.
 #
 # usage: tests/program.sh [PROGRAM]
 #
 # PROGRAM is ./gptimg at the top of the repository where it is left out; `make gptimg` puts it there.
 # Prints a line for each subject, and in full what does not hold. The last line is 'N passed, M
-# failed', and the status is 1 where something failed. Needs bash, coreutils and the program. What
-# needs sgdisk, sfdisk, strace, flock, mkfs.fat or mtools is tried where they are, and left out with a
-# line where not.
+# failed', and the status is 1 where something failed. Needs bash, coreutils, diffutils, grep and the
+# program. What needs sgdisk, sfdisk, strace, flock, mkfs.fat or mtools is tried where they are, and left
+# out with a line where not.
 # shellcheck source-path=SCRIPTDIR
 set -u
 
