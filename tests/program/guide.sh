@@ -18,6 +18,18 @@ try_guide() {
 
 try_faults() {
     try_document docs/FAULTS.md
+    try_fault_names
+}
+
+# Counts whether the page has each name of a fault that the source of the program has.
+try_fault_names() {
+    local page name names=0 _
+    read_into page "$top/docs/FAULTS.md"
+    while IFS='"' read -r _ name _; do
+        contains "docs/FAULTS.md: the fault $name" "\`$name" "$page"
+        names=$((names + 1))
+    done < <(grep '=> "[A-Z][A-Za-z]*",' "$top/crates/gptimg_core/src/lines.rt")
+    holds "the source has names of faults" [ "$names" -gt 0 ]
 }
 
 # Runs the examples of a document.
