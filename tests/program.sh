@@ -1,13 +1,14 @@
 #!/usr/bin/env bash
 # Tries gptimg as a process: its words and files, its standard streams, its memory, many of it at once,
-# and one that is killed.
+# one that is killed, and what docs/GUIDE.md and docs/FAULTS.md say that it prints.
 #
 # usage: tests/program.sh [PROGRAM]
 #
 # PROGRAM is ./gptimg at the top of the repository where it is left out; `make gptimg` puts it there.
 # Prints a line for each subject, and in full what does not hold. The last line is 'N passed, M
-# failed', and the status is 1 where something failed. Needs bash, coreutils and the program. What
-# needs sgdisk, sfdisk, strace or flock is tried where they are, and left out with a line where not.
+# failed', and the status is 1 where something failed. Needs bash, coreutils, diffutils, grep and the
+# program. What needs sgdisk, sfdisk, strace, flock, mkfs.fat or mtools is tried where they are, and left
+# out with a line where not.
 # shellcheck source-path=SCRIPTDIR
 set -u
 
@@ -31,6 +32,7 @@ fi
 . "$top/tests/program/writers.sh"
 . "$top/tests/program/kills.sh"
 . "$top/tests/program/other_tools.sh"
+. "$top/tests/program/guide.sh"
 
 # Ends what still runs, and leaves nothing behind.
 clean_up() {
@@ -70,6 +72,8 @@ try "images of sfdisk" try_sfdisk
 try "calls of the system" try_calls
 try "calls of the system that fail" try_failing_calls
 try "calls of the system that are interrupted" try_interrupted_calls
+try "the recipes of docs/GUIDE.md" try_guide
+try "the examples of docs/FAULTS.md" try_faults
 
 echo "$passed passed, $failed failed"
 [ "$failed" -eq 0 ]
