@@ -23,7 +23,7 @@ try_faults() {
 
 # Counts whether the page has each name of a fault that the source of the program has.
 try_fault_names() {
-    local page name names=0 _
+    local page="" name names=0 _
     read_into page "$top/docs/FAULTS.md"
     while IFS='"' read -r _ name _; do
         contains "docs/FAULTS.md: the fault $name" "\`$name" "$page"
