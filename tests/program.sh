@@ -1,6 +1,6 @@
 #!/usr/bin/env bash
 # Tries gptimg as a process: its words and files, its standard streams, its memory, many of it at once,
-# one that is killed, and what docs/GUIDE.md and docs/FAULTS.md say that it prints.
+# one that is killed, and what README.md, docs/GUIDE.md and docs/FAULTS.md say that it prints.
 #
 # usage: tests/program.sh [PROGRAM]
 #
@@ -72,6 +72,7 @@ try "images of sfdisk" try_sfdisk
 try "calls of the system" try_calls
 try "calls of the system that fail" try_failing_calls
 try "calls of the system that are interrupted" try_interrupted_calls
+try "the example of README.md" try_readme
 try "the recipes of docs/GUIDE.md" try_guide
 try "the examples of docs/FAULTS.md" try_faults
 

@@ -1,5 +1,5 @@
 # shellcheck shell=bash disable=SC2154 # the program and the folders are named in tests/program.sh
-# The examples of docs/GUIDE.md and docs/FAULTS.md, run from these documents themselves.
+# The examples of README.md, docs/GUIDE.md and docs/FAULTS.md, run from these documents themselves.
 #
 # What stands under a heading `##` is run by one shell, in an empty folder, with the program on PATH as
 # gptimg. In a block of kind `console` a line that begins with `$ ` is a command, one that begins with
@@ -11,6 +11,10 @@
 
 # Tools that need not be installed.
 guide_tools=(sgdisk sfdisk mkfs.fat mmd mcopy mtype flock)
+
+try_readme() {
+    try_document README.md
+}
 
 try_guide() {
     try_document docs/GUIDE.md
