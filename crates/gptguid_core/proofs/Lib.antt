@@ -1,0 +1,3 @@
+pub mod Orders
+pub mod Printing
+pub mod Spelled
