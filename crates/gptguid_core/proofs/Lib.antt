@@ -1,3 +1,4 @@
+pub mod Found
 pub mod Orders
 pub mod Printing
 pub mod Spelled

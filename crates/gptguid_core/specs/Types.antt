@@ -6,7 +6,7 @@ use Rattle.std.specs.Str.{bytes_eq}
 use Rattle.gptguid_core.specs.Forms.{disk_order}
 
 -- each name, and the number of 128 bits that the text of its GUID writes without the hyphens
-abbrev pub types : List (List ℕ × ℕ)
+unfoldable pub types : List (List ℕ × ℕ)
 types =
     (codes "efi", 0xC12A7328F81F11D2BA4B00A0C93EC93B) ∷
     (codes "bios-boot", 0x2168614864496E6F744E656564454649) ∷
@@ -49,6 +49,10 @@ types =
 abbrev pub guid_of_number : ℕ → List ℕ
 guid_of_number number = disk_order (to_be_bytes w128 number)
 
+-- the number of a name among some types
+abbrev pub number_in : List (List ℕ × ℕ) → List ℕ → Option ℕ
+number_in ts name = option_map (λ t. t.1) (find (λ t. bytes_eq t.0 name) ts)
+
 -- the GUID of a name
 abbrev pub guid_of_name : List ℕ → Option (List ℕ)
-guid_of_name name = option_map (λ t. guid_of_number t.1) (find (λ t. bytes_eq t.0 name) types)
+guid_of_name name = option_map guid_of_number (number_in types name)

@@ -1,6 +1,6 @@
 //! The lines that are printed.
 
-ghost use Rattle.std.specs.Prelude.{◌≡◌, IfOk, OnOk};
+ghost use Rattle.std.specs.Prelude.{◌≡◌, map, IfOk, OnOk};
 ghost use Rattle.std.specs.Io.KnownBytes.{Appends};
 ghost use Rattle.gptguid_core.specs.Forms.{guid_of_digits};
 ghost use Rattle.gptguid_core.specs.Lines.{digits_line, guid_of_word, text_line, type_line, type_lines};
@@ -18,7 +18,15 @@ use std::random::RandomSource;
 pub fn print_types<W: Write>(out: &mut W) -> io::Result<()>
     ensures { OnOk result (Appends (W.contents out.old) (W.contents out.new) (type_lines types_by_name)) }
 {
-    for (name, number) in types() {
+    print_each(out, types())
+}
+
+// Prints the line of each of these types.
+fn print_each<W: Write>(out: &mut W, types: &[(&str, u128)]) -> io::Result<()>
+    ensures { OnOk result (Appends (W.contents out.old) (W.contents out.new)
+        (type_lines (map (λ t. (t.0.now, t.1)) types.now))) }
+{
+    for (name, number) in types {
         print_type(out, name, *number)?;
     }
     Ok(())

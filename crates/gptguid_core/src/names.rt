@@ -1,7 +1,8 @@
 //! The types of partitions that have a name.
 
 ghost use Rattle.std.specs.Prelude.{◌≡◌, map};
-ghost use Rattle.gptguid_core.specs.Types.{guid_of_name, guid_of_number as guid_that_is_written, types as types_by_name};
+ghost use Rattle.gptguid_core.specs.Types.{guid_of_name, guid_of_number as guid_that_is_written};
+ghost use Rattle.gptguid_core.specs.Types.{number_in, types as types_by_name};
 
 use uuid::Uuid;
 
@@ -45,6 +46,7 @@ static TYPES: [(&str, u128); 35] = [
 ];
 
 /// Each type: its name, and the number that the text of its GUID writes without the hyphens.
+#[tactic(auto, unfolding(crate::specs::Types::types))]
 pub fn types() -> &'static [(&'static str, u128)]
     ensures { map (λ t. (t.0.now, t.1)) result.now ≡ types_by_name }
 {
@@ -62,9 +64,17 @@ pub fn guid_of_number(number: u128) -> [u8; 16]
 pub fn from_name(name: &str) -> Option<[u8; 16]>
     ensures { result ≡ guid_of_name name.now }
 {
-    for (known, number) in types() {
+    let number = find_number(types(), name)?;
+    Some(guid_of_number(number))
+}
+
+// The number of the type that has this name, among these.
+fn find_number(types: &[(&str, u128)], name: &str) -> Option<u128>
+    ensures { result ≡ number_in (map (λ t. (t.0.now, t.1)) types.now) name.now }
+{
+    for (known, number) in types {
         if *known == name {
-            return Some(guid_of_number(*number));
+            return Some(*number);
         }
     }
     None
