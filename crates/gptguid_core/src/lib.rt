@@ -67,3 +67,6 @@ pub fn run<S: RandomSource, W: Write>(words: &[String], source: &S, out: &mut W)
         word => lines::print_word(out, word),
     }
 }
+
+#[cfg(test)]
+mod tests;
