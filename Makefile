@@ -1,10 +1,14 @@
 # Needs `rt` of the Rattle kit on the PATH, bash and coreutils, and nothing else.
 
-.PHONY: gptimg demo test bench
+.PHONY: gptimg gptguid demo test bench
 
 # Proves and builds the program, and leaves it at ./gptimg.
 gptimg:
 	@scripts/build
+
+# The same for the program that turns GUIDs, at ./gptguid.
+gptguid:
+	@scripts/build gptguid
 
 # Makes an empty disk image, writes a table to it and shows it.
 demo: gptimg
