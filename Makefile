@@ -1,16 +1,21 @@
 # Needs `rt` of the Rattle kit on the PATH, bash and coreutils, and nothing else.
 
-.PHONY: gptimg install demo test bench
+.PHONY: gptimg gptguid install demo test bench
 
-# Where `make install` puts the program and its manual page.
+# Where `make install` puts the programs and the manual page.
 PREFIX = /usr/local
 
 # Proves and builds the program, and leaves it at ./gptimg.
 gptimg:
 	@scripts/build
 
-install: gptimg
+# The same for the program that turns GUIDs, at ./gptguid.
+gptguid:
+	@scripts/build gptguid
+
+install: gptimg gptguid
 	install -D -m 755 gptimg "$(DESTDIR)$(PREFIX)/bin/gptimg"
+	install -D -m 755 gptguid "$(DESTDIR)$(PREFIX)/bin/gptguid"
 	install -D -m 644 docs/gptimg.1 "$(DESTDIR)$(PREFIX)/share/man/man1/gptimg.1"
 
 # Makes an empty disk image, writes a table to it and shows it.

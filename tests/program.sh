@@ -4,7 +4,8 @@
 #
 # usage: tests/program.sh [PROGRAM]
 #
-# PROGRAM is ./gptimg at the top of the repository where it is left out; `make gptimg` puts it there.
+# PROGRAM is ./gptimg at the top of the repository where it is left out; `make gptimg` puts it there. The
+# program gptguid is that of its crate, where `make gptguid` and `rt ci` leave it.
 # Prints a line for each subject, and in full what does not hold. The last line is 'N passed, M
 # failed', and the status is 1 where something failed. Needs bash, coreutils, diffutils, grep and the
 # program. What needs sgdisk, sfdisk, strace, flock, mkfs.fat or mtools is tried where they are, and left
@@ -19,6 +20,8 @@ if [ ! -x "$program" ]; then
     exit 1
 fi
 
+guid_program=$top/crates/gptguid/out/gptguid
+
 . "$top/tests/program/asserts.sh"
 . "$top/tests/program/images.sh"
 . "$top/tests/program/headers.sh"
@@ -32,6 +35,7 @@ fi
 . "$top/tests/program/writers.sh"
 . "$top/tests/program/kills.sh"
 . "$top/tests/program/other_tools.sh"
+. "$top/tests/program/guids.sh"
 . "$top/tests/program/guide.sh"
 
 # Ends what still runs, and leaves nothing behind.
@@ -67,6 +71,7 @@ try "readers beside a writer" try_readers
 try "ten writers at once" try_ten_writers
 try "a turn for each writer" try_turns
 try "killed writers" try_kills
+try "GUIDs" try_guids
 try "images of sgdisk" try_sgdisk
 try "images of sfdisk" try_sfdisk
 try "calls of the system" try_calls

@@ -1,0 +1,5 @@
+pub mod Found
+pub mod OneWord
+pub mod Orders
+pub mod Printing
+pub mod Spelled

@@ -1,0 +1,106 @@
+//! The lines that are printed.
+
+ghost use Rattle.std.specs.Prelude.{◌≡◌, map, IfOk, OnOk};
+ghost use Rattle.std.specs.Io.KnownBytes.{Appends};
+ghost use Rattle.gptguid_core.specs.Forms.{guid_of_digits};
+ghost use Rattle.gptguid_core.specs.Lines.{digits_line, guid_of_word, text_line, type_line, type_lines};
+ghost use Rattle.gptguid_core.specs.Lines.{word_answer, PrintsRandom};
+ghost use Rattle.gptguid_core.specs.Types.{types as types_by_name};
+
+use crate::forms::{digits_of, from_digits, from_random, from_text, text_of};
+use crate::names::{from_name, guid_of_number, types};
+use crate::{DONE, FAULT};
+use std::io;
+use std::io::Write;
+use std::random::RandomSource;
+
+/// Prints a line for each type that has a name.
+pub fn print_types<W: Write>(out: &mut W) -> io::Result<()>
+    ensures { OnOk result (Appends (W.contents out.old) (W.contents out.new) (type_lines types_by_name)) }
+{
+    print_each(out, types())
+}
+
+// Prints the line of each of these types.
+fn print_each<W: Write>(out: &mut W, types: &[(&str, u128)]) -> io::Result<()>
+    ensures { OnOk result (Appends (W.contents out.old) (W.contents out.new)
+        (type_lines (map (λ t. (t.0.now, t.1)) types.now))) }
+{
+    for (name, number) in types {
+        print_type(out, name, *number)?;
+    }
+    Ok(())
+}
+
+// Prints the line of a type.
+fn print_type<W: Write>(out: &mut W, name: &str, number: u128) -> io::Result<()>
+    ensures { OnOk result (Appends (W.contents out.old) (W.contents out.new) (type_line (name.now, number))) }
+{
+    let guid = guid_of_number(number);
+    let mut digits = [0; 32];
+    out.write_all(name.as_bytes())?;
+    out.write_all(b" ")?;
+    out.write_all(digits_of(&guid, &mut digits).as_bytes())?;
+    out.write_all(b" ")?;
+    print_text(out, &guid)
+}
+
+/// Prints the digits of a random GUID, or where the source gives no bytes, that it failed. Answers the
+/// status.
+pub fn print_random<S: RandomSource, W: Write>(source: &S, out: &mut W) -> io::Result<u8>
+    ensures { IfOk result (PrintsRandom (W.contents out.old) (W.contents out.new)) }
+{
+    let mut drawn = [0; 16];
+    if source.fill_bytes(&mut drawn).is_err() {
+        out.write_all(b"fault: Io\n")?;
+        return Ok(FAULT);
+    }
+    print_digits(out, &from_random(drawn))?;
+    Ok(DONE)
+}
+
+/// Prints what a GUID is in its other form, and of a name its digits. Answers the status.
+pub fn print_word<W: Write>(out: &mut W, word: &str) -> io::Result<u8>
+    ensures status { IfOk result (λ status. status ≡ (word_answer word.now (guid_of_digits word.now)).0) }
+    ensures printed { OnOk result (Appends (W.contents out.old) (W.contents out.new)
+        (word_answer word.now (guid_of_digits word.now)).1) }
+{
+    if let Some(guid) = from_digits(word) {
+        print_text(out, &guid)?;
+        return Ok(DONE);
+    }
+    let Some(guid) = find_guid(word) else {
+        out.write_all(b"fault: InvalidGUID\n")?;
+        return Ok(FAULT);
+    };
+    print_digits(out, &guid)?;
+    Ok(DONE)
+}
+
+// The GUID of a text or of a name.
+fn find_guid(word: &str) -> Option<[u8; 16]>
+    ensures { result ≡ guid_of_word word.now }
+{
+    match from_text(word) {
+        Some(guid) => Some(guid),
+        None => from_name(word),
+    }
+}
+
+// Prints the line of a GUID's text.
+fn print_text<W: Write>(out: &mut W, guid: &[u8; 16]) -> io::Result<()>
+    ensures { OnOk result (Appends (W.contents out.old) (W.contents out.new) (text_line guid.now)) }
+{
+    let mut text = [0; 36];
+    out.write_all(text_of(guid, &mut text).as_bytes())?;
+    out.write_all(b"\n")
+}
+
+// Prints the line of a GUID's digits.
+fn print_digits<W: Write>(out: &mut W, guid: &[u8; 16]) -> io::Result<()>
+    ensures { OnOk result (Appends (W.contents out.old) (W.contents out.new) (digits_line guid.now)) }
+{
+    let mut digits = [0; 32];
+    out.write_all(digits_of(guid, &mut digits).as_bytes())?;
+    out.write_all(b"\n")
+}
