@@ -129,7 +129,7 @@ try_types_of_tools() {
     make_table types.img 10M
     says 0 "ok" types.img 512 mbr plain
     says 0 "1 2048..4095" types.img 512 add 1 "$("$guid_program" efi)" "$one" 2048 first 2048 boot
-    says 0 "2 4096..6143" types.img 512 add 2 "$("$guid_program" linux)" $two 2048 first 2048 root
+    says 0 "2 4096..6143" types.img 512 add 2 "$("$guid_program" linux)" "$two" 2048 first 2048 root
     is_accepted types.img
     if has sgdisk; then
         contains "the type by efi, as sgdisk reads it" " EF00  boot" "$(sgdisk -p types.img 2>&1)"
