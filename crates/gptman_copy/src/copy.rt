@@ -1,4 +1,4 @@
-//! One whole copy as it is read and written: its header, and then its entries.
+//! One whole copy as it is read: its header, and then its entries. The writing of one is handed on.
 
 ghost use Rattle.std.specs.Prelude.{◌≡◌, ◌≤◌, ◌<◌, ◌-◌, ◌*◌, ◌/◌, IfOk};
 ghost use Rattle.gptman_copy.specs.Answers.{is_copy_fault, AnswersInMemory, RefusesOnly};
