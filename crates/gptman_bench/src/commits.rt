@@ -130,8 +130,8 @@ fn three_edits(rt: &impl Abort, alloc: Global) -> Vec<Edit> {
     edits
 }
 
-// How many calls the writes of the three edits make, 19 each.
-const CALLS: u64 = 57;
+// How many calls the writes of the three edits make, 17 each.
+const CALLS: u64 = 51;
 
 // How many of the three edits are done on this disk, which holds the image and may fail.
 fn commit_three<D: Disk>(rt: &impl Abort, alloc: Global, disk: &mut D, image: &[u8]) -> usize {

@@ -192,7 +192,7 @@ fn read_after(
     (count_used(&table), table.is_primary())
 }
 
-// After four calls one write is pending, the header of the other copy; after ten the other copy is
+// After three calls one write is pending, the header of the other copy; after nine the other copy is
 // synced, and nothing else is pending.
 fn assert_order(
     rt: &impl Abort,
@@ -202,8 +202,8 @@ fn assert_order(
     after_a_sync: (usize, bool),
 ) {
     let case = one_more(rt, alloc, zeroed);
-    let torn = read_after(rt, alloc, &case, 4, &[Fate::Garbage(7)]);
-    let synced = read_after(rt, alloc, &case, 10, &[]);
+    let torn = read_after(rt, alloc, &case, 3, &[Fate::Garbage(7)]);
+    let synced = read_after(rt, alloc, &case, 9, &[]);
     assert!(rt; torn == after_a_write && synced == after_a_sync);
 }
 
@@ -233,7 +233,7 @@ fn after_ok_each_copy_alone_is_the_new_table(rt: HostRuntime) {
 #[test]
 fn a_disk_that_fails_at_once_is_not_changed(rt: HostRuntime) {
     let case = one_more(&rt, rt.alloc(), None);
-    for calls in 0..=2 {
+    for calls in 0..=1 {
         let mut disk = fused(&rt, rt.alloc(), &case.image, calls);
         assert!(rt; !is_written(&rt, &mut disk, &case.new));
         assert!(rt; disk.bytes() == case.image.as_slice());
@@ -256,11 +256,11 @@ fn a_table_is_written_and_read_in_few_calls(rt: HostRuntime) {
 }
 
 // How many calls a write of 128 entries makes.
-const CALLS: u64 = 19;
+const CALLS: u64 = 17;
 
 // How many writes of a write of 128 entries are pending after so many calls. Each copy is four blocks of
 // entries behind a header, and is synced; the call that fails may be a write, which is pending too.
-const PENDING: [usize; 20] = [0, 0, 0, 1, 1, 2, 3, 4, 5, 5, 0, 0, 1, 1, 2, 3, 4, 5, 5, 0];
+const PENDING: [usize; 18] = [0, 0, 1, 1, 2, 3, 4, 5, 5, 0, 1, 1, 2, 3, 4, 5, 5, 0];
 
 // Whether what is left differs where this write is torn and all others are lost.
 fn is_pending(rt: &impl Abort, alloc: Global, case: &Case, calls: u64, write: usize) -> bool {
@@ -332,10 +332,10 @@ fn live(rt: &impl Abort, alloc: Global, image: Vec<u8>, round: u8) -> Vec<u8> {
 #[test]
 fn a_life_of_stopped_writes_never_loses_the_table(rt: HostRuntime) {
     let mut left = image(&rt, rt.alloc(), None);
-    for round in 0..20 {
+    for round in 0..18 {
         left = live(&rt, rt.alloc(), left, round);
     }
     let last = got(&rt, read_image(rt.alloc(), &left));
-    assert!(rt; last.header.disk_guid == [19; 16]);
+    assert!(rt; last.header.disk_guid == [17; 16]);
     assert!(rt; count_used(&last) == 2);
 }

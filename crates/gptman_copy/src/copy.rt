@@ -1,4 +1,4 @@
-//! One whole copy as it is read: its header, and then its entries.
+//! One whole copy as it is read: its header, and then its entries. The writing of one is handed on.
 
 ghost use Rattle.std.specs.Prelude.{◌≡◌, ◌≤◌, ◌<◌, ◌-◌, ◌*◌, ◌/◌, IfOk};
 ghost use Rattle.gptman_copy.specs.Answers.{is_copy_fault, AnswersInMemory, RefusesOnly};
@@ -9,6 +9,7 @@ use crate::codec::entry::GPTPartitionEntry;
 use crate::codec::header::GPTHeader;
 use crate::disk::Disk;
 use crate::error::Result;
+pub use crate::header::write::write_summed;
 use std::alloc::Global;
 
 /// A copy that passes the tests of a reading.

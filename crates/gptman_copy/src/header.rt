@@ -21,7 +21,7 @@ use crate::error::{Error, Result};
 use crate::sizes::{ENTRY_SIZE, HEADER_SIZE};
 
 mod read;
-mod write;
+pub(crate) mod write;
 
 /// "EFI PART".
 pub(crate) const SIGNATURE: [u8; 8] = [0x45, 0x46, 0x49, 0x20, 0x50, 0x41, 0x52, 0x54];

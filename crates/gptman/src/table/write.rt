@@ -4,7 +4,9 @@
 
 ghost use Rattle.std.specs.Prelude.{◌≡◌, ◌<◌, ◌⊎◌, [], ◌∷◌, None, IfErr, IfOk, OnErr, OnOk};
 ghost use Rattle.gptman_copy.specs.Answers.{FailsPending, HasCause, IsFailure, Settles};
+ghost use Rattle.gptman_copy.specs.Coding.{array_bytes};
 ghost use Rattle.gptman_copy.specs.Copy.{with_checksums, IsCoherent};
+ghost use Rattle.gptman_copy.specs.Crc.{crc_of};
 ghost use Rattle.gptman_copy.specs.Disk.{IsHonest, Keeps, LeavesOnly, Reads, Writes};
 ghost use Rattle.gptman_copy.specs.Fault.{fault_of, io as io_fault};
 ghost use Rattle.gptman_copy.specs.Ranges.{AreApart};
@@ -24,6 +26,7 @@ ghost use Rattle.gptman.specs.Valid.{IsValid};
 
 use crate::table::GPT;
 use crate::table::checks::check;
+use gptman_copy::copy::write_summed;
 use gptman_copy::{Disk, Error, GPTHeader, GPTPartitionEntry, Result};
 
 impl GPT {
@@ -148,13 +151,10 @@ impl GPT {
     {
         let sector_size = self.sector_size;
         let mut other = self.writable_other(disk)?;
-        write_and_sync(disk, &mut other, sector_size, self.partitions.as_slice())?;
-        write_and_sync(
-            disk,
-            &mut self.header,
-            sector_size,
-            self.partitions.as_slice(),
-        )?;
+        let entries = self.partitions.as_slice();
+        let checksum = self.header.generate_partition_entry_array_crc32(entries);
+        write_and_sync(disk, &mut other, sector_size, entries, checksum)?;
+        write_and_sync(disk, &mut self.header, sector_size, entries, checksum)?;
         Ok(other)
     }
 
@@ -182,15 +182,18 @@ impl GPT {
     }
 }
 
-// Writes one copy and syncs it. After an error nothing was written, or the header's range is pending.
+// Writes one copy, whose entries have this checksum, and syncs it. After an error nothing was written,
+// or the header's range is pending.
 fn write_and_sync<D: Disk>(
     disk: &mut D,
     header: &mut GPTHeader,
     sector_size: u64,
     partitions: &[GPTPartitionEntry],
+    checksum: u32,
 ) -> Result<()>
     requires sector { 0 < sector_size }
     requires coherent { IsCoherent header.old partitions.now }
+    requires checksum { checksum ≡ crc_of (array_bytes partitions.now) }
     requires allowed { copy_write_fault header.old sector_size (D.state disk.old).size ≡ None }
     ensures keeps { Keeps (D.state disk.old) (D.state disk.new) }
     ensures refused { IfErr result (λ e. IsFailure (fault_of e) (D.state disk.old) (D.state disk.new)) }
@@ -204,7 +207,7 @@ fn write_and_sync<D: Disk>(
     ensures failed { FailsPending (header_range header.old sector_size) result
         (D.state disk.old) (D.state disk.new) }
 {
-    header.write_into(disk, sector_size, partitions)?;
+    write_summed(disk, header, sector_size, partitions, checksum)?;
     disk.sync()?;
     Ok(())
 }

@@ -8,6 +8,7 @@ ghost use Rattle.std.specs.List.{list_all};
 ghost use Rattle.gptman_copy.specs.Answers.{FailsPending, HasCause, Refuses, RefusesUntouched, Settles};
 ghost use Rattle.gptman_copy.specs.Coding.{array_bytes, FitsEntry};
 ghost use Rattle.gptman_copy.specs.Copy.{with_checksums, IsCoherent};
+ghost use Rattle.gptman_copy.specs.Crc.{crc_of};
 ghost use Rattle.gptman_copy.specs.Disk.{next_range, HasNext, IsHonest, Keeps, Moves, Overlays, Rose};
 ghost use Rattle.gptman_copy.specs.Disk.{StaysPending, Writes};
 ghost use Rattle.gptman_copy.specs.Fault.{fault_of, io as io_fault, overflow};
@@ -77,9 +78,8 @@ impl GPTHeader {
         if !self.is_inside(sector_size, size) {
             return Err(Error::NoSpaceLeft);
         }
-        self.update_partition_entry_array_crc32(partitions);
-        self.update_crc32_checksum();
-        write_copy(disk, self, sector_size, partitions)?;
+        let checksum = self.generate_partition_entry_array_crc32(partitions);
+        write_summed(disk, self, sector_size, partitions, checksum)?;
         Ok(())
     }
 
@@ -134,6 +134,44 @@ impl GPTHeader {
         let start = u128::from(self.partition_entry_lba) * u128::from(sector_size);
         start + 128 * u128::from(self.number_of_partition_entries)
     }
+}
+
+/// Makes both checksums of the header, where the one of its entries is this, and writes the header at
+/// byte `primary_lba * sector_size` and then the entries from byte `partition_entry_lba * sector_size`
+/// on. Nothing is synced, and no memory is taken. Two copies with the same entries take one such checksum.
+///
+/// The caller sees to it that header and entries are coherent, as for `GPTHeader::write_into`, and that
+/// both end within the disk.
+///
+/// An error comes only where the disk failed: then nothing was written, or the header's range is not
+/// synced.
+pub fn write_summed<D: Disk>(
+    disk: &mut D,
+    header: &mut GPTHeader,
+    sector_size: u64,
+    partitions: &[GPTPartitionEntry],
+    checksum: u32,
+) -> io::Result<()>
+    requires coherent { IsCoherent header.old partitions.now }
+    requires checksum { checksum ≡ crc_of (array_bytes partitions.now) }
+    requires inside { IsTrue (list_all (is_range_inside (D.state disk.old).size)
+        (write_ranges header.old sector_size)) }
+    ensures keeps { Keeps (D.state disk.old) (D.state disk.new) }
+    ensures cause { OnErr result (Rose (D.state disk.old) (D.state disk.new)) }
+    ensures value { header.new ≡ with_checksums header.old partitions.now }
+    ensures fits { OnOk result (FitsCopy header.new partitions.now) }
+    ensures sums { SameButSums header.old header.new }
+    ensures wrote { Writes (write_ranges header.old sector_size) (D.state disk.old) (D.state disk.new) }
+    ensures laid { LaysCopy header.new partitions.now sector_size result
+        (D.state disk.old) (D.state disk.new) }
+    ensures pending { IsHonest (D.state disk.old)
+        → OnOk result (Contains (D.state disk.new).pending (header_range header.old sector_size)) }
+    ensures failed { FailsPending (header_range header.old sector_size) result
+        (D.state disk.old) (D.state disk.new) }
+{
+    header.partition_entry_array_crc32 = checksum;
+    header.update_crc32_checksum();
+    write_copy(disk, header, sector_size, partitions)
 }
 
 // Writes the header, then the entries. After an error nothing was written, or the header's range is

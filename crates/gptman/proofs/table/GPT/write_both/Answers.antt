@@ -64,7 +64,7 @@ laid g c honest =
     let w2 = c.write_and_sync.ensures.wrote read.wrote.honest in
     let first = c.in_ok-write_and_sync.ensures in
     let second = c.in_ok-write_and_sync-2.ensures in
-    both_laid _ _ _ _ _ _ c.write_and_sync.new.header c.write_and_sync-2.new.header _ _ _ _ read.view c.in_ok-other.ensures.value c.as_slice.ensures.items c.as_slice-2.ensures.items
+    both_laid _ _ _ _ _ _ c.write_and_sync.new.header c.write_and_sync-2.new.header _ _ _ _ read.view c.in_ok-other.ensures.value c.as_slice-entries.ensures.items c.as_slice-entries.ensures.items
     first.value second.value first.fits second.fits (first.laid read.wrote.honest) (second.laid w2.honest)
 
 pub returns-clause-laid : goal.returns-clause-laid
@@ -77,8 +77,8 @@ returns-clause-laid g c = λ honest apart.
     let both = laid g c honest in
     let inside = allowed_inside h ss old (g.met.D.Disk.sound c.args.disk.now honest).size c.in_ok-other.ensures.answer in
     let stand = laid_from old.view both.mid new.view h es ss apart inside c.requires.coherent.count both.fits_other both.fits_own both.fits both.other both.own in
-    let own_is : c.write_and_sync-2.new.header ≡ with_checksums h es = c.in_ok-write_and_sync-2.ensures.value ∙ ap (with_checksums h) c.as_slice-2.ensures.items in
-    let other_is : c.write_and_sync.new.header ≡ with_checksums (other_header h) es = c.in_ok-write_and_sync.ensures.value ∙ (λ i. with_checksums (c.in_ok-other.ensures.value i) (c.as_slice.ensures.items i)) in
+    let own_is : c.write_and_sync-2.new.header ≡ with_checksums h es = c.in_ok-write_and_sync-2.ensures.value ∙ ap (with_checksums h) c.as_slice-entries.ensures.items in
+    let other_is : c.write_and_sync.new.header ≡ with_checksums (other_header h) es = c.in_ok-write_and_sync.ensures.value ∙ (λ i. with_checksums (c.in_ok-other.ensures.value i) (c.as_slice-entries.ensures.items i)) in
     (subst (λ (x : GPTHeader). HasBytes new.view x es ss) (sym own_is) stand.0, subst (λ (x : GPTHeader). HasBytes new.view x es ss) (sym other_is) stand.1)
 
 pub returns-clause-stored : goal.returns-clause-stored
@@ -122,7 +122,7 @@ done_then_failed g c honest apart =
     let other = c.in_ok-other.ensures in
     let first = c.in_ok-write_and_sync.ensures in
     other_is_done c.args.self.now c.in_ok-other.other c.write_and_sync.new.header _ (g.D.Disk.state c.args.disk.now) (g.D.Disk.state c.writable_other.new.disk) (g.D.Disk.state c.write_and_sync.new.disk)
-    apart (g.met.D.Disk.sound c.args.disk.now honest).size c.requires.coherent.count (other.reads.only honest) other.answer other.value c.as_slice.ensures.items first.value first.fits first.laid first.synced
+    apart (g.met.D.Disk.sound c.args.disk.now honest).size c.requires.coherent.count (other.reads.only honest) other.answer other.value c.as_slice-entries.ensures.items first.value first.fits first.laid first.synced
     c.write_and_sync.ensures.wrote
 
 done : (g : Over) (c : goal.In_ok-write_and_sync-2 g) → IsTrue (g.D.Disk.state c.args.disk.now).is_honest → AreApart (both_ranges c.args.self.now.header c.args.self.now.sector_size)
@@ -131,7 +131,7 @@ done g c honest apart =
     let other = c.in_ok-other.ensures in
     let first = c.in_ok-write_and_sync.ensures in
     other_is_done c.args.self.now c.in_ok-other.other c.write_and_sync.new.header _ (g.D.Disk.state c.args.disk.now) (g.D.Disk.state c.writable_other.new.disk) (g.D.Disk.state c.write_and_sync.new.disk)
-    apart (g.met.D.Disk.sound c.args.disk.now honest).size c.requires.coherent.count (other.reads.only honest) other.answer other.value c.as_slice.ensures.items first.value first.fits first.laid first.synced
+    apart (g.met.D.Disk.sound c.args.disk.now honest).size c.requires.coherent.count (other.reads.only honest) other.answer other.value c.as_slice-entries.ensures.items first.value first.fits first.laid first.synced
     c.write_and_sync.ensures.wrote
 
 pub returns-in_err-write_and_sync-2-clause-one_whole : goal.returns-in_err-write_and_sync-2-clause-one_whole
@@ -165,10 +165,10 @@ returns-in_err-write_and_sync-2-clause-failed g c = λ start.
 
 pub returns-clause-other : goal.returns-clause-other
 returns-clause-other g c =
-    c.in_ok-write_and_sync.ensures.value ∙ ap (with_checksums c.in_ok-other.other) c.as_slice.ensures.items
+    c.in_ok-write_and_sync.ensures.value ∙ ap (with_checksums c.in_ok-other.other) c.as_slice-entries.ensures.items
     ∙ ap (λ (h : GPTHeader). with_checksums h (entries_in c.args.self.now)) c.in_ok-other.ensures.value
 
 pub returns-clause-value : goal.returns-clause-value
 returns-clause-value g c =
     ap (λ (h : GPTHeader). record c.args.self.now { header = h })
-    (c.in_ok-write_and_sync-2.ensures.value ∙ ap (with_checksums c.args.self.now.header) c.as_slice-2.ensures.items)
+    (c.in_ok-write_and_sync-2.ensures.value ∙ ap (with_checksums c.args.self.now.header) c.as_slice-entries.ensures.items)

@@ -1,23 +1,33 @@
-use Rattle.std.proofs.Common.{◌*◌, inr, ℕ, subst, sym}
-use Rattle.std.specs.List.{Contains}
+use Rattle.std.proofs.Common.{◌*◌, [], ◌∷◌, inr, ℕ, subst, sym}
+use Rattle.std.specs.List.{Contains, list_all}
+use Rattle.gptman_copy.specs.Fault.{overflow, no_space_left}
+use Rattle.gptman_copy.specs.Write.{is_addressable, is_inside, write_ranges}
+use Rattle.gptman_copy.proofs.FirstFailing.{tests_pass}
 use Rattle.gptman_copy.proofs.Outcomes.{on_err_of}
 use Rattle.gptman_copy.proofs.Ranges.{within_none}
 use Rattle.gptman_copy.proofs.Runs.{wrote_then}
 use Rattle.gptman.proofs.table.write.write_and_sync.Goals as goal
 
+pub write_summed-requires-clause-inside : goal.write_summed-requires-clause-inside
+write_summed-requires-clause-inside g c =
+    let ranges = write_ranges c.args.header.now c.args.sector_size in
+    let size : ℕ = (g.D.Disk.state c.args.disk.now).size in
+    let pass = tests_pass ((list_all is_addressable ranges, overflow) ∷ (list_all (is_inside size) ranges, no_space_left) ∷ []) c.requires.allowed in
+    pass.1.0
+
 pub returns-in_err-sync-clause-wrote : goal.returns-in_err-sync-clause-wrote
 returns-in_err-sync-clause-wrote g c = λ honest.
-    let w1 = c.write_into.ensures.wrote honest in
+    let w1 = c.write_summed.ensures.wrote honest in
     wrote_then within_none w1 (c.sync.ensures.wrote w1.honest)
 
 pub returns-clause-wrote : goal.returns-clause-wrote
 returns-clause-wrote g c = λ honest.
-    let w1 = c.write_into.ensures.wrote honest in
+    let w1 = c.write_summed.ensures.wrote honest in
     wrote_then within_none w1 (c.sync.ensures.wrote w1.honest)
 
 pub returns-in_err-sync-clause-failed : goal.returns-in_err-sync-clause-failed
 returns-in_err-sync-clause-failed g c = λ honest.
-    let w1 = c.write_into.ensures.wrote honest in
+    let w1 = c.write_summed.ensures.wrote honest in
     let range : ℕ × ℕ = (c.args.header.now.primary_lba * c.args.sector_size, 92) in
-    let still = subst (λ ps. Contains ps range) (sym (c.in_err-sync.ensures.failed w1.honest)) (c.in_ok-write_into.ensures.pending honest) in
+    let still = subst (λ ps. Contains ps range) (sym (c.in_err-sync.ensures.failed w1.honest)) (c.in_ok-write_summed.ensures.pending honest) in
     on_err_of _ (inr still)
