@@ -1,7 +1,7 @@
 -- A partition that is added and written, after calls that only read.
-use Rattle.std.proofs.Common.{◌≡◌, ◌<◌, ℕ, ◌-◌, List, [], ◌∷◌, Option, Some, max, refl, sym, ap, ◌∙◌, subst, arith, inl, inr, ◌⊎◌, ⊎_elim}
+use Rattle.std.proofs.Common.{◌≡◌, ◌<◌, ℕ, ◌-◌, List, [], ◌∷◌, Option, None, Some, max, refl, sym, ap, ◌∙◌, subst, arith, inl, inr, ◌⊎◌, ⊎_elim}
 use Rattle.std.proofs.lemmas.List.{length-map, length-set}
-use Rattle.std.proofs.lemmas.Option.{MatchOption-at_some}
+use Rattle.std.proofs.lemmas.Option.{MatchOption-at_none, MatchOption-at_some}
 use Rattle.std.specs.Prelude.{Result, Ok}
 use Rattle.gptman.specs.Copy.{Copy}
 use Rattle.gptman.specs.Crash.{AreReadAlone, StartsLaidOut, StartsStored}
@@ -21,7 +21,7 @@ use Rattle.gptman_copy.proofs.Ranges.{Ranges, contains_first, within_none, withi
 use Rattle.gptman_copy.proofs.Runs.{leaves_then, rose_before, wrote_then, wrote_wider}
 use Rattle.gptman_copy.specs.declared.codec.entry.GPTPartitionEntry.{GPTPartitionEntry}
 use Rattle.gptman.specs.declared.table.GPT.{GPT}
-use Rattle.gptman_example.specs.Adding.{placed, unwritten, written, AddsPartition, IsFirstUnused, IsSafe, IsWith, StartsGood}
+use Rattle.gptman_example.specs.Adding.{placed, unwritten, written, AddsPartition, IsFirstUnused, IsReadFrom, IsSafe, IsWith, StartsGood}
 
 -- A value that is read from two good copies of a table is that table, in one of its forms.
 record IsOfTable (g : GPT) (was : Table) : Type 0 where
@@ -102,6 +102,25 @@ module _ (partition : GPTPartitionEntry) (size first : ℕ) (was : Table) (table
       (still_read old mid was (table_in next ∷ []) good.stored only)
       (subst (λ (ss : ℕ). StopsAreReadAs mid new ss (was ∷ table_in next ∷ [])) here (safe start)))
 
+-- A value that was read is so whatever comes after it.
+pub read_before : (table : GPT) (old mid new : DiskState) → Keeps mid new → table.sector_size ≡ 512 → MayBeRead old mid 512 (copy_of table) → IsAsRead table
+    → IsReadFrom old new table
+read_before table old mid new keeps sector accepted value = record {
+  sector = sector;
+  accepted = ⊎_elim (λ first. inl first)
+      (λ second. inr (second.0, ⊎_elim (λ broken. inl broken) (λ rose. inr (rose_before old mid new rose keeps)) second.1))
+      accepted;
+  value = value;
+}
+
+-- There is no place for so many sectors.
+pub without_place : (size : ℕ) (table : GPT) (found : Option ℕ) → 0 < size → FindsPlace IsFirstPlace table size found → found ≡ None
+    → HasNoPlace (IsFreeIn table) table.align size
+without_place size table found sized finds is =
+    let one : max 1 size ≡ size = omega (arith, sized) in
+    subst (λ (n : ℕ). HasNoPlace (IsFreeIn table) table.align n) one
+    (MatchOption-at_none (HasNoPlace (IsFreeIn table) table.align (max 1 size)) (λ s. IsFirstPlace (IsFreeIn table) table.align (max 1 size) s) is finds)
+
 -- The first unused entry became the partition at the place that was found.
 pub with_partition : (partition : GPTPartitionEntry) (size first number : ℕ) (table : GPT) (found : Option ℕ) → 0 < size → IsFirstUnused table number
     → FindsPlace IsFirstPlace table size found → found ≡ Some first → IsWith partition size first table (with_entry table number (placed partition size first))
@@ -130,13 +149,7 @@ module _ (partition : GPTPartitionEntry) (size first : ℕ) (table next : GPT) (
       record {
         table = table;
         next = next;
-        read = record {
-          sector = sector;
-          accepted = ⊎_elim (λ first. inl first)
-              (λ second. inr (second.0, ⊎_elim (λ broken. inl broken) (λ rose. inr (rose_before old mid new rose writing)) second.1))
-              accepted;
-          value = value;
-        };
+        read = read_before table old mid new writing sector accepted value;
         added = added;
         wrote = wrote_then (within_self _) (wrote_wider within_none only.wrote) wrote;
         stored = λ layout. subst (λ (ss : ℕ). IsStored new ss (table_in next)) here (stored (laid layout));

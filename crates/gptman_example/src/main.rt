@@ -1,10 +1,12 @@
 //! Adds a partition of 10 sectors to the table of a disk image: `gptman_example IMAGE`.
 #![tactic(auto)]
 
-ghost use Rattle.std.specs.Prelude.{◌<◌, IfOk, IfSome, OnErr};
+ghost use Rattle.std.specs.Prelude.{◌<◌, IfErr, IfNone, IfOk, IfSome, OnErr};
 ghost use Rattle.gptman.specs.Disk.{FailedOrUntouched, IsHonest, Keeps};
+ghost use Rattle.gptman.specs.Fault.{fault_of};
 ghost use Rattle.gptman.specs.Table.{Table};
-ghost use Rattle.gptman_example.specs.Adding.{AddsPartition, IsFirstUnused, IsSafe, StartsGood};
+ghost use Rattle.gptman_example.specs.Adding.{AddsPartition, AreAllUsed, IsFirstUnused, IsSafe};
+ghost use Rattle.gptman_example.specs.Adding.{RefusesPartition, StartsGood};
 
 use gptman::{Disk, Error, FileDisk, GPT, GPTPartitionEntry, PartitionName, Result};
 use std::alloc::Global;
@@ -29,7 +31,9 @@ pub fn add_partition<D: Disk>(
     ensures added { IsHonest (D.state disk.old) → IfOk result
         (λ first. AddsPartition partition size first (D.state disk.old) (D.state disk.new)) }
 
-    // After an error the disk is as it was, unless it failed.
+    // An error has one of five reasons, and leaves the disk as it was, unless it failed.
+    ensures refused { IsHonest (D.state disk.old) → IfErr result (λ e.
+        RefusesPartition partition size (fault_of e) (D.state disk.old) (D.state disk.new)) }
     ensures kept { IsHonest (D.state disk.old)
         → OnErr result (FailedOrUntouched (D.state disk.old) (D.state disk.new)) }
 
@@ -56,6 +60,7 @@ pub fn add_partition<D: Disk>(
 // The number of the first entry that no partition uses.
 fn first_unused(table: &GPT) -> Option<u32>
     ensures found { IfSome result (IsFirstUnused table.now) }
+    ensures none { IfNone result (AreAllUsed table.now) }
 {
     let (number, _) = table.iter().find(|(_, entry)| entry.is_unused())?;
     Some(number)
