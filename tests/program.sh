@@ -31,6 +31,7 @@ fi
 . "$top/tests/program/writers.sh"
 . "$top/tests/program/kills.sh"
 . "$top/tests/program/other_tools.sh"
+. "$top/tests/program/readme.sh"
 
 # Ends what still runs, and leaves nothing behind.
 clean_up() {
@@ -50,6 +51,7 @@ ulimit -c 0
 PATH=$PATH:/usr/sbin:/sbin
 
 make_images
+try "the example in the README" try_readme
 try "words" try_words
 try "commands" try_commands
 try "closed descriptors" try_closed_descriptors
