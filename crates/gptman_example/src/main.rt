@@ -76,8 +76,8 @@ fn main(rt: HostRuntime) -> Result<ExitCode> {
     Ok(ExitCode::SUCCESS)
 }
 
-// Nothing is printed before this returns and the image is closed again: with standard output closed, it
-// would go into the image.
+// The image is closed again when this returns, before anything is printed: where standard output was
+// closed from the start, the line would else go into the image.
 fn add_to_image<R: Files<File = File>>(files: &R, alloc: Global, image: &str) -> Result<u64> {
     // Other programs that take this lock wait until it is let go, when this returns.
     let turn = File::open(files, image)?;
