@@ -1,9 +1,13 @@
 # Needs `rt` of the Rattle kit on the PATH, bash and coreutils, and nothing else.
 
-.PHONY: gptimg gptguid install demo test bench
+.PHONY: try gptimg gptguid install demo test bench trials
 
 # Where `make install` puts the programs and the manual page.
 PREFIX = /usr/local
+
+# A first look in a minute: builds the program before its proof, and shows the table of an image.
+try:
+	@scripts/try
 
 # Proves and builds the program, and leaves it at ./gptimg.
 gptimg:
@@ -31,3 +35,7 @@ test:
 # valgrind, strace, sgdisk, sfdisk, parted and cgpt that are installed.
 bench:
 	@scripts/bench
+
+# Has a firmware boot images that a stop left, where it is installed. It stands beside the gate.
+trials: gptimg
+	@trials/with_firmware.sh

@@ -37,6 +37,7 @@ guid_program=$top/crates/gptguid/out/gptguid
 . "$top/tests/program/other_tools.sh"
 . "$top/tests/program/guids.sh"
 . "$top/tests/program/guide.sh"
+. "$top/tests/program/readme.sh"
 
 # Ends what still runs, and leaves nothing behind.
 clean_up() {
@@ -56,6 +57,7 @@ ulimit -c 0
 PATH=$PATH:/usr/sbin:/sbin
 
 make_images
+try "the program in README.md" try_readme_program
 try "words" try_words
 try "commands" try_commands
 try "closed descriptors" try_closed_descriptors

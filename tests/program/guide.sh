@@ -4,7 +4,7 @@
 # What stands under a heading `##` is run by one shell, in an empty folder, with the program on PATH as
 # gptimg. In a block of kind `console` a line that begins with `$ ` is a command, one that begins with
 # `> ` goes on with it, and the other lines are what it prints. A block of kind `bash` whose first line
-# is `# NAME` is the file NAME. What stands in a block of kind `text`, or in none, is not run.
+# is `# NAME` is the file NAME. What stands in a block of kind `text` or `rust`, or in none, is not run.
 #
 # A block that names a tool which is not installed is left out, with a line. So what stands on such a
 # block stands in it.
@@ -66,8 +66,8 @@ start_block() {
     file=
     block_start=${#commands[@]}
     case $kind in
-        console | bash | text) ;;
-        *) fails "$document, $heading: the kind of a block" "console, bash or text" "$kind" ;;
+        console | bash | text | rust) ;;
+        *) fails "$document, $heading: the kind of a block" "console, bash, text or rust" "$kind" ;;
     esac
 }
 

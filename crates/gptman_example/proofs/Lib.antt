@@ -1,0 +1,2 @@
+mod Unused
+mod Writing

@@ -1,0 +1,93 @@
+//! Adds a partition of 10 sectors to the table of a disk image: `gptman_example IMAGE`.
+#![tactic(auto)]
+
+ghost use Rattle.std.specs.Prelude.{◌<◌, IfErr, IfNone, IfOk, IfSome, OnErr};
+ghost use Rattle.gptman.specs.Disk.{FailedOrUntouched, IsHonest, Keeps};
+ghost use Rattle.gptman.specs.Fault.{fault_of};
+ghost use Rattle.gptman.specs.Table.{Table};
+ghost use Rattle.gptman_example.specs.Adding.{AddsPartition, AreAllUsed, IsFirstUnused, IsSafe};
+ghost use Rattle.gptman_example.specs.Adding.{RefusesPartition, StartsGood};
+
+use gptman::{Disk, Error, FileDisk, GPT, GPTPartitionEntry, PartitionName, Result};
+use std::alloc::Global;
+use std::env;
+use std::fs::File;
+use std::process::ExitCode;
+use std::rt::Files;
+
+/// Adds a partition of so many sectors to the table on the disk, and answers its first sector.
+///
+/// `NoSpaceLeft` where no entry is unused or no free place is long enough.
+pub fn add_partition<D: Disk>(
+    alloc: Global,
+    disk: &mut D,
+    size: u64,
+    partition: GPTPartitionEntry,
+) -> Result<u64>
+    requires { 0 < size }
+    ensures keeps { Keeps (D.state disk.old) (D.state disk.new) }
+
+    // After Ok the sectors were free before, and the table with the partition stands in both places.
+    ensures added { IsHonest (D.state disk.old) → IfOk result
+        (λ first. AddsPartition partition size first (D.state disk.old) (D.state disk.new)) }
+
+    // An error has one of five reasons, and leaves the disk as it was, unless it failed.
+    ensures refused { IsHonest (D.state disk.old) → IfErr result (λ e.
+        RefusesPartition partition size (fault_of e) (D.state disk.old) (D.state disk.new)) }
+    ensures kept { IsHonest (D.state disk.old)
+        → OnErr result (FailedOrUntouched (D.state disk.old) (D.state disk.new)) }
+
+    // A stop or a fault at any moment leaves the old table or the one with the partition.
+    ensures safe { (was : Table) → StartsGood (D.state disk.old) was
+        → IsSafe partition size was (D.state disk.old) (D.state disk.new) }
+{
+    let mut table = GPT::read_from(alloc, disk, 512)?;
+    let Some(number) = first_unused(&table) else {
+        return Err(Error::NoSpaceLeft);
+    };
+    let Some(first) = table.find_first_place(size)? else {
+        return Err(Error::NoSpaceLeft);
+    };
+    table[number] = GPTPartitionEntry {
+        starting_lba: first,
+        ending_lba: first + (size - 1),
+        ..partition
+    };
+    table.write_into(disk)?;
+    Ok(first)
+}
+
+// The number of the first entry that no partition uses.
+fn first_unused(table: &GPT) -> Option<u32>
+    ensures found { IfSome result (IsFirstUnused table.now) }
+    ensures none { IfNone result (AreAllUsed table.now) }
+{
+    let (number, _) = table.iter().find(|(_, entry)| entry.is_unused())?;
+    Some(number)
+}
+
+fn main(rt: HostRuntime) -> Result<ExitCode> {
+    let Some(image) = env::args(&rt)?.nth(1) else {
+        println!(rt; "usage: gptman_example IMAGE")?;
+        return Ok(ExitCode::FAILURE);
+    };
+    let first = add_to_image(&rt, rt.alloc(), image.as_str())?;
+    println!(rt; "added 10 sectors from sector {first} on")?;
+    Ok(ExitCode::SUCCESS)
+}
+
+// The image is closed again when this returns, before anything is printed: where standard output was
+// closed from the start, the line would else go into the image.
+fn add_to_image<R: Files<File = File>>(files: &R, alloc: Global, image: &str) -> Result<u64> {
+    // Other programs that take this lock wait until it is let go, when this returns.
+    let turn = File::open(files, image)?;
+    turn.lock()?;
+    let mut disk = FileDisk::open(files, image)?;
+    let partition = GPTPartitionEntry {
+        partition_type_guid: *b"\xa2\xa0\xd0\xeb\xe5\xb9\x33\x44\x87\xc0\x68\xb6\xb7\x26\x99\xc7",
+        unique_partition_guid: [0x33; 16], // a real program makes a new one each time
+        partition_name: PartitionName::new(alloc, "Data")?,
+        ..GPTPartitionEntry::empty(alloc)
+    };
+    add_partition(alloc, &mut disk, 10, partition)
+}
