@@ -5,7 +5,7 @@
 # Where `make install` puts the programs and the manual page.
 PREFIX = /usr/local
 
-# A first look in a minute: builds the program before its proof, and shows the table of an image.
+# A first look in half a minute: builds the program before its proof, and shows the table of an image.
 try:
 	@scripts/try
 
