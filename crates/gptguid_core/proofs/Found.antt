@@ -1,6 +1,6 @@
 -- The number of a name, one type after another.
-use Rattle.std.proofs.Common.{◌≡◌, ℕ, List, ◌∷◌, true, false, refl, sym, ap, cond}
-use Rattle.std.specs.Prelude.{Option, Some, find}
+use Rattle.std.proofs.Common.{◌≡◌, ℕ, List, ◌∷◌, true, false, sym, ap, cond}
+use Rattle.std.specs.Prelude.{Some, find}
 use Rattle.std.specs.Option.{option_map}
 use Rattle.std.specs.Str.{bytes_eq}
 use Rattle.gptguid_core.specs.Types.{number_in}

@@ -1,5 +1,5 @@
 -- The order of the bytes on the disk, and that of the text.
-use Rattle.std.proofs.Common.{◌≡◌, ℕ, List, length, slice_index, refl, sym, subst, ap, ◌∙◌, arith}
+use Rattle.std.proofs.Common.{◌≡◌, ℕ, List, length, slice_index, refl, sym, subst, ap, ◌∙◌}
 use Rattle.std.proofs.lemmas.List.{get_or_default}
 use Rattle.uuid.specs.Parts.{swap_fields}
 use Rattle.uuid.specs.Text.{by_index}

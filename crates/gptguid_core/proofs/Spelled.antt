@@ -1,5 +1,5 @@
 -- Texts that are read and written again.
-use Rattle.std.proofs.Common.{◌≡◌, ℕ, ◌+◌, ◌*◌, ◌/◌, ◌%◌, ◌<◌, ◌==◌, ◌&&◌, ◌↔◌, ◌⊎◌, inl, inr, List, [], length, map, slice_index, get_or, Bool, true, false, true≢false, if◌then◌else◌, Option, Some, None, is_some, unwrap_or, Result, Ok, Err, IsOk, IfOk, arith, refl, sym, subst, ap, ◌∙◌}
+use Rattle.std.proofs.Common.{◌≡◌, ℕ, ◌+◌, ◌*◌, ◌/◌, ◌<◌, ◌==◌, ◌&&◌, ◌↔◌, ◌⊎◌, inl, inr, List, [], length, slice_index, get_or, Bool, true, false, true≢false, if◌then◌else◌, Option, Some, None, is_some, unwrap_or, Result, Ok, Err, IsOk, IfOk, arith, refl, sym, subst, ap, ◌∙◌}
 use Rattle.std.proofs.lemmas.Bool.{and_parts, eqb-true}
 use Rattle.std.proofs.lemmas.Bool.Decides.{nat_tests}
 use Rattle.std.proofs.lemmas.List.{get_or-map, length-map}

@@ -1,4 +1,4 @@
-use Rattle.std.proofs.Common.{◌≡◌, ◌∙◌, Some, length, sym, ap}
+use Rattle.std.proofs.Common.{◌∙◌, Some, length, sym, ap}
 use Rattle.uuid.proofs.TextLemmas.{by_index_length}
 use Rattle.gptguid_core.proofs.Spelled.{parsed_at_32}
 use Rattle.gptguid_core.proofs.forms.digits_of.Goals as goal

@@ -1,4 +1,4 @@
-use Rattle.std.proofs.Common.{◌≡◌, ◌∙◌, sym, ap, rules}
+use Rattle.std.proofs.Common.{◌∙◌, sym, ap, rules}
 use Rattle.gptguid_core.specs.Forms.{digits_form}
 use Rattle.gptguid_core.proofs.Spelled.{digits_again, parsed_at_32, read_as}
 use Rattle.gptguid_core.proofs.forms.from_digits.Goals as goal

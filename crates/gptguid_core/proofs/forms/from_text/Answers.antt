@@ -1,4 +1,4 @@
-use Rattle.std.proofs.Common.{◌≡◌, ◌∙◌, Some, List, ℕ, sym, ap, rules}
+use Rattle.std.proofs.Common.{◌∙◌, Some, sym, ap, rules}
 use Rattle.std.specs.Option.{option_map}
 use Rattle.uuid.specs.Text.{hyphenated_text, upper}
 use Rattle.gptguid_core.specs.Forms.{disk_order, text_form}

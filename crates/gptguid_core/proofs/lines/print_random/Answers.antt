@@ -1,6 +1,4 @@
-use Rattle.std.proofs.Common.{subst, rules}
-use Rattle.std.specs.Io.KnownBytes.{Appends}
-use Rattle.gptguid_core.specs.Lines.{digits_line, PrintsRandom}
+use Rattle.std.proofs.Common.{rules}
 use Rattle.gptguid_core.specs.Lines.PrintsRandom.{drawn, failed}
 use Rattle.gptguid_core.proofs.lines.print_random.Goals as goal
 

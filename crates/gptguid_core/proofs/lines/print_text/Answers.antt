@@ -1,4 +1,3 @@
-use Rattle.std.proofs.Common.{append_assoc, refl}
 use Rattle.gptguid_core.proofs.Printing.{line_ends}
 use Rattle.gptguid_core.proofs.lines.print_text.Goals as goal
 

@@ -1,4 +1,4 @@
-use Rattle.std.proofs.Common.{◌≡◌, ◌∙◌, map, sym}
+use Rattle.std.proofs.Common.{◌∙◌, map, sym}
 use Rattle.std.proofs.lemmas.List.{at_drop_more}
 use Rattle.gptguid_core.specs.Types.{number_in}
 use Rattle.gptguid_core.proofs.Found.{hit, miss}
