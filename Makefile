@@ -36,6 +36,8 @@ test:
 bench:
 	@scripts/bench
 
-# Has a firmware boot images that a stop left, where it is installed. It stands beside the gate.
+# Has a firmware boot images that a stop left, and cuts the power of a Linux kernel in the middle of
+# commands, where what these need is installed. They stand beside the gate.
 trials: gptimg
 	@trials/with_firmware.sh
+	@trials/power_cuts.py

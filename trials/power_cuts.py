@@ -1,0 +1,241 @@
+#!/usr/bin/env python3
+"""Cuts the power of a Linux kernel in the middle of commands of gptimg, and reads what is left.
+
+usage: trials/power_cuts.py [--program GPTIMG] [--cuts N] [--seed N]
+
+A virtual machine adds and removes partition 1 of its block device for ever, and writes back what it
+holds as eagerly as it can. It tells each command on its serial line, before it and after it. It is killed at
+a random moment. Then the image has to show the table after the last command that was told as done, or the
+one after the next; where a copy is broken, the first command of the next start mends it. The last line is
+'N passed, M failed'.
+
+Needs qemu-system-x86_64, a kernel in /boot with its modules (Debian's linux-image-cloud-amd64), a static
+busybox and cpio. Where one is missing it says so, and ends with 0. Some 7 seconds a cut.
+"""
+
+import argparse
+import glob
+import os
+import random
+import re
+import shutil
+import subprocess
+import sys
+import tempfile
+import time
+
+DATA_TYPE = "a2a0d0ebe5b9334487c068b6b72699c7"
+KEPT = "77" * 16
+IMAGE_BYTES = 16 << 20
+START_SECONDS = 120
+
+INIT = """#!/bin/busybox sh
+/bin/busybox mount -t proc proc /proc
+/bin/busybox mount -t sysfs sys /sys
+/bin/busybox mount -t devtmpfs dev /dev
+for module in {modules}; do /bin/busybox insmod /$module; done
+echo 1 > /proc/sys/vm/dirty_writeback_centisecs
+echo 1 > /proc/sys/vm/dirty_expire_centisecs
+echo 4096 > /proc/sys/vm/dirty_background_bytes
+echo "kernel saw $(/bin/busybox grep -c 'vda[0-9]' /proc/partitions)"
+k=$(/bin/busybox sed -n 's/.*first=\\([0-9]*\\).*/\\1/p' /proc/cmdline)
+while :; do
+    k=$((k + 1))
+    echo "begin $k"
+    if [ $((k % 2)) = 0 ]; then
+        /bin/gptimg /dev/vda 512 add 1 {type} $(/bin/busybox printf '%032x' $k) 64 first 64 cut
+    else
+        /bin/gptimg /dev/vda 512 remove 1
+    fi
+    echo "done $k $?"
+done
+"""
+
+
+def what_is_missing():
+    """The name of a tool or file that is not there, or None."""
+    for tool in ("qemu-system-x86_64", "busybox", "cpio"):
+        if shutil.which(tool) is None:
+            return tool
+    if not glob.glob("/boot/vmlinuz-*"):
+        return "kernel in /boot"
+    return None
+
+
+def modules_for(version, names):
+    """The files of these modules and of those that they need, each behind what it needs."""
+    needs = {}
+    with open(f"/lib/modules/{version}/modules.dep", encoding="utf-8") as lines:
+        for line in lines:
+            file, _, rest = line.rstrip("\n").partition(":")
+            needs[file] = rest.split()
+    found = []
+
+    def take(file):
+        for other in reversed(needs[file]):
+            take(other)
+        if file not in found:
+            found.append(file)
+
+    for name in names:
+        take(next(it for it in needs if os.path.basename(it).split(".")[0] == name))
+    return found
+
+
+def copy_with_libraries(program, root):
+    """Copies the program, and the libraries that it is linked to, under root."""
+    shutil.copy(program, f"{root}/bin/gptimg")
+    linked = subprocess.run(["ldd", program], capture_output=True, text=True, check=False).stdout
+    for file in re.findall(r"(/\S+)", linked):
+        if os.path.exists(file):
+            os.makedirs(root + os.path.dirname(file), exist_ok=True)
+            shutil.copy(file, root + file)
+
+
+def make_guest(program, version, folder):
+    """Makes the first file system of the guest, and gives its path."""
+    root = f"{folder}/root"
+    for name in ("bin", "proc", "sys", "dev"):
+        os.makedirs(f"{root}/{name}")
+    shutil.copy(shutil.which("busybox"), f"{root}/bin/busybox")
+    copy_with_libraries(program, root)
+    modules = modules_for(version, ("virtio_pci", "virtio_blk"))
+    for file in modules:
+        shutil.copy(f"/lib/modules/{version}/{file}", root)
+    with open(f"{root}/init", "w", encoding="utf-8") as init:
+        names = " ".join(os.path.basename(file) for file in modules)
+        init.write(INIT.replace("{modules}", names).replace("{type}", DATA_TYPE))
+    os.chmod(f"{root}/init", 0o755)
+    files = subprocess.run(["find", "."], cwd=root, capture_output=True, check=True).stdout
+    with open(f"{folder}/initrd", "wb") as archive:
+        subprocess.run(
+            ["cpio", "--quiet", "-o", "-H", "newc"], cwd=root, input=files, stdout=archive, check=True
+        )
+    return f"{folder}/initrd"
+
+
+def words_of_machine(kernel, initrd, image, first):
+    """The command line of the virtual machine, whose commands are numbered from behind first."""
+    drive = f"file={image},format=raw,if=virtio,cache=writeback,throttling.iops-write=60"
+    return [
+        "qemu-system-x86_64", "-machine", "q35,accel=tcg", "-cpu", "max", "-m", "256", "-nographic",
+        "-nodefaults", "-serial", "stdio", "-kernel", kernel, "-initrd", initrd,
+        "-append", f"console=ttyS0 quiet loglevel=0 first={first}", "-drive", drive,
+    ]
+
+
+def run_until_cut(words, log, enough, wait):
+    """Starts the machine, waits for this text and so many seconds more, and kills it. What it told."""
+    with open(log, "wb") as out:
+        machine = subprocess.Popen(
+            words, stdin=subprocess.DEVNULL, stdout=out, stderr=subprocess.DEVNULL
+        )
+        limit = time.time() + START_SECONDS
+        while enough not in read_log(log) and time.time() < limit:
+            time.sleep(0.05)
+        time.sleep(wait)
+        machine.kill()
+        machine.wait()
+    return read_log(log)
+
+
+def read_log(log):
+    """What stands in the file."""
+    with open(log, encoding="latin1") as text:
+        return text.read()
+
+
+class Image:
+    """The image on which the guest works, as gptimg reads it from outside."""
+
+    def __init__(self, program, path):
+        self.program = program
+        self.path = path
+        with open(path, "wb") as file:
+            file.truncate(IMAGE_BYTES)
+        self.run("new", "5a" * 16)
+        self.run("mbr", "plain")
+        self.run("add", "2", DATA_TYPE, KEPT, "64", "last", "64", "kept")
+
+    def run(self, *words):
+        """Runs a command."""
+        return subprocess.run(
+            [self.program, self.path, "512", *words], capture_output=True, text=True, check=False
+        )
+
+    def number_shown(self):
+        """The number of the command whose partition is shown, None for no partition, or "fault"."""
+        shown = self.run("show")
+        if shown.returncode != 0 or KEPT not in shown.stdout:
+            return "fault"
+        found = re.search(r"^1 \S+ ([0-9a-f]{32})", shown.stdout, re.M)
+        return int(found.group(1), 16) if found else None
+
+    def is_whole(self):
+        """Whether both copies are good and one table."""
+        return "same yes" in self.run("check").stdout
+
+
+def number_after(command):
+    """What is shown after the command with this number: even ones add, odd ones remove."""
+    return command if command > 0 and command % 2 == 0 else None
+
+
+def judge(told, image, first):
+    """Whether what is left is right, the number of the last command on the image, and a line on it."""
+    done = re.findall(r"done (\d+) (\d+)", told)
+    if not done:
+        return False, first, "no command was done: " + told[-300:]
+    last = int(done[-1][0])
+    refused = [number for number, status in done if status != "0"]
+    shown = image.number_shown()
+    whole = "both copies whole" if image.is_whole() else "one copy broken"
+    saw = re.findall(r"kernel saw (\d+)", told)
+    line = f"{len(done)} commands, {whole}, at the start the kernel saw {' '.join(saw)} partitions"
+    if refused:
+        return False, last, f"refused: {refused}; {line}"
+    if shown == number_after(last):
+        return True, last, f"read as the last that was done; {line}"
+    if shown == number_after(last + 1):
+        return True, last + 1, f"read as the next; {line}"
+    return False, last, f"shown {shown} after {last}; {line}"
+
+
+def cut_all(program, cuts, seed, folder):
+    """Makes all cuts, and gives how many were right and how many were not."""
+    kernel = sorted(glob.glob("/boot/vmlinuz-*"))[-1]
+    initrd = make_guest(program, kernel.split("vmlinuz-")[1], folder)
+    image = Image(program, f"{folder}/disk.img")
+    chance = random.Random(seed)
+    passed = first = 0
+    for cut in range(1, cuts + 1):
+        words = words_of_machine(kernel, initrd, image.path, first)
+        enough = f"done {first + 2} "
+        told = run_until_cut(words, f"{folder}/log", enough, chance.uniform(0, 1.5))
+        is_right, first, line = judge(told, image, first)
+        passed += is_right
+        print(f"{'ok    ' if is_right else 'FAILED'}  cut {cut}: {line}", flush=True)
+    return passed, cuts - passed
+
+
+def main():
+    """Reads the words, and makes the cuts."""
+    top = os.path.dirname(os.path.dirname(os.path.abspath(__file__)))
+    words = argparse.ArgumentParser(description=__doc__.split("\n", maxsplit=1)[0])
+    words.add_argument("--program", default=f"{top}/gptimg")
+    words.add_argument("--cuts", type=int, default=20)
+    words.add_argument("--seed", type=int, default=1)
+    asked = words.parse_args()
+    missing = what_is_missing()
+    if missing:
+        print(f"power_cuts.py: left out, as there is no {missing}")
+        return 0
+    with tempfile.TemporaryDirectory() as folder:
+        program = os.path.realpath(asked.program)
+        passed, failed = cut_all(program, asked.cuts, asked.seed, folder)
+    print(f"{passed} passed, {failed} failed")
+    return 1 if failed else 0
+
+
+if __name__ == "__main__":
+    sys.exit(main())
