@@ -1,18 +1,19 @@
 """Tells how many of the states that a stop may leave lose the partition table.
 
-Each program adds the same partition to an image, and runs once under strace. Its writes and syncs of
-the image are replayed. At each moment a stop may leave each write that is not yet synced old, new,
-garbage or torn; each such state is read, and counted as lost where neither the table before nor the
-one after is read from it (states.py and judging.py say how).
+Each program adds the same partition to an image, and runs once under strace. Its writes and syncs
+of the image are replayed. At each moment a stop may leave each write that is not yet synced old,
+new, garbage or torn; each such state is read, and counted as lost where neither the table before
+nor the one after is read from it (states.py and judging.py say how).
 
 What it leaves out: writes through mapped memory and io_uring, and changes of length (a program that
 makes one is told, and not judged); caches of a disk that lie about a sync; sectors other than 512
-bytes; sectors that spoil others. Not every mixture of fates is tried, and the tried ones are not equally
-likely: a share is no probability. That it is 0 or not says more.
+bytes; sectors that spoil others. Not every mixture of fates is tried, and the tried ones are not
+equally likely: a share is no probability. That it is 0 or not says more.
 """
 import argparse
 import json
 import os
+import shutil
 import sys
 import tempfile
 
@@ -39,9 +40,9 @@ def installed(gptimg, folder):
     for program in programs(gptimg, folder):
         if program.is_there():
             there.append(program)
-            print("%s: %s" % (program.name, program.told_version() or "of this tree"))
+            print("%s: %s" % (program.name, program.told_version()))
         else:
-            print("%s is not installed, and is left out" % program.name)
+            print("%s: not installed, and left out" % program.name)
     return there
 
 
@@ -62,6 +63,8 @@ def write(path, text):
 def main():
     """Does it all."""
     chosen = options()
+    if not shutil.which("strace"):
+        sys.exit("strace is not installed, and without it no run can be recorded")
     with tempfile.TemporaryDirectory() as folder:
         folder = os.path.realpath(folder)
         there = installed(os.path.abspath(chosen.gptimg), folder)

@@ -106,13 +106,14 @@ def make(size, partitions):
 def read_copy(image, place):
     """The table of the copy whose header is in this sector, or nothing where it has a fault.
 
-    A table is a tuple that is the same for both copies of one table.
+    A table is the GUID of its disk and its entries. So it is the same in both copies, and where it
+    was only fitted to another length.
     """
     raw = image.read(place, 1)
     if raw is None:
         return None
-    (signature, revision, size, checksum, reserved, own, other, first, last, disk, array_at, count,
-     entry_bytes, array_checksum) = HEADER.unpack(raw[:92])
+    (signature, revision, size, checksum, _, _, _, _, _, disk, array_at, count, entry_bytes,
+     array_checksum) = HEADER.unpack(raw[:92])
     if signature != SIGNATURE or revision != REVISION or size != 92:
         return None
     if zlib.crc32(raw[:16] + bytes(4) + raw[20:92]) != checksum or entry_bytes != ENTRY_BYTES:
@@ -120,7 +121,7 @@ def read_copy(image, place):
     array = image.read(array_at, -(-count * ENTRY_BYTES // SECTOR))
     if array is None or zlib.crc32(array[:count * ENTRY_BYTES]) != array_checksum:
         return None
-    return frozenset((own, other)), first, last, disk, array[:count * ENTRY_BYTES]
+    return disk, array[:count * ENTRY_BYTES]
 
 
 def read(image):
@@ -131,14 +132,10 @@ def read(image):
 def listing(table):
     """The used partitions of a table: number -> first sector, last sector, name."""
     partitions = {}
-    for number in range(len(table[4]) // ENTRY_BYTES):
-        raw = table[4][number * ENTRY_BYTES:(number + 1) * ENTRY_BYTES]
+    array = table[1]
+    for number in range(len(array) // ENTRY_BYTES):
+        raw = array[number * ENTRY_BYTES:(number + 1) * ENTRY_BYTES]
         if raw[:16] != bytes(16):
             name = raw[56:].decode("utf-16-le", "replace").split("\0")[0]
             partitions[number + 1] = struct.unpack("<QQ", raw[32:48]) + (name,)
     return partitions
-
-
-def disk_guid(table):
-    """The GUID of the disk, as the programs print it."""
-    return str(uuid.UUID(bytes_le=table[3])).upper()

@@ -1,7 +1,7 @@
 """Runs a program from a start, and judges each state that a stop in the middle of it may leave.
 
-The tables on the way are the one at the start, and the one after each command of the program. A state
-loses the table where none of them is read from it: nothing is read, or some other table is.
+The tables on the way are the one at the start, and the one after each command of the program. A
+state loses the table where none of them is read from it: nothing is read, or some other table is.
 
 It is judged twice. By the format: the copy in sector 1 is taken where it is right, else the one in
 the last sector. And by the program itself, which lists the state's partitions: whether it looks for
@@ -76,7 +76,8 @@ class Trial:
             self.events += events
             if status:
                 wrote = any(isinstance(event, Write) for event in self.events)
-                return "%s: %s" % ("failed" if wrote else "refused", " ".join(printed.split())[:200])
+                told = " ".join(printed.replace(self.path, "IMAGE").split())
+                return "%s: %s" % ("failed" if wrote else "refused", told[:200])
             with open(self.path, "rb") as file:
                 final = file.read()
             self.tables.append(gpt.read(gpt.Image(final)))
@@ -100,18 +101,17 @@ class Trial:
         lost = {key for key, (_, image, _) in found.items() if self.is_lost(image)}
         unread = {key for key, (_, image, _) in found.items() if self.is_unread(image)}
         mild = self.states(mixtures, False)
-        examples = [found[key][0] for key in found if key in lost]
         return {
             "states": len(found), "lost": len(lost), "lost_by_own_reading": len(unread),
             "moments": len(self.events) + 1,
             "moments_that_lose": len(set().union(*(found[key][2] for key in lost))),
             "states_without_garbage": len(mild),
             "lost_without_garbage": sum(self.is_lost(image) for _, image, _ in mild.values()),
-            "examples": examples[:3],
+            "examples": [found[key][0] for key in found if key in lost][:3],
         }
 
     def states(self, mixtures, garbage):
-        """The states that differ: key -> what was going on, the image, the moments that leave it."""
+        """The states that differ: key -> what was going on, the image, and its moments."""
         found = {}
         for moment, text, image in Enumeration(self.base, self.events, mixtures, garbage).states():
             found.setdefault(image.key(), (text, image, set()))[2].add(moment)

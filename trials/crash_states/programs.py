@@ -20,12 +20,12 @@ class Program:
 
     def __init__(self, name, add, read, **others):
         self.name = name
-        self.needs = add[0]
+        self.needs = [add[0]] + others.get("reader", [])
         self.add = add
         self.read = read
         self.before = others.get("before", {})
         self.words = others.get("words", "")
-        self.version = others.get("version", [self.needs, "--version"])
+        self.version = others.get("version", [add[0], "--version"])
 
     def commands(self, start, image):
         """The commands that add the partition, from this start."""
@@ -34,12 +34,14 @@ class Program:
 
     def is_there(self):
         """Whether it is installed."""
-        return bool(shutil.which(self.needs, path=recording.ENVIRONMENT["PATH"]))
+        path = recording.ENVIRONMENT["PATH"]
+        return all(shutil.which(needed, path=path) for needed in self.needs)
 
     def told_version(self):
         """The line in which it tells its version."""
-        printed = recording.run(self.version).stdout.strip() if self.version else ""
-        return printed.split("\n")[0]
+        if not self.version:
+            return self.needs[0]
+        return recording.run(self.version).stdout.strip().split("\n")[0]
 
 
 def programs(gptimg, folder):
@@ -51,18 +53,19 @@ def programs(gptimg, folder):
         "primary header zeroed", "primary entries damaged", "backup header zeroed", "after growth")}
     place = "start=%d, size=%d, name=foo\n" % (FIRST, COUNT)
     return [
-        Program("gptimg", [gptimg, "IMAGE", "512", "add", "3", TYPE, "77" * 16, str(COUNT), "first",
-                           "2048", "foo"], lambda image: read_gptimg(gptimg, image), before=grow,
-                version=None),
+        Program("gptimg", [gptimg, "IMAGE", "512", "add", "3", TYPE, "77" * 16, str(COUNT),
+                           "first", "2048", "foo"], lambda image: read_gptimg(gptimg, image),
+                before=grow, version=None),
         Program("sgdisk", ["sgdisk", "-n", "3:%d:%d" % (FIRST, LAST), "IMAGE"], read_sgdisk),
         Program("sfdisk", ["sfdisk", "-q", "--append", "IMAGE"], read_sfdisk, words=place),
-        Program("parted", ["parted", "-s", "-f", "IMAGE", "unit", "s", "mkpart", "foo", str(FIRST),
-                           str(LAST)], read_parted),
-        Program("cgpt", ["cgpt", "add", "-i", "3", "-b", str(FIRST), "-s", str(COUNT), "-t", "data",
-                         "-l", "foo", "IMAGE"], read_cgpt, before=repair,
+        Program("parted", ["parted", "-s", "-f", "IMAGE", "unit", "s", "mkpart", "foo",
+                           str(FIRST), str(LAST)], read_parted),
+        Program("cgpt", ["cgpt", "add", "-i", "3", "-b", str(FIRST), "-s", str(COUNT), "-t",
+                         "data", "-l", "foo", "IMAGE"], read_cgpt, before=repair,
                 version=["dpkg-query", "-W", "-f", "Debian package cgpt ${Version}", "cgpt"]),
         Program("systemd-repart", ["systemd-repart", "--definitions=" + folder, "--dry-run=no",
-                                   "--empty=refuse", "IMAGE"], read_sfdisk),
+                                   "--empty=refuse", "IMAGE"], read_sfdisk,
+                reader=["sfdisk"]),
     ]
 
 
@@ -92,11 +95,12 @@ def read_sgdisk(image):
 def read_sfdisk(image):
     """The listing of `sfdisk --json`. systemd-repart reads by the same library, libfdisk."""
     ended = recording.run(["sfdisk", "--quiet", "--json", image])
-    begin = ended.stdout.find("{")
-    if ended.returncode or begin < 0:
+    try:
+        told = ended.stdout[ended.stdout.index("{"):ended.stdout.rindex("}") + 1]
+        table = json.loads(told)["partitiontable"]
+    except ValueError:
         return None
-    table = json.loads(ended.stdout[begin:ended.stdout.rindex("}") + 1])["partitiontable"]
-    if table["label"] != "gpt":
+    if ended.returncode or table["label"] != "gpt":
         return None
     return {int(p["node"][len(image):]): (p["start"], p["start"] + p["size"] - 1, p.get("name", ""))
             for p in table.get("partitions", [])}

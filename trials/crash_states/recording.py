@@ -1,9 +1,9 @@
 """Runs a program under strace, and gives its writes and syncs of the image in their order.
 
-Seen are write, pwrite64, writev, pwritev, fsync, fdatasync, syncfs and sync. Other ways to change the
-image (mapped memory, rings and queues, copies in the kernel, changes of length, descriptors that sync
-by themselves) are told, and nothing is said of such a run. Holes are no writes: that no byte of a table
-was changed by one shows when the record is replayed.
+Seen are write, pwrite64, writev, pwritev, fsync, fdatasync, syncfs and sync. Other ways to change
+the image (mapped memory, rings and queues, copies in the kernel, changes of length, descriptors that
+sync by themselves) are told, and nothing is said of such a run. Holes are no writes: where one
+changed a byte, the record does not replay to the image that the program left.
 """
 import os
 import re
@@ -11,8 +11,8 @@ import subprocess
 
 from states import Write
 
-CALLS = ("open,openat,openat2,creat,read,readv,write,pwrite64,writev,pwritev,pwritev2,lseek,ftruncate,"
-         "truncate,fsync,fdatasync,sync,syncfs,sync_file_range,msync,mmap,dup,dup2,dup3,fcntl,close,"
+CALLS = ("open,openat,openat2,creat,read,readv,write,pwrite64,writev,pwritev,pwritev2,lseek,"
+         "ftruncate,truncate,fsync,fdatasync,sync,syncfs,msync,mmap,dup,dup2,dup3,fcntl,close,"
          "sendfile,copy_file_range,splice,io_uring_enter,io_submit")
 UNSEEN = {"pwritev2", "ftruncate", "truncate", "msync", "sendfile", "copy_file_range", "splice"}
 ASYNCHRONOUS = {"io_uring_enter", "io_submit"}

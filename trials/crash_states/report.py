@@ -1,15 +1,23 @@
 """The results as a table, and as a chart."""
 from html import escape
 
-ROW, TITLE, LEFT, WIDTH, RIGHT = 17, 30, 130, 480, 70
+ROW, TITLE, LEFT, WIDTH, RIGHT = 18, 30, 130, 460, 110
+DARK, LIGHT = "#9a3412", "#e3a98a"
 
 
-def share(result):
-    """The share of lost states in percent, and as a text."""
-    if "fault" in result:
-        return 0.0, result["fault"].split(":")[0]
-    part = 100.0 * result["lost"] / result["states"]
-    return part, "%.1f%%" % part if result["lost"] else "0"
+def fault(result):
+    """In a word why a trial has no figures."""
+    return result["fault"].split(":")[0]
+
+
+def share(result, kind="lost"):
+    """The share of lost states in percent."""
+    return 100.0 * result[kind] / result["states"]
+
+
+def percent(part):
+    """A share as a text."""
+    return "%.1f%%" % part if part else "0"
 
 
 def part_of(count, whole):
@@ -32,44 +40,53 @@ def lines(results):
             continue
         yield row % (
             result["program"], result["writes"], result["syncs"],
-            part_of(result["moments_that_lose"], result["moments"]), share(result)[1],
+            part_of(result["moments_that_lose"], result["moments"]), percent(share(result)),
             part_of(result["lost"], result["states"]),
             part_of(result["lost_by_own_reading"], result["states"]),
             part_of(result["lost_without_garbage"], result["states_without_garbage"]))
 
 
 def chart(results):
-    """The chart, as the text of an SVG file: a bar for each program from each start."""
-    shapes, at, start = [], 34, None
+    """The chart, as the text of an SVG file: two bars for each program from each start."""
+    shapes, at, start = [], 52, None
     for result in results:
         if result["start"] != start:
             start = result["start"]
             shapes.append(text(8, at + TITLE - 8, "Start: " + start, "bold"))
             at += TITLE
-        shapes += bar(at, result)
+        shapes += row_of(at, result)
         at += ROW
-    head = text(8, 22, "Crash states that lose the table", "head")
-    axis = ['<path d="M%d 34V%d" stroke="#999"/>' % (LEFT, at + 4)]
-    size = "%d %d" % (LEFT + WIDTH + RIGHT, at + 12)
     return "\n".join([
-        '<svg xmlns="http://www.w3.org/2000/svg" viewBox="0 0 %s" font-family="sans-serif"'
-        ' font-size="12">' % size,
+        '<svg xmlns="http://www.w3.org/2000/svg" viewBox="0 0 %d %d" font-family="sans-serif"'
+        ' font-size="12">' % (LEFT + WIDTH + RIGHT, at + 12),
         '<title>Share of the tried crash states that lose the table</title>',
         '<style>.bold{font-weight:bold}.head{font-size:15px;font-weight:bold}.end{text-anchor:end}'
         '</style>',
-        '<rect width="100%" height="100%" fill="#fff"/>', head, *shapes, *axis, "</svg>", ""])
+        '<rect width="100%" height="100%" fill="#fff"/>',
+        text(8, 22, "Share of the tried crash states that lose the table", "head"),
+        bar(8, 34, 14, 8, DARK), text(28, 43, "read by the rules of the format"),
+        bar(238, 34, 14, 8, LIGHT), text(258, 43, "read by the program itself"),
+        *shapes, '<path d="M%d 60V%d" stroke="#999"/>' % (LEFT, at + 4), "</svg>", ""])
 
 
-def bar(at, result):
+def row_of(at, result):
     """The shapes of a row."""
-    part, words = share(result)
-    width = WIDTH * part / 100
-    color = "#1a7f37" if result["program"] == "gptimg" else "#b35900"
     yield text(LEFT - 6, at + 12, result["program"], "end")
-    if part:
-        yield '<rect x="%d" y="%d" width="%.1f" height="%d" fill="%s"/>' % (
-            LEFT, at + 2, width, ROW - 4, color)
-    yield text(LEFT + 5 + width, at + 12, words)
+    if "fault" in result:
+        yield text(LEFT + 5, at + 12, fault(result))
+        return
+    parts = [share(result, kind) for kind in ("lost", "lost_by_own_reading")]
+    for down, part, color in zip((2, 9), parts, (DARK, LIGHT)):
+        if part:
+            yield bar(LEFT, at + down, WIDTH * part / 100, 6, color)
+    words = "0" if not any(parts) else ", ".join(map(percent, parts))
+    yield text(LEFT + 5 + WIDTH * max(parts) / 100, at + 12, words)
+
+
+def bar(across, down, width, height, color):
+    """A bar at a place."""
+    return '<rect x="%d" y="%d" width="%.1f" height="%d" fill="%s"/>' % (
+        across, down, width, height, color)
 
 
 def text(across, down, words, kind=""):

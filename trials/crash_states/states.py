@@ -86,10 +86,14 @@ class Enumeration:
             yield [letter * size for size in sizes]
         for index, size in enumerate(sizes):
             for rest in OLD, NEW:
-                for own in [letter * size for letter in letters if letter != rest] + self.torn(size):
+                for own in self.others(size, letters, rest):
                     yield [own if i == index else rest * s for i, s in enumerate(sizes)]
         for _ in range(self.mixtures if len(sizes) > 1 else min(self.mixtures, 4)):
             yield [self.by_chance(size, letters) for size in sizes]
+
+    def others(self, size, letters, rest):
+        """The fates of a write other than the one that the rest has."""
+        return [letter * size for letter in letters if letter != rest] + self.torn(size)
 
     def by_chance(self, size, letters):
         """A write that is whole or torn by chance."""
