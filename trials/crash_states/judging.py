@@ -145,7 +145,7 @@ class Trial:
 
 
 def agrees(listed, wanted):
-    """Whether a program's listing is that of a table. What it does not tell of names is let pass."""
+    """Whether a program's listing is that of a table. A name that it does not tell may be any."""
     if listed is None or listed.keys() != wanted.keys():
         return False
     return all(listed[n][:2] == wanted[n][:2] and listed[n][2] in (None, wanted[n][2])

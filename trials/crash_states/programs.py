@@ -70,8 +70,7 @@ def programs(gptimg, folder):
 
 
 # How each lists a table: number -> first sector, last sector, and the name where it tells it. None
-# where it does not list one. A status other than 0, and words that the table is a new or broken one,
-# are taken for no table.
+# where it lists none: by its status, or by words that it would make a new one.
 
 def read_gptimg(gptimg, image):
     """The listing of `gptimg show`."""

@@ -1,9 +1,9 @@
 """Runs a program under strace, and gives its writes and syncs of the image in their order.
 
 Seen are write, pwrite64, writev, pwritev, fsync, fdatasync, syncfs and sync. Other ways to change
-the image (mapped memory, rings and queues, copies in the kernel, changes of length, descriptors that
-sync by themselves) are told, and nothing is said of such a run. Holes are no writes: where one
-changed a byte, the record does not replay to the image that the program left.
+the image (mapped memory, io_uring, copies in the kernel, changes of length, descriptors that sync
+by themselves) are told, and nothing is said of such a run. Holes are no writes: where one changed a
+byte, the record does not replay to the image that the program left.
 """
 import os
 import re
