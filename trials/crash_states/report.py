@@ -1,7 +1,7 @@
 """The results as a table, and as a chart."""
 from html import escape
 
-ROW, TITLE, LEFT, WIDTH, RIGHT = 18, 30, 130, 460, 110
+ROW, TITLE, LEFT, WIDTH, ACROSS = 18, 30, 130, 460, 700
 DARK, LIGHT = "#9a3412", "#e3a98a"
 
 
@@ -57,8 +57,8 @@ def chart(results):
         shapes += row_of(at, result)
         at += ROW
     return "\n".join([
-        '<svg xmlns="http://www.w3.org/2000/svg" viewBox="0 0 %d %d" font-family="sans-serif"'
-        ' font-size="12">' % (LEFT + WIDTH + RIGHT, at + 12),
+        '<svg xmlns="http://www.w3.org/2000/svg" viewBox="0 0 %d %d" width="%d"'
+        ' font-family="sans-serif" font-size="12">' % (ACROSS, at + 12, ACROSS),
         '<title>Share of the tried crash states that lose the table</title>',
         '<style>.bold{font-weight:bold}.head{font-size:15px;font-weight:bold}.end{text-anchor:end}'
         '</style>',
