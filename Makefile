@@ -1,6 +1,6 @@
 # Needs `rt` of the Rattle kit on the PATH, bash and coreutils, and nothing else.
 
-.PHONY: try gptimg gptguid install demo test bench trials
+.PHONY: try gptimg gptguid install demo test bench crash-states trials
 
 # Where `make install` puts the programs and the manual page.
 PREFIX = /usr/local
@@ -35,6 +35,13 @@ test:
 # valgrind, strace, sgdisk, sfdisk, parted and cgpt that are installed.
 bench:
 	@scripts/bench
+
+# Tells how many of the states that a stop may leave lose the table, of the program and of those of sgdisk,
+# sfdisk, parted, cgpt and systemd-repart that are installed. Needs python3 and strace. Draws
+# docs/crash-states.svg, and leaves the figures in crash-states.json.
+crash-states: gptimg
+	@python3 -B -m unittest discover -q trials/crash_states
+	@python3 -B trials/crash_states --json crash-states.json --chart docs/crash-states.svg
 
 # Has a firmware boot images that a stop left, and cuts the power of a Linux kernel in the middle of
 # commands, where what these need is installed. They stand beside the gate.

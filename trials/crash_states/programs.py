@@ -1,0 +1,123 @@
+"""The programs: how each adds a partition, and how each reads a table.
+
+The partition is the third one, from sector 26624 to 28671. systemd-repart chooses its place itself.
+"""
+import json
+import os
+import re
+import shutil
+
+import recording
+
+FIRST, COUNT = 26624, 2048
+LAST = FIRST + COUNT - 1
+TYPE = "af3dc60f838472478e793d69d8477de4"
+REPART = "[Partition]\nType=srv\nLabel=foo\nSizeMinBytes=1M\nSizeMaxBytes=1M\n"
+
+
+class Program:
+    """A program and its ways."""
+
+    def __init__(self, name, add, read, **others):
+        self.name = name
+        self.needs = [add[0]] + others.get("reader", [])
+        self.add = add
+        self.read = read
+        self.before = others.get("before", {})
+        self.words = others.get("words", "")
+        self.version = others.get("version", [add[0], "--version"])
+
+    def commands(self, start, image):
+        """The commands that add the partition, from this start."""
+        return [[image if word == "IMAGE" else word for word in command]
+                for command in self.before.get(start, []) + [self.add]]
+
+    def is_there(self):
+        """Whether it is installed."""
+        path = recording.ENVIRONMENT["PATH"]
+        return all(shutil.which(needed, path=path) for needed in self.needs)
+
+    def told_version(self):
+        """The line in which it tells its version."""
+        if not self.version:
+            return self.needs[0]
+        return recording.run(self.version).stdout.strip().split("\n")[0]
+
+
+def programs(gptimg, folder):
+    """All programs. The definitions of systemd-repart are laid into the folder."""
+    with open(os.path.join(folder, "10-foo.conf"), "w", encoding="ascii") as file:
+        file.write(REPART)
+    grow = {"after growth": [[gptimg, "IMAGE", "512", "grow"]]}
+    repair = {start: [["cgpt", "repair", "IMAGE"]] for start in (
+        "primary header zeroed", "primary entries damaged", "backup header zeroed", "after growth")}
+    place = "start=%d, size=%d, name=foo\n" % (FIRST, COUNT)
+    return [
+        Program("gptimg", [gptimg, "IMAGE", "512", "add", "3", TYPE, "77" * 16, str(COUNT),
+                           "first", "2048", "foo"], lambda image: read_gptimg(gptimg, image),
+                before=grow, version=None),
+        Program("sgdisk", ["sgdisk", "-n", "3:%d:%d" % (FIRST, LAST), "IMAGE"], read_sgdisk),
+        Program("sfdisk", ["sfdisk", "-q", "--append", "IMAGE"], read_sfdisk, words=place),
+        Program("parted", ["parted", "-s", "-f", "IMAGE", "unit", "s", "mkpart", "foo",
+                           str(FIRST), str(LAST)], read_parted),
+        Program("cgpt", ["cgpt", "add", "-i", "3", "-b", str(FIRST), "-s", str(COUNT), "-t",
+                         "data", "-l", "foo", "IMAGE"], read_cgpt, before=repair,
+                version=["dpkg-query", "-W", "-f", "Debian package cgpt ${Version}", "cgpt"]),
+        Program("systemd-repart", ["systemd-repart", "--definitions=" + folder, "--dry-run=no",
+                                   "--empty=refuse", "IMAGE"], read_sfdisk,
+                reader=["sfdisk"]),
+    ]
+
+
+# How each lists a table: number -> first sector, last sector, and the name where it tells it. None
+# where it lists none: by its status, or by words that it would make a new one.
+
+def read_gptimg(gptimg, image):
+    """The listing of `gptimg show`."""
+    ended = recording.run([gptimg, image, "512", "show"])
+    if ended.returncode:
+        return None
+    found = re.findall(r"^(\d+) \S+ \S+ (\d+)\.\.(\d+) \S+ (.*)$", ended.stdout, re.M)
+    return {int(n): (int(first), int(last), name) for n, first, last, name in found}
+
+
+def read_sgdisk(image):
+    """The listing of `sgdisk -p`."""
+    ended = recording.run(["sgdisk", "-p", image])
+    if ended.returncode or "Disk identifier (GUID)" not in ended.stdout or re.search(
+            "Creating new GPT entries|converting MBR|invalid GPT", ended.stdout):
+        return None
+    found = re.findall(r"^ +(\d+) +(\d+) +(\d+) +[\d.]+ \w+ +\S+ *(.*)$", ended.stdout, re.M)
+    return {int(n): (int(first), int(last), name) for n, first, last, name in found}
+
+
+def read_sfdisk(image):
+    """The listing of `sfdisk --json`. systemd-repart reads by the same library, libfdisk."""
+    ended = recording.run(["sfdisk", "--quiet", "--json", image])
+    try:
+        told = ended.stdout[ended.stdout.index("{"):ended.stdout.rindex("}") + 1]
+        table = json.loads(told)["partitiontable"]
+    except ValueError:
+        return None
+    if ended.returncode or table["label"] != "gpt":
+        return None
+    return {int(p["node"][len(image):]): (p["start"], p["start"] + p["size"] - 1, p.get("name", ""))
+            for p in table.get("partitions", [])}
+
+
+def read_parted(image):
+    """The listing of `parted -m print`."""
+    ended = recording.run(["parted", "-s", "-m", image, "unit", "s", "print"])
+    if ended.returncode or ":gpt:" not in ended.stdout:
+        return None
+    found = re.findall(r"^(\d+):(\d+)s:(\d+)s:\d+s:[^:]*:(.*):[^:]*;$", ended.stdout, re.M)
+    return {int(n): (int(first), int(last), name) for n, first, last, name in found}
+
+
+def read_cgpt(image):
+    """The listing of `cgpt show -q`, which tells no names."""
+    ended = recording.run(["cgpt", "show", "-q", image])
+    if ended.returncode:
+        return None
+    found = re.findall(r"^ *(\d+) +(\d+) +(\d+) ", ended.stdout, re.M)
+    return {int(n): (int(first), int(first) + int(count) - 1, None) for first, count, n in found}
