@@ -55,6 +55,18 @@ entry_laid_out g i e ss len laid = record {
   fits = laid.fits;
 }
 
+-- What is read from two good copies is their table, and with the partition it keeps the stated layout.
+from_good : (partition : GPTPartitionEntry) (size first : ℕ) (table next : GPT) (was : Table) (old mid : DiskState) → StartsGood old was → table.sector_size ≡ 512
+    → MayBeRead old mid 512 (copy_of table) → IsWith partition size first table next → (table_in table ≡ was) × HasLayout next old.size
+from_good partition size first table next was old mid good sector accepted added =
+    let of = of_table old mid table was good.stored accepted in
+    let laid : IsLaidOut (table_in table) table.sector_size old.size =
+    subst (λ (t : Table). IsLaidOut t table.sector_size old.size) (sym of.same) (subst (λ (ss : ℕ). IsLaidOut was ss old.size) (sym sector) good.layout) in (
+      of.same,
+      subst (λ (g : GPT). HasLayout g old.size) (sym added.next_is)
+          (record { table = entry_laid_out table added.number (placed partition size first) table.sector_size old.size laid; form = of.form }),
+    )
+
 -- While it is read, a stop leaves the table that was.
 still_read : (old mid : DiskState) (was : Table) (more : List Table) → IsStored old 512 was → OnlyRead old mid → StopsAreReadAs old mid 512 (was ∷ more)
 still_read old mid was more stored only b left =
@@ -154,4 +166,5 @@ module _ (partition : GPTPartitionEntry) (size first : ℕ) (table next : GPT) (
         wrote = wrote_then (within_self _) (wrote_wider within_none only.wrote) wrote;
         stored = λ layout. subst (λ (ss : ℕ). IsStored new ss (table_in next)) here (stored (laid layout));
         alone = λ layout. alone (laid layout);
+        good = λ was good. from_good partition size first table next was old mid good sector accepted added;
       }

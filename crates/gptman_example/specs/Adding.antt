@@ -48,6 +48,7 @@ pub record IsReadFrom (old new : DiskState) (table : GPT) : Type 0 where
   pub value : IsAsRead table
 
 -- The table that was read got the partition, and was written: where it has the stated layout both places hold it, and each copy alone is read as it.
+-- From two good copies it has that layout, and the table that was read is the one that they held.
 pub record AddsPartition (partition : GPTPartitionEntry) (size first : ℕ) (old new : DiskState) : Type 0 where
   pub table : GPT
   pub next : GPT
@@ -56,6 +57,7 @@ pub record AddsPartition (partition : GPTPartitionEntry) (size first : ℕ) (old
   pub wrote : Wrote (table_ranges next) old new
   pub stored : HasLayout next old.size → IsStored new 512 (table_in next)
   pub alone : HasLayout next old.size → AreReadAlone new.view next
+  pub good : (was : Table) → StartsGood old was → (table_in table ≡ was) × HasLayout next old.size
 
 -- A stop at any moment leaves a disk that is read as this table; or once the write began, as this one or as the one with the partition.
 pub data IsSafe (partition : GPTPartitionEntry) (size : ℕ) (was : Table) (old new : DiskState) : Type 0 where
