@@ -46,5 +46,5 @@ crash-states: gptimg
 # Has a firmware boot images that a stop left, and cuts the power of a Linux kernel in the middle of
 # commands, where what these need is installed. They stand beside the gate.
 trials: gptimg
-	@trials/with_firmware.sh
-	@trials/power_cuts.py
+	@tests/with_firmware.sh
+	@tests/with_power_cuts.sh

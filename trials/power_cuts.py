@@ -1,16 +1,17 @@
 #!/usr/bin/env python3
 """Cuts the power of a Linux kernel in the middle of commands of gptimg, and reads what is left.
 
-usage: trials/power_cuts.py [--program GPTIMG] [--cuts N] [--seed N]
+usage: trials/power_cuts.py [--program GPTIMG] [--tool gptimg|sgdisk] [--cuts N] [--seed N]
 
-A virtual machine adds and removes partition 1 of its block device for ever, and writes back what it
-holds as eagerly as it can. It tells each command on its serial line, before it and after it. It is killed at
-a random moment. Then the image has to show the table after the last command that was told as done, or the
-one after the next; where a copy is broken, the first command of the next start mends it. The last line is
-'N passed, M failed'.
+A virtual machine adds and removes partition 1 of its block device for ever, with gptimg or with sgdisk, and
+writes back what it holds as eagerly as it can. It tells each command on its serial line, before it and after
+it. It is killed at a random moment. Then gptimg, which reads by the rules of the format, has to show the
+table after the last command that was told as done, or the one after the next; where a copy is broken, the
+first command of the next start mends it. Where neither is shown, the next start has a new image. The last
+line is 'N passed, M failed'.
 
 Needs qemu-system-x86_64, a kernel in /boot with its modules (Debian's linux-image-cloud-amd64), a static
-busybox and cpio. Where one is missing it says so, and ends with 0. Some 7 seconds a cut.
+busybox and cpio; tests/with_power_cuts.sh looks for them first. Some 7 seconds a cut.
 """
 
 import argparse
@@ -29,6 +30,9 @@ KEPT = "77" * 16
 IMAGE_BYTES = 16 << 20
 START_SECONDS = 120
 
+# The number of the command that a new image stands for: an odd one, which leaves no partition 1.
+NEW = 1
+
 INIT = """#!/bin/busybox sh
 /bin/busybox mount -t proc proc /proc
 /bin/busybox mount -t sysfs sys /sys
@@ -42,24 +46,22 @@ k=$(/bin/busybox sed -n 's/.*first=\\([0-9]*\\).*/\\1/p' /proc/cmdline)
 while :; do
     k=$((k + 1))
     echo "begin $k"
-    if [ $((k % 2)) = 0 ]; then
-        /bin/gptimg /dev/vda 512 add 1 {type} $(/bin/busybox printf '%032x' $k) 64 first 64 cut
-    else
-        /bin/gptimg /dev/vda 512 remove 1
-    fi
+    if [ $((k % 2)) = 0 ]; then {add}; else {remove}; fi
     echo "done $k $?"
 done
 """
 
-
-def what_is_missing():
-    """The name of a tool or file that is not there, or None."""
-    for tool in ("qemu-system-x86_64", "busybox", "cpio"):
-        if shutil.which(tool) is None:
-            return tool
-    if not glob.glob("/boot/vmlinuz-*"):
-        return "kernel in /boot"
-    return None
+# How each tool adds partition 1, with the number of the command as its GUID, and how it removes it.
+COMMANDS = {
+    "gptimg": (
+        f"/bin/tool /dev/vda 512 add 1 {DATA_TYPE} $(/bin/busybox printf '%032x' $k) 64 first 64 cut",
+        "/bin/tool /dev/vda 512 remove 1",
+    ),
+    "sgdisk": (
+        "/bin/tool -a 1 -n 1:64:127 -u 1:$(/bin/busybox printf '00000000-0000-0000-0000-%012x' $k) /dev/vda",
+        "/bin/tool -d 1 /dev/vda",
+    ),
+}
 
 
 def modules_for(version, names):
@@ -84,7 +86,7 @@ def modules_for(version, names):
 
 def copy_with_libraries(program, root):
     """Copies the program, and the libraries that it is linked to, under root."""
-    shutil.copy(program, f"{root}/bin/gptimg")
+    shutil.copy(program, f"{root}/bin/tool")
     linked = subprocess.run(["ldd", program], capture_output=True, text=True, check=False).stdout
     for file in re.findall(r"(/\S+)", linked):
         if os.path.exists(file):
@@ -92,8 +94,8 @@ def copy_with_libraries(program, root):
             shutil.copy(file, root + file)
 
 
-def make_guest(program, version, folder):
-    """Makes the first file system of the guest, and gives its path."""
+def make_guest(tool, program, version, folder):
+    """Makes the first file system of the guest, with this program as its tool, and gives its path."""
     root = f"{folder}/root"
     for name in ("bin", "proc", "sys", "dev"):
         os.makedirs(f"{root}/{name}")
@@ -104,7 +106,8 @@ def make_guest(program, version, folder):
         shutil.copy(f"/lib/modules/{version}/{file}", root)
     with open(f"{root}/init", "w", encoding="utf-8") as init:
         names = " ".join(os.path.basename(file) for file in modules)
-        init.write(INIT.replace("{modules}", names).replace("{type}", DATA_TYPE))
+        add, remove = COMMANDS[tool]
+        init.write(INIT.replace("{modules}", names).replace("{add}", add).replace("{remove}", remove))
     os.chmod(f"{root}/init", 0o755)
     files = subprocess.run(["find", "."], cwd=root, capture_output=True, check=True).stdout
     with open(f"{folder}/initrd", "wb") as archive:
@@ -151,7 +154,11 @@ class Image:
     def __init__(self, program, path):
         self.program = program
         self.path = path
-        with open(path, "wb") as file:
+        self.make()
+
+    def make(self):
+        """Makes it anew, with partition 2 alone."""
+        with open(self.path, "wb") as file:
             file.truncate(IMAGE_BYTES)
         self.run("new", "5a" * 16)
         self.run("mbr", "plain")
@@ -178,7 +185,7 @@ class Image:
 
 def number_after(command):
     """What is shown after the command with this number: even ones add, odd ones remove."""
-    return command if command > 0 and command % 2 == 0 else None
+    return command if command % 2 == 0 else None
 
 
 def judge(told, image, first):
@@ -201,21 +208,26 @@ def judge(told, image, first):
     return False, last, f"shown {shown} after {last}; {line}"
 
 
-def cut_all(program, cuts, seed, folder):
+def cut_all(asked, folder):
     """Makes all cuts, and gives how many were right and how many were not."""
     kernel = sorted(glob.glob("/boot/vmlinuz-*"))[-1]
-    initrd = make_guest(program, kernel.split("vmlinuz-")[1], folder)
+    program = os.path.realpath(asked.program)
+    in_guest = program if asked.tool == "gptimg" else shutil.which(asked.tool)
+    initrd = make_guest(asked.tool, in_guest, kernel.split("vmlinuz-")[1], folder)
     image = Image(program, f"{folder}/disk.img")
-    chance = random.Random(seed)
-    passed = first = 0
-    for cut in range(1, cuts + 1):
+    chance = random.Random(asked.seed)
+    passed, first = 0, NEW
+    for cut in range(1, asked.cuts + 1):
         words = words_of_machine(kernel, initrd, image.path, first)
         enough = f"done {first + 2} "
         told = run_until_cut(words, f"{folder}/log", enough, chance.uniform(0, 1.5))
         is_right, first, line = judge(told, image, first)
         passed += is_right
         print(f"{'ok    ' if is_right else 'FAILED'}  cut {cut}: {line}", flush=True)
-    return passed, cuts - passed
+        if not is_right:
+            first = NEW
+            image.make()
+    return passed, asked.cuts - passed
 
 
 def main():
@@ -223,16 +235,12 @@ def main():
     top = os.path.dirname(os.path.dirname(os.path.abspath(__file__)))
     words = argparse.ArgumentParser(description=__doc__.split("\n", maxsplit=1)[0])
     words.add_argument("--program", default=f"{top}/gptimg")
+    words.add_argument("--tool", choices=sorted(COMMANDS), default="gptimg")
     words.add_argument("--cuts", type=int, default=20)
     words.add_argument("--seed", type=int, default=1)
     asked = words.parse_args()
-    missing = what_is_missing()
-    if missing:
-        print(f"power_cuts.py: left out, as there is no {missing}")
-        return 0
     with tempfile.TemporaryDirectory() as folder:
-        program = os.path.realpath(asked.program)
-        passed, failed = cut_all(program, asked.cuts, asked.seed, folder)
+        passed, failed = cut_all(asked, folder)
     print(f"{passed} passed, {failed} failed")
     return 1 if failed else 0
 

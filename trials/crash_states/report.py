@@ -66,11 +66,12 @@ def chart(results):
         text(8, 22, "Share of the tried crash states that lose the table", "head"),
         bar(8, 34, 14, 8, DARK), text(28, 43, "read by the rules of the format"),
         bar(238, 34, 14, 8, LIGHT), text(258, 43, "read by the program itself"),
-        *shapes, '<path d="M%d 60V%d" stroke="#999"/>' % (LEFT, at + 4), "</svg>", ""])
+        *shapes, "</svg>", ""])
 
 
 def row_of(at, result):
-    """The shapes of a row."""
+    """The shapes of a row, with its part of the line from which bars begin."""
+    yield '<path d="M%d %dv%d" stroke="#999"/>' % (LEFT, at, ROW)
     yield text(LEFT - 6, at + 12, result["program"], "end")
     if "fault" in result:
         yield text(LEFT + 5, at + 12, fault(result))
