@@ -178,9 +178,9 @@ class Image:
         found = re.search(r"^1 \S+ ([0-9a-f]{32})", shown.stdout, re.M)
         return int(found.group(1), 16) if found else None
 
-    def is_whole(self):
-        """Whether both copies are good and one table."""
-        return "same yes" in self.run("check").stdout
+    def checked(self):
+        """What the check says of both copies, in a line."""
+        return ", ".join(self.run("check").stdout.splitlines())
 
 
 def number_after(command):
@@ -196,9 +196,8 @@ def judge(told, image, first):
     last = int(done[-1][0])
     refused = [number for number, status in done if status != "0"]
     shown = image.number_shown()
-    whole = "both copies whole" if image.is_whole() else "one copy broken"
     saw = re.findall(r"kernel saw (\d+)", told)
-    line = f"{len(done)} commands, {whole}, at the start the kernel saw {' '.join(saw)} partitions"
+    line = f"at the start the kernel saw {' '.join(saw)} partitions; {len(done)} commands; {image.checked()}"
     if refused:
         return False, last, f"refused: {refused}; {line}"
     if shown == number_after(last):
