@@ -17,7 +17,10 @@ gptimg:
 gptguid:
 	@scripts/build gptguid
 
-install: gptimg gptguid
+# Installs both, and builds first what was not built yet.
+install:
+	@test -x gptimg || scripts/build
+	@test -x gptguid || scripts/build gptguid
 	install -D -m 755 gptimg "$(DESTDIR)$(PREFIX)/bin/gptimg"
 	install -D -m 755 gptguid "$(DESTDIR)$(PREFIX)/bin/gptguid"
 	install -D -m 644 docs/gptimg.1 "$(DESTDIR)$(PREFIX)/share/man/man1/gptimg.1"
