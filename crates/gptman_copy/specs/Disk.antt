@@ -75,6 +75,18 @@ Rose old new = (old.failures < new.failures) ⊎ (18446744073709551615 ≤ new.f
 abbrev pub HasFailedAsOften : DiskState → DiskState → Type 0
 HasFailedAsOften old new = new.failures ≡ old.failures
 
+-- a count is one more, or stands where it stops
+abbrev pub IsCountedOnce : ℕ → ℕ → Type 0
+IsCountedOnce old new = (new ≡ old + 1) ⊎ ((18446744073709551615 ≤ old) × (new ≡ old))
+
+-- the failures are one more, or stand where they stop
+abbrev pub HasFailedOnce : DiskState → DiskState → Type 0
+HasFailedOnce old new = IsCountedOnce old.failures new.failures
+
+-- the failures rose by one at most
+abbrev pub HasFailedOnceAtMost : DiskState → DiskState → Type 0
+HasFailedOnceAtMost old new = new.failures ≤ old.failures + 1
+
 -- On every disk.
 pub record Keeps (old new : DiskState) : Type 0 where
   pub size : new.size ≡ old.size

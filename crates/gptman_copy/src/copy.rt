@@ -1,8 +1,9 @@
 //! One whole copy as it is read: its header, and then its entries. The writing of one is handed on.
 
-ghost use Rattle.std.specs.Prelude.{◌≡◌, ◌≤◌, ◌<◌, ◌-◌, ◌*◌, ◌/◌, IfOk};
+ghost use Rattle.std.specs.Prelude.{◌≡◌, ◌≤◌, ◌<◌, ◌-◌, ◌*◌, ◌/◌, IfOk, OnOk};
 ghost use Rattle.gptman_copy.specs.Answers.{is_copy_fault, AnswersInMemory, RefusesOnly};
 ghost use Rattle.gptman_copy.specs.Copy.{copy_at, copy_of_whole, IsCoherent};
+ghost use Rattle.gptman_copy.specs.Disk.{HasFailedAsOften, HasFailedOnceAtMost};
 ghost use Rattle.gptman_copy.specs.Disk.{Reads};
 
 use crate::codec::entry::GPTPartitionEntry;
@@ -27,6 +28,8 @@ pub struct WholeCopy {
 pub fn read_copy<D: Disk>(alloc: Global, disk: &mut D, sector_size: u64) -> Result<WholeCopy>
     requires { 0 < sector_size }
     ensures reads { Reads (D.state disk.old) (D.state disk.new) }
+    ensures counts { OnOk result (HasFailedAsOften (D.state disk.old) (D.state disk.new)) }
+    ensures once { HasFailedOnceAtMost (D.state disk.old) (D.state disk.new) }
     ensures answer { AnswersInMemory copy_of_whole
         (copy_at (D.state disk.old).view (D.state disk.old).position sector_size) result
         (D.state disk.old) (D.state disk.new) }

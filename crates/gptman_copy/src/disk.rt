@@ -4,8 +4,8 @@
 //! tables; it says what a read gives, and what a stop at any moment may leave.
 
 ghost use Rattle.std.specs.Prelude.{◌≡◌, ◌≤◌, ◌<◌, ◌^◌, ◌⊎◌, [], ◌∷◌, length, IfOk, OnOk, OnErr, IsErr};
-ghost use Rattle.gptman_copy.specs.Disk.{next_bytes, next_range, DiskState, HasFailedAsOften, HasNext};
-ghost use Rattle.gptman_copy.specs.Disk.{IsHonest, IsLaid, IsSound};
+ghost use Rattle.gptman_copy.specs.Disk.{next_bytes, next_range, DiskState, HasFailedAsOften};
+ghost use Rattle.gptman_copy.specs.Disk.{HasFailedOnce, HasNext, IsCountedOnce, IsHonest, IsLaid, IsSound};
 ghost use Rattle.gptman_copy.specs.Disk.{Keeps, MayBeLaid, Moves, PassesEnd, Reads, Rose, StandsAt, Writes};
 
 use std::io;
@@ -27,7 +27,9 @@ pub trait Disk {
     fn seek_start(&mut self, at: u64) -> io::Result<u64>
         ensures reads { Reads (state self.old) (state self.new) }
         ensures answer { IfOk result (StandsAt (state self.new) at) }
-        ensures cause { OnErr result (Rose (state self.old) (state self.new)) };
+        ensures cause { OnErr result (Rose (state self.old) (state self.new)) }
+        ensures counts { OnOk result (HasFailedAsOften (state self.old) (state self.new)) }
+        ensures once { OnErr result (HasFailedOnce (state self.old) (state self.new)) };
 
     /// Goes to the end. Answers the length in bytes.
     ///
@@ -35,7 +37,9 @@ pub trait Disk {
     fn seek_end(&mut self) -> io::Result<u64>
         ensures reads { Reads (state self.old) (state self.new) }
         ensures answer { IfOk result (StandsAt (state self.new) (state self.old).size) }
-        ensures cause { OnErr result (Rose (state self.old) (state self.new)) };
+        ensures cause { OnErr result (Rose (state self.old) (state self.new)) }
+        ensures counts { OnOk result (HasFailedAsOften (state self.old) (state self.new)) }
+        ensures once { OnErr result (HasFailedOnce (state self.old) (state self.new)) };
 
     /// Fills the buffer with the bytes from the position on, and goes behind them.
     ///
@@ -45,6 +49,9 @@ pub trait Disk {
         ensures reads { Reads (state self.old) (state self.new) }
         ensures within { OnOk result (HasNext (state self.old) (length buf.old)) }
         ensures cause { OnErr result (Rose (state self.old) (state self.new)
+            ⊎ PassesEnd (state self.old) (length buf.old)) }
+        ensures counts { OnOk result (HasFailedAsOften (state self.old) (state self.new)) }
+        ensures once { OnErr result (HasFailedOnce (state self.old) (state self.new)
             ⊎ PassesEnd (state self.old) (length buf.old)) }
         ensures past_end { PassesEnd (state self.old) (length buf.old)
             → IsErr result × HasFailedAsOften (state self.old) (state self.new) }
@@ -62,6 +69,8 @@ pub trait Disk {
         requires { HasNext (state self.old) (length buf.now) }
         ensures keeps { Keeps (state self.old) (state self.new) }
         ensures cause { OnErr result (Rose (state self.old) (state self.new)) }
+        ensures counts { OnOk result (HasFailedAsOften (state self.old) (state self.new)) }
+        ensures once { OnErr result (HasFailedOnce (state self.old) (state self.new)) }
         ensures moves { OnOk result (Moves (state self.old) (state self.new) (length buf.now)) }
         ensures wrote { Writes (next_range (state self.old) (length buf.now) ∷ [])
             (state self.old) (state self.new) }
@@ -76,6 +85,8 @@ pub trait Disk {
     fn sync(&mut self) -> io::Result<()>
         ensures keeps { Keeps (state self.old) (state self.new) }
         ensures cause { OnErr result (Rose (state self.old) (state self.new)) }
+        ensures counts { OnOk result (HasFailedAsOften (state self.old) (state self.new)) }
+        ensures once { OnErr result (HasFailedOnce (state self.old) (state self.new)) }
         ensures stays { OnOk result ((state self.new).position ≡ (state self.old).position) }
         ensures wrote { Writes [] (state self.old) (state self.new) }
         ensures view { IsHonest (state self.old) → (state self.new).view ≡ (state self.old).view }
@@ -98,8 +109,7 @@ pub(crate) fn past_end() -> io::Error {
 
 // One failure more, up to the greatest number of 64 bits.
 fn count_failure(failures: &mut u64)
-    ensures later { failures.old ≤ failures.new }
-    ensures rose { (failures.old < failures.new) ⊎ (18446744073709551615 ≤ failures.new) }
+    ensures once { IsCountedOnce failures.old failures.new }
 {
     *failures = failures.saturating_add(1);
 }

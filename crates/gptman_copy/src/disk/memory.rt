@@ -9,7 +9,8 @@ ghost use Rattle.std.specs.Prelude.{IfOk, IfErr, OnOk, OnErr, IsOk, IsErr, IsTru
 ghost use Rattle.std.specs.List.{list_all};
 ghost use Rattle.std.specs.IoError.{error_kind};
 ghost use Rattle.std.specs.declared.io.ErrorKind.TheVariants.{OutOfMemory};
-ghost use Rattle.gptman_copy.specs.Disk.{next_bytes, next_range, overlay, HasFailedAsOften, HasNext};
+ghost use Rattle.gptman_copy.specs.Disk.{next_bytes, next_range, overlay, HasFailedAsOften};
+ghost use Rattle.gptman_copy.specs.Disk.{HasFailedOnce, HasNext, IsCountedOnce};
 ghost use Rattle.gptman_copy.specs.Disk.{Image, IsFresh, IsHonest, IsLaid};
 ghost use Rattle.gptman_copy.specs.Disk.{IsLeftAlone, Keeps, MayBeLaid, Moves, PassesEnd, Reads, Rose};
 ghost use Rattle.gptman_copy.specs.Disk.{StandsAt, StaysAt, Writes};
@@ -188,8 +189,7 @@ fn is_served(fuse: &mut Option<u64>) -> bool
 
 // The failure of a device, which is counted.
 fn fail(failures: &mut u64) -> io::Error
-    ensures later { failures.old ≤ failures.new }
-    ensures rose { (failures.old < failures.new) ⊎ (18446744073709551615 ≤ failures.new) }
+    ensures once { IsCountedOnce failures.old failures.new }
 {
     count_failure(failures);
     io::Error::other("the device failed")
@@ -197,8 +197,7 @@ fn fail(failures: &mut u64) -> io::Error
 
 // The failure of a disk that has no memory for its record, which is counted.
 fn lack_memory(failures: &mut u64) -> io::Error
-    ensures later { failures.old ≤ failures.new }
-    ensures rose { (failures.old < failures.new) ⊎ (18446744073709551615 ≤ failures.new) }
+    ensures once { IsCountedOnce failures.old failures.new }
     ensures kind { error_kind result ≡ OutOfMemory }
 {
     count_failure(failures);
@@ -217,6 +216,10 @@ impl Disk for MemoryDisk {
             (⟦<MemoryDisk as Disk>⟧.state self.new) }
         ensures answer { IfOk result (StandsAt (⟦<MemoryDisk as Disk>⟧.state self.new) at) }
         ensures cause { OnErr result (Rose (⟦<MemoryDisk as Disk>⟧.state self.old)
+            (⟦<MemoryDisk as Disk>⟧.state self.new)) }
+        ensures counts { OnOk result (HasFailedAsOften (⟦<MemoryDisk as Disk>⟧.state self.old)
+            (⟦<MemoryDisk as Disk>⟧.state self.new)) }
+        ensures once { OnErr result (HasFailedOnce (⟦<MemoryDisk as Disk>⟧.state self.old)
             (⟦<MemoryDisk as Disk>⟧.state self.new)) }
         ensures served { IsOk result ↔ IsTrue (serves (calls_left self.old)) }
         ensures kept { OnErr result (StaysAt (⟦<MemoryDisk as Disk>⟧.state self.old)
@@ -239,6 +242,10 @@ impl Disk for MemoryDisk {
             (StandsAt (⟦<MemoryDisk as Disk>⟧.state self.new) (⟦<MemoryDisk as Disk>⟧.state self.old).size) }
         ensures cause { OnErr result (Rose (⟦<MemoryDisk as Disk>⟧.state self.old)
             (⟦<MemoryDisk as Disk>⟧.state self.new)) }
+        ensures counts { OnOk result (HasFailedAsOften (⟦<MemoryDisk as Disk>⟧.state self.old)
+            (⟦<MemoryDisk as Disk>⟧.state self.new)) }
+        ensures once { OnErr result (HasFailedOnce (⟦<MemoryDisk as Disk>⟧.state self.old)
+            (⟦<MemoryDisk as Disk>⟧.state self.new)) }
         ensures served { IsOk result ↔ IsTrue (serves (calls_left self.old)) }
         ensures kept { OnErr result (StaysAt (⟦<MemoryDisk as Disk>⟧.state self.old)
             (⟦<MemoryDisk as Disk>⟧.state self.new)) }
@@ -259,6 +266,11 @@ impl Disk for MemoryDisk {
             (⟦<MemoryDisk as Disk>⟧.state self.new) }
         ensures within { OnOk result (HasNext (⟦<MemoryDisk as Disk>⟧.state self.old) (length buf.old)) }
         ensures cause { OnErr result (Rose (⟦<MemoryDisk as Disk>⟧.state self.old)
+            (⟦<MemoryDisk as Disk>⟧.state self.new)
+            ⊎ PassesEnd (⟦<MemoryDisk as Disk>⟧.state self.old) (length buf.old)) }
+        ensures counts { OnOk result (HasFailedAsOften (⟦<MemoryDisk as Disk>⟧.state self.old)
+            (⟦<MemoryDisk as Disk>⟧.state self.new)) }
+        ensures once { OnErr result (HasFailedOnce (⟦<MemoryDisk as Disk>⟧.state self.old)
             (⟦<MemoryDisk as Disk>⟧.state self.new)
             ⊎ PassesEnd (⟦<MemoryDisk as Disk>⟧.state self.old) (length buf.old)) }
         ensures past_end { PassesEnd (⟦<MemoryDisk as Disk>⟧.state self.old) (length buf.old)
@@ -297,6 +309,10 @@ impl Disk for MemoryDisk {
         ensures keeps { Keeps (⟦<MemoryDisk as Disk>⟧.state self.old)
             (⟦<MemoryDisk as Disk>⟧.state self.new) }
         ensures cause { OnErr result (Rose (⟦<MemoryDisk as Disk>⟧.state self.old)
+            (⟦<MemoryDisk as Disk>⟧.state self.new)) }
+        ensures counts { OnOk result (HasFailedAsOften (⟦<MemoryDisk as Disk>⟧.state self.old)
+            (⟦<MemoryDisk as Disk>⟧.state self.new)) }
+        ensures once { OnErr result (HasFailedOnce (⟦<MemoryDisk as Disk>⟧.state self.old)
             (⟦<MemoryDisk as Disk>⟧.state self.new)) }
         ensures served { OnOk result (IsTrue (serves (calls_left self.old))) }
         ensures moves { OnOk result (Moves (⟦<MemoryDisk as Disk>⟧.state self.old)
@@ -347,6 +363,10 @@ impl Disk for MemoryDisk {
         ensures keeps { Keeps (⟦<MemoryDisk as Disk>⟧.state self.old)
             (⟦<MemoryDisk as Disk>⟧.state self.new) }
         ensures cause { OnErr result (Rose (⟦<MemoryDisk as Disk>⟧.state self.old)
+            (⟦<MemoryDisk as Disk>⟧.state self.new)) }
+        ensures counts { OnOk result (HasFailedAsOften (⟦<MemoryDisk as Disk>⟧.state self.old)
+            (⟦<MemoryDisk as Disk>⟧.state self.new)) }
+        ensures once { OnErr result (HasFailedOnce (⟦<MemoryDisk as Disk>⟧.state self.old)
             (⟦<MemoryDisk as Disk>⟧.state self.new)) }
         ensures served { OnOk result (IsTrue (serves (calls_left self.old))) }
         ensures stays { OnOk result ((⟦<MemoryDisk as Disk>⟧.state self.new).position ≡

@@ -9,6 +9,7 @@ ghost use Rattle.gptman_copy.specs.Answers.{FailsPending, HasCause, Refuses, Ref
 ghost use Rattle.gptman_copy.specs.Coding.{array_bytes, FitsEntry};
 ghost use Rattle.gptman_copy.specs.Copy.{with_checksums, IsCoherent};
 ghost use Rattle.gptman_copy.specs.Crc.{crc_of};
+ghost use Rattle.gptman_copy.specs.Disk.{HasFailedAsOften, HasFailedOnceAtMost};
 ghost use Rattle.gptman_copy.specs.Disk.{next_range, HasNext, IsHonest, Keeps, Moves, Overlays, Rose};
 ghost use Rattle.gptman_copy.specs.Disk.{StaysPending, Writes};
 ghost use Rattle.gptman_copy.specs.Fault.{fault_of, io as io_fault, overflow};
@@ -47,6 +48,8 @@ impl GPTHeader {
         requires sector { 0 < sector_size }
         requires coherent { IsCoherent self.old partitions.now }
         ensures keeps { Keeps (D.state disk.old) (D.state disk.new) }
+        ensures counts { OnOk result (HasFailedAsOften (D.state disk.old) (D.state disk.new)) }
+        ensures once { HasFailedOnceAtMost (D.state disk.old) (D.state disk.new) }
 
         // What is answered.
         ensures at_once { copy_write_fault self.old sector_size (D.state disk.old).size ≡ Some overflow
@@ -157,6 +160,8 @@ pub fn write_summed<D: Disk>(
     requires inside { IsTrue (list_all (is_range_inside (D.state disk.old).size)
         (write_ranges header.old sector_size)) }
     ensures keeps { Keeps (D.state disk.old) (D.state disk.new) }
+    ensures counts { OnOk result (HasFailedAsOften (D.state disk.old) (D.state disk.new)) }
+    ensures once { HasFailedOnceAtMost (D.state disk.old) (D.state disk.new) }
     ensures cause { OnErr result (Rose (D.state disk.old) (D.state disk.new)) }
     ensures value { header.new ≡ with_checksums header.old partitions.now }
     ensures fits { OnOk result (FitsCopy header.new partitions.now) }
@@ -186,6 +191,8 @@ fn write_copy<D: Disk>(
     requires inside { IsTrue (list_all (is_range_inside (D.state disk.old).size)
         (write_ranges header.now sector_size)) }
     ensures keeps { Keeps (D.state disk.old) (D.state disk.new) }
+    ensures counts { OnOk result (HasFailedAsOften (D.state disk.old) (D.state disk.new)) }
+    ensures once { HasFailedOnceAtMost (D.state disk.old) (D.state disk.new) }
     ensures cause { OnErr result (Rose (D.state disk.old) (D.state disk.new)) }
     ensures fits { OnOk result (FitsCopy header.now partitions.now) }
     ensures wrote { Writes (write_ranges header.now sector_size) (D.state disk.old) (D.state disk.new) }
@@ -209,6 +216,8 @@ fn write_copy<D: Disk>(
 fn write_entries<D: Disk>(disk: &mut D, partitions: &[GPTPartitionEntry]) -> io::Result<()>
     requires { HasNext (D.state disk.old) (128 * length partitions.now) }
     ensures keeps { Keeps (D.state disk.old) (D.state disk.new) }
+    ensures counts { OnOk result (HasFailedAsOften (D.state disk.old) (D.state disk.new)) }
+    ensures once { HasFailedOnceAtMost (D.state disk.old) (D.state disk.new) }
     ensures cause { OnErr result (Rose (D.state disk.old) (D.state disk.new)) }
     ensures fits { OnOk result (All FitsEntry partitions.now) }
     ensures wrote { Writes (next_range (D.state disk.old) (128 * length partitions.now) ∷ [])
@@ -238,6 +247,8 @@ fn write_block<D: Disk>(
     requires few { length block.now ≤ 32 }
     requires room { HasNext (D.state disk.old) (128 * length block.now) }
     ensures keeps { Keeps (D.state disk.old) (D.state disk.new) }
+    ensures counts { OnOk result (HasFailedAsOften (D.state disk.old) (D.state disk.new)) }
+    ensures once { HasFailedOnceAtMost (D.state disk.old) (D.state disk.new) }
     ensures cause { OnErr result (Rose (D.state disk.old) (D.state disk.new)) }
     ensures fits { All FitsEntry block.now }
     ensures moves { OnOk result (Moves (D.state disk.old) (D.state disk.new) (128 * length block.now)) }

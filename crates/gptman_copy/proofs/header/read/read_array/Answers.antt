@@ -11,6 +11,7 @@ pub loop-done-init : goal.loop-done-init
 unfolding entries_of
 loop-done-init g c = record {
   keeps = search rules;
+  counts = refl;
   few = omega arith;
   position = omega arith;
   within = inl refl;
@@ -30,6 +31,7 @@ loop-done-preserved g c =
     let some : n ≤ c.args.count - done = omega (arith, c.min-block.ensures) in
     record {
       keeps = search rules;
+      counts = omega (arith, inv.counts, c.in_ok-read_block.ensures.counts);
       few = omega (arith, some, inv.few);
       position = omega (arith, c.in_ok-read_block.ensures.moves, inv.position);
       within = inr (omega (arith, c.in_ok-read_block.ensures.within, inv.position, inv.keeps.size));

@@ -8,6 +8,7 @@ use Rattle.gptman_copy.proofs.header.read.read_array.Given as goal
 abbrev pub invariant-loop-done : goal.invariant-loop-done
 invariant-loop-done g l = record {
   keeps : Keeps (g.D.Disk.state l.fn.disk) (g.D.Disk.state l.disk);
+  counts : (g.D.Disk.state l.disk).failures ≡ (g.D.Disk.state l.fn.disk).failures;
   few : l.done ≤ l.count;
   position : (g.D.Disk.state l.disk).position ≡ (g.D.Disk.state l.fn.disk).position + 128 * l.done;
   within : (l.done ≡ 0) ⊎ ((g.D.Disk.state l.fn.disk).position + 128 * l.done ≤ (g.D.Disk.state l.fn.disk).size);

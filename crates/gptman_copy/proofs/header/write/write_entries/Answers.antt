@@ -44,6 +44,7 @@ loop-done-preserved g c =
     record {
       within = within;
       keeps = grind arith;
+      counts = omega (arith, inv.counts, next.counts);
       position = omega (arith, next.moves, inv.position, count);
       fits = All-same FitsEntry (take end es) _ (entries_more es done end upto) (All-append FitsEntry (take done es) block inv.fits next.fits);
       wrote = λ honest.

@@ -8,6 +8,7 @@ abbrev pub invariant-loop-done : goal.invariant-loop-done
 invariant-loop-done g l = record {
   within : l.done ≤ length l.partitions;
   keeps : Keeps (g.D.Disk.state l.fn.disk) (g.D.Disk.state l.disk);
+  counts : (g.D.Disk.state l.disk).failures ≡ (g.D.Disk.state l.fn.disk).failures;
   position : (g.D.Disk.state l.disk).position ≡ (g.D.Disk.state l.fn.disk).position + 128 * l.done;
   fits : All FitsEntry (take l.done l.partitions);
   wrote : IsTrue (g.D.Disk.state l.fn.disk).is_honest → Wrote (((g.D.Disk.state l.fn.disk).position, 128 * length l.partitions) ∷ []) (g.D.Disk.state l.fn.disk) (g.D.Disk.state l.disk);
