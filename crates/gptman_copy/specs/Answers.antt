@@ -1,6 +1,6 @@
 -- What the calls answer.
 use Rattle.std.specs.Prelude.{◌≡◌, ◌⊎◌, ◌||◌, ℕ, Bool, true, false, Option, Some, None, Result, Ok, Err, IsTrue, IfErr, OnErr}
-use Rattle.gptman_copy.specs.Disk.{DiskState, IsHonest, LeavesPending, PassesEnd, Rose, Untouched}
+use Rattle.gptman_copy.specs.Disk.{DiskState, HasFailedAsOften, IsHonest, LeavesPending, PassesEnd, Rose, Untouched}
 use Rattle.gptman_copy.specs.Fault.{Fault, io, invalid_signature, invalid_revision, invalid_header_size, invalid_checksum, invalid_array_checksum, overflow, out_of_memory, invalid_entry_size, fault_of}
 use Rattle.gptman_copy.specs.declared.error.Error.{Error}
 
@@ -43,6 +43,10 @@ HasCause result old new = Refuses result io → Rose old new
 -- or where the next n bytes pass the end
 abbrev pub HasCauseOrEnd : {T : Type 0} → ℕ → Result T Error → DiskState → DiskState → Type 0
 HasCauseOrEnd n result old new = Refuses result io → Rose old new ⊎ PassesEnd old n
+
+-- unless Io is answered, the disk failed nowhere
+abbrev pub CountsFailure : {T : Type 0} → Result T Error → DiskState → DiskState → Type 0
+CountsFailure result old new = HasFailedAsOften old new ⊎ Refuses result io
 
 -- On an honest disk the answer, as f sees it, is this one; or the disk failed.
 abbrev pub Answers : {T A : Type 0} → (T → A) → Result A Fault → Result T Error → DiskState → DiskState → Type 0

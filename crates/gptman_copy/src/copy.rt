@@ -3,7 +3,8 @@
 ghost use Rattle.std.specs.Prelude.{◌≡◌, ◌≤◌, ◌<◌, ◌-◌, ◌*◌, ◌/◌, IfOk, OnOk};
 ghost use Rattle.gptman_copy.specs.Answers.{is_copy_fault, AnswersInMemory, RefusesOnly};
 ghost use Rattle.gptman_copy.specs.Copy.{copy_at, copy_of_whole, IsCoherent};
-ghost use Rattle.gptman_copy.specs.Disk.{HasFailedAsOften, HasFailedOnceAtMost};
+ghost use Rattle.gptman_copy.specs.Answers.{CountsFailure};
+ghost use Rattle.gptman_copy.specs.Disk.{HasFailedOnceAtMost};
 ghost use Rattle.gptman_copy.specs.Disk.{Reads};
 
 use crate::codec::entry::GPTPartitionEntry;
@@ -28,7 +29,7 @@ pub struct WholeCopy {
 pub fn read_copy<D: Disk>(alloc: Global, disk: &mut D, sector_size: u64) -> Result<WholeCopy>
     requires { 0 < sector_size }
     ensures reads { Reads (D.state disk.old) (D.state disk.new) }
-    ensures counts { OnOk result (HasFailedAsOften (D.state disk.old) (D.state disk.new)) }
+    ensures counts { CountsFailure result (D.state disk.old) (D.state disk.new) }
     ensures once { HasFailedOnceAtMost (D.state disk.old) (D.state disk.new) }
     ensures answer { AnswersInMemory copy_of_whole
         (copy_at (D.state disk.old).view (D.state disk.old).position sector_size) result

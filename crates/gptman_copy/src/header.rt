@@ -3,7 +3,8 @@
 //! This room knows one copy, header and entries, and of a second one its header alone.
 
 ghost use Rattle.std.specs.Prelude.{◌≡◌, ◌<◌, ◌↔◌, ◌⊎◌, ℕ, if◌then◌else◌, IsTrue, IfOk, IfErr, OnOk, OnErr};
-ghost use Rattle.gptman_copy.specs.Disk.{HasFailedAsOften, HasFailedOnceAtMost};
+ghost use Rattle.gptman_copy.specs.Answers.{CountsFailure};
+ghost use Rattle.gptman_copy.specs.Disk.{HasFailedOnceAtMost};
 ghost use Rattle.gptman_copy.specs.Disk.{Reads};
 ghost use Rattle.gptman_copy.specs.Coding.{header_bytes, array_bytes};
 ghost use Rattle.gptman_copy.specs.Crc.{crc_of};
@@ -42,7 +43,7 @@ impl GPTHeader {
     ) -> Result<GPTHeader>
         requires { 0 < sector_size }
         ensures reads { Reads (D.state disk.old) (D.state disk.new) }
-        ensures counts { OnOk result (HasFailedAsOften (D.state disk.old) (D.state disk.new)) }
+        ensures counts { CountsFailure result (D.state disk.old) (D.state disk.new) }
         ensures once { HasFailedOnceAtMost (D.state disk.old) (D.state disk.new) }
         ensures answer { Settles (fit_fault (new_header disk_guid) sector_size (D.state disk.old).size) result
             (D.state disk.old) (D.state disk.new) }
@@ -80,7 +81,7 @@ impl GPTHeader {
     pub fn update_from<D: Disk>(&mut self, disk: &mut D, sector_size: u64) -> Result<()>
         requires { 0 < sector_size }
         ensures reads { Reads (D.state disk.old) (D.state disk.new) }
-        ensures counts { OnOk result (HasFailedAsOften (D.state disk.old) (D.state disk.new)) }
+        ensures counts { CountsFailure result (D.state disk.old) (D.state disk.new) }
         ensures once { HasFailedOnceAtMost (D.state disk.old) (D.state disk.new) }
         ensures at_once { array_size self.old ≡ 0 → Refuses result overflow }
         ensures answer { Settles (fit_fault self.old sector_size (D.state disk.old).size) result

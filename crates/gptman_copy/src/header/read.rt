@@ -11,7 +11,8 @@ ghost use Rattle.gptman_copy.specs.Coding.{header_bytes};
 ghost use Rattle.gptman_copy.specs.Copy.{array_result, entries_of, entry_result, header_result, unless};
 ghost use Rattle.gptman_copy.specs.Copy.{value_tests};
 ghost use Rattle.gptman_copy.specs.Crc.{crc_of};
-ghost use Rattle.gptman_copy.specs.Disk.{HasFailedAsOften, HasFailedOnceAtMost};
+ghost use Rattle.gptman_copy.specs.Answers.{CountsFailure};
+ghost use Rattle.gptman_copy.specs.Disk.{HasFailedOnceAtMost};
 ghost use Rattle.gptman_copy.specs.Disk.{next_bytes, HasNext, IsHonest, Moves, Reads, Rose};
 ghost use Rattle.gptman_copy.specs.Fault.{fault_of, first_failing, io as io_fault};
 ghost use Rattle.gptman_copy.specs.Fault.{invalid_entry_size, out_of_memory, overflow};
@@ -37,7 +38,7 @@ impl GPTHeader {
     /// `InvalidSignature`, `InvalidRevision`, `InvalidHeaderSize`, `InvalidChecksum`.
     pub fn read_from<D: Disk>(disk: &mut D) -> Result<GPTHeader>
         ensures reads { Reads (D.state disk.old) (D.state disk.new) }
-        ensures counts { OnOk result (HasFailedAsOften (D.state disk.old) (D.state disk.new)) }
+        ensures counts { CountsFailure result (D.state disk.old) (D.state disk.new) }
         ensures once { HasFailedOnceAtMost (D.state disk.old) (D.state disk.new) }
         ensures answer { Answers (λ h. h) (header_result (D.state disk.old).view (D.state disk.old).position)
             result (D.state disk.old) (D.state disk.new) }
@@ -91,7 +92,7 @@ impl GPTHeader {
     ) -> Result<Vec<GPTPartitionEntry>>
         requires { 0 < sector_size }
         ensures reads { Reads (D.state disk.old) (D.state disk.new) }
-        ensures counts { OnOk result (HasFailedAsOften (D.state disk.old) (D.state disk.new)) }
+        ensures counts { CountsFailure result (D.state disk.old) (D.state disk.new) }
         ensures once { HasFailedOnceAtMost (D.state disk.old) (D.state disk.new) }
         ensures wrong_size { HasWrongSize self.now
             → Refuses result (invalid_entry_size self.now.size_of_partition_entry) }
@@ -120,7 +121,7 @@ impl GPTHeader {
     // Goes to the first byte of the entries, where there are some and the disk has them all.
     fn seek_entries<D: Disk>(&self, disk: &mut D, sector_size: u64) -> Result<()>
         ensures reads { Reads (D.state disk.old) (D.state disk.new) }
-        ensures counts { OnOk result (HasFailedAsOften (D.state disk.old) (D.state disk.new)) }
+        ensures counts { CountsFailure result (D.state disk.old) (D.state disk.new) }
         ensures once { HasFailedOnceAtMost (D.state disk.old) (D.state disk.new) }
         ensures wrong_size { HasWrongSize self.now
             → Refuses result (invalid_entry_size self.now.size_of_partition_entry) }
@@ -154,7 +155,7 @@ impl GPTPartitionEntry {
     /// `Io` where the disk failed or ends before, `OutOfMemory` where there is no memory for the text.
     pub fn read_from<D: Disk>(alloc: Global, disk: &mut D) -> Result<GPTPartitionEntry>
         ensures reads { Reads (D.state disk.old) (D.state disk.new) }
-        ensures counts { OnOk result (HasFailedAsOften (D.state disk.old) (D.state disk.new)) }
+        ensures counts { CountsFailure result (D.state disk.old) (D.state disk.new) }
         ensures once { HasFailedOnceAtMost (D.state disk.old) (D.state disk.new) }
         ensures answer { AnswersInMemory (λ e. e)
             (entry_result (D.state disk.old).view (D.state disk.old).position)
@@ -179,7 +180,7 @@ struct EntryArray {
 // So many entries from the disk's position on.
 fn read_array<D: Disk>(alloc: Global, disk: &mut D, count: u32) -> Result<EntryArray>
     ensures reads { Reads (D.state disk.old) (D.state disk.new) }
-    ensures counts { OnOk result (HasFailedAsOften (D.state disk.old) (D.state disk.new)) }
+    ensures counts { CountsFailure result (D.state disk.old) (D.state disk.new) }
     ensures once { HasFailedOnceAtMost (D.state disk.old) (D.state disk.new) }
     ensures within { OnOk result ((count ≡ 0) ⊎ HasNext (D.state disk.old) (128 * count)) }
     ensures refused { IfErr result (λ e. IsBlockFault (128 * count) (fault_of e)
@@ -226,7 +227,7 @@ fn read_block<D: Disk>(
 ) -> Result<()>
     requires { count ≤ 32 }
     ensures reads { Reads (D.state disk.old) (D.state disk.new) }
-    ensures counts { OnOk result (HasFailedAsOften (D.state disk.old) (D.state disk.new)) }
+    ensures counts { CountsFailure result (D.state disk.old) (D.state disk.new) }
     ensures once { HasFailedOnceAtMost (D.state disk.old) (D.state disk.new) }
     ensures within { OnOk result (HasNext (D.state disk.old) (128 * count)) }
     ensures refused { IfErr result (λ e. IsBlockFault (128 * count) (fault_of e)

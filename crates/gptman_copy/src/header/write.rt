@@ -5,7 +5,7 @@ ghost use Rattle.std.specs.Prelude.{take};
 ghost use Rattle.std.specs.Prelude.{true, false, Some, All, Contains, IfErr, IsTrue, MatchOption, OnErr};
 ghost use Rattle.std.specs.Prelude.{OnOk};
 ghost use Rattle.std.specs.List.{list_all};
-ghost use Rattle.gptman_copy.specs.Answers.{FailsPending, HasCause, Refuses, RefusesUntouched, Settles};
+ghost use Rattle.gptman_copy.specs.Answers.{CountsFailure, FailsPending, HasCause, Refuses, RefusesUntouched, Settles};
 ghost use Rattle.gptman_copy.specs.Coding.{array_bytes, FitsEntry};
 ghost use Rattle.gptman_copy.specs.Copy.{with_checksums, IsCoherent};
 ghost use Rattle.gptman_copy.specs.Crc.{crc_of};
@@ -48,7 +48,7 @@ impl GPTHeader {
         requires sector { 0 < sector_size }
         requires coherent { IsCoherent self.old partitions.now }
         ensures keeps { Keeps (D.state disk.old) (D.state disk.new) }
-        ensures counts { OnOk result (HasFailedAsOften (D.state disk.old) (D.state disk.new)) }
+        ensures counts { CountsFailure result (D.state disk.old) (D.state disk.new) }
         ensures once { HasFailedOnceAtMost (D.state disk.old) (D.state disk.new) }
 
         // What is answered.
