@@ -1,17 +1,18 @@
 -- The reading of a disk whose primary copy has a fault.
-use Rattle.std.proofs.Common.{◌≡◌, ◌≢◌, inl, inr, ◌≤◌, ◌<◌, ℕ, ◌-◌, ◌*◌, ◌/◌, ◌&&◌, Bool, true, false, List, length, ltb, Result, Ok, Err, arith, refl, sym, ap, ◌∙◌}
-use Rattle.std.specs.Prelude.{IfErr, IsTrue, if◌then◌else◌}
+use Rattle.std.proofs.Common.{◌≡◌, ◌≢◌, ◌⊎◌, ⊎_elim, inl, inr, ◌≤◌, ◌<◌, ℕ, ◌+◌, ◌-◌, ◌*◌, ◌/◌, ◌&&◌, Bool, true, false, List, length, ltb, Result, Ok, Err, arith, refl, subst, sym, ap, ◌∙◌}
+use Rattle.std.specs.Prelude.{IfErr, IfOk, IsErr, IsTrue, if◌then◌else◌}
 use Rattle.std.proofs.lemmas.Bool.{and_from}
 use Rattle.gptman_copy.specs.Answers.{answer_of, is_copy_fault, is_damage, Refuses}
-use Rattle.gptman.specs.TableReads.{copy_of, is_reading_fault, FallsBack, IsCopyFault, IsReadingFault, read, no_memory, no_seek, no_backup}
+use Rattle.gptman.specs.TableReads.{copy_of, is_reading_fault, CountsReading, FallsBack, IsCopyFault, IsReadingFault, MayBeRead, read, no_memory, no_seek, no_backup}
 use Rattle.gptman_copy.specs.Copy.{Copy, copy_at}
-use Rattle.gptman_copy.specs.Disk.{DiskState}
+use Rattle.gptman_copy.specs.Disk.{DiskState, HasFailedAsOften, Keeps}
 use Rattle.gptman_copy.specs.Fault.{Fault, fault_of, is_signature_fault, io, invalid_signature, invalid_revision, invalid_header_size, invalid_checksum, invalid_array_checksum, read_error, no_space_left, conflict_partition_guid, invalid_partition_boundaries, invalid_partition_number, unused_partition, partition_not_found, overflow, out_of_memory, invalid_entry_size}
 use Rattle.gptman.specs.Reading.{primary, backup, both, copy_in, fallback, found_sector_size, reading_of, second_copy}
 use Rattle.gptman_copy.specs.declared.error.Error.{Error}
 use Rattle.gptman.specs.declared.table.GPT.{GPT}
 use Rattle.gptman_copy.proofs.CopyParts.{header_refused}
 use Rattle.gptman_copy.proofs.CopyTests.{header_short}
+use Rattle.gptman_copy.proofs.Runs.{rose_since}
 
 -- a copy's fault that is no want of memory is damage
 pub damage_from : (f : Fault) → is_copy_fault f ≡ true → f ≢ out_of_memory → is_damage f ≡ true
@@ -31,6 +32,11 @@ damage_from partition_not_found h known = h
 damage_from overflow h known = h
 damage_from out_of_memory h known = absurd (known refl)
 damage_from (invalid_entry_size n) h known = h
+
+-- a fault of the signature is that one
+pub signature_fault : (f : Fault) → is_signature_fault f ≡ true → f ≡ invalid_signature
+signature_fault invalid_signature is = refl
+signature_fault _ is = absurd (cc)
 
 kinds_by : (first second : Fault) (t : Bool) → is_damage first ≡ true → is_damage second ≡ true → is_signature_fault first && is_signature_fault second ≡ t
     → (both first second ≢ io) × IsTrue (is_reading_fault (both first second))
@@ -158,3 +164,59 @@ found_first b fault is other = ap size_by is ∙ rw other refl
 pub found_second : (b : List ℕ) (fault : Fault) → reading_of b 512 ≡ Err fault → is_signature_fault fault ≡ true → found_sector_size b ≡ 4096
 unfolding found_sector_size
 found_second b fault is none = ap size_by is ∙ rw none refl
+
+copy_second : (first : Fault) (copy : Copy) (r : Result Copy Fault) → Ok copy ≡ second_copy first r → r ≡ Ok copy
+copy_second first copy (Ok other) is = sym is
+copy_second first copy (Err second) is = absurd (cc)
+
+taken_by : (b : List ℕ) (ss : ℕ) (first : Fault) (copy : Copy) (short : Bool) → ltb (length b) ss ≡ short → Ok copy ≡ fallback b ss first → copy_in backup b ss ≡ Ok copy
+taken_by b ss first copy true small is =
+    let none : ◌≡◌ {A = Result Copy Fault} (Ok copy) (Err invalid_signature) = is ∙ fallback_short b ss first (grind arith) in
+    absurd (cc)
+taken_by b ss first copy false large is = copy_second first copy (copy_in backup b ss) (is ∙ fallback_long b ss first (grind arith))
+
+-- what the fallback takes is the backup copy
+pub taken_backup : (r : Result GPT Error) (b : List ℕ) (ss : ℕ) (first : Fault) (old new : DiskState) → FallsBack r copy_of b ss first old new
+    → IfOk r (λ g. copy_in backup b ss ≡ Ok (copy_of g))
+taken_backup (Err e) b ss first old new back = tt
+taken_backup (Ok g) b ss first old new (read is) = taken_by b ss first (copy_of g) (ltb (length b) ss) refl is
+taken_backup (Ok g) b ss first old new (no_memory out) = absurd out
+taken_backup (Ok g) b ss first old new (no_seek failed rose) = absurd failed
+taken_backup (Ok g) b ss first old new (no_backup said rose) = absurd said
+
+primary_by : (b : List ℕ) (ss : ℕ) (copy : Copy) (short : Bool) → ltb (length b) ss ≡ short → copy_in primary b ss ≡ Ok copy → ss ≤ length b
+primary_by b ss copy true small at =
+    let far : copy_at b ss ss ≡ Err io = header_refused b ss ss io (header_short b ss (grind arith)) in
+    let none : ◌≡◌ {A = Result Copy Fault} (Err io) (Ok copy) = sym (primary_at b ss ∙ far) ∙ at in
+    absurd (cc)
+primary_by b ss copy false large at = grind arith
+
+-- a disk with a primary copy is no shorter than a sector
+primary_room : (b : List ℕ) (ss : ℕ) (copy : Copy) → copy_in primary b ss ≡ Ok copy → ss ≤ length b
+primary_room b ss copy at = primary_by b ss copy (ltb (length b) ss) refl at
+
+-- nor is one of which a copy was read
+pub read_room : (old new : DiskState) (ss : ℕ) (copy : Copy) → MayBeRead old new ss copy → ss ≤ length old.view
+read_room old new ss copy (inl first) = primary_room old.view ss copy first
+read_room old new ss copy (inr second) = backup_room old.view ss copy second.0
+
+-- a reading with sectors of 4096 bytes behind one with 512: what it takes may be read
+pub second_read : (r : Result GPT Error) (old mid new : DiskState) → mid.view ≡ old.view → Keeps old mid
+    → IfOk r (λ g. g.sector_size ≡ 4096) → IfOk r (λ g. MayBeRead mid new 4096 (copy_of g)) → IfOk r (λ g. MayBeRead old new g.sector_size (copy_of g))
+second_read (Err e) old mid new same keeps size taken = tt
+second_read (Ok g) old mid new same keeps size (inl first) = rw size (inl (ap (λ b. copy_in primary b 4096) (sym same) ∙ first))
+second_read (Ok g) old mid new same keeps size (inr second) =
+    let here : copy_in backup old.view 4096 ≡ Ok (copy_of g) = ap (λ b. copy_in backup b 4096) (sym same) ∙ second.0 in
+    rw size (inr (here, ⊎_elim (λ bad. inl (subst (λ b. IsErr (copy_in primary b 4096)) same bad)) (λ rose. inr (rose_since old mid new keeps rose)) second.1))
+
+-- and the disk failed in it as in a single reading: on a disk of a sector of 4096 bytes the first one that shows no signature met no failure
+pub second_counts : (r : Result GPT Error) (old mid new : DiskState) → mid.view ≡ old.view → length old.view ≡ old.size
+    → HasFailedAsOften old mid ⊎ (old.size < 512)
+    → IfOk r (λ g. g.sector_size ≡ 4096) → IfOk r (λ g. MayBeRead mid new 4096 (copy_of g)) → IfOk r (CountsReading mid new) → IfOk r (CountsReading old new)
+second_counts (Err e) old mid new same long first size taken counts = tt
+second_counts (Ok g) old mid new same long (inr short) size taken counts =
+    let room : 4096 ≤ length mid.view = read_room mid new 4096 (copy_of g) taken in
+    absurd (omega (arith, room, ap length same, long, short))
+second_counts (Ok g) old mid new same long (inl none) size taken (inl still) = inl (still ∙ none)
+second_counts (Ok g) old mid new same long (inl none) size taken (inr once) =
+    inr (omega (arith, once.0, none), ap (λ b. copy_in backup b g.sector_size) (sym same) ∙ once.1)

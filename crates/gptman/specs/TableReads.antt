@@ -3,7 +3,7 @@ use Rattle.std.specs.Prelude.{◌≡◌, ◌⊎◌, ◌&&◌, ℕ, Bool, true, f
 use Rattle.gptman_copy.specs.Answers.{answer_of, Refuses, is_damage}
 use Rattle.gptman_copy.specs.Copy.{Copy, IsCoherent}
 use Rattle.gptman.specs.Alignment.{IsAlignment}
-use Rattle.gptman_copy.specs.Disk.{DiskState, IsHonest, Rose}
+use Rattle.gptman_copy.specs.Disk.{DiskState, HasFailedAsOften, HasFailedOnceAtMost, IsHonest, Rose}
 use Rattle.gptman_copy.specs.Fault.{Fault, io, invalid_signature, read_error, out_of_memory}
 use Rattle.gptman.specs.Reading.{Side, primary, backup, copy_in, fallback, reading_of}
 use Rattle.gptman.specs.Table.{entries_in}
@@ -39,6 +39,10 @@ pub record IsAsRead (g : GPT) : Type 0 where
 abbrev pub MayBeRead : DiskState → DiskState → ℕ → Copy → Type 0
 MayBeRead old new ss copy =
     (copy_in primary old.view ss ≡ Ok copy) ⊎ ((copy_in backup old.view ss ≡ Ok copy) × (IsErr (copy_in primary old.view ss) ⊎ Rose old new))
+
+-- The disk failed nowhere in the reading; or once, and the copy at the backup side was taken.
+abbrev pub CountsReading : DiskState → DiskState → GPT → Type 0
+CountsReading old new g = HasFailedAsOften old new ⊎ (HasFailedOnceAtMost old new × (copy_in backup old.view g.sector_size ≡ Ok (copy_of g)))
 
 -- a copy's fault, or that the disk failed
 abbrev pub IsCopyFault : Side → List ℕ → ℕ → Fault → Type 0

@@ -2,9 +2,10 @@
 
 ghost use Rattle.std.specs.Prelude.{◌≡◌, ◌≤◌, ◌<◌, ◌⊎◌, [], ◌∷◌, ℕ, length};
 ghost use Rattle.std.specs.Prelude.{IfErr, IfNone, IfSome, IsTrue, OnErr, OnOk};
-ghost use Rattle.gptman_copy.specs.Answers.{refusal_of, HasCause, Refuses};
+ghost use Rattle.gptman_copy.specs.Answers.{refusal_of, CountsFailure, HasCause, Refuses};
 ghost use Rattle.gptman_copy.specs.Copy.{IsCoherent};
-ghost use Rattle.gptman_copy.specs.Disk.{IsHonest, Keeps, OnlyRead, Rose, Writes};
+ghost use Rattle.gptman_copy.specs.Disk.{HasFailedAsOften, HasFailedOnceAtMost, IsHonest, Keeps, OnlyRead};
+ghost use Rattle.gptman_copy.specs.Disk.{Rose, Writes};
 ghost use Rattle.gptman_copy.specs.Fault.{fault_of, out_of_memory};
 ghost use Rattle.gptman_copy.specs.Ranges.{AreApart};
 ghost use Rattle.gptman.specs.Commit.{is_failure, is_io, reached, tables_to, value_after, HoldsLast};
@@ -84,6 +85,9 @@ impl GPT {
         requires sector { 0 < self.old.sector_size }
         requires coherent { IsCoherent self.old.header (entries_in self.old) }
         ensures keeps { Keeps (D.state disk.old) (D.state disk.new) }
+        ensures counts { IsTrue (is_failure result.fault)
+            ⊎ HasFailedAsOften (D.state disk.old) (D.state disk.new) }
+        ensures once { HasFailedOnceAtMost (D.state disk.old) (D.state disk.new) }
 
         // Which edits were made, and why the next one was not. On the stated layout there is room for each.
         ensures count { result.done ≤ length edits.items }
@@ -148,6 +152,8 @@ impl GPT {
         requires sector { 0 < self.old.sector_size }
         requires coherent { IsCoherent self.old.header (entries_in self.old) }
         ensures keeps { Keeps (D.state disk.old) (D.state disk.new) }
+        ensures counts { CountsFailure result (D.state disk.old) (D.state disk.new) }
+        ensures once { HasFailedOnceAtMost (D.state disk.old) (D.state disk.new) }
 
         // What is answered, and what becomes of the value.
         ensures allowed { OnOk result (IsAllowed self.old edit) }

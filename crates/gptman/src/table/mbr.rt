@@ -2,8 +2,8 @@
 //! program that knows no GUID partition tables.
 
 ghost use Rattle.std.specs.Prelude.{◌≡◌, ◌≤◌, ◌<◌, ◌∷◌, [], true, false};
-ghost use Rattle.gptman_copy.specs.Answers.{FailsPending, HasCause, RefusesUntouched};
-ghost use Rattle.gptman_copy.specs.Disk.{Keeps, Writes};
+ghost use Rattle.gptman_copy.specs.Answers.{CountsFailure, FailsPending, HasCause, RefusesUntouched};
+ghost use Rattle.gptman_copy.specs.Disk.{HasFailedOnceAtMost, Keeps, Writes};
 ghost use Rattle.gptman.specs.Mbr.{mbr_bytes, mbr_range, AnswersMbr, LaysMbr};
 
 use crate::table::GPT;
@@ -30,6 +30,8 @@ impl GPT {
     pub fn write_protective_mbr_into<D: Disk>(disk: &mut D, sector_size: u64) -> Result<()>
         requires { 0 < sector_size }
         ensures keeps { Keeps (D.state disk.old) (D.state disk.new) }
+        ensures counts { CountsFailure result (D.state disk.old) (D.state disk.new) }
+        ensures once { HasFailedOnceAtMost (D.state disk.old) (D.state disk.new) }
         ensures answer { AnswersMbr sector_size result (D.state disk.old) (D.state disk.new) }
         ensures cause { HasCause result (D.state disk.old) (D.state disk.new) }
         ensures wrote { Writes (mbr_range ∷ []) (D.state disk.old) (D.state disk.new) }
@@ -49,6 +51,8 @@ impl GPT {
     pub fn write_bootable_protective_mbr_into<D: Disk>(disk: &mut D, sector_size: u64) -> Result<()>
         requires { 0 < sector_size }
         ensures keeps { Keeps (D.state disk.old) (D.state disk.new) }
+        ensures counts { CountsFailure result (D.state disk.old) (D.state disk.new) }
+        ensures once { HasFailedOnceAtMost (D.state disk.old) (D.state disk.new) }
         ensures answer { AnswersMbr sector_size result (D.state disk.old) (D.state disk.new) }
         ensures cause { HasCause result (D.state disk.old) (D.state disk.new) }
         ensures wrote { Writes (mbr_range ∷ []) (D.state disk.old) (D.state disk.new) }
@@ -64,6 +68,8 @@ impl GPT {
 fn write_mbr<D: Disk>(disk: &mut D, sector_size: u64, bootable: bool) -> Result<()>
     requires { 0 < sector_size }
     ensures keeps { Keeps (D.state disk.old) (D.state disk.new) }
+    ensures counts { CountsFailure result (D.state disk.old) (D.state disk.new) }
+    ensures once { HasFailedOnceAtMost (D.state disk.old) (D.state disk.new) }
     ensures answer { AnswersMbr sector_size result (D.state disk.old) (D.state disk.new) }
     ensures cause { HasCause result (D.state disk.old) (D.state disk.new) }
     ensures wrote { Writes (mbr_range ∷ []) (D.state disk.old) (D.state disk.new) }

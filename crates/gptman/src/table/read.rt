@@ -1,17 +1,18 @@
 //! Making a table for a disk, and reading the one that a disk holds.
 
-ghost use Rattle.std.specs.Prelude.{◌≡◌, ◌≢◌, ◌≤◌, ◌<◌, ◌⊎◌, Ok, replicate, IfErr, IfOk, IsTrue};
+ghost use Rattle.std.specs.Prelude.{◌≡◌, ◌≢◌, ◌≤◌, ◌<◌, ◌⊎◌, Ok, replicate, IfErr, IfOk, IsTrue, OnOk};
 ghost use Rattle.gptman_copy.specs.Answers.{answer_of, is_copy_fault, is_damage};
-ghost use Rattle.gptman_copy.specs.Answers.{AnswersInMemory, HasCause, Refuses, RefusesOnly, Settles};
+ghost use Rattle.gptman_copy.specs.Answers.{AnswersInMemory, CountsFailure, HasCause, Refuses, RefusesOnly};
+ghost use Rattle.gptman_copy.specs.Answers.{Settles};
 ghost use Rattle.gptman_copy.specs.Coding.{empty_entry};
 ghost use Rattle.gptman_copy.specs.Copy.{copy_at};
-ghost use Rattle.gptman_copy.specs.Disk.{IsHonest, Reads, Rose};
-ghost use Rattle.gptman_copy.specs.Fault.{fault_of, io as io_fault, out_of_memory};
+ghost use Rattle.gptman_copy.specs.Disk.{HasFailedAsOften, HasFailedOnceAtMost, IsHonest, Reads, Rose};
+ghost use Rattle.gptman_copy.specs.Fault.{fault_of, io as io_fault, invalid_signature, out_of_memory};
 ghost use Rattle.gptman_copy.specs.Fit.{fit_fault, new_header};
 ghost use Rattle.gptman.specs.Reading.{both, copy_in, found_sector_size, primary, reading_of, second_copy};
 ghost use Rattle.gptman.specs.Table.{new_table};
-ghost use Rattle.gptman.specs.TableReads.{copy_of, is_reading_fault, AnswersReading, FallsBack, IsAsRead};
-ghost use Rattle.gptman.specs.TableReads.{IsReadingFault, MayBeRead, ShowsNoSignature};
+ghost use Rattle.gptman.specs.TableReads.{copy_of, is_reading_fault, AnswersReading, CountsReading, FallsBack};
+ghost use Rattle.gptman.specs.TableReads.{IsAsRead, IsReadingFault, MayBeRead, ShowsNoSignature};
 
 use crate::table::GPT;
 use crate::table::align::{DEFAULT_ALIGN, find_alignment};
@@ -38,6 +39,8 @@ impl GPT {
     ) -> Result<GPT>
         requires { 0 < sector_size }
         ensures reads { Reads (D.state disk.old) (D.state disk.new) }
+        ensures counts { CountsFailure result (D.state disk.old) (D.state disk.new) }
+        ensures once { HasFailedOnceAtMost (D.state disk.old) (D.state disk.new) }
         ensures answer { Refuses result out_of_memory
             ⊎ Settles (fit_fault (new_header disk_guid) sector_size (D.state disk.old).size) result
             (D.state disk.old) (D.state disk.new) }
@@ -79,6 +82,13 @@ impl GPT {
         ensures answer { AnswersReading (reading_of (D.state disk.old).view sector_size) result
             (D.state disk.old) (D.state disk.new) }
 
+        // Where it failed all the same, that was once, in the primary copy, and the backup copy is read.
+        ensures counts { IsHonest (D.state disk.old)
+            → IfOk result (CountsReading (D.state disk.old) (D.state disk.new)) }
+        ensures unsigned { Refuses result invalid_signature
+            → HasFailedAsOften (D.state disk.old) (D.state disk.new)
+            ⊎ ((D.state disk.old).size < sector_size) }
+
         // Also where it failed, what is read is an accepted copy, and a refusal is the disk's or a copy's
         // own.
         ensures accepted { IsHonest (D.state disk.old)
@@ -115,6 +125,10 @@ impl GPT {
             (reading_of (D.state disk.old).view (found_sector_size (D.state disk.old).view))
             result (D.state disk.old) (D.state disk.new) }
 
+        // Where it failed all the same, that was once, in the primary copy, and the backup copy is read.
+        ensures counts { IsHonest (D.state disk.old)
+            → IfOk result (CountsReading (D.state disk.old) (D.state disk.new)) }
+
         // Also where it failed, 4096 is tried only where 512 shows no signature.
         ensures accepted { IsHonest (D.state disk.old)
             → IfOk result (λ g. MayBeRead (D.state disk.old) (D.state disk.new) g.sector_size (copy_of g)) }
@@ -148,6 +162,8 @@ impl GPT {
 fn read_primary<D: Disk>(alloc: Global, disk: &mut D, sector_size: u64) -> Result<GPT>
     requires { 0 < sector_size }
     ensures reads { Reads (D.state disk.old) (D.state disk.new) }
+    ensures counts { CountsFailure result (D.state disk.old) (D.state disk.new) }
+    ensures once { HasFailedOnceAtMost (D.state disk.old) (D.state disk.new) }
     ensures answer { AnswersInMemory copy_of (copy_in primary (D.state disk.old).view sector_size) result
         (D.state disk.old) (D.state disk.new) }
     ensures refused { RefusesOnly is_copy_fault result }
@@ -168,9 +184,14 @@ fn read_backup<D: Disk>(
     requires sector { 0 < sector_size }
     requires damage { IsTrue (is_damage (fault_of primary)) }
     ensures reads { Reads (D.state disk.old) (D.state disk.new) }
+    ensures counts { OnOk result (HasFailedAsOften (D.state disk.old) (D.state disk.new)) }
+    ensures once { HasFailedOnceAtMost (D.state disk.old) (D.state disk.new) }
     ensures answer { IsHonest (D.state disk.old)
         → FallsBack result copy_of (D.state disk.old).view sector_size
         (fault_of primary) (D.state disk.old) (D.state disk.new) }
+    ensures unsigned { Refuses result invalid_signature
+        → HasFailedAsOften (D.state disk.old) (D.state disk.new)
+        × (((D.state disk.old).size < sector_size) ⊎ (fault_of primary ≡ invalid_signature)) }
     ensures kinds { RefusesOnly is_reading_fault result }
     ensures cause { HasCause result (D.state disk.old) (D.state disk.new) }
     ensures sector { IfOk result (λ g. g.sector_size ≡ sector_size) }
@@ -193,6 +214,8 @@ fn settle(alloc: Global, primary: Error, backup: Result<GPT>) -> Result<GPT>
         ⊎ (answer_of copy_of result ≡ second_copy (fault_of primary) (answer_of copy_of backup)) }
     ensures kinds { IfErr result (λ e. (fault_of e ≢ io_fault) × IsTrue (is_reading_fault (fault_of e))) }
     ensures memory { Refuses backup out_of_memory → Refuses result out_of_memory }
+    ensures unsigned { Refuses result invalid_signature
+        → (fault_of primary ≡ invalid_signature) × Refuses backup invalid_signature }
     ensures same { IfOk result (λ g. backup ≡ Ok g) }
 {
     let backup = match backup {
@@ -209,6 +232,8 @@ fn settle(alloc: Global, primary: Error, backup: Result<GPT>) -> Result<GPT>
 fn read_table<D: Disk>(alloc: Global, disk: &mut D, sector_size: u64) -> Result<GPT>
     requires { 0 < sector_size }
     ensures reads { Reads (D.state disk.old) (D.state disk.new) }
+    ensures counts { CountsFailure result (D.state disk.old) (D.state disk.new) }
+    ensures once { HasFailedOnceAtMost (D.state disk.old) (D.state disk.new) }
     ensures answer { AnswersInMemory copy_of
         (copy_at (D.state disk.old).view (D.state disk.old).position sector_size)
         result (D.state disk.old) (D.state disk.new) }

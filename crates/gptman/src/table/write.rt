@@ -3,11 +3,11 @@
 //! Each copy is synced before the next is begun, so at any moment one of them is whole.
 
 ghost use Rattle.std.specs.Prelude.{◌≡◌, ◌<◌, ◌⊎◌, [], ◌∷◌, None, IfErr, IfOk, OnErr, OnOk};
-ghost use Rattle.gptman_copy.specs.Answers.{FailsPending, HasCause, IsFailure, Settles};
+ghost use Rattle.gptman_copy.specs.Answers.{CountsFailure, FailsPending, HasCause, IsFailure, Settles};
 ghost use Rattle.gptman_copy.specs.Coding.{array_bytes};
 ghost use Rattle.gptman_copy.specs.Copy.{with_checksums, IsCoherent};
 ghost use Rattle.gptman_copy.specs.Crc.{crc_of};
-ghost use Rattle.gptman_copy.specs.Disk.{IsHonest, Keeps, LeavesOnly, Reads, Writes};
+ghost use Rattle.gptman_copy.specs.Disk.{HasFailedOnceAtMost, IsHonest, Keeps, LeavesOnly, Reads, Writes};
 ghost use Rattle.gptman_copy.specs.Fault.{fault_of, io as io_fault};
 ghost use Rattle.gptman_copy.specs.Ranges.{AreApart};
 ghost use Rattle.gptman_copy.specs.Write.{copy_write_fault, header_range, other_header, write_ranges};
@@ -53,6 +53,8 @@ impl GPT {
         requires sector { 0 < self.old.sector_size }
         requires coherent { IsCoherent self.old.header (entries_in self.old) }
         ensures keeps { Keeps (D.state disk.old) (D.state disk.new) }
+        ensures counts { CountsFailure result (D.state disk.old) (D.state disk.new) }
+        ensures once { HasFailedOnceAtMost (D.state disk.old) (D.state disk.new) }
 
         // What is answered. A valid table of the stated layout is refused by the disk and by want of
         // memory alone.
@@ -119,6 +121,8 @@ impl GPT {
         requires sector { 0 < self.old.sector_size }
         requires coherent { IsCoherent self.old.header (entries_in self.old) }
         ensures keeps { Keeps (D.state disk.old) (D.state disk.new) }
+        ensures counts { CountsFailure result (D.state disk.old) (D.state disk.new) }
+        ensures once { HasFailedOnceAtMost (D.state disk.old) (D.state disk.new) }
 
         // What is answered. A refusal other than NoSpaceLeft needs nothing of the disk.
         ensures at_once { RefusesAtOnce (table_write_fault self.old (D.state disk.old).size) result }
@@ -161,6 +165,8 @@ impl GPT {
     // The other header, where both copies may be written to the disk.
     fn writable_other<D: Disk>(&self, disk: &mut D) -> Result<GPTHeader>
         ensures reads { Reads (D.state disk.old) (D.state disk.new) }
+        ensures counts { CountsFailure result (D.state disk.old) (D.state disk.new) }
+        ensures once { HasFailedOnceAtMost (D.state disk.old) (D.state disk.new) }
         ensures at_once { RefusesAtOnce (table_write_fault self.now (D.state disk.old).size) result }
         ensures answer { Settles (table_write_fault self.now (D.state disk.old).size) result
             (D.state disk.old) (D.state disk.new) }
@@ -196,6 +202,8 @@ fn write_and_sync<D: Disk>(
     requires checksum { checksum ≡ crc_of (array_bytes partitions.now) }
     requires allowed { copy_write_fault header.old sector_size (D.state disk.old).size ≡ None }
     ensures keeps { Keeps (D.state disk.old) (D.state disk.new) }
+    ensures counts { CountsFailure result (D.state disk.old) (D.state disk.new) }
+    ensures once { HasFailedOnceAtMost (D.state disk.old) (D.state disk.new) }
     ensures refused { IfErr result (λ e. IsFailure (fault_of e) (D.state disk.old) (D.state disk.new)) }
     ensures value { OnOk result (header.new ≡ with_checksums header.old partitions.now) }
     ensures fits { OnOk result (FitsCopy header.new partitions.now) }

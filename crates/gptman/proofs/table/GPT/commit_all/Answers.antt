@@ -1,4 +1,4 @@
-use Rattle.std.proofs.Common.{◌≡◌, ◌++◌, List, [], ◌∷◌, length, refl, sym, ap, ◌∙◌, append_assoc, length-append, arith, inr, rules, Some}
+use Rattle.std.proofs.Common.{◌≡◌, ◌++◌, List, [], ◌∷◌, length, refl, sym, ap, ◌∙◌, append_assoc, length-append, arith, inr, ⊎_elim, rules, Some}
 use Rattle.std.specs.Vec.Iter.{into_iter_items}
 use Rattle.gptman.specs.Commit.{reached, tables_to}
 use Rattle.gptman.specs.Crash.{StartsFromOne}
@@ -23,6 +23,7 @@ loop-edit-init g c = (
   refl,
   search rules,
   λ none. refl,
+  refl,
 )
 
 pub loop-edit-preserved : goal.loop-edit-preserved
@@ -55,6 +56,7 @@ loop-edit-preserved g c =
           let short = ap length steps in
           omega arith,
       λ none. absurd (omega (arith, none, length-append at.yielded (edit ∷ []))),
+      ⊎_elim (λ same. same ∙ at.invariant.5) (λ refused. absurd refused) done.counts,
     )
 
 -- ---- an edit was refused

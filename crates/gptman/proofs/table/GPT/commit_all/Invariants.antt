@@ -10,3 +10,4 @@ invariant-loop-edit g l =
     × (l.done ≡ length l.yielded)
     × (into_iter_len l.edit-iterator ≡ length (into_iter_items l.edit-iterator))
     × (length l.yielded ≡ 0 → l.disk ≡ l.fn.disk)
+    × ((g.D.Disk.state l.disk).failures ≡ (g.D.Disk.state l.fn.disk).failures)

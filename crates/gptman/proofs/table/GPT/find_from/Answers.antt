@@ -1,8 +1,8 @@
-use Rattle.std.proofs.Common.{◌≡◌, ◌≢◌, ⊎_elim, true, false, inl, inr, sym, ap, subst, ◌∙◌, List, ℕ, rules}
+use Rattle.std.proofs.Common.{◌≡◌, ◌≢◌, ⊎_elim, true, false, inl, inr, sym, ap, subst, ◌∙◌, List, ℕ, length, rules}
 use Rattle.std.specs.Prelude.{IfOk}
 use Rattle.gptman_copy.specs.Fault.{fault_of, is_signature_fault, out_of_memory}
 use Rattle.gptman.specs.Reading.{reading_of}
-use Rattle.gptman.proofs.Fallback.{found_first, found_ok, found_second}
+use Rattle.gptman.proofs.Fallback.{found_first, found_ok, found_second, second_counts, second_read, signature_fault}
 use Rattle.gptman_copy.proofs.Readers.{both_read}
 use Rattle.gptman_copy.proofs.Runs.{rose_before, rose_since}
 use Rattle.gptman.proofs.table.GPT.find_from.Goals as goal
@@ -62,3 +62,24 @@ returns-clause-found g c = λ honest.
     (λ is. inr (subst (λ (n : ℕ). IfOk c.read_from-2.result (λ g. g.sector_size ≡ n)) (sym (found_second old.view _ (sym is) none)) c.read_from-2.ensures.sector))
     rest)
     (c.in-Err.ensures.answer honest)
+
+pub returns-clause-accepted : goal.returns-clause-accepted
+returns-clause-accepted g c = λ honest.
+    let old = g.D.Disk.state c.args.disk.now in
+    let mid = g.D.Disk.state c.read_from.new.disk in
+    let new = g.D.Disk.state c.read_from-2.new.disk in
+    let first = c.read_from.ensures.reads.only honest in
+    let second = c.read_from-2.ensures in
+    second_read c.read_from-2.result old mid new first.view c.read_from.ensures.reads.keeps second.sector (second.accepted first.wrote.honest)
+
+pub returns-clause-counts : goal.returns-clause-counts
+returns-clause-counts g c = λ honest.
+    let old = g.D.Disk.state c.args.disk.now in
+    let mid = g.D.Disk.state c.read_from.new.disk in
+    let new = g.D.Disk.state c.read_from-2.new.disk in
+    let first = c.read_from.ensures.reads.only honest in
+    let second = c.read_from-2.ensures in
+    let size : length old.view ≡ old.size = (g.met.D.Disk.sound c.args.disk.now honest).size in
+    let none : is_signature_fault (fault_of c.in-Err.fault) ≡ true = search rules in
+    second_counts c.read_from-2.result old mid new first.view size (c.in-Err.ensures.unsigned (signature_fault _ none))
+    second.sector (second.accepted first.wrote.honest) (second.counts first.wrote.honest)

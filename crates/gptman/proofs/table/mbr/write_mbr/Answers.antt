@@ -1,5 +1,16 @@
-use Rattle.std.proofs.Common.{rules}
+use Rattle.std.proofs.Common.{◌≡◌, ◌≤◌, ◌+◌, length, arith, rules}
+use Rattle.gptman_copy.proofs.Ranges.{within_none, within_range}
+use Rattle.gptman_copy.proofs.Readers.{reads_then}
+use Rattle.gptman_copy.proofs.Runs.{wrote_then, wrote_wider}
 use Rattle.gptman.proofs.table.mbr.write_mbr.Goals as goal
 
 pub returns-then-size-lt-MBR_END-clause-answer : goal.returns-then-size-lt-MBR_END-clause-answer
 returns-then-size-lt-MBR_END-clause-answer g c = search rules
+
+pub returns-in_err-write_all-clause-wrote : goal.returns-in_err-write_all-clause-wrote
+returns-in_err-write_all-clause-wrote g c = λ honest.
+    let end = c.seek_end.ensures.reads.only honest in
+    let read = reads_then end (c.seek_start.ensures.reads.only end.wrote.honest) in
+    let at : (g.D.Disk.state c.seek_start.new.self).position ≡ 446 = c.in_ok-seek_start.ensures.answer.1 in
+    let size : length c.mbr_bytes.result ≡ 66 = omega arith in
+    wrote_then (within_range (omega (arith, at)) (omega (arith, at, size))) (wrote_wider within_none read.wrote) (c.write_all.ensures.wrote read.wrote.honest)
