@@ -1,10 +1,10 @@
 -- What is read from a disk, and what comes after it.
-use Rattle.std.proofs.Common.{◌≡◌, ⊎_elim, ◌⊎◌, inl, inr, sym, ◌∙◌, ℕ}
+use Rattle.std.proofs.Common.{◌≡◌, ⊎_elim, ◌⊎◌, inl, inr, sym, ◌∙◌, ℕ, arith}
 use Rattle.std.specs.Prelude.{Result, Ok, Err, IfOk, None, Option}
 use Rattle.gptman.specs.Answers.{answer_of, Fails, Refuses}
-use Rattle.gptman.specs.TableReads.{copy_of, IsAsRead, MayBeRead}
+use Rattle.gptman.specs.TableReads.{copy_of, CountsReading, IsAsRead, MayBeRead}
 use Rattle.gptman.specs.Copy.{Copy}
-use Rattle.gptman.specs.Disk.{DiskState, Keeps, Rose}
+use Rattle.gptman.specs.Disk.{DiskState, HasFailedAsOften, Keeps, Rose}
 use Rattle.gptman.specs.Fault.{Fault, invalid_signature, out_of_memory}
 use Rattle.gptman.specs.Reading.{found_sector_size, reading_of}
 use Rattle.gptman_copy.specs.declared.error.Error.{Error}
@@ -51,3 +51,8 @@ pub found_before : {X : Type 0} (f : X → Copy) (r : Result X Error) (old mid n
     → Fails r old mid ⊎ (answer_of f r ≡ there) → Fails r old new ⊎ (answer_of f r ≡ there)
 found_before f r old mid new there keeps (inl fails) = inl (fails.0, rose_before old mid new fails.1 keeps)
 found_before f r old mid new there keeps (inr is) = inr is
+
+-- how often the disk failed in a reading, and in what comes after it without a failure
+pub counts_before : (old mid new : DiskState) (table : GPT) → CountsReading old mid table → HasFailedAsOften mid new → CountsReading old new table
+counts_before old mid new table (inl none) still = inl (still ∙ none)
+counts_before old mid new table (inr once) still = inr (omega (arith, once.0, still), once.1)

@@ -26,6 +26,7 @@ change_as turn makes = record {
   table = makes.table;
   next = makes.next;
   read = makes.read;
+  counts = makes.counts;
   changed = makes.changed;
   wrote = makes.wrote;
   stored = makes.stored;

@@ -12,6 +12,7 @@ use Rattle.gptman.specs.Number.{entry_at, number_fault, with_entry}
 use Rattle.gptman.specs.Place.{IsBestPlace, IsFirstPlace, IsFreeIn, IsLastPlace}
 use Rattle.gptman.specs.Stop.{IsStored, StopsHold}
 use Rattle.gptman.specs.Table.{Table as DiskTable, grow_to, table_in}
+use Rattle.gptman.specs.TableReads.{CountsReading}
 use Rattle.gptman.specs.TableWrites.{table_ranges}
 use Rattle.gptman_copy.specs.declared.codec.entry.GPTPartitionEntry.{GPTPartitionEntry}
 use Rattle.gptman.specs.declared.edit.Edit.TheVariants.{Remove as RemoveEntry, SortEntries}
@@ -68,11 +69,13 @@ report_of (Remove number) next = Done
 report_of Sort next = Done
 report_of Grow next = Done
 
--- A table was read from the disk, changed and written: no byte outside of its four ranges is another, and where it has the layout both places hold it.
+-- A table was read from the disk, changed and written: no byte outside of its four ranges is another, and where it has the layout both places hold it. The disk failed
+-- nowhere, or once, and then the backup copy was read.
 pub record MakesChange (Told : GPT → Type 0) (size : Option ℕ) (change : Change) (old new : DiskState) : Type 0 where
   pub table : GPT
   pub next : GPT
   pub read : IsReadFrom size old new table
+  pub counts : CountsReading old new table
   pub changed : IsChanged old.size change table next
   pub wrote : Wrote (table_ranges next) old new
   pub stored : HasLayout next old.size → IsStored new next.sector_size (table_in next)

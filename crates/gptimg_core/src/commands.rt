@@ -2,14 +2,16 @@
 
 ghost use Rattle.std.specs.Prelude.{◌≡◌, ◌⊎◌, ◌<◌, ◌∷◌, [], ℕ, Bool, List, Option};
 ghost use Rattle.std.specs.Prelude.{IfErr, IfOk, IfSome, IsTrue, OnErr, OnOk};
-ghost use Rattle.gptman.specs.Answers.{HasCause};
+ghost use Rattle.gptman.specs.Answers.{CountsFailure, HasCause};
 ghost use Rattle.gptman.specs.Copy.{IsCoherent};
 ghost use Rattle.gptman.specs.Crash.{StartsLaidOut};
-ghost use Rattle.gptman.specs.Disk.{FailedOrUntouched, IsHonest, Keeps, OnlyRead, Reads, Writes};
+ghost use Rattle.gptman.specs.Disk.{FailedOrUntouched, HasFailedOnceAtMost, IsHonest, Keeps, OnlyRead};
+ghost use Rattle.gptman.specs.Disk.{Reads, Writes};
 ghost use Rattle.gptman.specs.Fault.{fault_of};
 ghost use Rattle.gptman.specs.Mbr.{mbr_range, IsMbrStored, LaysMbr};
 ghost use Rattle.gptman.specs.Stop.{IsStored};
 ghost use Rattle.gptman.specs.Table.{entries_in, new_table, table_in};
+ghost use Rattle.gptman.specs.TableReads.{CountsReading};
 ghost use Rattle.gptman.specs.TableWrites.{table_ranges};
 ghost use Rattle.gptimg_core.specs.Asks.{IsReader};
 ghost use Rattle.gptimg_core.specs.Changes.{report_of, LeavesChange, MakesChange};
@@ -79,6 +81,8 @@ pub fn perform<D: Disk>(alloc: Global, command: &Command, disk: &mut D) -> Resul
     // A new table.
     ensures made { (ss : ℕ) (guid : List ℕ) → command.now ≡ New ss guid
         → IfOk result (λ report. report ≡ Done) }
+    ensures counts { (ss : ℕ) (guid : List ℕ) → command.now ≡ New ss guid
+        → CountsFailure result (D.state disk.old) (D.state disk.new) }
     ensures wrote { (ss : ℕ) (guid : List ℕ) → command.now ≡ New ss guid
         → Writes (table_ranges (new_table guid ss (D.state disk.old).size))
         (D.state disk.old) (D.state disk.new) }
@@ -88,6 +92,8 @@ pub fn perform<D: Disk>(alloc: Global, command: &Command, disk: &mut D) -> Resul
         (table_in (new_table guid ss (D.state disk.old).size))) }
 
     // An MBR.
+    ensures mbr_counts { (ss : ℕ) (bootable : Bool) → command.now ≡ Mbr ss bootable
+        → CountsFailure result (D.state disk.old) (D.state disk.new) }
     ensures mbr_wrote { (ss : ℕ) (bootable : Bool) → command.now ≡ Mbr ss bootable
         → Writes (mbr_range ∷ []) (D.state disk.old) (D.state disk.new) }
     ensures mbr_stored { IsHonest (D.state disk.old) → (ss : ℕ) (bootable : Bool)
@@ -123,6 +129,8 @@ pub fn perform<D: Disk>(alloc: Global, command: &Command, disk: &mut D) -> Resul
 fn read_table<D: Disk>(alloc: Global, disk: &mut D, sector_size: Option<u64>) -> Result<GPT>
     requires { IfSome sector_size (λ size. 0 < size) }
     ensures reads { Reads (D.state disk.old) (D.state disk.new) }
+    ensures counts { IsHonest (D.state disk.old)
+        → IfOk result (CountsReading (D.state disk.old) (D.state disk.new)) }
     ensures refused { IsHonest (D.state disk.old)
         → IfErr result (λ e. RefusesReading sector_size (fault_of e) (D.state disk.old) (D.state disk.new)) }
     ensures cause { HasCause result (D.state disk.old) (D.state disk.new) }
@@ -169,6 +177,8 @@ fn write_new<D: Disk>(
 ) -> Result<Report>
     requires { 0 < sector_size }
     ensures keeps { Keeps (D.state disk.old) (D.state disk.new) }
+    ensures counts { CountsFailure result (D.state disk.old) (D.state disk.new) }
+    ensures once { HasFailedOnceAtMost (D.state disk.old) (D.state disk.new) }
     ensures refused { IfErr result (λ e. RefusesNew guid sector_size (fault_of e)
         (D.state disk.old) (D.state disk.new)) }
     ensures cause { HasCause result (D.state disk.old) (D.state disk.new) }
@@ -190,6 +200,8 @@ fn write_new<D: Disk>(
 fn write_mbr<D: Disk>(disk: &mut D, sector_size: u64, bootable: bool) -> Result<Report>
     requires { 0 < sector_size }
     ensures keeps { Keeps (D.state disk.old) (D.state disk.new) }
+    ensures counts { CountsFailure result (D.state disk.old) (D.state disk.new) }
+    ensures once { HasFailedOnceAtMost (D.state disk.old) (D.state disk.new) }
     ensures refused { IfErr result (λ e. RefusesMbr sector_size (fault_of e)
         (D.state disk.old) (D.state disk.new)) }
     ensures cause { HasCause result (D.state disk.old) (D.state disk.new) }
@@ -209,6 +221,8 @@ fn write_mbr<D: Disk>(disk: &mut D, sector_size: u64, bootable: bool) -> Result<
 fn lay_mbr<D: Disk>(disk: &mut D, sector_size: u64, bootable: bool) -> Result<()>
     requires { 0 < sector_size }
     ensures keeps { Keeps (D.state disk.old) (D.state disk.new) }
+    ensures counts { CountsFailure result (D.state disk.old) (D.state disk.new) }
+    ensures once { HasFailedOnceAtMost (D.state disk.old) (D.state disk.new) }
     ensures refused { IfErr result (λ e. RefusesMbr sector_size (fault_of e)
         (D.state disk.old) (D.state disk.new)) }
     ensures cause { HasCause result (D.state disk.old) (D.state disk.new) }

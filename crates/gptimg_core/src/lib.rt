@@ -8,7 +8,7 @@ ghost use Rattle.std.specs.Prelude.{◌≡◌, ◌≤◌, ◌↔◌, ◌⊎◌, 
 ghost use Rattle.std.specs.Prelude.{false, codes, if◌then◌else◌, IfErr, IfOk, OnOk};
 ghost use Rattle.std.specs.Io.KnownBytes.{Appends};
 ghost use Rattle.gptman.specs.Crash.{StartsLaidOut};
-ghost use Rattle.gptman.specs.Disk.{FailedOrUntouched, IsHonest, Keeps, OnlyRead, Writes};
+ghost use Rattle.gptman.specs.Disk.{FailedOrUntouched, HasFailedAsOften, IsHonest, Keeps, OnlyRead, Writes};
 ghost use Rattle.gptman.specs.Fault.{fault_of, io as io_fault};
 ghost use Rattle.gptman.specs.Mbr.{mbr_range, IsMbrStored};
 ghost use Rattle.gptman.specs.Stop.{IsStored};
@@ -124,6 +124,8 @@ pub fn run<D: Disk, W: Write>(
     // A new table.
     ensures prints_ok { (ss : ℕ) (guid : List ℕ) → AskFor words.now (New ss guid)
         → result ≡ Ok 0 → Appends (W.contents out.old) (W.contents out.new) (codes "ok\n") }
+    ensures counts { (ss : ℕ) (guid : List ℕ) → AskFor words.now (New ss guid)
+        → result ≡ Ok 0 → HasFailedAsOften (D.state disk.old) (D.state disk.new) }
     ensures wrote { (ss : ℕ) (guid : List ℕ) → AskFor words.now (New ss guid)
         → Writes (table_ranges (new_table guid ss (D.state disk.old).size))
         (D.state disk.old) (D.state disk.new) }
@@ -132,6 +134,8 @@ pub fn run<D: Disk, W: Write>(
         → IsStored (D.state disk.new) ss (table_in (new_table guid ss (D.state disk.old).size)) }
 
     // A protective MBR.
+    ensures mbr_counts { (ss : ℕ) (bootable : Bool) → AskFor words.now (Mbr ss bootable)
+        → result ≡ Ok 0 → HasFailedAsOften (D.state disk.old) (D.state disk.new) }
     ensures mbr_wrote { (ss : ℕ) (bootable : Bool) → AskFor words.now (Mbr ss bootable)
         → Writes (mbr_range ∷ []) (D.state disk.old) (D.state disk.new) }
     ensures mbr_stored { IsHonest (D.state disk.old) → (ss : ℕ) (bootable : Bool)

@@ -1,10 +1,10 @@
 //! Changes of a table in memory.
 
 ghost use Rattle.std.specs.Prelude.{◌≡◌, ◌⊎◌, ◌<◌, false, None, Some, IfErr, IfOk, IsTrue, OnOk};
-ghost use Rattle.gptman.specs.Answers.{HasCause};
+ghost use Rattle.gptman.specs.Answers.{CountsFailure, HasCause};
 ghost use Rattle.gptman.specs.Coding.{empty_entry};
 ghost use Rattle.gptman.specs.Copy.{IsCoherent};
-ghost use Rattle.gptman.specs.Disk.{Reads};
+ghost use Rattle.gptman.specs.Disk.{HasFailedOnceAtMost, Reads};
 ghost use Rattle.gptman.specs.Entry.{is_unused};
 ghost use Rattle.gptman.specs.Fault.{fault_of, invalid_partition_number, out_of_memory};
 ghost use Rattle.gptman.specs.Number.{entry_at, number_fault, with_entries, with_entry, IsNumber};
@@ -36,6 +36,8 @@ pub fn make_change<D: Disk>(
     requires coherent { IsCoherent table.old.header (entries_in table.old) }
     requires sized { IsSizedChange change.now }
     ensures reads { Reads (D.state disk.old) (D.state disk.new) }
+    ensures counts { CountsFailure result (D.state disk.old) (D.state disk.new) }
+    ensures once { HasFailedOnceAtMost (D.state disk.old) (D.state disk.new) }
     ensures told { IfOk result (λ report. report ≡ report_of change.now table.new) }
     ensures refused { IfErr result (λ e. RefusesMaking change.now table.old (fault_of e)
         (D.state disk.old) (D.state disk.new)) }
@@ -83,6 +85,8 @@ fn fit<D: Disk>(disk: &mut D, table: &mut GPT) -> Result<Report>
     requires sector { 0 < table.old.sector_size }
     requires coherent { IsCoherent table.old.header (entries_in table.old) }
     ensures reads { Reads (D.state disk.old) (D.state disk.new) }
+    ensures counts { CountsFailure result (D.state disk.old) (D.state disk.new) }
+    ensures once { HasFailedOnceAtMost (D.state disk.old) (D.state disk.new) }
     ensures told { IfOk result (λ report. report ≡ Done) }
     ensures refused { IfErr result (λ e. RefusesMaking Grow table.old (fault_of e)
         (D.state disk.old) (D.state disk.new)) }

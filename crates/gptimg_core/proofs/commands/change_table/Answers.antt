@@ -1,5 +1,6 @@
 use Rattle.std.proofs.Common.{⊎_elim, inl, inr, sym, ◌∙◌, subst, ℕ}
 use Rattle.std.proofs.lemmas.Result.{err_from_is_err_and}
+use Rattle.gptman.specs.Disk.{HasFailedAsOften}
 use Rattle.gptman.specs.Fault.{fault_of}
 use Rattle.gptman.specs.Layout.{HasLayout}
 use Rattle.gptman_copy.proofs.Outcomes.{on_err_of}
@@ -8,7 +9,7 @@ use Rattle.gptman_copy.proofs.Readers.{reads_then}
 use Rattle.gptman_copy.proofs.Runs.{keeps_then, rose_since, wrote_then, wrote_wider}
 use Rattle.gptimg_core.specs.Changes.{IsChanged, unwritten}
 use Rattle.gptimg_core.specs.Refusals.RefusesChange.{not_made, not_read, not_written}
-use Rattle.gptimg_core.proofs.Read.{read_before}
+use Rattle.gptimg_core.proofs.Read.{counts_before, read_before}
 use Rattle.gptman.proofs.Commits.{write_since}
 use Rattle.gptimg_core.proofs.Refused.{making_since}
 use Rattle.gptimg_core.proofs.Written.{change_written}
@@ -39,6 +40,10 @@ returns-clause-changed g c honest =
       table = table;
       next = next;
       read = read_before c.args.sector_size old mid new table (c.in_ok-table.ensures.value honest) (keeps_then c.make_change.ensures.reads.keeps c.write_into.ensures.keeps);
+      counts =
+          let made : HasFailedAsOften mid last = ⊎_elim (λ same. same) (λ io. absurd io) c.in_ok-report.ensures.counts in
+          let written : HasFailedAsOften last new = ⊎_elim (λ same. same) (λ io. absurd io) c.in_ok-write_into.ensures.counts in
+          counts_before old mid new table (c.in_ok-table.ensures.counts honest) (written ∙ made);
       changed = subst (λ (n : ℕ). IsChanged n c.args.change.now table next) c.read_table.ensures.reads.keeps.size c.in_ok-report.ensures.value;
       wrote = wrote_then (within_self _) (wrote_wider within_none read.wrote) (c.write_into.ensures.wrote read.wrote.honest);
       stored = λ layout. c.in_ok-write_into.ensures.stored
