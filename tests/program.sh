@@ -58,6 +58,7 @@ PATH=$PATH:/usr/sbin:/sbin
 
 make_images
 try "the program in README.md" try_readme_program
+try "the links of the documents" try_links
 try "words" try_words
 try "commands" try_commands
 try "closed descriptors" try_closed_descriptors
