@@ -1,4 +1,4 @@
-# Needs `rt` of the Rattle kit on the PATH, bash and coreutils, and nothing else.
+# Needs `rt` of the Rattle kit on the PATH; README.md says what else.
 
 .PHONY: try gptimg gptguid install demo test bench crash-states trials
 

@@ -7,7 +7,7 @@
 # PROGRAM is ./gptimg at the top of the repository where it is left out; `make gptimg` puts it there. The
 # program gptguid is that of its crate, where `make gptguid` and `rt ci` leave it.
 # Prints a line for each subject, and in full what does not hold. The last line is 'N passed, M
-# failed', and the status is 1 where something failed. Needs bash, coreutils, diffutils, grep and the
+# failed', and the status is 1 where something failed. Needs bash, coreutils, grep, sed and the
 # program. What needs sgdisk, sfdisk, strace, flock, mkfs.fat or mtools is tried where they are, and left
 # out with a line where not.
 # shellcheck source-path=SCRIPTDIR
@@ -58,6 +58,7 @@ PATH=$PATH:/usr/sbin:/sbin
 
 make_images
 try "the program in README.md" try_readme_program
+try "the links of the documents" try_links
 try "words" try_words
 try "commands" try_commands
 try "closed descriptors" try_closed_descriptors

@@ -1,7 +1,7 @@
 //! CRC-32 in its ISO-HDLC form, the checksum of the header and of the entry array.
 //!
 //! Eight bytes at a time go through a register of 32 bits by eight tables of 256 words, and what is left
-//! a byte at a time by the first of them. This room knows nothing of what is summed, and takes no memory.
+//! a byte at a time by the first of them. This module knows nothing of what is summed, and takes no memory.
 
 ghost use Rattle.std.specs.Prelude.{◌≡◌, ◌<◌, ◌*◌, suc, ℕ, List, [], ◌++◌, fold};
 ghost use Rattle.gptman_copy.specs.Crc.{crc_of};

@@ -1,6 +1,6 @@
 //! What a disk is: bytes of a fixed length that are read, written and stored.
 //!
-//! A write may be lost, torn or kept in part until a sync succeeds. This room knows nothing of
+//! A write may be lost, torn or kept in part until a sync succeeds. This module knows nothing of
 //! tables; it says what a read gives, and what a stop at any moment may leave.
 
 ghost use Rattle.std.specs.Prelude.{◌≡◌, ◌≤◌, ◌<◌, ◌^◌, ◌⊎◌, [], ◌∷◌, length, IfOk, OnOk, OnErr, IsErr};

@@ -1,6 +1,6 @@
 //! The header of one copy of the table: its checksums, its form, and how it is fitted to a disk.
 //!
-//! This room knows one copy, header and entries, and of a second one its header alone.
+//! This module knows one copy, header and entries, and of a second one its header alone.
 
 ghost use Rattle.std.specs.Prelude.{◌≡◌, ◌<◌, ◌↔◌, ◌⊎◌, ℕ, if◌then◌else◌, IsTrue, IfOk, IfErr, OnOk, OnErr};
 ghost use Rattle.gptman_copy.specs.Answers.{CountsFailure};
