@@ -1,5 +1,5 @@
 -- The lines that are printed for words.
-use Rattle.std.specs.Prelude.{◌≡◌, ℕ, List, [], ◌∷◌, ◌++◌, codes, flat_map, if◌then◌else◌, length, map, Option, Some, None, String, string_bytes}
+use Rattle.std.specs.Prelude.{◌≡◌, ℕ, List, [], ◌∷◌, ◌++◌, codes, flat_map, if◌then◌else◌, length, map, IfOk, OnOk, Option, Some, None, Result, String, string_bytes}
 use Rattle.std.specs.Io.KnownBytes.{Appends}
 use Rattle.std.specs.Str.{bytes_eq}
 use Rattle.gptguid_core.specs.Forms.{digits_form, guid_of_digits, guid_of_text, random_form, text_form}
@@ -45,7 +45,20 @@ answer_to (word ∷ []) =
     if bytes_eq word (codes "list") then (0, type_lines types) else word_answer word (guid_of_digits word)
 answer_to _ = (2, codes "usage: gptguid TEXT | DIGITS | NAME | random | list\n")
 
--- The digits of a random GUID were printed, whatever 16 bytes were drawn for it, or that none could be drawn.
-pub data PrintsRandom (from to : Option (List ℕ)) : ℕ → Type 0 where
-  drawn : (bytes : List ℕ) → length bytes ≡ 16 → Appends from to (digits_line (random_form bytes)) → PrintsRandom from to 0
-  failed : Appends from to (codes "fault: Io\n") → PrintsRandom from to 1
+-- the status for what was drawn from the source, and what is printed: the digits of the random GUID that 16 bytes make, or that the source failed
+abbrev pub random_answer : Option (List ℕ) → ℕ × List ℕ
+random_answer (Some bytes) = (0, digits_line (random_form bytes))
+random_answer None = (1, codes "fault: Io\n")
+
+-- One call of a source gave these 16 bytes, or failed. The first two arguments say of which bytes the source says that it gave them, and whether it
+-- says that it failed.
+abbrev pub Draws : (List ℕ → Type 0) → Type 0 → Option (List ℕ) → Type 0
+Draws gives fails (Some bytes) = (length bytes ≡ 16) × gives bytes
+Draws gives fails None = fails
+
+-- The source was called once, and what it gave was answered. An error of the output hides that answer alone.
+abbrev pub PrintsRandom : {E : Type 0} → (List ℕ → Type 0) → Type 0 → Option (List ℕ) → Option (List ℕ) → Result ℕ E → Type 0
+PrintsRandom gives fails from to result =
+    (drawn : Option (List ℕ)) × Draws gives fails drawn
+    × IfOk result (λ status. status ≡ (random_answer drawn).0)
+    × OnOk result (Appends from to (random_answer drawn).1)

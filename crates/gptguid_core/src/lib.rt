@@ -11,14 +11,15 @@ ghost use Rattle.gptguid_core.specs.Lines.{answer_to, texts_of, PrintsRandom};
 
 use std::io;
 use std::io::Write;
-use std::random::RandomSource;
 
 mod forms;
 mod lines;
 mod names;
+mod source;
 
 pub use forms::{digits_of, from_digits, from_random, from_text, text_of};
 pub use names::from_name;
+pub use source::{ByteSource, SystemSource};
 
 /// The line that says how the program is used, with its newline.
 pub const USAGE: &str = "usage: gptguid TEXT | DIGITS | NAME | random | list\n";
@@ -38,7 +39,8 @@ const NO_WORD: u8 = 2;
 /// - A text, as `C12A7328-F81F-11D2-BA4B-00A0C93EC93B`, in any case, is printed as its 32 digits: the bytes
 ///   as they stand on a disk.
 /// - 32 such digits, in any case, are printed as the text.
-/// - `random` prints the digits of a random GUID, of version 4.
+/// - `random` prints the digits of a random GUID, of version 4, which the next 16 bytes of the source make.
+///   No other word takes bytes from the source.
 /// - `list` prints a line for each type that has a name: `NAME DIGITS TEXT`.
 /// - Such a name is printed as the digits of its type.
 ///
@@ -46,13 +48,15 @@ const NO_WORD: u8 = 2;
 /// more than one, prints the usage line.
 ///
 /// An error comes only where `out` failed.
-pub fn run<S: RandomSource, W: Write>(words: &[String], source: &S, out: &mut W) -> io::Result<u8>
+pub fn run<S: ByteSource, W: Write>(words: &[String], source: &mut S, out: &mut W) -> io::Result<u8>
     ensures status { texts_of words.now ≢ codes "random" ∷ []
         → IfOk result (λ status. status ≡ (answer_to (texts_of words.now)).0) }
     ensures printed { texts_of words.now ≢ codes "random" ∷ []
         → OnOk result (Appends (W.contents out.old) (W.contents out.new) (answer_to (texts_of words.now)).1) }
     ensures random { texts_of words.now ≡ codes "random" ∷ []
-        → IfOk result (PrintsRandom (W.contents out.old) (W.contents out.new)) }
+        → PrintsRandom (S.gives source.old source.new) (S.fails source.old source.new 16)
+        (W.contents out.old) (W.contents out.new) result }
+    ensures untouched { texts_of words.now ≢ codes "random" ∷ [] → source.new ≡ source.old }
 {
     let [word] = words else {
         out.write_all(USAGE.as_bytes())?;

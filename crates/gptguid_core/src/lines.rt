@@ -9,10 +9,10 @@ ghost use Rattle.gptguid_core.specs.Types.{types as types_by_name};
 
 use crate::forms::{digits_of, from_digits, from_random, from_text, text_of};
 use crate::names::{from_name, guid_of_number, types};
+use crate::source::ByteSource;
 use crate::{DONE, FAULT};
 use std::io;
 use std::io::Write;
-use std::random::RandomSource;
 
 /// Prints a line for each type that has a name.
 pub fn print_types<W: Write>(out: &mut W) -> io::Result<()>
@@ -45,10 +45,11 @@ fn print_type<W: Write>(out: &mut W, name: &str, number: u128) -> io::Result<()>
     print_text(out, &guid)
 }
 
-/// Prints the digits of a random GUID, or where the source gives no bytes, that it failed. Answers the
-/// status.
-pub fn print_random<S: RandomSource, W: Write>(source: &S, out: &mut W) -> io::Result<u8>
-    ensures { IfOk result (PrintsRandom (W.contents out.old) (W.contents out.new)) }
+/// Prints the digits of the random GUID that the next 16 bytes of the source make, or where the source
+/// fails, that it failed. Answers the status.
+pub fn print_random<S: ByteSource, W: Write>(source: &mut S, out: &mut W) -> io::Result<u8>
+    ensures { PrintsRandom (S.gives source.old source.new) (S.fails source.old source.new 16)
+        (W.contents out.old) (W.contents out.new) result }
 {
     let mut drawn = [0; 16];
     if source.fill_bytes(&mut drawn).is_err() {

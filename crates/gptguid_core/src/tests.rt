@@ -1,6 +1,11 @@
 //! Values from outside: the types that `sfdisk` lists, with the bytes that Python's `uuid` makes of them.
 
-use crate::{USAGE, digits_of, from_digits, from_name, from_random, from_text, run, text_of};
+ghost use Rattle.std.specs.Prelude.{◌≡◌, ◌<◌, ◌++◌, length};
+
+use crate::{
+    ByteSource, SystemSource, USAGE, digits_of, from_digits, from_name, from_random, from_text,
+    run, text_of,
+};
 use std::alloc::Global;
 use std::fmt::Debug;
 use std::io;
@@ -207,19 +212,38 @@ const REFUSED: [&str; 16] = [
     " 28732ac11ff8d211ba4b00a0c93ec93",
 ];
 
-// A source whose bytes all are this one, or that has none.
+// A source with these bytes left to give, which fails where they end.
 #[derive(Drop)]
-struct Source {
-    byte: Option<u8>,
+struct Source<'b> {
+    rest: &'b [u8],
 }
 
-impl RandomSource for Source {
-    fn fill_bytes(&self, buf: &mut [u8]) -> io::Result<()> {
-        let Some(byte) = self.byte else {
+impl<'b> ByteSource for Source<'b> {
+    ghost gives = { λ old new bytes. old.rest.now ≡ bytes ++ new.rest.now };
+
+    ghost fails = { λ old new wanted. length old.rest.now < wanted };
+
+    fn fill_bytes(&mut self, buf: &mut [u8]) -> io::Result<()> {
+        if self.rest.len() < buf.len() {
+            buf[..self.rest.len()].copy_from_slice(self.rest);
             return Err(io::Error::from(io::ErrorKind::Other));
-        };
-        buf.fill(byte);
+        }
+        let (bytes, rest) = self.rest.split_at(buf.len());
+        buf.copy_from_slice(bytes);
+        self.rest = rest;
         Ok(())
+    }
+}
+
+// A runtime whose random bytes are these, and which fails where they end.
+#[derive(Drop)]
+struct Runtime<'b> {
+    bytes: &'b [u8],
+}
+
+impl<'b> RandomSource for Runtime<'b> {
+    fn fill_bytes(&self, buf: &mut [u8]) -> io::Result<()> {
+        Source { rest: self.bytes }.fill_bytes(buf)
     }
 }
 
@@ -251,22 +275,45 @@ fn words_of(rt: &impl Abort, alloc: Global, line: &str) -> Vec<String> {
     words
 }
 
-// The word ends with this status and prints this line, where each random byte is this one.
-fn assert_says(
+// The word ends with this status and prints this line, and takes so many of these random bytes.
+fn assert_takes(
     rt: &impl Abort,
     alloc: Global,
     word: &str,
-    byte: Option<u8>,
+    bytes: &[u8],
     status: u8,
     line: &str,
+    taken: usize,
 ) {
     let words = [got(rt, String::from_str(alloc, word))];
     let mut out = Vec::new(alloc);
+    let mut source = Source { rest: bytes };
     assert_eq!(rt;
-        got(rt, run(words.as_slice(), &Source { byte }, &mut out)),
+        got(rt, run(words.as_slice(), &mut source, &mut out)),
         status
     );
     assert!(rt; out.as_slice() == line.as_bytes(), "{word}");
+    assert!(rt; bytes.get(taken..) == Some(source.rest), "{word}");
+}
+
+// The word ends with this status and prints this line, and takes no random bytes.
+fn assert_says(rt: &impl Abort, alloc: Global, word: &str, status: u8, line: &str) {
+    assert_takes(rt, alloc, word, &COUNTED, status, line, 0);
+}
+
+// `random` ends with this status and prints this line where the runtime's random bytes are these.
+fn assert_draws(rt: &impl Abort, alloc: Global, bytes: &[u8], status: u8, line: &str) {
+    let words = [got(rt, String::from_str(alloc, "random"))];
+    let mut out = Vec::new(alloc);
+    let runtime = Runtime { bytes };
+    assert_eq!(rt;
+        got(
+            rt,
+            run(words.as_slice(), &mut SystemSource::new(&runtime), &mut out)
+        ),
+        status
+    );
+    assert!(rt; out.as_slice() == line.as_bytes(), "{bytes:?}");
 }
 
 // The line of this text.
@@ -279,12 +326,12 @@ fn assert_known(rt: &impl Abort, alloc: Global, name: &str, digits: &str, text: 
     let told = line_of(rt, alloc, digits);
     let small = got(rt, text.to_ascii_lowercase(alloc));
     let large = got(rt, digits.to_ascii_uppercase(alloc));
-    assert_says(rt, alloc, name, None, 0, told.as_str());
-    assert_says(rt, alloc, text, None, 0, told.as_str());
-    assert_says(rt, alloc, small.as_str(), None, 0, told.as_str());
+    assert_says(rt, alloc, name, 0, told.as_str());
+    assert_says(rt, alloc, text, 0, told.as_str());
+    assert_says(rt, alloc, small.as_str(), 0, told.as_str());
     let back = line_of(rt, alloc, text);
-    assert_says(rt, alloc, digits, None, 0, back.as_str());
-    assert_says(rt, alloc, large.as_str(), None, 0, back.as_str());
+    assert_says(rt, alloc, digits, 0, back.as_str());
+    assert_says(rt, alloc, large.as_str(), 0, back.as_str());
 }
 
 #[test]
@@ -301,13 +348,13 @@ fn the_list_has_a_line_for_each_type(rt: HostRuntime) {
         let line = got(&rt, format!(in rt.alloc(); "{name} {digits} {text}\n"));
         got(&rt, lines.push_str(line.as_str()));
     }
-    assert_says(&rt, rt.alloc(), "list", None, 0, lines.as_str());
+    assert_says(&rt, rt.alloc(), "list", 0, lines.as_str());
 }
 
 #[test]
 fn other_words_are_refused(rt: HostRuntime) {
     for word in REFUSED.iter() {
-        assert_says(&rt, rt.alloc(), word, Some(0), 1, "fault: InvalidGUID\n");
+        assert_says(&rt, rt.alloc(), word, 1, "fault: InvalidGUID\n");
     }
 }
 
@@ -315,9 +362,27 @@ fn other_words_are_refused(rt: HostRuntime) {
 fn a_random_one_has_its_marks(rt: HostRuntime) {
     let none = "00000000000000408000000000000000\n";
     let all = "ffffffffffffff4fbfffffffffffffff\n";
-    assert_says(&rt, rt.alloc(), "random", Some(0), 0, none);
-    assert_says(&rt, rt.alloc(), "random", Some(255), 0, all);
-    assert_says(&rt, rt.alloc(), "random", None, 1, "fault: Io\n");
+    assert_draws(&rt, rt.alloc(), &[0; 16], 0, none);
+    assert_draws(&rt, rt.alloc(), &[255; 16], 0, all);
+}
+
+// The 17 bytes 0 to 16 are drawn from: the source has one more than is taken.
+#[test]
+fn the_next_sixteen_bytes_are_drawn(rt: HostRuntime) {
+    let line = "030201000504074688090a0b0c0d0e0f\n";
+    let mut bytes = [16; 17];
+    bytes[..16].copy_from_slice(&COUNTED);
+    assert_takes(&rt, rt.alloc(), "random", &bytes, 0, line, 16);
+    assert_draws(&rt, rt.alloc(), &COUNTED, 0, line);
+}
+
+#[test]
+fn a_source_that_fails_at_any_byte_is_refused(rt: HostRuntime) {
+    for length in 0..16 {
+        let bytes = &COUNTED[..length];
+        assert_takes(&rt, rt.alloc(), "random", bytes, 1, "fault: Io\n", 0);
+        assert_draws(&rt, rt.alloc(), bytes, 1, "fault: Io\n");
+    }
 }
 
 #[test]
@@ -347,22 +412,21 @@ fn each_call_gives_its_form(rt: HostRuntime) {
 
 #[test]
 fn no_word_and_two_are_usage(rt: HostRuntime) {
-    let source = Source { byte: Some(0) };
+    let mut source = Source { rest: &COUNTED };
     let mut out = Vec::new(rt.alloc());
-    assert_eq!(rt; got(&rt, run(&[], &source, &mut out)), 2);
+    assert_eq!(rt; got(&rt, run(&[], &mut source, &mut out)), 2);
     let words = words_of(&rt, rt.alloc(), "random list");
-    assert_eq!(rt; got(&rt, run(words.as_slice(), &source, &mut out)), 2);
+    assert_eq!(rt; got(&rt, run(words.as_slice(), &mut source, &mut out)), 2);
     let twice = got(&rt, format!(in rt.alloc(); "{USAGE}{USAGE}"));
     assert!(rt; out.as_slice() == twice.as_bytes());
 }
 
 #[test]
 fn an_output_that_fails_is_an_error(rt: HostRuntime) {
-    let source = Source { byte: Some(0) };
     for line in ["efi", "list", "random", "none", "two words"].iter() {
         let words = words_of(&rt, rt.alloc(), line);
         assert!(rt;
-            run(words.as_slice(), &source, &mut Full).is_err(),
+            run(words.as_slice(), &mut Source { rest: &COUNTED }, &mut Full).is_err(),
             "{line}"
         );
     }
