@@ -7,10 +7,10 @@ Twelve images are made as a stop may leave them (readers_stops.py), and each is 
 these that are installed: partitioning programs and libraries, Linux with and without the option `gpt` on its
 command line, the boot loaders GRUB and U-Boot, and the UEFI firmware EDK2 (readers_programs.py,
 readers_machines.py). Each reader has images of its own. It is told whether it sees the partitions of the
-table by the rules of the format, and how many broken images are whole once it has read them.
+table by the rules of the format, and how many images it repaired, of those that it changed.
 
 Two things have to hold: gptimg reads each image, and Linux sees the partitions of each once the script
-repair.sh of docs/GUIDE.md ran in its first file system. The last line is 'N passed, M failed'. A minute in all.
+repair.sh of docs/GUIDE.md ran in its first file system. The last line is 'N passed, M failed'.
 """
 
 import argparse
@@ -25,7 +25,7 @@ from dataclasses import dataclass
 import guest
 from readers_machines import Linux, machines
 from readers_programs import programs
-from readers_stops import OLD, SECTOR, STOPS, make_images
+from readers_stops import OLD, SECTOR, STOPS, make_images, read
 
 TOP = os.path.dirname(os.path.dirname(os.path.abspath(__file__)))
 
@@ -35,10 +35,11 @@ JUDGED = ("gptimg", "Linux after repair.sh")
 
 @dataclass(frozen=True)
 class Row:
-    """What a reader saw of each image, and how many broken images were whole after it."""
+    """What a reader saw of each image, how many it changed, and how many of these were whole then."""
 
     name: str
     seen: list
+    changed: int
     repaired: int
 
     def right(self):
@@ -46,10 +47,12 @@ class Row:
         return [places == stop.table() for places, stop in zip(self.seen, STOPS)]
 
     def words(self):
-        """The words of its row: how many images with a good primary copy, then each other one, then the repaired."""
+        """The words of its row: the images with a good primary copy, then each other one, then the repaired."""
         good = [right for right, stop in zip(self.right(), STOPS) if stop.has_good_primary()]
-        broken = [word_for(places, stop) for places, stop in zip(self.seen, STOPS) if not stop.has_good_primary()]
-        return [self.name, f"{sum(good)} of {len(good)}", *broken, str(self.repaired)]
+        broken = [
+            word_for(places, stop) for places, stop in zip(self.seen, STOPS) if not stop.has_good_primary()
+        ]
+        return [self.name, f"{sum(good)} of {len(good)}", *broken, f"{self.repaired} of {self.changed}"]
 
 
 def word_for(places, stop):
@@ -83,7 +86,8 @@ def file_of_guide(name):
 
 def is_whole(program, image):
     """Whether both copies of an image are good and are one table."""
-    return subprocess.run([program, image, str(SECTOR), "check"], capture_output=True, check=False).returncode == 0
+    words = [program, image, str(SECTOR), "check"]
+    return subprocess.run(words, capture_output=True, check=False).returncode == 0
 
 
 def row_of(reader, program, images):
@@ -91,8 +95,8 @@ def row_of(reader, program, images):
     with tempfile.TemporaryDirectory() as folder:
         own = [shutil.copy(image, folder) for image in images]
         seen = reader.read_all(own, folder)
-        whole = [sum(is_whole(program, image) for image in some) for some in (images, own)]
-    return Row(reader.name, seen, whole[1] - whole[0])
+        changed = [it for it, image in zip(own, images) if read(it) != read(image)]
+        return Row(reader.name, seen, len(changed), sum(is_whole(program, it) for it in changed))
 
 
 def version_of(reader):

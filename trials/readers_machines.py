@@ -1,4 +1,4 @@
-"""The readers that need a machine of their own, which qemu gives them: a kernel, a boot loader, a firmware."""
+"""The readers that need a machine of their own, by qemu: a kernel, a boot loader, a firmware."""
 
 import glob
 import os
@@ -14,15 +14,16 @@ UBOOT = "/usr/lib/u-boot/qemu-x86_64/u-boot.rom"
 FIRMWARE = "/usr/share/OVMF"
 LIMIT_SECONDS = 300
 
-# What the Linux guest runs. Each partition that the kernel knows is a line `saw WHEN DISK START LENGTH`.
+# What the Linux guest runs. Each partition that the kernel knows is a line `saw WHEN DISK START LENGTH`. The
+# empty line comes first as what the BIOS printed last may not end with one.
 COMMANDS_OF_GUEST = """
 saw() {
-    for disk in /sys/block/vd?; do
-        for part in "$disk"/vd*; do
-            [ ! -e "$part/start" ] || echo "saw $1 $(cat "$disk/serial") $(cat "$part/start") $(cat "$part/size")"
-        done
+    for part in /sys/block/vd?/vd*; do
+        disk=${part%/*}
+        [ ! -e "$part" ] || echo "saw $1 $(cat "$disk/serial") $(cat "$part/start") $(cat "$part/size")"
     done
 }
+echo
 sleep 1
 saw before
 if grep -q repair /proc/cmdline; then
@@ -64,7 +65,7 @@ def run_machine(words, typed=b""):
 
 
 def disk_words(images, **properties):
-    """The words that give a machine these images as disks of its own bus, with a property for each by its number."""
+    """The words that give a machine these images as virtio disks, each with properties by its number."""
     words = []
     for number, image in enumerate(images):
         own = "".join(f",{name}={value(number)}" for name, value in properties.items())

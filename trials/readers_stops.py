@@ -44,7 +44,7 @@ class Stop:
         return self.primary in (("old", "old"), ("new", "new"))
 
     def table(self):
-        """The table by the rules of the format: the primary copy's where it is whole, else the backup one's."""
+        """The table by the rules of the format: the primary copy's where it is whole, else the backup's."""
         whole = self.primary if self.has_good_primary() else self.backup
         return OLD if whole == ("old", "old") else NEW
 
@@ -105,7 +105,8 @@ def make_images(program, folder):
     old = read(path)
     add(program, path, 2, SECOND)
     new = read(path)
-    return [write(f"{folder}/{number:02}.img", image_left(stop, old, new)) for number, stop in enumerate(STOPS)]
+    left = [image_left(stop, old, new) for stop in STOPS]
+    return [write(f"{folder}/{number:02}.img", image) for number, image in enumerate(left)]
 
 
 def read(path):

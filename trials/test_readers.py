@@ -26,7 +26,7 @@ ANSWERS = {
     "testdisk": "     Partition\t\t\tStart        End    Size in sectors\n"
                 " 1 P Linux filesys. data         2048      10239       8192 [one]\n",
     "parted -s": "BYT;\n/tmp/00.img:131072s:file:512:512:gpt::;\n1:2048s:10239s:8192s::one:;\n",
-    "GRUB (grub-fstest)": "Device loop0: No known filesystem detected - Sector size 512B - Total size 65536KiB\n"
+    "GRUB (grub-fstest)": "Device loop0: No known filesystem detected - Sector size 512B - Total size 64KiB\n"
                           "\tPartition loop0,gpt1: No known filesystem detected - "
                           "Partition start at 1024KiB - Total size 4096KiB\n",
 }
@@ -72,8 +72,8 @@ class Answers(unittest.TestCase):
             self.assertEqual(program.places("Error: unrecognised disk label\n"), (), program.name)
 
     def test_firmware(self):
-        printed = ("     BLK1: Alias(s):\n          PciRoot(0x0)/Pci(0x5,0x0)\n"
-                   "     BLK2: Alias(s):\n          PciRoot(0x0)/Pci(0x5,0x0)/HD(1,GPT,0101-01,0x800,0x2000)\n"
+        printed = ("     BLK1: Alias(s):\n          PciRoot(0x0)/Pci(0x5,0x0)\n     BLK2: Alias(s):\n"
+                   "          PciRoot(0x0)/Pci(0x5,0x0)/HD(1,GPT,0101-01,0x800,0x2000)\n"
                    "          PciRoot(0x0)/Pci(0x4,0x0)/HD(1,MBR,0xBE1AFDFA,0x3F,0xFBFC1)\n")
         self.assertEqual(Edk2().places(printed * 2, 2), [(FIRST,), ()])
 
@@ -86,15 +86,16 @@ class Table(unittest.TestCase):
 
     def test_words(self):
         seen = [stop.table() for stop in STOPS[:5]] + [(), (), OLD, NEW, (FIRST, (3, 4)), ()] + [NEW]
-        words = readers.Row("gptimg", seen, 2).words()
-        self.assertEqual(words, ["gptimg", "6 of 6", "none", "none", "old ones", "all", "wrong ones", "none", "2"])
+        words = readers.Row("gptimg", seen, 3, 2).words()
+        seen = ["none", "none", "old ones", "all", "wrong ones", "none"]
+        self.assertEqual(words, ["gptimg", "6 of 6", *seen, "2 of 3"])
         self.assertEqual(len(readers.head()), len(words))
 
     def test_judged_are_two(self):
         right = [stop.table() for stop in STOPS]
-        rows = [readers.Row(name, right, 0) for name in readers.JUDGED]
-        self.assertEqual(readers.judge(rows + [readers.Row("parted -s", [()] * 12, 0)]), (24, 0))
-        self.assertEqual(readers.judge([readers.Row("gptimg", [()] + right[1:], 0)]), (11, 1))
+        rows = [readers.Row(name, right, 0, 0) for name in readers.JUDGED]
+        self.assertEqual(readers.judge(rows + [readers.Row("parted -s", [()] * 12, 0, 0)]), (24, 0))
+        self.assertEqual(readers.judge([readers.Row("gptimg", [()] + right[1:], 0, 0)]), (11, 1))
 
     def test_recipe_is_in_the_guide(self):
         self.assertIn("gptimg", readers.file_of_guide("repair.sh"))
