@@ -35,7 +35,7 @@ JUDGED = ("gptimg", "Linux after repair.sh")
 
 @dataclass(frozen=True)
 class Row:
-    """What a reader saw of each image, how many it changed, and how many of these were whole then."""
+    """What a reader saw of each image, how many it changed, and how many of these it repaired."""
 
     name: str
     seen: list
@@ -47,7 +47,7 @@ class Row:
         return [places == stop.table() for places, stop in zip(self.seen, STOPS)]
 
     def words(self):
-        """The words of its row: the images with a good primary copy, then each other one, then the repaired."""
+        """The words of its row: the images with a good primary copy, each other one, the repaired ones."""
         good = [right for right, stop in zip(self.right(), STOPS) if stop.has_good_primary()]
         broken = [
             word_for(places, stop) for places, stop in zip(self.seen, STOPS) if not stop.has_good_primary()
@@ -84,10 +84,11 @@ def file_of_guide(name):
         return re.search(rf"^```bash\n# {re.escape(name)}\n(.*?)^```$", guide.read(), re.M | re.S).group(1)
 
 
-def is_whole(program, image):
-    """Whether both copies of an image are good and are one table."""
+def is_repaired(program, image, stop):
+    """Whether both copies of an image are good, and are the table that this stop left."""
     words = [program, image, str(SECTOR), "check"]
-    return subprocess.run(words, capture_output=True, check=False).returncode == 0
+    checked = subprocess.run(words, capture_output=True, check=False)
+    return checked.returncode == 0 and programs(program)[0].read(image) == stop.table()
 
 
 def row_of(reader, program, images):
@@ -95,8 +96,9 @@ def row_of(reader, program, images):
     with tempfile.TemporaryDirectory() as folder:
         own = [shutil.copy(image, folder) for image in images]
         seen = reader.read_all(own, folder)
-        changed = [it for it, image in zip(own, images) if read(it) != read(image)]
-        return Row(reader.name, seen, len(changed), sum(is_whole(program, it) for it in changed))
+        changed = [it for it in zip(own, images, STOPS) if read(it[0]) != read(it[1])]
+        repaired = sum(is_repaired(program, image, stop) for image, _, stop in changed)
+    return Row(reader.name, seen, len(changed), repaired)
 
 
 def version_of(reader):
