@@ -10,7 +10,7 @@ from readers_programs import places_of, programs
 from readers_stops import FIRST, IMAGE_BYTES, NEW, OLD, SECTOR, STOPS, image_left
 
 sys.path.append(os.path.join(os.path.dirname(os.path.abspath(__file__)), "crash_states"))
-import gpt  # pylint: disable=wrong-import-position
+import gpt
 
 # What a stop leaves in front of a table that is read: the answers of the programs, as they printed them.
 ANSWERS = {
