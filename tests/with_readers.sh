@@ -11,6 +11,7 @@
 set -u
 top=$(cd "$(dirname "$0")/.." && pwd) || exit
 program=$(realpath "${1:-$top/gptimg}") || exit
+PATH=$PATH:/usr/sbin:/sbin
 
 if ! command -v python3 > /dev/null; then
     echo "with_readers.sh: left out, as there is no python3"
