@@ -15,7 +15,6 @@ busybox and cpio; tests/with_power_cuts.sh looks for them first. Some 7 seconds 
 """
 
 import argparse
-import glob
 import os
 import random
 import re
@@ -25,6 +24,8 @@ import sys
 import tempfile
 import time
 
+import guest
+
 DATA_TYPE = "a2a0d0ebe5b9334487c068b6b72699c7"
 KEPT = "77" * 16
 IMAGE_BYTES = 16 << 20
@@ -33,16 +34,13 @@ START_SECONDS = 120
 # The number of the command that a new image stands for: an odd one, which leaves no partition 1.
 NEW = 1
 
-INIT = """#!/bin/busybox sh
-/bin/busybox mount -t proc proc /proc
-/bin/busybox mount -t sysfs sys /sys
-/bin/busybox mount -t devtmpfs dev /dev
-for module in {modules}; do /bin/busybox insmod /$module; done
+# What the guest runs, which has the number before the first command on its kernel's command line.
+COMMANDS_OF_GUEST = """
 echo 1 > /proc/sys/vm/dirty_writeback_centisecs
 echo 1 > /proc/sys/vm/dirty_expire_centisecs
 echo 4096 > /proc/sys/vm/dirty_background_bytes
-echo "kernel saw $(/bin/busybox grep -c 'vda[0-9]' /proc/partitions)"
-k=$(/bin/busybox sed -n 's/.*first=\\([0-9]*\\).*/\\1/p' /proc/cmdline)
+echo "kernel saw $(grep -c 'vda[0-9]' /proc/partitions)"
+k=$(sed -n 's/.*first=\\([0-9]*\\).*/\\1/p' /proc/cmdline)
 while :; do
     k=$((k + 1))
     echo "begin $k"
@@ -54,77 +52,27 @@ done
 # How each tool adds partition 1, with the number of the command as its GUID, and how it removes it.
 COMMANDS = {
     "gptimg": (
-        f"/bin/tool /dev/vda 512 add 1 {DATA_TYPE} $(/bin/busybox printf '%032x' $k) 64 first 64 cut",
-        "/bin/tool /dev/vda 512 remove 1",
+        f"tool /dev/vda 512 add 1 {DATA_TYPE} $(printf '%032x' $k) 64 first 64 cut",
+        "tool /dev/vda 512 remove 1",
     ),
     "sgdisk": (
-        "/bin/tool -a 1 -n 1:64:127 -u 1:$(/bin/busybox printf '00000000-0000-0000-0000-%012x' $k) /dev/vda",
-        "/bin/tool -d 1 /dev/vda",
+        "tool -a 1 -n 1:64:127 -u 1:$(printf '00000000-0000-0000-0000-%012x' $k) /dev/vda",
+        "tool -d 1 /dev/vda",
     ),
 }
 
 
-def modules_for(version, names):
-    """The files of these modules and of those that they need, each behind what it needs."""
-    needs = {}
-    with open(f"/lib/modules/{version}/modules.dep", encoding="utf-8") as lines:
-        for line in lines:
-            file, _, rest = line.rstrip("\n").partition(":")
-            needs[file] = rest.split()
-    found = []
-
-    def take(file):
-        for other in reversed(needs[file]):
-            take(other)
-        if file not in found:
-            found.append(file)
-
-    for name in names:
-        take(next(it for it in needs if os.path.basename(it).split(".")[0] == name))
-    return found
-
-
-def copy_with_libraries(program, root):
-    """Copies the program, and the libraries that it is linked to, under root."""
-    shutil.copy(program, f"{root}/bin/tool")
-    linked = subprocess.run(["ldd", program], capture_output=True, text=True, check=False).stdout
-    for file in re.findall(r"(/\S+)", linked):
-        if os.path.exists(file):
-            os.makedirs(root + os.path.dirname(file), exist_ok=True)
-            shutil.copy(file, root + file)
-
-
-def make_guest(tool, program, version, folder):
+def make_guest(tool, program, folder):
     """Makes the first file system of the guest, with this program as its tool, and gives its path."""
-    root = f"{folder}/root"
-    for name in ("bin", "proc", "sys", "dev"):
-        os.makedirs(f"{root}/{name}")
-    shutil.copy(shutil.which("busybox"), f"{root}/bin/busybox")
-    copy_with_libraries(program, root)
-    modules = modules_for(version, ("virtio_pci", "virtio_blk"))
-    for file in modules:
-        shutil.copy(f"/lib/modules/{version}/{file}", root)
-    with open(f"{root}/init", "w", encoding="utf-8") as init:
-        names = " ".join(os.path.basename(file) for file in modules)
-        add, remove = COMMANDS[tool]
-        init.write(INIT.replace("{modules}", names).replace("{add}", add).replace("{remove}", remove))
-    os.chmod(f"{root}/init", 0o755)
-    files = subprocess.run(["find", "."], cwd=root, capture_output=True, check=True).stdout
-    with open(f"{folder}/initrd", "wb") as archive:
-        subprocess.run(
-            ["cpio", "--quiet", "-o", "-H", "newc"], cwd=root, input=files, stdout=archive, check=True
-        )
-    return f"{folder}/initrd"
+    add, remove = COMMANDS[tool]
+    commands = COMMANDS_OF_GUEST.replace("{add}", add).replace("{remove}", remove)
+    return guest.make_guest(folder, {"tool": program}, {}, commands)
 
 
-def words_of_machine(kernel, initrd, image, first):
+def words_of_machine(initrd, image, first):
     """The command line of the virtual machine, whose commands are numbered from behind first."""
     drive = f"file={image},format=raw,if=virtio,cache=writeback,throttling.iops-write=60"
-    return [
-        "qemu-system-x86_64", "-machine", "q35,accel=tcg", "-cpu", "max", "-m", "256", "-nographic",
-        "-nodefaults", "-serial", "stdio", "-kernel", kernel, "-initrd", initrd,
-        "-append", f"console=ttyS0 quiet loglevel=0 first={first}", "-drive", drive,
-    ]
+    return guest.words_of_machine(initrd, f"first={first}", ["-drive", drive])
 
 
 def run_until_cut(words, log, enough, wait):
@@ -209,15 +157,14 @@ def judge(told, image, first):
 
 def cut_all(asked, folder):
     """Makes all cuts, and gives how many were right and how many were not."""
-    kernel = sorted(glob.glob("/boot/vmlinuz-*"))[-1]
     program = os.path.realpath(asked.program)
     in_guest = program if asked.tool == "gptimg" else shutil.which(asked.tool)
-    initrd = make_guest(asked.tool, in_guest, kernel.split("vmlinuz-")[1], folder)
+    initrd = make_guest(asked.tool, in_guest, folder)
     image = Image(program, f"{folder}/disk.img")
     chance = random.Random(asked.seed)
     passed, first = 0, NEW
     for cut in range(1, asked.cuts + 1):
-        words = words_of_machine(kernel, initrd, image.path, first)
+        words = words_of_machine(initrd, image.path, first)
         enough = f"done {first + 2} "
         told = run_until_cut(words, f"{folder}/log", enough, chance.uniform(0, 1.5))
         is_right, first, line = judge(told, image, first)
