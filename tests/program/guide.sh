@@ -1,16 +1,17 @@
-# shellcheck shell=bash disable=SC2154 # the program and the folders are named in tests/program.sh
+# shellcheck shell=bash disable=SC2154 # the programs and the folders are named in tests/program.sh
 # The examples of README.md, docs/GUIDE.md and docs/FAULTS.md, run from these documents themselves.
 #
-# What stands under a heading `##` is run by one shell, in an empty folder, with the program on PATH as
-# gptimg. In a block of kind `console` a line that begins with `$ ` is a command, one that begins with
-# `> ` goes on with it, and the other lines are what it prints. A block of kind `bash` whose first line
-# is `# NAME` is the file NAME. What stands in a block of kind `text` or `rust`, or in none, is not run.
+# What stands under a heading `##` is run by one shell, in an empty folder, with the programs on PATH as
+# gptimg and gptguid. In a block of kind `console` a line that begins with `$ ` is a command, one that
+# begins with `> ` goes on with it, and the other lines are what it prints. A block of kind `bash` whose
+# first line is `# NAME` is the file NAME. What stands in a block of kind `text` or `rust`, or in none, is
+# not run.
 #
 # A block that names a tool which is not installed is left out, with a line. So what stands on such a
 # block stands in it.
 
 # Tools that need not be installed.
-guide_tools=(sgdisk sfdisk mkfs.fat mmd mcopy mtype flock)
+guide_tools=(sgdisk sfdisk mkfs.fat mmd mcopy mtype mkfs.ext4 debugfs qemu-img gpart flock)
 
 try_readme() {
     try_document README.md
@@ -113,6 +114,7 @@ start_examples() {
     rm -rf "$examples" "$said"
     mkdir -p "$examples" "$said" "$folder/bin"
     ln -sf "$program" "$folder/bin/gptimg"
+    ln -sf "$guid_program" "$folder/bin/gptguid"
     commands=()
     wanted=()
 }
