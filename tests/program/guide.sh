@@ -24,6 +24,7 @@ try_guide() {
 try_faults() {
     try_document docs/FAULTS.md
     try_fault_names
+    try_least_sizes
 }
 
 # Counts whether the page has each name of a fault that the source of the program has.
@@ -35,6 +36,31 @@ try_fault_names() {
         names=$((names + 1))
     done < <(grep '=> "[A-Z][A-Za-z]*",' "$top/crates/gptimg_core/src/lines.rt")
     holds "the source has names of faults" [ "$names" -gt 0 ]
+}
+
+# Counts whether each least size of a disk that the page has is one, and what is said of less.
+try_least_sizes() {
+    local sector entries least bytes
+    holds "docs/FAULTS.md has seven least sizes" [ "$(least_sizes | wc -l)" -eq 7 ]
+    while read -r sector entries least bytes; do
+        equals "the bytes of $least sectors of $sector" "$((least * sector))" "$bytes"
+        tells_of_new "0 ok" "$least"
+        tells_of_new "1 fault: InvalidPartitionBoundaries" $((least - 1))
+        tells_of_new "1 fault: InvalidPartitionBoundaries" $((entries + 2))
+        tells_of_new "1 fault: Overflow" $((entries + 1))
+    done < <(least_sizes)
+}
+
+# Sector, A, least size in sectors and in bytes, as the page has them.
+least_sizes() {
+    sed -n 's/^| \([0-9,]*\) bytes | \([0-9]*\) | \([0-9]*\) | \([0-9,]*\) |$/\1 \2 \3 \4/p' \
+        "$top/docs/FAULTS.md" | tr -d ,
+}
+
+# Counts whether `new` ends with this status and line on an image of so many sectors.
+tells_of_new() {
+    make_image least.img $(($2 * sector))
+    says "${1%% *}" "${1#* }" least.img "$sector" new "$disk"
 }
 
 # Runs the examples of a document.
