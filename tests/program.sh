@@ -8,8 +8,8 @@
 # program gptguid is that of its crate, where `make gptguid` and `rt ci` leave it.
 # Prints a line for each subject, and in full what does not hold. The last line is 'N passed, M
 # failed', and the status is 1 where something failed. Needs bash, coreutils, diffutils, grep and the
-# program. What needs sgdisk, sfdisk, strace, flock, mkfs.fat, mtools, mkfs.ext4, debugfs, qemu-img or gpart
-# is tried where they are, and left out with a line where not.
+# program. What needs sgdisk, sfdisk, strace, flock, mkfs.fat or mtools is tried where they are, and left
+# out with a line where not.
 # shellcheck source-path=SCRIPTDIR
 set -u
 
