@@ -2,7 +2,7 @@
 
 .PHONY: try gptimg gptguid install demo test bench crash-states trials
 
-# Where `make install` puts the programs and the manual page.
+# Where `make install` puts the programs and their manual pages.
 PREFIX = /usr/local
 
 # A first look in half a minute: builds the program before its proof, and shows the table of an image.
@@ -24,6 +24,7 @@ install:
 	install -D -m 755 gptimg "$(DESTDIR)$(PREFIX)/bin/gptimg"
 	install -D -m 755 gptguid "$(DESTDIR)$(PREFIX)/bin/gptguid"
 	install -D -m 644 docs/gptimg.1 "$(DESTDIR)$(PREFIX)/share/man/man1/gptimg.1"
+	install -D -m 644 docs/gptguid.1 "$(DESTDIR)$(PREFIX)/share/man/man1/gptguid.1"
 
 # Makes an empty disk image, writes a table to it and shows it.
 demo: gptimg

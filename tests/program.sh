@@ -34,6 +34,7 @@ guid_program=$top/crates/gptguid/out/gptguid
 . "$top/tests/program/faults.sh"
 . "$top/tests/program/writers.sh"
 . "$top/tests/program/kills.sh"
+. "$top/tests/program/growth.sh"
 . "$top/tests/program/other_tools.sh"
 . "$top/tests/program/guids.sh"
 . "$top/tests/program/guide.sh"
@@ -74,6 +75,7 @@ try "readers beside a writer" try_readers
 try "ten writers at once" try_ten_writers
 try "a turn for each writer" try_turns
 try "killed writers" try_kills
+try "a grow that is stopped" try_stopped_growths
 try "GUIDs" try_guids
 try "images of sgdisk" try_sgdisk
 try "images of sfdisk" try_sfdisk

@@ -1,16 +1,17 @@
-# shellcheck shell=bash disable=SC2154 # the program and the folders are named in tests/program.sh
+# shellcheck shell=bash disable=SC2154 # the programs and the folders are named in tests/program.sh
 # The examples of README.md, docs/GUIDE.md and docs/FAULTS.md, run from these documents themselves.
 #
-# What stands under a heading `##` is run by one shell, in an empty folder, with the program on PATH as
-# gptimg. In a block of kind `console` a line that begins with `$ ` is a command, one that begins with
-# `> ` goes on with it, and the other lines are what it prints. A block of kind `bash` whose first line
-# is `# NAME` is the file NAME. What stands in a block of kind `text` or `rust`, or in none, is not run.
+# What stands under a heading `##` is run by one shell, in an empty folder, with the programs on PATH as
+# gptimg and gptguid. In a block of kind `console` a line that begins with `$ ` is a command, one that
+# begins with `> ` goes on with it, and the other lines are what it prints. A block of kind `bash` whose
+# first line is `# NAME` is the file NAME. What stands in a block of kind `text` or `rust`, or in none, is
+# not run.
 #
 # A block that names a tool which is not installed is left out, with a line. So what stands on such a
 # block stands in it.
 
 # Tools that need not be installed.
-guide_tools=(sgdisk sfdisk mkfs.fat mmd mcopy mtype flock)
+guide_tools=(sgdisk sfdisk mkfs.fat mmd mcopy mtype mkfs.ext4 debugfs qemu-img gpart flock)
 
 try_readme() {
     try_document README.md
@@ -23,6 +24,7 @@ try_guide() {
 try_faults() {
     try_document docs/FAULTS.md
     try_fault_names
+    try_least_sizes
 }
 
 # Counts whether the page has each name of a fault that the source of the program has.
@@ -34,6 +36,31 @@ try_fault_names() {
         names=$((names + 1))
     done < <(grep '=> "[A-Z][A-Za-z]*",' "$top/crates/gptimg_core/src/lines.rt")
     holds "the source has names of faults" [ "$names" -gt 0 ]
+}
+
+# Counts whether each least size of a disk that the page has is one, and what is said of less.
+try_least_sizes() {
+    local sector entries least bytes
+    holds "docs/FAULTS.md has seven least sizes" [ "$(least_sizes | wc -l)" -eq 7 ]
+    while read -r sector entries least bytes; do
+        equals "the bytes of $least sectors of $sector" "$((least * sector))" "$bytes"
+        tells_of_new "0 ok" "$least"
+        tells_of_new "1 fault: InvalidPartitionBoundaries" $((least - 1))
+        tells_of_new "1 fault: InvalidPartitionBoundaries" $((entries + 2))
+        tells_of_new "1 fault: Overflow" $((entries + 1))
+    done < <(least_sizes)
+}
+
+# Sector, A, least size in sectors and in bytes, as the page has them.
+least_sizes() {
+    sed -n 's/^| \([0-9,]*\) bytes | \([0-9]*\) | \([0-9]*\) | \([0-9,]*\) |$/\1 \2 \3 \4/p' \
+        "$top/docs/FAULTS.md" | tr -d ,
+}
+
+# Counts whether `new` ends with this status and line on an image of so many sectors.
+tells_of_new() {
+    make_image least.img $(($2 * sector))
+    says "${1%% *}" "${1#* }" least.img "$sector" new "$disk"
 }
 
 # Runs the examples of a document.
@@ -113,6 +140,7 @@ start_examples() {
     rm -rf "$examples" "$said"
     mkdir -p "$examples" "$said" "$folder/bin"
     ln -sf "$program" "$folder/bin/gptimg"
+    ln -sf "$guid_program" "$folder/bin/gptguid"
     commands=()
     wanted=()
 }
