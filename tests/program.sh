@@ -8,8 +8,8 @@
 # program gptguid is that of its crate, where `make gptguid` and `rt ci` leave it.
 # Prints a line for each subject, and in full what does not hold. The last line is 'N passed, M
 # failed', and the status is 1 where something failed. Needs bash, coreutils, diffutils, grep and the
-# program. What needs sgdisk, sfdisk, strace, flock, mkfs.fat or mtools is tried where they are, and left
-# out with a line where not.
+# program. What needs sgdisk, sfdisk, strace, flock, python3, mkfs.fat or mtools is tried where they are,
+# and left out with a line where not; so is what only some users may do.
 # shellcheck source-path=SCRIPTDIR
 set -u
 
@@ -61,6 +61,8 @@ try "the program in README.md" try_readme_program
 try "words" try_words
 try "commands" try_commands
 try "closed descriptors" try_closed_descriptors
+try "a system without /dev" try_without_devices
+try "openings" try_opens
 try "few descriptors" try_few_descriptors
 try "output that fails" try_failing_output
 try "output in large pieces" try_pieces
