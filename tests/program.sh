@@ -7,9 +7,9 @@
 # PROGRAM is ./gptimg at the top of the repository where it is left out; `make gptimg` puts it there. The
 # program gptguid is that of its crate, where `make gptguid` and `rt ci` leave it.
 # Prints a line for each subject, and in full what does not hold. The last line is 'N passed, M
-# failed', and the status is 1 where something failed. Needs bash, coreutils, grep, sed and the
-# program. What needs sgdisk, sfdisk, strace, flock, mkfs.fat or mtools is tried where they are, and left
-# out with a line where not.
+# failed', and the status is 1 where something failed. Needs bash, coreutils, diffutils, grep, sed and the
+# program. What needs sgdisk, sfdisk, strace, flock, python3, qemu-img, gpart, mtools, or tools of file
+# systems is tried where they are, and left out with a line where not; so is what only some users may do.
 # shellcheck source-path=SCRIPTDIR
 set -u
 
@@ -63,6 +63,8 @@ try "the links of the documents" try_links
 try "words" try_words
 try "commands" try_commands
 try "closed descriptors" try_closed_descriptors
+try "a system without /dev" try_without_devices
+try "openings" try_opens
 try "few descriptors" try_few_descriptors
 try "output that fails" try_failing_output
 try "output in large pieces" try_pieces

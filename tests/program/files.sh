@@ -8,6 +8,7 @@ try_files() {
     try_short 1
     try_null_device
     try_pipe
+    try_socket
     try_link
 }
 
@@ -21,17 +22,10 @@ all_say() {
     done
 }
 
-# A folder may be opened for reading, but has nothing to read.
+# A folder could be opened for reading, but has nothing to read.
 try_folder() {
-    local line
     mkdir folder.img
-    all_say "fault: Io" folder.img "${writers[@]}"
-    for line in "${readers[@]}"; do
-        # shellcheck disable=SC2086 # the words are several
-        run "$program" folder.img 512 $line
-        is_one_of "gptimg folder.img 512 $line" "$answer" $'1 fault: Io\n' \
-            $'1 fault: ReadError(Io, Io)\n' $'1 primary fault Io\nbackup fault Io\nsame no\n'
-    done
+    all_say "fault: Io" folder.img "${writers[@]}" "${readers[@]}" list
     holds "the folder is there and empty" rmdir folder.img
 }
 
@@ -64,16 +58,32 @@ try_null_device() {
     has_no_sector /dev/null
 }
 
-# A pipe is refused at once by each command that writes, whether or not another program has it open.
+# A pipe is refused at once, whether or not another program has it open.
 try_pipe() {
-    local line
     mkfifo pipe.img
-    for line in "${writers[@]}"; do
-        # shellcheck disable=SC2086 # the words are several
-        run timeout 5 "$program" pipe.img 512 $line
-        equals "gptimg pipe.img 512 $line" $'1 fault: Io\n' "$answer"
-    done
+    all_say_at_once pipe.img
+    exec 6<> pipe.img
+    all_say_at_once pipe.img
+    exec 6<&-
     holds "the pipe is there" [ -p pipe.img ]
+}
+
+# So is a socket.
+try_socket() {
+    has python3 || return
+    python3 -c 'import socket; socket.socket(socket.AF_UNIX).bind("socket.img")'
+    holds "a socket was made" [ -S socket.img ]
+    all_say_at_once socket.img
+}
+
+# Counts whether each command refuses this image, and does not wait for another program.
+all_say_at_once() {
+    local line
+    for line in "${writers[@]}" "${readers[@]}" list; do
+        # shellcheck disable=SC2086 # the words are several
+        run timeout 5 "$program" "$1" 512 $line
+        equals "gptimg $1 512 $line" $'1 fault: Io\n' "$answer"
+    done
 }
 
 # A link stands for the image that it leads to.

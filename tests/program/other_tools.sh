@@ -106,7 +106,7 @@ try_file_disk() {
     local entries="read 4096, read 4096, read 4096, read 4096"
     make_table "$image" 51201
     equals "what show asks of an image of 51,201 bytes" \
-        "open to read, end 51201, to 0, to 512, read 92, to 51201, to 1024, $entries" \
+        "open to read, open to read, end 51201, to 0, to 512, read 92, to 51201, to 1024, $entries" \
         "$(asked_of "$image" 512 show)"
     equals "what mbr asks of an image of 51,201 bytes" \
         "open to read, open to write, end 51201, to 0, to 51201, to 446, write 66, sync" \
@@ -123,7 +123,7 @@ try_calls() {
     equals "the writes and syncs of mbr" "primary sync" "$(order_of "$image" 512 mbr plain)"
     for line in "${readers[@]}"; do
         # shellcheck disable=SC2086 # the words are several
-        equals "how $line opens the image" "read" "$(opens_of "$image" 512 $line)"
+        equals "how $line opens the image" "read read" "$(opens_of "$image" 512 $line)"
         # shellcheck disable=SC2086
         equals "the writes and syncs of $line" "" "$(order_of "$image" 512 $line)"
     done

@@ -18,12 +18,13 @@ use std::rt::Files;
 ///
 /// - **Standard streams.** A file that is opened gets the lowest descriptor that is free. Where the
 ///   program was started with standard input, output or error closed, that is 0, 1 or 2, and what is
-///   printed then goes into the disk. So before the first opening open the null device for reading,
-///   until its descriptor is above 2, and hold these files as long as the program runs.
+///   printed then goes into the disk. So before that open the same path for reading alone, again and
+///   again until the descriptor is above 2, and hold these files as long as the program runs: what is
+///   printed to one of them fails.
 /// - **Several writers.** No lock is taken, and two programs that read the same table and write
-///   changes of it lose one of the two. Where others may write to the file, open it once more for
-///   reading alone, take `File::lock` on that before this disk is opened, and hold it until the disk
-///   is dropped. It holds off programs that take this lock too, and no others.
+///   changes of it lose one of the two. Where others may write to the file, take `File::lock` on the
+///   last of those openings before this disk is opened, and hold it until the disk is dropped. It
+///   holds off programs that take this lock too, and no others.
 #[derive(Drop)]
 pub struct FileDisk {
     file: File,
@@ -49,7 +50,8 @@ impl FileDisk {
         FileDisk::over(OpenOptions::new().read(true).write(true).open(files, path)?)
     }
 
-    /// Opens the file at this path for reading alone, at position 0. Its writes fail.
+    /// Opens the file at this path for reading alone, at position 0. Its writes fail. A pipe is opened
+    /// no sooner than another program opens it for writing.
     ///
     /// `Io` where the system does not open it, or does not tell its length.
     pub fn open_read<R: Files<File = File>>(files: &R, path: &str) -> Result<FileDisk>
