@@ -3,6 +3,7 @@ pub mod AfterFailure
 pub mod Apart
 pub mod Boundaries
 pub mod Choice
+pub mod CommitFailure
 pub mod CommitLoop
 pub mod Commits
 pub mod CommonDivisor
