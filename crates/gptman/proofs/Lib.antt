@@ -31,6 +31,7 @@ pub mod Places
 pub mod Placing
 pub mod ReadAlone
 pub mod ReadBack
+pub mod ReadKept
 pub mod ReadingLaw
 pub mod SameTable
 pub mod Sealing
