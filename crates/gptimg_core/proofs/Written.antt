@@ -1,5 +1,5 @@
 -- What a write leaves that comes after calls that only read.
-use Rattle.std.proofs.Common.{sym, subst, ◌∙◌, ℕ, List, [], ◌∷◌, Option}
+use Rattle.std.proofs.Common.{◌≡◌, sym, subst, ◌∙◌, ℕ, List, [], ◌∷◌, Option}
 use Rattle.gptman.specs.Disk.{OnlyRead, DiskState, AgreesOutside, IsHonest, Keeps, LeavesOnly, Reads, Writes, Wrote}
 use Rattle.gptman.specs.Crash.{IsKeptFor, other_side, StartsFromOne}
 use Rattle.gptman.specs.Ranges.{AreClear}
@@ -9,10 +9,11 @@ use Rattle.gptman.specs.Table.{Table, table_in}
 use Rattle.gptman.specs.TableWrites.{table_ranges}
 use Rattle.gptman.specs.declared.table.GPT.{GPT}
 use Rattle.gptman.proofs.Held.{holds_local}
+use Rattle.gptman.proofs.ReadingLaw.{reads_one_of}
 use Rattle.gptman_copy.proofs.Ranges.{contains_first, within_none, within_self}
 use Rattle.gptman_copy.proofs.Readers.{both_read}
 use Rattle.gptman_copy.proofs.Runs.{keeps_then, leaves_then, wrote_then, wrote_wider}
-use Rattle.gptimg_core.specs.Changes.{IsChanged, LeavesChange, written}
+use Rattle.gptimg_core.specs.Changes.{IsChanged, LeavesChange, ReplacesTable, StopsLeaveEither, written}
 use Rattle.gptimg_core.specs.Reads.{IsReadFrom}
 use Rattle.gptimg_core.specs.declared.words.Change.{Change}
 use Rattle.gptimg_core.proofs.Read.{read_before}
@@ -66,3 +67,26 @@ change_written size change table next old mid last new honest first second keeps
     (wrote_since next old last new only written_here)
     (λ was layout kept. leaves_since next was old last new only both.keeps written_here
     (λ here was kept. one_good was (record { start = record { honest = only.wrote.honest; layout = here }; kept = kept })) layout kept)
+
+-- ---- a table in the stead of an old one
+
+-- what holds one of two tables is read as one of them
+either : (was next : Table) (ss : ℕ) (old new : DiskState) → StopsHold old new ss (was ∷ next ∷ []) → StopsLeaveEither was next ss old new
+either was next ss old new held = record { held = held; read = λ b left known. reads_one_of b ss (was ∷ next ∷ []) (held b left) known }
+
+-- calls that only read leave the old one
+pub read_replaces : (next : GPT) (old mid : DiskState) → Reads old mid → ReplacesTable next old mid
+read_replaces next old mid reads was from =
+    either was (table_in next) next.sector_size old mid (still_held next was old mid mid (reads.only from.start.honest) reads.keeps from.kept)
+
+-- so does the write of the new one after them, until it holds the new one
+pub write_replaces : (table next : GPT) (old mid new : DiskState) → table ≡ next → Reads old mid → Writes (table_ranges table) mid new
+    → ((was : Table) → StartsFromOne mid table was → StopsHold mid new table.sector_size (was ∷ table_in table ∷ [])) → ReplacesTable next old new
+write_replaces table next old mid new is reads wrote one_good was from =
+    let only = reads.only from.start.honest in
+    let wrote_next : Writes (table_ranges next) mid new = subst (λ (g : GPT). Writes (table_ranges g) mid new) is wrote in
+    let good : (before : Table) → StartsFromOne mid next before → StopsHold mid new next.sector_size (before ∷ table_in next ∷ []) =
+    subst (λ (g : GPT). (before : Table) → StartsFromOne mid g before → StopsHold mid new g.sector_size (before ∷ table_in g ∷ [])) is one_good in
+    either was (table_in next) next.sector_size old new
+    (leaves_since next was old mid new only reads.keeps (wrote_next only.wrote.honest)
+    (λ here before kept. good before (record { start = record { honest = only.wrote.honest; layout = here }; kept = kept })) from.start.layout from.kept)

@@ -2,7 +2,7 @@
 use Rattle.std.specs.Prelude.{◌≡◌, ℕ, ◌+◌, ◌-◌, [], ◌∷◌, Option, None, IsTrue}
 use Rattle.std.specs.Str.{chars}
 use Rattle.gptman.specs.Disk.{OnlyRead, DiskState, Wrote}
-use Rattle.gptman.specs.Crash.{IsKeptFor}
+use Rattle.gptman.specs.Crash.{IsKeptFor, StartsFromOne}
 use Rattle.gptman.specs.Edit.{after_edit, edit_fault}
 use Rattle.gptman.specs.Entry.{is_unused}
 use Rattle.gptman.specs.Fit.{fit_fault}
@@ -10,7 +10,7 @@ use Rattle.gptman.specs.Layout.{HasLayout}
 use Rattle.gptman.specs.Name.{units_of}
 use Rattle.gptman.specs.Number.{entry_at, number_fault, with_entry}
 use Rattle.gptman.specs.Place.{IsBestPlace, IsFirstPlace, IsFreeIn, IsLastPlace}
-use Rattle.gptman.specs.Stop.{IsStored, StopsHold}
+use Rattle.gptman.specs.Stop.{IsStored, StopsAreReadAs, StopsHold}
 use Rattle.gptman.specs.Table.{Table as DiskTable, grow_to, table_in}
 use Rattle.gptman.specs.TableReads.{CountsReading}
 use Rattle.gptman.specs.TableWrites.{table_ranges}
@@ -89,3 +89,12 @@ pub data LeavesChange (size : Option ℕ) (change : Change) (old new : DiskState
       → ((was : DiskTable) → HasLayout next old.size → IsKeptFor old next was
       → StopsHold old new next.sector_size (was ∷ table_in next ∷ []))
       → LeavesChange size change old new
+
+-- A stop at any moment leaves one of the two tables at one place at least, and the disk is read as one of them, unless the reading takes a foreign copy.
+pub record StopsLeaveEither (was next : DiskTable) (ss : ℕ) (old new : DiskState) : Type 0 where
+  pub held : StopsHold old new ss (was ∷ next ∷ [])
+  pub read : StopsAreReadAs old new ss (was ∷ next ∷ [])
+
+-- The value's table replaces any table of which the disk has one good copy for it: a stop leaves the one or the other.
+abbrev pub ReplacesTable : GPT → DiskState → DiskState → Type 0
+ReplacesTable g old new = (was : DiskTable) → StartsFromOne old g was → StopsLeaveEither was (table_in g) g.sector_size old new

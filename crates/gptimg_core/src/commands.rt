@@ -14,7 +14,7 @@ ghost use Rattle.gptman.specs.Table.{entries_in, new_table, table_in};
 ghost use Rattle.gptman.specs.TableReads.{CountsReading};
 ghost use Rattle.gptman.specs.TableWrites.{table_ranges};
 ghost use Rattle.gptimg_core.specs.Asks.{IsReader};
-ghost use Rattle.gptimg_core.specs.Changes.{report_of, LeavesChange, MakesChange};
+ghost use Rattle.gptimg_core.specs.Changes.{report_of, LeavesChange, MakesChange, ReplacesTable};
 ghost use Rattle.gptimg_core.specs.Checks.{is_good, TellsCopies};
 ghost use Rattle.gptimg_core.specs.Reads.{AreSlotsIn, IsReadFrom, TellsOfTable};
 ghost use Rattle.gptimg_core.specs.Refusals.{RefusesChange, RefusesCommand, RefusesMbr, RefusesNew};
@@ -90,6 +90,9 @@ pub fn perform<D: Disk>(alloc: Global, command: &Command, disk: &mut D) -> Resul
         → StartsLaidOut (D.state disk.old) (new_table guid ss (D.state disk.old).size)
         → OnOk result (IsStored (D.state disk.new) ss
         (table_in (new_table guid ss (D.state disk.old).size))) }
+    ensures replaces { (ss : ℕ) (guid : List ℕ) → command.now ≡ New ss guid
+        → ReplacesTable (new_table guid ss (D.state disk.old).size)
+        (D.state disk.old) (D.state disk.new) }
 
     // An MBR.
     ensures mbr_counts { (ss : ℕ) (bootable : Bool) → command.now ≡ Mbr ss bootable
@@ -190,6 +193,8 @@ fn write_new<D: Disk>(
     ensures stored { let table = new_table guid sector_size (D.state disk.old).size in
         StartsLaidOut (D.state disk.old) table
         → OnOk result (IsStored (D.state disk.new) sector_size (table_in table)) }
+    ensures replaces { ReplacesTable (new_table guid sector_size (D.state disk.old).size)
+        (D.state disk.old) (D.state disk.new) }
 {
     let mut table = GPT::new_from(alloc, disk, sector_size, guid)?;
     table.write_into(disk)?;

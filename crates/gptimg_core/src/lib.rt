@@ -15,7 +15,7 @@ ghost use Rattle.gptman.specs.Stop.{IsStored};
 ghost use Rattle.gptman.specs.Table.{new_table, table_in};
 ghost use Rattle.gptman.specs.TableWrites.{table_ranges};
 ghost use Rattle.gptimg_core.specs.Asks.{AskFor, IsReader};
-ghost use Rattle.gptimg_core.specs.Changes.{report_of, LeavesChange, MakesChange};
+ghost use Rattle.gptimg_core.specs.Changes.{report_of, LeavesChange, MakesChange, ReplacesTable};
 ghost use Rattle.gptimg_core.specs.Checks.{is_good, HoldOneTable};
 ghost use Rattle.gptimg_core.specs.Lines.{report_lines, table_lines};
 ghost use Rattle.gptimg_core.specs.Prints.{PrintsCopies, PrintsFault, PrintsRefusal, PrintsSlots};
@@ -132,6 +132,12 @@ pub fn run<D: Disk, W: Write>(
     ensures stored { (ss : ℕ) (guid : List ℕ) → AskFor words.now (New ss guid)
         → StartsLaidOut (D.state disk.old) (new_table guid ss (D.state disk.old).size) → result ≡ Ok 0
         → IsStored (D.state disk.new) ss (table_in (new_table guid ss (D.state disk.old).size)) }
+
+    // Over an old table of which one good copy stands where the new one is not written first, a stop at any
+    // moment leaves the old table or the new one.
+    ensures replaces { (ss : ℕ) (guid : List ℕ) → AskFor words.now (New ss guid)
+        → ReplacesTable (new_table guid ss (D.state disk.old).size)
+        (D.state disk.old) (D.state disk.new) }
 
     // A protective MBR.
     ensures mbr_counts { (ss : ℕ) (bootable : Bool) → AskFor words.now (Mbr ss bootable)

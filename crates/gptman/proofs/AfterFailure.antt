@@ -22,7 +22,7 @@ use Rattle.gptman_copy.proofs.Ranges.{Ranges, agrees_wider, within_then}
 use Rattle.gptman.proofs.WrittenCopy.{written_start}
 
 -- ranges of a disk that is as it was, with nothing pending
-untouched_ranges : (rs : Ranges) (a b : DiskState) → b.view ≡ a.view → b.pending ≡ [] → IsLeftAlone rs a b
+pub untouched_ranges : (rs : Ranges) (a b : DiskState) → b.view ≡ a.view → b.pending ≡ [] → IsLeftAlone rs a b
 untouched_ranges rs a b view synced = record {
   not_pending = λ k inside. subst (λ (ps : Ranges). Outside ps k) (sym synced) tt;
   same = record { long = ap length view; same = λ k inside. ap (λ (v : List ℕ). get_or v k 0) view };

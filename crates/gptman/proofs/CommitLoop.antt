@@ -515,6 +515,19 @@ module _ (g : GPT) (made : List Edit) (now : GPT) (a b c : DiskState) (are : Are
             (⊎_elim (λ before. before) (λ since. (sound wrote.honest).counts_now a.clock x wrote.time.later (read.wrote.crash x since)) (read.wrote.time.nothing_else a.clock x wrote.time.later left))
       ]
 
+  longer : done + 1 ≡ length (made ++ edit ∷ [])
+  longer = omega (arith, count, length-append made (edit ∷ []))
+
+  at_next : table_after g edits (done + 1) ≡ after_edit (fold after_edit g made) edit
+  at_next = (λ i. table_after g (split i) (longer i)) ∙ (after_append g (made ++ edit ∷ []) more (length (made ++ edit ∷ [])) (omega arith) ∙ (after_all g (made ++ edit ∷ []) ∙ fold-append after_edit g made (edit ∷ [])))
+
+  -- the table that the value holds, and the one that the edit makes of it
+  pub last_table : table_in now ≡ table_in (table_after g edits done)
+  last_table = table_sums (fold after_edit g made) now are.value ∙ ap table_in (sym (after_done g made now a b are edits (edit ∷ more) done is count))
+
+  pub next_table : table_in (after_edit now edit) ≡ table_in (table_after g edits (done + 1))
+  next_table = table_sums (after_edit (fold after_edit g made) edit) (after_edit now edit) (edited_sums (fold after_edit g made) now edit are.value) ∙ ap table_in (sym at_next)
+
   -- what a stop may leave now holds the last table, or where the disk failed the next
   pub failed_last : (fault : Fault) → a.is_honest ≡ true → HasLayout g a.size → IsKeptFor a g (table_in g) → (b.is_honest ≡ true → IsSound b) → b.clock ≤ c.clock → IsSound c
       → (b.is_honest ≡ true → (fault ≡ io) ⊎ OnlyRead b c)
@@ -531,18 +544,6 @@ module _ (g : GPT) (made : List Edit) (now : GPT) (a b c : DiskState) (are : Are
       still : b.is_honest ≡ true
       still = (are.wrote honest).honest
 
-      first : table_in now ≡ last
-      first = table_sums (fold after_edit g made) now are.value ∙ ap table_in (sym (after_done g made now a b are edits (edit ∷ more) done is count))
-
-      longer : done + 1 ≡ length (made ++ edit ∷ [])
-      longer = omega (arith, count, length-append made (edit ∷ []))
-
-      at : table_after g edits (done + 1) ≡ after_edit (fold after_edit g made) edit
-      at = (λ i. table_after g (split i) (longer i)) ∙ (after_append g (made ++ edit ∷ []) more (length (made ++ edit ∷ [])) (omega arith) ∙ (after_all g (made ++ edit ∷ []) ∙ fold-append after_edit g made (edit ∷ [])))
-
-      second : table_in (after_edit now edit) ≡ table_in (table_after g edits (done + 1))
-      second = table_sums (after_edit (fold after_edit g made) edit) (after_edit now edit) (edited_sums (fold after_edit g made) now edit are.value) ∙ ap table_in (sym at)
-
       of_now : (tables : List Table) → HoldsOneOf x now.sector_size tables → HoldsOneOf x g.sector_size tables
       of_now tables = subst (λ (n : ℕ). HoldsOneOf x n tables) are.sides.sector
 
@@ -552,10 +553,10 @@ module _ (g : GPT) (made : List Edit) (now : GPT) (a b c : DiskState) (are : Are
       by_fault : (t : Bool) → is_io fault ≡ t → HoldsOneOf x g.sector_size (last ∷ (if t then table_in (table_after g edits (done + 1)) ∷ [] else []))
       by_fault true failed =
           let one = good (now_layout g made now a b are layout) kept_now x (sound.counts_now b.clock x later image) in
-          of_now (last ∷ table_in (table_after g edits (done + 1)) ∷ []) (subst (HoldsOneOf x now.sector_size) (λ i. first i ∷ second i ∷ []) one)
+          of_now (last ∷ table_in (table_after g edits (done + 1)) ∷ []) (subst (HoldsOneOf x now.sector_size) (λ i. last_table i ∷ next_table i ∷ []) one)
       by_fault false other = elim (untouched still) as (λ _. HoldsOneOf x g.sector_size (last ∷ [])) [
         | inl failed ↦ let never = sym other ∙ ap is_io failed in absurd (cc)
         | inr read ↦
             let here = leaves_kept now b (table_in now) [] (sound_before still) kept_now x ((sound_before still).counts_now b.clock x (omega arith) (was_left read)) in
-            of_now (last ∷ []) (subst (HoldsOneOf x now.sector_size) (λ i. first i ∷ []) here)
+            of_now (last ∷ []) (subst (HoldsOneOf x now.sector_size) (λ i. last_table i ∷ []) here)
       ]

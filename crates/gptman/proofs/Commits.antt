@@ -129,6 +129,9 @@ module _ (g new : GPT) (keeps : KeepsRanges g new) where
   form_like primary form = form
   form_like backup form = form
 
+  pub form_still : (side : Side) → IsHeaderForm side g.header → IsHeaderForm side new.header
+  form_still side form = subst (IsHeaderForm side) (sym keeps.header) (form_like side form)
+
   pub kept_still : (disk : DiskState) (was : Table) → IsKeptFor disk g was → IsKeptFor disk new was
   kept_still disk was kept =
       let side : Side = kept.side in
@@ -138,7 +141,7 @@ module _ (g new : GPT) (keeps : KeepsRanges g new) where
       record {
         synced = kept.synced;
         side = side;
-        form = subst (IsHeaderForm side) (sym keeps.header) (form_like side kept.form);
+        form = form_still side kept.form;
         held = subst (λ (n : ℕ). Holds disk.view n side was) (sym keeps.sector) kept.held;
         clear = subst (λ (n : ℕ). AreClear (ranges_at side was n disk.size) (ranges_at (other_side side) (table_in new) n disk.size)) (sym keeps.sector) clear;
       }

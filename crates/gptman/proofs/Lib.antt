@@ -3,6 +3,7 @@ pub mod AfterFailure
 pub mod Apart
 pub mod Boundaries
 pub mod Choice
+pub mod CommitFailure
 pub mod CommitLoop
 pub mod Commits
 pub mod CommonDivisor
@@ -30,6 +31,7 @@ pub mod Places
 pub mod Placing
 pub mod ReadAlone
 pub mod ReadBack
+pub mod ReadKept
 pub mod ReadingLaw
 pub mod SameTable
 pub mod Sealing

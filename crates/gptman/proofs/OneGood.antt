@@ -97,25 +97,30 @@ still_good g a was sound honest small laid kept =
 
 -- ---- two good copies
 
-stored_at : (side : Side) (disk : DiskState) (ss : ℕ) (t : Table) → IsStored disk ss t → Holds disk.view ss side t
+pub stored_at : (side : Side) (disk : DiskState) (ss : ℕ) (t : Table) → IsStored disk ss t → Holds disk.view ss side t
 stored_at primary disk ss t stored = stored.at_primary
 stored_at backup disk ss t stored = stored.at_backup
+
+-- A table that the side of the value's form holds, with the same ranges, is one good copy for the value.
+pub held_is_kept : (side : Side) (disk : DiskState) (g : GPT) (old : Table) → disk.pending ≡ [] → IsHeaderForm side g.header → Holds disk.view g.sector_size side old → HasLayout g disk.size
+    → HasRangesOf old (table_in g) → IsKeptFor disk g old
+held_is_kept side disk g old synced form held layout same =
+    let other : Ranges = ranges_at (other_side side) (table_in g) g.sector_size disk.size in
+    record {
+      synced = synced;
+      side = side;
+      form = form;
+      held = held;
+      clear = subst (λ (rs : Ranges). AreClear rs other) (sym (same_ranges side old (table_in g) g.sector_size disk.size same))
+          (clear_if_apart (ranges_at side (table_in g) g.sector_size disk.size) other (sides_apart side (table_in g) g.sector_size disk.size layout.table));
+    }
 
 -- Two good copies of a table with the same ranges are one good copy at the value's own side.
 pub stored_is_kept : (disk : DiskState) (g : GPT) (old : Table) → IsStored disk g.sector_size old → HasLayout g disk.size → HasRangesOf old (table_in g)
     → IsKeptFor disk g old
 stored_is_kept disk g old stored layout same =
     let at = layout_form g.header (entries_in g) g.sector_size disk.size layout in
-    let side : Side = at.0 in
-    let other : Ranges = ranges_at (other_side side) (table_in g) g.sector_size disk.size in
-    record {
-      synced = stored.synced;
-      side = side;
-      form = at.1;
-      held = stored_at side disk g.sector_size old stored;
-      clear = subst (λ (rs : Ranges). AreClear rs other) (sym (same_ranges side old (table_in g) g.sector_size disk.size same))
-          (clear_if_apart (ranges_at side (table_in g) g.sector_size disk.size) other (sides_apart side (table_in g) g.sector_size disk.size layout.table));
-    }
+    held_is_kept at.0 disk g old stored.synced at.1 (stored_at at.0 disk g.sector_size old stored) layout same
 
 pub one_of_stored : (disk : DiskState) (g : GPT) (old : Table) → StartsStored disk g old → StartsFromOne disk g old
 one_of_stored disk g old from = record { start = from.start; kept = stored_is_kept disk g old from.stored from.start.layout from.ranges }

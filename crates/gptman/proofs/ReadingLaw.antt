@@ -57,7 +57,7 @@ given_by_fallback : (b : List ℕ) (ss : ℕ) (fault : Fault) (copy : Copy) (sma
 given_by_fallback b ss fault copy true is ok = let e = sym (fallback_short b ss fault (grind arith)) ∙ ok in absurd (cc)
 given_by_fallback b ss fault copy false is ok = second_given b ss fault copy (copy_in backup b ss) refl (sym (fallback_long b ss fault (grind arith)) ∙ ok)
 
-taken_cases : (b : List ℕ) (ss : ℕ) (copy : Copy) (r : Result Copy Fault) → copy_in primary b ss ≡ r → reading_of b ss ≡ Ok copy → copy_in (taken_from b ss) b ss ≡ Ok copy
+pub taken_cases : (b : List ℕ) (ss : ℕ) (copy : Copy) (r : Result Copy Fault) → copy_in primary b ss ≡ r → reading_of b ss ≡ Ok copy → copy_in (taken_from b ss) b ss ≡ Ok copy
 taken_cases b ss copy (Ok first) is ok = ap (λ (p : Side). copy_in p b ss) (from_first b ss first is) ∙ is ∙ sym (taken_first b ss first is) ∙ ok
 taken_cases b ss copy (Err fault) is ok =
     ap (λ (p : Side). copy_in p b ss) (from_second b ss fault is)

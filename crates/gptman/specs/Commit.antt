@@ -1,11 +1,14 @@
 -- Lists of edits that are written one after the other.
-use Rattle.std.specs.Prelude.{◌≡◌, ◌⊎◌, ◌+◌, ℕ, zero, suc, Bool, true, false, List, [], ◌∷◌, map, slice_get, Option, Some, None, if◌then◌else◌}
+use Rattle.std.specs.Prelude.{◌≡◌, ◌<◌, ◌⊎◌, ◌+◌, ℕ, zero, suc, Bool, true, false, List, [], ◌∷◌, map, slice_get, Contains, Option, Some, None, if◌then◌else◌}
 use Rattle.std.specs.List.{range_with_len}
 use Rattle.gptman_copy.specs.Ranges.{AreApart}
 use Rattle.gptman.specs.TableWrites.{other_with_checksums, table_ranges, value_with_checksums, HasBothCopies, IsButSums, RefusesWrite}
 use Rattle.gptman_copy.specs.Disk.{OnlyRead, DiskState, Image}
+use Rattle.gptman.specs.Crash.{IsLeftAlone}
 use Rattle.gptman.specs.Edit.{after_edit, edit_fault, table_after}
 use Rattle.gptman_copy.specs.Fault.{Fault, fault_of, io, out_of_memory}
+use Rattle.gptman.specs.Layout.{Holds, ranges_at}
+use Rattle.gptman.specs.Reading.{Side, primary, backup, copy_start}
 use Rattle.gptman.specs.Stop.{HoldsOneOf, IsStored}
 use Rattle.gptman.specs.Table.{Table, entries_in, table_in}
 use Rattle.gptman.specs.Valid.{IsValid}
@@ -74,3 +77,19 @@ HoldsLast disk g edits k failed = (b : List ℕ) → Image disk b
 pub record IsLaidAfter (disk : DiskState) (g : GPT) (edits : List Edit) (k : ℕ) : Type 0 where
   pub synced : disk.pending ≡ []
   pub copies : AreApart (table_ranges g) → HasBothCopies disk.view (value_after g edits k) (other_with_checksums (table_after g edits k))
+
+-- whatever a stop may leave now holds the table at the side
+abbrev pub HoldsInAnyImage : DiskState → ℕ → Side → Table → Type 0
+HoldsInAnyImage disk ss side t = (b : List ℕ) → Image disk b → Holds b ss side t
+
+-- What k edits that were written, and the next one that was not, leave at a side: what was there, where there were none; or in whatever a stop may leave the
+-- table after k edits, or the one after k + 1; or a header that is not synced.
+pub data SideAfterEdits (side : Side) (g : GPT) (edits : List Edit) (k : ℕ) (old new : DiskState) : Type 0 where
+  as_it_was : k ≡ 0 → IsLeftAlone (ranges_at side (table_in g) g.sector_size old.size) old new → SideAfterEdits side g edits k old new
+  holds_last : 0 < k → HoldsInAnyImage new g.sector_size side (table_in (table_after g edits k)) → SideAfterEdits side g edits k old new
+  holds_next : HoldsInAnyImage new g.sector_size side (table_in (table_after g edits (k + 1))) → SideAfterEdits side g edits k old new
+  header_pending : Contains new.pending (copy_start side old.size g.sector_size, 92) → SideAfterEdits side g edits k old new
+
+-- at both sides
+abbrev pub BothSidesAfterEdits : GPT → List Edit → ℕ → DiskState → DiskState → Type 0
+BothSidesAfterEdits g edits k old new = SideAfterEdits primary g edits k old new × SideAfterEdits backup g edits k old new

@@ -1,14 +1,17 @@
 -- What a write of a table starts from, and what it leaves where it is stopped or fails.
-use Rattle.std.specs.Prelude.{◌≡◌, ℕ, List, [], length, Contains, IsErr}
+use Rattle.std.specs.Prelude.{◌≡◌, ℕ, List, [], length, Contains, Ok, IsErr}
 use Rattle.gptman_copy.specs.Disk.{AgreesOutside, DiskState, Image, IsHonest, LeavesOnly, Outside}
 use Rattle.gptman_copy.specs.Fit.{fit_header}
 use Rattle.gptman_copy.specs.Ranges.{AgreesInside, AreApart, AreClear, Inside}
+use Rattle.gptman.specs.Edit.{after_edit}
 use Rattle.gptman.specs.Layout.{HasLayout, Holds, four_ranges, ranges_at}
-use Rattle.gptman.specs.Reading.{Side, primary, backup, copy_start, copy_in}
+use Rattle.gptman.specs.Reading.{Side, primary, backup, copy_start, copy_in, reading_of, taken_from}
 use Rattle.gptman.specs.Stop.{IsStored, ReadsTable}
 use Rattle.gptman.specs.Table.{Table, table_in, IsHeaderForm}
+use Rattle.gptman.specs.TableReads.{copy_of}
 use Rattle.gptman.specs.TableWrites.{table_ranges}
 use Rattle.gptman_copy.specs.declared.codec.header.GPTHeader.{GPTHeader}
+use Rattle.gptman.specs.declared.edit.Edit.{Edit}
 use Rattle.gptman.specs.declared.table.GPT.{GPT}
 
 -- the side that is not this one
@@ -92,3 +95,28 @@ GrowingIsSafe disk = (was : Table) (h : GPTHeader) (g : GPT) → disk.pending �
     → g.header ≡ fit_header h g.sector_size disk.size
     → HasLayout g disk.size
     → IsKeptFor disk g was
+
+-- The value is a copy that is accepted at a side, in the form of that side.
+pub record IsReadInForm (view : List ℕ) (g : GPT) : Type 0 where
+  pub side : Side
+  pub accepted : copy_in side view g.sector_size ≡ Ok (copy_of g)
+  pub form : IsHeaderForm side g.header
+
+-- Such is what a reading takes in the form of the side from which it takes it.
+abbrev pub TakesInForm : List ℕ → Type 0
+TakesInForm view = (g : GPT) → reading_of view g.sector_size ≡ Ok (copy_of g) → IsHeaderForm (taken_from view g.sector_size) g.header → IsReadInForm view g
+
+-- The other value has the sector size of this one, the form of its header, and the same four ranges.
+pub record HasPlacesOf (g next : GPT) : Type 0 where
+  pub sector : next.sector_size ≡ g.sector_size
+  pub form : (side : Side) → IsHeaderForm side g.header → IsHeaderForm side next.header
+  pub ranges : HasRangesOf (table_in g) (table_in next)
+
+-- A value that was read in the form of its side is one good copy for the write of any value with its places, and so of itself, on the stated layout.
+abbrev pub KeepsWhatIsRead : DiskState → Type 0
+KeepsWhatIsRead disk = (g next : GPT) → IsHonest disk → disk.pending ≡ [] → IsReadInForm disk.view g → HasPlacesOf g next → HasLayout next disk.size
+    → StartsFromOne disk next (table_in g)
+
+-- An edit keeps the places of a value, and the stated layout.
+abbrev pub EditsKeepPlaces : Type 0
+EditsKeepPlaces = (g : GPT) (edit : Edit) (len : ℕ) → HasPlacesOf g (after_edit g edit) × (HasLayout g len → HasLayout (after_edit g edit) len)

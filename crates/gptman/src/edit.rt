@@ -9,11 +9,11 @@ ghost use Rattle.gptman_copy.specs.Disk.{Rose, Writes};
 ghost use Rattle.gptman_copy.specs.Fault.{fault_of, out_of_memory};
 ghost use Rattle.gptman_copy.specs.Ranges.{AreApart};
 ghost use Rattle.gptman.specs.Commit.{is_failure, is_io, reached, tables_to, value_after, HoldsLast};
-ghost use Rattle.gptman.specs.Commit.{IsLaidAfter};
+ghost use Rattle.gptman.specs.Commit.{BothSidesAfterEdits, IsLaidAfter};
 ghost use Rattle.gptman.specs.Commit.{IsAllowed, IsAllowedAt, IsRefusedAt, RefusesEdit, Stands};
 ghost use Rattle.gptman.specs.Crash.{StartsFromOne, StartsLaidOut, StartsStored, StartsSynced};
-ghost use Rattle.gptman.specs.Crash.{StopsKeepOthers};
-ghost use Rattle.gptman.specs.Edit.{after_edit, edit_fault};
+ghost use Rattle.gptman.specs.Crash.{AreReadAlone, BothSidesAfter, StopsKeepOthers};
+ghost use Rattle.gptman.specs.Edit.{after_edit, edit_fault, table_after};
 ghost use Rattle.gptman.specs.Layout.{HasLayout};
 ghost use Rattle.gptman.specs.Stop.{IsStored, StopsAreReadAs, StopsHold};
 ghost use Rattle.gptman.specs.Table.{entries_in, table_in};
@@ -77,7 +77,9 @@ impl GPT {
     /// the value holds the table after `done` edits, and in the second the one after `done + 1`; where
     /// all were written its checksums are made. On an honest disk of the stated layout, after a fault
     /// other than `Io`, both places still hold the table after `done` edits, or the disk is as it was
-    /// where `done` is 0. Without an edit nothing is written.
+    /// where `done` is 0; after `Io`, if nothing was pending at first, the same holds of each place
+    /// alone, or it holds the table after `done + 1` edits, or its header is not synced. Without an edit
+    /// nothing is written.
     ///
     /// The caller sees to it that the sector size is above 0 and the table coherent, as `is_coherent`
     /// tells.
@@ -113,6 +115,9 @@ impl GPT {
             ⊎ IsLaidAfter (D.state disk.new) self.old edits.items result.done }
         ensures stands { StartsLaidOut (D.state disk.old) self.old → IsTrue (is_failure result.fault)
             ⊎ Stands self.old edits.items result.done (D.state disk.old) (D.state disk.new) }
+        ensures alone { StartsLaidOut (D.state disk.old) self.old → 0 < result.done
+            → IsTrue (is_failure result.fault)
+            ⊎ AreReadAlone (D.state disk.new).view (table_after self.old edits.items result.done) }
 
         // From one good copy of the value's own table, a stop at any moment leaves the table after some of
         // the edits at one place at least.
@@ -127,6 +132,12 @@ impl GPT {
         ensures last { StartsFromOne (D.state disk.old) self.old (table_in self.old)
             → IfSome result.fault (λ e. HoldsLast (D.state disk.new) self.old edits.items result.done
             (is_io (fault_of e))) }
+
+        // After a fault each place stands as it was, where no edit was written, or in whatever a stop may
+        // leave holds the table after `done` edits or the next one, or has its header pending.
+        ensures after { StartsSynced (D.state disk.old) self.old
+            → IfSome result.fault (λ e. BothSidesAfterEdits self.old edits.items result.done
+            (D.state disk.old) (D.state disk.new)) }
 
         // From two good copies of it, so the disk is read as one of these tables.
         ensures crash_safe { StartsStored (D.state disk.old) self.old (table_in self.old)
@@ -180,6 +191,8 @@ impl GPT {
         ensures one_good { StartsFromOne (D.state disk.old) self.old (table_in self.old)
             → StopsHold (D.state disk.old) (D.state disk.new) self.old.sector_size
             (table_in self.old ∷ table_in (after_edit self.old edit) ∷ []) }
+        ensures after { StartsSynced (D.state disk.old) self.old → OnErr result
+            (BothSidesAfter (after_edit self.old edit) (D.state disk.old) (D.state disk.new)) }
     {
         self.apply(edit)?;
         self.write_into(disk)?;

@@ -1,18 +1,16 @@
 -- A partition that is added and written, after calls that only read.
 use Rattle.std.proofs.Common.{◌≡◌, ◌<◌, ℕ, ◌-◌, List, [], ◌∷◌, Option, None, Some, max, refl, sym, ap, ◌∙◌, subst, arith, inl, inr, ◌⊎◌, ⊎_elim}
-use Rattle.std.proofs.lemmas.List.{length-map, length-set}
 use Rattle.std.proofs.lemmas.Option.{MatchOption-at_none, MatchOption-at_some}
 use Rattle.std.specs.Prelude.{Result, Ok}
-use Rattle.gptman.specs.Copy.{Copy}
-use Rattle.gptman.specs.Crash.{AreReadAlone, StartsLaidOut, StartsStored}
+use Rattle.gptman.specs.Crash.{AreReadAlone, EditsKeepPlaces, IsReadInForm, KeepsWhatIsRead, StartsFromOne, StartsLaidOut}
 use Rattle.gptman.specs.Disk.{AgreesOutside, DiskState, Keeps, OnlyRead, Wrote}
 use Rattle.gptman.specs.Fault.{Fault}
-use Rattle.gptman.specs.Layout.{HasLayout, Holds, IsLaidOut}
+use Rattle.gptman.specs.Layout.{HasLayout, IsLaidOut}
 use Rattle.gptman.specs.Number.{with_entry}
 use Rattle.gptman.specs.Place.{FindsPlace, HasNoPlace, IsFirstPlace, IsFreeIn}
-use Rattle.gptman.specs.Reading.{Side, primary, backup}
+use Rattle.gptman.specs.Reading.{Side, primary, backup, copy_in}
 use Rattle.gptman.specs.Stop.{IsStored, ReadsForeign, ReadsOneOf, StopsAreReadAs}
-use Rattle.gptman.specs.Table.{Table, content_of, entries_in, table_in, IsForm, IsHeaderForm}
+use Rattle.gptman.specs.Table.{Table, table_in, IsHeaderForm}
 use Rattle.gptman.specs.TableReads.{copy_of, IsAsRead, MayBeRead}
 use Rattle.gptman.specs.TableWrites.{table_ranges}
 use Rattle.gptman.proofs.Held.{holds_local}
@@ -20,98 +18,91 @@ use Rattle.gptman.proofs.ReadingLaw.{reads_one_of}
 use Rattle.gptman_copy.proofs.Ranges.{Ranges, contains_first, within_none, within_self}
 use Rattle.gptman_copy.proofs.Runs.{leaves_then, rose_before, wrote_then, wrote_wider}
 use Rattle.gptman_copy.specs.declared.codec.entry.GPTPartitionEntry.{GPTPartitionEntry}
+use Rattle.gptman.specs.declared.edit.Edit.TheVariants.{Put}
 use Rattle.gptman.specs.declared.table.GPT.{GPT}
 use Rattle.gptman_example.specs.Adding.{placed, unwritten, written, AddsPartition, IsFirstUnused, IsReadFrom, IsSafe, IsWith, StartsGood}
 
--- A value that is read from two good copies of a table is that table, in one of its forms.
-record IsOfTable (g : GPT) (was : Table) : Type 0 where
+-- A value that is read where each accepted copy is this table is it, in the form of the place from which it was read.
+record IsOfTable (view : List ℕ) (g : GPT) (was : Table) : Type 0 where
   same : table_in g ≡ was
-  form : IsHeaderForm primary g.header ⊎ IsHeaderForm backup g.header
+  side : Side
+  accepted : copy_in side view 512 ≡ Ok (copy_of g)
+  form : IsHeaderForm side g.header
 
-held_form : (b : List ℕ) (side : Side) (g : GPT) (was : Table) (holds : Holds b 512 side was) → ◌≡◌ {A = Result Copy Fault} (Ok holds.copy) (Ok (copy_of g)) → IsForm side was (copy_of g)
-held_form b side g was holds e = let same : holds.copy ≡ copy_of g = cc in subst (λ (c : Copy). IsForm side was c) same holds.form
+of_place : (old : DiskState) (g : GPT) (was : Table) (place : Side) → StartsGood old was → copy_in place old.view 512 ≡ Ok (copy_of g) → IsOfTable old.view g was
+of_place old g was place good accepted =
+    let form = good.only place (copy_of g) accepted in
+    record { same = form.table; side = place; accepted = accepted; form = form.form }
 
-of_table : (old mid : DiskState) (g : GPT) (was : Table) → IsStored old 512 was → MayBeRead old mid 512 (copy_of g) → IsOfTable g was
-of_table old mid g was stored (inl first) =
-    let form = held_form old.view primary g was stored.at_primary (sym stored.at_primary.accepted ∙ first) in
-    record { same = form.table; form = inl form.form }
-of_table old mid g was stored (inr second) =
-    let form = held_form old.view backup g was stored.at_backup (sym stored.at_backup.accepted ∙ second.0) in
-    record { same = form.table; form = inr form.form }
+of_table : (old mid : DiskState) (g : GPT) (was : Table) → StartsGood old was → MayBeRead old mid 512 (copy_of g) → IsOfTable old.view g was
+of_table old mid g was good (inl first) = of_place old g was primary good first
+of_table old mid g was good (inr second) = of_place old g was backup good second.0
 
--- Another entry in its list keeps the stated layout.
-entry_laid_out : (g : GPT) (i : ℕ) (e : GPTPartitionEntry) (ss len : ℕ) → IsLaidOut (table_in g) ss len → IsLaidOut (table_in (with_entry g i e)) ss len
-entry_laid_out g i e ss len laid = record {
-  sector = laid.sector;
-  signature = laid.signature;
-  revision = laid.revision;
-  header_size = laid.header_size;
-  entry_size = laid.entry_size;
-  entries = length-map _ content_of ∙ length-set (entries_in g) (i - 1) e ∙ sym (length-map (entries_in g) content_of) ∙ laid.entries;
-  low_sector = laid.low_sector;
-  high_sector = laid.high_sector;
-  inside = laid.inside;
-  apart = laid.apart;
-  fits = laid.fits;
+-- the header of such a value is in one of the two forms
+one_form : (side : Side) (g : GPT) → IsHeaderForm side g.header → IsHeaderForm primary g.header ⊎ IsHeaderForm backup g.header
+one_form primary g form = inl form
+one_form backup g form = inr form
+
+-- On a disk of that length such a value has the stated layout.
+laid_out : (table : GPT) (was : Table) (view : List ℕ) (len : ℕ) → IsLaidOut was 512 len → table.sector_size ≡ 512 → IsOfTable view table was → HasLayout table len
+laid_out table was view len layout sector of = record {
+  table = subst (λ (t : Table). IsLaidOut t table.sector_size len) (sym of.same) (subst (λ (ss : ℕ). IsLaidOut was ss len) (sym sector) layout);
+  form = one_form of.side table of.form;
 }
 
--- What is read from two good copies is their table, and with the partition it keeps the stated layout.
-from_good : (partition : GPTPartitionEntry) (size first : ℕ) (table next : GPT) (was : Table) (old mid : DiskState) → StartsGood old was → table.sector_size ≡ 512
+-- What is read from a good copy is its table, and with the partition it keeps the stated layout.
+from_good : (partition : GPTPartitionEntry) (size first : ℕ) (table next : GPT) (was : Table) (old mid : DiskState) → EditsKeepPlaces → StartsGood old was → table.sector_size ≡ 512
     → MayBeRead old mid 512 (copy_of table) → IsWith partition size first table next → (table_in table ≡ was) × HasLayout next old.size
-from_good partition size first table next was old mid good sector accepted added =
-    let of = of_table old mid table was good.stored accepted in
-    let laid : IsLaidOut (table_in table) table.sector_size old.size =
-    subst (λ (t : Table). IsLaidOut t table.sector_size old.size) (sym of.same) (subst (λ (ss : ℕ). IsLaidOut was ss old.size) (sym sector) good.layout) in (
+from_good partition size first table next was old mid edits good sector accepted added =
+    let of = of_table old mid table was good accepted in (
       of.same,
       subst (λ (g : GPT). HasLayout g old.size) (sym added.next_is)
-          (record { table = entry_laid_out table added.number (placed partition size first) table.sector_size old.size laid; form = of.form }),
+          ((edits table (Put added.number (placed partition size first)) old.size).1 (laid_out table was old.view old.size good.layout sector of)),
     )
 
 -- While it is read, a stop leaves the table that was.
-still_read : (old mid : DiskState) (was : Table) (more : List Table) → IsStored old 512 was → OnlyRead old mid → StopsAreReadAs old mid 512 (was ∷ more)
-still_read old mid was more stored only b left =
-    let agrees : AgreesOutside [] old.view b = subst (λ (ranges : Ranges). AgreesOutside ranges old.view b) stored.synced (only.wrote.crash b left) in
+still_read : (old mid : DiskState) (was : Table) (more : List Table) → StartsGood old was → OnlyRead old mid → StopsAreReadAs old mid 512 (was ∷ more)
+still_read old mid was more good only b left =
+    let agrees : AgreesOutside [] old.view b = subst (λ (ranges : Ranges). AgreesOutside ranges old.view b) good.synced (only.wrote.crash b left) in
     reads_one_of b 512 (was ∷ more) (record {
-      side = primary;
+      side = good.side;
       table = was;
       listed = contains_first was more;
-      holds = holds_local old.view b 512 primary was stored.at_primary (record { long = agrees.long; same = λ k inside. agrees.same k tt });
+      holds = holds_local old.view b 512 good.side was good.held (record { long = agrees.long; same = λ k inside. agrees.same k tt });
     })
 
 pub unwritten_safe : (partition : GPTPartitionEntry) (size : ℕ) (was : Table) (old mid : DiskState) → StartsGood old was → OnlyRead old mid → IsSafe partition size was old mid
-unwritten_safe partition size was old mid good only = unwritten (still_read old mid was [] good.stored only)
+unwritten_safe partition size was old mid good only = unwritten (still_read old mid was [] good only)
 
--- The write begins on a disk whose two copies hold the old table.
-starts : (table : GPT) (i : ℕ) (e : GPTPartitionEntry) (was : Table) (old mid : DiskState) → StartsGood old was → OnlyRead old mid → Keeps old mid
-    → table.sector_size ≡ 512 → IsOfTable table was → StartsStored mid (with_entry table i e) was
-starts table i e was old mid good only keeps sector of =
-    let laid : IsLaidOut (table_in table) table.sector_size mid.size =
-    subst (λ (t : Table). IsLaidOut t table.sector_size mid.size) (sym of.same)
-    (subst (λ (ss : ℕ). IsLaidOut was ss mid.size) (sym sector) (subst (λ (len : ℕ). IsLaidOut was 512 len) (sym keeps.size) good.layout)) in
-    let stored : IsStored mid 512 was = record {
-      synced = only.pending ∙ good.stored.synced;
-      at_primary = subst (λ (view : List ℕ). Holds view 512 primary was) (sym only.view) good.stored.at_primary;
-      at_backup = subst (λ (view : List ℕ). Holds view 512 backup was) (sym only.view) good.stored.at_backup;
+-- The write begins on a disk that has one good copy of the old table for it.
+starts : (table : GPT) (i : ℕ) (e : GPTPartitionEntry) (was : Table) (old mid : DiskState) → KeepsWhatIsRead mid → EditsKeepPlaces → StartsGood old was → OnlyRead old mid → Keeps old mid
+    → table.sector_size ≡ 512 → IsOfTable old.view table was → StartsFromOne mid (with_entry table i e) was
+starts table i e was old mid law edits good only keeps sector of =
+    let read : IsReadInForm mid.view table = record {
+      side = of.side;
+      accepted = subst (λ (ss : ℕ). copy_in of.side mid.view ss ≡ Ok (copy_of table)) (sym sector)
+          (subst (λ (view : List ℕ). copy_in of.side view 512 ≡ Ok (copy_of table)) (sym only.view) of.accepted);
+      form = of.form;
     } in
-    record {
-      start = record { honest = only.wrote.honest; layout = record { table = entry_laid_out table i e table.sector_size mid.size laid; form = of.form } };
-      stored = subst (λ (ss : ℕ). IsStored mid ss was) (sym sector) stored;
-      ranges = record { count = ap (λ (t : Table). t.count) of.same; last = ap (λ (t : Table). t.last_usable_lba) of.same };
-    }
+    let edited = edits table (Put i e) mid.size in
+    let layout : HasLayout table mid.size = laid_out table was old.view mid.size (subst (λ (len : ℕ). IsLaidOut was 512 len) (sym keeps.size) good.layout) sector of in
+    subst (λ (t : Table). StartsFromOne mid (with_entry table i e) t) of.same
+    (law table (with_entry table i e) only.wrote.honest (only.pending ∙ good.synced) read edited.0 (edited.1 layout))
 
 module _ (partition : GPTPartitionEntry) (size first : ℕ) (was : Table) (table next : GPT) (old mid new : DiskState) where
   pub written_safe : (ranges : Ranges) → StartsGood old was → OnlyRead old mid → Keeps old mid → table.sector_size ≡ 512 → MayBeRead old mid 512 (copy_of table)
       → (added : IsWith partition size first table next) → Wrote ranges mid new
-      → (StartsStored mid next was → StopsAreReadAs mid new next.sector_size (was ∷ table_in next ∷ []))
+      → KeepsWhatIsRead mid → EditsKeepPlaces
+      → (StartsFromOne mid next was → StopsAreReadAs mid new next.sector_size (was ∷ table_in next ∷ []))
       → IsSafe partition size was old new
-  written_safe ranges good only keeps sector accepted added wrote safe =
-      let of = of_table old mid table was good.stored accepted in
-      let start : StartsStored mid next was = subst (λ (g : GPT). StartsStored mid g was) (sym added.next_is)
-      (starts table added.number (placed partition size first) was old mid good only keeps sector of) in
+  written_safe ranges good only keeps sector accepted added wrote law edits safe =
+      let of = of_table old mid table was good accepted in
+      let start : StartsFromOne mid next was = subst (λ (g : GPT). StartsFromOne mid g was) (sym added.next_is)
+      (starts table added.number (placed partition size first) was old mid law edits good only keeps sector of) in
       let here : next.sector_size ≡ 512 = ap (λ (g : GPT). g.sector_size) added.next_is ∙ sector in
       written first table next of.same added
       (leaves_then (λ b. ¬ ReadsForeign b 512 (was ∷ table_in next ∷ []) → ReadsOneOf b 512 (was ∷ table_in next ∷ [])) only.wrote.time wrote.time
-      (still_read old mid was (table_in next ∷ []) good.stored only)
+      (still_read old mid was (table_in next ∷ []) good only)
       (subst (λ (ss : ℕ). StopsAreReadAs mid new ss (was ∷ table_in next ∷ [])) here (safe start)))
 
 -- A value that was read is so whatever comes after it.
@@ -151,8 +142,9 @@ module _ (partition : GPTPartitionEntry) (size first : ℕ) (table next : GPT) (
       → IsWith partition size first table next → Wrote (table_ranges next) mid new
       → (StartsLaidOut mid next → IsStored new next.sector_size (table_in next))
       → (StartsLaidOut mid next → AreReadAlone new.view next)
+      → EditsKeepPlaces
       → AddsPartition partition size first old new
-  adds reading writing only sector accepted value added wrote stored alone =
+  adds reading writing only sector accepted value added wrote stored alone edits =
       let here : next.sector_size ≡ 512 = ap (λ (g : GPT). g.sector_size) added.next_is ∙ sector in
       let laid : HasLayout next old.size → StartsLaidOut mid next = λ layout. record {
         honest = only.wrote.honest;
@@ -166,5 +158,5 @@ module _ (partition : GPTPartitionEntry) (size first : ℕ) (table next : GPT) (
         wrote = wrote_then (within_self _) (wrote_wider within_none only.wrote) wrote;
         stored = λ layout. subst (λ (ss : ℕ). IsStored new ss (table_in next)) here (stored (laid layout));
         alone = λ layout. alone (laid layout);
-        good = λ was good. from_good partition size first table next was old mid good sector accepted added;
+        good = λ was good. from_good partition size first table next was old mid edits good sector accepted added;
       }

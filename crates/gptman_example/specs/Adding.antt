@@ -1,24 +1,30 @@
 -- A partition that is added to the table of a disk with sectors of 512 bytes.
-use Rattle.std.specs.Prelude.{◌≡◌, ◌≤◌, ◌<◌, ◌+◌, ◌-◌, ℕ, [], ◌∷◌, All, IsTrue}
+use Rattle.std.specs.Prelude.{◌≡◌, ◌≤◌, ◌<◌, ◌+◌, ◌-◌, ℕ, [], ◌∷◌, All, IsTrue, Ok}
+use Rattle.gptman.specs.Copy.{Copy}
 use Rattle.gptman.specs.Crash.{AreReadAlone}
 use Rattle.gptman.specs.Disk.{DiskState, IsHonest, Wrote}
 use Rattle.gptman.specs.Entry.{is_unused, is_used}
 use Rattle.gptman.specs.Fault.{Fault, no_space_left, out_of_memory}
-use Rattle.gptman.specs.Layout.{HasLayout, IsLaidOut}
+use Rattle.gptman.specs.Layout.{HasLayout, Holds, IsLaidOut}
 use Rattle.gptman.specs.Number.{entry_at, with_entry, IsNumber}
 use Rattle.gptman.specs.Place.{HasNoPlace, IsFirstPlace, IsFreeIn}
+use Rattle.gptman.specs.Reading.{Side, copy_in}
 use Rattle.gptman.specs.Stop.{IsStored, StopsAreReadAs}
-use Rattle.gptman.specs.Table.{Table, entries_in, table_in}
+use Rattle.gptman.specs.Table.{Table, entries_in, table_in, IsForm}
 use Rattle.gptman.specs.TableReads.{copy_of, IsAsRead, IsReadingFault, MayBeRead}
 use Rattle.gptman.specs.TableWrites.{table_ranges, RefusesWrite}
 use Rattle.gptman_copy.specs.declared.codec.entry.GPTPartitionEntry.{GPTPartitionEntry}
 use Rattle.gptman.specs.declared.table.GPT.{GPT}
 
--- Both places of an honest disk hold this table, all is synced, and the table has the stated layout.
+-- An honest disk with nothing pending has one good copy of this table at least, and no other: the table has the stated layout, a place holds it, and what is
+-- accepted at either place is it, in the form of the place.
 pub record StartsGood (disk : DiskState) (was : Table) : Type 0 where
   pub honest : IsHonest disk
-  pub stored : IsStored disk 512 was
+  pub synced : disk.pending ≡ []
   pub layout : IsLaidOut was 512 disk.size
+  pub side : Side
+  pub held : Holds disk.view 512 side was
+  pub only : (place : Side) (copy : Copy) → copy_in place disk.view 512 ≡ Ok copy → IsForm place was copy
 
 -- The number of the first entry that is not used.
 pub record IsFirstUnused (g : GPT) (number : ℕ) : Type 0 where
@@ -48,7 +54,7 @@ pub record IsReadFrom (old new : DiskState) (table : GPT) : Type 0 where
   pub value : IsAsRead table
 
 -- The table that was read got the partition, and was written: where it has the stated layout both places hold it, and each copy alone is read as it.
--- From two good copies it has that layout, and the table that was read is the one that they held.
+-- From a good copy and no other it has that layout, and the table that was read is the one that it held.
 pub record AddsPartition (partition : GPTPartitionEntry) (size first : ℕ) (old new : DiskState) : Type 0 where
   pub table : GPT
   pub next : GPT

@@ -8,6 +8,7 @@ ghost use Rattle.gptman.specs.Table.{Table};
 ghost use Rattle.gptman_example.specs.Adding.{AddsPartition, AreAllUsed, IsFirstUnused, IsSafe};
 ghost use Rattle.gptman_example.specs.Adding.{RefusesPartition, StartsGood};
 
+use gptman::table::laws::what_is_read_is_kept;
 use gptman::{Disk, Error, FileDisk, GPT, GPTPartitionEntry, PartitionName, Result};
 use std::alloc::Global;
 use std::env;
@@ -37,11 +38,13 @@ pub fn add_partition<D: Disk>(
     ensures kept { IsHonest (D.state disk.old)
         → OnErr result (FailedOrUntouched (D.state disk.old) (D.state disk.new)) }
 
-    // A stop or a fault at any moment leaves the old table or the one with the partition.
+    // From one good copy and no other, a stop or a fault at any moment leaves the old table or the one
+    // with the partition.
     ensures safe { (was : Table) → StartsGood (D.state disk.old) was
         → IsSafe partition size was (D.state disk.old) (D.state disk.new) }
 {
     let mut table = GPT::read_from(alloc, disk, 512)?;
+    what_is_read_is_kept(disk); // a law, for the proof
     let Some(number) = first_unused(&table) else {
         return Err(Error::NoSpaceLeft);
     };

@@ -26,6 +26,26 @@ returns-in_ok-print_fault-in-Err-clause-wrote g c ss guid asks =
     let new : c.in-Some.command ≡ New ss guid = cc c.in-Some.ensures.value in
     c.perform.ensures.wrote ss guid new
 
+pub returns-in_err-print_report-in-Ok-clause-replaces : goal.returns-in_err-print_report-in-Ok-clause-replaces
+returns-in_err-print_report-in-Ok-clause-replaces g c ss guid asks =
+    let new : c.in-Some.command ≡ New ss guid = cc c.in-Some.ensures.value in
+    c.perform.ensures.replaces ss guid new
+
+pub returns-in_err-print_fault-in-Err-clause-replaces : goal.returns-in_err-print_fault-in-Err-clause-replaces
+returns-in_err-print_fault-in-Err-clause-replaces g c ss guid asks =
+    let new : c.in-Some.command ≡ New ss guid = cc c.in-Some.ensures.value in
+    c.perform.ensures.replaces ss guid new
+
+pub returns-in_ok-print_report-in-Ok-clause-replaces : goal.returns-in_ok-print_report-in-Ok-clause-replaces
+returns-in_ok-print_report-in-Ok-clause-replaces g c ss guid asks =
+    let new : c.in-Some.command ≡ New ss guid = cc c.in-Some.ensures.value in
+    c.perform.ensures.replaces ss guid new
+
+pub returns-in_ok-print_fault-in-Err-clause-replaces : goal.returns-in_ok-print_fault-in-Err-clause-replaces
+returns-in_ok-print_fault-in-Err-clause-replaces g c ss guid asks =
+    let new : c.in-Some.command ≡ New ss guid = cc c.in-Some.ensures.value in
+    c.perform.ensures.replaces ss guid new
+
 pub returns-in_ok-print_report-in-Ok-clause-stored : goal.returns-in_ok-print_report-in-Ok-clause-stored
 returns-in_ok-print_report-in-Ok-clause-stored g c ss guid asks start done =
     let new : c.in-Some.command ≡ New ss guid = cc c.in-Some.ensures.value in

@@ -1,7 +1,7 @@
 //! Laws for callers of a reading and of a write, over byte lists or over the state of a disk. These
 //! calls do nothing.
 
-ghost use Rattle.gptman.specs.Crash.{GrowingIsSafe};
+ghost use Rattle.gptman.specs.Crash.{EditsKeepPlaces, GrowingIsSafe, KeepsWhatIsRead, TakesInForm};
 ghost use Rattle.gptman.specs.Stop.{AcceptsWhatStands, HoldsWhatIsRead, ReadsWhatItHolds};
 
 use gptman_copy::Disk;
@@ -31,4 +31,15 @@ pub fn what_stands_is_accepted()
 /// and the value has the stated layout; the last usable sector and the backup copy may have moved.
 pub fn growing_is_safe<D: Disk>(disk: &D)
     ensures { GrowingIsSafe (D.state disk.now) }
+{}
+
+/// A table that was read in the form of its place is one good copy for the next write: that of the
+/// value itself, and that of any value with its sector size, in its form and with its four ranges.
+/// Nothing may be pending, and the value that is written has the stated layout. What a reading takes
+/// in the form of the place from which it takes it is so read, and each edit keeps all that is asked
+/// of the value.
+pub fn what_is_read_is_kept<D: Disk>(disk: &D)
+    ensures taken { TakesInForm (D.state disk.now).view }
+    ensures kept { KeepsWhatIsRead (D.state disk.now) }
+    ensures edited { EditsKeepPlaces }
 {}

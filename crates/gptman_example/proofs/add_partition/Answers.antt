@@ -34,7 +34,7 @@ returns-in_err-write_into-clause-safe g c = λ was good.
     let added = with_partition c.args.partition c.args.size c.in-Some-2.first c.in-Some.number c.in_ok-table.table _ c.requires c.in-Some.ensures.found c.in_ok-first.ensures.value c.in-Some-2.is in
     written_safe c.args.partition c.args.size c.in-Some-2.first was c.in_ok-table.table _ (g.D.Disk.state c.args.disk.now) (g.D.Disk.state c.read_from.new.disk)
     (g.D.Disk.state c.write_into.new.disk) _ good read c.read_from.ensures.reads.keeps c.in_ok-table.ensures.sector (c.in_ok-table.ensures.accepted good.honest) added
-    (c.write_into.ensures.wrote read.wrote.honest) (c.write_into.ensures.crash_safe was)
+    (c.write_into.ensures.wrote read.wrote.honest) c.what_is_read_is_kept.ensures.kept c.what_is_read_is_kept.ensures.edited (c.write_into.ensures.read was)
 
 pub returns-clause-safe : goal.returns-clause-safe
 returns-clause-safe g c = λ was good.
@@ -42,7 +42,7 @@ returns-clause-safe g c = λ was good.
     let added = with_partition c.args.partition c.args.size c.in-Some-2.first c.in-Some.number c.in_ok-table.table _ c.requires c.in-Some.ensures.found c.in_ok-first.ensures.value c.in-Some-2.is in
     written_safe c.args.partition c.args.size c.in-Some-2.first was c.in_ok-table.table _ (g.D.Disk.state c.args.disk.now) (g.D.Disk.state c.read_from.new.disk)
     (g.D.Disk.state c.write_into.new.disk) _ good read c.read_from.ensures.reads.keeps c.in_ok-table.ensures.sector (c.in_ok-table.ensures.accepted good.honest) added
-    (c.write_into.ensures.wrote read.wrote.honest) (c.write_into.ensures.crash_safe was)
+    (c.write_into.ensures.wrote read.wrote.honest) c.what_is_read_is_kept.ensures.kept c.what_is_read_is_kept.ensures.edited (c.write_into.ensures.read was)
 
 pub returns-clause-added : goal.returns-clause-added
 returns-clause-added g c = λ honest.
@@ -51,7 +51,7 @@ returns-clause-added g c = λ honest.
     adds c.args.partition c.args.size c.in-Some-2.first c.in_ok-table.table _ (g.D.Disk.state c.args.disk.now) (g.D.Disk.state c.read_from.new.disk)
     (g.D.Disk.state c.write_into.new.disk) c.read_from.ensures.reads.keeps c.write_into.ensures.keeps read c.in_ok-table.ensures.sector
     (c.in_ok-table.ensures.accepted honest) c.in_ok-table.ensures.value added (c.write_into.ensures.wrote read.wrote.honest)
-    c.in_ok-write_into.ensures.stored c.in_ok-write_into.ensures.alone
+    c.in_ok-write_into.ensures.stored c.in_ok-write_into.ensures.alone c.what_is_read_is_kept.ensures.edited
 
 pub returns-in_err-table-clause-refused : goal.returns-in_err-table-clause-refused
 returns-in_err-table-clause-refused g c = λ honest.

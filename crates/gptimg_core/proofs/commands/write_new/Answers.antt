@@ -15,6 +15,7 @@ use Rattle.gptman_copy.proofs.Runs.{rose_since, wrote_then, wrote_wider}
 use Rattle.gptman.specs.TableWrites.{table_ranges, RefusesWrite}
 use Rattle.gptimg_core.specs.Refusals.RefusesNew.{not_written}
 use Rattle.gptman.proofs.Commits.{write_since}
+use Rattle.gptimg_core.proofs.Written.{read_replaces, write_replaces}
 use Rattle.gptimg_core.proofs.commands.write_new.Goals as goal
 
 -- a new table was written, after the disk's length was taken
@@ -66,3 +67,16 @@ returns-in_err-write_into-clause-refused g c =
     ⊎_elim (λ memory. absurd memory) (λ settles. ⊎_elim (λ is. sym is) (λ failed. absurd failed.0) settles) c.in_ok-table.ensures.answer in
     rw (p.1, p.2) (not_written fits (subst (λ (t : GPT). RefusesWrite t (fault_of c.in_err-write_into.field-0.0) old new) c.in_ok-table.ensures.value
     (write_since c.in_ok-table.table (fault_of c.in_err-write_into.field-0.0) old mid new c.new_from.ensures.reads.keeps c.in_err-write_into.ensures.refused)))
+
+pub returns-in_err-table-clause-replaces : goal.returns-in_err-table-clause-replaces
+returns-in_err-table-clause-replaces g c = read_replaces _ (g.D.Disk.state c.args.disk.now) (g.D.Disk.state c.new_from.new.disk) c.new_from.ensures.reads
+
+pub returns-in_err-write_into-clause-replaces : goal.returns-in_err-write_into-clause-replaces
+returns-in_err-write_into-clause-replaces g c =
+    write_replaces c.in_ok-table.table _ (g.D.Disk.state c.args.disk.now) (g.D.Disk.state c.new_from.new.disk) (g.D.Disk.state c.write_into.new.disk) c.in_ok-table.ensures.value
+    c.new_from.ensures.reads c.write_into.ensures.wrote c.write_into.ensures.one_good
+
+pub returns-clause-replaces : goal.returns-clause-replaces
+returns-clause-replaces g c =
+    write_replaces c.in_ok-table.table _ (g.D.Disk.state c.args.disk.now) (g.D.Disk.state c.new_from.new.disk) (g.D.Disk.state c.write_into.new.disk) c.in_ok-table.ensures.value
+    c.new_from.ensures.reads c.write_into.ensures.wrote c.write_into.ensures.one_good

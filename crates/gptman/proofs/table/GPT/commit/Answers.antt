@@ -2,14 +2,15 @@ use Rattle.std.proofs.Common.{◌≡◌, ◌≢◌, ⊎_elim, ℕ, List, inr, re
 use Rattle.std.specs.Prelude.{IfErr}
 use Rattle.gptman_copy.specs.Disk.{OnlyRead, Wrote}
 use Rattle.gptman.specs.Commit.{RefusesEdit}
-use Rattle.gptman.specs.Edit.{edit_fault}
+use Rattle.gptman.specs.Edit.{after_edit, edit_fault}
 use Rattle.gptman_copy.specs.Fault.{fault_of, no_space_left, overflow}
 use Rattle.gptman_copy.specs.Ranges.{AreApart}
 use Rattle.gptman.specs.TableWrites.{other_with_checksums, table_ranges, HasBothCopies}
 use Rattle.gptman_copy.specs.declared.codec.header.GPTHeader.{GPTHeader}
 use Rattle.gptman_copy.specs.declared.error.Error.{Error}
+use Rattle.gptman.proofs.CommitFailure.{edited_after, still_after}
 use Rattle.gptman.proofs.Commits.{coherent_still, edit_keeps, keeps_both, layout_still, leaves_edited, leaves_kept, ranges_still, refused_edit, refused_room, stored_edited, sums_keep}
-use Rattle.gptman_copy.proofs.Outcomes.{if_err_of}
+use Rattle.gptman_copy.proofs.Outcomes.{if_err_of, on_err_of}
 use Rattle.gptman_copy.proofs.Runs.{wrote_not}
 use Rattle.gptman.proofs.table.GPT.commit.Given.{Over}
 use Rattle.gptman.proofs.table.GPT.commit.Goals as goal
@@ -97,3 +98,11 @@ returns-clause-wrote g c = λ honest.
     let keeps = edit_keeps c.args.self.now c.apply.new.self c.args.edit c.in_ok-apply.ensures.value in
     subst (λ (rs : List (ℕ × ℕ)). Wrote rs (g.D.Disk.state c.args.disk.now) (g.D.Disk.state c.write_into.new.disk)) (ranges_still c.args.self.now c.apply.new.self keeps)
     (c.write_into.ensures.wrote honest)
+
+pub returns-in_err-apply-clause-after : goal.returns-in_err-apply-clause-after
+returns-in_err-apply-clause-after g c = λ from. on_err_of _ (still_after (after_edit c.args.self.now c.args.edit) (g.D.Disk.state c.args.disk.now) from.synced)
+
+pub returns-in_err-write_into-clause-after : goal.returns-in_err-write_into-clause-after
+returns-in_err-write_into-clause-after g c = λ from.
+    on_err_of _ (edited_after c.args.self.now c.apply.new.self c.args.edit (g.D.Disk.state c.args.disk.now) (g.D.Disk.state c.write_into.new.disk) c.in_ok-apply.ensures.value from
+    c.in_err-write_into.ensures.after)

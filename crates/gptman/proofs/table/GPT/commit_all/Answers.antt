@@ -6,6 +6,7 @@ use Rattle.gptman_copy.specs.Fault.{fault_of}
 use Rattle.gptman.specs.Stop.{StopsHold}
 use Rattle.gptman.specs.Table.{table_in}
 use Rattle.gptman.specs.declared.edit.Edit.{Edit}
+use Rattle.gptman.proofs.CommitFailure.{failed_after, stands_alone}
 use Rattle.gptman.proofs.CommitLoop.{accepted_more, done_laid, done_leaves, done_stands, done_value, failed_cause, failed_laid, failed_last, failed_leaves, failed_refused, failed_room, failed_stands, failed_untouched, leaves_next, made_next, made_none, wrote_next}
 use Rattle.gptman.proofs.OneGood.{leaves_outside, one_of_stored}
 use Rattle.gptman.proofs.ReadingLaw.{reads_one_of}
@@ -114,6 +115,16 @@ returns-in-Err-clause-stands g c = λ start.
     failed_stands c.args.self.now at.yielded at.self (g.D.Disk.state c.args.disk.now) (g.D.Disk.state at.disk) (g.D.Disk.state c.commit.new.disk) at.invariant.0 c.args.edits.items _ at.done
     c.in-Some.edit (all_edits g c) at.invariant.2 (fault_of c.in-Err.fault) start.honest start.layout c.in-Err.ensures.untouched
 
+pub returns-in-Err-clause-alone : goal.returns-in-Err-clause-alone
+returns-in-Err-clause-alone g c = λ start some.
+    stands_alone c.args.self.now c.args.edits.items c.loop-edit.done (g.D.Disk.state c.args.disk.now) (g.D.Disk.state c.commit.new.disk) some (returns-in-Err-clause-stands g c start)
+
+pub returns-in-Err-clause-after : goal.returns-in-Err-clause-after
+returns-in-Err-clause-after g c = λ from.
+    let at = c.loop-edit in
+    failed_after c.args.self.now at.yielded at.self (g.D.Disk.state c.args.disk.now) (g.D.Disk.state at.disk) (g.D.Disk.state c.commit.new.disk) at.invariant.0 c.args.edits.items _ at.done
+    c.in-Some.edit (all_edits g c) at.invariant.2 from (g.met.D.Disk.sound at.disk) c.in-Err.ensures.after
+
 -- a stop leaves the table after some of the edits
 failed_good : (g : Over) (c : goal.After-drop-edit-iterator g) → StartsFromOne (g.D.Disk.state c.args.disk.now) c.args.self.now (table_in c.args.self.now)
     → StopsHold (g.D.Disk.state c.args.disk.now) (g.D.Disk.state c.commit.new.disk) c.args.self.now.sector_size
@@ -193,6 +204,10 @@ pub returns-clause-stands : goal.returns-clause-stands
 returns-clause-stands g c = λ start.
     let at = c.loop-edit in
     inr (done_stands c.args.self.now at.yielded at.self (g.D.Disk.state c.args.disk.now) (g.D.Disk.state at.disk) at.invariant.0 c.args.edits.items [] at.done (made_all g c) at.invariant.2 start.honest start.layout)
+
+pub returns-clause-alone : goal.returns-clause-alone
+returns-clause-alone g c = λ start some.
+    stands_alone c.args.self.now c.args.edits.items c.loop-edit.done (g.D.Disk.state c.args.disk.now) (g.D.Disk.state c.loop-edit.disk) some (returns-clause-stands g c start)
 
 done_good : (g : Over) (c : goal.After-drop-edit-iterator-2 g) → StartsFromOne (g.D.Disk.state c.args.disk.now) c.args.self.now (table_in c.args.self.now)
     → StopsHold (g.D.Disk.state c.args.disk.now) (g.D.Disk.state c.loop-edit.disk) c.args.self.now.sector_size (tables_to c.args.self.now c.args.edits.items c.loop-edit.done)
