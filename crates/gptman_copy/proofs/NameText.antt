@@ -1,5 +1,5 @@
 -- The text of units.
-use Rattle.std.proofs.Common.{◌≡◌, ℕ, zero, suc, set, replicate, length-append, ◌+◌, ◌-◌, ◌*◌, ◌<◌, ◌≤◌, true, false, ◌&&◌, List, [], ◌∷◌, ◌++◌, length, take, map, Some, None, refl, sym, ap, ◌∙◌, arith}
+use Rattle.std.proofs.Common.{◌≡◌, ℕ, zero, suc, set, replicate, length-append, eqb, ◌+◌, ◌-◌, ◌*◌, ◌<◌, ◌≤◌, Bool, true, false, ◌&&◌, List, [], ◌∷◌, ◌++◌, length, take, map, Some, None, refl, sym, ap, ◌∙◌, arith}
 use Rattle.std.specs.Prelude.{if◌then◌else◌}
 use Rattle.std.specs.Option.{unwrap_or}
 use Rattle.std.proofs.lemmas.List.{take-replicate, take-append-le}
@@ -23,6 +23,28 @@ characters_are (h ∷ l ∷ us) =
       | true ↦ ap (λ (cs : List ℕ). pair ∷ cs) both
       | false ↦ cc
     ]
+
+-- in either case there is one at least
+either_some : (b : Bool) (x y : ℕ) (xs ys : List ℕ) → (if b then x ∷ xs else y ∷ ys) ≡ [] → ⊥
+either_some true x y xs ys none = cc
+either_some false x y xs ys none = cc
+
+-- units have a character at least
+pub characters_some : (u : ℕ) (us : List ℕ) → characters (u ∷ us) ≡ [] → ⊥
+unfolding characters
+characters_some u [] none = cc
+characters_some h (l ∷ us) none = either_some (is_high h && is_low l) _ _ _ _ none
+
+-- no units have no characters
+pub none_of_none : (us : List ℕ) → length us ≡ 0 → characters us ≡ []
+unfolding characters
+none_of_none [] none = refl
+none_of_none (u ∷ us) none = cc
+
+-- and some have some
+pub some_of_some : (us : List ℕ) → eqb (length us) 0 ≡ false → characters us ≡ [] → ⊥
+some_of_some [] some none = cc
+some_of_some (u ∷ us) some none = characters_some u us none
 
 -- a place after a list's elements is written where zeros stood
 fill_more : (us : List ℕ) (n k l u : ℕ) → length us < n → n ≤ length us + k → n ≤ length us + 1 + l

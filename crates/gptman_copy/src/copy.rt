@@ -1,6 +1,6 @@
 //! One whole copy as it is read: its header, and then its entries. The writing of one is handed on.
 
-ghost use Rattle.std.specs.Prelude.{◌≡◌, ◌≤◌, ◌<◌, ◌-◌, ◌*◌, ◌/◌, IfOk, OnOk};
+ghost use Rattle.std.specs.Prelude.{◌≡◌, ◌≤◌, ◌<◌, ◌-◌, ◌*◌, ◌/◌, IfOk};
 ghost use Rattle.gptman_copy.specs.Answers.{is_copy_fault, AnswersInMemory, RefusesOnly};
 ghost use Rattle.gptman_copy.specs.Copy.{copy_at, copy_of_whole, IsCoherent};
 ghost use Rattle.gptman_copy.specs.Answers.{CountsFailure};

@@ -1,6 +1,6 @@
 //! The 128 bytes of a partition entry: five fields and the 36 units of a name, each at its place.
 
-ghost use Rattle.std.specs.Prelude.{◌≡◌, ℕ, ◌^◌, ◌<◌, [], length, flat_map, slice_index, IfOk, IfErr};
+ghost use Rattle.std.specs.Prelude.{◌≡◌, ℕ, ◌^◌, ◌<◌, [], length, flat_map, slice_index, IfOk, IfErr, IsOk};
 ghost use Rattle.byteorder.specs.Endian.{little_bytes};
 ghost use Rattle.gptman_copy.specs.Bytes.{AreBytes};
 ghost use Rattle.gptman_copy.specs.Coding.{FitsEntry, IsEntryCoding, HasReadName, units_at, entry_bytes};
@@ -8,6 +8,7 @@ ghost use Rattle.gptman_copy.specs.Coding.{empty_entry};
 ghost use Rattle.gptman_copy.specs.Answers.{answer_of};
 ghost use Rattle.gptman_copy.specs.Entry.{ends_of, is_unused, is_used, sectors_of, size_of};
 ghost use Rattle.gptman_copy.specs.Fault.{fault_of, out_of_memory};
+ghost use Rattle.gptman_copy.specs.Name.{text_of};
 
 use crate::cells::{note_bytes, part_at, put, put_u16, put_u64, u16_at, u64_at};
 use crate::codec::name::PartitionName;
@@ -55,12 +56,13 @@ impl GPTPartitionEntry {
     /// The entry that the 128 bytes hold, each field at its place in the format's layout of an entry.
     /// The name has the text of its units.
     ///
-    /// `OutOfMemory` where there is no memory for the text.
+    /// `OutOfMemory` where there is no memory for the text. An empty name takes none.
     pub fn decode(alloc: Global, bytes: &[u8; 128]) -> Result<Self>
         ensures coding { IfOk result (λ e. IsEntryCoding e bytes.now) }
         ensures name { IfOk result (λ e. HasReadName e) }
         ensures spelled { IfOk result (λ e. bytes.now ≡ entry_bytes e) }
         ensures refused { IfErr result (λ e. fault_of e ≡ out_of_memory) }
+        ensures empty { text_of (units_at bytes.now) ≡ [] → IsOk result }
     {
         Ok(GPTPartitionEntry {
             partition_type_guid: part_at(bytes, 0),
@@ -138,10 +140,11 @@ impl GPTPartitionEntry {
 
     /// The same entry again.
     ///
-    /// `OutOfMemory` where there is no memory for the text of the name.
+    /// `OutOfMemory` where there is no memory for the text of the name. An empty name takes none.
     pub fn clone(&self) -> Result<Self>
         ensures ok { IfOk result (λ e. e ≡ self.now) }
         ensures refused { IfErr result (λ e. fault_of e ≡ out_of_memory) }
+        ensures empty { self.now.partition_name.text ≡ [] → IsOk result }
     {
         Ok(GPTPartitionEntry {
             partition_name: self.partition_name.clone()?,

@@ -1,16 +1,16 @@
 //! The name of a partition: a text, and the 36 units of UTF-16 that stand on the disk.
 
-ghost use Rattle.std.specs.Prelude.{◌≡◌, ℕ, List, [], ◌∷◌, ◌++◌, nat_eq, IfOk, IfErr, Some, encode_utf8_all};
-ghost use Rattle.std.specs.Prelude.{position, replicate};
+ghost use Rattle.std.specs.Prelude.{◌≡◌, ℕ, List, [], ◌∷◌, ◌++◌, nat_eq, IfOk, IfErr, IsOk, Some};
+ghost use Rattle.std.specs.Prelude.{encode_utf8_all, position, replicate, string_bytes};
 ghost use Rattle.std.specs.List.{before_first};
 ghost use Rattle.std.specs.Str.{chars};
 ghost use Rattle.std.specs.Char.Escape.{encode_utf16};
 ghost use Rattle.std.specs.Cmp.{partial_equiv_from_equiv};
 ghost use Rattle.gptman_copy.specs.Fault.{fault_of, out_of_memory};
-ghost use Rattle.gptman_copy.specs.Name.{text_of, units_of, HasUnits, name_eq, name_equiv};
+ghost use Rattle.gptman_copy.specs.Name.{characters, text_of, units_of, HasUnits, name_eq, name_equiv};
 
 use crate::error::Result;
-use std::alloc::Global;
+use std::alloc::{AllocError, Global};
 use std::fmt;
 use std::fmt::{Display, Formatter, Write};
 use std::marker::Model;
@@ -38,11 +38,12 @@ impl Model for PartitionName {
 impl PartitionName {
     /// The name with this text. Its units are the first 36 of the text, padded with zeros.
     ///
-    /// `OutOfMemory` where there is no memory for the text.
+    /// `OutOfMemory` where there is no memory for the text. An empty text takes none.
     pub fn new(alloc: Global, text: &str) -> Result<Self>
         ensures text { IfOk result (λ n. n.text ≡ text.now) }
         ensures units { IfOk result (λ n. n.units ≡ units_of (chars text.now)) }
         ensures refused { IfErr result (λ e. fault_of e ≡ out_of_memory) }
+        ensures empty { text.now ≡ [] → IsOk result }
     {
         let mut units = [0; 36];
         let mut len = 0;
@@ -50,7 +51,7 @@ impl PartitionName {
             len = add_char(&mut units, len, c);
         }
         Ok(PartitionName {
-            text: text.to_string(alloc)?,
+            text: copied(alloc, text)?,
             units,
         })
     }
@@ -67,14 +68,14 @@ impl PartitionName {
     }
 
     /// The name that is read from these units. Its text is what stands before the first zero, where
-    /// a surrogate that is in no pair gives U+FFFD.
-    #[tactic(auto, using(crate::proofs::NameText::characters_are))]
+    /// a surrogate that is in no pair gives U+FFFD. It takes no memory where that is nothing.
     pub(crate) fn from_units(alloc: Global, units: [u16; 36]) -> Result<Self>
         ensures units { IfOk result (λ n. n.units ≡ units) }
         ensures text { IfOk result (λ n. n.text ≡ encode_utf8_all (text_of units)) }
         ensures refused { IfErr result (λ e. fault_of e ≡ out_of_memory) }
+        ensures empty { text_of units ≡ [] → IsOk result }
     {
-        let text = String::from_utf16_lossy(alloc, before_zero(&units))?;
+        let text = text_of_units(alloc, before_zero(&units))?;
         Ok(PartitionName { text, units })
     }
 
@@ -94,13 +95,14 @@ impl PartitionName {
 
     /// The same name again.
     ///
-    /// `OutOfMemory` where there is no memory for the text.
+    /// `OutOfMemory` where there is no memory for the text. An empty text takes none.
     pub fn clone(&self) -> Result<Self>
         ensures ok { IfOk result (λ n. n ≡ self.now) }
         ensures refused { IfErr result (λ e. fault_of e ≡ out_of_memory) }
+        ensures empty { self.now.text ≡ [] → IsOk result }
     {
         Ok(PartitionName {
-            text: self.text.clone()?,
+            text: copied(*self.text.allocator(), self.as_str())?,
             units: self.units,
         })
     }
@@ -128,6 +130,27 @@ impl PartialEq for PartitionName {
 
 impl Eq for PartitionName {
     ghost laws = { name_equiv };
+}
+
+// The text again. An empty one takes no memory.
+fn copied(alloc: Global, text: &str) -> std::result::Result<String, AllocError>
+    ensures ok { IfOk result (λ copy. string_bytes copy ≡ text.now) }
+    ensures empty { text.now ≡ [] → IsOk result }
+{
+    let mut copy = String::with_capacity(alloc, text.len())?;
+    copy.push_str(text)?;
+    Ok(copy)
+}
+
+// The text of these units. No units take no memory.
+fn text_of_units(alloc: Global, units: &[u16]) -> std::result::Result<String, AllocError>
+    ensures ok { IfOk result (λ text. string_bytes text ≡ encode_utf8_all (characters units.now)) }
+    ensures empty { characters units.now ≡ [] → IsOk result }
+{
+    if units.is_empty() {
+        return Ok(String::new(alloc));
+    }
+    String::from_utf16_lossy(alloc, units)
 }
 
 // Where the first zero is.

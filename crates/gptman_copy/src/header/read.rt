@@ -3,19 +3,20 @@
 //! Entries come in blocks of up to 32, in a fixed array. No memory is asked for by the count that
 //! the header gives.
 
-ghost use Rattle.std.specs.Prelude.{◌≡◌, ◌≢◌, ◌≤◌, ◌<◌, ◌+◌, ◌*◌, ◌⊎◌, ◌++◌, ℕ, List, length};
+ghost use Rattle.std.specs.Prelude.{◌≡◌, ◌≢◌, ◌≤◌, ◌<◌, ◌+◌, ◌*◌, ◌⊎◌, ◌++◌, ℕ, List, [], length};
 ghost use Rattle.std.specs.Prelude.{IfOk, IfErr, OnOk, OnErr};
 ghost use Rattle.gptman_copy.specs.Answers.{answer_of, is_array_fault, is_header_fault};
-ghost use Rattle.gptman_copy.specs.Answers.{Answers, AnswersInMemory, HasCauseOrEnd, Refuses, RefusesOnly};
-ghost use Rattle.gptman_copy.specs.Coding.{header_bytes};
+ghost use Rattle.gptman_copy.specs.Answers.{Answers, AnswersInMemory, CountsFailure, HasCauseOrEnd, Refuses};
+ghost use Rattle.gptman_copy.specs.Answers.{RefusesOnly};
+ghost use Rattle.gptman_copy.specs.Coding.{header_bytes, units_at};
 ghost use Rattle.gptman_copy.specs.Copy.{array_result, entries_of, entry_result, header_result, unless};
 ghost use Rattle.gptman_copy.specs.Copy.{value_tests};
 ghost use Rattle.gptman_copy.specs.Crc.{crc_of};
-ghost use Rattle.gptman_copy.specs.Answers.{CountsFailure};
-ghost use Rattle.gptman_copy.specs.Disk.{HasFailedOnceAtMost};
-ghost use Rattle.gptman_copy.specs.Disk.{next_bytes, HasNext, IsHonest, Moves, Reads, Rose};
+ghost use Rattle.gptman_copy.specs.Disk.{next_bytes, HasFailedOnceAtMost, HasNext, IsHonest, Moves};
+ghost use Rattle.gptman_copy.specs.Disk.{PassesEnd, Reads, Rose};
 ghost use Rattle.gptman_copy.specs.Fault.{fault_of, first_failing, io as io_fault};
 ghost use Rattle.gptman_copy.specs.Fault.{invalid_entry_size, out_of_memory, overflow};
+ghost use Rattle.gptman_copy.specs.Name.{text_of};
 ghost use Rattle.gptman_copy.specs.Reads.{BeginsTooFar, HasEntrySize, HasTooMany, HasWrongSize, IsBlockFault};
 ghost use Rattle.gptman_copy.specs.Reads.{IsReadyFor, IsSeekFault};
 ghost use Rattle.gptman_copy.specs.Reads.{PassTheEnd};
@@ -83,7 +84,7 @@ impl GPTHeader {
     /// entry), `Overflow` where that byte's number does not fit in 64 bits, `Io` where the disk failed
     /// or ends before, `InvalidPartitionEntryArrayChecksum`; `OutOfMemory` at any growth of the list.
     /// Entries that the header counts past the end of the disk are refused before any is read, and no
-    /// memory is taken for them.
+    /// memory is taken for them; nor is any where it counts none.
     pub fn read_partitions<D: Disk>(
         &self,
         alloc: Global,
@@ -98,6 +99,7 @@ impl GPTHeader {
             → Refuses result (invalid_entry_size self.now.size_of_partition_entry) }
         ensures too_far { BeginsTooFar self.now sector_size → Refuses result overflow }
         ensures past_end { PassTheEnd self.now sector_size (D.state disk.old).size → Refuses result io_fault }
+        ensures empty { self.now.number_of_partition_entries ≡ 0 → Refuses result out_of_memory → ⊥ }
         ensures answer { AnswersInMemory (λ v. v.items)
             (array_result (D.state disk.old).view sector_size self.now)
             result (D.state disk.old) (D.state disk.new) }
@@ -153,6 +155,7 @@ impl GPTPartitionEntry {
     /// text of its units. No value is tested.
     ///
     /// `Io` where the disk failed or ends before, `OutOfMemory` where there is no memory for the text.
+    /// The bytes are read before any memory is taken, and an empty name takes none.
     pub fn read_from<D: Disk>(alloc: Global, disk: &mut D) -> Result<GPTPartitionEntry>
         ensures reads { Reads (D.state disk.old) (D.state disk.new) }
         ensures counts { CountsFailure result (D.state disk.old) (D.state disk.new) }
@@ -161,6 +164,10 @@ impl GPTPartitionEntry {
             (entry_result (D.state disk.old).view (D.state disk.old).position)
             result (D.state disk.old) (D.state disk.new) }
         ensures refused { IfErr result (λ e. (fault_of e ≡ out_of_memory) ⊎ (fault_of e ≡ io_fault)) }
+        ensures past_end { PassesEnd (D.state disk.old) 128 → Refuses result io_fault }
+        ensures empty { IsHonest (D.state disk.old)
+            → text_of (units_at (next_bytes (D.state disk.old) 128)) ≡ []
+            → Refuses result out_of_memory → ⊥ }
         ensures cause { HasCauseOrEnd 128 result (D.state disk.old) (D.state disk.new) }
         ensures moves { OnOk result (Moves (D.state disk.old) (D.state disk.new) 128) }
     {
