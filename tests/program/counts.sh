@@ -33,6 +33,7 @@ try_huge_image() {
     table="disk $disk usable 34..2097118 entries 128 align 1"
     make_table "$image" 1G
     says 0 "1 34..2097118" "$image" 512 add 1 $data $one 2097085 first 1 all
+    try_huge_count
     count_entries "$image" $((0xffffffff))
     run_quickly "$image" 512 show
     equals "gptimg $image 512 show" "0 sector 512 form backup $table"$'\n'"1 $data $one 34..2097118 \
@@ -44,6 +45,21 @@ try_huge_image() {
     try_huge_repair
     try_huge_damage
     rm "$image"
+}
+
+# Its primary header counts the entries that it has room for, some 8 million, and a read of them fails: the
+# first one, or the thousandth. There is memory for those that came, and for no others.
+try_huge_count() {
+    local number
+    can_trace_calls || return
+    count_entries "$image" 8388600
+    for number in 2 1000; do
+        run strace -q -P "$folder/$image" -e trace=read -e "inject=read:error=EIO:when=$number" -o calls \
+            bash -c "ulimit -v 100000; exec \"\$@\"" - "$program" "$folder/$image" 512 show
+        holds "read number $number of $image fails" grep -q INJECTED calls
+        equals "gptimg $image 512 show, where read number $number fails" \
+            "0 sector 512 form backup $table"$'\n'"1 $data $one 34..2097118 0000000000000000 all"$'\n' "$answer"
+    done
 }
 
 # The next write repairs it.

@@ -1,6 +1,6 @@
 //! The table: a header with its entries, of which a disk holds two copies.
 
-ghost use Rattle.std.specs.Prelude.{◌≡◌, ◌↔◌, ◌<◌, ◌^◌, length, IsTrue, IfOk, IfErr};
+ghost use Rattle.std.specs.Prelude.{◌≡◌, ◌↔◌, ◌<◌, ◌^◌, [], length, IsTrue, IsOk, IfOk, IfErr};
 ghost use Rattle.std.specs.Borrow.{sem};
 ghost use Rattle.std.specs.List.{enumerate_from};
 ghost use Rattle.gptman_copy.specs.Fault.{fault_of, out_of_memory};
@@ -68,10 +68,11 @@ impl GPT {
 
     /// The same table again.
     ///
-    /// `OutOfMemory` where there is no memory for its entries.
+    /// `OutOfMemory` where there is no memory for its entries. A table of none takes no memory.
     pub fn clone(&self) -> Result<GPT>
         ensures ok { IfOk result (λ g. g ≡ self.now) }
         ensures refused { IfErr result (λ e. fault_of e ≡ out_of_memory) }
+        ensures empty { entries_in self.now ≡ [] → IsOk result }
     {
         Ok(GPT {
             sector_size: self.sector_size,

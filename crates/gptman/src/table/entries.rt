@@ -1,7 +1,7 @@
 //! The list of a table's entries, of which contracts see the list alone.
 
 ghost use Rattle.std.specs.Prelude.{◌≡◌, ◌↔◌, ◌<◌, ◌^◌, Some, length, slice_get, vec_len, IsTrue, IfOk};
-ghost use Rattle.std.specs.Prelude.{IfErr};
+ghost use Rattle.std.specs.Prelude.{[], IfErr, IsOk};
 ghost use Rattle.std.specs.Borrow.{sem};
 ghost use Rattle.std.specs.Cmp.{partial_equiv_from_equiv};
 ghost use Rattle.std.specs.Cmp.Lexicographic.{lists_equiv};
@@ -87,10 +87,11 @@ impl Entries {
         GPTPartitionEntry::empty(self.alloc())
     }
 
-    /// The same list again, where there is memory for it.
+    /// The same list again, where there is memory for it. An empty one takes none.
     pub(crate) fn clone(&self) -> Result<Self>
         ensures ok { IfOk result (λ es. es ≡ self.now) }
         ensures refused { IfErr result (λ e. fault_of e ≡ out_of_memory) }
+        ensures empty { self.now ≡ [] → IsOk result }
     {
         let items = clone_all(self.alloc(), self.items.as_slice())?;
         Ok(Entries { items })
@@ -101,6 +102,7 @@ impl Entries {
 fn clone_all(alloc: Global, entries: &[GPTPartitionEntry]) -> Result<Vec<GPTPartitionEntry>>
     ensures ok { IfOk result (λ v. v.items ≡ entries.now) }
     ensures refused { IfErr result (λ e. fault_of e ≡ out_of_memory) }
+    ensures empty { entries.now ≡ [] → IsOk result }
 {
     let mut all = Vec::with_capacity(alloc, entries.len())?;
     for entry in entries {

@@ -1,6 +1,6 @@
 //! Putting a table's entries in order.
 
-ghost use Rattle.std.specs.Prelude.{◌≡◌, OnOk, OnErr, IfErr};
+ghost use Rattle.std.specs.Prelude.{◌≡◌, [], IsOk, OnOk, OnErr, IfErr};
 ghost use Rattle.std.specs.List.Sorted.{IsPermutation, IsNonDecreasingBy, IsStableByKey};
 ghost use Rattle.std.specs.Ordering.{nat_cmp};
 ghost use Rattle.gptman_copy.specs.Fault.{fault_of, out_of_memory};
@@ -16,12 +16,13 @@ impl GPT {
     /// Puts the entries in order: the used ones by their first sector, then the unused ones. Entries
     /// that tie keep their order. It takes time in O(n log n).
     ///
-    /// `OutOfMemory` where there is no memory to sort them; nothing changes then.
+    /// `OutOfMemory` where there is no memory to sort them; nothing changes then. No entries take none.
     #[tactic(auto, using(crate::proofs::WrittenOver::written_over_same))]
     pub fn sort(&mut self) -> Result<()>
         ensures refused { IfErr result (λ e. fault_of e ≡ out_of_memory) }
         ensures value { OnOk result (self.new ≡ with_entries self.old (by_rank rank (entries_in self.old))) }
         ensures kept { OnErr result (self.new ≡ self.old) }
+        ensures empty { entries_in self.old ≡ [] → IsOk result }
     {
         let alloc = self.partitions.alloc();
         let entries = self.entries_mut();
@@ -37,6 +38,7 @@ fn sort_list(
 ) -> std::result::Result<(), AllocError>
     ensures value { OnOk result (entries.new ≡ by_rank rank entries.old) }
     ensures kept { OnErr result (entries.new ≡ entries.old) }
+    ensures empty { entries.old ≡ [] → IsOk result }
 {
     sort_stably(alloc, entries)
 }
@@ -50,6 +52,7 @@ fn sort_stably(
     ensures sorted { OnOk result (IsNonDecreasingBy rank entries.new) }
     ensures stable { IsStableByKey rank nat_cmp entries.old entries.new }
     ensures kept { OnErr result (entries.new ≡ entries.old) }
+    ensures empty { entries.old ≡ [] → IsOk result }
 {
     entries.sort_by_key(alloc, |entry| rank(entry))
 }
