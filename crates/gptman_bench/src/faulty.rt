@@ -78,9 +78,8 @@ impl<D: Disk> Disk for FaultyDisk<D> {
     }
 
     fn write_all(&mut self, buf: &[u8]) -> io::Result<()> {
-        let counted = count_call(&mut self.calls_left);
         self.below.write_all(buf)?;
-        counted
+        count_call(&mut self.calls_left)
     }
 
     fn sync(&mut self) -> io::Result<()> {
