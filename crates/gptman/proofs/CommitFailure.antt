@@ -1,8 +1,8 @@
 -- What a list of edits leaves at each side where the next one is not written, and that each copy is read alone.
-use Rattle.std.proofs.Common.{◌≡◌, ◌⊎◌, ◌<◌, ◌+◌, ◌++◌, ⊎_elim, inl, inr, ℕ, true, List, [], ◌∷◌, length, refl, sym, ap, ◌∙◌, subst, arith}
+use Rattle.std.proofs.Common.{◌≡◌, ◌⊎◌, ◌<◌, ◌+◌, ◌++◌, ⊎_elim, inl, inr, ℕ, true, List, [], ◌∷◌, length, refl, sym, ◌∙◌, subst, arith}
 use Rattle.std.specs.Prelude.{fold, take, Contains}
 use Rattle.std.proofs.lemmas.Bool.{cases_lt}
-use Rattle.gptman_copy.specs.Disk.{DiskState, Image, IsSound, OnlyRead, Outside}
+use Rattle.gptman_copy.specs.Disk.{DiskState, IsSound, OnlyRead}
 use Rattle.gptman_copy.specs.Ranges.{AgreesInside}
 use Rattle.gptman.specs.Commit.{BothSidesAfterEdits, HoldsInAnyImage, SideAfterEdits, Stands}
 use Rattle.gptman.specs.Commit.SideAfterEdits.{as_it_was, holds_last, holds_next, header_pending}
@@ -12,7 +12,7 @@ use Rattle.gptman.specs.Edit.{after_edit, table_after}
 use Rattle.gptman.specs.Layout.{HasLayout, Holds, ranges_at}
 use Rattle.gptman.specs.Reading.{Side, primary, backup, copy_start}
 use Rattle.gptman.specs.Stop.{IsStored}
-use Rattle.gptman.specs.Table.{Table, table_in}
+use Rattle.gptman.specs.Table.{table_in}
 use Rattle.gptman.specs.declared.edit.Edit.{Edit}
 use Rattle.gptman.specs.declared.table.GPT.{GPT}
 use Rattle.gptman.proofs.AfterFailure.{untouched_ranges}

@@ -1,10 +1,9 @@
 -- A partition that is added and written, after calls that only read.
-use Rattle.std.proofs.Common.{◌≡◌, ◌<◌, ℕ, ◌-◌, List, [], ◌∷◌, Option, None, Some, max, refl, sym, ap, ◌∙◌, subst, arith, inl, inr, ◌⊎◌, ⊎_elim}
+use Rattle.std.proofs.Common.{◌≡◌, ◌<◌, ℕ, List, [], ◌∷◌, Option, None, Some, max, refl, sym, ap, ◌∙◌, subst, arith, inl, inr, ◌⊎◌, ⊎_elim}
 use Rattle.std.proofs.lemmas.Option.{MatchOption-at_none, MatchOption-at_some}
-use Rattle.std.specs.Prelude.{Result, Ok}
+use Rattle.std.specs.Prelude.{Ok}
 use Rattle.gptman.specs.Crash.{AreReadAlone, EditsKeepPlaces, IsReadInForm, KeepsWhatIsRead, StartsFromOne, StartsLaidOut}
 use Rattle.gptman.specs.Disk.{AgreesOutside, DiskState, Keeps, OnlyRead, Wrote}
-use Rattle.gptman.specs.Fault.{Fault}
 use Rattle.gptman.specs.Layout.{HasLayout, IsLaidOut}
 use Rattle.gptman.specs.Number.{with_entry}
 use Rattle.gptman.specs.Place.{FindsPlace, HasNoPlace, IsFirstPlace, IsFreeIn}
