@@ -42,12 +42,12 @@ fn make_with_fuse(memory: &mut Memory) -> Result<Verdict> {
     Ok(of_disk(&outcome, [1, 2, 3, 4]))
 }
 
-// Goes to this byte and writes 07 07.
-fn write_at(disk: &mut MemoryDisk, at: u64) -> io::Result<()> {
+/// Goes to this byte and writes these, where there is room for them.
+pub fn write_at(disk: &mut MemoryDisk, at: u64, bytes: &[u8]) -> io::Result<()> {
     let size = disk.seek_end()?;
     disk.seek_start(at)?;
-    if at <= size && size - at >= 2 {
-        disk.write_all(&[7, 7])?;
+    if at <= size && size - at >= bytes.len() as u64 {
+        disk.write_all(bytes)?;
     }
     Ok(())
 }
@@ -55,9 +55,9 @@ fn write_at(disk: &mut MemoryDisk, at: u64) -> io::Result<()> {
 // The bytes 1 to 4 with 07 07 at 0, stored, and then at 1.
 fn written(alloc: Global) -> Result<MemoryDisk> {
     let mut disk = MemoryDisk::new(alloc, [1, 2, 3, 4].to_vec(alloc)?)?;
-    write_at(&mut disk, 0)?;
+    write_at(&mut disk, 0, &[7, 7])?;
     disk.sync()?;
-    write_at(&mut disk, 1)?;
+    write_at(&mut disk, 1, &[7, 7])?;
     Ok(disk)
 }
 
@@ -79,7 +79,7 @@ fn is_left(disk: MemoryDisk, fates: &[Fate], bytes: [u8; 4]) -> Result<bool> {
 fn write_bytes(memory: &mut Memory) -> Result<Verdict> {
     let mut disk = written(memory.alloc())?;
     memory.begin();
-    let outcome = write_at(&mut disk, 2);
+    let outcome = write_at(&mut disk, 2, &[7, 7]);
     memory.end();
     let is_right = disk.bytes() == [7, 7, 7, 7].as_slice();
     let is_kept = disk.bytes() == [7, 7, 7, 4].as_slice();

@@ -72,6 +72,15 @@ pub fn have_same_entries(one: &GPT, other: &GPT) -> bool {
     one.iter().eq(other.iter())
 }
 
+/// Whether these are the entries of the table.
+pub fn are_those_of(entries: &[GPTPartitionEntry], table: &GPT) -> bool {
+    let are_equal = table
+        .iter()
+        .zip(entries)
+        .all(|(one, other)| *one.1 == *other);
+    are_equal && entries.len() == table.iter().count()
+}
+
 /// The number of each entry of this name, if it is that of a used one.
 pub fn has_entry(table: &GPT, number: u32, name: &str) -> bool {
     for (at, entry) in table.iter() {

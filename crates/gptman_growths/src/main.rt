@@ -8,15 +8,20 @@
 
 mod commands;
 mod copies;
+mod counted;
 mod disks;
 mod files;
 mod fixtures;
 mod held;
 mod large;
+mod lives;
 mod memory;
 mod noted;
 mod places;
 mod readings;
+mod shape;
+mod shape_calls;
+mod shape_commands;
 mod verdict;
 mod writings;
 
@@ -71,10 +76,27 @@ fn try_call<R: Files<File = File> + AllocGlobal>(
     if let Some(made) = commands::try_call(name, memory) {
         return Some(made);
     }
-    if let Some(made) = large::try_call(name, memory) {
+    if let Some(made) = counted::try_call(name, memory) {
+        return Some(made);
+    }
+    if let Some(made) = try_large(name, memory) {
         return Some(made);
     }
     files::try_call(files, name, memory)
+}
+
+// The same of the calls that are made with ample memory alone.
+fn try_large(name: &str, memory: &mut Memory) -> Option<Result<Verdict>> {
+    if let Some(made) = large::try_call(name, memory) {
+        return Some(made);
+    }
+    if let Some(made) = lives::try_call(name, memory.alloc()) {
+        return Some(made);
+    }
+    if let Some(made) = shape_calls::try_call(name, memory.alloc()) {
+        return Some(made);
+    }
+    shape_commands::try_call(name, memory.alloc())
 }
 
 // The same of the calls that write no table.

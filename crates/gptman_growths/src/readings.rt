@@ -1,7 +1,7 @@
 //! Readings of a disk. None of them writes to it.
 
 use crate::fixtures::{
-    DISK_GUID, complement, have_same_entries, image_of, partition, unsorted_table,
+    DISK_GUID, are_those_of, complement, have_same_entries, image_of, partition, unsorted_table,
 };
 use crate::held::Held;
 use crate::memory::Memory;
@@ -97,8 +97,8 @@ fn find_table(memory: &mut Memory, spoilt: &[usize], sector: u64) -> Result<Verd
     Ok(of_reading(&outcome, &table, sector, &held))
 }
 
-// Whether both headers are said to have another checksum.
-fn are_told(error: &Error) -> bool {
+/// Whether both headers are said to have another checksum.
+pub fn are_told(error: &Error) -> bool {
     match error {
         Error::ReadError(primary, backup) => {
             matches!(&**primary, Error::InvalidChecksum(..))
@@ -133,13 +133,4 @@ fn read_partitions(memory: &mut Memory) -> Result<Verdict> {
         Ok(entries) => Ok(of_answer(are_those_of(entries, &table) && held.is_kept())),
         Err(error) => Ok(of_refusal(error, held.is_kept())),
     }
-}
-
-// Whether these are the entries of the table.
-fn are_those_of(entries: &[GPTPartitionEntry], table: &GPT) -> bool {
-    let are_equal = table
-        .iter()
-        .zip(entries)
-        .all(|(one, other)| *one.1 == *other);
-    are_equal && entries.len() == table.iter().count()
 }
