@@ -1,24 +1,30 @@
 //! Callers that know a table by the library's contracts alone. What each ensures is proved from them.
 
-ghost use Rattle.std.specs.Prelude.{◌≡◌, ◌≢◌, ◌<◌, ◌≤◌, ◌-◌, ◌⊎◌, ◌↔◌, [], ◌∷◌, Some, count_by, filter};
-ghost use Rattle.std.specs.Prelude.{length, map, slice_get, All, IsTrue, IfOk, OnOk, OnErr};
+ghost use Rattle.std.specs.Prelude.{◌≡◌, ◌≢◌, ◌<◌, ◌≤◌, ◌+◌, ◌-◌, ◌⊎◌, ◌↔◌, [], ◌∷◌, Ok, Some, count_by};
+ghost use Rattle.std.specs.Prelude.{filter, length, map, slice_get, All, IsTrue, IfOk, List, MatchOption};
+ghost use Rattle.std.specs.Prelude.{OnOk, OnErr};
 ghost use Rattle.std.specs.List.{enumerate_from};
-ghost use Rattle.gptman.specs.Copy.{IsCoherent};
+ghost use Rattle.gptman.specs.Copy.{CopyAt, IsCoherent};
 ghost use Rattle.gptman.specs.Crash.{StartsLaidOut, StartsSynced};
 ghost use Rattle.gptman.specs.Disk.{IsHonest, Rose};
 ghost use Rattle.gptman.specs.Entry.{is_used};
 ghost use Rattle.gptman.specs.Layout.{Holds};
 ghost use Rattle.gptman.specs.Number.{with_entries, with_entry, IsNumber};
 ghost use Rattle.gptman.specs.Order.{by_rank, rank};
+ghost use Rattle.gptman.specs.Place.{HasNoPlace, IsFreeIn, IsPlace};
 ghost use Rattle.gptman.specs.Reading.{primary, taken_from};
 ghost use Rattle.gptman.specs.Stop.{IsStored, StopsAreReadAs};
 ghost use Rattle.gptman.specs.Table.{entries_in, grow_to, table_in, IsHeaderForm};
+ghost use Rattle.gptman.specs.TableReads.{AnswersReading};
 ghost use Rattle.gptman.specs.Valid.{IsValid};
 ghost use Rattle.gptman_copy.specs.declared.codec.entry.GPTPartitionEntry.{GPTPartitionEntry};
+ghost use Rattle.gptman_copy.specs.declared.codec.header.GPTHeader.{GPTHeader};
 ghost use Rattle.gptman_bench.specs.Cleared.{cleared};
 
-use gptman::place::laws::placement_keeps_valid;
-use gptman::table::laws::{growing_is_safe, what_is_held_is_read, what_is_read_is_held};
+use gptman::place::laws::{maximum_is_offered, placement_keeps_valid};
+use gptman::table::laws::{
+    growing_is_safe, what_is_held_is_read, what_is_read_is_held, what_stands_is_accepted,
+};
 use gptman::{Disk, GPT, GPTHeader, GPTPartitionEntry, Result};
 use std::alloc::{AllocError, Global};
 
@@ -94,6 +100,26 @@ pub(crate) fn add_first(
     Ok(true)
 }
 
+/// The greatest size that a partition can be given, a multiple of `align`, and before it the least sector
+/// where it has a place. `None` only where not even `align` sectors have one.
+pub(crate) fn greatest_place(table: &GPT) -> Result<Option<(u64, u64)>>
+    requires aligned { 0 < table.now.align }
+    ensures { IfOk result (λ found. MatchOption found
+        (HasNoPlace (IsFreeIn table.now) table.now.align table.now.align)
+        (λ p. IsPlace (IsFreeIn table.now) table.now.align p.1 p.0
+        × HasNoPlace (IsFreeIn table.now) table.now.align (p.1 + table.now.align))) }
+{
+    maximum_is_offered();
+    let size = table.get_maximum_partition_size()?;
+    if size == 0 {
+        return Ok(None);
+    }
+    let Some(start) = table.find_first_place(size)? else {
+        return Ok(None);
+    };
+    Ok(Some((start, size)))
+}
+
 /// Clears the attributes of each entry, by the numbers. The whole list is known after it.
 pub(crate) fn clear_by_number(table: &mut GPT)
     requires { IsCoherent table.old.header (entries_in table.old) }
@@ -164,6 +190,18 @@ pub(crate) fn read_held<D: Disk>(alloc: Global, disk: &mut D, sector_size: u64) 
         → Holds (D.state disk.new).view sector_size side (table_in g)) }
 {
     what_is_read_is_held();
+    GPT::read_from(alloc, disk, sector_size)
+}
+
+/// Reads the table. Where a copy stands in sector 1, it is what is read.
+pub(crate) fn read_standing<D: Disk>(alloc: Global, disk: &mut D, sector_size: u64) -> Result<GPT>
+    requires { 0 < sector_size }
+    ensures { (h : GPTHeader) → (es : List GPTPartitionEntry)
+        → CopyAt (D.state disk.old).view sector_size sector_size h es
+        → AnswersReading (Ok (record { header = h; entries = es })) result
+        (D.state disk.old) (D.state disk.new) }
+{
+    what_stands_is_accepted();
     GPT::read_from(alloc, disk, sector_size)
 }
 

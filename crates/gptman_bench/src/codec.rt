@@ -3,6 +3,7 @@
 use crate::asserts::got;
 use crate::fixtures::{new_header, put};
 use crate::names::padded;
+use crate::oracle::slow_checksum;
 use gptman::crc::crc32;
 use gptman::{GPTHeader, GPTPartitionEntry, PartitionName};
 use std::alloc::Global;
@@ -72,6 +73,23 @@ fn a_byte_of_a_block_is_taken_in_by_its_place(rt: HostRuntime) {
         let mut block = [0; 8];
         put(&rt, &mut block, place, &[0xff]);
         assert!(rt; crc32(&block) == checksum, "place {place}");
+    }
+}
+
+// A block of zeros, with this byte in this place, has the checksum that is made a bit at a time.
+fn assert_block(rt: &impl Abort, place: usize, byte: u8) {
+    let mut block = [0; 8];
+    put(rt, &mut block, place, &[byte]);
+    assert!(rt; crc32(&block) == slow_checksum(&block), "{block:?}");
+}
+
+// The byte in each place of a block chooses a word of a table of its own.
+#[test]
+fn every_word_of_the_eight_tables(rt: HostRuntime) {
+    for place in 0..8 {
+        for byte in 0..=u8::MAX {
+            assert_block(&rt, place, byte);
+        }
     }
 }
 

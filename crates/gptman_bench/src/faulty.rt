@@ -1,105 +1,134 @@
 //! A disk of which one call fails.
 
-ghost use Rattle.std.specs.Prelude.{◌≡◌, ◌+◌, OnOk, OnErr};
-ghost use Rattle.gptman_bench.specs.Faulty.{faulty_sound, faulty_state, own_failures};
+ghost use Rattle.std.specs.Prelude.{◌≡◌};
+ghost use Rattle.gptman_copy.specs.Disk.{IsCountedOnce};
+ghost use Rattle.gptman_copy.specs.Memory.{memory_sound};
+ghost use Rattle.gptman_bench.specs.Faulty.{faulty_sound, faulty_state};
 
 use crate::asserts::got;
-use crate::memory::{assert_left, holding, put};
-use gptman::{Disk, MemoryDisk};
+use crate::memory::{assert_left, put};
+use gptman::{Disk, MemoryDisk, Result};
 use std::alloc::Global;
 use std::io;
 use std::process::Abort;
 
-/// A disk that passes its calls on to the one below, but for one, which fails. A write or a read that
-/// fails so is passed on as well. A read that fails below is not counted: it may pass the end.
+/// A disk that passes its calls on to one in memory, but for one of them, which fails. A write that fails
+/// so is passed on all the same. A read that passes the end is passed on too, and fails there: that is no
+/// failure of the disk, and is not counted as one.
 #[derive(Drop)]
-pub(crate) struct FaultyDisk<D> {
-    below: D,
-    // How many calls come before the one that fails. None once it has failed.
+pub(crate) struct FaultyDisk {
+    below: MemoryDisk,
+    position: u64,
+    // How many calls come before the one that fails. None once it was made.
     calls_left: Option<u64>,
+    failures: u64,
+    ghost stands: { position ≡ (⟦<MemoryDisk as Disk>⟧.state below).position },
 }
 
-impl<D: Disk> FaultyDisk<D> {
-    /// Over this disk, with the failure at the call of this number, counted from 0.
-    pub(crate) fn new(below: D, failing: u64) -> FaultyDisk<D>
-        ensures { result ≡ record { below = below; calls_left = Some failing } }
-    {
-        FaultyDisk {
-            below,
+impl FaultyDisk {
+    /// Over these bytes, with the failure at the call of this number, counted from 0.
+    pub(crate) fn new(alloc: Global, bytes: Vec<u8>, failing: u64) -> Result<FaultyDisk> {
+        Ok(FaultyDisk {
+            below: MemoryDisk::new(alloc, bytes)?,
+            position: 0,
             calls_left: Some(failing),
-        }
+            failures: 0,
+        })
     }
 
-    /// How many calls come before the one that fails. None once it has failed.
+    /// How many calls come before the one that fails. None once it was made.
     pub(crate) fn calls_left(&self) -> Option<u64> {
         self.calls_left
     }
 
     /// The disk below, with all that was passed on to it.
-    pub(crate) fn into_inner(self) -> D
-        ensures { result ≡ self.below }
-    {
+    pub(crate) fn into_inner(self) -> MemoryDisk {
         self.below
     }
 }
 
-// Counts a call. An error where it is the one that fails.
-fn count_call(calls_left: &mut Option<u64>) -> io::Result<()>
-    ensures passes { OnOk result (own_failures calls_left.new ≡ own_failures calls_left.old) }
-    ensures fails { OnErr result (own_failures calls_left.new ≡ own_failures calls_left.old + 1) }
-{
+// Whether this call is the one that fails. It counts the call.
+fn is_chosen(calls_left: &mut Option<u64>) -> bool {
     match *calls_left {
-        None => {}
+        None => false,
         Some(0) => {
             *calls_left = None;
-            return Err(io::Error::other("the call was chosen to fail"));
+            true
         }
-        Some(calls) => *calls_left = Some(calls - 1),
+        Some(calls) => {
+            *calls_left = Some(calls - 1);
+            false
+        }
     }
-    Ok(())
 }
 
-impl<D: Disk> Disk for FaultyDisk<D> {
-    ghost state = { λ d. faulty_state (D.state d.below) d.calls_left };
+// The failure of that call, which is counted.
+fn fail(failures: &mut u64) -> io::Error
+    ensures once { IsCountedOnce failures.old failures.new }
+{
+    *failures = failures.saturating_add(1);
+    io::Error::other("the call was chosen to fail")
+}
+
+impl Disk for FaultyDisk {
+    ghost state = { λ d. faulty_state (⟦<MemoryDisk as Disk>⟧.state d.below) d.failures };
 
     fn seek_start(&mut self, at: u64) -> io::Result<u64> {
-        count_call(&mut self.calls_left)?;
-        self.below.seek_start(at)
+        if is_chosen(&mut self.calls_left) {
+            return Err(fail(&mut self.failures));
+        }
+        self.position = self.below.seek_start(at)?;
+        Ok(self.position)
     }
 
     fn seek_end(&mut self) -> io::Result<u64> {
-        count_call(&mut self.calls_left)?;
-        self.below.seek_end()
+        if is_chosen(&mut self.calls_left) {
+            return Err(fail(&mut self.failures));
+        }
+        self.position = self.below.seek_end()?;
+        Ok(self.position)
     }
 
     fn read_exact(&mut self, buf: &mut [u8]) -> io::Result<()> {
+        let is_chosen = is_chosen(&mut self.calls_left);
+        let size = self.below.bytes().len() as u64;
+        let len = buf.len() as u64;
+        if is_chosen && self.position <= size && len <= size - self.position {
+            return Err(fail(&mut self.failures));
+        }
         self.below.read_exact(buf)?;
-        count_call(&mut self.calls_left)
+        self.position += len;
+        Ok(())
     }
 
     fn write_all(&mut self, buf: &[u8]) -> io::Result<()> {
+        let is_chosen = is_chosen(&mut self.calls_left);
         self.below.write_all(buf)?;
-        count_call(&mut self.calls_left)
+        self.position += buf.len() as u64;
+        if is_chosen {
+            return Err(fail(&mut self.failures));
+        }
+        Ok(())
     }
 
     fn sync(&mut self) -> io::Result<()> {
-        count_call(&mut self.calls_left)?;
+        if is_chosen(&mut self.calls_left) {
+            return Err(fail(&mut self.failures));
+        }
         self.below.sync()
     }
 
-    ghost bounded = { λ d. D.bounded d.below };
+    ghost bounded = { λ d. d.below.small };
 
-    ghost sound = { λ d honest. faulty_sound (D.state d.below) d.calls_left (D.sound d.below honest) };
+    ghost sound = { λ d honest. faulty_sound (⟦<MemoryDisk as Disk>⟧.state d.below) d.failures
+        (memory_sound d.below.start.items d.below.bytes.items d.below.events.items d.below.position
+        d.below.failures d.below.replays) };
 }
 
 /// A disk of these bytes of which one call fails.
-pub(crate) fn failing_once(
-    rt: &impl Abort,
-    alloc: Global,
-    bytes: &[u8],
-    call: u64,
-) -> FaultyDisk<MemoryDisk> {
-    FaultyDisk::new(holding(rt, alloc, bytes), call)
+pub(crate) fn failing_once(rt: &impl Abort, alloc: Global, bytes: &[u8], call: u64) -> FaultyDisk {
+    let bytes = got(rt, bytes.to_vec(alloc));
+    got(rt, FaultyDisk::new(alloc, bytes, call))
 }
 
 #[test]
@@ -110,14 +139,14 @@ fn a_write_that_fails_is_passed_on(rt: HostRuntime) {
 }
 
 // The two bytes at the disk's position.
-fn pair(disk: &mut FaultyDisk<MemoryDisk>) -> io::Result<[u8; 2]> {
+fn pair(disk: &mut FaultyDisk) -> io::Result<[u8; 2]> {
     let mut bytes = [0; 2];
     disk.read_exact(&mut bytes)?;
     Ok(bytes)
 }
 
 // These are the two bytes at the disk's position.
-fn assert_pair(rt: &impl Abort, disk: &mut FaultyDisk<MemoryDisk>, bytes: [u8; 2]) {
+fn assert_pair(rt: &impl Abort, disk: &mut FaultyDisk, bytes: [u8; 2]) {
     assert!(rt; got(rt, pair(disk)) == bytes);
 }
 
@@ -136,22 +165,24 @@ fn a_seek_to_the_end_that_fails_is_not_passed_on(rt: HostRuntime) {
 }
 
 #[test]
-fn a_read_that_fails_is_passed_on(rt: HostRuntime) {
+fn a_read_that_fails_is_not_passed_on(rt: HostRuntime) {
     let mut disk = failing_once(&rt, rt.alloc(), &[1, 2, 3, 4], 0);
     assert!(rt; pair(&mut disk).is_err());
-    assert_pair(&rt, &mut disk, [3, 4]);
+    assert_pair(&rt, &mut disk, [1, 2]);
 }
 
+// A read that passes the end fails as it would on any disk, and is a call as all others are.
 #[test]
-fn a_read_past_the_end_is_not_counted(rt: HostRuntime) {
+fn a_read_past_the_end_has_a_number(rt: HostRuntime) {
     let mut disk = failing_once(&rt, rt.alloc(), &[1, 2, 3], 1);
     assert_pair(&rt, &mut disk, [1, 2]);
-    assert!(rt; pair(&mut disk).is_err());
     assert_eq!(rt; disk.calls_left(), Some(0));
+    assert!(rt; pair(&mut disk).is_err());
+    assert_eq!(rt; disk.calls_left(), None);
 }
 
 // The bytes 1 to 4, after 07 07 at 1 and a sync that failed.
-fn not_synced(rt: &impl Abort, alloc: Global) -> FaultyDisk<MemoryDisk> {
+fn not_synced(rt: &impl Abort, alloc: Global) -> FaultyDisk {
     let mut disk = failing_once(rt, alloc, &[1, 2, 3, 4], 3);
     got(rt, put(rt, &mut disk, 1, &[7, 7]));
     assert!(rt; disk.sync().is_err());

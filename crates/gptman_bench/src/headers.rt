@@ -23,8 +23,8 @@ pub(crate) fn write_entries(
     header
 }
 
-// The header has the checksums of itself and of these entries.
-fn assert_checksums(rt: &impl Abort, header: &GPTHeader, entries: &[GPTPartitionEntry]) {
+/// The header has the checksums of itself and of these entries.
+pub(crate) fn assert_checksums(rt: &impl Abort, header: &GPTHeader, entries: &[GPTPartitionEntry]) {
     assert!(rt; header.header_size == 92 && header.size_of_partition_entry == 128);
     assert!(rt; entries.len() == header.number_of_partition_entries as usize);
     let checksum = header.generate_partition_entry_array_crc32(entries);
@@ -109,8 +109,12 @@ fn bytes_around_a_copy_do_not_change(rt: HostRuntime) {
     assert!(rt; are_all(&before, 2) && are_all(&behind, 2));
 }
 
-// Makes both checksums of a header of these entries.
-fn update_checksums(rt: &impl Abort, header: &mut GPTHeader, entries: &[GPTPartitionEntry]) {
+/// Makes both checksums of a header of these entries.
+pub(crate) fn update_checksums(
+    rt: &impl Abort,
+    header: &mut GPTHeader,
+    entries: &[GPTPartitionEntry],
+) {
     assert!(rt; header.header_size == 92 && header.size_of_partition_entry == 128);
     assert!(rt; entries.len() == header.number_of_partition_entries as usize);
     header.update_partition_entry_array_crc32(entries);

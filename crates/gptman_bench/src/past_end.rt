@@ -4,7 +4,7 @@
 use crate::asserts::{assert_said, got, places_of};
 use crate::faulty::{FaultyDisk, failing_once};
 use crate::fixtures::{image_of_new_table, new_header, put};
-use gptman::{GPT, GPTHeader, MemoryDisk};
+use gptman::{GPT, GPTHeader};
 use std::alloc::Global;
 use std::process::Abort;
 
@@ -12,12 +12,12 @@ use std::process::Abort;
 const MANY: u64 = 1000;
 
 // A disk that counts its calls, of 100 sectors of 512 with a new table.
-fn counting(rt: &impl Abort, alloc: Global, image: &[u8]) -> FaultyDisk<MemoryDisk> {
+fn counting(rt: &impl Abort, alloc: Global, image: &[u8]) -> FaultyDisk {
     failing_once(rt, alloc, image, MANY)
 }
 
 // The disk has served so many calls.
-fn assert_calls(rt: &impl Abort, disk: &FaultyDisk<MemoryDisk>, calls: u64) {
+fn assert_calls(rt: &impl Abort, disk: &FaultyDisk, calls: u64) {
     assert_eq!(rt; disk.calls_left(), Some(MANY - calls.min(MANY)));
 }
 

@@ -1,7 +1,7 @@
 //! Free sectors, and the places and the greatest size that they offer.
 
 use crate::asserts::{assert_bounds, assert_entry, assert_names, got};
-use crate::callers::{add_first, exchange};
+use crate::callers::{add_first, exchange, greatest_place};
 use crate::fixtures::{
     DISK_GUID, disk_1, disk_of, image_after, new_table, partition, read_image, reread, table_with,
 };
@@ -235,4 +235,26 @@ fn an_entry_that_has_no_place_is_not_added(rt: HostRuntime) {
     let too_large = got(&rt, partition(rt.alloc(), "", [2; 16], 0, 0));
     assert!(rt; !add(&rt, &mut table, 4, too_large, 15));
     assert_names(&rt, rt.alloc(), &table, "1 Foo, 2 Bar, 3 Baz, ");
+}
+
+// The place and the size of the greatest partition that the table offers with this alignment.
+fn greatest(rt: &impl Abort, table: &mut GPT, align: u64) -> Option<(u64, u64)> {
+    table.align = align;
+    assert!(rt; table.align > 0);
+    got(rt, greatest_place(table))
+}
+
+// The free runs are 44 to 47 and 53 to 66.
+#[test]
+fn the_greatest_partition_has_a_place(rt: HostRuntime) {
+    let mut table = got(&rt, disk_1(rt.alloc()));
+    let rows = [
+        (1, Some((53, 14))),
+        (4, Some((56, 8))),
+        (5, Some((55, 10))),
+        (10, None),
+    ];
+    for (align, found) in rows {
+        assert!(rt; greatest(&rt, &mut table, align) == found, "align {align}");
+    }
 }

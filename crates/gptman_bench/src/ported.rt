@@ -1,52 +1,108 @@
 //! Tests of the Rust crate on reading, each under its own name, over disks made from numbers.
 
 use crate::asserts::{assert_names, assert_said, got, places_of};
+use crate::callers::are_equal;
 use crate::fixtures::{
-    complement, disk_1, disk_2, new_table, partition, put, read_image, read_with_sectors, reread,
-    write, written_image,
+    bytes_at, complement, disk_1, disk_2, new_table, partition, read_image, read_with_sectors,
+    reread, write, written_image,
 };
+use crate::headers::{assert_checksums, update_checksums};
 use crate::long_disk::LongDisk;
+use crate::memory::{holding, put as put_on};
 use crate::names::name_of_units;
 use crate::oracle::{header_checksum, slow_checksum};
-use gptman::{Edit, GPT, GPTPartitionEntry, MemoryDisk, PartitionName};
+use gptman::{Disk, Edit, GPT, GPTHeader, GPTPartitionEntry, MemoryDisk, PartitionName};
 use std::alloc::Global;
 use std::process::Abort;
 
-// How many entries of the table are used, and how many are not.
-fn counts_of(table: &GPT) -> (u32, u32) {
+// The header at this byte of the disk.
+fn header_at(rt: &impl Abort, disk: &mut MemoryDisk, at: u64) -> GPTHeader {
+    got(rt, disk.seek_start(at));
+    got(rt, GPTHeader::read_from(disk))
+}
+
+// The entry at this byte of the disk, which encodes to the bytes that stand there.
+fn entry_at(rt: &impl Abort, alloc: Global, disk: &mut MemoryDisk, at: u64) -> GPTPartitionEntry {
+    got(rt, disk.seek_start(at));
+    let entry = got(rt, GPTPartitionEntry::read_from(alloc, disk));
+    let bytes = got(rt, bytes_at::<128>(disk, at));
+    assert!(rt; entry.encode() == bytes, "at {at}");
+    entry
+}
+
+// So many entries from this byte on, each read alone.
+fn entries_at(
+    rt: &impl Abort,
+    alloc: Global,
+    disk: &mut MemoryDisk,
+    at: u64,
+    count: u32,
+) -> Vec<GPTPartitionEntry> {
+    let mut entries = Vec::new(alloc);
+    for number in 0..u64::from(count) {
+        let offset = number.saturating_mul(128);
+        let entry = entry_at(rt, alloc, disk, at.saturating_add(offset));
+        got(rt, entries.push(entry));
+    }
+    entries
+}
+
+// How many of the entries are used, and how many are not.
+fn counts_of(entries: &[GPTPartitionEntry]) -> (u32, u32) {
     let (mut used, mut unused) = (0_u32, 0_u32);
-    for (_, entry) in table.iter() {
+    for entry in entries {
         used = used.saturating_add(u32::from(entry.is_used()));
         unused = unused.saturating_add(u32::from(entry.is_unused()));
     }
     (used, unused)
 }
 
-// The bytes of the table's entries, one after the other.
-fn array_of(rt: &impl Abort, alloc: Global, table: &GPT) -> Vec<u8> {
-    let mut bytes = Vec::new(alloc);
-    for (_, entry) in table.iter() {
-        got(rt, bytes.extend_from_slice(&entry.encode()));
-    }
-    bytes
+// The header keeps both its checksums, which are not 0, where they are made again for these entries.
+fn assert_same_checksums(rt: &impl Abort, header: &GPTHeader, entries: &[GPTPartitionEntry]) {
+    assert_checksums(rt, header, entries);
+    let mut updated = *header;
+    update_checksums(rt, &mut updated, entries);
+    assert!(rt; updated == *header);
+    assert!(rt; header.crc32_checksum != 0 && header.partition_entry_array_crc32 != 0);
 }
 
-// The table has these bytes of its entries, and the checksums of them and of its header.
-fn has_checksums(table: &GPT, array: &[u8]) -> bool {
-    let header = &table.header;
+// The header has the checksums that are made a bit at a time of it and of the entries, which stand in
+// sector 2 of the image.
+fn has_slow_checksums(header: &GPTHeader, image: &[u8], sector_size: u16) -> bool {
+    let array = image
+        .get(2 * usize::from(sector_size)..)
+        .unwrap_or_default();
+    let array = array.get(..128 * 128).unwrap_or_default();
     header.partition_entry_array_crc32 == slow_checksum(array)
         && header.crc32_checksum == header_checksum(&header.encode())
 }
 
-// The table is read from an image of it with two used entries, which stand in its third sector.
+// The entries from this byte of the disk on are those of the header: 128, of which the first two alone
+// are used.
+fn assert_entries(
+    rt: &impl Abort,
+    alloc: Global,
+    disk: &mut MemoryDisk,
+    header: &GPTHeader,
+    at: u64,
+) {
+    assert!(rt; !entry_at(rt, alloc, disk, at).is_unused());
+    assert!(rt; !entry_at(rt, alloc, disk, at.saturating_add(128)).is_unused());
+    let entries = entries_at(rt, alloc, disk, at, header.number_of_partition_entries);
+    assert!(rt; counts_of(&entries) == (2, 126));
+    assert_same_checksums(rt, header, &entries);
+}
+
+// Both headers and each entry are read from a disk to which the table was written.
 fn assert_read(rt: &impl Abort, alloc: Global, table: &GPT, sector_size: u16) {
     let image = written_image(rt, alloc, table);
-    let read = got(rt, read_with_sectors(alloc, &image, u64::from(sector_size)));
-    assert!(rt; counts_of(&read) == (2, 126));
-    let array = array_of(rt, alloc, &read);
-    let entries = image.get(2 * usize::from(sector_size)..);
-    assert!(rt; entries.unwrap_or_default().starts_with(&array));
-    assert!(rt; has_checksums(&read, &array));
+    let mut disk = holding(rt, alloc, &image);
+    let size = u64::from(sector_size);
+    let header = header_at(rt, &mut disk, size);
+    header_at(rt, &mut disk, header.backup_lba.saturating_mul(size));
+    let at = header.partition_entry_lba.saturating_mul(size);
+    assert_entries(rt, alloc, &mut disk, &header, at);
+    assert!(rt; has_slow_checksums(&header, &image, sector_size));
 }
 
 #[test]
@@ -96,20 +152,52 @@ fn assert_backup(rt: &impl Abort, alloc: Global, image: &[u8], sector_size: u64,
     assert_names(rt, alloc, &read, "1 Foo, 2 Bar, ");
 }
 
-// An image of the table with another checksum in its primary header.
-fn broken(rt: &impl Abort, alloc: Global, table: &GPT, sector_size: u16) -> Vec<u8> {
-    let mut image = written_image(rt, alloc, table);
-    let checksum_at = usize::from(sector_size) + 16;
-    put(rt, &mut image, checksum_at, &1_u32.to_le_bytes());
-    image
+/// The table that is read of the disk.
+pub(crate) fn read_of(
+    rt: &impl Abort,
+    alloc: Global,
+    disk: &mut MemoryDisk,
+    sector_size: u64,
+) -> GPT {
+    assert!(rt; sector_size > 0);
+    got(rt, GPT::read_from(alloc, disk, sector_size))
+}
+
+/// Writes the table's header into sector 1, with 1 as its checksum.
+pub(crate) fn write_bad_checksum(rt: &impl Abort, disk: &mut MemoryDisk, table: &GPT) {
+    let header = GPTHeader {
+        crc32_checksum: 1,
+        ..table.header
+    };
+    got(rt, put_on(rt, disk, table.sector_size, &header.encode()));
+}
+
+// The table is in backup form: the header stands in the disk's last sector, and the entries behind the
+// last usable one.
+fn assert_at_end(rt: &impl Abort, disk: &mut MemoryDisk, table: &GPT) {
+    let sectors = got(rt, disk.seek_end()).checked_div(table.sector_size);
+    let last = sectors.unwrap_or_default().saturating_sub(1);
+    let entries_at = table.header.last_usable_lba.saturating_add(1);
+    assert!(rt; places_of(&table.header) == (last, 1, entries_at));
+}
+
+// The backup copy of the table is read and found where the primary header has another checksum.
+fn assert_backup_found(rt: &impl Abort, alloc: Global, table: &GPT) {
+    let mut disk = holding(rt, alloc, &written_image(rt, alloc, table));
+    let read = read_of(rt, alloc, &mut disk, table.sector_size);
+    assert!(rt; read.header.partition_entry_lba == 2);
+    write_bad_checksum(rt, &mut disk, &read);
+    let backup = read_of(rt, alloc, &mut disk, read.sector_size);
+    assert_at_end(rt, &mut disk, &backup);
+    let found = got(rt, GPT::find_from(alloc, &mut disk));
+    assert!(rt; are_equal(&found, &backup));
+    assert_names(rt, alloc, &found, "1 Foo, 2 Bar, ");
 }
 
 #[test]
 fn find_backup(rt: HostRuntime) {
-    let first = broken(&rt, rt.alloc(), &got(&rt, disk_1(rt.alloc())), 512);
-    assert_backup(&rt, rt.alloc(), &first, 512, 67);
-    let second = broken(&rt, rt.alloc(), &got(&rt, disk_2(rt.alloc())), 4096);
-    assert_backup(&rt, rt.alloc(), &second, 4096, 95);
+    assert_backup_found(&rt, rt.alloc(), &got(&rt, disk_1(rt.alloc())));
+    assert_backup_found(&rt, rt.alloc(), &got(&rt, disk_2(rt.alloc())));
 }
 
 // The name of "Name with garbage", a zero, and letters to the end.

@@ -1,10 +1,13 @@
 //! Tests of the Rust crate on writing, each under its own name, over disks made from numbers.
 
-use crate::asserts::{assert_boundaries, assert_bounds, got, places_of};
+use crate::asserts::{assert_boundaries, assert_bounds, bounds_of, got, places_of};
+use crate::callers::are_equal;
 use crate::fixtures::{
     are_all, complement, disk_1, disk_2, disk_of, image_after, partition, read_with_sectors,
     reread, write, written_image,
 };
+use crate::memory::holding;
+use crate::ported::{read_of, write_bad_checksum};
 use gptman::{Edit, GPT, GPTHeader, MemoryDisk};
 use std::alloc::Global;
 use std::process::Abort;
@@ -69,18 +72,50 @@ fn write_with_changes(rt: HostRuntime) {
     assert_changed_written(&rt, rt.alloc(), got(&rt, disk_2(rt.alloc())));
 }
 
-// The table as it is read of an image of it whose primary copy is broken.
-fn read_backup(rt: &impl Abort, alloc: Global, table: &GPT) -> GPT {
-    let mut image = written_image(rt, alloc, table);
-    break_primary(rt, &mut image, table);
-    got(rt, read_with_sectors(alloc, &image, table.sector_size))
+// The table is read of the disk in backup form, with the places of its other header and entries as the
+// primary header has them, and with its entries from this sector on.
+fn assert_in_backup_form(rt: &impl Abort, backup: &GPT, primary: &GPT, entries_at: u64) {
+    assert!(rt; backup.is_backup() && !backup.is_primary());
+    assert!(rt; places_of(&backup.header) == (primary.header.backup_lba, 1, entries_at));
+    assert!(rt;
+        bounds_of(&backup.header)
+            == (
+                primary.header.first_usable_lba,
+                primary.header.last_usable_lba,
+                1
+            )
+    );
+    assert!(rt; backup.iter().eq(primary.iter()));
 }
 
-// The table is read from its backup copy, which has its entries from this sector on, and written.
+// The table in backup form is written over the disk from which it was read, which is then read as the
+// table in primary form: all of it is equal, the alignment too.
+fn assert_restored(
+    rt: &impl Abort,
+    alloc: Global,
+    disk: &mut MemoryDisk,
+    backup: &mut GPT,
+    primary: &GPT,
+) {
+    let other = got(rt, write(rt, backup, disk));
+    assert!(rt; other.is_primary() && !other.is_backup());
+    let read = read_of(rt, alloc, disk, primary.sector_size);
+    assert!(rt; places_of(&read.header) == (1, 99, 2));
+    assert!(rt; are_equal(&read, primary));
+}
+
+// The backup copy of the table, which has its entries from this sector on, is read where the primary header
+// has another checksum, and is written over the same disk. With that checksum again, it is read again.
 fn assert_backup(rt: &impl Abort, alloc: Global, table: &GPT, entries_at: u64) {
-    let backup = read_backup(rt, alloc, table);
-    assert!(rt; places_of(&backup.header) == (99, 1, entries_at));
-    assert!(rt; backup.iter().eq(table.iter()));
+    let mut disk = holding(rt, alloc, &written_image(rt, alloc, table));
+    let primary = read_of(rt, alloc, &mut disk, table.sector_size);
+    write_bad_checksum(rt, &mut disk, &primary);
+    let mut backup = read_of(rt, alloc, &mut disk, table.sector_size);
+    assert_in_backup_form(rt, &backup, &primary, entries_at);
+    assert_restored(rt, alloc, &mut disk, &mut backup, &primary);
+    write_bad_checksum(rt, &mut disk, &primary);
+    let again = read_of(rt, alloc, &mut disk, table.sector_size);
+    assert!(rt; are_equal(&again, &backup));
     assert_written(rt, alloc, backup);
 }
 

@@ -2,12 +2,14 @@
 //! is read. What is read has the alignment that its entries give.
 
 use crate::asserts::{assert_said, got, places_of};
+use crate::callers::read_standing;
 use crate::fitting::assert_kept;
 use crate::fixtures::{
     complement, disk_2, disk_of, image_of_new_table, new_header, partition, put, read_image,
     read_with_sectors, written_image,
 };
 use crate::headers::write_entries;
+use crate::memory::holding;
 use gptman::{GPT, GPTHeader, GPTPartitionEntry, MemoryDisk, Result};
 use std::alloc::Global;
 use std::process::Abort;
@@ -284,4 +286,12 @@ fn entries_may_stand_in_any_sector(rt: HostRuntime) {
     let table = got(&rt, read_crafted(&rt, rt.alloc(), header));
     assert!(rt; table.header.partition_entry_lba == 0 && table.is_coherent());
     assert_empty(&rt, rt.alloc(), &table, 4);
+}
+
+#[test]
+fn a_copy_that_stands_in_sector_1_is_read(rt: HostRuntime) {
+    let image = image_of_new_table(&rt, rt.alloc(), 0);
+    let mut disk = holding(&rt, rt.alloc(), &image);
+    let table = got(&rt, read_standing(rt.alloc(), &mut disk, 512));
+    assert!(rt; places_of(&table.header) == (1, 99, 2));
 }

@@ -332,10 +332,10 @@ fn live(rt: &impl Abort, alloc: Global, image: Vec<u8>, round: u8) -> Vec<u8> {
 #[test]
 fn a_life_of_stopped_writes_never_loses_the_table(rt: HostRuntime) {
     let mut left = image(&rt, rt.alloc(), None);
-    for round in 0..18 {
+    for round in 0..20 {
         left = live(&rt, rt.alloc(), left, round);
     }
     let last = got(&rt, read_image(rt.alloc(), &left));
-    assert!(rt; last.header.disk_guid == [17; 16]);
+    assert!(rt; last.header.disk_guid == [19; 16]);
     assert!(rt; count_used(&last) == 2);
 }
