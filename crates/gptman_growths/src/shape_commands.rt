@@ -16,9 +16,9 @@ pub fn try_call(name: &str, alloc: Global) -> Option<Result<Verdict>> {
     Some(try_shapes(alloc, shapes))
 }
 
-// A new table with sectors of each size from 512 to 4096 bytes that is a multiple of 8.
+// A new table with sectors of each size from 512 to 4096 bytes.
 fn try_each_size(alloc: Global) -> Result<Verdict> {
-    for size in (512..=4096_u32).step_by(8) {
+    for size in 512..=4096_u32 {
         let said = format!(in alloc; "{size}")?;
         let check = format!(in alloc; "{size} check")?;
         let mut disk = MemoryDisk::new(alloc, vec![in alloc; 0; 102_400]?)?;
