@@ -15,13 +15,13 @@ try_links() {
     local document link
     for document in "$top"/*.md "$top"/docs/*.md; do
         while IFS= read -r link; do
-            try_link "$document" "$link"
+            try_document_link "$document" "$link"
         done < <(grep -o '](\([^)]*\))' "$document" | sed 's/^](//; s/)$//; /^https:/d')
     done
 }
 
 # Counts whether the document's link leads somewhere.
-try_link() {
+try_document_link() {
     local name=${1#"$top/"} file=${2%%#*}
     file=${file:+${1%/*}/$file}
     file=${file:-$1}
