@@ -1,6 +1,4 @@
 pub mod BothForms
+pub mod Found
 pub mod Printing
-pub mod Read
-pub mod Refused
-pub mod Told
-pub mod Written
+pub mod Replacing

@@ -1,23 +1,19 @@
--- Changes of a table, and what they make of a disk.
-use Rattle.std.specs.Prelude.{◌≡◌, ℕ, ◌+◌, ◌-◌, [], ◌∷◌, Option, None, IsTrue}
+-- Changes of a table.
+use Rattle.std.specs.Prelude.{◌≡◌, ℕ, ◌+◌, ◌-◌, None, IsTrue}
 use Rattle.std.specs.Str.{chars}
-use Rattle.gptman.specs.Disk.{OnlyRead, DiskState, Wrote}
-use Rattle.gptman.specs.Crash.{IsKeptFor, StartsFromOne}
+use Rattle.gptman.specs.Disk.{DiskState}
+use Rattle.gptman.specs.Crash.{StartsFromOne}
 use Rattle.gptman.specs.Edit.{after_edit, edit_fault}
 use Rattle.gptman.specs.Entry.{is_unused}
 use Rattle.gptman.specs.Fit.{fit_fault}
-use Rattle.gptman.specs.Layout.{HasLayout}
 use Rattle.gptman.specs.Name.{units_of}
 use Rattle.gptman.specs.Number.{entry_at, number_fault, with_entry}
 use Rattle.gptman.specs.Place.{IsBestPlace, IsFirstPlace, IsFreeIn, IsLastPlace}
-use Rattle.gptman.specs.Stop.{IsStored, StopsAreReadAs, StopsHold}
 use Rattle.gptman.specs.Table.{Table as DiskTable, grow_to, table_in}
-use Rattle.gptman.specs.TableReads.{CountsReading}
-use Rattle.gptman.specs.TableWrites.{table_ranges}
 use Rattle.gptman_copy.specs.declared.codec.entry.GPTPartitionEntry.{GPTPartitionEntry}
 use Rattle.gptman.specs.declared.edit.Edit.TheVariants.{Remove as RemoveEntry, SortEntries}
 use Rattle.gptman.specs.declared.table.GPT.{GPT}
-use Rattle.gptimg_core.specs.Reads.{IsReadFrom}
+use Rattle.gptman_change.specs.Changes.{StopsLeaveEither}
 use Rattle.gptimg_core.specs.declared.commands.Report.{Report}
 use Rattle.gptimg_core.specs.declared.commands.Report.TheVariants.{Done, Added}
 use Rattle.gptimg_core.specs.declared.words.Addition.{Addition}
@@ -69,31 +65,9 @@ report_of (Remove number) next = Done
 report_of Sort next = Done
 report_of Grow next = Done
 
--- A table was read from the disk, changed and written: no byte outside of its four ranges is another, and where it has the layout both places hold it. The disk failed
--- nowhere, or once, and then the backup copy was read.
-pub record MakesChange (Told : GPT → Type 0) (size : Option ℕ) (change : Change) (old new : DiskState) : Type 0 where
-  pub table : GPT
-  pub next : GPT
-  pub read : IsReadFrom size old new table
-  pub counts : CountsReading old new table
-  pub changed : IsChanged old.size change table next
-  pub wrote : Wrote (table_ranges next) old new
-  pub stored : HasLayout next old.size → IsStored new next.sector_size (table_in next)
-  pub told : Told next
-
--- What a command that changes the table leaves, at every exit: it only read; or it wrote the table that it read, changed, in its four ranges alone. Then, from one
--- good copy of a table, a stop at any moment leaves that table or the changed one at one place at least.
-pub data LeavesChange (size : Option ℕ) (change : Change) (old new : DiskState) : Type 0 where
-  unwritten : OnlyRead old new → LeavesChange size change old new
-  written : (table next : GPT) → IsReadFrom size old new table → IsChanged old.size change table next → Wrote (table_ranges next) old new
-      → ((was : DiskTable) → HasLayout next old.size → IsKeptFor old next was
-      → StopsHold old new next.sector_size (was ∷ table_in next ∷ []))
-      → LeavesChange size change old new
-
--- A stop at any moment leaves one of the two tables at one place at least, and the disk is read as one of them, unless the reading takes a foreign copy.
-pub record StopsLeaveEither (was next : DiskTable) (ss : ℕ) (old new : DiskState) : Type 0 where
-  pub held : StopsHold old new ss (was ∷ next ∷ [])
-  pub read : StopsAreReadAs old new ss (was ∷ next ∷ [])
+-- what a change makes of a value on a disk of len bytes, and what there is to tell of it
+abbrev pub IsMade : Change → ℕ → GPT → GPT → Report → Type 0
+IsMade change len g next report = IsChanged len change g next × (report ≡ report_of change next)
 
 -- The value's table replaces any table of which the disk has one good copy for it: a stop leaves the one or the other.
 abbrev pub ReplacesTable : GPT → DiskState → DiskState → Type 0

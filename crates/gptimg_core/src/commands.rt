@@ -1,34 +1,29 @@
 //! What the commands do to a disk. Nothing is printed here.
 
-ghost use Rattle.std.specs.Prelude.{◌≡◌, ◌⊎◌, ◌<◌, ◌∷◌, [], ℕ, Bool, List, Option};
-ghost use Rattle.std.specs.Prelude.{IfErr, IfOk, IfSome, IsTrue, OnErr, OnOk};
-ghost use Rattle.gptman.specs.Answers.{CountsFailure, HasCause};
-ghost use Rattle.gptman.specs.Copy.{IsCoherent};
+ghost use Rattle.std.specs.Prelude.{◌≡◌, ◌⊎◌, ◌<◌, ◌∷◌, [], false, IfErr, IfOk, IfSome, OnErr, OnOk};
+ghost use Rattle.gptman.specs.Answers.{CountsFailure, HasCause, IsFailure};
 ghost use Rattle.gptman.specs.Crash.{StartsLaidOut};
 ghost use Rattle.gptman.specs.Disk.{FailedOrUntouched, HasFailedOnceAtMost, IsHonest, Keeps, OnlyRead};
 ghost use Rattle.gptman.specs.Disk.{Reads, Writes};
-ghost use Rattle.gptman.specs.Fault.{fault_of};
+ghost use Rattle.gptman.specs.Fault.{fault_of, out_of_memory};
 ghost use Rattle.gptman.specs.Mbr.{mbr_range, IsMbrStored, LaysMbr};
 ghost use Rattle.gptman.specs.Stop.{IsStored};
-ghost use Rattle.gptman.specs.Table.{entries_in, new_table, table_in};
-ghost use Rattle.gptman.specs.TableReads.{CountsReading};
+ghost use Rattle.gptman.specs.Table.{new_table, table_in};
 ghost use Rattle.gptman.specs.TableWrites.{table_ranges};
-ghost use Rattle.gptimg_core.specs.Asks.{IsReader};
-ghost use Rattle.gptimg_core.specs.Changes.{report_of, LeavesChange, MakesChange, ReplacesTable};
-ghost use Rattle.gptimg_core.specs.Checks.{is_good, TellsCopies};
-ghost use Rattle.gptimg_core.specs.Reads.{AreSlotsIn, IsReadFrom, TellsOfTable};
-ghost use Rattle.gptimg_core.specs.Refusals.{RefusesChange, RefusesCommand, RefusesMbr, RefusesNew};
-ghost use Rattle.gptimg_core.specs.Refusals.{RefusesReading};
-ghost use Rattle.gptimg_core.specs.Words.{IsSized, IsSizedChange};
+ghost use Rattle.gptman_change.specs.Reads.{RefusesReading};
+ghost use Rattle.gptimg_core.specs.Asks.{writes};
+ghost use Rattle.gptimg_core.specs.Changes.{ReplacesTable};
+ghost use Rattle.gptimg_core.specs.Checks.{TellsCopies};
+ghost use Rattle.gptimg_core.specs.Does.{Does};
+ghost use Rattle.gptimg_core.specs.Reads.{AreSlotsIn, TellsOfTable};
+ghost use Rattle.gptimg_core.specs.Refusals.{RefusesMbr, RefusesNew};
+ghost use Rattle.gptimg_core.specs.Words.{IsSized};
 ghost use Rattle.gptimg_core.specs.declared.commands.Report.TheVariants.{Done, Table};
-ghost use Rattle.gptimg_core.specs.declared.words.Change.{Change};
-ghost use Rattle.gptimg_core.specs.declared.words.Command.TheVariants.{New, Mbr, Check, Show, Free};
-ghost use Rattle.gptimg_core.specs.declared.words.Command.TheVariants.{Change as Changing};
 
-use crate::commands::change::make_change;
 use crate::commands::check::{BothCopies, check};
-use crate::words::{Change, Command};
+use crate::words::Command;
 use gptman::{Disk, GPT, Result};
+use gptman_change::{change_table, read_table};
 use std::alloc::Global;
 
 pub mod change;
@@ -55,62 +50,9 @@ pub enum Report {
 pub fn perform<D: Disk>(alloc: Global, command: &Command, disk: &mut D) -> Result<Report>
     requires { IsSized command.now }
     ensures keeps { Keeps (D.state disk.old) (D.state disk.new) }
-
-    // What is answered. A refusal leaves the disk as it was, unless it failed.
-    ensures good { IfOk result (λ report. IsTrue (is_good report)
-        ⊎ ((ss : ℕ) × (command.now ≡ Check ss))) }
-    ensures refused { IsHonest (D.state disk.old)
-        → IfErr result (λ e. RefusesCommand command.now (fault_of e) (D.state disk.old) (D.state disk.new)) }
-    ensures cause { HasCause result (D.state disk.old) (D.state disk.new) }
-    ensures kept { IsHonest (D.state disk.old) → OnErr result
-        (FailedOrUntouched (D.state disk.old) (D.state disk.new)) }
-
-    // Commands that read.
-    ensures reads { IsHonest (D.state disk.old)
-        → IsReader command.now → OnlyRead (D.state disk.old) (D.state disk.new) }
-    ensures shown { IsHonest (D.state disk.old) → (size : Option ℕ) → command.now ≡ Show size
-        → IfOk result (λ report. TellsOfTable (λ g. report ≡ Table g) size
-        (D.state disk.old) (D.state disk.new)) }
-    ensures free { IsHonest (D.state disk.old) → (size : Option ℕ) (align : ℕ)
-        → command.now ≡ Free size align
-        → IfOk result (λ report. TellsOfTable (λ g. AreSlotsIn g align report) size
-        (D.state disk.old) (D.state disk.new)) }
-    ensures checked { IsHonest (D.state disk.old) → (ss : ℕ) → command.now ≡ Check ss
-        → IfOk result (TellsCopies ss (D.state disk.old) (D.state disk.new)) }
-
-    // A new table.
-    ensures made { (ss : ℕ) (guid : List ℕ) → command.now ≡ New ss guid
-        → IfOk result (λ report. report ≡ Done) }
-    ensures counts { (ss : ℕ) (guid : List ℕ) → command.now ≡ New ss guid
-        → CountsFailure result (D.state disk.old) (D.state disk.new) }
-    ensures wrote { (ss : ℕ) (guid : List ℕ) → command.now ≡ New ss guid
-        → Writes (table_ranges (new_table guid ss (D.state disk.old).size))
-        (D.state disk.old) (D.state disk.new) }
-    ensures stored { (ss : ℕ) (guid : List ℕ) → command.now ≡ New ss guid
-        → StartsLaidOut (D.state disk.old) (new_table guid ss (D.state disk.old).size)
-        → OnOk result (IsStored (D.state disk.new) ss
-        (table_in (new_table guid ss (D.state disk.old).size))) }
-    ensures replaces { (ss : ℕ) (guid : List ℕ) → command.now ≡ New ss guid
-        → ReplacesTable (new_table guid ss (D.state disk.old).size)
-        (D.state disk.old) (D.state disk.new) }
-
-    // An MBR.
-    ensures mbr_counts { (ss : ℕ) (bootable : Bool) → command.now ≡ Mbr ss bootable
-        → CountsFailure result (D.state disk.old) (D.state disk.new) }
-    ensures mbr_wrote { (ss : ℕ) (bootable : Bool) → command.now ≡ Mbr ss bootable
-        → Writes (mbr_range ∷ []) (D.state disk.old) (D.state disk.new) }
-    ensures mbr_stored { IsHonest (D.state disk.old) → (ss : ℕ) (bootable : Bool)
-        → command.now ≡ Mbr ss bootable → IfOk result (λ report. (report ≡ Done)
-        × IsMbrStored bootable ss (D.state disk.old) (D.state disk.new)) }
-
-    // A changed table.
-    ensures changed { IsHonest (D.state disk.old) → (size : Option ℕ) (change : Change)
-        → command.now ≡ Changing size change
-        → IfOk result (λ report. MakesChange (λ g. report ≡ report_of change g) size change
-        (D.state disk.old) (D.state disk.new)) }
-    ensures leaves { IsHonest (D.state disk.old) → (size : Option ℕ) (change : Change)
-        → command.now ≡ Changing size change
-        → LeavesChange size change (D.state disk.old) (D.state disk.new) }
+    ensures does { Does command.now result (D.state disk.old) (D.state disk.new) }
+    ensures reads { IsHonest (D.state disk.old) → writes command.now ≡ false
+        → OnlyRead (D.state disk.old) (D.state disk.new) }
 {
     match command {
         Command::New { sector_size, guid } => write_new(alloc, disk, *sector_size, *guid),
@@ -118,8 +60,8 @@ pub fn perform<D: Disk>(alloc: Global, command: &Command, disk: &mut D) -> Resul
             sector_size,
             bootable,
         } => write_mbr(disk, *sector_size, *bootable),
-        Command::Check { sector_size } => Ok(Report::Copies(check(alloc, disk, *sector_size)?)),
-        Command::Show { sector_size } => Ok(Report::Table(read_table(alloc, disk, *sector_size)?)),
+        Command::Check { sector_size } => look_at_copies(alloc, disk, *sector_size),
+        Command::Show { sector_size } => show_table(alloc, disk, *sector_size),
         Command::Free { sector_size, align } => list_free(alloc, disk, *sector_size, *align),
         Command::Change {
             sector_size,
@@ -128,24 +70,30 @@ pub fn perform<D: Disk>(alloc: Global, command: &Command, disk: &mut D) -> Resul
     }
 }
 
-// The table on the disk, with sectors of so many bytes, or of a size that is found.
-fn read_table<D: Disk>(alloc: Global, disk: &mut D, sector_size: Option<u64>) -> Result<GPT>
+// What the two copies of the table are, with sectors of so many bytes.
+fn look_at_copies<D: Disk>(alloc: Global, disk: &mut D, sector_size: u64) -> Result<Report>
+    requires { 0 < sector_size }
+    ensures reads { Reads (D.state disk.old) (D.state disk.new) }
+    ensures refused { IfErr result (λ e. (fault_of e ≡ out_of_memory)
+        ⊎ IsFailure (fault_of e) (D.state disk.old) (D.state disk.new)) }
+    ensures copies { IsHonest (D.state disk.old)
+        → IfOk result (TellsCopies sector_size (D.state disk.old) (D.state disk.new)) }
+{
+    Ok(Report::Copies(check(alloc, disk, sector_size)?))
+}
+
+// The table on the disk, with sectors of so many bytes or of a size that is found.
+fn show_table<D: Disk>(alloc: Global, disk: &mut D, sector_size: Option<u64>) -> Result<Report>
     requires { IfSome sector_size (λ size. 0 < size) }
     ensures reads { Reads (D.state disk.old) (D.state disk.new) }
-    ensures counts { IsHonest (D.state disk.old)
-        → IfOk result (CountsReading (D.state disk.old) (D.state disk.new)) }
     ensures refused { IsHonest (D.state disk.old)
         → IfErr result (λ e. RefusesReading sector_size (fault_of e) (D.state disk.old) (D.state disk.new)) }
     ensures cause { HasCause result (D.state disk.old) (D.state disk.new) }
-    ensures value { IsHonest (D.state disk.old)
-        → IfOk result (IsReadFrom sector_size (D.state disk.old) (D.state disk.new)) }
-    ensures coherent { IfOk result (λ g. IsCoherent g.header (entries_in g)) }
-    ensures sized { IfOk result (λ g. 0 < g.sector_size) }
+    ensures shown { IsHonest (D.state disk.old)
+        → IfOk result (λ report. TellsOfTable (λ g. report ≡ Table g) sector_size
+        (D.state disk.old) (D.state disk.new)) }
 {
-    match sector_size {
-        Some(size) => GPT::read_from(alloc, disk, size),
-        None => GPT::find_from(alloc, disk),
-    }
+    Ok(Report::Table(read_table(alloc, disk, sector_size)?))
 }
 
 // The slots of free sectors that begin at multiples of so many sectors.
@@ -158,7 +106,6 @@ fn list_free<D: Disk>(
     requires sized { IfSome sector_size (λ size. 0 < size) }
     requires aligned { 0 < align }
     ensures reads { Reads (D.state disk.old) (D.state disk.new) }
-    ensures good { IfOk result (λ report. IsTrue (is_good report)) }
     ensures refused { IsHonest (D.state disk.old)
         → IfErr result (λ e. RefusesReading sector_size (fault_of e) (D.state disk.old) (D.state disk.new)) }
     ensures cause { HasCause result (D.state disk.old) (D.state disk.new) }
@@ -241,33 +188,4 @@ fn lay_mbr<D: Disk>(disk: &mut D, sector_size: u64, bootable: bool) -> Result<()
     } else {
         GPT::write_protective_mbr_into(disk, sector_size)
     }
-}
-
-// Reads the table, changes it and writes it to both places.
-fn change_table<D: Disk>(
-    alloc: Global,
-    disk: &mut D,
-    sector_size: Option<u64>,
-    change: &Change,
-) -> Result<Report>
-    requires sector { IfSome sector_size (λ size. 0 < size) }
-    requires sized { IsSizedChange change.now }
-    ensures keeps { Keeps (D.state disk.old) (D.state disk.new) }
-    ensures good { IfOk result (λ report. IsTrue (is_good report)) }
-    ensures refused { IsHonest (D.state disk.old)
-        → IfErr result (λ e. RefusesChange sector_size change.now (fault_of e)
-        (D.state disk.old) (D.state disk.new)) }
-    ensures cause { HasCause result (D.state disk.old) (D.state disk.new) }
-    ensures kept { IsHonest (D.state disk.old) → OnErr result
-        (FailedOrUntouched (D.state disk.old) (D.state disk.new)) }
-    ensures changed { IsHonest (D.state disk.old)
-        → IfOk result (λ report. MakesChange (λ g. report ≡ report_of change.now g) sector_size change.now
-        (D.state disk.old) (D.state disk.new)) }
-    ensures leaves { IsHonest (D.state disk.old)
-        → LeavesChange sector_size change.now (D.state disk.old) (D.state disk.new) }
-{
-    let mut table = read_table(alloc, disk, sector_size)?;
-    let report = make_change(alloc, disk, &mut table, change)?;
-    table.write_into(disk)?;
-    Ok(report)
 }

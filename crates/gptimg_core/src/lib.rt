@@ -4,27 +4,14 @@
 //! standard output.
 #![tactic(auto)]
 
-ghost use Rattle.std.specs.Prelude.{◌≡◌, ◌≤◌, ◌↔◌, ◌⊎◌, ◌∷◌, [], ℕ, Bool, List, Option, Ok, None};
-ghost use Rattle.std.specs.Prelude.{false, codes, if◌then◌else◌, IfErr, IfOk, OnOk};
+ghost use Rattle.std.specs.Prelude.{◌≡◌, ◌≤◌, ◌↔◌, Ok, None, false, IfErr, IfOk, OnOk};
 ghost use Rattle.std.specs.Io.KnownBytes.{Appends};
-ghost use Rattle.gptman.specs.Crash.{StartsLaidOut};
-ghost use Rattle.gptman.specs.Disk.{FailedOrUntouched, HasFailedAsOften, IsHonest, Keeps, OnlyRead, Writes};
+ghost use Rattle.gptman.specs.Disk.{IsHonest, Keeps, OnlyRead};
 ghost use Rattle.gptman.specs.Fault.{fault_of, io as io_fault};
-ghost use Rattle.gptman.specs.Mbr.{mbr_range, IsMbrStored};
-ghost use Rattle.gptman.specs.Stop.{IsStored};
-ghost use Rattle.gptman.specs.Table.{new_table, table_in};
-ghost use Rattle.gptman.specs.TableWrites.{table_ranges};
-ghost use Rattle.gptimg_core.specs.Asks.{AskFor, IsReader};
-ghost use Rattle.gptimg_core.specs.Changes.{report_of, LeavesChange, MakesChange, ReplacesTable};
-ghost use Rattle.gptimg_core.specs.Checks.{is_good, HoldOneTable};
-ghost use Rattle.gptimg_core.specs.Lines.{report_lines, table_lines};
-ghost use Rattle.gptimg_core.specs.Prints.{PrintsCopies, PrintsFault, PrintsRefusal, PrintsSlots};
-ghost use Rattle.gptimg_core.specs.Reads.{TellsOfTable};
+ghost use Rattle.gptimg_core.specs.Asks.{writes_if_any, AskFor};
+ghost use Rattle.gptimg_core.specs.Prints.{told_status, Runs};
 ghost use Rattle.gptimg_core.specs.Words.{command_in, texts_of};
-ghost use Rattle.gptimg_core.specs.declared.words.Change.{Change};
 ghost use Rattle.gptimg_core.specs.declared.words.Command.{Command};
-ghost use Rattle.gptimg_core.specs.declared.words.Command.TheVariants.{New, Mbr, Check, Show, Free};
-ghost use Rattle.gptimg_core.specs.declared.words.Command.TheVariants.{Change as Changing};
 
 use crate::commands::Report;
 use gptman::{Disk, Result};
@@ -88,99 +75,42 @@ pub fn run<D: Disk, W: Write>(
     ensures prints_usage { command_in (texts_of words.now) ≡ None
         → OnOk result (Appends (W.contents out.old) (W.contents out.new) USAGE.now) }
 
-    // A refused command prints a fault that it has a reason for, and leaves the disk as it was unless it
-    // failed.
-    ensures prints_fault { result ≡ Ok 1
-        → PrintsFault (D.state disk.old) (D.state disk.new) (W.contents out.old) (W.contents out.new)
-        ⊎ ((ss : ℕ) × AskFor words.now (Check ss)) }
-    ensures prints_refusal { IsHonest (D.state disk.old)
-        → (command : Command) → AskFor words.now command → result ≡ Ok 1
-        → PrintsRefusal command (D.state disk.old) (D.state disk.new)
-        (W.contents out.old) (W.contents out.new)
-        ⊎ ((ss : ℕ) × (command ≡ Check ss)) }
-    ensures kept { IsHonest (D.state disk.old) → result ≡ Ok 1
-        → FailedOrUntouched (D.state disk.old) (D.state disk.new) }
-
-    // Commands that read.
-    ensures reads { IsHonest (D.state disk.old) → (command : Command) → AskFor words.now command
-        → IsReader command → OnlyRead (D.state disk.old) (D.state disk.new) }
-    ensures shown { IsHonest (D.state disk.old) → (size : Option ℕ) → AskFor words.now (Show size)
-        → result ≡ Ok 0
-        → TellsOfTable (λ g. Appends (W.contents out.old) (W.contents out.new) (table_lines g)) size
-        (D.state disk.old) (D.state disk.new) }
-    ensures free { IsHonest (D.state disk.old) → (size : Option ℕ) (align : ℕ)
-        → AskFor words.now (Free size align) → result ≡ Ok 0
-        → TellsOfTable (λ g. PrintsSlots g align (W.contents out.old) (W.contents out.new)) size
-        (D.state disk.old) (D.state disk.new) }
-    ensures same { IsHonest (D.state disk.old) → (ss : ℕ) → AskFor words.now (Check ss) → result ≡ Ok 0
-        → HoldOneTable (D.state disk.old).view ss
-        × Appends (W.contents out.old) (W.contents out.new) (codes "primary ok\nbackup ok\nsame yes\n") }
-    ensures differ { IsHonest (D.state disk.old) → (ss : ℕ) → AskFor words.now (Check ss) → result ≡ Ok 1
-        → PrintsRefusal (Check ss) (D.state disk.old) (D.state disk.new)
-        (W.contents out.old) (W.contents out.new)
-        ⊎ PrintsCopies ss false (D.state disk.old) (D.state disk.new)
+    // Words of a command have it done, and print what there is to tell of it.
+    ensures runs { (command : Command) → AskFor words.now command
+        → Runs command result (D.state disk.old) (D.state disk.new)
         (W.contents out.old) (W.contents out.new) }
 
-    // A new table.
-    ensures prints_ok { (ss : ℕ) (guid : List ℕ) → AskFor words.now (New ss guid)
-        → result ≡ Ok 0 → Appends (W.contents out.old) (W.contents out.new) (codes "ok\n") }
-    ensures counts { (ss : ℕ) (guid : List ℕ) → AskFor words.now (New ss guid)
-        → result ≡ Ok 0 → HasFailedAsOften (D.state disk.old) (D.state disk.new) }
-    ensures wrote { (ss : ℕ) (guid : List ℕ) → AskFor words.now (New ss guid)
-        → Writes (table_ranges (new_table guid ss (D.state disk.old).size))
-        (D.state disk.old) (D.state disk.new) }
-    ensures stored { (ss : ℕ) (guid : List ℕ) → AskFor words.now (New ss guid)
-        → StartsLaidOut (D.state disk.old) (new_table guid ss (D.state disk.old).size) → result ≡ Ok 0
-        → IsStored (D.state disk.new) ss (table_in (new_table guid ss (D.state disk.old).size)) }
-
-    // Over an old table of which one good copy stands where the new one is not written first, a stop at any
-    // moment leaves the old table or the new one.
-    ensures replaces { (ss : ℕ) (guid : List ℕ) → AskFor words.now (New ss guid)
-        → ReplacesTable (new_table guid ss (D.state disk.old).size)
-        (D.state disk.old) (D.state disk.new) }
-
-    // A protective MBR.
-    ensures mbr_counts { (ss : ℕ) (bootable : Bool) → AskFor words.now (Mbr ss bootable)
-        → result ≡ Ok 0 → HasFailedAsOften (D.state disk.old) (D.state disk.new) }
-    ensures mbr_wrote { (ss : ℕ) (bootable : Bool) → AskFor words.now (Mbr ss bootable)
-        → Writes (mbr_range ∷ []) (D.state disk.old) (D.state disk.new) }
-    ensures mbr_stored { IsHonest (D.state disk.old) → (ss : ℕ) (bootable : Bool)
-        → AskFor words.now (Mbr ss bootable) → result ≡ Ok 0
-        → Appends (W.contents out.old) (W.contents out.new) (codes "ok\n")
-        × IsMbrStored bootable ss (D.state disk.old) (D.state disk.new) }
-
-    // A changed table: what is stored is the table that was read, after that change.
-    ensures changed { IsHonest (D.state disk.old) → (size : Option ℕ) (change : Change)
-        → AskFor words.now (Changing size change) → result ≡ Ok 0
-        → MakesChange (λ g. Appends
-        (W.contents out.old) (W.contents out.new) (report_lines (report_of change g)))
-        size change (D.state disk.old) (D.state disk.new) }
-    ensures leaves { IsHonest (D.state disk.old) → (size : Option ℕ) (change : Change)
-        → AskFor words.now (Changing size change)
-        → LeavesChange size change (D.state disk.old) (D.state disk.new) }
+    // Nothing is written but by a command that writes.
+    ensures reads { IsHonest (D.state disk.old) → writes_if_any (command_in (texts_of words.now)) ≡ false
+        → OnlyRead (D.state disk.old) (D.state disk.new) }
 {
     let Some(command) = words::parse(words) else {
         out.write_all(USAGE.as_bytes())?;
         return Ok(NO_COMMAND);
     };
-    match commands::perform(alloc, &command, disk) {
-        Ok(report) => {
-            lines::print_report(out, &report)?;
-            Ok(status_of(&report))
-        }
-        Err(fault) => {
-            lines::print_fault(out, &fault)?;
-            Ok(FAULT)
-        }
+    let told = commands::perform(alloc, &command, disk);
+    lines::print_told(out, &told)?;
+    Ok(status_of(&told))
+}
+
+/// Whether the words `SECTOR COMMAND ..` ask for a command that writes to the disk. With any others `run`
+/// only reads it, if at all.
+pub fn may_write(words: &[String]) -> bool
+    ensures { result ≡ writes_if_any (command_in (texts_of words.now)) }
+{
+    match words::parse(words) {
+        Some(command) => command.writes(),
+        None => false,
     }
 }
 
 // The status to end with, where this is what there is to tell.
-fn status_of(report: &Report) -> u8
-    ensures { result ≡ (if is_good report.now then 0 else 1) }
+fn status_of(told: &Result<Report>) -> u8
+    ensures { result ≡ told_status told.now }
 {
-    match report {
-        Report::Copies(copies) if !copies.are_same => FAULT,
-        _ => DONE,
+    match told {
+        Ok(Report::Copies(copies)) if !copies.are_same => FAULT,
+        Ok(_) => DONE,
+        Err(_) => FAULT,
     }
 }

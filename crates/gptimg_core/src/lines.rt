@@ -7,6 +7,7 @@ ghost use Rattle.std.specs.Int.{to_be_bytes, w64};
 ghost use Rattle.std.specs.List.{enumerate_from};
 ghost use Rattle.gptman.specs.Fault.{fault_of};
 ghost use Rattle.gptman.specs.Table.{entries_in};
+ghost use Rattle.gptimg_core.specs.Prints.{told_lines};
 ghost use Rattle.gptimg_core.specs.Names.{fault_line, fault_name, variant_name};
 ghost use Rattle.gptimg_core.specs.Lines.{check_lines, copy_line, entry_line, entry_lines};
 ghost use Rattle.gptimg_core.specs.Lines.{form_name as form_name_of, report_lines, shown_byte, shown_text};
@@ -21,10 +22,20 @@ use gptman_copy::copy::WholeCopy;
 use std::io;
 use std::io::Write;
 
-/// Prints what a command has to tell.
+/// Prints what there is to tell of a command: its report, or the name of its fault.
 ///
 /// An error comes only where `out` failed.
-pub fn print_report<W: Write>(out: &mut W, report: &Report) -> io::Result<()>
+pub fn print_told<W: Write>(out: &mut W, told: &Result<Report>) -> io::Result<()>
+    ensures { OnOk result (Appends (W.contents out.old) (W.contents out.new) (told_lines told.now)) }
+{
+    match told {
+        Ok(report) => print_report(out, report),
+        Err(fault) => print_fault(out, fault),
+    }
+}
+
+// Prints what a command has to tell.
+fn print_report<W: Write>(out: &mut W, report: &Report) -> io::Result<()>
     ensures { OnOk result (Appends (W.contents out.old) (W.contents out.new) (report_lines report.now)) }
 {
     match report {
@@ -196,10 +207,8 @@ fn guid_text(guid: &[u8; 16]) -> [u8; 32]
     text
 }
 
-/// Prints the line of a refused command.
-///
-/// An error comes only where `out` failed.
-pub fn print_fault<W: Write>(out: &mut W, fault: &Error) -> io::Result<()>
+// Prints the line of a refused command.
+fn print_fault<W: Write>(out: &mut W, fault: &Error) -> io::Result<()>
     ensures { OnOk result (Appends
         (W.contents out.old) (W.contents out.new) (fault_line (fault_of fault.now))) }
 {

@@ -3,6 +3,7 @@
 //! No disk is known here. Words that ask for no command are `None`, whatever is wrong with them.
 
 ghost use Rattle.std.specs.Prelude.{◌≡◌, IfSome};
+ghost use Rattle.gptimg_core.specs.Asks.{writes};
 ghost use Rattle.gptimg_core.specs.Words.{addition_in, alone, change_in, named_change_in, named_command_in};
 ghost use Rattle.gptimg_core.specs.Words.{check_in, command_in, free_in, mbr_in, new_in, remove_in, show_in};
 ghost use Rattle.gptimg_core.specs.Words.{texts_of, IsSized, IsSizedAddition, IsSizedChange};
@@ -47,6 +48,18 @@ pub enum Command<'a> {
         sector_size: Option<u64>,
         change: Change<'a>,
     },
+}
+
+impl Command<'_> {
+    /// Whether the command writes to the disk. The others only read it.
+    pub fn writes(&self) -> bool
+        ensures { result ≡ writes self.now }
+    {
+        match self {
+            Command::New { .. } | Command::Mbr { .. } | Command::Change { .. } => true,
+            Command::Check { .. } | Command::Show { .. } | Command::Free { .. } => false,
+        }
+    }
 }
 
 /// A change of the table.

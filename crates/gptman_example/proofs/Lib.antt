@@ -1,2 +1,2 @@
+mod Placed
 mod Unused
-mod Writing

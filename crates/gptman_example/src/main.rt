@@ -1,63 +1,86 @@
 //! Adds a partition of 10 sectors to the table of a disk image: `gptman_example IMAGE`.
 #![tactic(auto)]
 
-ghost use Rattle.std.specs.Prelude.{◌<◌, IfErr, IfNone, IfOk, IfSome, OnErr};
+ghost use Rattle.std.specs.Prelude.{◌<◌, IfErr, IfNone, IfOk, IfSome, OnErr, Some};
 ghost use Rattle.gptman.specs.Disk.{FailedOrUntouched, IsHonest, Keeps};
 ghost use Rattle.gptman.specs.Fault.{fault_of};
 ghost use Rattle.gptman.specs.Table.{Table};
-ghost use Rattle.gptman_example.specs.Adding.{AddsPartition, AreAllUsed, IsFirstUnused, IsSafe};
-ghost use Rattle.gptman_example.specs.Adding.{RefusesPartition, StartsGood};
+ghost use Rattle.gptman_change.specs.Changes.{IsSafe, MakesChange, RefusesChange, StartsGood};
+ghost use Rattle.gptman_example.specs.Adding.{AreAllUsed, HasNoRoom, IsFirstUnused, IsWith};
 
 use gptman::table::laws::what_is_read_is_kept;
 use gptman::{Disk, Error, FileDisk, GPT, GPTPartitionEntry, PartitionName, Result};
+use gptman_change::{Plan, change_table};
 use std::alloc::Global;
 use std::env;
 use std::fs::File;
 use std::process::ExitCode;
 use std::rt::Files;
 
-/// Adds a partition of so many sectors to the table on the disk, and answers its first sector.
+/// A partition of so many sectors, which is to have the first unused entry and the first free place.
+#[derive(Drop)]
+pub struct NewPartition {
+    /// How many sectors it has, above 0.
+    pub size: u64,
+    /// All else of it.
+    pub partition: GPTPartitionEntry,
+}
+
+impl Plan for NewPartition {
+    /// The first sector of the partition.
+    type Answer = u64;
+
+    ghost ready = { λ new. 0 < new.size };
+
+    ghost makes = { λ new len table next first. IsWith new.partition new.size table next first };
+
+    ghost refuses = { λ new len table fault. HasNoRoom new.size table fault };
+
+    ghost asks = { λ new. ⊥ };
+
+    fn change<D: Disk>(&self, _alloc: Global, _disk: &mut D, table: &mut GPT) -> Result<u64> {
+        let Some(number) = first_unused(table) else {
+            return Err(Error::NoSpaceLeft);
+        };
+        let Some(first) = table.find_first_place(self.size)? else {
+            return Err(Error::NoSpaceLeft);
+        };
+        table[number] = GPTPartitionEntry {
+            starting_lba: first,
+            ending_lba: first + (self.size - 1),
+            ..self.partition.clone()?
+        };
+        Ok(first)
+    }
+}
+
+/// Adds the partition to the table on a disk with sectors of 512 bytes, and answers its first sector.
 ///
 /// `NoSpaceLeft` where no entry is unused or no free place is long enough.
-pub fn add_partition<D: Disk>(
-    alloc: Global,
-    disk: &mut D,
-    size: u64,
-    partition: GPTPartitionEntry,
-) -> Result<u64>
-    requires { 0 < size }
+pub fn add_partition<D: Disk>(alloc: Global, disk: &mut D, new: &NewPartition) -> Result<u64>
+    requires { 0 < new.now.size }
     ensures keeps { Keeps (D.state disk.old) (D.state disk.new) }
 
     // After Ok the sectors were free before, and the table with the partition stands in both places.
-    ensures added { IsHonest (D.state disk.old) → IfOk result
-        (λ first. AddsPartition partition size first (D.state disk.old) (D.state disk.new)) }
+    ensures added { IsHonest (D.state disk.old) → IfOk result (λ first. MakesChange
+        (IsWith new.now.partition new.now.size) (Some 512) first
+        (D.state disk.old) (D.state disk.new)) }
 
-    // An error has one of five reasons, and leaves the disk as it was, unless it failed.
-    ensures refused { IsHonest (D.state disk.old) → IfErr result (λ e.
-        RefusesPartition partition size (fault_of e) (D.state disk.old) (D.state disk.new)) }
+    // An error has its reason, and leaves the disk as it was unless it failed.
+    ensures refused { IsHonest (D.state disk.old) → IfErr result (λ e. RefusesChange
+        (IsWith new.now.partition new.now.size) (HasNoRoom new.now.size) ⊥ (Some 512) (fault_of e)
+        (D.state disk.old) (D.state disk.new)) }
     ensures kept { IsHonest (D.state disk.old)
         → OnErr result (FailedOrUntouched (D.state disk.old) (D.state disk.new)) }
 
     // From one good copy and no other, a stop or a fault at any moment leaves the old table or the one
     // with the partition.
-    ensures safe { (was : Table) → StartsGood (D.state disk.old) was
-        → IsSafe partition size was (D.state disk.old) (D.state disk.new) }
+    ensures safe { (was : Table) → StartsGood (D.state disk.old) 512 was
+        → IsSafe (IsWith new.now.partition new.now.size) 512 was
+        (D.state disk.old) (D.state disk.new) }
 {
-    let mut table = GPT::read_from(alloc, disk, 512)?;
-    what_is_read_is_kept(disk); // a law, for the proof
-    let Some(number) = first_unused(&table) else {
-        return Err(Error::NoSpaceLeft);
-    };
-    let Some(first) = table.find_first_place(size)? else {
-        return Err(Error::NoSpaceLeft);
-    };
-    table[number] = GPTPartitionEntry {
-        starting_lba: first,
-        ending_lba: first + (size - 1),
-        ..partition
-    };
-    table.write_into(disk)?;
-    Ok(first)
+    what_is_read_is_kept(disk); // a law, for the proof: an edit keeps the places of a table
+    change_table(alloc, disk, Some(512), new)
 }
 
 // The number of the first entry that no partition uses.
@@ -92,5 +115,12 @@ fn add_to_image<R: Files<File = File>>(files: &R, alloc: Global, image: &str) ->
         partition_name: PartitionName::new(alloc, "Data")?,
         ..GPTPartitionEntry::empty(alloc)
     };
-    add_partition(alloc, &mut disk, 10, partition)
+    add_partition(
+        alloc,
+        &mut disk,
+        &NewPartition {
+            size: 10,
+            partition,
+        },
+    )
 }

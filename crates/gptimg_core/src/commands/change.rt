@@ -1,18 +1,19 @@
 //! Changes of a table in memory.
 
-ghost use Rattle.std.specs.Prelude.{◌≡◌, ◌⊎◌, ◌<◌, false, None, Some, IfErr, IfOk, IsTrue, OnOk};
-ghost use Rattle.gptman.specs.Answers.{CountsFailure, HasCause};
+ghost use Rattle.std.specs.Prelude.{◌≡◌, ◌⊎◌, ◌<◌, ℕ, false, None, Some, IfErr, IfOk, IsTrue, OnOk};
+ghost use Rattle.gptman.specs.Answers.{CountsFailure, HasCause, IsFailure};
 ghost use Rattle.gptman.specs.Coding.{empty_entry};
 ghost use Rattle.gptman.specs.Copy.{IsCoherent};
 ghost use Rattle.gptman.specs.Disk.{HasFailedOnceAtMost, Reads};
 ghost use Rattle.gptman.specs.Entry.{is_unused};
 ghost use Rattle.gptman.specs.Fault.{fault_of, invalid_partition_number, out_of_memory};
+ghost use Rattle.gptman.specs.Fit.{fit_fault};
 ghost use Rattle.gptman.specs.Number.{entry_at, number_fault, with_entries, with_entry, IsNumber};
 ghost use Rattle.gptman.specs.Order.{by_rank, rank};
 ghost use Rattle.gptman.specs.Place.{EndsIn64Bits, FindsPlace};
 ghost use Rattle.gptman.specs.Table.{entries_in};
-ghost use Rattle.gptimg_core.specs.Changes.{report_of, IsAdded, IsChanged, IsChosenPlace};
-ghost use Rattle.gptimg_core.specs.Refusals.{RefusesAddition, RefusesMaking};
+ghost use Rattle.gptimg_core.specs.Changes.{report_of, IsAdded, IsChanged, IsChosenPlace, IsMade};
+ghost use Rattle.gptimg_core.specs.Refusals.{AsksDisk, RefusesAddition, RefusesMaking};
 ghost use Rattle.gptimg_core.specs.Words.{IsSizedAddition, IsSizedChange};
 ghost use Rattle.gptimg_core.specs.declared.commands.Report.TheVariants.{Done};
 ghost use Rattle.gptimg_core.specs.declared.words.Change.TheVariants.{Add, Grow};
@@ -20,37 +21,29 @@ ghost use Rattle.gptimg_core.specs.declared.words.Change.TheVariants.{Add, Grow}
 use crate::commands::Report;
 use crate::words::{Addition, Change, Choice};
 use gptman::{Disk, Error, GPT, GPTPartitionEntry, PartitionName, Result};
+use gptman_change::Plan;
 use std::alloc::Global;
 
-/// Changes the table, and answers what there is to tell of it. The disk's length is taken where the
-/// table is fitted to it.
-///
-/// The errors are those of removing, sorting, fitting and adding.
-pub fn make_change<D: Disk>(
-    alloc: Global,
-    disk: &mut D,
-    table: &mut GPT,
-    change: &Change,
-) -> Result<Report>
-    requires sector { 0 < table.old.sector_size }
-    requires coherent { IsCoherent table.old.header (entries_in table.old) }
-    requires sized { IsSizedChange change.now }
-    ensures reads { Reads (D.state disk.old) (D.state disk.new) }
-    ensures counts { CountsFailure result (D.state disk.old) (D.state disk.new) }
-    ensures once { HasFailedOnceAtMost (D.state disk.old) (D.state disk.new) }
-    ensures told { IfOk result (λ report. report ≡ report_of change.now table.new) }
-    ensures refused { IfErr result (λ e. RefusesMaking change.now table.old (fault_of e)
-        (D.state disk.old) (D.state disk.new)) }
-    ensures cause { HasCause result (D.state disk.old) (D.state disk.new) }
-    ensures value { OnOk result (IsChanged (D.state disk.old).size change.now table.old table.new) }
-    ensures sector { OnOk result (table.new.sector_size ≡ table.old.sector_size) }
-    ensures coherent { OnOk result (IsCoherent table.new.header (entries_in table.new)) }
-{
-    match change {
-        Change::Add(addition) => add(alloc, table, addition),
-        Change::Remove(number) => remove(table, *number),
-        Change::Sort => sort(table),
-        Change::Grow => fit(disk, table),
+/// A change is a plan that tells what it did.
+impl Plan for Change<'_> {
+    type Answer = Report;
+
+    ghost ready = { IsSizedChange };
+
+    ghost makes = { IsMade };
+
+    ghost refuses = { RefusesMaking };
+
+    ghost asks = { AsksDisk };
+
+    /// The errors are those of removing, sorting, fitting and adding.
+    fn change<D: Disk>(&self, alloc: Global, disk: &mut D, table: &mut GPT) -> Result<Report> {
+        match self {
+            Change::Add(addition) => add(alloc, table, addition),
+            Change::Remove(number) => remove(table, *number),
+            Change::Sort => sort(table),
+            Change::Grow => fit(disk, table),
+        }
     }
 }
 
@@ -88,8 +81,9 @@ fn fit<D: Disk>(disk: &mut D, table: &mut GPT) -> Result<Report>
     ensures counts { CountsFailure result (D.state disk.old) (D.state disk.new) }
     ensures once { HasFailedOnceAtMost (D.state disk.old) (D.state disk.new) }
     ensures told { IfOk result (λ report. report ≡ Done) }
-    ensures refused { IfErr result (λ e. RefusesMaking Grow table.old (fault_of e)
-        (D.state disk.old) (D.state disk.new)) }
+    ensures refused { IfErr result (λ e.
+        (fit_fault table.old.header table.old.sector_size (D.state disk.old).size ≡ Some (fault_of e))
+        ⊎ IsFailure (fault_of e) (D.state disk.old) (D.state disk.new)) }
     ensures cause { HasCause result (D.state disk.old) (D.state disk.new) }
     ensures value { OnOk result (IsChanged (D.state disk.old).size Grow table.old table.new) }
     ensures coherent { OnOk result (IsCoherent table.new.header (entries_in table.new)) }

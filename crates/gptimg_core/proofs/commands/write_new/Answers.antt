@@ -15,7 +15,7 @@ use Rattle.gptman_copy.proofs.Runs.{rose_since, wrote_then, wrote_wider}
 use Rattle.gptman.specs.TableWrites.{table_ranges, RefusesWrite}
 use Rattle.gptimg_core.specs.Refusals.RefusesNew.{not_written}
 use Rattle.gptman.proofs.Commits.{write_since}
-use Rattle.gptimg_core.proofs.Written.{read_replaces, write_replaces}
+use Rattle.gptimg_core.proofs.Replacing.{read_replaces, write_replaces}
 use Rattle.gptimg_core.proofs.commands.write_new.Goals as goal
 
 -- a new table was written, after the disk's length was taken

@@ -12,7 +12,7 @@ use Rattle.gptman_copy.proofs.Readers.{both_read, reads_then}
 use Rattle.gptman_copy.proofs.Runs.{keeps_then}
 use Rattle.gptimg_core.specs.Checks.{AreFoundSame, AreOneTable, HoldOneTable}
 use Rattle.gptman_copy.specs.declared.copy.WholeCopy.{WholeCopy}
-use Rattle.gptimg_core.proofs.Read.{found_before, found_since}
+use Rattle.gptimg_core.proofs.Found.{found_before, found_since}
 use Rattle.gptimg_core.proofs.commands.check.check.Goals as goal
 
 -- what was found as one table is held so

@@ -1,0 +1,84 @@
+-- What a command does: of the disk before it and the disk after it, and of what there is to tell.
+use Rattle.std.specs.Prelude.{◌≡◌, ◌⊎◌, ℕ, Bool, List, [], ◌∷◌, Option, Result, IfErr, IfOk, OnErr, OnOk}
+use Rattle.gptman.specs.Answers.{CountsFailure, HasCause, IsFailure}
+use Rattle.gptman.specs.Crash.{StartsLaidOut}
+use Rattle.gptman.specs.Disk.{DiskState, FailedOrUntouched, IsHonest, OnlyRead, Writes}
+use Rattle.gptman.specs.Fault.{fault_of, out_of_memory}
+use Rattle.gptman.specs.Mbr.{mbr_range, IsMbrStored}
+use Rattle.gptman.specs.Stop.{IsStored}
+use Rattle.gptman.specs.Table.{new_table, table_in}
+use Rattle.gptman.specs.TableWrites.{table_ranges}
+use Rattle.gptman_copy.specs.declared.error.Error.{Error}
+use Rattle.gptman_change.specs.Changes.{LeavesChange, MakesChange, RefusesChange}
+use Rattle.gptman_change.specs.Reads.{RefusesReading}
+use Rattle.gptimg_core.specs.Changes.{IsMade, ReplacesTable}
+use Rattle.gptimg_core.specs.Checks.{TellsCopies}
+use Rattle.gptimg_core.specs.Reads.{AreSlotsIn, TellsOfTable}
+use Rattle.gptimg_core.specs.Refusals.{AsksDisk, RefusesMaking, RefusesMbr, RefusesNew}
+use Rattle.gptimg_core.specs.declared.commands.Report.{Report}
+use Rattle.gptimg_core.specs.declared.commands.Report.TheVariants.{Done, Table}
+use Rattle.gptimg_core.specs.declared.words.Change.{Change}
+use Rattle.gptimg_core.specs.declared.words.Command.{Command}
+use Rattle.gptimg_core.specs.declared.words.Command.TheVariants.{New, Mbr, Check, Show, Free, Change as Changing}
+
+-- what there is to tell of a command: a report, or why it was refused
+abbrev pub Told : Type 0
+Told = Result Report Error
+
+-- A new table with this disk GUID is written to both places. Over an old table of which one good copy stands where the new one is not written first, a stop at any
+-- moment leaves the old table or the new one.
+pub record DoesNew (ss : ℕ) (guid : List ℕ) (told : Told) (old new : DiskState) : Type 0 where
+  pub refused : IfErr told (λ e. RefusesNew guid ss (fault_of e) old new)
+  pub counts : CountsFailure told old new
+  pub wrote : Writes (table_ranges (new_table guid ss old.size)) old new
+  pub made : IfOk told (λ report. report ≡ Done)
+  pub stored : StartsLaidOut old (new_table guid ss old.size) → OnOk told (IsStored new ss (table_in (new_table guid ss old.size)))
+  pub replaces : ReplacesTable (new_table guid ss old.size) old new
+
+-- A protective MBR is written and synced.
+pub record DoesMbr (ss : ℕ) (bootable : Bool) (told : Told) (old new : DiskState) : Type 0 where
+  pub refused : IfErr told (λ e. RefusesMbr ss (fault_of e) old new)
+  pub counts : CountsFailure told old new
+  pub wrote : Writes (mbr_range ∷ []) old new
+  pub made : IfOk told (λ report. report ≡ Done)
+  pub stored : IsHonest old → OnOk told (IsMbrStored bootable ss old new)
+
+-- Each copy is looked at by itself.
+pub record DoesCheck (ss : ℕ) (told : Told) (old new : DiskState) : Type 0 where
+  pub only : IsHonest old → OnlyRead old new
+  pub refused : IfErr told (λ e. (fault_of e ≡ out_of_memory) ⊎ IsFailure (fault_of e) old new)
+  pub copies : IsHonest old → IfOk told (TellsCopies ss old new)
+
+-- The table on the disk is read.
+pub record DoesShow (size : Option ℕ) (told : Told) (old new : DiskState) : Type 0 where
+  pub only : IsHonest old → OnlyRead old new
+  pub refused : IsHonest old → IfErr told (λ e. RefusesReading size (fault_of e) old new)
+  pub shown : IsHonest old → IfOk told (λ report. TellsOfTable (λ g. report ≡ Table g) size old new)
+
+-- Its free sectors are listed, as slots that begin at multiples of align.
+pub record DoesFree (size : Option ℕ) (align : ℕ) (told : Told) (old new : DiskState) : Type 0 where
+  pub only : IsHonest old → OnlyRead old new
+  pub refused : IsHonest old → IfErr told (λ e. RefusesReading size (fault_of e) old new)
+  pub slots : IsHonest old → IfOk told (λ report. TellsOfTable (λ g. AreSlotsIn g align report) size old new)
+
+-- The table on the disk is read, changed and written to both places.
+pub record DoesChange (size : Option ℕ) (change : Change) (told : Told) (old new : DiskState) : Type 0 where
+  pub refused : IsHonest old
+      → IfErr told (λ e. RefusesChange (IsMade change old.size) (RefusesMaking change old.size) (AsksDisk change) size (fault_of e) old new)
+  pub changed : IsHonest old → IfOk told (λ report. MakesChange (IsMade change old.size) size report old new)
+  pub leaves : IsHonest old → LeavesChange (IsMade change old.size) size old new
+
+-- by the command
+abbrev pub DoesCommand : Command → Told → DiskState → DiskState → Type 0
+DoesCommand (New ss guid) told old new = DoesNew ss guid told old new
+DoesCommand (Mbr ss bootable) told old new = DoesMbr ss bootable told old new
+DoesCommand (Check ss) told old new = DoesCheck ss told old new
+DoesCommand (Show size) told old new = DoesShow size told old new
+DoesCommand (Free size align) told old new = DoesFree size align told old new
+DoesCommand (Changing size change) told old new = DoesChange size change told old new
+
+-- A command is done, or refused. A refused one leaves the disk as it was, unless it failed; and Io comes only where it failed.
+pub record Does (command : Command) (told : Told) (old new : DiskState) : Type 0 where
+  pub does : DoesCommand command told old new
+  pub cause : HasCause told old new
+  pub kept : IsHonest old → OnErr told (FailedOrUntouched old new)

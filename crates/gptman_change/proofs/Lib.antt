@@ -1,0 +1,4 @@
+pub mod Left
+pub mod Read
+pub mod Refused
+pub mod Safe

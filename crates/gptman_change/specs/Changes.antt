@@ -1,0 +1,69 @@
+-- A table that is read from a disk, changed by a plan, and written: what that makes of the disk, and why it is refused.
+use Rattle.std.specs.Prelude.{◌≡◌, ℕ, [], ◌∷◌, Option, Ok}
+use Rattle.gptman.specs.Copy.{Copy}
+use Rattle.gptman.specs.Crash.{AreReadAlone, IsKeptFor}
+use Rattle.gptman.specs.Disk.{DiskState, IsHonest, OnlyRead, Wrote}
+use Rattle.gptman.specs.Fault.{Fault}
+use Rattle.gptman.specs.Layout.{HasLayout, Holds, IsLaidOut}
+use Rattle.gptman.specs.Reading.{Side, copy_in}
+use Rattle.gptman.specs.Stop.{IsStored, StopsAreReadAs, StopsHold}
+use Rattle.gptman.specs.Table.{Table, table_in, IsForm}
+use Rattle.gptman.specs.TableReads.{CountsReading}
+use Rattle.gptman.specs.TableWrites.{table_ranges, RefusesWrite}
+use Rattle.gptman.specs.declared.table.GPT.{GPT}
+use Rattle.gptman_change.specs.Planning.{KeepsPlaces, Makes, RefusesPlan}
+use Rattle.gptman_change.specs.Reads.{size_for, IsReadFrom, RefusesReading}
+
+-- A stop at any moment leaves one of the two tables at one place at least, and the disk is read as one of them, unless the reading takes a foreign copy.
+pub record StopsLeaveEither (was next : Table) (ss : ℕ) (old new : DiskState) : Type 0 where
+  pub held : StopsHold old new ss (was ∷ next ∷ [])
+  pub read : StopsAreReadAs old new ss (was ∷ next ∷ [])
+
+-- An honest disk with nothing pending has one good copy of this table at least, and no other: the table has the stated layout, a place holds it, and what is
+-- accepted at either place is it, in the form of the place.
+pub record StartsGood (disk : DiskState) (ss : ℕ) (was : Table) : Type 0 where
+  pub honest : IsHonest disk
+  pub synced : disk.pending ≡ []
+  pub layout : IsLaidOut was ss disk.size
+  pub side : Side
+  pub held : Holds disk.view ss side was
+  pub only : (place : Side) (copy : Copy) → copy_in place disk.view ss ≡ Ok copy → IsForm place was copy
+
+-- the same with sectors of a size that is given or found
+abbrev pub StartsGoodFor : DiskState → Option ℕ → Table → Type 0
+StartsGoodFor disk size was = StartsGood disk (size_for disk.view size) was
+
+-- A table was read from the disk, changed as planned and written: no byte outside of its four ranges is another, and where it has the layout both places hold it,
+-- and each copy alone is read as it. The disk failed nowhere, or once, and then the backup copy was read. From one good copy and no other the table that was read is
+-- the one that it held, and the planned one has the layout where it keeps its places.
+pub record MakesChange {A : Type 0} (planned : Makes A) (size : Option ℕ) (answer : A) (old new : DiskState) : Type 0 where
+  pub table : GPT
+  pub next : GPT
+  pub read : IsReadFrom size old new table
+  pub counts : CountsReading old new table
+  pub made : planned table next answer
+  pub wrote : Wrote (table_ranges next) old new
+  pub stored : HasLayout next old.size → IsStored new next.sector_size (table_in next)
+  pub alone : HasLayout next old.size → AreReadAlone new.view next
+  pub good : (was : Table) → StartsGood old table.sector_size was → KeepsPlaces table next → (table_in table ≡ was) × HasLayout next old.size
+
+-- What is left, at every exit: the disk was only read; or the table that was read was written as planned, in its four ranges alone. Then, from one good copy of a
+-- table for the planned one, a stop at any moment leaves that table or the planned one.
+pub data LeavesChange {A : Type 0} (planned : Makes A) (size : Option ℕ) (old new : DiskState) : Type 0 where
+  unwritten : OnlyRead old new → LeavesChange planned size old new
+  written : (table next : GPT) (answer : A) → IsReadFrom size old new table → planned table next answer → Wrote (table_ranges next) old new
+      → ((was : Table) → HasLayout next old.size → IsKeptFor old next was → StopsLeaveEither was (table_in next) next.sector_size old new)
+      → LeavesChange planned size old new
+
+-- A stop at any moment leaves a disk that is read as this table; or once the write began, as this one or as the planned one.
+pub data IsSafe {A : Type 0} (planned : Makes A) (ss : ℕ) (was : Table) (old new : DiskState) : Type 0 where
+  nothing_written : StopsAreReadAs old new ss (was ∷ []) → IsSafe planned ss was old new
+  begun : (table next : GPT) (answer : A) → table_in table ≡ was → planned table next answer → StopsLeaveEither was (table_in next) ss old new
+      → IsSafe planned ss was old new
+
+-- Why a change is refused: the table cannot be read; or the plan refuses it; or what the plan makes of it cannot be written.
+pub data RefusesChange {A : Type 0} (planned : Makes A) (refuses : GPT → Fault → Type 0) (asks : Type 0) (size : Option ℕ) (fault : Fault) (old new : DiskState) : Type 0 where
+  not_read : RefusesReading size fault old new → RefusesChange planned refuses asks size fault old new
+  not_made : (table : GPT) → IsReadFrom size old new table → RefusesPlan refuses asks table fault old new → RefusesChange planned refuses asks size fault old new
+  not_written : (table next : GPT) (answer : A) → IsReadFrom size old new table → planned table next answer → RefusesWrite next fault old new
+      → RefusesChange planned refuses asks size fault old new

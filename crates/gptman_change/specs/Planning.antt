@@ -1,0 +1,25 @@
+-- What a plan makes of a table.
+use Rattle.std.specs.Prelude.{◌⊎◌, ℕ}
+use Rattle.gptman.specs.Answers.{IsFailure}
+use Rattle.gptman.specs.Disk.{DiskState}
+use Rattle.gptman.specs.Fault.{Fault}
+use Rattle.gptman.specs.Crash.{HasPlacesOf}
+use Rattle.gptman.specs.Layout.{HasLayout}
+use Rattle.gptman.specs.declared.table.GPT.{GPT}
+
+-- what a plan makes of a table: the table before, the table after, and the answer beside it
+abbrev pub Makes : Type 0 → Type 1
+Makes A = GPT → GPT → A → Type 0
+
+-- A table keeps its places: its sector size, its form and its four ranges, and the stated layout where it had it.
+pub record KeepsPlaces (table next : GPT) : Type 0 where
+  pub places : HasPlacesOf table next
+  pub layout : (len : ℕ) → HasLayout table len → HasLayout next len
+
+-- a plan that keeps the places of each table
+abbrev pub AlwaysKeepsPlaces : {A : Type 0} → Makes A → Type 0
+AlwaysKeepsPlaces {A} planned = (table next : GPT) (answer : A) → planned table next answer → KeepsPlaces table next
+
+-- Why a plan makes nothing of a table: for a reason of its own, or as the disk failed, where it asks the disk.
+abbrev pub RefusesPlan : (GPT → Fault → Type 0) → Type 0 → GPT → Fault → DiskState → DiskState → Type 0
+RefusesPlan refuses asks table fault old new = refuses table fault ⊎ (asks × IsFailure fault old new)
