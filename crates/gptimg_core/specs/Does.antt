@@ -1,5 +1,5 @@
 -- What a command does: of the disk before it and the disk after it, and of what there is to tell.
-use Rattle.std.specs.Prelude.{◌≡◌, ◌⊎◌, ℕ, Bool, List, [], ◌∷◌, Option, Result, IfErr, IfOk, OnErr, OnOk}
+use Rattle.std.specs.Prelude.{◌≡◌, ◌⊎◌, ℕ, Bool, List, [], ◌∷◌, Option, Result, IsTrue, IfErr, IfOk, OnErr, OnOk}
 use Rattle.gptman.specs.Answers.{CountsFailure, HasCause, IsFailure}
 use Rattle.gptman.specs.Crash.{StartsLaidOut}
 use Rattle.gptman.specs.Disk.{DiskState, FailedOrUntouched, IsHonest, OnlyRead, Writes}
@@ -12,7 +12,7 @@ use Rattle.gptman_copy.specs.declared.error.Error.{Error}
 use Rattle.gptman_change.specs.Changes.{LeavesChange, MakesChange, RefusesChange}
 use Rattle.gptman_change.specs.Reads.{RefusesReading}
 use Rattle.gptimg_core.specs.Changes.{IsMade, ReplacesTable}
-use Rattle.gptimg_core.specs.Checks.{TellsCopies}
+use Rattle.gptimg_core.specs.Checks.{is_good, TellsCopies}
 use Rattle.gptimg_core.specs.Reads.{AreSlotsIn, TellsOfTable}
 use Rattle.gptimg_core.specs.Refusals.{AsksDisk, RefusesMaking, RefusesMbr, RefusesNew}
 use Rattle.gptimg_core.specs.declared.commands.Report.{Report}
@@ -77,8 +77,10 @@ DoesCommand (Show size) told old new = DoesShow size told old new
 DoesCommand (Free size align) told old new = DoesFree size align told old new
 DoesCommand (Changing size change) told old new = DoesChange size change told old new
 
--- A command is done, or refused. A refused one leaves the disk as it was, unless it failed; and Io comes only where it failed.
+-- A command is done, or refused, and but for `check` no report tells what is wrong. A refused one leaves the disk as it was, unless it failed; and Io comes only
+-- where it failed.
 pub record Does (command : Command) (told : Told) (old new : DiskState) : Type 0 where
   pub does : DoesCommand command told old new
+  pub good : IfOk told (λ report. IsTrue (is_good report) ⊎ ((ss : ℕ) × (command ≡ Check ss)))
   pub cause : HasCause told old new
   pub kept : IsHonest old → OnErr told (FailedOrUntouched old new)

@@ -1,6 +1,6 @@
 //! What the commands do to a disk. Nothing is printed here.
 
-ghost use Rattle.std.specs.Prelude.{◌≡◌, ◌⊎◌, ◌<◌, ◌∷◌, [], false, IfErr, IfOk, IfSome, OnErr, OnOk};
+ghost use Rattle.std.specs.Prelude.{◌≡◌, ◌⊎◌, ◌<◌, ◌∷◌, [], false, IfErr, IfOk, IfSome, IsTrue, OnErr, OnOk};
 ghost use Rattle.gptman.specs.Answers.{CountsFailure, HasCause, IsFailure};
 ghost use Rattle.gptman.specs.Crash.{StartsLaidOut};
 ghost use Rattle.gptman.specs.Disk.{FailedOrUntouched, HasFailedOnceAtMost, IsHonest, Keeps, OnlyRead};
@@ -13,7 +13,7 @@ ghost use Rattle.gptman.specs.TableWrites.{table_ranges};
 ghost use Rattle.gptman_change.specs.Reads.{RefusesReading};
 ghost use Rattle.gptimg_core.specs.Asks.{writes};
 ghost use Rattle.gptimg_core.specs.Changes.{ReplacesTable};
-ghost use Rattle.gptimg_core.specs.Checks.{TellsCopies};
+ghost use Rattle.gptimg_core.specs.Checks.{is_good, TellsCopies};
 ghost use Rattle.gptimg_core.specs.Does.{Does};
 ghost use Rattle.gptimg_core.specs.Reads.{AreSlotsIn, TellsOfTable};
 ghost use Rattle.gptimg_core.specs.Refusals.{RefusesMbr, RefusesNew};
@@ -89,6 +89,7 @@ fn show_table<D: Disk>(alloc: Global, disk: &mut D, sector_size: Option<u64>) ->
     ensures refused { IsHonest (D.state disk.old)
         → IfErr result (λ e. RefusesReading sector_size (fault_of e) (D.state disk.old) (D.state disk.new)) }
     ensures cause { HasCause result (D.state disk.old) (D.state disk.new) }
+    ensures good { IfOk result (λ report. IsTrue (is_good report)) }
     ensures shown { IsHonest (D.state disk.old)
         → IfOk result (λ report. TellsOfTable (λ g. report ≡ Table g) sector_size
         (D.state disk.old) (D.state disk.new)) }
@@ -109,6 +110,7 @@ fn list_free<D: Disk>(
     ensures refused { IsHonest (D.state disk.old)
         → IfErr result (λ e. RefusesReading sector_size (fault_of e) (D.state disk.old) (D.state disk.new)) }
     ensures cause { HasCause result (D.state disk.old) (D.state disk.new) }
+    ensures good { IfOk result (λ report. IsTrue (is_good report)) }
     ensures slots { IsHonest (D.state disk.old)
         → IfOk result (λ report. TellsOfTable (λ g. AreSlotsIn g align report) sector_size
         (D.state disk.old) (D.state disk.new)) }

@@ -103,8 +103,12 @@ align_above : (h : GPTHeader) (es : List GPTPartitionEntry) (a : ℕ) → IsAlig
 align_above h es a is = elim (eqb_tells a 0) as (λ _. 0 < a) [
   | inl zero ↦
       let none = zero.1 in
-      absurd (omega (arith, none, (is.other (λ e. absurd (omega (arith, none, is.none e))) (λ e. absurd (omega (arith, none, is.alone e)))
-      (λ all. absurd (omega (arith, none, is.zero (λ e. absurd (omega (arith, none, is.none e))) all)))).low))
+      absurd (omega (
+        arith,
+        none,
+        (is.other (λ e. absurd (omega (arith, none, is.none e))) (λ e. absurd (omega (arith, none, is.alone e)))
+            (λ all. absurd (omega (arith, none, is.zero (λ e. absurd (omega (arith, none, is.none e))) all)))).low,
+      ))
   | inr some ↦ omega (arith, some.1)
 ]
 

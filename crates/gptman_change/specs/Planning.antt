@@ -11,6 +11,12 @@ use Rattle.gptman.specs.declared.table.GPT.{GPT}
 abbrev pub Makes : Type 0 → Type 1
 Makes A = GPT → GPT → A → Type 0
 
+-- The answer is one that the plan gives of some table.
+pub record IsAnswer {A : Type 0} (planned : Makes A) (answer : A) : Type 0 where
+  pub table : GPT
+  pub next : GPT
+  pub made : planned table next answer
+
 -- A table keeps its places: its sector size, its form and its four ranges, and the stated layout where it had it.
 pub record KeepsPlaces (table next : GPT) : Type 0 where
   pub places : HasPlacesOf table next

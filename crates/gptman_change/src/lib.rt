@@ -15,7 +15,7 @@ ghost use Rattle.gptman.specs.TableReads.{CountsReading};
 ghost use Rattle.gptman.specs.declared.table.GPT.{GPT};
 ghost use Rattle.gptman_change.specs.Changes.{IsSafe, LeavesChange, MakesChange, RefusesChange};
 ghost use Rattle.gptman_change.specs.Changes.{StartsGoodFor};
-ghost use Rattle.gptman_change.specs.Planning.{AlwaysKeepsPlaces, RefusesPlan};
+ghost use Rattle.gptman_change.specs.Planning.{AlwaysKeepsPlaces, IsAnswer, RefusesPlan};
 ghost use Rattle.gptman_change.specs.Reads.{size_for, IsReadFrom, RefusesReading};
 
 use gptman::table::laws::what_is_read_is_kept;
@@ -95,7 +95,8 @@ pub fn change_table<D: Disk, P: Plan>(
     requires ready { P.ready plan.now }
     ensures keeps { Keeps (D.state disk.old) (D.state disk.new) }
 
-    // After Ok both places hold the planned table.
+    // After Ok the plan gave its answer, and both places hold the planned table.
+    ensures answer { IfOk result (IsAnswer (P.makes plan.now (D.state disk.old).size)) }
     ensures changed { IsHonest (D.state disk.old) → IfOk result (λ answer. MakesChange
         (P.makes plan.now (D.state disk.old).size) sector_size answer
         (D.state disk.old) (D.state disk.new)) }

@@ -77,6 +77,14 @@ returns-in_err-write_into-clause-refused g c = λ honest.
     (subst (λ (n : ℕ). g.P.Plan.makes c.args.plan.now n table next c.in_ok-answer.answer) c.read_table.ensures.reads.keeps.size c.in_ok-answer.ensures.value)
     (write_since next (fault_of c.in_err-write_into.field-0.0) old last new keeps c.in_err-write_into.ensures.refused))
 
+pub returns-clause-answer : goal.returns-clause-answer
+returns-clause-answer g c = record {
+  table = c.in_ok-table.table;
+  next = c.change.new.table;
+  made = subst (λ (n : ℕ). g.P.Plan.makes c.args.plan.now n c.in_ok-table.table c.change.new.table c.in_ok-answer.answer)
+      c.read_table.ensures.reads.keeps.size c.in_ok-answer.ensures.value;
+}
+
 pub returns-clause-changed : goal.returns-clause-changed
 returns-clause-changed g c honest =
     let old = g.D.Disk.state c.args.disk.now in
