@@ -1,7 +1,9 @@
--- Ranges that have no byte in common, in another order.
-use Rattle.std.proofs.Common.{inl, inr, ℕ, [], ◌∷◌, ◌++◌, sym, subst}
+-- Ranges that have no byte in common.
+use Rattle.std.proofs.Common.{inl, inr, ℕ, List, [], ◌∷◌, ◌++◌, sym, subst}
 use Rattle.std.proofs.lemmas.List.{append-nil}
-use Rattle.gptman_copy.specs.Ranges.{IsApart, IsApartFromAll, AreApart}
+use Rattle.gptman_copy.specs.Disk.{AgreesOutside, Outside}
+use Rattle.gptman_copy.specs.Ranges.{AgreesInside, AreApart, AreClear, Inside, IsApart, IsApartFromAll}
+use Rattle.gptman_copy.proofs.Overlays.{outside_apart}
 use Rattle.gptman_copy.proofs.Ranges.{Ranges}
 
 apart_back : (r s : ℕ × ℕ) → IsApart r s → IsApart s r
@@ -33,3 +35,19 @@ pub apart_exchanged : (rs ss : Ranges) → AreApart (rs ++ ss) → AreApart (ss 
 apart_exchanged [] ss apart = subst AreApart (sym (append-nil ss)) apart
 apart_exchanged (r ∷ rs) ss apart =
     put_between r ss rs (from_both r ss rs (from_right r rs ss apart.0) (from_left r rs ss apart.0)) (apart_exchanged rs ss apart.1)
+
+-- ---- ranges that are clear of others
+
+pub clear_if_apart : (rs ss : Ranges) → AreApart (rs ++ ss) → AreClear rs ss
+clear_if_apart [] ss apart = tt
+clear_if_apart (r ∷ rs) ss apart = (from_right r rs ss apart.0, clear_if_apart rs ss apart.1)
+
+-- an index inside of the ones is outside of the others
+pub inside_clear : (rs ss : Ranges) (k : ℕ) → AreClear rs ss → Inside rs k → Outside ss k
+inside_clear [] ss k clear inside = absurd inside
+inside_clear (r ∷ rs) ss k clear (inl at) = outside_apart r ss k clear.0 at.0 at.1
+inside_clear (r ∷ rs) ss k clear (inr later) = inside_clear rs ss k clear.1 later
+
+-- lists that agree outside of the others agree in the ones
+pub agrees_in : (rs ss : Ranges) (a b : List ℕ) → AreClear rs ss → AgreesOutside ss a b → AgreesInside rs a b
+agrees_in rs ss a b clear agrees = record { long = agrees.long; same = λ k inside. agrees.same k (inside_clear rs ss k clear inside) }

@@ -15,7 +15,7 @@ use Rattle.gptman.specs.Stop.{IsStored}
 use Rattle.gptman.specs.Table.{table_in}
 use Rattle.gptman.specs.declared.edit.Edit.{Edit}
 use Rattle.gptman.specs.declared.table.GPT.{GPT}
-use Rattle.gptman.proofs.AfterFailure.{untouched_ranges}
+use Rattle.gptman.proofs.Argument.{untouched_ranges}
 use Rattle.gptman.proofs.CommitLoop.{AreMade, last_table, next_table}
 use Rattle.gptman.proofs.Commits.{KeepsRanges, edit_keeps, edited_keeps, keeps_both, layout_still, same_ranges_too}
 use Rattle.gptman.proofs.FourRanges.{same_ranges}

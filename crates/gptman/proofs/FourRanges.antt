@@ -11,29 +11,12 @@ use Rattle.gptman.specs.Table.{Table, table_of, IsHeaderForm}
 use Rattle.gptman_copy.specs.Write.{other_header, both_ranges}
 use Rattle.gptman_copy.specs.declared.codec.entry.GPTPartitionEntry.{GPTPartitionEntry}
 use Rattle.gptman_copy.specs.declared.codec.header.GPTHeader.{GPTHeader}
-use Rattle.gptman.proofs.Apart.{apart_exchanged, from_right}
-use Rattle.gptman.proofs.LaidCopies.{copy_ranges, entries_range}
-use Rattle.gptman.proofs.OneWhole.{within_copy}
+use Rattle.gptman.proofs.Apart.{apart_exchanged, clear_if_apart}
+use Rattle.gptman.proofs.LaidCopies.{copy_ranges, within_copy}
 use Rattle.gptman.proofs.OtherHeader.{other_table, other_form}
 use Rattle.gptman_copy.proofs.Overlays.{outside_apart}
 use Rattle.gptman_copy.proofs.Ranges.{Ranges, within_then, within_both, within_left, within_right}
 use Rattle.gptman.proofs.WrittenCopy.{written_start, written_array}
-
--- ---- ranges that are clear of others
-
-pub clear_if_apart : (rs ss : Ranges) → AreApart (rs ++ ss) → AreClear rs ss
-clear_if_apart [] ss apart = tt
-clear_if_apart (r ∷ rs) ss apart = (from_right r rs ss apart.0, clear_if_apart rs ss apart.1)
-
--- an index inside of the ones is outside of the others
-pub inside_clear : (rs ss : Ranges) (k : ℕ) → AreClear rs ss → Inside rs k → Outside ss k
-inside_clear [] ss k clear inside = absurd inside
-inside_clear (r ∷ rs) ss k clear (inl at) = outside_apart r ss k clear.0 at.0 at.1
-inside_clear (r ∷ rs) ss k clear (inr later) = inside_clear rs ss k clear.1 later
-
--- lists that agree outside of the others agree in the ones
-pub agrees_in : (rs ss : Ranges) (a b : List ℕ) → AreClear rs ss → AgreesOutside ss a b → AgreesInside rs a b
-agrees_in rs ss a b clear agrees = record { long = agrees.long; same = λ k inside. agrees.same k (inside_clear rs ss k clear inside) }
 
 -- ---- a header in a form
 
@@ -60,30 +43,12 @@ pub sides_apart : (side : Side) (t : Table) (ss len : ℕ) → IsLaidOut t ss le
 sides_apart primary t ss len laid = laid.apart
 sides_apart backup t ss len laid = apart_exchanged (ranges_at primary t ss len) (ranges_at backup t ss len) laid.apart
 
--- ranges that are apart stay so without those of no entries
-without_empty : (a c p q n : ℕ) → AreApart ((a, 92) ∷ (c, 128 * n) ∷ (p, 92) ∷ (q, 128 * n) ∷ [])
-    → AreApart (((a, 92) ∷ entries_range n (nat_eq n 0) c) ++ ((p, 92) ∷ entries_range n (nat_eq n 0) q))
-without_empty a c p q n apart =
-    let P : Bool → Type 0 = λ b. AreApart (((a, 92) ∷ entries_range n b c) ++ ((p, 92) ∷ entries_range n b q)) in
-    elim (eqb_tells n 0) as (λ _. P (nat_eq n 0)) [
-      | inl zero ↦ subst P (sym zero.0) ((apart.0.1.0, tt), (tt, tt))
-      | inr some ↦ subst P (sym some.0) apart
-    ]
-
--- What a write of a table of the layout writes is apart.
-pub both_apart : (side : Side) (h : GPTHeader) (es : List GPTPartitionEntry) (ss len : ℕ) → IsHeaderForm side h → IsLaidOut (table_of h es) ss len → AreApart (both_ranges h ss)
-both_apart side h es ss len form laid =
-    let own = form_ranges side h es ss len form laid in
-    let other = other_ranges side h es ss len form laid in
-    let apart : AreApart (copy_ranges h ss ++ copy_ranges (other_header h) ss) =
-    subst (λ (rs : Ranges). AreApart rs) (λ i. own i ++ other i) (sides_apart side (table_of h es) ss len laid) in
-    without_empty (h.primary_lba * ss) (h.partition_entry_lba * ss) ((other_header h).primary_lba * ss) ((other_header h).partition_entry_lba * ss) h.number_of_partition_entries apart
-
-in_four : (side : Side) (t : Table) (ss len : ℕ) → Within (ranges_at side t ss len ++ ranges_at (other_side side) t ss len) (four_ranges t ss len)
+-- The ranges of both sides are the four ranges.
+pub in_four : (side : Side) (t : Table) (ss len : ℕ) → Within (ranges_at side t ss len ++ ranges_at (other_side side) t ss len) (four_ranges t ss len)
 in_four primary t ss len = record { covers = λ k o. o }
 in_four backup t ss len = within_both (within_right (ranges_at primary t ss len) (ranges_at backup t ss len)) (within_left (ranges_at primary t ss len) (ranges_at backup t ss len))
 
--- And it lies in the four ranges.
+-- What a write of a table of the layout writes lies in them.
 pub within_four : (side : Side) (h : GPTHeader) (es : List GPTPartitionEntry) (ss len : ℕ) → IsHeaderForm side h → IsLaidOut (table_of h es) ss len
     → Within (both_ranges h ss) (four_ranges (table_of h es) ss len)
 within_four side h es ss len form laid =
@@ -93,6 +58,11 @@ within_four side h es ss len form laid =
     within_both (within_then (within_copy h ss) (within_left (copy_ranges h ss) (copy_ranges (other_header h) ss)))
     (within_then (within_copy (other_header h) ss) (within_right (copy_ranges h ss) (copy_ranges (other_header h) ss))) in
     within_then both (subst (λ (rs : Ranges). Within rs (four_ranges (table_of h es) ss len)) (λ i. own i ++ other i) (in_four side (table_of h es) ss len))
+
+-- no byte of the other side's is one of the side's
+pub sides_clear : (side : Side) (t : Table) (ss len : ℕ) → IsLaidOut t ss len → AreClear (ranges_at (other_side side) t ss len) (ranges_at side t ss len)
+sides_clear primary t ss len laid = clear_if_apart (ranges_at backup t ss len) (ranges_at primary t ss len) (sides_apart backup t ss len laid)
+sides_clear backup t ss len laid = clear_if_apart (ranges_at primary t ss len) (ranges_at backup t ss len) (sides_apart primary t ss len laid)
 
 -- Tables of one count and one last usable sector have the same ranges.
 pub same_ranges : (side : Side) (old new : Table) (ss len : ℕ) → HasRangesOf old new → ranges_at side old ss len ≡ ranges_at side new ss len

@@ -1,4 +1,4 @@
--- Two copies that are laid over a list of bytes, one after the other.
+-- Copies that are laid over a list of bytes.
 use Rattle.std.proofs.Common.{◌≡◌, ◌⊎◌, inl, inr, ◌≤◌, ℕ, ◌+◌, ◌*◌, ◌++◌, Bool, true, List, [], ◌∷◌, length, sym, ap, ◌∙◌, subst, arith}
 use Rattle.std.specs.List.{All, list_all}
 use Rattle.std.specs.Prelude.{if◌then◌else◌, nat_eq}
@@ -6,55 +6,46 @@ use Rattle.std.proofs.lemmas.Bool.{and_parts, leb-true}
 use Rattle.std.proofs.lemmas.Bool.Decides.{eqb_tells}
 use Rattle.gptman_copy.specs.Bytes.{part}
 use Rattle.gptman_copy.specs.Coding.{FitsHeader, FitsEntry, header_bytes, array_bytes}
-use Rattle.gptman_copy.specs.Disk.{overlay}
+use Rattle.gptman_copy.specs.Disk.{AgreesOutside, Within}
 use Rattle.gptman_copy.specs.Ranges.{ranges_from, AreApart, AreInside}
 use Rattle.gptman_copy.specs.Write.{array_range, write_ranges, is_inside, IsCopyLaid, HasBytes}
 use Rattle.gptman_copy.specs.declared.codec.header.GPTHeader.{GPTHeader}
 use Rattle.gptman_copy.specs.declared.codec.entry.GPTPartitionEntry.{GPTPartitionEntry}
 use Rattle.gptman_copy.proofs.ArrayBytes.{array_long}
 use Rattle.gptman_copy.proofs.HeaderBytes.{header_long}
-use Rattle.gptman.proofs.Pieces.{laid_over, ranges_of, AllStand, laid_agrees, laid_stand}
-use Rattle.gptman_copy.proofs.Ranges.{Ranges}
+use Rattle.gptman_copy.proofs.Overlays.{part_in}
+use Rattle.gptman_copy.proofs.Ranges.{Ranges, agrees_wider, within_self}
+use Rattle.gptman.proofs.Apart.{clear_if_apart}
+use Rattle.gptman.proofs.Argument.{IsToldBy, stays}
+use Rattle.gptman.proofs.Pieces.{ranges_of, AllStand, laid_agrees, laid_stand}
 
 -- the two ranges of a copy, its header and its entries, also where there are no entries
 abbrev pub copy_ranges : GPTHeader → ℕ → Ranges
 copy_ranges h ss = ranges_from (h.primary_lba * ss) (h.partition_entry_lba * ss) h.number_of_partition_entries
 
--- Both copies stand there, and the list is as long as it was.
-pub record BothStand (old new : List ℕ) (g h : GPTHeader) (es : List GPTPartitionEntry) (ss : ℕ) : Type 0 where
-  pub first : HasBytes new g es ss
-  pub second : HasBytes new h es ss
-  pub long : length new ≡ length old
-
--- Two copies whose four ranges are apart stand there in the end.
-pub both_stand : (old mid new : List ℕ) (g h : GPTHeader) (es : List GPTPartitionEntry) (ss : ℕ) → FitsHeader g → FitsHeader h → All FitsEntry es
-    → length es ≡ g.number_of_partition_entries → length es ≡ h.number_of_partition_entries
-    → AreApart (copy_ranges g ss ++ copy_ranges h ss) → AreInside (copy_ranges g ss ++ copy_ranges h ss) (length old)
-    → IsCopyLaid g es ss old mid → IsCopyLaid h es ss mid new → BothStand old new g h es ss
-both_stand old mid new g h es ss fits_g fits_h fits count_g count_h apart inside laid_g laid_h =
-    let pieces : List (ℕ × List ℕ) =
-    (g.primary_lba * ss, header_bytes g) ∷ (g.partition_entry_lba * ss, array_bytes es)
-    ∷ (h.primary_lba * ss, header_bytes h) ∷ (h.partition_entry_lba * ss, array_bytes es) ∷ [] in
-    let is : new ≡ laid_over old pieces =
-    laid_h ∙ ap (λ (b : List ℕ). overlay (overlay b (h.primary_lba * ss) (header_bytes h)) (h.partition_entry_lba * ss) (array_bytes es)) laid_g in
-    let long_g = header_long g fits_g in
+-- A copy that was laid stands there, where its two ranges are apart and on the disk. The list is as long as it was.
+pub laid_stands : (old new : List ℕ) (h : GPTHeader) (es : List GPTPartitionEntry) (ss : ℕ) → AreApart (copy_ranges h ss) → AreInside (copy_ranges h ss) (length old)
+    → FitsHeader h → All FitsEntry es → length es ≡ h.number_of_partition_entries → IsCopyLaid h es ss old new → HasBytes new h es ss × (length new ≡ length old)
+laid_stands old new h es ss apart inside fits_h fits count laid =
+    let pieces : List (ℕ × List ℕ) = (h.primary_lba * ss, header_bytes h) ∷ (h.partition_entry_lba * ss, array_bytes es) ∷ [] in
     let long_h = header_long h fits_h in
-    let array_g : length (array_bytes es) ≡ 128 * g.number_of_partition_entries = omega (arith, array_long es fits, count_g) in
-    let array_h : length (array_bytes es) ≡ 128 * h.number_of_partition_entries = omega (arith, array_long es fits, count_h) in
-    let ranges : ranges_of pieces ≡ copy_ranges g ss ++ copy_ranges h ss =
-    λ i. (g.primary_lba * ss, long_g i) ∷ (g.partition_entry_lba * ss, array_g i) ∷ (h.primary_lba * ss, long_h i) ∷ (h.partition_entry_lba * ss, array_h i) ∷ [] in
+    let array : length (array_bytes es) ≡ 128 * h.number_of_partition_entries = omega (arith, array_long es fits, count) in
+    let ranges : ranges_of pieces ≡ copy_ranges h ss = λ i. (h.primary_lba * ss, long_h i) ∷ (h.partition_entry_lba * ss, array i) ∷ [] in
     let room : AreInside (ranges_of pieces) (length old) = subst (λ (rs : Ranges). AreInside rs (length old)) (sym ranges) inside in
-    let stand = subst (AllStand pieces) (sym is) (laid_stand old pieces (subst AreApart (sym ranges) apart) room) in
+    let stand = subst (AllStand pieces) (sym laid) (laid_stand old pieces (subst AreApart (sym ranges) apart) room) in (
+      record { header = ap (λ (n : ℕ). part new (h.primary_lba * ss) n) (sym long_h) ∙ stand.0; entries = stand.1.0 },
+      ap (λ (b : List ℕ). length b) laid ∙ (laid_agrees old pieces room).long,
+    )
+
+-- It is told by the bytes in its ranges.
+pub bytes_told : (h : GPTHeader) (es : List GPTPartitionEntry) (ss : ℕ) → All FitsEntry es → length es ≡ h.number_of_partition_entries
+    → IsToldBy (λ b. HasBytes b h es ss) (copy_ranges h ss)
+bytes_told h es ss fits count b c has agrees =
+    let array : length (array_bytes es) ≡ 128 * h.number_of_partition_entries = omega (arith, array_long es fits, count) in
     record {
-      first = record {
-        header = ap (λ (n : ℕ). part new (g.primary_lba * ss) n) (sym long_g) ∙ stand.0;
-        entries = stand.1.0;
-      };
-      second = record {
-        header = ap (λ (n : ℕ). part new (h.primary_lba * ss) n) (sym long_h) ∙ stand.1.1.0;
-        entries = stand.1.1.1.0;
-      };
-      long = ap (λ (b : List ℕ). length b) is ∙ (laid_agrees old pieces room).long;
+      header = part_in b c (h.primary_lba * ss) 92 agrees.long (λ k low high. agrees.same k (inl (low, high))) ∙ has.header;
+      entries = part_in b c (h.partition_entry_lba * ss) (length (array_bytes es)) agrees.long
+          (λ k low high. agrees.same k (inr (inl (low, omega (arith, high, array))))) ∙ has.entries;
     }
 
 -- ---- the ranges of a copy where an empty array has none
@@ -103,15 +94,28 @@ copies_apart g h ss same apart =
     let Q : ℕ → Type 0 = λ n. AreApart (copy_ranges g ss ++ ((h.primary_lba * ss, 92) ∷ (h.partition_entry_lba * ss, 128 * n) ∷ [])) in
     subst Q (sym same) (with_empty (g.primary_lba * ss) (g.partition_entry_lba * ss) (h.primary_lba * ss) (h.partition_entry_lba * ss) g.number_of_partition_entries (subst P same apart))
 
+-- the ranges that are written are among those of the copy
+pub within_copy : (h : GPTHeader) (ss : ℕ) → Within (write_ranges h ss) (copy_ranges h ss)
+within_copy h ss =
+    let start : ℕ = h.partition_entry_lba * ss in
+    let n : ℕ = h.number_of_partition_entries in
+    let P : Bool → Type 0 = λ b. Within ((h.primary_lba * ss, 92) ∷ entries_range n b start) (copy_ranges h ss) in
+    elim (eqb_tells n 0) as (λ _. Within (write_ranges h ss) (copy_ranges h ss)) [
+      | inl zero ↦ subst P (sym zero.0) (record { covers = λ k o. (o.0, tt) })
+      | inr some ↦ subst P (sym some.0) (within_self (copy_ranges h ss))
+    ]
+
 -- Two copies that are apart and on the disk stand there once both are laid.
 pub laid_both : (old mid new : List ℕ) (g h : GPTHeader) (es : List GPTPartitionEntry) (ss : ℕ) → AreApart (write_ranges g ss ++ write_ranges h ss)
     → list_all (is_inside (length old)) (write_ranges g ss) ≡ true → list_all (is_inside (length old)) (write_ranges h ss) ≡ true
     → FitsHeader g → FitsHeader h → All FitsEntry es → length es ≡ g.number_of_partition_entries → length es ≡ h.number_of_partition_entries
-    → IsCopyLaid g es ss old mid → IsCopyLaid h es ss mid new → HasBytes new g es ss × HasBytes new h es ss
-laid_both old mid new g h es ss apart inside_g inside_h fits_g fits_h fits count_g count_h laid_g laid_h =
-    let len : ℕ = length old in
-    let all_apart = copies_apart g h ss (sym count_h ∙ count_g) apart in
-    let ins_g = copy_inside g ss len inside_g in
-    let ins_h = copy_inside h ss len inside_h in
-    let both = both_stand old mid new g h es ss fits_g fits_h fits count_g count_h all_apart (ins_g.0, (ins_g.1.0, ins_h)) laid_g laid_h in
-    (both.first, both.second)
+    → IsCopyLaid g es ss old mid → IsCopyLaid h es ss mid new → AgreesOutside (write_ranges h ss) mid new → HasBytes new g es ss × HasBytes new h es ss
+laid_both old mid new g h es ss apart inside_g inside_h fits_g fits_h fits count_g count_h laid_g laid_h agrees =
+    let all = copies_apart g h ss (sym count_h ∙ count_g) apart in
+    let own_g : AreApart (copy_ranges g ss) = ((all.0.0, tt), (tt, tt)) in
+    let first = laid_stands old mid g es ss own_g (copy_inside g ss (length old) inside_g) fits_g fits count_g laid_g in
+    let room : AreInside (copy_ranges h ss) (length mid) = subst (AreInside (copy_ranges h ss)) (sym first.1) (copy_inside h ss (length old) inside_h) in (
+      stays (λ b. HasBytes b g es ss) (copy_ranges g ss) (copy_ranges h ss) mid new (bytes_told g es ss fits count_g)
+          (clear_if_apart (copy_ranges g ss) (copy_ranges h ss) all) first.0 (agrees_wider (within_copy h ss) agrees),
+      (laid_stands mid new h es ss all.1.1 room fits_h fits count_h laid_h).0,
+    )

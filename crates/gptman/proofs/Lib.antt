@@ -1,6 +1,6 @@
 pub mod Accepted
-pub mod AfterFailure
 pub mod Apart
+pub mod Argument
 pub mod Boundaries
 pub mod Choice
 pub mod CommitFailure
@@ -23,7 +23,6 @@ pub mod Multiples
 pub mod Numbering
 pub mod Offers
 pub mod OneGood
-pub mod OneWhole
 pub mod OtherHeader
 pub mod Pairs
 pub mod Pieces
@@ -36,10 +35,10 @@ pub mod ReadingLaw
 pub mod SameTable
 pub mod Sealing
 pub mod Sorting
-pub mod Stored
 pub mod Sweeping
 pub mod Taken
 pub mod ThereCopy
 pub mod TwoCopies
+pub mod TwoSides
 pub mod WrittenCopy
 pub mod WrittenOver

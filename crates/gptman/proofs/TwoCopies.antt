@@ -4,12 +4,17 @@ use Rattle.std.specs.List.{All, list_all}
 use Rattle.std.proofs.lemmas.Bool.{and_parts}
 use Rattle.std.proofs.lemmas.List.Folds.{list_all-append}
 use Rattle.gptman_copy.specs.Coding.{FitsHeader, FitsEntry}
-use Rattle.gptman_copy.specs.Disk.{DiskState, Wrote}
+use Rattle.gptman_copy.specs.Disk.{AgreesOutside, DiskState, Wrote}
+use Rattle.gptman_copy.specs.Ranges.{AreApart}
 use Rattle.gptman_copy.specs.Fault.{Fault, overflow, no_space_left, first_failing}
 use Rattle.gptman_copy.specs.Copy.{with_checksums}
-use Rattle.gptman_copy.specs.Write.{other_header, write_ranges, both_ranges, copy_write_fault, write_fault, has_other_header, is_addressable, is_inside, IsCopyLaid}
+use Rattle.gptman_copy.specs.Write.{other_header, write_ranges, both_ranges, copy_write_fault, write_fault, has_other_header, is_addressable, is_inside, HasBytes, IsCopyLaid}
 use Rattle.gptman_copy.specs.declared.codec.header.GPTHeader.{GPTHeader}
 use Rattle.gptman_copy.specs.declared.codec.entry.GPTPartitionEntry.{GPTPartitionEntry}
+use Rattle.gptman.proofs.Apart.{apart_exchanged}
+use Rattle.gptman.proofs.LaidCopies.{laid_both}
+use Rattle.gptman.proofs.Sealing.{sealed_count, sealed_ranges}
+use Rattle.gptman.proofs.TwoSides.{IsCopied}
 use Rattle.gptman_copy.proofs.FirstFailing.{tests_pass}
 use Rattle.gptman_copy.proofs.Ranges.{Ranges, within_left, within_none, within_right}
 use Rattle.gptman_copy.proofs.Runs.{wrote_then, wrote_wider}
@@ -55,30 +60,21 @@ pub allowed_inside : {R : Type 0} (h : GPTHeader) (ss : ℕ) (disk : DiskState) 
 allowed_inside h ss disk long (inl is) = (both_allowed h ss (length disk.view) (ap (write_fault h ss) long ∙ sym is)).inside
 allowed_inside h ss disk long (inr fails) = absurd fails.0
 
--- The other copy was laid over old, and then the own one.
-pub record BothLaid (old new : List ℕ) (h : GPTHeader) (es : List GPTPartitionEntry) (ss : ℕ) : Type 0 where
-  pub mid : List ℕ
-  pub fits_other : FitsHeader (with_checksums (other_header h) es)
-  pub fits_own : FitsHeader (with_checksums h es)
-  pub fits : All FitsEntry es
-  pub other : IsCopyLaid (with_checksums (other_header h) es) es ss old mid
-  pub own : IsCopyLaid (with_checksums h es) es ss mid new
-
--- That is so after two copies of these headers and entries.
-pub both_laid : (old start mid new : List ℕ) (h other first second : GPTHeader) (es fs gs : List GPTPartitionEntry) (ss : ℕ) → start ≡ old → other ≡ other_header h → fs ≡ es → gs ≡ es
-    → first ≡ with_checksums other fs → second ≡ with_checksums h gs → FitsHeader first × All FitsEntry fs → FitsHeader second × All FitsEntry gs
-    → IsCopyLaid first fs ss start mid → IsCopyLaid second gs ss mid new → BothLaid old new h es ss
-both_laid old start mid new h other first second es fs gs ss start_is other_is fs_is gs_is first_is second_is fits_first fits_second laid_first laid_second =
-    let first_to : first ≡ with_checksums (other_header h) es = first_is ∙ (λ i. with_checksums (other_is i) (fs_is i)) in
-    let second_to : second ≡ with_checksums h es = second_is ∙ ap (with_checksums h) gs_is in
-    record {
-      mid = mid;
-      fits_other = subst FitsHeader first_to fits_first.0;
-      fits_own = subst FitsHeader second_to fits_second.0;
-      fits = subst (λ (xs : List GPTPartitionEntry). All FitsEntry xs) fs_is fits_first.1;
-      other = subst (λ (b : List ℕ). IsCopyLaid (with_checksums (other_header h) es) es ss b mid) start_is
-          (subst (λ (xs : List GPTPartitionEntry). IsCopyLaid (with_checksums (other_header h) es) xs ss start mid) fs_is
-          (subst (λ (x : GPTHeader). IsCopyLaid x fs ss start mid) first_to laid_first));
-      own = subst (λ (xs : List GPTPartitionEntry). IsCopyLaid (with_checksums h es) xs ss mid new) gs_is
-          (subst (λ (x : GPTHeader). IsCopyLaid x gs ss mid new) second_to laid_second);
-    }
+-- Both copies stand where both were copied, off the layout too, where their ranges are apart and nothing was refused.
+pub copied_stand : (h : GPTHeader) (es : List GPTPartitionEntry) (ss : ℕ) (a s b c : DiskState) → AreApart (both_ranges h ss) → list_all (is_inside (length a.view)) (both_ranges h ss) ≡ true
+    → length es ≡ h.number_of_partition_entries → s.view ≡ a.view → IsCopied (other_header h) es ss s b → Wrote (write_ranges h ss) b c → IsCopied h es ss b c
+    → HasBytes c.view (with_checksums h es) es ss × HasBytes c.view (with_checksums (other_header h) es) es ss
+copied_stand h es ss a s b c apart lies count read first second own =
+    let mine : Ranges = write_ranges h ss in
+    let theirs : Ranges = write_ranges (other_header h) ss in
+    let mine_is = sealed_ranges h es ss in
+    let theirs_is = sealed_ranges (other_header h) es ss in
+    let inside = and_parts (list_all (is_inside (length a.view)) mine) (list_all (is_inside (length a.view)) theirs) (sym (list_all-append (is_inside (length a.view)) mine theirs) ∙ lies) in
+    let P : Ranges → Type 0 = λ rs. list_all (is_inside (length a.view)) rs ≡ true in
+    let ranges : theirs ++ mine ≡ write_ranges (with_checksums (other_header h) es) ss ++ write_ranges (with_checksums h es) ss = λ i. sym theirs_is i ++ sym mine_is i in
+    let both = laid_both a.view b.view c.view (with_checksums (other_header h) es) (with_checksums h es) es ss (subst AreApart ranges (apart_exchanged mine theirs apart))
+    (subst P (sym theirs_is) inside.1) (subst P (sym mine_is) inside.0) first.fits.0 own.fits.0 first.fits.1
+    (count ∙ sym (sealed_count (other_header h) es)) (count ∙ sym (sealed_count h es))
+    (subst (λ (v : List ℕ). IsCopyLaid (with_checksums (other_header h) es) es ss v b.view) read first.laid) own.laid
+    (subst (λ (rs : Ranges). AgreesOutside rs b.view c.view) (sym mine_is) second.view) in
+    (both.1, both.0)

@@ -42,12 +42,6 @@ pub record StartsSynced (disk : DiskState) (g : GPT) : Type 0 where
   pub start : StartsLaidOut disk g
   pub synced : disk.pending ≡ []
 
--- An honest disk with nothing pending, on which no two ranges of the value's copies have a byte in common.
-pub record StartsApart (disk : DiskState) (g : GPT) : Type 0 where
-  pub honest : IsHonest disk
-  pub synced : disk.pending ≡ []
-  pub apart : AreApart (table_ranges g)
-
 -- An honest disk on which the value has the stated layout, with one good copy of the old table,
 pub record StartsFromOne (disk : DiskState) (g : GPT) (old : Table) : Type 0 where
   pub start : StartsLaidOut disk g

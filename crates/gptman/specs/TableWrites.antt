@@ -49,27 +49,6 @@ RefusesUnwritten result old new = IsHonest old → IfErr result (λ e. (fault_of
 abbrev pub HasBothCopies : List ℕ → GPT → GPTHeader → Type 0
 HasBothCopies b g h = HasBytes b g.header (entries_in g) g.sector_size × HasBytes b h (entries_in g) g.sector_size
 
--- The bytes have a copy in its place, and each field of header and entries has room in its bytes, so that they can be read back.
-pub record IsWhole (b : List ℕ) (h : GPTHeader) (es : List GPTPartitionEntry) (ss : ℕ) : Type 0 where
-  pub bytes : HasBytes b h es ss
-  pub header_fits : FitsHeader h
-  pub entries_fit : All FitsEntry es
-
--- Outside of the other copy's ranges it is as it was, or the other copy stands there whole.
-abbrev pub IsOneWhole : GPTHeader → List GPTPartitionEntry → ℕ → List ℕ → List ℕ → Type 0
-IsOneWhole h es ss old b = AgreesOutside (write_ranges (other_header h) ss) old b ⊎ IsWhole b (with_checksums (other_header h) es) es ss
-
--- What a write of two copies leaves where it fails: nothing was written; or the other copy was begun; or it is whole in whatever a stop may leave, and
--- the own one was not begun or its header is not synced.
-pub data LeavesOnFailure (h : GPTHeader) (es : List GPTPartitionEntry) (ss : ℕ) (old new : DiskState) : Type 0 where
-  nothing : Untouched old new → LeavesOnFailure h es ss old new
-  other_begun : AgreesOutside (write_ranges (other_header h) ss) old.view new.view → Within new.pending (write_ranges (other_header h) ss)
-      → Contains new.pending ((other_header h).primary_lba * ss, 92) → LeavesOnFailure h es ss old new
-  own_not_begun : ((b : List ℕ) → Image new b → IsWhole b (with_checksums (other_header h) es) es ss)
-      → AgreesOutside (write_ranges (other_header h) ss) old.view new.view → new.pending ≡ [] → LeavesOnFailure h es ss old new
-  own_begun : ((b : List ℕ) → Image new b → IsWhole b (with_checksums (other_header h) es) es ss)
-      → Contains new.pending (h.primary_lba * ss, 92) → LeavesOnFailure h es ss old new
-
 -- A table that may be written to a disk of len bytes.
 pub record MayBeWritten (g : GPT) (len : ℕ) : Type 0 where
   pub valid : IsValid g.header (entries_in g)

@@ -7,20 +7,19 @@ ghost use Rattle.gptman_copy.specs.Answers.{CountsFailure, FailsPending, HasCaus
 ghost use Rattle.gptman_copy.specs.Coding.{array_bytes};
 ghost use Rattle.gptman_copy.specs.Copy.{with_checksums, IsCoherent};
 ghost use Rattle.gptman_copy.specs.Crc.{crc_of};
-ghost use Rattle.gptman_copy.specs.Disk.{HasFailedOnceAtMost, IsHonest, Keeps, LeavesOnly, Reads, Writes};
+ghost use Rattle.gptman_copy.specs.Disk.{HasFailedOnceAtMost, IsHonest, Keeps, Reads, Writes};
 ghost use Rattle.gptman_copy.specs.Fault.{fault_of, io as io_fault};
 ghost use Rattle.gptman_copy.specs.Ranges.{AreApart};
 ghost use Rattle.gptman_copy.specs.Write.{copy_write_fault, header_range, other_header, write_ranges};
 ghost use Rattle.gptman_copy.specs.Write.{FitsCopy, LaysCopy, SameButSums};
 ghost use Rattle.gptman.specs.Crash.{AreReadAlone, BothSidesAfter, StopsKeepOthers};
-ghost use Rattle.gptman.specs.Crash.{StartsApart, StartsFromOne, StartsLaidOut, StartsStored, StartsSynced};
+ghost use Rattle.gptman.specs.Crash.{StartsFromOne, StartsLaidOut, StartsStored, StartsSynced};
 ghost use Rattle.gptman.specs.Layout.{HasLayout};
 ghost use Rattle.gptman.specs.Stop.{IsStored, StopsAreReadAs, StopsHold};
 ghost use Rattle.gptman.specs.Table.{entries_in, table_in, Table};
 ghost use Rattle.gptman.specs.TableWrites.{other_with_checksums, table_ranges, table_write_fault};
 ghost use Rattle.gptman.specs.TableWrites.{value_with_checksums};
-ghost use Rattle.gptman.specs.TableWrites.{HasBothCopies, IsButSums, IsFailureOrMemory, IsOneWhole};
-ghost use Rattle.gptman.specs.TableWrites.{LeavesOnFailure};
+ghost use Rattle.gptman.specs.TableWrites.{HasBothCopies, IsButSums, IsFailureOrMemory};
 ghost use Rattle.gptman.specs.TableWrites.{MayBeWritten, RefusesAtOnce, RefusesUnwritten, RefusesWrite};
 ghost use Rattle.gptman.specs.Valid.{IsValid};
 
@@ -113,46 +112,8 @@ impl GPT {
     {
         let alloc = self.partitions.alloc();
         check(alloc, &self.header, self.partitions.as_slice())?;
-        self.write_both(disk)
-    }
 
-    // Writes both copies of a table that is valid. It takes no memory.
-    fn write_both<D: Disk>(&mut self, disk: &mut D) -> Result<GPTHeader>
-        requires sector { 0 < self.old.sector_size }
-        requires coherent { IsCoherent self.old.header (entries_in self.old) }
-        ensures keeps { Keeps (D.state disk.old) (D.state disk.new) }
-        ensures counts { CountsFailure result (D.state disk.old) (D.state disk.new) }
-        ensures once { HasFailedOnceAtMost (D.state disk.old) (D.state disk.new) }
-
-        // What is answered. A refusal other than NoSpaceLeft needs nothing of the disk.
-        ensures at_once { RefusesAtOnce (table_write_fault self.old (D.state disk.old).size) result }
-        ensures answer { Settles (table_write_fault self.old (D.state disk.old).size) result
-            (D.state disk.old) (D.state disk.new) }
-        ensures cause { HasCause result (D.state disk.old) (D.state disk.new) }
-
-        // What becomes of the value, and the other header.
-        ensures value { OnOk result (self.new ≡ value_with_checksums self.old) }
-        ensures kept { IfErr result (λ e. (fault_of e ≡ io_fault) ⊎ (self.new ≡ self.old)) }
-        ensures sums { IsButSums self.old self.new }
-        ensures other { IfOk result (λ h. h ≡ other_with_checksums self.old) }
-
-        // What becomes of the disk.
-        ensures wrote { Writes (table_ranges self.old) (D.state disk.old) (D.state disk.new) }
-        ensures synced { IsHonest (D.state disk.old) → OnOk result ((D.state disk.new).pending ≡ []) }
-        ensures laid { IsHonest (D.state disk.old) → AreApart (table_ranges self.old)
-            → IfOk result (HasBothCopies (D.state disk.new).view self.new) }
-        ensures untouched { RefusesUnwritten result (D.state disk.old) (D.state disk.new) }
-        ensures stored { StartsLaidOut (D.state disk.old) self.old
-            → OnOk result (IsStored (D.state disk.new) self.old.sector_size (table_in self.old)) }
-
-        // A stop at any moment leaves all but the other copy's ranges as it was, or the other copy whole.
-        ensures one_whole { StartsApart (D.state disk.old) self.old
-            → LeavesOnly (D.state disk.old) (D.state disk.new)
-            (IsOneWhole self.old.header (entries_in self.old) self.old.sector_size (D.state disk.old).view) }
-        ensures failed { StartsApart (D.state disk.old) self.old → OnErr result
-            (LeavesOnFailure self.old.header (entries_in self.old) self.old.sector_size
-            (D.state disk.old) (D.state disk.new)) }
-    {
+        // No memory is taken from here on.
         let sector_size = self.sector_size;
         let mut other = self.writable_other(disk)?;
         let entries = self.partitions.as_slice();

@@ -1,0 +1,265 @@
+-- The argument about stops, with the two sides of the stated layout and the tables that they hold.
+use Rattle.std.proofs.Common.{◌≡◌, ◌⊎◌, inl, inr, ⊎_elim, ◌<◌, ◌*◌, ◌^◌, ℕ, List, [], ◌∷◌, length, refl, sym, ap, ◌∙◌, subst, arith}
+use Rattle.std.specs.List.{All, Contains}
+use Rattle.std.proofs.lemmas.List.{length-map}
+use Rattle.gptman_copy.specs.Coding.{FitsHeader, FitsEntry}
+use Rattle.gptman_copy.specs.Copy.{with_checksums}
+use Rattle.gptman_copy.specs.Disk.{DiskState, Image, LeavesOnly, OnlyRead, Outside, Untouched, Wrote, Within}
+use Rattle.gptman_copy.specs.Ranges.{AgreesInside, AreApart, AreClear, AreInside}
+use Rattle.gptman_copy.specs.Write.{other_header, header_range, write_ranges, FitsCopy, HasBytes, IsCopyLaid}
+use Rattle.gptman.specs.Crash.{other_side, BothSidesAfter, IsLeftAlone, SideAfter, StartsFromOne, StartsLaidOut, StartsSynced}
+use Rattle.gptman.specs.Crash.SideAfter.{left_alone, written as holds_new, torn}
+use Rattle.gptman.specs.Layout.{Holds, IsLaidOut, ranges_at}
+use Rattle.gptman.specs.Reading.{Side, primary, backup, copy_start}
+use Rattle.gptman.specs.Stop.{HoldsOneOf, IsStored, StopsHold}
+use Rattle.gptman.specs.Table.{Table, content_of, entries_in, table_in, table_of, IsHeaderForm}
+use Rattle.gptman_copy.specs.declared.codec.header.GPTHeader.{GPTHeader}
+use Rattle.gptman_copy.specs.declared.codec.entry.GPTPartitionEntry.{GPTPartitionEntry}
+use Rattle.gptman.specs.declared.table.GPT.{GPT}
+use Rattle.gptman.proofs.OneGood.{layout_form}
+use Rattle.gptman_copy.proofs.Ranges.{Ranges, contains_first, contains_later, within_none, within_self}
+use Rattle.gptman_copy.proofs.Runs.{wrote_then, wrote_wider}
+use Rattle.gptman.proofs.Apart.{clear_if_apart}
+use Rattle.gptman.proofs.Argument.{Came, IsToldBy, at_any_moment, clear_ranges, held_in_any_image, held_stored, only_read, other_begun, own_begun, stays, untouched_ranges, written}
+use Rattle.gptman.proofs.FourRanges.{form_ranges, other_ranges, sides_apart, sides_clear}
+use Rattle.gptman.proofs.Held.{holds_local}
+use Rattle.gptman.proofs.LaidCopies.{copy_ranges, laid_stands, within_copy}
+use Rattle.gptman.proofs.OtherHeader.{other_table, other_form}
+use Rattle.gptman.proofs.Sealing.{IsSealed, sealed_is, sealed_table, sealed_form}
+use Rattle.gptman.proofs.WrittenCopy.{written_start, written_array, written_holds}
+
+-- ---- what is written whole is accepted
+
+-- A header of the table with its checksums, in the form of a side.
+pub record IsHeaderOf (t : Table) (side : Side) (h : GPTHeader) (es : List GPTPartitionEntry) : Type 0 where
+  pub table : table_of h es ≡ t
+  pub form : IsHeaderForm side h
+  pub fits : FitsHeader h
+  pub sums : IsSealed h es
+
+header_laid : (t : Table) (side : Side) (h : GPTHeader) (es : List GPTPartitionEntry) (ss len : ℕ) → IsHeaderOf t side h es → IsLaidOut t ss len → IsLaidOut (table_of h es) ss len
+header_laid t side h es ss len is laid = subst (λ (u : Table). IsLaidOut u ss len) (sym is.table) laid
+
+header_count : (t : Table) (side : Side) (h : GPTHeader) (es : List GPTPartitionEntry) (ss len : ℕ) → IsHeaderOf t side h es → IsLaidOut t ss len → length es ≡ h.number_of_partition_entries
+header_count t side h es ss len is laid = sym (length-map es content_of) ∙ (header_laid t side h es ss len is laid).entries
+
+-- the ranges of its copy are those of the table at the side
+header_ranges : (t : Table) (side : Side) (h : GPTHeader) (es : List GPTPartitionEntry) (ss len : ℕ) → IsHeaderOf t side h es → IsLaidOut t ss len → ranges_at side t ss len ≡ copy_ranges h ss
+header_ranges t side h es ss len is laid =
+    let start = written_start side h es ss len is.form (header_laid t side h es ss len is laid) in
+    let array = written_array side h es ss is.form in
+    ap (λ (u : Table). ranges_at side u ss len) (sym is.table)
+    ∙ (λ i. (sym start i, 92) ∷ (sym array i, 128 * h.number_of_partition_entries) ∷ [])
+
+-- the side holds the table where its bytes stand
+pub header_held : (b : List ℕ) (t : Table) (side : Side) (h : GPTHeader) (es : List GPTPartitionEntry) (ss : ℕ) → length b < 2 ^ 64 → IsHeaderOf t side h es → IsLaidOut t ss (length b)
+    → All FitsEntry es → HasBytes b h es ss → Holds b ss side t
+header_held b t side h es ss small is laid fits has =
+    subst (Holds b ss side) is.table
+    (written_holds b ss side h es (omega (arith, small)) (header_laid t side h es ss (length b) is laid) is.form is.fits fits is.sums has)
+
+pub sealed_header : (side : Side) (h : GPTHeader) (es : List GPTPartitionEntry) (t : Table) → table_of h es ≡ t → IsHeaderForm side h → FitsHeader (with_checksums h es) → IsHeaderOf t side (with_checksums h es) es
+unfolding with_checksums
+sealed_header side h es t table form fits = record {
+  table = sealed_table h es ∙ table;
+  form = sealed_form side h es form;
+  fits = fits;
+  sums = sealed_is h es fits.signature fits.revision;
+}
+
+-- ---- a side holds a table, of a list of so many bytes
+
+abbrev pub HeldAt : ℕ → ℕ → Side → Table → List ℕ → Type 0
+HeldAt len ss side t b = (length b ≡ len) × Holds b ss side t
+
+-- It is told by the bytes in its two ranges there.
+pub held_told : (len ss : ℕ) (side : Side) (t : Table) → IsToldBy (HeldAt len ss side t) (ranges_at side t ss len)
+held_told len ss side t b c held agrees =
+    (agrees.long ∙ held.0, holds_local b c ss side t held.1 (subst (λ (n : ℕ). AgreesInside (ranges_at side t ss n) b c) (sym held.0) agrees))
+
+-- the two ranges of a side are apart and on the disk
+side_apart : (side : Side) (t : Table) (ss len : ℕ) → IsLaidOut t ss len → AreApart (ranges_at side t ss len)
+side_apart primary t ss len laid = ((laid.apart.0.0, tt), (tt, tt))
+side_apart backup t ss len laid = laid.apart.1.1
+
+side_inside : (side : Side) (t : Table) (ss len : ℕ) → IsLaidOut t ss len → AreInside (ranges_at side t ss len) len
+side_inside primary t ss len laid = (laid.inside.0, (laid.inside.1.0, tt))
+side_inside backup t ss len laid = laid.inside.1.1
+
+-- A copy of a table was laid, with its checksums made, and synced.
+pub record IsCopied (h : GPTHeader) (es : List GPTPartitionEntry) (ss : ℕ) (a b : DiskState) : Type 0 where
+  pub fits : FitsCopy (with_checksums h es) es
+  pub laid : IsCopyLaid (with_checksums h es) es ss a.view b.view
+  pub synced : b.pending ≡ []
+
+-- so said of the header and the entries that a call was given
+pub copied : (h g first : GPTHeader) (es fs : List GPTPartitionEntry) (ss : ℕ) (a b : DiskState) → g ≡ h → fs ≡ es → first ≡ with_checksums g fs → FitsCopy first fs
+    → IsCopyLaid first fs ss a.view b.view → b.pending ≡ [] → IsCopied h es ss a b
+copied h g first es fs ss a b same_h same_es is fits laid synced =
+    let to : first ≡ with_checksums h es = is ∙ (λ i. with_checksums (same_h i) (same_es i)) in
+    record {
+      fits = subst (λ (x : GPTHeader). FitsCopy x es) to (subst (λ (xs : List GPTPartitionEntry). FitsCopy first xs) same_es fits);
+      laid = subst (λ (x : GPTHeader). IsCopyLaid x es ss a.view b.view) to (subst (λ (xs : List GPTPartitionEntry). IsCopyLaid first xs ss a.view b.view) same_es laid);
+      synced = synced;
+    }
+
+-- Then its side holds the table.
+copied_held : (side : Side) (h : GPTHeader) (es : List GPTPartitionEntry) (t : Table) (ss len : ℕ) (a b : DiskState) → table_of h es ≡ t → IsHeaderForm side h → IsLaidOut t ss len
+    → len < 2 ^ 64 → length a.view ≡ len → IsCopied h es ss a b → HeldAt len ss side t b.view
+copied_held side h es t ss len a b table form laid small long copy =
+    let g : GPTHeader = with_checksums h es in
+    let is = sealed_header side h es t table form copy.fits.0 in
+    let ranges = header_ranges t side g es ss len is laid in
+    let room : AreInside (copy_ranges g ss) (length a.view) =
+    subst (λ (rs : Ranges). AreInside rs (length a.view)) ranges (subst (λ (n : ℕ). AreInside (ranges_at side t ss len) n) (sym long) (side_inside side t ss len laid)) in
+    let stands = laid_stands a.view b.view g es ss (subst AreApart ranges (side_apart side t ss len laid)) room copy.fits.0 copy.fits.1 (header_count t side g es ss len is laid) copy.laid in
+    let same : length b.view ≡ len = stands.1 ∙ long in
+    (same, header_held b.view t side g es ss (omega (arith, small, same)) is (subst (IsLaidOut t ss) (sym same) laid) copy.fits.1 stands.0)
+
+-- ---- a write of a value, whose header is in the form of a side
+
+module _ (side : Side) (h : GPTHeader) (es : List GPTPartitionEntry) (ss len : ℕ) (form : IsHeaderForm side h) (laid : IsLaidOut (table_of h es) ss len) where
+  abbrev t : Table
+  t = table_of h es
+
+  abbrev own : Ranges
+  own = ranges_at side t ss len
+
+  abbrev other : Ranges
+  other = ranges_at (other_side side) t ss len
+
+  -- how far it came
+  abbrev pub Comes : DiskState → DiskState → Type 1
+  Comes a c = Came own other (copy_start side len ss, 92) (copy_start (other_side side) len ss, 92) (HeldAt len ss side t) (HeldAt len ss (other_side side) t) a c
+
+  own_run : (a b : DiskState) → Wrote (write_ranges h ss) a b → Wrote own a b
+  own_run a b run = wrote_wider (subst (λ (rs : Ranges). Within (write_ranges h ss) rs) (sym (form_ranges side h es ss len form laid)) (within_copy h ss)) run
+
+  other_run : (o : GPTHeader) (a s b : DiskState) → o ≡ other_header h → OnlyRead a s → Wrote (write_ranges o ss) s b → Wrote other a b
+  other_run o a s b is read run =
+      let within : Within (write_ranges (other_header h) ss) other =
+      subst (λ (rs : Ranges). Within (write_ranges (other_header h) ss) rs) (sym (other_ranges side h es ss len form laid)) (within_copy (other_header h) ss) in
+      wrote_then within (wrote_wider within_none read.wrote) (subst (λ (x : GPTHeader). Wrote (write_ranges x ss) s b) is run)
+
+  other_start : (other_header h).primary_lba * ss ≡ copy_start (other_side side) len ss
+  other_start = written_start (other_side side) (other_header h) es ss len (other_form side h form) (subst (λ (u : Table). IsLaidOut u ss len) (sym (other_table h es)) laid)
+
+  -- the other copy was begun
+  pub first_fails : (o : GPTHeader) (a s b : DiskState) → o ≡ other_header h → OnlyRead a s → Wrote (write_ranges o ss) s b
+      → Untouched s b ⊎ Contains b.pending (header_range o ss) → Comes a b
+  first_fails o a s b is read run begun = other_begun (other_run o a s b is read run) (⊎_elim
+      (λ still. inl (record { view = still.view ∙ read.view; pending = still.pending ∙ read.pending }))
+      (λ torn. inr (subst (λ (n : ℕ). Contains b.pending (n, 92)) (ap (λ (x : GPTHeader). x.primary_lba * ss) is ∙ other_start) torn)) begun)
+
+  -- it is held once it was copied
+  other_held : (a s b : DiskState) → len < 2 ^ 64 → length a.view ≡ len → OnlyRead a s → IsCopied (other_header h) es ss s b → HeldAt len ss (other_side side) t b.view
+  other_held a s b small long read copy =
+      copied_held (other_side side) (other_header h) es t ss len s b (other_table h es) (other_form side h form) laid small (ap (λ (v : List ℕ). length v) read.view ∙ long) copy
+
+  -- and then the own one was begun
+  pub second_fails : (o : GPTHeader) (a s b c : DiskState) → len < 2 ^ 64 → length a.view ≡ len → o ≡ other_header h → OnlyRead a s → Wrote (write_ranges o ss) s b
+      → IsCopied (other_header h) es ss s b → Wrote (write_ranges h ss) b c → Untouched b c ⊎ Contains c.pending (header_range h ss) → Comes a c
+  second_fails o a s b c small long is read run copy second begun =
+      own_begun b (other_run o a s b is read run) copy.synced (other_held a s b small long read copy) (own_run b c second) (⊎_elim (λ still. inl still)
+      (λ torn. inr (subst (λ (n : ℕ). Contains c.pending (n, 92)) (written_start side h es ss len form laid) torn)) begun)
+
+  -- or both were written
+  pub both_done : (o : GPTHeader) (a s b c : DiskState) → len < 2 ^ 64 → length a.view ≡ len → o ≡ other_header h → OnlyRead a s → Wrote (write_ranges o ss) s b
+      → IsCopied (other_header h) es ss s b → Wrote (write_ranges h ss) b c → IsCopied h es ss b c → Comes a c
+  both_done o a s b c small long is read run copy second done =
+      let first = other_held a s b small long read copy in
+      written b (other_run o a s b is read run) copy.synced first (own_run b c second) done.synced (copied_held side h es t ss len b c refl form laid small first.0 done)
+
+  -- ---- so from one good copy, a stop at any moment leaves the old table or the new one
+
+  pub one_good : (was : Table) (a c : DiskState) → length a.view ≡ len → a.pending ≡ [] → Holds a.view ss side was → AreClear (ranges_at side was ss len) other → Comes a c
+      → LeavesOnly a c (λ x. HoldsOneOf x ss (was ∷ t ∷ []))
+  one_good was a c long synced held clear come = λ x left. ⊎_elim
+      (λ old. record { side = side; table = was; listed = contains_first was (t ∷ []); holds = old.1 })
+      (λ new. record { side = other_side side; table = t; listed = contains_later t was (t ∷ []) (contains_first t []); holds = new.1 })
+      (at_any_moment own other (copy_start side len ss, 92) (copy_start (other_side side) len ss, 92) (HeldAt len ss side t) (HeldAt len ss (other_side side) t) a c
+      (HeldAt len ss side was) (ranges_at side was ss len) (held_told len ss side was) clear (held_told len ss (other_side side) t) (sides_clear side t ss len laid)
+      synced (long, held) come x left)
+
+  -- ---- and after an error each side is as it was, or holds the new table in whatever a stop may leave, or has its header pending
+
+  alone : (p : Side) (a c : DiskState) → a.size ≡ len → IsLeftAlone (ranges_at p t ss len) a c → SideAfter p t ss a c
+  alone p a c size is = left_alone (subst (λ (n : ℕ). IsLeftAlone (ranges_at p t ss n) a c) (sym size) is)
+
+  pending : (p : Side) (a c : DiskState) → a.size ≡ len → Contains c.pending (copy_start p len ss, 92) → SideAfter p t ss a c
+  pending p a c size is = torn (subst (λ (n : ℕ). Contains c.pending (copy_start p n ss, 92)) (sym size) is)
+
+  own_clear : AreClear own other
+  own_clear = clear_if_apart own other (sides_apart side t ss len laid)
+
+  other_clear : AreClear other own
+  other_clear = sides_clear side t ss len laid
+
+  new_held : (b c : DiskState) → b.pending ≡ [] → HeldAt len ss (other_side side) t b.view → Wrote own b c → (x : List ℕ) → Image c x → Holds x ss (other_side side) t
+  new_held b c stored new second = λ x image.
+      (held_in_any_image (HeldAt len ss (other_side side) t) other own b c (held_told len ss (other_side side) t) other_clear stored new second x image).1
+
+  pub own_after : (a c : DiskState) → a.size ≡ len → a.pending ≡ [] → Comes a c → SideAfter side t ss a c
+  own_after a c size synced (only_read read) = alone side a c size (untouched_ranges own a c read.view (read.pending ∙ synced))
+  own_after a c size synced (other_begun run begun) = alone side a c size (clear_ranges own other a c own_clear synced run)
+  own_after a c size synced (own_begun b first stored new second (inl still)) =
+      let here = clear_ranges own other a b own_clear synced first in
+      alone side a c size (record {
+        not_pending = λ k inside. subst (λ (ps : Ranges). Outside ps k) (sym still.pending) (here.not_pending k inside);
+        same = subst (λ (v : List ℕ). AgreesInside own a.view v) (sym still.view) here.same;
+      })
+  own_after a c size synced (own_begun b first stored new second (inr begun)) = pending side a c size begun
+  own_after a c size synced (written b first stored new second done here) =
+      holds_new (λ x image. (held_stored (HeldAt len ss side t) own c (held_told len ss side t) done here x image).1)
+
+  pub other_after : (a c : DiskState) → a.size ≡ len → a.pending ≡ [] → Comes a c → SideAfter (other_side side) t ss a c
+  other_after a c size synced (only_read read) = alone (other_side side) a c size (untouched_ranges other a c read.view (read.pending ∙ synced))
+  other_after a c size synced (other_begun run (inl still)) = alone (other_side side) a c size (untouched_ranges other a c still.view (still.pending ∙ synced))
+  other_after a c size synced (other_begun run (inr begun)) = pending (other_side side) a c size begun
+  other_after a c size synced (own_begun b first stored new second begun) = holds_new (new_held b c stored new second)
+  other_after a c size synced (written b first stored new second done here) = holds_new (new_held b c stored new second)
+
+  -- ---- after Ok both sides hold it
+
+  pub stored_both : (a s b c : DiskState) → len < 2 ^ 64 → length a.view ≡ len → OnlyRead a s → IsCopied (other_header h) es ss s b → Wrote (write_ranges h ss) b c
+      → IsCopied h es ss b c → Holds c.view ss side t × Holds c.view ss (other_side side) t
+  stored_both a s b c small long read copy second done =
+      let first = other_held a s b small long read copy in (
+        (copied_held side h es t ss len b c refl form laid small first.0 done).1,
+        (stays (HeldAt len ss (other_side side) t) other own b.view c.view (held_told len ss (other_side side) t) other_clear first (own_run b c second).view).1,
+      )
+
+-- ---- said of a value, whose header is in the form of one side or the other
+
+-- both sides, by name
+pub by_name : (P : Side → Type 0) (side : Side) → P side → P (other_side side) → P primary × P backup
+by_name P primary own other = (own, other)
+by_name P backup own other = (other, own)
+
+module _ (g : GPT) (a c : DiskState) (long : length a.view ≡ a.size) where
+  -- how far the write of the value came, in whichever of the two forms its header is
+  abbrev pub ComesFor : Type 1
+  ComesFor = (side : Side) (form : IsHeaderForm side g.header) (laid : IsLaidOut (table_in g) g.sector_size a.size) → Comes side g.header (entries_in g) g.sector_size a.size form laid a c
+
+  pub good_of : (was : Table) → StartsFromOne a g was → ComesFor → StopsHold a c g.sector_size (was ∷ table_in g ∷ [])
+  good_of was from come =
+      let kept = from.kept in
+      let laid = from.start.layout.table in
+      one_good kept.side g.header (entries_in g) g.sector_size a.size kept.form laid was a c long kept.synced kept.held kept.clear (come kept.side kept.form laid)
+
+  pub after_of : StartsSynced a g → ComesFor → BothSidesAfter g a c
+  after_of from come =
+      let at = layout_form g.header (entries_in g) g.sector_size a.size from.start.layout in
+      let laid = from.start.layout.table in
+      let here = come at.0 at.1 laid in
+      by_name (λ p. SideAfter p (table_in g) g.sector_size a c) at.0
+      (own_after at.0 g.header (entries_in g) g.sector_size a.size at.1 laid a c refl from.synced here)
+      (other_after at.0 g.header (entries_in g) g.sector_size a.size at.1 laid a c refl from.synced here)
+
+  pub stored_of : (s b : DiskState) → a.size < 2 ^ 64 → StartsLaidOut a g → OnlyRead a s → IsCopied (other_header g.header) (entries_in g) g.sector_size s b
+      → Wrote (write_ranges g.header g.sector_size) b c → IsCopied g.header (entries_in g) g.sector_size b c → IsStored c g.sector_size (table_in g)
+  stored_of s b small start read copy second done =
+      let at = layout_form g.header (entries_in g) g.sector_size a.size start.layout in
+      let both = stored_both at.0 g.header (entries_in g) g.sector_size a.size at.1 start.layout.table a s b c small long read copy second done in
+      let named = by_name (λ p. Holds c.view g.sector_size p (table_in g)) at.0 both.0 both.1 in
+      record { synced = done.synced; at_primary = named.0; at_backup = named.1 }
