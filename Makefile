@@ -1,6 +1,6 @@
 # Needs `rt` of the Rattle kit on the PATH; README.md says what else.
 
-.PHONY: try gptimg gptguid install demo test bench crash-states trials
+.PHONY: try gptimg gptguid install demo check test plants bench crash-states trials
 
 # Where `make install` puts the programs and their manual pages.
 PREFIX = /usr/local
@@ -30,10 +30,19 @@ install:
 demo: gptimg
 	@scripts/demo
 
-# Proves every crate from nothing, runs all tests, and tries the program that this built. The last line
-# is 'N passed, M failed'.
+# Proves every crate, runs all tests, and tries the program that this built: for every day.
+check:
+	@scripts/check
+
+# The gate: the same from nothing, has the prover refuse each wrong body, and each growth refused in turn. It
+# tells how long each part took. The last line is 'N passed, M failed'.
 test:
 	@scripts/gate
+
+# Has the prover make wrong bodies of its own for each function, and tells which of them still prove and are
+# not on the list of docs/PLANTS.md.
+plants:
+	@scripts/plants
 
 # Tells how long calls of the library take, and what the program costs beside others. Looks at those of
 # valgrind, strace, sgdisk, sfdisk, parted and cgpt that are installed.

@@ -186,8 +186,11 @@ pub returns-in_err-write_and_sync-2-clause-room : goal.returns-in_err-write_and_
 returns-in_err-write_and_sync-2-clause-room g c = λ layout valid.
     let p = err_from_is_err_and c.from_residual-in_err-write_and_sync-2.result c.from_residual-in_err-write_and_sync-2.ensures.1 in
     let failed = c.in_err-write_and_sync-2.ensures.refused in
-    rw (p.1, p.2) (inr (failed.0, rose_since _ (g.D.Disk.state c.write_and_sync.new.disk) (g.D.Disk.state c.write_and_sync-2.new.disk)
-    (keeps_then c.in_ok-other.ensures.reads.keeps c.write_and_sync.ensures.keeps) failed.1))
+    rw (p.1, p.2) (inr (
+      failed.0,
+      rose_since _ (g.D.Disk.state c.write_and_sync.new.disk) (g.D.Disk.state c.write_and_sync-2.new.disk)
+          (keeps_then c.in_ok-other.ensures.reads.keeps c.write_and_sync.ensures.keeps) failed.1,
+    ))
 
 pub returns-in_err-write_and_sync-2-clause-wrote : goal.returns-in_err-write_and_sync-2-clause-wrote
 returns-in_err-write_and_sync-2-clause-wrote g c = λ honest.
