@@ -53,7 +53,7 @@ make_images() {
     gpt before.img add 2 "$linux_type" 44444444444444444444444444444444 20480 first 2048 root
     truncate -s $((esp_size * 512)) esp.fat
     mkfs.fat -F 32 -s 1 esp.fat > said
-    printf 'echo RIVET-BOOTED\r\nmap -r\r\nreset -s\r\n' > startup.nsh
+    printf 'echo IMAGE-BOOTED\r\nmap -r\r\nreset -s\r\n' > startup.nsh
     mcopy -i esp.fat startup.nsh ::/startup.nsh
     dd if=esp.fat of=before.img bs=512 seek="$esp_start" conv=notrunc status=none
     cp before.img after.img
@@ -109,7 +109,7 @@ try_stop() {
     shift 2
     make_stopped "$@"
     start_firmware > log
-    booted=$(grep -c '^RIVET-BOOTED' log)
+    booted=$(grep -c '^IMAGE-BOOTED' log)
     seen=$(grep -aoE 'HD\([0-9]+,GPT' log | sort -u | wc -l)
     read=$("$program" stopped.img 512 show | tail -n +2 | wc -l)
     if [ "$booted $seen $read" = "1 $wanted $wanted" ]; then
