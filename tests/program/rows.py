@@ -1,5 +1,5 @@
-"""Makes the images that the rows of rows.txt leave, from docs/FORMAT.md alone, and prints the first 16 digits of
-the SHA-256 of each, in the order of the rows. It shares no code with the program.
+"""Makes the images that the rows of rows.txt leave, from docs/FORMAT.md alone, and prints the first 16
+digits of the SHA-256 of each, in the order of the rows. It shares no code with the program.
 """
 import hashlib
 import struct
@@ -17,8 +17,8 @@ def entry(unique, first, last, name):
 def header(own, other, first, last, disk, at, array):
     """The 92 bytes of a header with both checksums."""
     def packed(checksum):
-        return struct.pack("<8s4sII4sQQQQ16sQIII", b"EFI PART", b"\0\0\1\0", 92, checksum, bytes(4), own, other,
-                           first, last, disk, at, 128, 128, zlib.crc32(array))
+        return struct.pack("<8s4sII4sQQQQ16sQIII", b"EFI PART", b"\0\0\1\0", 92, checksum, bytes(4), own,
+                           other, first, last, disk, at, 128, 128, zlib.crc32(array))
     return packed(zlib.crc32(packed(0)))
 
 
@@ -40,7 +40,8 @@ def lay(image, entries, sector=512, disk=DISK):
 
 def mbr(image, flag):
     """The image with a protective MBR for sectors of 512 bytes."""
-    partition = bytes([flag, 0, 2, 0, 0xEE, 255, 255, 255]) + struct.pack("<II", 1, len(image) // 512 - 1)
+    kind = bytes([flag, 0, 2, 0, 0xEE, 255, 255, 255])
+    partition = kind + struct.pack("<II", 1, len(image) // 512 - 1)
     return put(image, 446, partition + bytes(48) + b"\x55\xaa")
 
 
@@ -55,7 +56,8 @@ new = tell("512 new $disk", lay(bytes(51200), {}))
 with_foo = tell("512 add 1 .. Foo", lay(new, {1: foo}))
 tell("512 add 2 .. Bar", lay(new, {1: foo, 2: bar}))
 tell("512 remove 1", lay(new, {2: bar}))
-tell("512 mbr plain", mbr(tell("512 sort", lay(new, {1: bar})), 0))
+ordered = tell("512 sort", lay(new, {1: bar}))
+tell("512 mbr plain", mbr(ordered, 0))
 
 twos = put(with_foo, 0, b"\2" * 512)
 tell("512 mbr plain, over bytes 2", mbr(twos, 0))
