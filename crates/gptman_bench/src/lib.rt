@@ -59,19 +59,7 @@ mod ported_writing;
 #[cfg(test)]
 mod program;
 #[cfg(test)]
-mod program_damage;
-#[cfg(test)]
-mod program_failures;
-#[cfg(test)]
-mod program_grow;
-#[cfg(test)]
-mod program_names;
-#[cfg(test)]
-mod program_rows;
-#[cfg(test)]
 mod program_stops;
-#[cfg(test)]
-mod program_words;
 #[cfg(test)]
 mod reading;
 #[cfg(test)]
