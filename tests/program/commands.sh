@@ -10,7 +10,17 @@ try_words() {
     holds "no image was made" [ ! -e missing.img ]
 }
 
+# The commands that gptimg knows are those that are tried, and those of its manual page.
+try_command_names() {
+    local known
+    known=$(sed -n 's/^ *"\([a-z]*\)" => .*/\1/p' "$top/crates/gptimg_core/src/words.rt" | sort)
+    equals "the commands that are tried" "$known" "$(printf '%s\n' "${writers[@]%% *}" "${readers[@]%% *}" | sort)"
+    equals "the commands of gptimg.1" "$known" \
+        "$(sed -n '/^\.TP$/{n;s/^\.BI\{0,1\} \([a-z][a-z]*\).*/\1/p;}' "$top/docs/gptimg.1" | sort)"
+}
+
 try_commands() {
+    try_command_names
     try_own_image
     try_damage
     try_changed_image
