@@ -1,12 +1,12 @@
 //! Commands of the program, each on a disk of 100 sectors of 512 bytes with "Foo" from 34 to 43.
 
-use crate::fixtures::zero_disk;
 use crate::held::Held;
 use crate::memory::Memory;
 use crate::verdict::{Verdict, of_answer};
 use gptimg_core::run;
-use gptman::{Disk, Error, Result};
-use std::alloc::{AllocError, Global};
+use gptman::{Error, Result};
+use gptman_fixtures::tables::{image_of, table_with};
+use gptman_fixtures::words::split;
 
 /// Makes the call of this name. None where it is none of these.
 pub fn try_call(name: &str, memory: &mut Memory) -> Option<Result<Verdict>> {
@@ -23,7 +23,7 @@ type Command = (&'static str, &'static str, &'static str);
 
 const SHOWN: &str =
     "sector 512 form primary disk ffffffffffffffffffffffffffffffff usable 34..66 entries 128 align 1\n\
-     1 11111111111111111111111111111111 22222222222222222222222222222222 34..43 0000000000000000 Foo\n";
+     1 0a0a0a0a0a0a0a0a0a0a0a0a0a0a0a0a 01010101010101010101010101010101 34..43 0000000000000000 Foo\n";
 
 const COMMANDS: [Command; 20] = [
     ("show", "512 show", SHOWN),
@@ -52,47 +52,10 @@ const COMMANDS: [Command; 20] = [
     ("mbr_bootable", "512 mbr bootable", "ok\n"),
 ];
 
-// The words of a line. `F`, `T`, `U` and `V` stand for GUIDs.
-pub fn split(alloc: Global, line: &str) -> std::result::Result<Vec<String>, AllocError> {
-    let mut words = Vec::new(alloc);
-    for word in line.split_whitespace() {
-        words.push(String::from_str(alloc, spelled(word))?)?;
-    }
-    Ok(words)
-}
-
-// The word, or the GUID that it stands for.
-fn spelled(word: &str) -> &str {
-    match word {
-        "F" => "ffffffffffffffffffffffffffffffff",
-        "T" => "11111111111111111111111111111111",
-        "U" => "22222222222222222222222222222222",
-        "V" => "33333333333333333333333333333333",
-        _ => word,
-    }
-}
-
-// Does what this line asks for. `Overflow` where it is not done.
-fn perform<D: Disk>(alloc: Global, disk: &mut D, line: &str) -> Result<()> {
-    let mut printed = Vec::new(alloc);
-    if run(alloc, &split(alloc, line)?, disk, &mut printed)? == 0 {
-        Ok(())
-    } else {
-        Err(Error::Overflow)
-    }
-}
-
-// That disk.
-fn held_with_foo(alloc: Global) -> Result<Held> {
-    let mut disk = zero_disk(alloc)?;
-    perform(alloc, &mut disk, "512 new F")?;
-    perform(alloc, &mut disk, "512 add 1 T U 10 first 1 Foo")?;
-    Held::new(alloc, disk.bytes().to_vec(alloc)?)
-}
-
 // There is room for what is printed, so that no growth of it is refused.
 fn try_command(memory: &mut Memory, line: &str, wanted: &str) -> Result<Verdict> {
-    let mut held = held_with_foo(memory.alloc())?;
+    let mut table = table_with(memory.alloc(), &[(1, "Foo", 34, 43)])?;
+    let mut held = Held::new(memory.alloc(), image_of(memory.alloc(), &mut table)?)?;
     let words = split(memory.alloc(), line)?;
     let mut printed = Vec::with_capacity(memory.alloc(), 512)?;
     memory.begin();

@@ -1,55 +1,46 @@
 //! The disk in memory itself.
 
 use crate::memory::Memory;
-use crate::verdict::{Verdict, of_answer, of_record, of_refusal};
+use crate::verdict::{Verdict, is_of_record, of_answer, of_call};
 use gptman::{Disk, Fate, MemoryDisk, Result};
+use gptman_fixtures::tables::write_at;
 use std::alloc::Global;
-use std::io;
 
 /// Makes the call of this name. None where it is none of these.
 pub fn try_call(name: &str, memory: &mut Memory) -> Option<Result<Verdict>> {
     match name {
-        "disk_new" => Some(make_disk(memory)),
-        "disk_with_fuse" => Some(make_with_fuse(memory)),
-        "disk_stop" => Some(stop_disk(memory)),
+        "disk_new" | "disk_with_fuse" | "disk_stop" => Some(make_disk(name, memory)),
         "disk_write" => Some(write_bytes(memory)),
         "disk_sync" => Some(sync_disk(memory)),
         _ => None,
     }
 }
 
-// What came of a call that makes a disk of these bytes.
-fn of_disk(outcome: &Result<MemoryDisk>, bytes: [u8; 4]) -> Verdict {
-    match outcome {
-        Ok(disk) => of_answer(disk.bytes() == bytes.as_slice()),
-        Err(error) => of_refusal(error, true),
+fn make_disk(name: &str, memory: &mut Memory) -> Result<Verdict> {
+    let bytes = [1, 2, 3, 4].to_vec(memory.alloc())?;
+    let disk = written(memory.alloc())?;
+    memory.begin();
+    let outcome = is_made(name, memory.alloc(), bytes, disk);
+    memory.end();
+    Ok(of_call(&outcome, true))
+}
+
+// Whether the disk that is made, of these bytes or by a stop of this disk, has the bytes that it should.
+fn is_made(name: &str, alloc: Global, bytes: Vec<u8>, disk: MemoryDisk) -> Result<bool> {
+    match name {
+        "disk_new" => Ok(holds(&MemoryDisk::new(alloc, bytes)?, [1, 2, 3, 4])),
+        "disk_with_fuse" => Ok(holds(&MemoryDisk::with_fuse(alloc, bytes, 1)?, [1, 2, 3, 4])),
+        _ => is_left(disk, &[Fate::Garbage(9)], [7, 9, 9, 4]),
     }
 }
 
-fn make_disk(memory: &mut Memory) -> Result<Verdict> {
-    let bytes = [1, 2, 3, 4].to_vec(memory.alloc())?;
-    memory.begin();
-    let outcome = MemoryDisk::new(memory.alloc(), bytes);
-    memory.end();
-    Ok(of_disk(&outcome, [1, 2, 3, 4]))
+fn holds(disk: &MemoryDisk, bytes: [u8; 4]) -> bool {
+    disk.bytes() == bytes.as_slice()
 }
 
-fn make_with_fuse(memory: &mut Memory) -> Result<Verdict> {
-    let bytes = [1, 2, 3, 4].to_vec(memory.alloc())?;
-    memory.begin();
-    let outcome = MemoryDisk::with_fuse(memory.alloc(), bytes, 1);
-    memory.end();
-    Ok(of_disk(&outcome, [1, 2, 3, 4]))
-}
-
-/// Goes to this byte and writes these, where there is room for them.
-pub fn write_at(disk: &mut MemoryDisk, at: u64, bytes: &[u8]) -> io::Result<()> {
-    let size = disk.seek_end()?;
-    disk.seek_start(at)?;
-    if at <= size && size - at >= bytes.len() as u64 {
-        disk.write_all(bytes)?;
-    }
-    Ok(())
+// Whether a stop with these fates leaves these bytes.
+fn is_left(disk: MemoryDisk, fates: &[Fate], bytes: [u8; 4]) -> Result<bool> {
+    Ok(holds(&disk.stop(fates)?, bytes))
 }
 
 // The bytes 1 to 4 with 07 07 at 0, stored, and then at 1.
@@ -61,48 +52,48 @@ fn written(alloc: Global) -> Result<MemoryDisk> {
     Ok(disk)
 }
 
-fn stop_disk(memory: &mut Memory) -> Result<Verdict> {
-    let disk = written(memory.alloc())?;
-    memory.begin();
-    let outcome = disk.stop(&[Fate::Garbage(9)]);
-    memory.end();
-    Ok(of_disk(&outcome, [7, 9, 9, 4]))
-}
-
-// What a stop with these fates leaves of the disk.
-fn is_left(disk: MemoryDisk, fates: &[Fate], bytes: [u8; 4]) -> Result<bool> {
-    let left = disk.stop(fates)?;
-    Ok(left.bytes() == bytes.as_slice())
-}
-
-// One more write is pending, or none.
+// One more write is there and pending, or none.
 fn write_bytes(memory: &mut Memory) -> Result<Verdict> {
     let mut disk = written(memory.alloc())?;
     memory.begin();
     let outcome = write_at(&mut disk, 2, &[7, 7]);
     memory.end();
-    let is_right = disk.bytes() == [7, 7, 7, 7].as_slice();
-    let is_kept = disk.bytes() == [7, 7, 7, 4].as_slice();
-    let pending = if outcome.is_ok() {
-        [7, 9, 8, 8]
+    let (view, pending) = if outcome.is_ok() {
+        ([7, 7, 7, 7], [7, 9, 8, 8])
     } else {
-        [7, 9, 9, 4]
+        ([7, 7, 7, 4], [7, 9, 9, 4])
     };
+    let is_there = holds(&disk, view);
     let is_pending = is_left(disk, &[Fate::Garbage(9), Fate::Garbage(8)], pending)?;
-    Ok(of_record(&outcome, is_right && is_pending, is_kept && is_pending))
+    Ok(of_record(&outcome, is_there && is_pending))
 }
 
 // What was pending is stored, or is pending still.
 fn sync_disk(memory: &mut Memory) -> Result<Verdict> {
     let mut disk = written(memory.alloc())?;
     memory.begin();
-    let outcome = disk.sync();
+    let outcome = store(&mut disk);
     memory.end();
-    let bytes = if outcome.is_ok() {
+    let left = if outcome.is_ok() {
         [7, 7, 7, 4]
     } else {
         [7, 9, 9, 4]
     };
-    let is_so = is_left(disk, &[Fate::Garbage(9)], bytes)?;
-    Ok(of_record(&outcome, is_so, is_so))
+    let is_so = is_left(disk, &[Fate::Garbage(9)], left)?;
+    Ok(of_record(&outcome, is_so))
+}
+
+fn store(disk: &mut MemoryDisk) -> Result<()> {
+    disk.sync()?;
+    Ok(())
+}
+
+// Of a write or a sync that was done or found no memory for its record, and left the disk so.
+fn of_record(outcome: &Result<()>, is_so: bool) -> Verdict {
+    match outcome {
+        Ok(_) => of_answer(is_so),
+        Err(error) if !is_of_record(error) => Verdict::RefusedWrongly,
+        Err(_) if is_so => Verdict::Refused,
+        Err(_) => Verdict::Changed,
+    }
 }

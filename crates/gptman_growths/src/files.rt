@@ -1,9 +1,9 @@
 //! Disks over a file, which keep no record: what is refused there is the call's own growth.
 
-use crate::fixtures::{image_of, new_table, unsorted_table, write};
 use crate::memory::Memory;
 use crate::verdict::{Verdict, of_answer, of_refusal};
-use gptman::{Error, FileDisk, GPT, GPTHeader, Result};
+use gptman::{Error, FileDisk, GPTHeader, Result};
+use gptman_fixtures::tables::{image_of, new_table, unsorted_table, write};
 use std::alloc::{AllocGlobal, Global};
 use std::fs;
 use std::fs::File;
@@ -18,8 +18,7 @@ pub fn try_call<R: Files<File = File> + AllocGlobal>(
     memory: &mut Memory,
 ) -> Option<Result<Verdict>> {
     match name {
-        "file_open" => Some(open_file(files, memory)),
-        "file_open_read" => Some(open_to_read(files, memory)),
+        "file_open" | "file_open_read" => Some(open_file(files, name, memory)),
         "file_table_write" => Some(write_table(files, memory)),
         _ => None,
     }
@@ -47,22 +46,16 @@ fn of_opening<R: Files<File = File> + AllocGlobal>(
 
 fn open_file<R: Files<File = File> + AllocGlobal>(
     files: &R,
+    name: &str,
     memory: &mut Memory,
 ) -> Result<Verdict> {
     make_file(files, memory.alloc())?;
     memory.begin();
-    let outcome = FileDisk::open(files, PATH);
-    memory.end();
-    of_opening(files, &outcome)
-}
-
-fn open_to_read<R: Files<File = File> + AllocGlobal>(
-    files: &R,
-    memory: &mut Memory,
-) -> Result<Verdict> {
-    make_file(files, memory.alloc())?;
-    memory.begin();
-    let outcome = FileDisk::open_read(files, PATH);
+    let outcome = if name == "file_open" {
+        FileDisk::open(files, PATH)
+    } else {
+        FileDisk::open_read(files, PATH)
+    };
     memory.end();
     of_opening(files, &outcome)
 }

@@ -1,8 +1,9 @@
 //! A disk, and what it held before a call.
 
 use crate::noted::NotedDisk;
-use crate::verdict::{Verdict, of_refusal};
+use crate::verdict::{Verdict, of_failure, of_refusal};
 use gptman::{Error, GPT, MemoryDisk, Result};
+use gptman_fixtures::tables::read;
 use std::alloc::Global;
 
 /// A disk in memory, and the bytes that it held.
@@ -16,19 +17,23 @@ impl Held {
     /// A disk of these bytes, all of them stored.
     pub fn new(alloc: Global, image: Vec<u8>) -> Result<Held> {
         let below = MemoryDisk::new(alloc, image.to_vec(alloc)?)?;
-        let disk = NotedDisk::new(below);
+        let disk = NotedDisk {
+            below,
+            writes: 0,
+            has_no_memory: false,
+        };
         Ok(Held { disk, image })
     }
 
     /// Whether the disk was asked for no write and no sync, so that nothing is pending, and holds the
     /// bytes that it held.
     pub fn is_kept(&self) -> bool {
-        self.disk.notes().writes == 0 && self.disk.below().bytes() == self.image.as_slice()
+        self.disk.writes == 0 && self.disk.below.bytes() == self.image.as_slice()
     }
 
     /// Whether the disk found no memory for a record.
     pub fn has_no_record(&self) -> bool {
-        self.disk.notes().has_no_memory
+        self.disk.has_no_memory
     }
 
     /// Of a write that was refused with this: `Io` where the disk found no memory for its record, and
@@ -37,15 +42,11 @@ impl Held {
         if !self.has_no_record() {
             return of_refusal(error, is_kept && self.is_kept());
         }
-        match error {
-            Error::Io(_) if holds_a_table => Verdict::Refused,
-            Error::Io(_) => Verdict::Changed,
-            _ => Verdict::RefusedWrongly,
-        }
+        of_failure(error, holds_a_table)
     }
 
     /// The table that a reading of the disk finds.
     pub fn read(&mut self, alloc: Global) -> Result<GPT> {
-        GPT::read_from(alloc, &mut self.disk, 512)
+        read(alloc, &mut self.disk, 512)
     }
 }

@@ -1,14 +1,12 @@
 //! A name of 100 letters.
 
-use crate::fixtures::partition;
-use crate::memory::Memory;
 use crate::verdict::{Verdict, of_answer};
 use gptman::{GPTPartitionEntry, PartitionName, Result};
+use gptman_fixtures::tables::partition;
 use std::alloc::Global;
 
 /// Makes the call of this name. None where it is none of these.
-pub fn try_call(name: &str, memory: &mut Memory) -> Option<Result<Verdict>> {
-    let alloc = memory.alloc();
+pub fn try_call(name: &str, alloc: Global) -> Option<Result<Verdict>> {
     match name {
         "large_name" => Some(name_in_memory(alloc)),
         "large_name_written" => Some(name_on_disk(alloc)),
@@ -32,15 +30,18 @@ fn name_in_memory(alloc: Global) -> Result<Verdict> {
 
 // Whether the units are those of the first 36 letters.
 fn has_kept_units(name: &PartitionName) -> bool {
-    name.units()
-        .iter()
-        .copied()
-        .eq(KEPT.bytes().map(|byte| u16::from(byte)))
+    let mut letters = KEPT.bytes();
+    for unit in name.units() {
+        if letters.next() != u8::try_from(*unit).ok() {
+            return false;
+        }
+    }
+    letters.next().is_none()
 }
 
 // On the disk 36 letters stand.
 fn name_on_disk(alloc: Global) -> Result<Verdict> {
-    let entry = partition(alloc, LETTERS, 1, 300, 301)?;
+    let entry = partition(alloc, LETTERS, [1; 16], 300, 301)?;
     let read = GPTPartitionEntry::decode(alloc, &entry.encode())?;
     let is_cut = read.partition_name.as_str() == KEPT;
     Ok(of_answer(is_cut && has_kept_units(&read.partition_name)))

@@ -7,11 +7,9 @@
 #![tactic(auto)]
 
 mod commands;
-mod copies;
 mod counted;
 mod disks;
 mod files;
-mod fixtures;
 mod held;
 mod large;
 mod lives;
@@ -22,12 +20,14 @@ mod readings;
 mod shape;
 mod shape_calls;
 mod shape_commands;
+mod values;
 mod verdict;
 mod writings;
 
 use crate::memory::{Memory, Turn};
 use crate::verdict::Verdict;
 use gptman::Result;
+use std::alloc::Global;
 use std::fs::File;
 use std::io;
 use std::rt::Files;
@@ -67,41 +67,7 @@ fn try_call<R: Files<File = File> + AllocGlobal>(
     name: &str,
     memory: &mut Memory,
 ) -> Option<Result<Verdict>> {
-    if let Some(made) = try_of_table(name, memory) {
-        return Some(made);
-    }
-    if let Some(made) = writings::try_call(name, memory) {
-        return Some(made);
-    }
-    if let Some(made) = commands::try_call(name, memory) {
-        return Some(made);
-    }
-    if let Some(made) = counted::try_call(name, memory) {
-        return Some(made);
-    }
-    if let Some(made) = try_large(name, memory) {
-        return Some(made);
-    }
-    files::try_call(files, name, memory)
-}
-
-// The same of the calls that are made with ample memory alone.
-fn try_large(name: &str, memory: &mut Memory) -> Option<Result<Verdict>> {
-    if let Some(made) = large::try_call(name, memory) {
-        return Some(made);
-    }
-    if let Some(made) = lives::try_call(name, memory.alloc()) {
-        return Some(made);
-    }
-    if let Some(made) = shape_calls::try_call(name, memory.alloc()) {
-        return Some(made);
-    }
-    shape_commands::try_call(name, memory.alloc())
-}
-
-// The same of the calls that write no table.
-fn try_of_table(name: &str, memory: &mut Memory) -> Option<Result<Verdict>> {
-    if let Some(made) = copies::try_call(name, memory) {
+    if let Some(made) = values::try_call(name, memory) {
         return Some(made);
     }
     if let Some(made) = readings::try_call(name, memory) {
@@ -110,5 +76,31 @@ fn try_of_table(name: &str, memory: &mut Memory) -> Option<Result<Verdict>> {
     if let Some(made) = places::try_call(name, memory) {
         return Some(made);
     }
-    disks::try_call(name, memory)
+    if let Some(made) = disks::try_call(name, memory) {
+        return Some(made);
+    }
+    if let Some(made) = writings::try_call(name, memory) {
+        return Some(made);
+    }
+    if let Some(made) = commands::try_call(name, memory) {
+        return Some(made);
+    }
+    if let Some(made) = files::try_call(files, name, memory) {
+        return Some(made);
+    }
+    if let Some(made) = counted::try_call(name, memory) {
+        return Some(made);
+    }
+    try_large(name, memory.alloc())
+}
+
+// The same of the calls that are made with ample memory alone.
+fn try_large(name: &str, alloc: Global) -> Option<Result<Verdict>> {
+    if let Some(made) = large::try_call(name, alloc) {
+        return Some(made);
+    }
+    if let Some(made) = lives::try_call(name, alloc) {
+        return Some(made);
+    }
+    shape::try_call(name, alloc)
 }

@@ -1,25 +1,24 @@
-//! Readings of a disk. None of them writes to it.
+//! Readings of a disk on which a table was written. None of them writes to it.
 
-use crate::fixtures::{
-    DISK_GUID, are_those_of, complement, have_same_entries, image_of, partition, unsorted_table,
-};
 use crate::held::Held;
 use crate::memory::Memory;
-use crate::verdict::{Verdict, of_answer, of_refusal, of_value};
-use gptman::{Error, GPT, GPTPartitionEntry, Result};
+use crate::verdict::{Verdict, of_reader};
+use gptman::{Disk, Error, GPT, GPTPartitionEntry, Result};
+use gptman_fixtures::tables::{
+    DISK_GUID, are_those_of, complement, have_same_entries, image_of, read, unsorted_table,
+};
 use std::alloc::Global;
 
 /// Makes the call of this name. None where it is none of these.
 pub fn try_call(name: &str, memory: &mut Memory) -> Option<Result<Verdict>> {
     match name {
-        "entry_read" => Some(read_entry(memory)),
-        "table_new" => Some(make_table(memory)),
-        "table_read" => Some(read_table(memory, &[], 1)),
-        "table_read_backup" => Some(read_table(memory, &IN_HEADERS[..1], 99)),
-        "table_read_neither" => Some(read_neither(memory)),
-        "table_find" => Some(find_table(memory, &[], 1)),
-        "table_find_backup" => Some(find_table(memory, &IN_HEADERS[..1], 99)),
-        "partitions_read" => Some(read_partitions(memory)),
+        "entry_read" | "table_new" | "table_read" | "table_find" | "partitions_read" => {
+            Some(try_on_disk(name, memory, &[]))
+        }
+        "table_read_backup" | "table_find_backup" => {
+            Some(try_on_disk(name, memory, &IN_HEADERS[..1]))
+        }
+        "table_read_neither" => Some(try_on_disk(name, memory, &IN_HEADERS)),
         _ => None,
     }
 }
@@ -27,74 +26,67 @@ pub fn try_call(name: &str, memory: &mut Memory) -> Option<Result<Verdict>> {
 // A byte of each of the two headers.
 const IN_HEADERS: [usize; 2] = [536, 50_712];
 
-// A disk on which this table was written, with these bytes complemented.
-fn damaged(alloc: Global, table: &mut GPT, damaged: &[usize]) -> Result<Held> {
-    let mut image = image_of(alloc, table)?;
-    for at in damaged {
-        complement(&mut image, *at);
-    }
-    Held::new(alloc, image)
+// Makes the call on a disk with these bytes complemented.
+fn try_on_disk(name: &str, memory: &mut Memory, damaged: &[usize]) -> Result<Verdict> {
+    let mut table = unsorted_table(memory.alloc())?;
+    let mut image = image_of(memory.alloc(), &mut table)?;
+    complement(&mut image, damaged);
+    let mut held = Held::new(memory.alloc(), image)?;
+    memory.begin();
+    let outcome = is_right(name, memory.alloc(), &mut held, &table);
+    memory.end();
+    Ok(of_reader(&outcome, held.is_kept()))
 }
 
-fn read_entry(memory: &mut Memory) -> Result<Verdict> {
-    let entry = partition(memory.alloc(), "Foo", 1, 34, 43)?;
-    let mut held = Held::new(memory.alloc(), entry.encode().to_vec(memory.alloc())?)?;
-    memory.begin();
-    let outcome = GPTPartitionEntry::read_from(memory.alloc(), &mut held.disk);
-    memory.end();
-    Ok(of_value(&outcome, &entry, held.is_kept()))
-}
-
-fn make_table(memory: &mut Memory) -> Result<Verdict> {
-    let mut held = Held::new(memory.alloc(), vec![in memory.alloc(); 0; 51_200]?)?;
-    memory.begin();
-    let outcome = GPT::new_from(memory.alloc(), &mut held.disk, 512, DISK_GUID);
-    memory.end();
-    match &outcome {
-        Ok(table) => Ok(of_answer(is_new(table) && held.is_kept())),
-        Err(error) => Ok(of_refusal(error, held.is_kept())),
+// Whether the call answers what it should. Where the primary copy is good, the backup one is not to be
+// taken.
+fn is_right(name: &str, alloc: Global, held: &mut Held, table: &GPT) -> Result<bool> {
+    match name {
+        "entry_read" => is_first_read(alloc, held, table),
+        "table_new" => is_new(alloc, held),
+        "table_read" => Ok(is_read(&read(alloc, &mut held.disk, 512)?, 1, table)),
+        "table_read_backup" => Ok(is_read(&read(alloc, &mut held.disk, 512)?, 99, table)),
+        "table_read_neither" => is_neither_read(read(alloc, &mut held.disk, 512)),
+        "table_find" => Ok(is_read(&GPT::find_from(alloc, &mut held.disk)?, 1, table)),
+        "table_find_backup" => Ok(is_read(&GPT::find_from(alloc, &mut held.disk)?, 99, table)),
+        _ => are_all_read(alloc, held, table),
     }
 }
 
-// Whether it is a new table for 100 sectors of 512 bytes.
-fn is_new(table: &GPT) -> bool {
+fn is_first_read(alloc: Global, held: &mut Held, table: &GPT) -> Result<bool> {
+    held.disk.seek_start(1024)?;
+    let entry = GPTPartitionEntry::read_from(alloc, &mut held.disk)?;
+    Ok(table.iter().next() == Some((1, &entry)))
+}
+
+// Whether a new table is one for 100 sectors of 512 bytes.
+fn is_new(alloc: Global, held: &mut Held) -> Result<bool> {
+    let table = GPT::new_from(alloc, &mut held.disk, 512, DISK_GUID)?;
     let header = &table.header;
     let bounds = (
         header.first_usable_lba,
         header.last_usable_lba,
         header.backup_lba,
     );
-    bounds == (34, 66, 99) && table.align == 2048 && table.iter().count() == 128
+    Ok(bounds == (34, 66, 99) && table.align == 2048 && table.iter().count() == 128)
 }
 
-// What came of reading this table, where its header is to be that of this sector.
-fn of_reading(outcome: &Result<GPT>, table: &GPT, sector: u64, held: &Held) -> Verdict {
+// Whether this table was read from the copy whose header is in this sector.
+fn is_read(read: &GPT, sector: u64, table: &GPT) -> bool {
+    read.header.primary_lba == sector && have_same_entries(read, table)
+}
+
+fn is_neither_read(outcome: Result<GPT>) -> Result<bool> {
     match outcome {
-        Ok(read) => {
-            let is_right = read.header.primary_lba == sector && have_same_entries(read, table);
-            of_answer(is_right && held.is_kept())
+        Ok(_) => Ok(false),
+        Err(error) => {
+            if are_told(&error) {
+                Ok(true)
+            } else {
+                Err(error)
+            }
         }
-        Err(error) => of_refusal(error, held.is_kept()),
     }
-}
-
-// Where the primary copy is good, the backup one is not to be taken.
-fn read_table(memory: &mut Memory, spoilt: &[usize], sector: u64) -> Result<Verdict> {
-    let mut table = unsorted_table(memory.alloc())?;
-    let mut held = damaged(memory.alloc(), &mut table, spoilt)?;
-    memory.begin();
-    let outcome = GPT::read_from(memory.alloc(), &mut held.disk, 512);
-    memory.end();
-    Ok(of_reading(&outcome, &table, sector, &held))
-}
-
-fn find_table(memory: &mut Memory, spoilt: &[usize], sector: u64) -> Result<Verdict> {
-    let mut table = unsorted_table(memory.alloc())?;
-    let mut held = damaged(memory.alloc(), &mut table, spoilt)?;
-    memory.begin();
-    let outcome = GPT::find_from(memory.alloc(), &mut held.disk);
-    memory.end();
-    Ok(of_reading(&outcome, &table, sector, &held))
 }
 
 /// Whether both headers are said to have another checksum.
@@ -108,29 +100,7 @@ pub fn are_told(error: &Error) -> bool {
     }
 }
 
-fn read_neither(memory: &mut Memory) -> Result<Verdict> {
-    let mut table = unsorted_table(memory.alloc())?;
-    let mut held = damaged(memory.alloc(), &mut table, &IN_HEADERS)?;
-    memory.begin();
-    let outcome = GPT::read_from(memory.alloc(), &mut held.disk, 512);
-    memory.end();
-    match &outcome {
-        Ok(_) => Ok(Verdict::AnsweredWrongly),
-        Err(error) if are_told(error) => Ok(of_answer(held.is_kept())),
-        Err(error) => Ok(of_refusal(error, held.is_kept())),
-    }
-}
-
-fn read_partitions(memory: &mut Memory) -> Result<Verdict> {
-    let mut table = unsorted_table(memory.alloc())?;
-    let mut held = damaged(memory.alloc(), &mut table, &[])?;
-    memory.begin();
-    let outcome = table
-        .header
-        .read_partitions(memory.alloc(), &mut held.disk, 512);
-    memory.end();
-    match &outcome {
-        Ok(entries) => Ok(of_answer(are_those_of(entries, &table) && held.is_kept())),
-        Err(error) => Ok(of_refusal(error, held.is_kept())),
-    }
+fn are_all_read(alloc: Global, held: &mut Held, table: &GPT) -> Result<bool> {
+    let entries = table.header.read_partitions(alloc, &mut held.disk, 512)?;
+    Ok(are_those_of(&entries, table))
 }

@@ -1,7 +1,7 @@
 //! What is made of a call's answer.
 
 use gptman::{Error, Result};
-use std::io;
+use std::io::ErrorKind;
 
 /// What came of a call.
 #[derive(Clone, Copy)]
@@ -14,7 +14,7 @@ pub enum Verdict {
     AnsweredWrongly,
     /// It was refused for something else.
     RefusedWrongly,
-    /// It was refused for want of memory, and changed something.
+    /// It changed what it should have kept.
     Changed,
 }
 
@@ -26,7 +26,7 @@ impl Verdict {
             Verdict::Refused => "refused",
             Verdict::AnsweredWrongly => "another answer",
             Verdict::RefusedWrongly => "another refusal",
-            Verdict::Changed => "refused, and something is changed",
+            Verdict::Changed => "something is changed",
         }
     }
 }
@@ -42,29 +42,43 @@ pub fn of_answer(is_right: bool) -> Verdict {
 
 /// Of a call that was refused, and left all as it was or not.
 pub fn of_refusal(error: &Error, is_kept: bool) -> Verdict {
-    if !matches!(error, Error::OutOfMemory) {
-        Verdict::RefusedWrongly
-    } else if is_kept {
-        Verdict::Refused
+    match error {
+        Error::OutOfMemory if is_kept => Verdict::Refused,
+        Error::OutOfMemory => Verdict::Changed,
+        _ => Verdict::RefusedWrongly,
+    }
+}
+
+/// Of a call that the disk let fail, and that left what it may leave or not.
+pub fn of_failure(error: &Error, is_kept: bool) -> Verdict {
+    match error {
+        Error::Io(_) if is_kept => Verdict::Refused,
+        Error::Io(_) => Verdict::Changed,
+        _ => Verdict::RefusedWrongly,
+    }
+}
+
+/// Of a call whose answer is right or not; or that was refused, and left all as it was or not.
+pub fn of_call(outcome: &Result<bool>, is_kept: bool) -> Verdict {
+    match outcome {
+        Ok(is_right) => of_answer(*is_right),
+        Err(error) => of_refusal(error, is_kept),
+    }
+}
+
+/// The same of a call that is to leave all as it was, also where it is done.
+pub fn of_reader(outcome: &Result<bool>, is_kept: bool) -> Verdict {
+    if is_kept {
+        of_call(outcome, true)
     } else {
         Verdict::Changed
     }
 }
 
-/// Of a call that is to answer this value, and leaves all as it was or not.
-pub fn of_value<T: PartialEq>(outcome: &Result<T>, wanted: &T, is_kept: bool) -> Verdict {
-    match outcome {
-        Ok(value) => of_answer(*value == *wanted && is_kept),
-        Err(error) => of_refusal(error, is_kept),
-    }
-}
-
-/// Of a call of the disk in memory itself, which has no memory for its record.
-pub fn of_record(outcome: &io::Result<()>, is_right: bool, is_kept: bool) -> Verdict {
-    match outcome {
-        Ok(_) => of_answer(is_right),
-        Err(error) if error.kind() != io::ErrorKind::OutOfMemory => Verdict::RefusedWrongly,
-        Err(_) if is_kept => Verdict::Refused,
-        Err(_) => Verdict::Changed,
+/// Whether the disk in memory said that it has no memory for its record.
+pub fn is_of_record(error: &Error) -> bool {
+    match error {
+        Error::Io(error) => error.kind() == ErrorKind::OutOfMemory,
+        _ => false,
     }
 }

@@ -1,13 +1,14 @@
 //! Writings of a table to a disk. What they take memory for are the checks before the first write; and
 //! the disk in memory takes some for its record.
 
-use crate::fixtures::{
-    DISK_GUID, has_entry, have_same_entries, image_of, new_table, unsorted_table, write,
-};
 use crate::held::Held;
 use crate::memory::Memory;
-use crate::verdict::{Verdict, of_answer};
+use crate::verdict::{Verdict, of_answer, of_failure, of_refusal};
 use gptman::{Edit, Error, GPT, GPTHeader, Progress, Result};
+use gptman_fixtures::tables::{
+    DISK_GUID, commit, has_entry, have_same_entries, image_of, new_table, unsorted_table, write,
+    write_copy,
+};
 use std::alloc::Global;
 
 /// Makes the call of this name. None where it is none of these.
@@ -83,21 +84,13 @@ fn header_alone(held: &mut Held) -> Result<GPTHeader> {
     Ok(header)
 }
 
-// Writes a header of no entries.
-fn write_alone(header: &mut GPTHeader, held: &mut Held) -> Result<()> {
-    if header.header_size != 92 || header.number_of_partition_entries != 0 {
-        return Err(Error::Overflow);
-    }
-    header.write_into(&mut held.disk, 512, &[])
-}
-
 fn write_header(memory: &mut Memory) -> Result<Verdict> {
     let mut held = Held::new(memory.alloc(), vec![in memory.alloc(); 0; 51_200]?)?;
     let mut header = header_alone(&mut held)?;
     memory.begin();
-    let outcome = write_alone(&mut header, &mut held);
+    let outcome = write_copy(&mut header, &mut held.disk, 512, &[]);
     memory.end();
-    let bytes = held.disk.below().bytes();
+    let bytes = held.disk.below.bytes();
     let is_there = bytes.get(512..604) == Some(header.encode().as_slice());
     match &outcome {
         Ok(_) => Ok(of_answer(is_there)),
@@ -108,41 +101,17 @@ fn write_header(memory: &mut Memory) -> Result<Verdict> {
 fn commit_edits(memory: &mut Memory) -> Result<Verdict> {
     let mut writing = Writing::new(memory.alloc())?;
     let edits = vec![in memory.alloc(); Edit::SortEntries, Edit::Remove(2)]?;
-    let progress = commit(memory, &mut writing, edits)?;
-    of_progress(memory.alloc(), &mut writing, &progress)
-}
-
-fn commit(memory: &mut Memory, writing: &mut Writing, edits: Vec<Edit>) -> Result<Progress> {
-    let table = &mut writing.table;
-    if table.sector_size == 0 || !table.is_coherent() {
-        return Err(Error::Overflow);
-    }
     memory.begin();
-    let progress = table.commit_all(&mut writing.held.disk, edits);
+    let progress = commit(&mut writing.table, &mut writing.held.disk, edits);
     memory.end();
-    Ok(progress)
+    of_progress(memory.alloc(), &mut writing, &progress?)
 }
 
 fn of_progress(alloc: Global, writing: &mut Writing, progress: &Progress) -> Result<Verdict> {
     match &progress.fault {
-        None => {
-            let is_right = progress.done == 2 && is_after(&writing.table, 2);
-            let done = writing.done(alloc)?;
-            Ok(if is_right {
-                done
-            } else {
-                Verdict::AnsweredWrongly
-            })
-        }
-        Some(Error::Io(_)) if writing.held.has_no_record() => of_failure(
-            alloc,
-            writing,
-            progress.done,
-        ),
-        Some(Error::OutOfMemory) if !writing.held.has_no_record() => {
-            of_want(alloc, writing, progress.done)
-        }
-        Some(_) => Ok(Verdict::RefusedWrongly),
+        None if progress.done == 2 && is_after(&writing.table, 2) => writing.done(alloc),
+        None => Ok(Verdict::AnsweredWrongly),
+        Some(error) => of_stop(alloc, writing, progress.done, error),
     }
 }
 
@@ -155,30 +124,20 @@ fn is_after(table: &GPT, done: usize) -> bool {
     }
 }
 
-// The disk holds the table after the edits that were done, and the value is that table or the next one.
-fn of_want(alloc: Global, writing: &mut Writing, done: usize) -> Result<Verdict> {
-    let table = &writing.table;
-    let is_value = is_after(table, done) || is_after(table, done.saturating_add(1));
-    let is_kept = if done == 0 {
-        writing.held.is_kept()
-    } else {
-        is_after(&writing.held.read(alloc)?, done)
-    };
-    Ok(if is_value && is_kept {
-        Verdict::Refused
-    } else {
-        Verdict::Changed
-    })
-}
-
-// The disk holds the table after the edits that were done, or the next one.
-fn of_failure(alloc: Global, writing: &mut Writing, done: usize) -> Result<Verdict> {
+// Of edits of which so many were done, and the next one was refused with this. The disk holds the table
+// after those, or where it found no memory for its record perhaps the next one; and so does the value.
+fn of_stop(alloc: Global, writing: &mut Writing, done: usize, error: &Error) -> Result<Verdict> {
+    let next = done.saturating_add(1);
     let read = writing.held.read(alloc)?;
-    let is_before = done == 0 && have_same_entries(&read, &writing.empty);
-    let is_one = is_after(&read, done) || is_after(&read, done.saturating_add(1));
-    Ok(if is_before || is_one {
-        Verdict::Refused
+    let is_before = if done == 0 {
+        have_same_entries(&read, &writing.empty)
     } else {
-        Verdict::Changed
-    })
+        is_after(&read, done)
+    };
+    if writing.held.has_no_record() {
+        return Ok(of_failure(error, is_before || is_after(&read, next)));
+    }
+    let is_value = is_after(&writing.table, done) || is_after(&writing.table, next);
+    let is_unwritten = done > 0 || writing.held.is_kept();
+    Ok(of_refusal(error, is_before && is_value && is_unwritten))
 }

@@ -1,8 +1,9 @@
 //! The calls that are timed.
 
 use crate::plain::PlainDisk;
-use crate::tables::{array_of, table_on};
 use gptman::{Edit, Error, GPT, Result};
+use gptman_fixtures::shape::Shape;
+use gptman_fixtures::tables::{commit, write};
 use std::alloc::Global;
 
 /// A call of the library.
@@ -64,9 +65,14 @@ pub struct Case {
 }
 
 impl Case {
-    /// With so many used entries. They are in order, with one sector each and a free one behind it.
+    /// With so many used entries, and 128 entries at least. The used ones are in order, with one sector
+    /// each and a free one behind it, and there is room for the unused ones too. The alignment is one
+    /// sector.
     pub fn new(alloc: Global, used: u32) -> Result<Case> {
-        let (disk, table) = table_on(alloc, used)?;
+        let shape = shape_of(used);
+        let mut disk = PlainDisk::new(vec![in alloc; 0; shape.bytes()]?);
+        let mut table = shape.write_to(alloc, &mut disk)?;
+        table.align = 1;
         let array = array_of(alloc, &table)?;
         Ok(Case {
             alloc,
@@ -113,10 +119,7 @@ impl Case {
     }
 
     fn write(&mut self) -> Result<()> {
-        if self.table.sector_size == 0 || !self.table.is_coherent() {
-            return Err(Error::Overflow);
-        }
-        self.table.write_into(&mut self.disk)?;
+        write(&mut self.table, &mut self.disk)?;
         Ok(())
     }
 
@@ -156,12 +159,32 @@ impl Case {
         for number in 0..10 {
             edits.push(Edit::DiskGuid([number; 16]))?;
         }
-        if self.table.sector_size == 0 || !self.table.is_coherent() {
-            return Err(Error::Overflow);
-        }
-        match self.table.commit_all(&mut self.disk, edits).fault {
+        match commit(&mut self.table, &mut self.disk, edits)?.fault {
             None => Ok(()),
             Some(error) => Err(error),
         }
     }
+}
+
+// The shape of a table with so many used entries.
+fn shape_of(used: u32) -> Shape {
+    let entries = used.max(128);
+    let unused = u64::from(entries).saturating_sub(u64::from(used));
+    Shape {
+        sector_size: 512,
+        entries,
+        used,
+        free: unused.saturating_mul(2).saturating_add(1),
+        is_reversed: false,
+        reserved: [0; 4],
+    }
+}
+
+// The bytes of all entries of the table.
+fn array_of(alloc: Global, table: &GPT) -> Result<Vec<u8>> {
+    let mut bytes = Vec::new(alloc);
+    for (_, entry) in table.iter() {
+        bytes.extend_from_slice(&entry.encode())?;
+    }
+    Ok(bytes)
 }

@@ -7,7 +7,6 @@
 
 mod calls;
 mod plain;
-mod tables;
 mod timing;
 
 use crate::calls::{CALLS, Call, Case};

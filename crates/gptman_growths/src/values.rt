@@ -1,0 +1,62 @@
+//! Names, entries and tables in memory.
+
+use crate::memory::Memory;
+use crate::verdict::{Verdict, of_call};
+use gptman::{Edit, GPT, GPTPartitionEntry, PartitionName, Result};
+use gptman_fixtures::tables::{has_entry, partition, unsorted_table};
+use std::alloc::Global;
+
+/// Makes the call of this name. None where it is none of these.
+pub fn try_call(name: &str, memory: &mut Memory) -> Option<Result<Verdict>> {
+    match name {
+        "name_new" | "name_clone" | "entry_clone" | "entry_decode" | "table_clone" => {
+            Some(copy(name, memory))
+        }
+        "table_sort" | "table_apply_sort" | "table_apply_put" => Some(change(name, memory)),
+        _ => None,
+    }
+}
+
+fn copy(name: &str, memory: &mut Memory) -> Result<Verdict> {
+    let entry = partition(memory.alloc(), "Foo", [1; 16], 34, 43)?;
+    let table = unsorted_table(memory.alloc())?;
+    memory.begin();
+    let outcome = is_copied(name, memory.alloc(), &entry, &table);
+    memory.end();
+    Ok(of_call(&outcome, true))
+}
+
+// Whether what is made is equal to what it is made of.
+fn is_copied(name: &str, alloc: Global, entry: &GPTPartitionEntry, table: &GPT) -> Result<bool> {
+    let old = &entry.partition_name;
+    match name {
+        "name_new" => Ok(PartitionName::new(alloc, "Foo")? == *old),
+        "name_clone" => Ok(old.clone()? == *old),
+        "entry_clone" => Ok(entry.clone()? == *entry),
+        "entry_decode" => Ok(GPTPartitionEntry::decode(alloc, &entry.encode())? == *entry),
+        _ => Ok(table.clone()? == *table),
+    }
+}
+
+fn change(name: &str, memory: &mut Memory) -> Result<Verdict> {
+    let mut table = unsorted_table(memory.alloc())?;
+    let before = table.clone()?;
+    let entry = partition(memory.alloc(), "New", [4; 16], 60, 61)?;
+    memory.begin();
+    let outcome = is_changed(name, &mut table, entry);
+    memory.end();
+    Ok(of_call(&outcome, table == before))
+}
+
+// Whether the table is as the change of this name makes it.
+fn is_changed(name: &str, table: &mut GPT, entry: GPTPartitionEntry) -> Result<bool> {
+    match name {
+        "table_sort" => table.sort()?,
+        "table_apply_sort" => table.apply(Edit::SortEntries)?,
+        _ => {
+            table.apply(Edit::Put(3, entry))?;
+            return Ok(has_entry(table, 3, "New"));
+        }
+    }
+    Ok(has_entry(table, 1, "Foo") && has_entry(table, 2, "Baz") && has_entry(table, 3, "Bar"))
+}
