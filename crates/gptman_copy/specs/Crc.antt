@@ -12,10 +12,6 @@ abbrev pub number : List Bool → ℕ
 number [] = 0
 number (b ∷ bs) = (if b then 2 ^ length bs else 0) + number bs
 
--- the bits of a message, in each byte the lowest first
-abbrev pub message_bits : List ℕ → List Bool
-message_bits m = flat_map (low_bits 8) m
-
 -- the first n bits complemented
 abbrev pub complement : ℕ → List Bool → List Bool
 complement zero bs = bs
@@ -45,10 +41,9 @@ divide (suc n) [] = []
 divide (suc n) (true ∷ bs) = divide n (drop 1 (minus polynomial (true ∷ bs)))
 divide (suc n) (false ∷ bs) = divide n bs
 
--- what is left of the division, 32 bits
-abbrev pub remainder : List Bool → List Bool
-remainder bs = divide (length bs - 32) bs
-
--- the checksum of a message
+-- The checksum of a message. Its bits, in each byte the lowest first, and 32 zeros behind them are divided, with the first 32 of all complemented; the 32 bits
+-- that are left, complemented and reversed, spell it.
 unfoldable pub crc_of : List ℕ → ℕ
-crc_of m = number (reverse (complement 32 (remainder (complement 32 (message_bits m ++ replicate 32 false)))))
+crc_of m =
+    let bits = complement 32 (flat_map (low_bits 8) m ++ replicate 32 false) in
+    number (reverse (complement 32 (divide (length bits - 32) bits)))
