@@ -69,18 +69,6 @@ array_tests len ss h y =
     ∷ (nat_eq h.partition_entry_array_crc32 (crc_of y), invalid_array_checksum h.partition_entry_array_crc32 (crc_of y))
     ∷ []
 
--- all nine, in order
-abbrev pub copy_tests : ℕ → ℕ → ℕ → List ℕ → List ℕ → List (Bool × Fault)
-copy_tests len p ss x y = header_tests len p x ++ array_tests len ss (header_of x) y
-
--- the bytes of the entries of the header at byte p
-abbrev pub entries_part : List ℕ → ℕ → ℕ → List ℕ
-entries_part b p ss = let h = header_of (part b p 92) in part b (entries_start h ss) (entries_length h)
-
--- the fault of the copy at byte p, if it has one
-unfoldable pub copy_fault : List ℕ → ℕ → ℕ → Option Fault
-copy_fault b p ss = first_failing (copy_tests (length b) p ss (part b p 92) (entries_part b p ss))
-
 pub record Copy : Type 0 where
   pub header : GPTHeader
   pub entries : List GPTPartitionEntry
@@ -89,13 +77,16 @@ pub record Copy : Type 0 where
 unfoldable pub entries_of : List ℕ → ℕ → List GPTPartitionEntry
 entries_of y n = map (λ i. entry_of (part y (128 * i) 128)) (range_with_len 0 n)
 
--- the copy that stands at byte p, if it has no fault
-unfoldable pub copy_there : List ℕ → ℕ → ℕ → Copy
-copy_there b p ss = let h = header_of (part b p 92) in record { header = h; entries = entries_of (entries_part b p ss) h.number_of_partition_entries }
-
--- the copy at byte p if it is accepted, or its fault
+-- The copy at byte p if its header and its entries pass all nine tests, or the fault of the first that fails.
 unfoldable pub copy_at : List ℕ → ℕ → ℕ → Result Copy Fault
-copy_at b p ss = elim (copy_fault b p ss) [ None ↦ Ok (copy_there b p ss) | Some fault ↦ Err fault ]
+copy_at b p ss =
+    let x = part b p 92 in
+    let h = header_of x in
+    let y = part b (entries_start h ss) (entries_length h) in
+    elim (first_failing (header_tests (length b) p x ++ array_tests (length b) ss h y)) [
+      | None ↦ Ok (record { header = h; entries = entries_of y h.number_of_partition_entries })
+      | Some fault ↦ Err fault
+    ]
 
 -- what passed, or the fault
 abbrev pub unless : {X : Type 0} → Option Fault → X → Result X Fault

@@ -12,22 +12,11 @@ abbrev pub number : List Bool → ℕ
 number [] = 0
 number (b ∷ bs) = (if b then 2 ^ length bs else 0) + number bs
 
--- the first n bits complemented
-abbrev pub complement : ℕ → List Bool → List Bool
-complement zero bs = bs
-complement (suc n) [] = []
-complement (suc n) (b ∷ bs) = not b ∷ complement n bs
-
--- the sum of two bits without a carry
-abbrev pub xor : Bool → Bool → Bool
-xor true b = not b
-xor false b = b
-
 -- ps taken off the front of bs, without borrows
 abbrev pub minus : List Bool → List Bool → List Bool
 minus [] bs = bs
 minus (p ∷ ps) [] = []
-minus (p ∷ ps) (b ∷ bs) = xor p b ∷ minus ps bs
+minus (p ∷ ps) (b ∷ bs) = (if p then not b else b) ∷ minus ps bs
 
 -- the divisor, x^32 + x^26 + x^23 + x^22 + x^16 + x^12 + x^11 + x^10 + x^8 + x^7 + x^5 + x^4 + x^2 + x + 1
 abbrev pub polynomial : List Bool
@@ -42,8 +31,9 @@ divide (suc n) (true ∷ bs) = divide n (drop 1 (minus polynomial (true ∷ bs))
 divide (suc n) (false ∷ bs) = divide n bs
 
 -- The checksum of a message. Its bits, in each byte the lowest first, and 32 zeros behind them are divided, with the first 32 of all complemented; the 32 bits
--- that are left, complemented and reversed, spell it.
+-- that are left, complemented and reversed, spell it. Bits are complemented as ones are taken off them.
 unfoldable pub crc_of : List ℕ → ℕ
 crc_of m =
-    let bits = complement 32 (flat_map (low_bits 8) m ++ replicate 32 false) in
-    number (reverse (complement 32 (divide (length bits - 32) bits)))
+    let ones = replicate 32 true in
+    let bits = minus ones (flat_map (low_bits 8) m ++ replicate 32 false) in
+    number (reverse (minus ones (divide (length bits - 32) bits)))
