@@ -32,16 +32,6 @@ pub record Table : Type 0 where
   pub entry_size : ℕ
   pub entries : List TableEntry
 
-abbrev pub content_of : GPTPartitionEntry → TableEntry
-content_of e = record {
-  partition_type_guid = e.partition_type_guid;
-  unique_partition_guid = e.unique_partition_guid;
-  starting_lba = e.starting_lba;
-  ending_lba = e.ending_lba;
-  attribute_bits = e.attribute_bits;
-  units = e.partition_name.units;
-}
-
 -- the table of a header and entries
 abbrev pub table_of : GPTHeader → List GPTPartitionEntry → Table
 table_of h es = record {
@@ -56,7 +46,14 @@ table_of h es = record {
   disk_guid = h.disk_guid;
   count = h.number_of_partition_entries;
   entry_size = h.size_of_partition_entry;
-  entries = map content_of es;
+  entries = map (λ e. record {
+    partition_type_guid = e.partition_type_guid;
+    unique_partition_guid = e.unique_partition_guid;
+    starting_lba = e.starting_lba;
+    ending_lba = e.ending_lba;
+    attribute_bits = e.attribute_bits;
+    units = e.partition_name.units;
+  }) es;
 }
 
 -- the entries of a value, in order
