@@ -8,7 +8,7 @@ use Rattle.gptman_copy.specs.Bytes.{part}
 use Rattle.gptman_copy.specs.Coding.{header_of, entry_of}
 use Rattle.gptman_copy.specs.Crc.{crc_of}
 use Rattle.gptman_copy.specs.Fault.{Fault, first_failing}
-use Rattle.gptman_copy.specs.Copy.{CopyAt, Copy, copy_at, entries_of, entries_start, entries_length, right_signature, right_revision, header_crc}
+use Rattle.gptman_copy.specs.Copy.{CopyAt, Copy, copy_at, entries_of, right_signature, right_revision, header_crc}
 use Rattle.gptman_copy.specs.declared.codec.header.GPTHeader.{GPTHeader}
 use Rattle.gptman_copy.specs.declared.codec.entry.GPTPartitionEntry.{GPTPartitionEntry}
 use Rattle.gptman_copy.proofs.EntryBytes.{entry_is}
@@ -16,6 +16,7 @@ use Rattle.gptman_copy.proofs.FirstFailing.{none_from_tests, none_or}
 use Rattle.gptman_copy.proofs.HeaderBytes.{header_is}
 use Rattle.gptman_copy.proofs.Overlays.{part-part}
 use Rattle.gptman_copy.proofs.CopyParts.{copy_tests, copy_fault, copy_there, entries_part}
+use Rattle.gptman_copy.proofs.CopyTests.{entries_start, entries_length}
 
 -- entries that lie on the disk begin below its end
 start_below : (n start size len : ℕ) → size ≡ 128 * n → (n ≡ 0) ⊎ (start + size ≤ len) → (n ≡ 0) ⊎ (start < len)

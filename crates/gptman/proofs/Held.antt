@@ -3,7 +3,7 @@ use Rattle.std.proofs.Common.{◌≡◌, ◌*◌, ℕ, Bool, true, false, List, 
 use Rattle.std.specs.Prelude.{Option, Some, None}
 use Rattle.gptman_copy.specs.Bytes.{part}
 use Rattle.gptman_copy.specs.Coding.{header_of}
-use Rattle.gptman_copy.specs.Copy.{Copy, copy_at, entries_of, entries_start, entries_length}
+use Rattle.gptman_copy.specs.Copy.{Copy, copy_at, entries_of}
 use Rattle.gptman_copy.specs.Fault.{Fault, first_failing, invalid_signature}
 use Rattle.gptman.specs.Layout.{Holds, ranges_at}
 use Rattle.gptman_copy.specs.Ranges.{AgreesInside}
@@ -13,6 +13,7 @@ use Rattle.gptman_copy.specs.declared.codec.header.GPTHeader.{GPTHeader}
 use Rattle.gptman_copy.proofs.Overlays.{part_in}
 use Rattle.gptman_copy.proofs.CopyParts.{copy_fault, copy_tests, copy_there, entries_part}
 use Rattle.gptman.proofs.WrittenCopy.{array_start, written_array}
+use Rattle.gptman_copy.proofs.CopyTests.{entries_start, entries_length}
 
 -- ---- a copy is told by the length and by its two parts
 

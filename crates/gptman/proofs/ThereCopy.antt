@@ -8,7 +8,7 @@ use Rattle.gptman_copy.specs.Bytes.{part}
 use Rattle.gptman_copy.specs.Coding.{IsEntryCoding, HasReadName, header_of, entry_of}
 use Rattle.gptman_copy.specs.Crc.{crc_of}
 use Rattle.gptman_copy.specs.Fault.{Fault}
-use Rattle.gptman_copy.specs.Copy.{CopyAt, Copy, copy_at, entries_of, entries_start, entries_length, right_signature, right_revision, header_crc}
+use Rattle.gptman_copy.specs.Copy.{CopyAt, Copy, copy_at, entries_of, right_signature, right_revision, header_crc}
 use Rattle.gptman_copy.specs.declared.codec.header.GPTHeader.{GPTHeader}
 use Rattle.gptman_copy.specs.declared.codec.entry.GPTPartitionEntry.{GPTPartitionEntry}
 use Rattle.gptman_copy.proofs.FirstFailing.{tests_pass}
@@ -16,6 +16,7 @@ use Rattle.gptman_copy.proofs.Overlays.{part-part}
 use Rattle.gptman_copy.proofs.CopyParts.{copy_tests, copy_fault, copy_there, entries_part}
 use Rattle.gptman.specs.Stop.{AcceptsWhatStands}
 use Rattle.gptman.proofs.CopyThere.{copy_there_is}
+use Rattle.gptman_copy.proofs.CopyTests.{entries_start, entries_length}
 
 -- a test of entries that passes, passes because there are none or by itself
 some_or_none : (n : ℕ) (t : Bool) (P : Type 0) → (t ≡ true → P) → (eqb n 0 || t) ≡ true → (n ≡ 0) ⊎ P

@@ -10,7 +10,7 @@ use Rattle.gptman_copy.specs.Bytes.{part}
 use Rattle.gptman_copy.specs.Coding.{IsHeaderCoding, IsEntryCoding, HasReadName, FitsHeader, FitsEntry, header_bytes, entry_bytes, array_bytes}
 use Rattle.gptman_copy.specs.Crc.{crc_of}
 use Rattle.gptman_copy.specs.Fault.{Fault, invalid_signature}
-use Rattle.gptman_copy.specs.Copy.{Copy, CopyAt, copy_at, entries_start, entries_length, header_crc, right_signature, right_revision}
+use Rattle.gptman_copy.specs.Copy.{Copy, CopyAt, copy_at, header_crc, right_signature, right_revision}
 use Rattle.gptman.specs.Reading.{Side, primary, backup, copy_start, copy_in}
 use Rattle.gptman.specs.Table.{Table, TableEntry, IsHeaderForm, table_of}
 use Rattle.gptman.specs.Layout.{Holds, IsLaidOut}
@@ -23,6 +23,7 @@ use Rattle.gptman_copy.proofs.ArrayBytes.{array_long, array_part}
 use Rattle.gptman_copy.proofs.Overlays.{part-part}
 use Rattle.gptman.proofs.CopyThere.{copy_there_is}
 use Rattle.gptman.proofs.Sealing.{IsSealed}
+use Rattle.gptman_copy.proofs.CopyTests.{entries_start, entries_length}
 
 -- an entry without the text that its name has in memory
 abbrev pub content_of : GPTPartitionEntry → TableEntry

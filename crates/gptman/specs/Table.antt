@@ -62,7 +62,7 @@ entries_in g = g.partitions
 
 -- the table of a value
 abbrev pub table_in : GPT → Table
-table_in g = table_of g.header (entries_in g)
+table_in g = table_of g.header g.partitions
 
 -- A header stands in this form: in sector 1 with its entries from sector 2, or in the other sector with its entries behind the last usable one.
 abbrev pub IsHeaderForm : Side → GPTHeader → Type 0

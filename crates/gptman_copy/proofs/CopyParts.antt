@@ -3,10 +3,11 @@ use Rattle.std.proofs.Common.{◌≡◌, ℕ, Bool, List, ◌++◌, length, Opti
 use Rattle.gptman_copy.specs.Bytes.{part}
 use Rattle.gptman_copy.specs.Coding.{header_of}
 use Rattle.gptman_copy.specs.Fault.{Fault, first_failing}
-use Rattle.gptman_copy.specs.Copy.{Copy, header_tests, array_tests, copy_at, header_result, array_result, unless, entries_of, entries_start, entries_length}
+use Rattle.gptman_copy.specs.Copy.{Copy, header_tests, array_tests, copy_at, header_result, array_result, unless, entries_of}
 use Rattle.gptman_copy.specs.declared.codec.header.GPTHeader.{GPTHeader}
 use Rattle.gptman_copy.specs.declared.codec.entry.GPTPartitionEntry.{GPTPartitionEntry}
 use Rattle.gptman_copy.proofs.FirstFailing.{first_tests, later_tests}
+use Rattle.gptman_copy.proofs.CopyTests.{entries_start, entries_length}
 
 -- the bytes of the entries of the header at byte p
 abbrev pub entries_part : List ℕ → ℕ → ℕ → List ℕ

@@ -18,16 +18,12 @@ minus [] bs = bs
 minus (p ∷ ps) [] = []
 minus (p ∷ ps) (b ∷ bs) = (if p then not b else b) ∷ minus ps bs
 
--- the divisor, x^32 + x^26 + x^23 + x^22 + x^16 + x^12 + x^11 + x^10 + x^8 + x^7 + x^5 + x^4 + x^2 + x + 1
-abbrev pub polynomial : List Bool
-polynomial = reverse (low_bits 33 0x104C11DB7)
-
--- n steps of long division: where the first bit is set the divisor is taken off, and then the first
--- bit, which is now clear, is left behind
+-- n steps of long division: where the first bit is set the divisor is taken off, and then the first bit, which is now clear, is left behind. The divisor is
+-- x^32 + x^26 + x^23 + x^22 + x^16 + x^12 + x^11 + x^10 + x^8 + x^7 + x^5 + x^4 + x^2 + x + 1.
 unfoldable pub divide : ℕ → List Bool → List Bool
 divide zero bs = bs
 divide (suc n) [] = []
-divide (suc n) (true ∷ bs) = divide n (drop 1 (minus polynomial (true ∷ bs)))
+divide (suc n) (true ∷ bs) = divide n (drop 1 (minus (reverse (low_bits 33 0x104C11DB7)) (true ∷ bs)))
 divide (suc n) (false ∷ bs) = divide n bs
 
 -- The checksum of a message. Its bits, in each byte the lowest first, and 32 zeros behind them are divided, with the first 32 of all complemented; the 32 bits
