@@ -11,7 +11,7 @@ use Rattle.gptman.specs.TableWrites.RefusesWrite.{no_memory, not_valid, no_room,
 use Rattle.gptman.specs.Crash.{other_side}
 use Rattle.gptman_copy.specs.Disk.{DiskState}
 use Rattle.gptman_copy.specs.Fault.{Fault, fault_of, overflow, no_space_left, out_of_memory}
-use Rattle.gptman.specs.Layout.{IsInLayout, IsLaidOut, array_start}
+use Rattle.gptman.specs.Layout.{HasLayout, IsLaidOut}
 use Rattle.gptman.specs.Reading.{Side}
 use Rattle.gptman.specs.Table.{entries_in, table_of, IsHeaderForm}
 use Rattle.gptman.specs.Valid.{IsValid, IsValidity}
@@ -23,9 +23,8 @@ use Rattle.gptman_copy.specs.declared.error.Error.{Error}
 use Rattle.gptman.specs.declared.table.GPT.{GPT}
 use Rattle.gptman_copy.proofs.FirstFailing.{none_from_tests}
 use Rattle.gptman.proofs.FourRanges.{other_laid}
-use Rattle.gptman.proofs.OneGood.{layout_form}
 use Rattle.gptman.proofs.OtherHeader.{other_form}
-use Rattle.gptman.proofs.WrittenCopy.{header_inside, array_inside, written_start, written_array}
+use Rattle.gptman.proofs.WrittenCopy.{array_inside, array_start, header_inside, written_array, written_start}
 
 -- ---- the ranges of a table of the layout pass
 
@@ -65,14 +64,16 @@ or_second true t h = refl
 or_second false t h = h
 
 -- A table of the layout is refused neither for its sectors nor for want of room.
-pub layout_fits : (h : GPTHeader) (es : List GPTPartitionEntry) (ss len : ℕ) → len < 2 ^ 64 → IsInLayout h es ss len → write_fault h ss len ≡ None
-layout_fits h es ss len small layout =
-    let at = layout_form h es ss len layout in
+pub layout_fits : (g : GPT) (len : ℕ) → len < 2 ^ 64 → HasLayout g len → write_fault g.header g.sector_size len ≡ None
+layout_fits g len small layout =
+    let h = g.header in
+    let es = entries_in g in
+    let ss = g.sector_size in
     none_from_tests ((has_other_header h && list_all is_addressable (both_ranges h ss), overflow) ∷ (list_all (is_inside len) (both_ranges h ss), no_space_left) ∷ []) (
       and_from (has_other_header h) (list_all is_addressable (both_ranges h ss))
           (or_second (not (nat_eq h.partition_entry_lba 2)) (ltb (h.last_usable_lba + 1) (2 ^ 64)) (lt-ltb (h.last_usable_lba + 1) (2 ^ 64) layout.table.fits))
-          (both_pass is_addressable at.0 h es ss len (λ at n inside. lt-ltb (at + n) (2 ^ 64) (omega (arith, inside, small))) at.1 layout.table),
-      (both_pass (is_inside len) at.0 h es ss len (λ at n inside. le-leb (at + n) len inside) at.1 layout.table, tt),
+          (both_pass is_addressable layout.side h es ss len (λ at n inside. lt-ltb (at + n) (2 ^ 64) (omega (arith, inside, small))) layout.form layout.table),
+      (both_pass (is_inside len) layout.side h es ss len (λ at n inside. le-leb (at + n) len inside) layout.form layout.table, tt),
     )
 
 -- ---- what a write answers

@@ -12,12 +12,12 @@ use Rattle.gptman_copy.specs.Disk.{DiskState, IsSound, Keeps, LeavesOnly}
 use Rattle.gptman.specs.Edit.{after_edit, edit_fault}
 use Rattle.gptman_copy.specs.Fault.{Fault, io, invalid_partition_number}
 use Rattle.gptman_copy.specs.Ranges.{AreClear}
-use Rattle.gptman.specs.Layout.{HasLayout, Holds, IsInLayout, IsLaidOut, ranges_at}
+use Rattle.gptman.specs.Layout.{HasLayout, Holds, IsLaidOut, ranges_at}
 use Rattle.gptman.specs.Number.{has_number}
 use Rattle.gptman.specs.Order.{by_rank, put_in, rank}
 use Rattle.gptman.specs.Reading.{Side, primary, backup}
 use Rattle.gptman.specs.Stop.{HoldsOneOf, IsStored, StopsHold}
-use Rattle.gptman.specs.Table.{Table, table_of, content_of, entries_in, table_in, IsHeaderForm}
+use Rattle.gptman.specs.Table.{Table, table_of, entries_in, table_in, IsHeaderForm}
 use Rattle.gptman_copy.specs.Copy.{IsCoherent}
 use Rattle.gptman.specs.Valid.{IsValidity}
 use Rattle.gptman.specs.Valid.IsValidity.{shared_guid, bad_boundaries, valid}
@@ -33,6 +33,7 @@ use Rattle.gptman.proofs.Held.{holds_local}
 use Rattle.gptman.proofs.OneGood.{leaves_still}
 use Rattle.gptman_copy.proofs.Ranges.{contains_first}
 use Rattle.gptman_copy.proofs.Runs.{rose_since}
+use Rattle.gptman.proofs.WrittenCopy.{content_of}
 
 -- a header with another disk GUID and other checksums
 abbrev with_sums : GPTHeader → List ℕ → ℕ → ℕ → GPTHeader
@@ -113,10 +114,14 @@ module _ (g new : GPT) (keeps : KeepsRanges g new) where
     fits = laid.fits;
   }
 
+  form_like : (side : Side) → IsHeaderForm side g.header → IsHeaderForm side like
+  form_like primary form = form
+  form_like backup form = form
+
   pub layout_still : (len : ℕ) → HasLayout g len → HasLayout new len
   layout_still len layout =
-      let P : GPTHeader → ℕ → Type 0 = λ h ss. IsInLayout h (entries_in new) ss len in
-      let here : P like g.sector_size = record { table = like_laid g.sector_size len layout.table; form = layout.form } in
+      let P : GPTHeader → ℕ → Type 0 = λ h ss. HasLayout (record new { header = h; sector_size = ss }) len in
+      let here : P like g.sector_size = record { table = like_laid g.sector_size len layout.table; side = layout.side; form = form_like layout.side layout.form } in
       subst (λ (ss : ℕ). P new.header ss) (sym keeps.sector) (subst (λ (h : GPTHeader). P h g.sector_size) (sym keeps.header) here)
 
   pub same_ranges_too : HasRangesOf (table_in g) (table_in new)
@@ -124,10 +129,6 @@ module _ (g new : GPT) (keeps : KeepsRanges g new) where
     count = ap (λ (h : GPTHeader). h.number_of_partition_entries) keeps.header;
     last = ap (λ (h : GPTHeader). h.last_usable_lba) keeps.header;
   }
-
-  form_like : (side : Side) → IsHeaderForm side g.header → IsHeaderForm side like
-  form_like primary form = form
-  form_like backup form = form
 
   pub form_still : (side : Side) → IsHeaderForm side g.header → IsHeaderForm side new.header
   form_still side form = subst (IsHeaderForm side) (sym keeps.header) (form_like side form)
@@ -228,7 +229,7 @@ refused_room g new edit fault a b small layout (not_written none (no_memory out)
 refused_room g new edit fault a b small layout (not_written none (not_valid validity) sums) = validity_room (after_edit g edit).header (entries_in (after_edit g edit)) fault validity
 refused_room g new edit fault a b small layout (not_written none (no_room good full) sums) =
     let room = sym (room_still g (after_edit g edit) (edited_keeps g edit) a.size) in
-    let fits = layout_fits g.header (entries_in g) g.sector_size a.size small layout in
+    let fits = layout_fits g a.size small layout in
     let never = sym fits ∙ (room ∙ full) in absurd (cc)
 refused_room g new edit fault a b small layout (not_written none (disk_failed good near failed) sums) =
     (λ far. let d = sym failed.0 ∙ far in absurd (cc), λ full. let d = sym failed.0 ∙ full in absurd (cc))

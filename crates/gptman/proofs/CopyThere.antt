@@ -8,13 +8,15 @@ use Rattle.gptman_copy.specs.Bytes.{part}
 use Rattle.gptman_copy.specs.Coding.{header_of, entry_of}
 use Rattle.gptman_copy.specs.Crc.{crc_of}
 use Rattle.gptman_copy.specs.Fault.{Fault, first_failing}
-use Rattle.gptman_copy.specs.Copy.{CopyAt, Copy, copy_tests, copy_fault, copy_there, copy_at, entries_of, entries_part, entries_start, entries_length, right_signature, right_revision, header_crc}
+use Rattle.gptman_copy.specs.Copy.{CopyAt, Copy, copy_at, entries_of, right_signature, right_revision, header_crc}
 use Rattle.gptman_copy.specs.declared.codec.header.GPTHeader.{GPTHeader}
 use Rattle.gptman_copy.specs.declared.codec.entry.GPTPartitionEntry.{GPTPartitionEntry}
 use Rattle.gptman_copy.proofs.EntryBytes.{entry_is}
 use Rattle.gptman_copy.proofs.FirstFailing.{none_from_tests, none_or}
 use Rattle.gptman_copy.proofs.HeaderBytes.{header_is}
 use Rattle.gptman_copy.proofs.Overlays.{part-part}
+use Rattle.gptman_copy.proofs.CopyParts.{copy_tests, copy_fault, copy_there, entries_part}
+use Rattle.gptman_copy.proofs.CopyTests.{entries_start, entries_length}
 
 -- entries that lie on the disk begin below its end
 start_below : (n start size len : ℕ) → size ≡ 128 * n → (n ≡ 0) ⊎ (start + size ≤ len) → (n ≡ 0) ⊎ (start < len)
@@ -28,7 +30,7 @@ start_below n start size len is inside = elim (eqb_tells n 0) as (λ _. (n ≡ 0
 
 there_is : (b : List ℕ) (p ss : ℕ) (es : List GPTPartitionEntry) → length b ≤ 2 ^ 64 → CopyAt b p ss (header_of (part b p 92)) es
     → copy_at b p ss ≡ Ok (record { header = header_of (part b p 92); entries = es })
-unfolding copy_at copy_fault copy_there entries_of
+unfolding copy_at entries_of
 there_is b p ss es long c =
     let x : List ℕ = part b p 92 in
     let h : GPTHeader = header_of x in

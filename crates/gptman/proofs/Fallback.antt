@@ -7,12 +7,16 @@ use Rattle.gptman.specs.TableReads.{copy_of, is_reading_fault, CountsReading, Fa
 use Rattle.gptman_copy.specs.Copy.{Copy, copy_at}
 use Rattle.gptman_copy.specs.Disk.{DiskState, HasFailedAsOften, Keeps}
 use Rattle.gptman_copy.specs.Fault.{Fault, fault_of, is_signature_fault, io, invalid_signature, invalid_revision, invalid_header_size, invalid_checksum, invalid_array_checksum, read_error, no_space_left, conflict_partition_guid, invalid_partition_boundaries, invalid_partition_number, unused_partition, partition_not_found, overflow, out_of_memory, invalid_entry_size}
-use Rattle.gptman.specs.Reading.{primary, backup, both, copy_in, fallback, found_sector_size, reading_of, second_copy}
+use Rattle.gptman.specs.Reading.{primary, backup, both, copy_in, fallback, found_sector_size, reading_of}
 use Rattle.gptman_copy.specs.declared.error.Error.{Error}
 use Rattle.gptman.specs.declared.table.GPT.{GPT}
 use Rattle.gptman_copy.proofs.CopyParts.{header_refused}
 use Rattle.gptman_copy.proofs.CopyTests.{header_short}
 use Rattle.gptman_copy.proofs.Runs.{rose_since}
+
+-- the backup copy, or the fault that is said of it and of the first
+abbrev pub second_copy : Fault → Result Copy Fault → Result Copy Fault
+second_copy first r = elim r [ Ok copy ↦ Ok copy | Err second ↦ Err (both first second) ]
 
 -- a copy's fault that is no want of memory is damage
 pub damage_from : (f : Fault) → is_copy_fault f ≡ true → f ≢ out_of_memory → is_damage f ≡ true

@@ -3,15 +3,17 @@ use Rattle.std.proofs.Common.{◌≡◌, ◌*◌, ℕ, Bool, true, false, List, 
 use Rattle.std.specs.Prelude.{Option, Some, None}
 use Rattle.gptman_copy.specs.Bytes.{part}
 use Rattle.gptman_copy.specs.Coding.{header_of}
-use Rattle.gptman_copy.specs.Copy.{Copy, copy_at, copy_fault, copy_tests, copy_there, entries_of, entries_part, entries_start, entries_length}
+use Rattle.gptman_copy.specs.Copy.{Copy, copy_at, entries_of}
 use Rattle.gptman_copy.specs.Fault.{Fault, first_failing, invalid_signature}
-use Rattle.gptman.specs.Layout.{Holds, ranges_at, array_start}
+use Rattle.gptman.specs.Layout.{Holds, ranges_at}
 use Rattle.gptman_copy.specs.Ranges.{AgreesInside}
 use Rattle.gptman.specs.Reading.{Side, primary, backup, copy_start, copy_in}
 use Rattle.gptman.specs.Table.{Table, IsForm}
 use Rattle.gptman_copy.specs.declared.codec.header.GPTHeader.{GPTHeader}
 use Rattle.gptman_copy.proofs.Overlays.{part_in}
-use Rattle.gptman.proofs.WrittenCopy.{written_array}
+use Rattle.gptman_copy.proofs.CopyParts.{copy_fault, copy_tests, copy_there, entries_part}
+use Rattle.gptman.proofs.WrittenCopy.{array_start, written_array}
+use Rattle.gptman_copy.proofs.CopyTests.{entries_start, entries_length}
 
 -- ---- a copy is told by the length and by its two parts
 
@@ -22,7 +24,7 @@ abbrev copy_from : ℕ → ℕ → ℕ → List ℕ → List ℕ → Result Copy
 copy_from len p ss x y = given (first_failing (copy_tests len p ss x y)) (record { header = header_of x; entries = entries_of y (header_of x).number_of_partition_entries })
 
 copy_at-is : (b : List ℕ) (p ss : ℕ) → copy_at b p ss ≡ copy_from (length b) p ss (part b p 92) (entries_part b p ss)
-unfolding copy_at copy_fault copy_there
+unfolding copy_at
 copy_at-is b p ss = refl
 
 copy_at-local : (b c : List ℕ) (p ss : ℕ) → length c ≡ length b → part c p 92 ≡ part b p 92 → entries_part c p ss ≡ entries_part b p ss → copy_at c p ss ≡ copy_at b p ss
@@ -43,7 +45,6 @@ pub accepted_is : (b : List ℕ) (p ss : ℕ) (copy : Copy) → copy_at b p ss �
 accepted_is b p ss copy ok = accepted_cases b p ss copy (copy_fault b p ss) refl ok
 
 accepted_header : (b : List ℕ) (p ss : ℕ) (copy : Copy) → copy_at b p ss ≡ Ok copy → header_of (part b p 92) ≡ copy.header
-unfolding copy_there
 accepted_header b p ss copy ok = ap (λ (c : Copy). c.header) (accepted_is b p ss copy ok)
 
 -- ---- what two lists agree in

@@ -7,7 +7,7 @@ use Rattle.std.proofs.lemmas.Bool.Decides.{eqb_tells}
 use Rattle.gptman_copy.specs.Bytes.{part}
 use Rattle.gptman_copy.specs.Coding.{FitsHeader, FitsEntry, header_bytes, array_bytes}
 use Rattle.gptman_copy.specs.Disk.{AgreesOutside, Within}
-use Rattle.gptman_copy.specs.Ranges.{ranges_from, AreApart, AreInside}
+use Rattle.gptman_copy.specs.Ranges.{AreApart, AreInside}
 use Rattle.gptman_copy.specs.Write.{array_range, write_ranges, is_inside, IsCopyLaid, HasBytes}
 use Rattle.gptman_copy.specs.declared.codec.header.GPTHeader.{GPTHeader}
 use Rattle.gptman_copy.specs.declared.codec.entry.GPTPartitionEntry.{GPTPartitionEntry}
@@ -21,7 +21,7 @@ use Rattle.gptman.proofs.Pieces.{ranges_of, AllStand, laid_agrees, laid_stand}
 
 -- the two ranges of a copy, its header and its entries, also where there are no entries
 abbrev pub copy_ranges : GPTHeader → ℕ → Ranges
-copy_ranges h ss = ranges_from (h.primary_lba * ss) (h.partition_entry_lba * ss) h.number_of_partition_entries
+copy_ranges h ss = (h.primary_lba * ss, 92) ∷ (h.partition_entry_lba * ss, 128 * h.number_of_partition_entries) ∷ []
 
 -- A copy that was laid stands there, where its two ranges are apart and on the disk. The list is as long as it was.
 pub laid_stands : (old new : List ℕ) (h : GPTHeader) (es : List GPTPartitionEntry) (ss : ℕ) → AreApart (copy_ranges h ss) → AreInside (copy_ranges h ss) (length old)

@@ -3,7 +3,7 @@ use Rattle.std.proofs.Common.{◌≡◌, List, length, sym, subst, inl, inr}
 use Rattle.gptman.specs.Crash.{HasRangesOf, IsKeptFor, other_side, StartsFromOne, StartsStored}
 use Rattle.gptman_copy.specs.Disk.{AgreesOutside, DiskState, IsSound, LeavesOnly, Wrote}
 use Rattle.gptman_copy.specs.Ranges.{AreClear}
-use Rattle.gptman.specs.Layout.{HasLayout, Holds, IsInLayout, four_ranges, ranges_at}
+use Rattle.gptman.specs.Layout.{HasLayout, Holds, four_ranges, ranges_at}
 use Rattle.gptman.specs.Reading.{Side, primary, backup}
 use Rattle.gptman.specs.Stop.{IsStored}
 use Rattle.gptman.specs.Table.{Table, entries_in, table_in, IsHeaderForm}
@@ -17,19 +17,11 @@ use Rattle.gptman.proofs.Argument.{leaves_ranges}
 use Rattle.gptman.proofs.FourRanges.{sides_apart, same_ranges, within_four}
 use Rattle.gptman_copy.proofs.Ranges.{Ranges, agrees_wider}
 
--- a header of the layout is in the form of a side
-pub layout_form : (h : GPTHeader) (es : List GPTPartitionEntry) (ss len : ℕ) → IsInLayout h es ss len → (side : Side) × IsHeaderForm side h
-layout_form h es ss len layout = elim layout.form as (λ _. (side : Side) × IsHeaderForm side h) [
-  | inl form ↦ (primary, form)
-  | inr form ↦ (backup, form)
-]
-
--- and all bytes outside of the four ranges
+-- All bytes outside of the four ranges
 pub leaves_outside : (g : GPT) (a b : DiskState) → a.pending ≡ [] → HasLayout g a.size → Wrote (both_ranges g.header g.sector_size) a b
     → LeavesOnly a b (AgreesOutside (four_ranges (table_in g) g.sector_size a.size) a.view)
 leaves_outside g a b synced layout run x left =
-    let at = layout_form g.header (entries_in g) g.sector_size a.size layout in
-    agrees_wider (within_four at.0 g.header (entries_in g) g.sector_size a.size at.1 layout.table) (leaves_ranges (both_ranges g.header g.sector_size) a b run synced x left)
+    agrees_wider (within_four layout.side g.header (entries_in g) g.sector_size a.size layout.form layout.table) (leaves_ranges (both_ranges g.header g.sector_size) a b run synced x left)
 
 -- where no call was made a stop leaves the disk as it was
 pub leaves_still : (a : DiskState) (P : List ℕ → Type 0) → IsSound a → a.pending ≡ [] → ((x : List ℕ) → AgreesOutside [] a.view x → P x) → LeavesOnly a a P
@@ -59,8 +51,7 @@ held_is_kept side disk g old synced form held layout same =
 pub stored_is_kept : (disk : DiskState) (g : GPT) (old : Table) → IsStored disk g.sector_size old → HasLayout g disk.size → HasRangesOf old (table_in g)
     → IsKeptFor disk g old
 stored_is_kept disk g old stored layout same =
-    let at = layout_form g.header (entries_in g) g.sector_size disk.size layout in
-    held_is_kept at.0 disk g old stored.synced at.1 (stored_at at.0 disk g.sector_size old stored) layout same
+    held_is_kept layout.side disk g old stored.synced layout.form (stored_at layout.side disk g.sector_size old stored) layout same
 
 pub one_of_stored : (disk : DiskState) (g : GPT) (old : Table) → StartsStored disk g old → StartsFromOne disk g old
 one_of_stored disk g old from = record { start = from.start; kept = stored_is_kept disk g old from.stored from.start.layout from.ranges }

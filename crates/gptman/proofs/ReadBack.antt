@@ -3,11 +3,12 @@ use Rattle.std.proofs.Common.{◌≡◌, ◌*◌, ℕ, List, [], ◌∷◌, map,
 use Rattle.std.specs.List.{range_with_len}
 use Rattle.gptman_copy.specs.Bytes.{part}
 use Rattle.gptman_copy.specs.Coding.{header_of, entry_of}
-use Rattle.gptman_copy.specs.Copy.{Copy, copy_at, copy_there, entries_of, entries_part}
+use Rattle.gptman_copy.specs.Copy.{Copy, copy_at, entries_of}
 use Rattle.gptman.specs.Reading.{Side, primary, backup, copy_in}
-use Rattle.gptman.specs.Table.{TableEntry, content_of}
-use Rattle.gptman.proofs.WrittenCopy.{entry_in}
+use Rattle.gptman.specs.Table.{TableEntry}
+use Rattle.gptman.proofs.WrittenCopy.{content_of, entry_in}
 use Rattle.gptman_copy.specs.declared.codec.entry.GPTPartitionEntry.{GPTPartitionEntry}
+use Rattle.gptman_copy.proofs.CopyParts.{copy_there, entries_part}
 use Rattle.gptman.proofs.Fallback.{backup_long, backup_room}
 use Rattle.gptman.proofs.Held.{accepted_is}
 
@@ -21,7 +22,7 @@ entries_back f [] = refl
 entries_back f (i ∷ is) = ap (λ (es : List GPTPartitionEntry). entry_of (f i) ∷ es) (entries_back f is)
 
 back_at : (b : List ℕ) (p ss : ℕ) (copy : Copy) → copy_at b p ss ≡ Ok copy → back copy.entries ≡ copy.entries
-unfolding copy_there entries_of
+unfolding entries_of
 back_at b p ss copy ok =
     subst (λ (c : Copy). back c.entries ≡ c.entries) (accepted_is b p ss copy ok)
     (entries_back (λ i. part (entries_part b p ss) (128 * i) 128) (range_with_len 0 (header_of (part b p 92)).number_of_partition_entries))

@@ -4,11 +4,12 @@ use Rattle.std.specs.List.{Contains}
 use Rattle.gptman_copy.specs.Fault.{Fault}
 use Rattle.gptman_copy.specs.Copy.{Copy}
 use Rattle.gptman.specs.Layout.{Holds}
-use Rattle.gptman.specs.Reading.{Side, primary, backup, copy_in, fallback, reading_of, second_copy, taken_from}
+use Rattle.gptman.specs.Reading.{Side, primary, backup, copy_in, fallback, reading_of, taken_from}
 use Rattle.gptman.specs.Stop.{HoldsOneOf, HoldsWhatIsRead, ReadsForeign, ReadsOneOf}
 use Rattle.gptman.specs.Table.{Table, IsForm}
 use Rattle.gptman.proofs.Fallback.{backup_room, fallback_long, fallback_short, refused_first, taken_first}
 use Rattle.gptman.proofs.SameTable.{one_of_decided}
+use Rattle.gptman.proofs.Fallback.{second_copy}
 
 abbrev from : Result Copy Fault → Side
 from r = elim r [ Ok copy ↦ primary | Err fault ↦ backup ]

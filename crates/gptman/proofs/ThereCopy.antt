@@ -8,13 +8,15 @@ use Rattle.gptman_copy.specs.Bytes.{part}
 use Rattle.gptman_copy.specs.Coding.{IsEntryCoding, HasReadName, header_of, entry_of}
 use Rattle.gptman_copy.specs.Crc.{crc_of}
 use Rattle.gptman_copy.specs.Fault.{Fault}
-use Rattle.gptman_copy.specs.Copy.{CopyAt, Copy, copy_tests, copy_fault, copy_there, copy_at, entries_of, entries_part, entries_start, entries_length, right_signature, right_revision, header_crc}
+use Rattle.gptman_copy.specs.Copy.{CopyAt, Copy, copy_at, entries_of, right_signature, right_revision, header_crc}
 use Rattle.gptman_copy.specs.declared.codec.header.GPTHeader.{GPTHeader}
 use Rattle.gptman_copy.specs.declared.codec.entry.GPTPartitionEntry.{GPTPartitionEntry}
 use Rattle.gptman_copy.proofs.FirstFailing.{tests_pass}
 use Rattle.gptman_copy.proofs.Overlays.{part-part}
+use Rattle.gptman_copy.proofs.CopyParts.{copy_tests, copy_fault, copy_there, entries_part}
 use Rattle.gptman.specs.Stop.{AcceptsWhatStands}
 use Rattle.gptman.proofs.CopyThere.{copy_there_is}
+use Rattle.gptman_copy.proofs.CopyTests.{entries_start, entries_length}
 
 -- a test of entries that passes, passes because there are none or by itself
 some_or_none : (n : ℕ) (t : Bool) (P : Type 0) → (t ≡ true → P) → (eqb n 0 || t) ≡ true → (n ≡ 0) ⊎ P
@@ -46,7 +48,6 @@ unfolding entries_of
 counted y n = length-map-range_with_len (λ (i : ℕ). entry_of (part y (128 * i) 128)) 0 n
 
 stands : (b : List ℕ) (p ss : ℕ) → copy_fault b p ss ≡ None → CopyAt b p ss (header_of (part b p 92)) (entries_of (entries_part b p ss) (header_of (part b p 92)).number_of_partition_entries)
-unfolding copy_fault
 stands b p ss none =
     let x : List ℕ = part b p 92 in
     let h : GPTHeader = header_of x in
@@ -96,7 +97,7 @@ no_fault (Some fault) there copy ok = absurd (cc)
 
 -- A copy that is accepted stands there.
 pub there_copy_is : (b : List ℕ) (p ss : ℕ) (copy : Copy) → copy_at b p ss ≡ Ok copy → CopyAt b p ss copy.header copy.entries
-unfolding copy_at copy_there
+unfolding copy_at
 there_copy_is b p ss copy ok =
     let both = no_fault (copy_fault b p ss) (copy_there b p ss) copy ok in
     subst (λ (c : Copy). CopyAt b p ss c.header c.entries) both.1 (stands b p ss both.0)

@@ -12,11 +12,10 @@ use Rattle.gptman.specs.Crash.SideAfter.{left_alone, written as holds_new, torn}
 use Rattle.gptman.specs.Layout.{Holds, IsLaidOut, ranges_at}
 use Rattle.gptman.specs.Reading.{Side, primary, backup, copy_start}
 use Rattle.gptman.specs.Stop.{HoldsOneOf, IsStored, StopsHold}
-use Rattle.gptman.specs.Table.{Table, content_of, entries_in, table_in, table_of, IsHeaderForm}
+use Rattle.gptman.specs.Table.{Table, entries_in, table_in, table_of, IsHeaderForm}
 use Rattle.gptman_copy.specs.declared.codec.header.GPTHeader.{GPTHeader}
 use Rattle.gptman_copy.specs.declared.codec.entry.GPTPartitionEntry.{GPTPartitionEntry}
 use Rattle.gptman.specs.declared.table.GPT.{GPT}
-use Rattle.gptman.proofs.OneGood.{layout_form}
 use Rattle.gptman_copy.proofs.Ranges.{Ranges, contains_first, contains_later, within_none, within_self}
 use Rattle.gptman_copy.proofs.Runs.{wrote_then, wrote_wider}
 use Rattle.gptman.proofs.Apart.{clear_if_apart}
@@ -26,7 +25,7 @@ use Rattle.gptman.proofs.Held.{holds_local}
 use Rattle.gptman.proofs.LaidCopies.{copy_ranges, laid_stands, within_copy}
 use Rattle.gptman.proofs.OtherHeader.{other_table, other_form}
 use Rattle.gptman.proofs.Sealing.{IsSealed, sealed_is, sealed_table, sealed_form}
-use Rattle.gptman.proofs.WrittenCopy.{written_start, written_array, written_holds}
+use Rattle.gptman.proofs.WrittenCopy.{content_of, written_array, written_holds, written_start}
 
 -- ---- what is written whole is accepted
 
@@ -249,17 +248,16 @@ module _ (g : GPT) (a c : DiskState) (long : length a.view ≡ a.size) where
 
   pub after_of : StartsSynced a g → ComesFor → BothSidesAfter g a c
   after_of from come =
-      let at = layout_form g.header (entries_in g) g.sector_size a.size from.start.layout in
-      let laid = from.start.layout.table in
-      let here = come at.0 at.1 laid in
-      by_name (λ p. SideAfter p (table_in g) g.sector_size a c) at.0
-      (own_after at.0 g.header (entries_in g) g.sector_size a.size at.1 laid a c refl from.synced here)
-      (other_after at.0 g.header (entries_in g) g.sector_size a.size at.1 laid a c refl from.synced here)
+      let at = from.start.layout in
+      let here = come at.side at.form at.table in
+      by_name (λ p. SideAfter p (table_in g) g.sector_size a c) at.side
+      (own_after at.side g.header (entries_in g) g.sector_size a.size at.form at.table a c refl from.synced here)
+      (other_after at.side g.header (entries_in g) g.sector_size a.size at.form at.table a c refl from.synced here)
 
   pub stored_of : (s b : DiskState) → a.size < 2 ^ 64 → StartsLaidOut a g → OnlyRead a s → IsCopied (other_header g.header) (entries_in g) g.sector_size s b
       → Wrote (write_ranges g.header g.sector_size) b c → IsCopied g.header (entries_in g) g.sector_size b c → IsStored c g.sector_size (table_in g)
   stored_of s b small start read copy second done =
-      let at = layout_form g.header (entries_in g) g.sector_size a.size start.layout in
-      let both = stored_both at.0 g.header (entries_in g) g.sector_size a.size at.1 start.layout.table a s b c small long read copy second done in
-      let named = by_name (λ p. Holds c.view g.sector_size p (table_in g)) at.0 both.0 both.1 in
+      let at = start.layout in
+      let both = stored_both at.side g.header (entries_in g) g.sector_size a.size at.form at.table a s b c small long read copy second done in
+      let named = by_name (λ p. Holds c.view g.sector_size p (table_in g)) at.side both.0 both.1 in
       record { synced = done.synced; at_primary = named.0; at_backup = named.1 }

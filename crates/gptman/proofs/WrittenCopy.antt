@@ -10,10 +10,10 @@ use Rattle.gptman_copy.specs.Bytes.{part}
 use Rattle.gptman_copy.specs.Coding.{IsHeaderCoding, IsEntryCoding, HasReadName, FitsHeader, FitsEntry, header_bytes, entry_bytes, array_bytes}
 use Rattle.gptman_copy.specs.Crc.{crc_of}
 use Rattle.gptman_copy.specs.Fault.{Fault, invalid_signature}
-use Rattle.gptman_copy.specs.Copy.{Copy, CopyAt, copy_at, entries_start, entries_length, header_crc, right_signature, right_revision}
+use Rattle.gptman_copy.specs.Copy.{Copy, CopyAt, copy_at, header_crc, right_signature, right_revision}
 use Rattle.gptman.specs.Reading.{Side, primary, backup, copy_start, copy_in}
-use Rattle.gptman.specs.Table.{Table, TableEntry, IsHeaderForm, table_of, content_of}
-use Rattle.gptman.specs.Layout.{Holds, IsLaidOut, array_start}
+use Rattle.gptman.specs.Table.{Table, TableEntry, IsHeaderForm, table_of}
+use Rattle.gptman.specs.Layout.{Holds, IsLaidOut}
 use Rattle.gptman_copy.specs.Write.{HasBytes}
 use Rattle.gptman_copy.specs.declared.codec.header.GPTHeader.{GPTHeader}
 use Rattle.gptman_copy.specs.declared.codec.entry.GPTPartitionEntry.{GPTPartitionEntry}
@@ -23,6 +23,18 @@ use Rattle.gptman_copy.proofs.ArrayBytes.{array_long, array_part}
 use Rattle.gptman_copy.proofs.Overlays.{part-part}
 use Rattle.gptman.proofs.CopyThere.{copy_there_is}
 use Rattle.gptman.proofs.Sealing.{IsSealed}
+use Rattle.gptman_copy.proofs.CopyTests.{entries_start, entries_length}
+
+-- an entry without the text that its name has in memory
+abbrev pub content_of : GPTPartitionEntry → TableEntry
+content_of e = record {
+  partition_type_guid = e.partition_type_guid;
+  unique_partition_guid = e.unique_partition_guid;
+  starting_lba = e.starting_lba;
+  ending_lba = e.ending_lba;
+  attribute_bits = e.attribute_bits;
+  units = e.partition_name.units;
+}
 
 -- an entry as it is read back: its text is that of its units
 abbrev pub entry_in : TableEntry → GPTPartitionEntry
@@ -106,6 +118,10 @@ written_start primary h es ss len form laid = ap (λ (n : ℕ). n * ss) form.0 �
 written_start backup h es ss len form laid =
     let sector : h.primary_lba ≡ len / ss - 1 = omega (arith, laid.low_sector, laid.high_sector, form.0) in
     ap (λ (n : ℕ). n * ss) sector
+
+-- where the entries of a table in the form of a side begin
+abbrev pub array_start : Side → Table → ℕ → ℕ
+array_start side t ss = elim side [ primary ↦ 2 * ss | backup ↦ (t.last_usable_lba + 1) * ss ]
 
 -- and its entries where theirs do
 pub written_array : (side : Side) (h : GPTHeader) (es : List GPTPartitionEntry) (ss : ℕ) → IsHeaderForm side h → h.partition_entry_lba * ss ≡ array_start side (table_of h es) ss

@@ -21,14 +21,12 @@ copy_in backup b ss = elim (nat_lt (length b) ss) [ true ↦ Err invalid_signatu
 abbrev pub both : Fault → Fault → Fault
 both first second = if is_signature_fault first && is_signature_fault second then invalid_signature else read_error first second
 
--- the backup copy, or the fault that is said of it and of the first
-abbrev pub second_copy : Fault → Result Copy Fault → Result Copy Fault
-second_copy first (Ok copy) = Ok copy
-second_copy first (Err second) = Err (both first second)
-
--- what the reading says where the primary copy has this fault
+-- What the reading says where the primary copy has this fault: the backup copy, or the fault that is said of both.
 abbrev pub fallback : List ℕ → ℕ → Fault → Result Copy Fault
-fallback b ss first = elim (nat_lt (length b) ss) [ true ↦ Err invalid_signature | false ↦ second_copy first (copy_in backup b ss) ]
+fallback b ss first = elim (nat_lt (length b) ss) [
+  | true ↦ Err invalid_signature
+  | false ↦ elim (copy_in backup b ss) [ Ok copy ↦ Ok copy | Err second ↦ Err (both first second) ]
+]
 
 -- The reading of a disk with these bytes: the copy that it takes, or its fault.
 unfoldable pub reading_of : List ℕ → ℕ → Result Copy Fault

@@ -32,16 +32,6 @@ pub record Table : Type 0 where
   pub entry_size : ℕ
   pub entries : List TableEntry
 
-abbrev pub content_of : GPTPartitionEntry → TableEntry
-content_of e = record {
-  partition_type_guid = e.partition_type_guid;
-  unique_partition_guid = e.unique_partition_guid;
-  starting_lba = e.starting_lba;
-  ending_lba = e.ending_lba;
-  attribute_bits = e.attribute_bits;
-  units = e.partition_name.units;
-}
-
 -- the table of a header and entries
 abbrev pub table_of : GPTHeader → List GPTPartitionEntry → Table
 table_of h es = record {
@@ -56,7 +46,14 @@ table_of h es = record {
   disk_guid = h.disk_guid;
   count = h.number_of_partition_entries;
   entry_size = h.size_of_partition_entry;
-  entries = map content_of es;
+  entries = map (λ e. record {
+    partition_type_guid = e.partition_type_guid;
+    unique_partition_guid = e.unique_partition_guid;
+    starting_lba = e.starting_lba;
+    ending_lba = e.ending_lba;
+    attribute_bits = e.attribute_bits;
+    units = e.partition_name.units;
+  }) es;
 }
 
 -- the entries of a value, in order
@@ -65,7 +62,7 @@ entries_in g = g.partitions
 
 -- the table of a value
 abbrev pub table_in : GPT → Table
-table_in g = table_of g.header (entries_in g)
+table_in g = table_of g.header g.partitions
 
 -- A header stands in this form: in sector 1 with its entries from sector 2, or in the other sector with its entries behind the last usable one.
 abbrev pub IsHeaderForm : Side → GPTHeader → Type 0

@@ -33,16 +33,12 @@ of_table : (old mid : DiskState) (ss : ℕ) (g : GPT) (was : Table) → StartsGo
 of_table old mid ss g was good (inl first) = of_place old ss g was primary good first
 of_table old mid ss g was good (inr second) = of_place old ss g was backup good second.0
 
--- the header of such a value is in one of the two forms
-one_form : (side : Side) (g : GPT) → IsHeaderForm side g.header → IsHeaderForm primary g.header ⊎ IsHeaderForm backup g.header
-one_form primary g form = inl form
-one_form backup g form = inr form
-
 -- On a disk of that length such a value has the stated layout.
 laid_out : (view : List ℕ) (ss len : ℕ) (table : GPT) (was : Table) → IsLaidOut was ss len → table.sector_size ≡ ss → IsOfTable view ss table was → HasLayout table len
 laid_out view ss len table was layout sector of = record {
   table = subst (λ (t : Table). IsLaidOut t table.sector_size len) (sym of.same) (subst (λ (n : ℕ). IsLaidOut was n len) (sym sector) layout);
-  form = one_form of.side table of.form;
+  side = of.side;
+  form = of.form;
 }
 
 -- What is read from a good copy is its table, and what keeps its places has the stated layout.

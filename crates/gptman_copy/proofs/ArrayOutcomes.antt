@@ -1,13 +1,14 @@
 -- What reading the entries of a header answers, one outcome at a time.
 use Rattle.std.proofs.Common.{◌≡◌, ◌≢◌, ◌≤◌, ◌<◌, ◌⊎◌, ◌+◌, ◌*◌, ⊎_elim, ℕ, List, length, Err, sym, ap, ◌∙◌, inl, inr, arith}
 use Rattle.gptman_copy.specs.Bytes.{part}
-use Rattle.gptman_copy.specs.Copy.{array_result, entries_start, entries_length}
+use Rattle.gptman_copy.specs.Copy.{array_result}
 use Rattle.gptman_copy.specs.Disk.{DiskState, Rose, Keeps}
 use Rattle.gptman_copy.specs.Fault.{Fault, io, out_of_memory}
 use Rattle.gptman_copy.specs.Reads.{IsBlockFault, IsSeekFault, wrong_size, too_far, past_end, disk_failed, IsReadyFor, empty, there}
 use Rattle.gptman_copy.specs.declared.codec.header.GPTHeader.{GPTHeader}
 use Rattle.gptman_copy.proofs.Runs.{rose_since}
 use Rattle.gptman_copy.proofs.CopyTests.{IsInPlace, array_size_wrong, array_beyond, array_short}
+use Rattle.gptman_copy.proofs.CopyTests.{entries_start, entries_length}
 
 -- a refusal is that of a disk that failed, of want of memory, or the one by definition
 abbrev pub IsOutcome : List ℕ → ℕ → GPTHeader → Fault → DiskState → DiskState → Type 0

@@ -1,12 +1,29 @@
 -- A copy is told by its header and then by its entries.
-use Rattle.std.proofs.Common.{◌≡◌, ℕ, List, length, Option, Some, None, Result, Ok, Err, refl, ap, ◌∙◌}
+use Rattle.std.proofs.Common.{◌≡◌, ℕ, Bool, List, ◌++◌, length, Option, Some, None, Result, Ok, Err, refl, ap, ◌∙◌}
 use Rattle.gptman_copy.specs.Bytes.{part}
 use Rattle.gptman_copy.specs.Coding.{header_of}
 use Rattle.gptman_copy.specs.Fault.{Fault, first_failing}
-use Rattle.gptman_copy.specs.Copy.{Copy, header_tests, array_tests, copy_tests, copy_fault, copy_there, copy_at, header_result, array_result, unless, entries_of, entries_part, entries_start, entries_length}
+use Rattle.gptman_copy.specs.Copy.{Copy, header_tests, array_tests, copy_at, header_result, array_result, unless, entries_of}
 use Rattle.gptman_copy.specs.declared.codec.header.GPTHeader.{GPTHeader}
 use Rattle.gptman_copy.specs.declared.codec.entry.GPTPartitionEntry.{GPTPartitionEntry}
 use Rattle.gptman_copy.proofs.FirstFailing.{first_tests, later_tests}
+use Rattle.gptman_copy.proofs.CopyTests.{entries_start, entries_length}
+
+-- the bytes of the entries of the header at byte p
+abbrev pub entries_part : List ℕ → ℕ → ℕ → List ℕ
+entries_part b p ss = part b (entries_start (header_of (part b p 92)) ss) (entries_length (header_of (part b p 92)))
+
+-- all nine tests, in order
+abbrev pub copy_tests : ℕ → ℕ → ℕ → List ℕ → List ℕ → List (Bool × Fault)
+copy_tests len p ss x y = header_tests len p x ++ array_tests len ss (header_of x) y
+
+-- the fault of the copy at byte p, if it has one
+abbrev pub copy_fault : List ℕ → ℕ → ℕ → Option Fault
+copy_fault b p ss = first_failing (copy_tests (length b) p ss (part b p 92) (entries_part b p ss))
+
+-- the copy that stands there, if it has no fault
+abbrev pub copy_there : List ℕ → ℕ → ℕ → Copy
+copy_there b p ss = record { header = header_of (part b p 92); entries = entries_of (entries_part b p ss) (header_of (part b p 92)).number_of_partition_entries }
 
 refused_by : {X : Type 0} (o : Option Fault) (x : X) (fault : Fault) → unless o x ≡ Err fault → o ≡ Some fault
 refused_by None x fault is = absurd (cc)
@@ -21,13 +38,13 @@ module _ (b : List ℕ) (p ss : ℕ) where
   here = part b p 92
 
   at_fault : (fault : Fault) → first_failing (copy_tests (length b) p ss here (entries_part b p ss)) ≡ Some fault → copy_at b p ss ≡ Err fault
-  unfolding copy_at copy_fault
+  unfolding copy_at
   at_fault fault is =
       let choose : Option Fault → Result Copy Fault = λ o. elim o [ None ↦ Ok (copy_there b p ss) | Some other ↦ Err other ] in
       ap choose is
 
   at_none : first_failing (copy_tests (length b) p ss here (entries_part b p ss)) ≡ None → copy_at b p ss ≡ Ok (copy_there b p ss)
-  unfolding copy_at copy_fault
+  unfolding copy_at
   at_none is =
       let choose : Option Fault → Result Copy Fault = λ o. elim o [ None ↦ Ok (copy_there b p ss) | Some other ↦ Err other ] in
       ap choose is
@@ -53,7 +70,7 @@ module _ (b : List ℕ) (p ss : ℕ) where
 
   -- both pass
   pub both_pass : (h : GPTHeader) (es : List GPTPartitionEntry) → header_result b p ≡ Ok h → array_result b ss h ≡ Ok es → copy_at b p ss ≡ Ok (record { header = h; entries = es })
-  unfolding header_result array_result copy_there
+  unfolding header_result array_result
   both_pass h es good is =
       let own : GPTHeader = header_of here in
       let passed = passed_by (first_failing (header_tests (length b) p here)) own h good in

@@ -1,15 +1,22 @@
 -- What the tests of a header and of its entries say, one outcome at a time.
-use Rattle.std.proofs.Common.{◌≡◌, ◌≢◌, ◌≤◌, ◌<◌, ◌+◌, ◌^◌, ◌||◌, ◌⊎◌, ℕ, suc, Bool, true, false, List, [], ◌∷◌, length, eqb, ltb, leb, Some, Result, Ok, Err, refl, sym, ap, ◌∙◌, inr, arith}
+use Rattle.std.proofs.Common.{◌≡◌, ◌≢◌, ◌≤◌, ◌<◌, ◌+◌, ◌^◌, ◌||◌, ◌⊎◌, ℕ, suc, Bool, true, false, List, [], ◌∷◌, length, eqb, ltb, leb, Some, Result, Ok, Err, refl, sym, ap, ◌∙◌, inr, arith, ◌*◌}
 use Rattle.std.specs.Prelude.{if◌then◌else◌}
 use Rattle.std.proofs.lemmas.Bool.{le-leb, lt-leb, eq-eqb, ne_eqb}
 use Rattle.gptman_copy.specs.Bytes.{part}
 use Rattle.gptman_copy.specs.Coding.{header_of}
 use Rattle.gptman_copy.specs.Crc.{crc_of}
 use Rattle.gptman_copy.specs.Fault.{Fault, first_failing, io, overflow, invalid_entry_size, invalid_array_checksum}
-use Rattle.gptman_copy.specs.Copy.{value_tests, header_result, array_result, unless, entries_of, entries_start, entries_length}
+use Rattle.gptman_copy.specs.Copy.{value_tests, header_result, array_result, unless, entries_of}
 use Rattle.gptman_copy.specs.declared.codec.header.GPTHeader.{GPTHeader}
 use Rattle.gptman_copy.specs.declared.codec.entry.GPTPartitionEntry.{GPTPartitionEntry}
 use Rattle.gptman_copy.proofs.FirstFailing.{none_or}
+
+-- the first byte of the header's entries, and their number of bytes
+abbrev pub entries_start : GPTHeader → ℕ → ℕ
+entries_start h ss = h.partition_entry_lba * ss
+
+abbrev pub entries_length : GPTHeader → ℕ
+entries_length h = 128 * h.number_of_partition_entries
 
 -- the disk ends before the header
 pub header_short : (b : List ℕ) (p : ℕ) → length b < p + 92 → header_result b p ≡ Err io

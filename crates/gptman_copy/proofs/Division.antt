@@ -1,13 +1,17 @@
 -- The long division, kept in a register.
 use Rattle.std.proofs.Common.{lit<, ◌≡◌, ℕ, zero, suc, ◌+◌, ◌-◌, ◌*◌, ◌/◌, ◌%◌, ◌^◌, ◌<◌, Bool, true, false, ◌⊎◌, inl, inr, List, [], ◌∷◌, ◌++◌, length, get_or, reverse, replicate, arith, refl, sym, ap, ◌∙◌, bit_xor}
-use Rattle.std.specs.Prelude.{nat_eq, if◌then◌else◌}
+use Rattle.std.specs.Prelude.{nat_eq, not, flat_map, if◌then◌else◌}
 use Rattle.std.specs.Int.Bits.{xor_lt, xor_shr, xor_mod, xor_zero_r, xor_comm}
 use Rattle.std.proofs.Math.Nat.{pow-suc}
 use Rattle.std.proofs.lemmas.Bool.{cases_lt}
 use Rattle.std.proofs.lemmas.List.{append_assoc, reverse-append, length-append, length-replicate}
-use Rattle.gptman_copy.specs.Crc.{low_bits, number, message_bits, complement, xor, minus, divide, remainder, crc_of}
+use Rattle.gptman_copy.specs.Crc.{low_bits, number, minus, divide, crc_of}
 use Rattle.gptman_copy.specs.Bytes.{AreBytes}
 use Rattle.gptman_copy.specs.Register.{step, steps, with_byte, with_message}
+
+-- the sum of two bits without a carry
+abbrev xor : Bool → Bool → Bool
+xor p b = if p then not b else b
 
 pub parity : (a : ℕ) → (a % 2 ≡ 0) ⊎ (a % 2 ≡ 1)
 parity a = elim (cases_lt (a % 2) 1) [ inl low ↦ inl (omega arith) | inr high ↦ inr (omega arith) ]
@@ -155,6 +159,10 @@ register_below [] r bytes h = h
 register_below (b ∷ m) r bytes h =
     register_below m (steps 8 (bit_xor r b)) (λ i. bytes (suc i)) (steps_below 8 (bit_xor r b) (below_32 r b h (bytes 0)))
 
+-- the bits of a message, in each byte the lowest first
+abbrev message_bits : List ℕ → List Bool
+message_bits m = flat_map (low_bits 8) m
+
 -- the whole division is the register that has taken in the bytes
 divide_all : (m : List ℕ) (r : ℕ) → ((i : ℕ) → get_or m i 0 < 256) → r < 2 ^ 32
     → divide (length (message_bits m)) (minus (low_bits 32 r) (message_bits m ++ replicate 32 false)) ≡ low_bits 32 (with_message r m)
@@ -172,10 +180,9 @@ divide_all (b ∷ m) r bytes h =
 
 -- ---- the ends
 
-complement_is : (n : ℕ) (xs : List Bool) → complement n xs ≡ minus (replicate n true) xs
-complement_is zero xs = refl
-complement_is (suc n) [] = refl
-complement_is (suc n) (x ∷ xs) = cons_same refl (complement_is n xs)
+-- n bits complemented
+abbrev complement : ℕ → List Bool → List Bool
+complement n bs = minus (replicate n true) bs
 
 length-complement : (n : ℕ) (xs : List Bool) → length (complement n xs) ≡ length xs
 length-complement zero xs = refl
@@ -225,8 +232,8 @@ crc_of_register m bytes =
     let bound = register_below m (2 ^ 32 - 1) bytes low in
     let len : length (complement 32 padded) - 32 ≡ length (message_bits m) =
     omega (arith, length-complement 32 padded, length-append (message_bits m) (replicate 32 false), length-replicate 32 false) in
-    let starts : complement 32 padded ≡ minus (low_bits 32 (2 ^ 32 - 1)) padded = complement_is 32 padded in
-    let left : remainder (complement 32 padded) ≡ low_bits 32 (with_message (2 ^ 32 - 1) m) =
+    let starts : complement 32 padded ≡ minus (low_bits 32 (2 ^ 32 - 1)) padded = refl in
+    let left : divide (length (complement 32 padded) - 32) (complement 32 padded) ≡ low_bits 32 (with_message (2 ^ 32 - 1) m) =
     ap (λ (n : ℕ). divide n (complement 32 padded)) len ∙ ap (divide (length (message_bits m))) starts ∙ divide_all m (2 ^ 32 - 1) bytes low in
     let back = number-reverse (complement 32 (low_bits 32 (with_message (2 ^ 32 - 1) m))) in
     let turned = complement_number 32 (with_message (2 ^ 32 - 1) m) bound in

@@ -1,50 +1,28 @@
 -- The text of units.
-use Rattle.std.proofs.Common.{◌≡◌, ℕ, zero, suc, set, replicate, length-append, eqb, ◌+◌, ◌-◌, ◌*◌, ◌<◌, ◌≤◌, Bool, true, false, ◌&&◌, List, [], ◌∷◌, ◌++◌, length, take, map, Some, None, refl, sym, ap, ◌∙◌, arith}
+use Rattle.std.proofs.Common.{◌≡◌, ℕ, zero, suc, set, replicate, length-append, eqb, ◌+◌, ◌-◌, ◌*◌, ◌<◌, ◌≤◌, Bool, true, false, ◌&&◌, List, [], ◌∷◌, ◌++◌, length, take, map, Option, refl, sym, ap, ◌∙◌, arith}
 use Rattle.std.specs.Prelude.{if◌then◌else◌}
 use Rattle.std.specs.Option.{unwrap_or}
 use Rattle.std.proofs.lemmas.List.{take-replicate, take-append-le}
-use Rattle.std.specs.Char.Utf16.{utf16_chars, utf16_lossy_chars, lone_unit_char}
-use Rattle.gptman_copy.specs.Name.{is_surrogate, is_high, is_low, lone, characters, filled, HasUnits}
-
-lone_is : (u : ℕ) → unwrap_or (lone_unit_char u) 0xFFFD ≡ lone u
-lone_is u = elim (is_surrogate u) as (λ b. unwrap_or (if b then None else Some u) 0xFFFD ≡ (if b then 0xFFFD else u)) [ true ↦ refl | false ↦ refl ]
-
--- std's words for the same
-pub characters_are : (us : List ℕ) → utf16_lossy_chars us ≡ characters us
-unfolding utf16_chars characters
-characters_are [] = refl
-characters_are (h ∷ []) = ap (λ (c : ℕ). c ∷ []) (lone_is h)
-characters_are (h ∷ l ∷ us) =
-    let pair : ℕ = 0x10000 + (h - 0xD800) * 0x400 + (l - 0xDC00) in
-    let both = characters_are us in
-    let single = characters_are (l ∷ us) in
-    let first = lone_is h in
-    elim (is_high h && is_low l) as (λ b. map (λ o. unwrap_or o 0xFFFD) (if b then Some pair ∷ utf16_chars us else lone_unit_char h ∷ utf16_chars (l ∷ us)) ≡ (if b then pair ∷ characters us else lone h ∷ characters (l ∷ us))) [
-      | true ↦ ap (λ (cs : List ℕ). pair ∷ cs) both
-      | false ↦ cc
-    ]
-
--- in either case there is one at least
-either_some : (b : Bool) (x y : ℕ) (xs ys : List ℕ) → (if b then x ∷ xs else y ∷ ys) ≡ [] → ⊥
-either_some true x y xs ys none = cc
-either_some false x y xs ys none = cc
-
--- units have a character at least
-pub characters_some : (u : ℕ) (us : List ℕ) → characters (u ∷ us) ≡ [] → ⊥
-unfolding characters
-characters_some u [] none = cc
-characters_some h (l ∷ us) none = either_some (is_high h && is_low l) _ _ _ _ none
+use Rattle.std.specs.Char.Utf16.{utf16_chars, utf16_lossy_chars, is_high_surrogate, is_low_surrogate}
+use Rattle.gptman_copy.specs.Name.{filled, HasUnits}
 
 -- no units have no characters
-pub none_of_none : (us : List ℕ) → length us ≡ 0 → characters us ≡ []
-unfolding characters
+pub none_of_none : (us : List ℕ) → length us ≡ 0 → utf16_lossy_chars us ≡ []
+unfolding utf16_chars
 none_of_none [] none = refl
 none_of_none (u ∷ us) none = cc
 
+-- in either case there is one at least
+either_some : (b : Bool) (x y : Option ℕ) (xs ys : List (Option ℕ)) → map (λ o. unwrap_or o 0xFFFD) (if b then x ∷ xs else y ∷ ys) ≡ [] → ⊥
+either_some true x y xs ys none = cc
+either_some false x y xs ys none = cc
+
 -- and some have some
-pub some_of_some : (us : List ℕ) → eqb (length us) 0 ≡ false → characters us ≡ [] → ⊥
+pub some_of_some : (us : List ℕ) → eqb (length us) 0 ≡ false → utf16_lossy_chars us ≡ [] → ⊥
+unfolding utf16_chars
 some_of_some [] some none = cc
-some_of_some (u ∷ us) some none = characters_some u us none
+some_of_some (u ∷ []) some none = cc
+some_of_some (h ∷ l ∷ us) some none = either_some (is_high_surrogate h && is_low_surrogate l) _ _ _ _ none
 
 -- a place after a list's elements is written where zeros stood
 fill_more : (us : List ℕ) (n k l u : ℕ) → length us < n → n ≤ length us + k → n ≤ length us + 1 + l

@@ -29,22 +29,15 @@ pub record HeaderAt (b : List ℕ) (p : ℕ) (h : GPTHeader) : Type 0 where
   pub header_size : h.header_size ≡ 92
   pub checksum : h.crc32_checksum ≡ header_crc (part b p 92)
 
--- the first byte of the header's entries, and their number of bytes
-abbrev pub entries_start : GPTHeader → ℕ → ℕ
-entries_start h ss = h.partition_entry_lba * ss
-
-abbrev pub entries_length : GPTHeader → ℕ
-entries_length h = 128 * h.number_of_partition_entries
-
 -- At byte p stands this header, and where it says these entries, of right checksum.
 pub record CopyAt (b : List ℕ) (p ss : ℕ) (h : GPTHeader) (es : List GPTPartitionEntry) : Type 0 where
   pub header : HeaderAt b p h
   pub count : length es ≡ h.number_of_partition_entries
   pub entry_size : (h.number_of_partition_entries ≡ 0) ⊎ (h.size_of_partition_entry ≡ 128)
-  pub inside : (h.number_of_partition_entries ≡ 0) ⊎ (entries_start h ss + entries_length h ≤ length b)
-  pub coding : (i : ℕ) (e : GPTPartitionEntry) → i < length es → IsEntryCoding (get_or es i e) (part b (entries_start h ss + 128 * i) 128)
+  pub inside : (h.number_of_partition_entries ≡ 0) ⊎ (h.partition_entry_lba * ss + 128 * h.number_of_partition_entries ≤ length b)
+  pub coding : (i : ℕ) (e : GPTPartitionEntry) → i < length es → IsEntryCoding (get_or es i e) (part b (h.partition_entry_lba * ss + 128 * i) 128)
   pub names : (i : ℕ) (e : GPTPartitionEntry) → i < length es → HasReadName (get_or es i e)
-  pub checksum : h.partition_entry_array_crc32 ≡ crc_of (part b (entries_start h ss) (entries_length h))
+  pub checksum : h.partition_entry_array_crc32 ≡ crc_of (part b (h.partition_entry_lba * ss) (128 * h.number_of_partition_entries))
 
 -- The four tests of the values of a header whose bytes are x.
 abbrev pub value_tests : GPTHeader → List ℕ → List (Bool × Fault)
@@ -64,22 +57,10 @@ abbrev pub array_tests : ℕ → ℕ → GPTHeader → List ℕ → List (Bool �
 array_tests len ss h y =
     let none = nat_eq h.number_of_partition_entries 0 in
     (none || nat_eq h.size_of_partition_entry 128, invalid_entry_size h.size_of_partition_entry)
-    ∷ (none || nat_lt (entries_start h ss) (2 ^ 64), overflow)
-    ∷ (none || nat_le (entries_start h ss + entries_length h) len, io)
+    ∷ (none || nat_lt (h.partition_entry_lba * ss) (2 ^ 64), overflow)
+    ∷ (none || nat_le (h.partition_entry_lba * ss + 128 * h.number_of_partition_entries) len, io)
     ∷ (nat_eq h.partition_entry_array_crc32 (crc_of y), invalid_array_checksum h.partition_entry_array_crc32 (crc_of y))
     ∷ []
-
--- all nine, in order
-abbrev pub copy_tests : ℕ → ℕ → ℕ → List ℕ → List ℕ → List (Bool × Fault)
-copy_tests len p ss x y = header_tests len p x ++ array_tests len ss (header_of x) y
-
--- the bytes of the entries of the header at byte p
-abbrev pub entries_part : List ℕ → ℕ → ℕ → List ℕ
-entries_part b p ss = let h = header_of (part b p 92) in part b (entries_start h ss) (entries_length h)
-
--- the fault of the copy at byte p, if it has one
-unfoldable pub copy_fault : List ℕ → ℕ → ℕ → Option Fault
-copy_fault b p ss = first_failing (copy_tests (length b) p ss (part b p 92) (entries_part b p ss))
 
 pub record Copy : Type 0 where
   pub header : GPTHeader
@@ -89,13 +70,16 @@ pub record Copy : Type 0 where
 unfoldable pub entries_of : List ℕ → ℕ → List GPTPartitionEntry
 entries_of y n = map (λ i. entry_of (part y (128 * i) 128)) (range_with_len 0 n)
 
--- the copy that stands at byte p, if it has no fault
-unfoldable pub copy_there : List ℕ → ℕ → ℕ → Copy
-copy_there b p ss = let h = header_of (part b p 92) in record { header = h; entries = entries_of (entries_part b p ss) h.number_of_partition_entries }
-
--- the copy at byte p if it is accepted, or its fault
+-- The copy at byte p if its header and its entries pass all nine tests, or the fault of the first that fails.
 unfoldable pub copy_at : List ℕ → ℕ → ℕ → Result Copy Fault
-copy_at b p ss = elim (copy_fault b p ss) [ None ↦ Ok (copy_there b p ss) | Some fault ↦ Err fault ]
+copy_at b p ss =
+    let x = part b p 92 in
+    let h = header_of x in
+    let y = part b (h.partition_entry_lba * ss) (128 * h.number_of_partition_entries) in
+    elim (first_failing (header_tests (length b) p x ++ array_tests (length b) ss h y)) [
+      | None ↦ Ok (record { header = h; entries = entries_of y h.number_of_partition_entries })
+      | Some fault ↦ Err fault
+    ]
 
 -- what passed, or the fault
 abbrev pub unless : {X : Type 0} → Option Fault → X → Result X Fault
@@ -109,7 +93,7 @@ header_result b p = let x = part b p 92 in unless (first_failing (header_tests (
 -- the entries of a header alone, or their fault
 unfoldable pub array_result : List ℕ → ℕ → GPTHeader → Result (List GPTPartitionEntry) Fault
 array_result b ss h =
-    let y = part b (entries_start h ss) (entries_length h) in
+    let y = part b (h.partition_entry_lba * ss) (128 * h.number_of_partition_entries) in
     unless (first_failing (array_tests (length b) ss h y)) (entries_of y h.number_of_partition_entries)
 
 -- the entry at byte p alone, whatever it holds

@@ -12,43 +12,24 @@ abbrev pub number : List Bool → ℕ
 number [] = 0
 number (b ∷ bs) = (if b then 2 ^ length bs else 0) + number bs
 
--- the bits of a message, in each byte the lowest first
-abbrev pub message_bits : List ℕ → List Bool
-message_bits m = flat_map (low_bits 8) m
-
--- the first n bits complemented
-abbrev pub complement : ℕ → List Bool → List Bool
-complement zero bs = bs
-complement (suc n) [] = []
-complement (suc n) (b ∷ bs) = not b ∷ complement n bs
-
--- the sum of two bits without a carry
-abbrev pub xor : Bool → Bool → Bool
-xor true b = not b
-xor false b = b
-
 -- ps taken off the front of bs, without borrows
 abbrev pub minus : List Bool → List Bool → List Bool
 minus [] bs = bs
 minus (p ∷ ps) [] = []
-minus (p ∷ ps) (b ∷ bs) = xor p b ∷ minus ps bs
+minus (p ∷ ps) (b ∷ bs) = (if p then not b else b) ∷ minus ps bs
 
--- the divisor, x^32 + x^26 + x^23 + x^22 + x^16 + x^12 + x^11 + x^10 + x^8 + x^7 + x^5 + x^4 + x^2 + x + 1
-abbrev pub polynomial : List Bool
-polynomial = reverse (low_bits 33 0x104C11DB7)
-
--- n steps of long division: where the first bit is set the divisor is taken off, and then the first
--- bit, which is now clear, is left behind
+-- n steps of long division: where the first bit is set the divisor is taken off, and then the first bit, which is now clear, is left behind. The divisor is
+-- x^32 + x^26 + x^23 + x^22 + x^16 + x^12 + x^11 + x^10 + x^8 + x^7 + x^5 + x^4 + x^2 + x + 1.
 unfoldable pub divide : ℕ → List Bool → List Bool
 divide zero bs = bs
 divide (suc n) [] = []
-divide (suc n) (true ∷ bs) = divide n (drop 1 (minus polynomial (true ∷ bs)))
+divide (suc n) (true ∷ bs) = divide n (drop 1 (minus (reverse (low_bits 33 0x104C11DB7)) (true ∷ bs)))
 divide (suc n) (false ∷ bs) = divide n bs
 
--- what is left of the division, 32 bits
-abbrev pub remainder : List Bool → List Bool
-remainder bs = divide (length bs - 32) bs
-
--- the checksum of a message
+-- The checksum of a message. Its bits, in each byte the lowest first, and 32 zeros behind them are divided, with the first 32 of all complemented; the 32 bits
+-- that are left, complemented and reversed, spell it. Bits are complemented as ones are taken off them.
 unfoldable pub crc_of : List ℕ → ℕ
-crc_of m = number (reverse (complement 32 (remainder (complement 32 (message_bits m ++ replicate 32 false)))))
+crc_of m =
+    let ones = replicate 32 true in
+    let bits = minus ones (flat_map (low_bits 8) m ++ replicate 32 false) in
+    number (reverse (minus ones (divide (length bits - 32) bits)))

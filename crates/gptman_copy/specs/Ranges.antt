@@ -1,10 +1,6 @@
 -- Ranges of bytes, each a start and a length.
 use Rattle.std.specs.Prelude.{◌≡◌, ◌≤◌, ◌<◌, ◌⊎◌, ◌+◌, ◌*◌, ℕ, List, [], ◌∷◌, length, get_or}
 
--- the two ranges of a copy whose header begins at one byte and whose n entries at another
-abbrev pub ranges_from : ℕ → ℕ → ℕ → List (ℕ × ℕ)
-ranges_from header array n = (header, 92) ∷ (array, 128 * n) ∷ []
-
 -- k is in one of the ranges
 abbrev pub Inside : List (ℕ × ℕ) → ℕ → Type 0
 Inside [] k = ⊥

@@ -1,8 +1,8 @@
 -- What reading the entries of a header meets.
-use Rattle.std.specs.Prelude.{◌≡◌, ◌≢◌, ◌≤◌, ◌<◌, ◌⊎◌, ◌+◌, ◌^◌, ℕ}
+use Rattle.std.specs.Prelude.{◌≡◌, ◌≢◌, ◌≤◌, ◌<◌, ◌⊎◌, ◌+◌, ◌^◌, ℕ, ◌*◌}
 use Rattle.gptman_copy.specs.Disk.{DiskState, PassesEnd, Rose}
 use Rattle.gptman_copy.specs.Fault.{Fault, io, overflow, out_of_memory, invalid_entry_size}
-use Rattle.gptman_copy.specs.Copy.{entries_start, entries_length}
+
 use Rattle.gptman_copy.specs.declared.codec.header.GPTHeader.{GPTHeader}
 
 -- what a block of so many bytes may be refused with: there is no memory, or the disk failed or ends before
@@ -18,18 +18,18 @@ pub record HasWrongSize (h : GPTHeader) : Type 0 where
 pub record BeginsTooFar (h : GPTHeader) (ss : ℕ) : Type 0 where
   pub some : h.number_of_partition_entries ≢ 0
   pub entry_size : h.size_of_partition_entry ≡ 128
-  pub far : 2 ^ 64 ≤ entries_start h ss
+  pub far : 2 ^ 64 ≤ h.partition_entry_lba * ss
 
 -- A header's entries, of the right size and at a place that fits in 64 bits, pass the end of a disk of so many bytes.
 pub record PassTheEnd (h : GPTHeader) (ss size : ℕ) : Type 0 where
   pub some : h.number_of_partition_entries ≢ 0
   pub entry_size : h.size_of_partition_entry ≡ 128
-  pub fits : entries_start h ss < 2 ^ 64
-  pub past : size < entries_start h ss + entries_length h
+  pub fits : h.partition_entry_lba * ss < 2 ^ 64
+  pub past : size < h.partition_entry_lba * ss + 128 * h.number_of_partition_entries
 
 -- a header has entries, and they pass the end of a disk of so many bytes
 abbrev pub HasTooMany : GPTHeader → ℕ → ℕ → Type 0
-HasTooMany h ss size = (h.number_of_partition_entries ≢ 0) × (size < entries_start h ss + entries_length h)
+HasTooMany h ss size = (h.number_of_partition_entries ≢ 0) × (size < h.partition_entry_lba * ss + 128 * h.number_of_partition_entries)
 
 -- its entries are of the right size, unless there are none
 abbrev pub HasEntrySize : GPTHeader → Type 0
@@ -45,4 +45,4 @@ pub data IsSeekFault (h : GPTHeader) (ss : ℕ) (fault : Fault) (old new : DiskS
 -- there are no entries to read, or the disk stands where they begin
 pub data IsReadyFor (h : GPTHeader) (ss : ℕ) (disk : DiskState) : Type 0 where
   empty : h.number_of_partition_entries ≡ 0 → IsReadyFor h ss disk
-  there : h.size_of_partition_entry ≡ 128 → entries_start h ss < 2 ^ 64 → disk.position ≡ entries_start h ss → IsReadyFor h ss disk
+  there : h.size_of_partition_entry ≡ 128 → h.partition_entry_lba * ss < 2 ^ 64 → disk.position ≡ h.partition_entry_lba * ss → IsReadyFor h ss disk

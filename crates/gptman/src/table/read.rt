@@ -9,7 +9,7 @@ ghost use Rattle.gptman_copy.specs.Copy.{copy_at};
 ghost use Rattle.gptman_copy.specs.Disk.{HasFailedAsOften, HasFailedOnceAtMost, IsHonest, Reads, Rose};
 ghost use Rattle.gptman_copy.specs.Fault.{fault_of, io as io_fault, invalid_signature, out_of_memory};
 ghost use Rattle.gptman_copy.specs.Fit.{fit_fault, new_header};
-ghost use Rattle.gptman.specs.Reading.{both, copy_in, found_sector_size, primary, reading_of, second_copy};
+ghost use Rattle.gptman.specs.Reading.{both, copy_in, found_sector_size, primary, reading_of};
 ghost use Rattle.gptman.specs.Table.{new_table};
 ghost use Rattle.gptman.specs.TableReads.{copy_of, is_reading_fault, AnswersReading, CountsReading, FallsBack};
 ghost use Rattle.gptman.specs.TableReads.{IsAsRead, IsReadingFault, MayBeRead, ShowsNoSignature};
@@ -211,7 +211,8 @@ fn settle(alloc: Global, primary: Error, backup: Result<GPT>) -> Result<GPT>
     requires damage { IsTrue (is_damage (fault_of primary)) }
     requires faults { RefusesOnly is_copy_fault backup }
     ensures answer { Refuses result out_of_memory
-        ⊎ (answer_of copy_of result ≡ second_copy (fault_of primary) (answer_of copy_of backup)) }
+        ⊎ (answer_of copy_of result ≡ elim (answer_of copy_of backup)
+            [ Ok copy ↦ Ok copy | Err second ↦ Err (both (fault_of primary) second) ]) }
     ensures kinds { IfErr result (λ e. (fault_of e ≢ io_fault) × IsTrue (is_reading_fault (fault_of e))) }
     ensures memory { Refuses backup out_of_memory → Refuses result out_of_memory }
     ensures unsigned { Refuses result invalid_signature

@@ -5,9 +5,10 @@ ghost use Rattle.std.specs.Prelude.{encode_utf8_all, position, replicate, string
 ghost use Rattle.std.specs.List.{before_first};
 ghost use Rattle.std.specs.Str.{chars};
 ghost use Rattle.std.specs.Char.Escape.{encode_utf16};
+ghost use Rattle.std.specs.Char.Utf16.{utf16_lossy_chars};
 ghost use Rattle.std.specs.Cmp.{partial_equiv_from_equiv};
 ghost use Rattle.gptman_copy.specs.Fault.{fault_of, out_of_memory};
-ghost use Rattle.gptman_copy.specs.Name.{characters, text_of, units_of, HasUnits, name_eq, name_equiv};
+ghost use Rattle.gptman_copy.specs.Name.{text_of, units_of, HasUnits, name_eq, name_equiv};
 
 use crate::error::Result;
 use std::alloc::{AllocError, Global};
@@ -144,8 +145,8 @@ fn copied(alloc: Global, text: &str) -> std::result::Result<String, AllocError>
 
 // The text of these units. No units take no memory.
 fn text_of_units(alloc: Global, units: &[u16]) -> std::result::Result<String, AllocError>
-    ensures ok { IfOk result (λ text. string_bytes text ≡ encode_utf8_all (characters units.now)) }
-    ensures empty { characters units.now ≡ [] → IsOk result }
+    ensures ok { IfOk result (λ text. string_bytes text ≡ encode_utf8_all (utf16_lossy_chars units.now)) }
+    ensures empty { utf16_lossy_chars units.now ≡ [] → IsOk result }
 {
     if units.is_empty() {
         return Ok(String::new(alloc));

@@ -84,7 +84,7 @@ pub returns-in_err-other-clause-room : goal.returns-in_err-other-clause-room
 returns-in_err-other-clause-room g c = λ layout valid.
     let p = err_from_is_err_and c.from_residual-in_err-other.result c.from_residual-in_err-other.ensures.1 in
     let old = g.D.Disk.state c.args.disk.now in
-    let fits = layout_fits c.args.self.now.header (entries_in c.args.self.now) c.args.self.now.sector_size old.size (g.met.D.Disk.bounded c.args.disk.now) layout in
+    let fits = layout_fits c.args.self.now old.size (g.met.D.Disk.bounded c.args.disk.now) layout in
     rw (p.1, p.2) (failed_or_memory c.args.self.now (fault_of c.in_err-other.field-0.0) old (g.D.Disk.state c.writable_other.new.disk) valid fits
     (write_refused {T = GPTHeader} c.args.self.now (Err c.in_err-other.field-0.0) old (g.D.Disk.state c.writable_other.new.disk) valid c.in_err-other.ensures.at_once c.in_err-other.ensures.answer))
 

@@ -1,7 +1,7 @@
 use Rattle.std.proofs.Common.{◌≡◌, ◌∙◌, sym, ap, length}
 use Rattle.std.specs.Prelude.{encode_utf8_all}
 use Rattle.std.proofs.lemmas.Bool.{eqb-true}
-use Rattle.gptman_copy.proofs.NameText.{characters_are, none_of_none, some_of_some}
+use Rattle.gptman_copy.proofs.NameText.{none_of_none, some_of_some}
 use Rattle.gptman_copy.proofs.codec.name.text_of_units.Goals as goal
 
 pub returns-then-is_empty-clause-ok : goal.returns-then-is_empty-clause-ok
@@ -10,7 +10,7 @@ returns-then-is_empty-clause-ok c =
     c.new.ensures.bytes ∙ sym (ap encode_utf8_all (none_of_none c.args.units.now none))
 
 pub returns-clause-ok : goal.returns-clause-ok
-returns-clause-ok c = rw (sym (characters_are c.args.units.now)) c.from_utf16_lossy.ensures
+returns-clause-ok c = c.from_utf16_lossy.ensures
 
 pub returns-clause-empty : goal.returns-clause-empty
 returns-clause-empty c = λ none. absurd (some_of_some c.args.units.now (sym c.is_empty.ensures ∙ c.if-is_empty.false) none)

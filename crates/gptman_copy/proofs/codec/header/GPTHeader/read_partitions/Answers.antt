@@ -1,13 +1,14 @@
 use Rattle.std.proofs.Common.{◌≡◌, ◌*◌, ℕ, List, length, Ok, Err, inr, sym, ap, ◌∙◌}
 use Rattle.std.proofs.lemmas.Result.{err_from_is_err_and}
 use Rattle.gptman_copy.specs.Bytes.{part}
-use Rattle.gptman_copy.specs.Copy.{entries_of, entries_start, entries_length}
+use Rattle.gptman_copy.specs.Copy.{entries_of}
 use Rattle.gptman_copy.specs.Crc.{crc_of}
 use Rattle.gptman_copy.specs.Fault.{invalid_array_checksum}
 use Rattle.gptman_copy.proofs.ArrayOutcomes.{seek_refused, block_refused, in_place, array_read}
 use Rattle.gptman_copy.proofs.CopyTests.{array_changed, array_good}
 use Rattle.gptman_copy.proofs.Readers.{both_read}
 use Rattle.gptman_copy.proofs.codec.header.GPTHeader.read_partitions.Goals as goal
+use Rattle.gptman_copy.proofs.CopyTests.{entries_start, entries_length}
 
 pub returns-in_err-seek_entries-clause-answer : goal.returns-in_err-seek_entries-clause-answer
 returns-in_err-seek_entries-clause-answer g c = λ honest.
