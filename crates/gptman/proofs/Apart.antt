@@ -2,8 +2,8 @@
 use Rattle.std.proofs.Common.{inl, inr, ℕ, List, [], ◌∷◌, ◌++◌, sym, subst}
 use Rattle.std.proofs.lemmas.List.{append-nil}
 use Rattle.gptman_copy.specs.Disk.{AgreesOutside, Outside}
-use Rattle.gptman_copy.specs.Ranges.{AgreesInside, AreApart, AreClear, Inside, IsApart, IsApartFromAll}
-use Rattle.gptman_copy.proofs.Overlays.{outside_apart}
+use Rattle.gptman_copy.specs.Ranges.{AgreesInside, AreApart, AreClear, Inside, IsApartFromAll}
+use Rattle.gptman_copy.proofs.Overlays.{IsApart, outside_apart}
 use Rattle.gptman_copy.proofs.Ranges.{Ranges}
 
 apart_back : (r s : ℕ × ℕ) → IsApart r s → IsApart s r

@@ -5,7 +5,7 @@ use Rattle.std.proofs.lemmas.Bool.Decides.{eqb_tells}
 use Rattle.gptman.specs.Crash.{HasRangesOf, other_side}
 use Rattle.gptman_copy.specs.Disk.{AgreesOutside, Outside, Within}
 use Rattle.gptman_copy.specs.Ranges.{AgreesInside, AreApart, AreClear, Inside}
-use Rattle.gptman.specs.Layout.{IsLaidOut, four_ranges, ranges_at}
+use Rattle.gptman.specs.Layout.{IsLaidOut, ranges_at}
 use Rattle.gptman.specs.Reading.{Side, primary, backup}
 use Rattle.gptman.specs.Table.{Table, table_of, IsHeaderForm}
 use Rattle.gptman_copy.specs.Write.{other_header, both_ranges}
@@ -42,6 +42,10 @@ other_ranges side h es ss len form laid =
 pub sides_apart : (side : Side) (t : Table) (ss len : ℕ) → IsLaidOut t ss len → AreApart (ranges_at side t ss len ++ ranges_at (other_side side) t ss len)
 sides_apart primary t ss len laid = laid.apart
 sides_apart backup t ss len laid = apart_exchanged (ranges_at primary t ss len) (ranges_at backup t ss len) laid.apart
+
+-- all four ranges of a table
+abbrev pub four_ranges : Table → ℕ → ℕ → Ranges
+four_ranges t ss len = ranges_at primary t ss len ++ ranges_at backup t ss len
 
 -- The ranges of both sides are the four ranges.
 pub in_four : (side : Side) (t : Table) (ss len : ℕ) → Within (ranges_at side t ss len ++ ranges_at (other_side side) t ss len) (four_ranges t ss len)

@@ -3,7 +3,7 @@ use Rattle.std.proofs.Common.{◌≡◌, List, length, sym, subst, inl, inr}
 use Rattle.gptman.specs.Crash.{HasRangesOf, IsKeptFor, other_side, StartsFromOne, StartsStored}
 use Rattle.gptman_copy.specs.Disk.{AgreesOutside, DiskState, IsSound, LeavesOnly, Wrote}
 use Rattle.gptman_copy.specs.Ranges.{AreClear}
-use Rattle.gptman.specs.Layout.{HasLayout, Holds, four_ranges, ranges_at}
+use Rattle.gptman.specs.Layout.{HasLayout, Holds, ranges_at}
 use Rattle.gptman.specs.Reading.{Side, primary, backup}
 use Rattle.gptman.specs.Stop.{IsStored}
 use Rattle.gptman.specs.Table.{Table, entries_in, table_in, IsHeaderForm}
@@ -14,7 +14,7 @@ use Rattle.gptman.specs.declared.table.GPT.{GPT}
 use Rattle.std.proofs.Common.{ℕ, []}
 use Rattle.gptman.proofs.Apart.{clear_if_apart}
 use Rattle.gptman.proofs.Argument.{leaves_ranges}
-use Rattle.gptman.proofs.FourRanges.{sides_apart, same_ranges, within_four}
+use Rattle.gptman.proofs.FourRanges.{four_ranges, sides_apart, same_ranges, within_four}
 use Rattle.gptman_copy.proofs.Ranges.{Ranges, agrees_wider}
 
 -- All bytes outside of the four ranges
@@ -54,4 +54,7 @@ stored_is_kept disk g old stored layout same =
     held_is_kept layout.side disk g old stored.synced layout.form (stored_at layout.side disk g.sector_size old stored) layout same
 
 pub one_of_stored : (disk : DiskState) (g : GPT) (old : Table) → StartsStored disk g old → StartsFromOne disk g old
-one_of_stored disk g old from = record { start = from.start; kept = stored_is_kept disk g old from.stored from.start.layout from.ranges }
+one_of_stored disk g old from = record {
+  start = record { honest = from.honest; layout = from.layout };
+  kept = stored_is_kept disk g old from.stored from.layout (record { count = from.count; last = from.last });
+}

@@ -1,10 +1,10 @@
 -- What a write of a table starts from, and what it leaves where it is stopped or fails.
-use Rattle.std.specs.Prelude.{◌≡◌, ℕ, List, [], length, Contains, Ok, IsErr}
+use Rattle.std.specs.Prelude.{◌≡◌, ℕ, List, [], ◌++◌, length, Contains, Ok, IsErr, IsTrue}
 use Rattle.gptman_copy.specs.Disk.{AgreesOutside, DiskState, Image, IsHonest, LeavesOnly, Outside}
 use Rattle.gptman_copy.specs.Fit.{fit_header}
 use Rattle.gptman_copy.specs.Ranges.{AgreesInside, AreApart, AreClear, Inside}
 use Rattle.gptman.specs.Edit.{after_edit}
-use Rattle.gptman.specs.Layout.{HasLayout, Holds, four_ranges, ranges_at}
+use Rattle.gptman.specs.Layout.{HasLayout, Holds, ranges_at}
 use Rattle.gptman.specs.Reading.{Side, primary, backup, copy_start, copy_in, reading_of, taken_from}
 use Rattle.gptman.specs.Stop.{IsStored, ReadsTable}
 use Rattle.gptman.specs.Table.{Table, table_in, IsHeaderForm}
@@ -47,15 +47,17 @@ pub record StartsFromOne (disk : DiskState) (g : GPT) (old : Table) : Type 0 whe
   pub start : StartsLaidOut disk g
   pub kept : IsKeptFor disk g old
 
--- with the old table in both places, which are the new one's places too.
+-- or with the old table in both places, which are the new one's places too, as it has as many entries and the same last usable sector.
 pub record StartsStored (disk : DiskState) (g : GPT) (old : Table) : Type 0 where
-  pub start : StartsLaidOut disk g
+  pub honest : IsTrue disk.is_honest
+  pub layout : HasLayout g disk.size
   pub stored : IsStored disk g.sector_size old
-  pub ranges : HasRangesOf old (table_in g)
+  pub count : (table_in g).count ≡ old.count
+  pub last : (table_in g).last_usable_lba ≡ old.last_usable_lba
 
 -- A stop at any moment since old leaves all bytes outside of the value's four ranges as they were.
 abbrev pub StopsKeepOthers : DiskState → DiskState → GPT → Type 0
-StopsKeepOthers old new g = LeavesOnly old new (AgreesOutside (four_ranges (table_in g) g.sector_size old.size) old.view)
+StopsKeepOthers old new g = LeavesOnly old new (AgreesOutside (ranges_at primary (table_in g) g.sector_size old.size ++ ranges_at backup (table_in g) g.sector_size old.size) old.view)
 
 -- No byte of the ranges is pending, and each is as it was.
 pub record IsLeftAlone (ranges : List (ℕ × ℕ)) (old new : DiskState) : Type 0 where

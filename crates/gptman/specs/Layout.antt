@@ -11,10 +11,6 @@ abbrev pub ranges_at : Side → Table → ℕ → ℕ → List (ℕ × ℕ)
 ranges_at side t ss len =
     (copy_start side len ss, 92) ∷ (elim side [ primary ↦ 2 * ss | backup ↦ (t.last_usable_lba + 1) * ss ], 128 * t.count) ∷ []
 
--- all four
-abbrev pub four_ranges : Table → ℕ → ℕ → List (ℕ × ℕ)
-four_ranges t ss len = ranges_at primary t ss len ++ ranges_at backup t ss len
-
 -- The stated layout, of a table and hence of both its forms.
 pub record IsLaidOut (t : Table) (ss len : ℕ) : Type 0 where
   pub sector : 92 ≤ ss
@@ -25,8 +21,8 @@ pub record IsLaidOut (t : Table) (ss len : ℕ) : Type 0 where
   pub entries : length t.entries ≡ t.count
   pub low_sector : t.low_sector ≡ min 1 (len / ss - 1)
   pub high_sector : t.high_sector ≡ max 1 (len / ss - 1)
-  pub inside : AreInside (four_ranges t ss len) len
-  pub apart : AreApart (four_ranges t ss len)
+  pub inside : AreInside (ranges_at primary t ss len ++ ranges_at backup t ss len) len
+  pub apart : AreApart (ranges_at primary t ss len ++ ranges_at backup t ss len)
   pub fits : t.last_usable_lba + 1 < 2 ^ 64
 
 -- The value has the stated layout on a disk of len bytes: its table has it, and its header is in one of the two forms.

@@ -5,7 +5,7 @@ use Rattle.std.proofs.lemmas.Grind.{same_number_lists}
 use Rattle.std.proofs.lemmas.Bool.{cases_lt}
 use Rattle.gptman_copy.specs.Disk.{Outside, AgreesOutside, overlay}
 use Rattle.gptman_copy.specs.Bytes.{part}
-use Rattle.gptman_copy.specs.Ranges.{IsApart, IsApartFromAll}
+use Rattle.gptman_copy.specs.Ranges.{IsApartFromAll}
 use Rattle.gptman_copy.proofs.Ranges.{Ranges}
 
 -- a part of a part
@@ -14,6 +14,10 @@ part-part b at n k m h =
     let whole : n ≡ k + (n - k) = omega arith in
     ap (λ (j : ℕ). take m (drop k (take j (drop at b)))) whole ∙ ap (take m) (drop-take k (n - k) (drop at b))
     ∙ take-take m (n - k) (drop k (drop at b)) (omega arith) ∙ ap (take m) (drop-drop k at b)
+
+-- two ranges have no byte in common
+abbrev pub IsApart : ℕ × ℕ → ℕ × ℕ → Type 0
+IsApart r s = (r.1 ≡ 0) ⊎ ((s.1 ≡ 0) ⊎ ((r.0 + r.1 ≤ s.0) ⊎ (s.0 + s.1 ≤ r.0)))
 
 -- an index of a range is outside of one that it is apart from
 pub one_apart : (at n start long k : ℕ) → IsApart (at, n) (start, long) → at ≤ k → k < at + n → (k < start) ⊎ (start + long ≤ k)

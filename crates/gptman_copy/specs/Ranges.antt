@@ -11,13 +11,10 @@ pub record AgreesInside (ranges : List (ℕ × ℕ)) (a b : List ℕ) : Type 0 w
   pub long : length b ≡ length a
   pub same : (k : ℕ) → Inside ranges k → get_or b k 0 ≡ get_or a k 0
 
--- two ranges have no byte in common
-abbrev pub IsApart : ℕ × ℕ → ℕ × ℕ → Type 0
-IsApart r s = (r.1 ≡ 0) ⊎ ((s.1 ≡ 0) ⊎ ((r.0 + r.1 ≤ s.0) ⊎ (s.0 + s.1 ≤ r.0)))
-
+-- a range has no byte in common with any of them
 abbrev pub IsApartFromAll : ℕ × ℕ → List (ℕ × ℕ) → Type 0
 IsApartFromAll r [] = Unit {0}
-IsApartFromAll r (s ∷ ranges) = IsApart r s × IsApartFromAll r ranges
+IsApartFromAll r (s ∷ ranges) = ((r.1 ≡ 0) ⊎ ((s.1 ≡ 0) ⊎ ((r.0 + r.1 ≤ s.0) ⊎ (s.0 + s.1 ≤ r.0)))) × IsApartFromAll r ranges
 
 -- no two of them have a byte in common
 abbrev pub AreApart : List (ℕ × ℕ) → Type 0

@@ -43,8 +43,8 @@ returns-in_err-check-clause-read g c = λ was from x left known.
 pub returns-in_err-check-clause-crash_safe : goal.returns-in_err-check-clause-crash_safe
 returns-in_err-check-clause-crash_safe g c = λ was from x left known.
     let old = g.D.Disk.state c.args.disk.now in
-    reads_one_of x _ _ (good_of c.args.self.now old old (g.met.D.Disk.sound c.args.disk.now from.start.honest).size was (one_of_stored old c.args.self.now was from)
-    (come_check g c from.start.honest) x left) known
+    reads_one_of x _ _ (good_of c.args.self.now old old (g.met.D.Disk.sound c.args.disk.now from.honest).size was (one_of_stored old c.args.self.now was from)
+    (come_check g c from.honest) x left) known
 
 -- ---- the disk's length is taken, or the other header refused: the disk was only read
 
@@ -68,7 +68,7 @@ pub returns-in_err-other-clause-crash_safe : goal.returns-in_err-other-clause-cr
 returns-in_err-other-clause-crash_safe g c = λ was from x left known.
     let old = g.D.Disk.state c.args.disk.now in
     let new = g.D.Disk.state c.writable_other.new.disk in
-    reads_one_of x _ _ (good_of c.args.self.now old new (g.met.D.Disk.sound c.args.disk.now from.start.honest).size was (one_of_stored old c.args.self.now was from) (come_other g c from.start.honest) x left) known
+    reads_one_of x _ _ (good_of c.args.self.now old new (g.met.D.Disk.sound c.args.disk.now from.honest).size was (one_of_stored old c.args.self.now was from) (come_other g c from.honest) x left) known
 
 -- the table is valid where the checks passed
 valid_then : (g : Over) (c : goal.After-from_residual-in_err-other g) → IsValid c.args.self.now.header (entries_in c.args.self.now)
@@ -114,7 +114,7 @@ pub returns-in_err-write_and_sync-clause-crash_safe : goal.returns-in_err-write_
 returns-in_err-write_and_sync-clause-crash_safe g c = λ was from x left known.
     let old = g.D.Disk.state c.args.disk.now in
     let new = g.D.Disk.state c.write_and_sync.new.disk in
-    reads_one_of x _ _ (good_of c.args.self.now old new (g.met.D.Disk.sound c.args.disk.now from.start.honest).size was (one_of_stored old c.args.self.now was from) (come_first g c from.start.honest) x left) known
+    reads_one_of x _ _ (good_of c.args.self.now old new (g.met.D.Disk.sound c.args.disk.now from.honest).size was (one_of_stored old c.args.self.now was from) (come_first g c from.honest) x left) known
 
 pub returns-in_err-write_and_sync-clause-after : goal.returns-in_err-write_and_sync-clause-after
 returns-in_err-write_and_sync-clause-after g c = λ from.
@@ -175,7 +175,7 @@ pub returns-in_err-write_and_sync-2-clause-crash_safe : goal.returns-in_err-writ
 returns-in_err-write_and_sync-2-clause-crash_safe g c = λ was from x left known.
     let old = g.D.Disk.state c.args.disk.now in
     let new = g.D.Disk.state c.write_and_sync-2.new.disk in
-    reads_one_of x _ _ (good_of c.args.self.now old new (g.met.D.Disk.sound c.args.disk.now from.start.honest).size was (one_of_stored old c.args.self.now was from) (come_second g c from.start.honest) x left) known
+    reads_one_of x _ _ (good_of c.args.self.now old new (g.met.D.Disk.sound c.args.disk.now from.honest).size was (one_of_stored old c.args.self.now was from) (come_second g c from.honest) x left) known
 
 pub returns-in_err-write_and_sync-2-clause-after : goal.returns-in_err-write_and_sync-2-clause-after
 returns-in_err-write_and_sync-2-clause-after g c = λ from.
@@ -249,7 +249,7 @@ pub returns-clause-crash_safe : goal.returns-clause-crash_safe
 returns-clause-crash_safe g c = λ was from x left known.
     let old = g.D.Disk.state c.args.disk.now in
     let new = g.D.Disk.state c.write_and_sync-2.new.disk in
-    reads_one_of x _ _ (good_of c.args.self.now old new (g.met.D.Disk.sound c.args.disk.now from.start.honest).size was (one_of_stored old c.args.self.now was from) (come_both g c from.start.honest) x left) known
+    reads_one_of x _ _ (good_of c.args.self.now old new (g.met.D.Disk.sound c.args.disk.now from.honest).size was (one_of_stored old c.args.self.now was from) (come_both g c from.honest) x left) known
 
 pub returns-clause-wrote : goal.returns-clause-wrote
 returns-clause-wrote g c = λ honest.
