@@ -1,6 +1,6 @@
 -- Why a stop does not lose the table: the argument of docs/CRASH.md, step by step. It knows no format. A table is a predicate of byte lists here, told by the
 -- bytes in some ranges: that a side holds it.
-use Rattle.std.proofs.Common.{◌≡◌, ◌⊎◌, inl, inr, ⊎_elim, ℕ, List, [], ◌++◌, get_or, length, sym, ap, ◌∙◌, subst}
+use Rattle.std.proofs.Common.{◌≡◌, ◌⊎◌, inl, inr, ℕ, List, [], ◌++◌, get_or, length, sym, ap, ◌∙◌, subst}
 use Rattle.std.proofs.lemmas.List.{append-nil}
 use Rattle.std.specs.List.{Contains}
 use Rattle.gptman_copy.specs.Disk.{AgreesOutside, DiskState, Image, LeavesOnly, OnlyRead, Outside, Untouched, Within, Wrote}

@@ -15,7 +15,7 @@ use Rattle.gptman_copy.proofs.EntryBytes.{entry_is}
 use Rattle.gptman_copy.proofs.FirstFailing.{none_from_tests, none_or}
 use Rattle.gptman_copy.proofs.HeaderBytes.{header_is}
 use Rattle.gptman_copy.proofs.Overlays.{part-part}
-use Rattle.gptman_copy.proofs.CopyParts.{copy_tests, copy_fault, copy_there, entries_part}
+use Rattle.gptman_copy.proofs.CopyParts.{copy_tests, copy_there, entries_part}
 use Rattle.gptman_copy.proofs.CopyTests.{entries_start, entries_length}
 
 -- entries that lie on the disk begin below its end

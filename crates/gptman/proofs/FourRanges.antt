@@ -1,10 +1,8 @@
 -- The four ranges of a table on the stated layout, as those of its two headers.
-use Rattle.std.proofs.Common.{◌≡◌, ℕ, ◌+◌, ◌-◌, ◌*◌, ◌/◌, ◌++◌, Bool, List, [], ◌∷◌, inl, inr, sym, ap, ◌∙◌, subst}
-use Rattle.std.specs.Prelude.{nat_eq}
-use Rattle.std.proofs.lemmas.Bool.Decides.{eqb_tells}
+use Rattle.std.proofs.Common.{◌≡◌, ℕ, ◌+◌, ◌-◌, ◌*◌, ◌/◌, ◌++◌, List, [], ◌∷◌, sym, ap, ◌∙◌, subst}
 use Rattle.gptman.specs.Crash.{HasRangesOf, other_side}
-use Rattle.gptman_copy.specs.Disk.{AgreesOutside, Outside, Within}
-use Rattle.gptman_copy.specs.Ranges.{AgreesInside, AreApart, AreClear, Inside}
+use Rattle.gptman_copy.specs.Disk.{Within}
+use Rattle.gptman_copy.specs.Ranges.{AreApart, AreClear}
 use Rattle.gptman.specs.Layout.{IsLaidOut, ranges_at}
 use Rattle.gptman.specs.Reading.{Side, primary, backup}
 use Rattle.gptman.specs.Table.{Table, table_of, IsHeaderForm}
@@ -14,7 +12,6 @@ use Rattle.gptman_copy.specs.declared.codec.header.GPTHeader.{GPTHeader}
 use Rattle.gptman.proofs.Apart.{apart_exchanged, clear_if_apart}
 use Rattle.gptman.proofs.LaidCopies.{copy_ranges, within_copy}
 use Rattle.gptman.proofs.OtherHeader.{other_table, other_form}
-use Rattle.gptman_copy.proofs.Overlays.{outside_apart}
 use Rattle.gptman_copy.proofs.Ranges.{Ranges, within_then, within_both, within_left, within_right}
 use Rattle.gptman.proofs.WrittenCopy.{written_start, written_array}
 

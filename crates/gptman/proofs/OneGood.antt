@@ -1,5 +1,5 @@
 -- One good copy of a table, and two.
-use Rattle.std.proofs.Common.{◌≡◌, List, length, sym, subst, inl, inr}
+use Rattle.std.proofs.Common.{◌≡◌, List, sym, subst}
 use Rattle.gptman.specs.Crash.{HasRangesOf, IsKeptFor, other_side, StartsFromOne, StartsStored}
 use Rattle.gptman_copy.specs.Disk.{AgreesOutside, DiskState, IsSound, LeavesOnly, Wrote}
 use Rattle.gptman_copy.specs.Ranges.{AreClear}
@@ -8,8 +8,6 @@ use Rattle.gptman.specs.Reading.{Side, primary, backup}
 use Rattle.gptman.specs.Stop.{IsStored}
 use Rattle.gptman.specs.Table.{Table, entries_in, table_in, IsHeaderForm}
 use Rattle.gptman_copy.specs.Write.{both_ranges}
-use Rattle.gptman_copy.specs.declared.codec.entry.GPTPartitionEntry.{GPTPartitionEntry}
-use Rattle.gptman_copy.specs.declared.codec.header.GPTHeader.{GPTHeader}
 use Rattle.gptman.specs.declared.table.GPT.{GPT}
 use Rattle.std.proofs.Common.{ℕ, []}
 use Rattle.gptman.proofs.Apart.{clear_if_apart}

@@ -8,7 +8,7 @@ use Rattle.gptman.specs.Reading.{Side, primary, backup, copy_in}
 use Rattle.gptman.specs.Table.{TableEntry}
 use Rattle.gptman.proofs.WrittenCopy.{content_of, entry_in}
 use Rattle.gptman_copy.specs.declared.codec.entry.GPTPartitionEntry.{GPTPartitionEntry}
-use Rattle.gptman_copy.proofs.CopyParts.{copy_there, entries_part}
+use Rattle.gptman_copy.proofs.CopyParts.{entries_part}
 use Rattle.gptman.proofs.Fallback.{backup_long, backup_room}
 use Rattle.gptman.proofs.Held.{accepted_is}
 

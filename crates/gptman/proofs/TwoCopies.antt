@@ -1,9 +1,8 @@
 -- Both copies of a table, written one after the other.
 use Rattle.std.proofs.Common.{◌≡◌, ◌⊎◌, ◌&&◌, ℕ, Bool, true, false, List, [], ◌∷◌, ◌++◌, length, None, sym, ap, ◌∙◌, subst, inl, inr}
-use Rattle.std.specs.List.{All, list_all}
+use Rattle.std.specs.List.{list_all}
 use Rattle.std.proofs.lemmas.Bool.{and_parts}
 use Rattle.std.proofs.lemmas.List.Folds.{list_all-append}
-use Rattle.gptman_copy.specs.Coding.{FitsHeader, FitsEntry}
 use Rattle.gptman_copy.specs.Disk.{AgreesOutside, DiskState, Wrote}
 use Rattle.gptman_copy.specs.Ranges.{AreApart}
 use Rattle.gptman_copy.specs.Fault.{Fault, overflow, no_space_left, first_failing}

@@ -16,7 +16,7 @@ use Rattle.gptman.specs.Table.{Table, entries_in, table_in, table_of, IsHeaderFo
 use Rattle.gptman_copy.specs.declared.codec.header.GPTHeader.{GPTHeader}
 use Rattle.gptman_copy.specs.declared.codec.entry.GPTPartitionEntry.{GPTPartitionEntry}
 use Rattle.gptman.specs.declared.table.GPT.{GPT}
-use Rattle.gptman_copy.proofs.Ranges.{Ranges, contains_first, contains_later, within_none, within_self}
+use Rattle.gptman_copy.proofs.Ranges.{Ranges, contains_first, contains_later, within_none}
 use Rattle.gptman_copy.proofs.Runs.{wrote_then, wrote_wider}
 use Rattle.gptman.proofs.Apart.{clear_if_apart}
 use Rattle.gptman.proofs.Argument.{Came, IsToldBy, at_any_moment, clear_ranges, held_in_any_image, held_stored, only_read, other_begun, own_begun, stays, untouched_ranges, written}

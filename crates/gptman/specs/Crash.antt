@@ -2,14 +2,13 @@
 use Rattle.std.specs.Prelude.{◌≡◌, ℕ, List, [], ◌++◌, length, Contains, Ok, IsErr, IsTrue}
 use Rattle.gptman_copy.specs.Disk.{AgreesOutside, DiskState, Image, IsHonest, LeavesOnly, Outside}
 use Rattle.gptman_copy.specs.Fit.{fit_header}
-use Rattle.gptman_copy.specs.Ranges.{AgreesInside, AreApart, AreClear, Inside}
+use Rattle.gptman_copy.specs.Ranges.{AgreesInside, AreClear, Inside}
 use Rattle.gptman.specs.Edit.{after_edit}
 use Rattle.gptman.specs.Layout.{HasLayout, Holds, ranges_at}
 use Rattle.gptman.specs.Reading.{Side, primary, backup, copy_start, copy_in, reading_of, taken_from}
 use Rattle.gptman.specs.Stop.{IsStored, ReadsTable}
 use Rattle.gptman.specs.Table.{Table, table_in, IsHeaderForm}
 use Rattle.gptman.specs.TableReads.{copy_of}
-use Rattle.gptman.specs.TableWrites.{table_ranges}
 use Rattle.gptman_copy.specs.declared.codec.header.GPTHeader.{GPTHeader}
 use Rattle.gptman.specs.declared.edit.Edit.{Edit}
 use Rattle.gptman.specs.declared.table.GPT.{GPT}

@@ -1,16 +1,14 @@
 -- What writing a table answers, and what it leaves.
-use Rattle.std.specs.Prelude.{◌≡◌, ◌≢◌, ◌⊎◌, ◌*◌, ℕ, List, [], All, Contains, Option, None, Some, Result, IfErr}
+use Rattle.std.specs.Prelude.{◌≡◌, ◌≢◌, ◌⊎◌, ℕ, List, Option, None, Some, Result, IfErr}
 use Rattle.gptman_copy.specs.Answers.{IsFailure, Refuses}
-use Rattle.gptman_copy.specs.Coding.{FitsHeader, FitsEntry}
 use Rattle.gptman_copy.specs.Copy.{with_checksums}
-use Rattle.gptman_copy.specs.Disk.{DiskState, AgreesOutside, Image, IsHonest, OnlyRead, Within, Untouched}
+use Rattle.gptman_copy.specs.Disk.{DiskState, IsHonest, OnlyRead}
 use Rattle.gptman_copy.specs.Fault.{Fault, fault_of, io, no_space_left, overflow, out_of_memory}
-use Rattle.gptman_copy.specs.Write.{both_ranges, HasBytes, other_header, SameButSums, write_fault, write_ranges}
+use Rattle.gptman_copy.specs.Write.{both_ranges, HasBytes, other_header, SameButSums, write_fault}
 use Rattle.gptman.specs.Table.{entries_in}
 use Rattle.gptman.specs.Valid.{IsValid, IsValidity}
 use Rattle.gptman_copy.specs.declared.error.Error.{Error}
 use Rattle.gptman_copy.specs.declared.codec.header.GPTHeader.{GPTHeader}
-use Rattle.gptman_copy.specs.declared.codec.entry.GPTPartitionEntry.{GPTPartitionEntry}
 use Rattle.gptman.specs.declared.table.GPT.{GPT}
 
 -- the value with its checksums made

@@ -1,5 +1,5 @@
 -- Ranges of bytes, each a start and a length.
-use Rattle.std.specs.Prelude.{◌≡◌, ◌≤◌, ◌<◌, ◌⊎◌, ◌+◌, ◌*◌, ℕ, List, [], ◌∷◌, length, get_or}
+use Rattle.std.specs.Prelude.{◌≡◌, ◌≤◌, ◌<◌, ◌⊎◌, ◌+◌, ℕ, List, [], ◌∷◌, length, get_or}
 
 -- k is in one of the ranges
 abbrev pub Inside : List (ℕ × ℕ) → ℕ → Type 0

@@ -2,7 +2,6 @@
 use Rattle.std.specs.Prelude.{◌≡◌, ◌≢◌, ◌≤◌, ◌<◌, ◌⊎◌, ◌+◌, ◌^◌, ℕ, ◌*◌}
 use Rattle.gptman_copy.specs.Disk.{DiskState, PassesEnd, Rose}
 use Rattle.gptman_copy.specs.Fault.{Fault, io, overflow, out_of_memory, invalid_entry_size}
-
 use Rattle.gptman_copy.specs.declared.codec.header.GPTHeader.{GPTHeader}
 
 -- what a block of so many bytes may be refused with: there is no memory, or the disk failed or ends before

@@ -212,7 +212,7 @@ fn settle(alloc: Global, primary: Error, backup: Result<GPT>) -> Result<GPT>
     requires faults { RefusesOnly is_copy_fault backup }
     ensures answer { Refuses result out_of_memory
         ⊎ (answer_of copy_of result ≡ elim (answer_of copy_of backup)
-            [ Ok copy ↦ Ok copy | Err second ↦ Err (both (fault_of primary) second) ]) }
+        [ Ok copy ↦ Ok copy | Err second ↦ Err (both (fault_of primary) second) ]) }
     ensures kinds { IfErr result (λ e. (fault_of e ≢ io_fault) × IsTrue (is_reading_fault (fault_of e))) }
     ensures memory { Refuses backup out_of_memory → Refuses result out_of_memory }
     ensures unsigned { Refuses result invalid_signature

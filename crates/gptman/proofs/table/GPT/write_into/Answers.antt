@@ -1,19 +1,17 @@
-use Rattle.std.proofs.Common.{◌≡◌, ◌⊎◌, ◌∙◌, inr, ap, refl, subst, sym, ℕ, List, [], ◌∷◌, IsTrue, Err, rules}
-use Rattle.std.proofs.lemmas.Result.{err_from_is_err_and, on_ok_weaker}
+use Rattle.std.proofs.Common.{◌≡◌, ◌∙◌, inr, ap, refl, subst, sym, ℕ, List, IsTrue, Err}
+use Rattle.std.proofs.lemmas.Result.{err_from_is_err_and}
 use Rattle.gptman_copy.specs.Copy.{with_checksums}
-use Rattle.gptman_copy.specs.Disk.{OnlyRead}
 use Rattle.gptman_copy.specs.Fault.{fault_of}
 use Rattle.gptman_copy.specs.Write.{other_header, HasBytes}
 use Rattle.gptman.specs.Crash.{StartsLaidOut}
 use Rattle.gptman.specs.Stop.{IsStored}
-use Rattle.gptman.specs.Table.{Table, entries_in, table_in}
+use Rattle.gptman.specs.Table.{entries_in, table_in}
 use Rattle.gptman.specs.Valid.{IsValid}
 use Rattle.gptman_copy.specs.declared.codec.entry.GPTPartitionEntry.{GPTPartitionEntry}
 use Rattle.gptman_copy.specs.declared.codec.header.GPTHeader.{GPTHeader}
 use Rattle.gptman_copy.proofs.Outcomes.{on_err_of}
-use Rattle.gptman_copy.proofs.Ranges.{within_none}
 use Rattle.gptman_copy.proofs.Readers.{reads_not}
-use Rattle.gptman_copy.proofs.Runs.{keeps_then, rose_since, wrote_not, wrote_wider}
+use Rattle.gptman_copy.proofs.Runs.{keeps_then, rose_since}
 use Rattle.gptman.proofs.Accepted.{checked_valid, failed_or_memory, layout_fits, write_refused}
 use Rattle.gptman.proofs.Argument.{only_read}
 use Rattle.gptman.proofs.OneGood.{leaves_outside, one_of_stored}

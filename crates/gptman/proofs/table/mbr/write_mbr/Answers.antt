@@ -1,4 +1,4 @@
-use Rattle.std.proofs.Common.{◌≡◌, ◌≤◌, ◌+◌, length, arith, rules}
+use Rattle.std.proofs.Common.{◌≡◌, length, arith, rules}
 use Rattle.gptman_copy.proofs.Ranges.{within_none, within_range}
 use Rattle.gptman_copy.proofs.Readers.{reads_then}
 use Rattle.gptman_copy.proofs.Runs.{wrote_then, wrote_wider}
