@@ -1,6 +1,6 @@
 #!/usr/bin/env bash
-# Tries gptimg as a process: its words and files, its standard streams, its memory, many of it at once,
-# one that is killed, and what README.md, docs/GUIDE.md and docs/FAULTS.md say that it prints.
+# Tries gptimg as a process: its words and commands, its files, its standard streams, its memory, many of it
+# at once, one that is killed, and what README.md, docs/GUIDE.md and docs/FAULTS.md say that it prints.
 #
 # usage: tests/program.sh [PROGRAM]
 #
@@ -26,6 +26,7 @@ guid_program=$top/crates/gptguid/out/gptguid
 . "$top/tests/program/images.sh"
 . "$top/tests/program/headers.sh"
 . "$top/tests/program/commands.sh"
+. "$top/tests/program/rows.sh"
 . "$top/tests/program/descriptors.sh"
 . "$top/tests/program/output.sh"
 . "$top/tests/program/files.sh"
@@ -61,6 +62,9 @@ make_images
 try "the program in README.md" try_readme_program
 try "the links of the documents" try_links
 try "words" try_words
+try "words of no command" try_usage
+try "rows" try_rows
+try "names" try_names
 try "commands" try_commands
 try "closed descriptors" try_closed_descriptors
 try "a system without /dev" try_without_devices

@@ -3,14 +3,7 @@
 
 # The words and the image are looked at before there is a disk.
 try_words() {
-    make_image words.img 51200
     says 2 "$usage"
-    says 2 "$usage" words.img
-    says 2 "$usage" words.img 512
-    says 2 "$usage" words.img 512 list
-    says 2 "$usage" words.img 0 show
-    says 2 "$usage" words.img auto check
-    says 2 "$usage" words.img 512 show more
     says 1 "fault: Io" missing.img 512 show
     says 1 "fault: Io" missing.img 512 list
     says 1 "fault: Io" "" 512 show

@@ -35,27 +35,30 @@ write_header() {
     put_number 16 0
     crc_of "${bytes[@]}"
     put_number 16 "$crc"
-    printf '%b' "${bytes[@]/#/\\x}" | dd "of=$1" bs=92 oflag=seek_bytes seek=512 conv=notrunc status=none
+    put_bytes "$1" 512 "${bytes[@]}"
+}
+
+# Puts numbers of four bytes into the header of an image: each time the place and the number.
+change_header() {
+    local image=$1 bytes
+    shift
+    read_header "$image"
+    while [ $# -gt 0 ]; do
+        put_number "$1" "$2"
+        shift 2
+    done
+    write_header "$image"
 }
 
 # Makes the header count so many entries.
 count_entries() {
-    local bytes
-    read_header "$1"
-    put_number 80 "$2"
-    write_header "$1"
+    change_header "$1" 80 "$2"
 }
 
 # A new image of 720 sectors with a table of 1,000 entries, which take 250 sectors. Usable are 252 to
 # 468. The CRC-32 is that of 128,000 bytes 0.
 make_large_table() {
-    local bytes
     make_table "$1" 368640
-    read_header "$1"
-    put_number 40 252
-    put_number 48 468
-    put_number 80 1000
-    put_number 88 $((0x25407eb9))
-    write_header "$1"
+    change_header "$1" 40 252 48 468 80 1000 88 0x25407eb9
     "$program" "$1" 512 sort > /dev/null
 }

@@ -5,6 +5,7 @@ disk=ffffffffffffffffffffffffffffffff
 data=a2a0d0ebe5b9334487c068b6b72699c7
 one=11111111111111111111111111111111
 two=22222222222222222222222222222222
+three=33333333333333333333333333333333
 usage="usage: gptimg IMAGE SECTOR COMMAND [WORDS]"
 same=$'primary ok\nbackup ok\nsame yes'
 
@@ -27,6 +28,13 @@ make_table() {
 # Writes bytes 0 over so many sectors of the image, from that one on.
 clear_sectors() {
     dd if=/dev/zero "of=$1" bs=512 "seek=$2" "count=$3" conv=notrunc status=none
+}
+
+# Writes bytes, given in hexadecimal, over those of the image from that one on.
+put_bytes() {
+    local image=$1 at=$2
+    shift 2
+    printf '%b' "${@/#/\\x}" | dd "of=$image" bs=4096 oflag=seek_bytes "seek=$at" conv=notrunc status=none
 }
 
 # The checksum of a file.

@@ -17,6 +17,10 @@ mod memory;
 #[cfg(test)]
 mod oracle;
 #[cfg(test)]
+mod program;
+#[cfg(test)]
+mod program_stops;
+#[cfg(test)]
 mod rows;
 #[cfg(test)]
 mod searches;
