@@ -56,6 +56,18 @@ pub(crate) fn partition(
     got(rt, used_entry(rt.alloc(), named, sectors))
 }
 
+// Puts such an entry under the number.
+fn put_used(
+    alloc: Global,
+    table: &mut GPT,
+    number: u32,
+    named: (&str, u8),
+    sectors: (u64, u64),
+) -> Result<()> {
+    let entry = used_entry(alloc, named, sectors)?;
+    table.apply(Edit::Put(number, entry))
+}
+
 /// Puts such an entry under the number.
 pub(crate) fn put_entry(
     rt: &impl Host,
@@ -64,8 +76,7 @@ pub(crate) fn put_entry(
     named: (&str, u8),
     sectors: (u64, u64),
 ) {
-    let entry = partition(rt, named, sectors);
-    got(rt, table.apply(Edit::Put(number, entry)));
+    got(rt, put_used(rt.alloc(), table, number, named, sectors));
 }
 
 // A table for 100 sectors of this size, with "Foo" and "Bar" from and to these sectors.
@@ -73,10 +84,8 @@ fn foo_and_bar(alloc: Global, sector_size: u16, foo: (u64, u64), bar: (u64, u64)
     let size = sector_size.max(1);
     let mut disk = disk_of(alloc, 0, 100 * usize::from(size))?;
     let mut table = GPT::new_from(alloc, &mut disk, u64::from(size), [0x0d; 16])?;
-    let foo = used_entry(alloc, ("Foo", 0x0b), foo)?;
-    table.apply(Edit::Put(1, foo))?;
-    let bar = used_entry(alloc, ("Bar", 0x0c), bar)?;
-    table.apply(Edit::Put(2, bar))?;
+    put_used(alloc, &mut table, 1, ("Foo", 0x0b), foo)?;
+    put_used(alloc, &mut table, 2, ("Bar", 0x0c), bar)?;
     Ok(table)
 }
 

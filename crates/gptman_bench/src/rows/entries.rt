@@ -5,6 +5,7 @@ use crate::asserts::{
 };
 use crate::fixtures::{disk_1, image_after, partition, put_entry, read, reread, table_with};
 use gptman::{Edit, Fate, GPT, GPTPartitionEntry, PartitionName};
+use std::fmt::Debug;
 
 // The entry from and to these sectors.
 fn entry(rt: &impl Host, start: u64, end: u64) -> GPTPartitionEntry {
@@ -129,22 +130,24 @@ fn changed_entries_are_read_back(rt: HostRuntime) {
     assert_used(&rt, &read, ", 1 A Robot Named Fight! 34..45");
 }
 
+// The value is printed for debugging with this start, and with the other text in it.
+fn assert_printed(rt: &impl Host, value: &impl Debug, start: &str, within: &str) {
+    let text = printed(rt, value);
+    assert!(rt; text.as_str().starts_with(start) && text.as_str().contains(within));
+}
+
 #[test]
 fn values_are_printed_for_debugging(rt: HostRuntime) {
-    let text = printed(
-        &rt,
-        &[Edit::Remove(3), Edit::SortEntries, Edit::DiskGuid([5; 16])],
-    );
-    let edits =
-        "[Remove(3), SortEntries, DiskGuid([5, 5, 5, 5, 5, 5, 5, 5, 5, 5, 5, 5, 5, 5, 5, 5])]";
-    assert_text(&rt, text.as_str(), edits);
-    let text = printed(&rt, &[Fate::Old, Fate::New, Fate::Garbage(7)]);
-    assert_text(&rt, text.as_str(), "[Old, New, Garbage(7)]");
-    let text = printed(&rt, &Edit::Put(1, entry(&rt, 34, 43)));
+    let edits = [Edit::Remove(3), Edit::SortEntries];
+    assert_printed(&rt, &edits, "[Remove(3), SortEntries]", "");
+    assert_printed(&rt, &Edit::DiskGuid([5; 16]), "DiskGuid([5, 5, ", ", 5])");
+    let fates = [Fate::Old, Fate::New, Fate::Garbage(7)];
+    assert_printed(&rt, &fates, "[Old, New, Garbage(7)]", "");
+    let put = Edit::Put(1, entry(&rt, 34, 43));
     let start = "Put(1, GPTPartitionEntry { partition_type_guid: [10, 10, ";
     let sectors = "starting_lba: 34, ending_lba: 43, attribute_bits: 0";
-    assert!(rt; text.as_str().starts_with(start) && text.as_str().contains(sectors));
-    let text = printed(&rt, &got(&rt, disk_1(rt.alloc())));
+    assert_printed(&rt, &put, start, sectors);
+    let table = got(&rt, disk_1(rt.alloc()));
     let start = "GPT { sector_size: 512, header: GPTHeader { signature: [69, 70, ";
-    assert!(rt; text.as_str().starts_with(start) && text.as_str().ends_with(", align: 2048 }"));
+    assert_printed(&rt, &table, start, ", align: 2048 }");
 }

@@ -5,22 +5,32 @@ use crate::asserts::{Host, got};
 use crate::fixtures::table_with;
 use crate::searches::{Search, found, free_sectors, maximum};
 use gptman::GPT;
+use std::process::Abort;
 
 // The last sector of all cases.
 const LAST: u64 = 30;
 
-// Whether the sector may be given to a new entry.
-fn is_free(table: &GPT, sector: u64) -> bool {
-    let (first, last) = (table.header.first_usable_lba, table.header.last_usable_lba);
-    let covers = table.iter().any(|(_, entry)| {
-        entry.is_used() && entry.starting_lba <= sector && sector <= entry.ending_lba
-    });
-    sector >= 1 && first <= sector && sector <= last && !covers
+// Whether a used entry covers the sector.
+fn is_covered(table: &GPT, sector: u64) -> bool {
+    for (_, entry) in table.iter() {
+        if entry.is_used() && entry.starting_lba <= sector && sector <= entry.ending_lba {
+            return true;
+        }
+    }
+    false
 }
 
 // How many sectors are free without a gap, from this one on.
 fn run_from(table: &GPT, sector: u64) -> u64 {
-    (sector..=LAST).take_while(|it| is_free(table, *it)).count() as u64
+    let first = table.header.first_usable_lba.max(1);
+    let mut run = 0_u64;
+    for it in sector..=LAST {
+        if it < first || it > table.header.last_usable_lba || is_covered(table, it) {
+            break;
+        }
+        run = run.saturating_add(1);
+    }
+    run
 }
 
 // Whether so many sectors are free from this one on, which is a multiple of the alignment.
@@ -28,22 +38,26 @@ fn is_place(table: &GPT, size: u64, sector: u64) -> bool {
     run_from(table, sector) >= size && sector.checked_rem(table.align) == Some(0)
 }
 
-// The least place.
-fn least(table: &GPT, size: u64) -> Option<u64> {
-    (0..=LAST).find(|sector| is_place(table, size, *sector))
-}
-
-// The greatest place.
-fn greatest(table: &GPT, size: u64) -> Option<u64> {
-    (0..=LAST)
-        .rev()
-        .find(|sector| is_place(table, size, *sector))
+// The least and the greatest place.
+fn places(table: &GPT, size: u64) -> (Option<u64>, Option<u64>) {
+    let (mut least, mut greatest) = (None, None);
+    for sector in 0..=LAST {
+        if is_place(table, size, sector) {
+            least = least.or(Some(sector));
+            greatest = Some(sector);
+        }
+    }
+    (least, greatest)
 }
 
 // Whether the sector is free, and the first multiple of the alignment in its run.
 fn starts_slot(table: &GPT, sector: u64) -> bool {
+    for earlier in 0..sector {
+        if is_place(table, sector - earlier, earlier) {
+            return false;
+        }
+    }
     is_place(table, 1, sector)
-        && !(0..sector).any(|earlier| is_place(table, sector - earlier, earlier))
 }
 
 // All aligned slots, each by its start and its length.
@@ -80,16 +94,21 @@ fn longest(slots: &[(u64, u64)], align: u64) -> Option<u64> {
     longest
 }
 
-// The searches find what the plain one does.
+// The searches for so many sectors find what the plain one does, of which these are the slots.
+fn assert_places(rt: &impl Abort, table: &GPT, slots: &[(u64, u64)], size: u64) {
+    let (least, greatest) = places(table, size.max(1));
+    assert!(rt; found(rt, table, Search::First, size) == least);
+    assert!(rt; found(rt, table, Search::Last, size) == greatest);
+    assert!(rt; found(rt, table, Search::Optimal, size) == shortest(slots, size.max(1)));
+}
+
+// All searches find what the plain one does.
 fn assert_alike(rt: &impl Host, table: &GPT) {
     let slots = slots(rt, table);
     assert!(rt; free_sectors(rt, table).as_slice() == slots.as_slice());
     assert!(rt; maximum(rt, table) == longest(&slots, table.align));
-    for size in 0..=12_u64 {
-        let sectors = size.max(1);
-        assert!(rt; found(rt, table, Search::First, size) == least(table, sectors));
-        assert!(rt; found(rt, table, Search::Last, size) == greatest(table, sectors));
-        assert!(rt; found(rt, table, Search::Optimal, size) == shortest(&slots, sectors));
+    for size in 0..=12 {
+        assert_places(rt, table, &slots, size);
     }
 }
 
