@@ -1,52 +1,105 @@
-//! What many tests assert, each as one call. A function is proved in time that grows with its length
-//! times the references and the values to drop that it has, so short tests are proved sooner.
+//! What calls answer, as text that is compared with rows.
 
-use crate::fixtures::{answer, used_names};
-use gptman::{GPT, GPTHeader, GPTPartitionEntry};
-use std::alloc::Global;
+use gptman::{Error, GPT, GPTHeader, GPTPartitionEntry, Result};
 use std::fmt::Debug;
 use std::process::Abort;
 
+/// What is said where an entry has no place of its own within the usable sectors.
+pub(crate) const BOUNDARIES: &str =
+    "invalid partition boundaries: partitions must have positive size, must not overlap, and must fit \
+     within the disk";
+
+/// What is said where a number does not fit.
+pub(crate) const OVERFLOW: &str = "an arithmetic operation overflowed";
+
+/// What helpers of tests take: what stops a test that fails, and memory.
+pub(crate) trait Host: Abort + AllocGlobal {}
+
+impl<R: Abort + AllocGlobal> Host for R {}
+
 /// The value of a call that must be done.
-pub(crate) fn got<T, E: Debug>(rt: &impl Abort, outcome: Result<T, E>) -> T {
+pub(crate) fn got<T, E: Debug>(rt: &impl Abort, outcome: std::result::Result<T, E>) -> T {
     outcome.expect(rt, "a call that should be done was refused")
 }
 
-/// The call was answered with this text: "ok", or that of its error.
-pub(crate) fn assert_said<T>(
-    rt: &impl Abort,
-    alloc: Global,
-    outcome: &gptman::Result<T>,
-    said: &str,
-) {
-    assert_eq!(rt; got(rt, answer(alloc, outcome)).as_str(), said);
+/// The text of an error.
+pub(crate) fn text_of(rt: &impl Host, error: &Error) -> String {
+    got(rt, error.to_string(rt.alloc()))
 }
 
-/// The table's used entries have these numbers and names.
-pub(crate) fn assert_names(rt: &impl Abort, alloc: Global, table: &GPT, names: &str) {
-    assert_eq!(rt; got(rt, used_names(alloc, table)).as_str(), names);
-}
-
-/// The table has this entry, behind so many others.
-pub(crate) fn assert_entry(rt: &impl Abort, table: &GPT, place: usize, wanted: &GPTPartitionEntry) {
-    match table.iter().nth(place) {
-        Some((_, entry)) => assert!(rt; *entry == *wanted),
-        None => assert!(rt; false, "the table has no such entry"),
+/// What a call answered: "ok", or the text of its error.
+pub(crate) fn answer<T>(rt: &impl Host, outcome: &Result<T>) -> String {
+    match outcome {
+        Ok(_) => got(rt, String::from_str(rt.alloc(), "ok")),
+        Err(error) => text_of(rt, error),
     }
 }
 
-/// The first and the last usable sector of a header, and the sector of its backup.
-pub(crate) fn bounds_of(header: &GPTHeader) -> (u64, u64, u64) {
-    (
-        header.first_usable_lba,
-        header.last_usable_lba,
-        header.backup_lba,
-    )
+/// The text is the one that is wanted.
+pub(crate) fn assert_text(rt: &impl Abort, text: &str, wanted: &str) {
+    assert_eq!(rt; text, wanted);
 }
 
-/// The header has these bounds.
-pub(crate) fn assert_bounds(rt: &impl Abort, header: &GPTHeader, bounds: (u64, u64, u64)) {
-    assert_eq!(rt; bounds_of(header), bounds);
+/// The call was answered so: with "ok", or with the text of its error.
+pub(crate) fn assert_said<T>(rt: &impl Host, outcome: &Result<T>, said: &str) {
+    assert_text(rt, answer(rt, outcome).as_str(), said);
+}
+
+// Puts a comma, and the entry's number, name and sectors behind the text.
+fn push_entry(rt: &impl Host, text: &mut String, number: u32, entry: &GPTPartitionEntry) {
+    let (name, start, end) = (&entry.partition_name, entry.starting_lba, entry.ending_lba);
+    let more = got(
+        rt,
+        format!(in rt.alloc(); ", {number} {name} {start}..{end}"),
+    );
+    got(rt, text.push_str(more.as_str()));
+}
+
+/// The number, the name and the sectors of each used entry, with a comma before each.
+pub(crate) fn used(rt: &impl Host, table: &GPT) -> String {
+    let mut used = String::new(rt.alloc());
+    for (number, entry) in table.iter() {
+        if entry.is_used() {
+            push_entry(rt, &mut used, number, entry);
+        }
+    }
+    used
+}
+
+/// The table has these used entries.
+pub(crate) fn assert_used(rt: &impl Host, table: &GPT, said: &str) {
+    assert_text(rt, used(rt, table).as_str(), said);
+}
+
+/// The table as text: the sector size; the sectors of its header, of the other header and of its
+/// entries; the usable sectors; the alignment; and the used entries.
+pub(crate) fn shown(rt: &impl Host, table: &GPT) -> String {
+    let (size, align, header) = (table.sector_size, table.align, &table.header);
+    let (own, other) = (header.primary_lba, header.backup_lba);
+    let (entries, used) = (header.partition_entry_lba, used(rt, table));
+    let (first, last) = (header.first_usable_lba, header.last_usable_lba);
+    let text = format!(in rt.alloc();
+        "{size} {own}/{other}/{entries} {first}..{last} align {align}{used}"
+    );
+    got(rt, text)
+}
+
+/// The table has this text.
+pub(crate) fn assert_shown(rt: &impl Host, table: &GPT, said: &str) {
+    assert_text(rt, shown(rt, table).as_str(), said);
+}
+
+/// The table that a call answered, as text, or the text of its error.
+pub(crate) fn told(rt: &impl Host, outcome: &Result<GPT>) -> String {
+    match outcome {
+        Ok(table) => shown(rt, table),
+        Err(error) => text_of(rt, error),
+    }
+}
+
+/// The call answered a table of this text, or with an error of this text.
+pub(crate) fn assert_told(rt: &impl Host, outcome: &Result<GPT>, said: &str) {
+    assert_text(rt, told(rt, outcome).as_str(), said);
 }
 
 /// The sectors in which a header says that it, the other header and its entries stand.
@@ -58,8 +111,7 @@ pub(crate) fn places_of(header: &GPTHeader) -> (u64, u64, u64) {
     )
 }
 
-/// The call was refused for the boundaries of an entry.
-pub(crate) fn assert_boundaries<T>(rt: &impl Abort, alloc: Global, outcome: &gptman::Result<T>) {
-    let said = got(rt, answer(alloc, outcome));
-    assert!(rt; said.as_str().starts_with("invalid partition boundaries: "));
+/// The value as it is printed for debugging.
+pub(crate) fn printed(rt: &impl Host, value: &impl Debug) -> String {
+    got(rt, format!(in rt.alloc(); "{value:?}"))
 }

@@ -12,15 +12,18 @@ ghost use Rattle.gptman.specs.Layout.{Holds};
 ghost use Rattle.gptman.specs.Number.{with_entries, with_entry, IsNumber};
 ghost use Rattle.gptman.specs.Order.{by_rank, rank};
 ghost use Rattle.gptman.specs.Place.{HasNoPlace, IsFreeIn, IsPlace};
-ghost use Rattle.gptman.specs.Reading.{primary, taken_from};
+ghost use Rattle.gptman.specs.Reading.{backup, primary, taken_from};
 ghost use Rattle.gptman.specs.Stop.{IsStored, StopsAreReadAs};
-ghost use Rattle.gptman.specs.Table.{entries_in, grow_to, table_in, IsHeaderForm};
-ghost use Rattle.gptman.specs.TableReads.{AnswersReading};
+ghost use Rattle.gptman.specs.Table.{entries_in, grow_to, table_in, IsForm, IsHeaderForm};
+ghost use Rattle.gptman.specs.TableReads.{copy_of, AnswersReading};
 ghost use Rattle.gptman.specs.Valid.{IsValid};
 ghost use Rattle.gptman_copy.specs.declared.codec.entry.GPTPartitionEntry.{GPTPartitionEntry};
 ghost use Rattle.gptman_copy.specs.declared.codec.header.GPTHeader.{GPTHeader};
 ghost use Rattle.gptman_bench.specs.Cleared.{cleared};
 
+use crate::asserts::{Host, assert_shown, assert_used, got};
+use crate::fixtures::{blank, disk_1, image_of_new_table, new_table, partition, put_entry};
+use crate::memory::holding;
 use gptman::place::laws::{maximum_is_offered, placement_keeps_valid};
 use gptman::table::laws::{
     growing_is_safe, what_is_held_is_read, what_is_read_is_held, what_stands_is_accepted,
@@ -29,24 +32,21 @@ use gptman::{Disk, GPT, GPTHeader, GPTPartitionEntry, Result};
 use std::alloc::{AllocError, Global};
 
 /// Whether two tables are equal in all their fields.
-pub(crate) fn are_equal(a: &GPT, b: &GPT) -> bool
+fn are_equal(a: &GPT, b: &GPT) -> bool
     ensures { IsTrue result ↔ (a.now ≡ b.now) }
 {
     a == b
 }
 
 /// Whether two entries are equal in all their fields, texts and units included.
-pub(crate) fn are_equal_entries(
-    a: &gptman::GPTPartitionEntry,
-    b: &gptman::GPTPartitionEntry,
-) -> bool
+fn are_equal_entries(a: &gptman::GPTPartitionEntry, b: &gptman::GPTPartitionEntry) -> bool
     ensures { IsTrue result ↔ (a.now ≡ b.now) }
 {
     a == b
 }
 
 /// Sorts the entries twice, which is sorting them once.
-pub(crate) fn sort_twice(table: &mut GPT) -> Result<()>
+fn sort_twice(table: &mut GPT) -> Result<()>
     ensures { OnOk result (table.new ≡ with_entries table.old (by_rank rank (entries_in table.old))) }
 {
     table.sort()?;
@@ -54,7 +54,7 @@ pub(crate) fn sort_twice(table: &mut GPT) -> Result<()>
 }
 
 /// Exchanges two entries.
-pub(crate) fn exchange(table: &mut GPT, i: u32, j: u32) -> Result<()>
+fn exchange(table: &mut GPT, i: u32, j: u32) -> Result<()>
     requires first { IsNumber table.old i }
     requires second { IsNumber table.old j }
     ensures exchanged { OnOk result ((a b : GPTPartitionEntry)
@@ -73,12 +73,7 @@ pub(crate) fn exchange(table: &mut GPT, i: u32, j: u32) -> Result<()>
 /// Gives the entry so many sectors, or one if that is 0, at the first place that there is, and puts it
 /// under the number. Answers whether there was a place. A valid table stays valid, unless a used entry
 /// has the new one's GUID.
-pub(crate) fn add_first(
-    table: &mut GPT,
-    number: u32,
-    entry: GPTPartitionEntry,
-    size: u64,
-) -> Result<bool>
+fn add_first(table: &mut GPT, number: u32, entry: GPTPartitionEntry, size: u64) -> Result<bool>
     requires aligned { 0 < table.old.align }
     requires number { IsNumber table.old number }
     ensures valid { IsValid table.old.header (entries_in table.old)
@@ -102,7 +97,7 @@ pub(crate) fn add_first(
 
 /// The greatest size that a partition can be given, a multiple of `align`, and before it the least sector
 /// where it has a place. `None` only where not even `align` sectors have one.
-pub(crate) fn greatest_place(table: &GPT) -> Result<Option<(u64, u64)>>
+fn greatest_place(table: &GPT) -> Result<Option<(u64, u64)>>
     requires aligned { 0 < table.now.align }
     ensures { IfOk result (λ found. MatchOption found
         (HasNoPlace (IsFreeIn table.now) table.now.align table.now.align)
@@ -121,7 +116,7 @@ pub(crate) fn greatest_place(table: &GPT) -> Result<Option<(u64, u64)>>
 }
 
 /// Clears the attributes of each entry, by the numbers. The whole list is known after it.
-pub(crate) fn clear_by_number(table: &mut GPT)
+fn clear_by_number(table: &mut GPT)
     requires { IsCoherent table.old.header (entries_in table.old) }
     ensures { table.new ≡ with_entries table.old (map cleared (entries_in table.old)) }
 {
@@ -132,7 +127,7 @@ pub(crate) fn clear_by_number(table: &mut GPT)
 }
 
 /// Clears the attributes of each entry, by the iterator. All but the entries is as it was.
-pub(crate) fn clear_by_iterator(table: &mut GPT)
+fn clear_by_iterator(table: &mut GPT)
     ensures rest { table.new ≡ with_entries table.old (entries_in table.new) }
     ensures len { length (entries_in table.new) ≡ length (entries_in table.old) }
 {
@@ -143,7 +138,7 @@ pub(crate) fn clear_by_iterator(table: &mut GPT)
 
 /// How many entries are used, by a loop.
 #[tactic(auto, using(gptman::proofs::Numbering::count_numbered))]
-pub(crate) fn count_used(table: &GPT) -> u64
+fn count_used(table: &GPT) -> u64
     ensures { result ≡ count_by is_used (entries_in table.now) }
 {
     let mut count = 0;
@@ -155,20 +150,8 @@ pub(crate) fn count_used(table: &GPT) -> u64
     count
 }
 
-/// The number of the last entry, by a loop. It is how many entries there are.
-#[tactic(auto, using(gptman::proofs::Numbering::at_end))]
-pub(crate) fn last_number(table: &GPT) -> u32
-    ensures { result ≡ length (entries_in table.now) }
-{
-    let mut last = 0;
-    for (number, _) in table.iter() {
-        last = number;
-    }
-    last
-}
-
 /// The numbers of the used entries, by a chain.
-pub(crate) fn used_numbers(alloc: Global, table: &GPT) -> std::result::Result<Vec<u32>, AllocError>
+fn used_numbers(alloc: Global, table: &GPT) -> std::result::Result<Vec<u32>, AllocError>
     ensures { IfOk result (λ v. v.items
         ≡ map (λ p. p.0) (filter (λ p. is_used p.1) (enumerate_from 1 (entries_in table.now)))) }
 {
@@ -181,7 +164,7 @@ pub(crate) fn used_numbers(alloc: Global, table: &GPT) -> std::result::Result<Ve
 
 /// Reads the table. Unless the disk failed, the place from which it is taken holds it, where it is in
 /// the form of that place.
-pub(crate) fn read_held<D: Disk>(alloc: Global, disk: &mut D, sector_size: u64) -> Result<GPT>
+fn read_held<D: Disk>(alloc: Global, disk: &mut D, sector_size: u64) -> Result<GPT>
     requires { 0 < sector_size }
     ensures coherent { IfOk result (λ g. IsCoherent g.header (entries_in g)) }
     ensures held { let side = taken_from (D.state disk.old).view sector_size in
@@ -194,7 +177,7 @@ pub(crate) fn read_held<D: Disk>(alloc: Global, disk: &mut D, sector_size: u64) 
 }
 
 /// Reads the table. Where a copy stands in sector 1, it is what is read.
-pub(crate) fn read_standing<D: Disk>(alloc: Global, disk: &mut D, sector_size: u64) -> Result<GPT>
+fn read_standing<D: Disk>(alloc: Global, disk: &mut D, sector_size: u64) -> Result<GPT>
     requires { 0 < sector_size }
     ensures { (h : GPTHeader) → (es : List GPTPartitionEntry)
         → CopyAt (D.state disk.old).view sector_size sector_size h es
@@ -205,10 +188,24 @@ pub(crate) fn read_standing<D: Disk>(alloc: Global, disk: &mut D, sector_size: u
     GPT::read_from(alloc, disk, sector_size)
 }
 
+/// Writes the table and reads it back. What is read from an honest disk of the stated layout is the
+/// table in primary form, or in backup form where the disk failed.
+fn write_and_read<D: Disk>(alloc: Global, table: &mut GPT, disk: &mut D) -> gptman::Result<GPT>
+    requires sector { 0 < table.old.sector_size }
+    requires coherent { IsCoherent table.old.header (entries_in table.old) }
+    ensures { StartsLaidOut (D.state disk.old) table.old
+        → IfOk result (λ g. IsForm primary (table_in table.old) (copy_of g)
+        ⊎ (IsForm backup (table_in table.old) (copy_of g) × Rose (D.state disk.old) (D.state disk.new))) }
+{
+    let sector_size = table.sector_size;
+    table.write_into(disk)?;
+    GPT::read_from(alloc, disk, sector_size)
+}
+
 /// Fits the table to the disk and writes it. Where the primary place holds the table in the value's own
 /// form and nothing is pending, a stop at any moment leaves a disk that is read as the table or as the
 /// fitted one, unless the reading takes a foreign copy: also where a call failed.
-pub(crate) fn grow<D: Disk>(table: &mut GPT, disk: &mut D) -> Result<GPTHeader>
+fn grow<D: Disk>(table: &mut GPT, disk: &mut D) -> Result<GPTHeader>
     requires sector { 0 < table.old.sector_size }
     requires coherent { IsCoherent table.old.header (entries_in table.old) }
     ensures stored { let new = grow_to table.old (D.state disk.old).size in
@@ -224,4 +221,91 @@ pub(crate) fn grow<D: Disk>(table: &mut GPT, disk: &mut D) -> Result<GPTHeader>
     table.header.update_from(disk, table.sector_size)?;
     growing_is_safe(disk);
     table.write_into(disk)
+}
+
+// Disk 1 with "Baz" behind its entries.
+fn unsorted(rt: &impl Host) -> GPT {
+    let mut table = got(rt, disk_1(rt.alloc()));
+    put_entry(rt, &mut table, 10, ("Baz", 1), (44, 47));
+    assert!(rt; table.is_coherent() && table.header.number_of_partition_entries == 128);
+    table
+}
+
+#[test]
+fn entries_are_counted_sorted_and_exchanged(rt: HostRuntime) {
+    let mut table = unsorted(&rt);
+    assert!(rt; count_used(&table) == 3);
+    assert!(rt; got(&rt, used_numbers(rt.alloc(), &table)).as_slice() == [1, 2, 10].as_slice());
+    got(&rt, exchange(&mut table, 1, 2));
+    assert_used(&rt, &table, ", 1 Bar 48..52, 2 Foo 34..43, 10 Baz 44..47");
+    got(&rt, sort_twice(&mut table));
+    assert_used(&rt, &table, ", 1 Foo 34..43, 2 Baz 44..47, 3 Bar 48..52");
+}
+
+#[test]
+fn attributes_are_cleared(rt: HostRuntime) {
+    let given = unsorted(&rt);
+    let mut table = unsorted(&rt);
+    for (number, entry) in table.iter_mut() {
+        entry.attribute_bits = u64::from(number);
+    }
+    let mut other = got(&rt, table.clone());
+    assert!(rt; table.is_coherent());
+    clear_by_number(&mut table);
+    assert!(rt; are_equal(&table, &given) && !are_equal(&other, &given));
+    clear_by_iterator(&mut other);
+    assert!(rt; are_equal(&other, &given));
+}
+
+#[test]
+fn entries_differ_by_a_field(rt: HostRuntime) {
+    let entry = partition(&rt, ("Foo", 1), (34, 43));
+    let mut other = got(&rt, entry.clone());
+    assert!(rt; are_equal_entries(&entry, &other));
+    other.attribute_bits = 4;
+    assert!(rt; !are_equal_entries(&entry, &other));
+}
+
+// Adds "Baz" at the first place for so many sectors, and answers whether there was one.
+fn add_baz(rt: &impl Host, table: &mut GPT, size: u64) -> bool {
+    let baz = partition(rt, ("Baz", 1), (0, 0));
+    assert!(rt; table.align > 0 && table.is_coherent());
+    assert!(rt; table.header.number_of_partition_entries > 3);
+    got(rt, add_first(table, 3, baz, size))
+}
+
+// The free runs are 44 to 47 and 53 to 66.
+#[test]
+fn an_entry_is_added_where_there_is_a_place(rt: HostRuntime) {
+    let mut table = got(&rt, disk_1(rt.alloc()));
+    for (align, place) in [(1, Some((53, 14))), (4, Some((56, 8))), (10, None)] {
+        table.align = align;
+        assert!(rt; table.align > 0 && got(&rt, greatest_place(&table)) == place);
+    }
+    table.align = 1;
+    assert!(rt; !add_baz(&rt, &mut table, 15) && add_baz(&rt, &mut table, 4));
+    assert_used(&rt, &table, ", 1 Foo 34..43, 2 Bar 48..52, 3 Baz 44..47");
+}
+
+#[test]
+fn a_table_is_written_and_read(rt: HostRuntime) {
+    let mut disk = blank(&rt, 2, 51_200);
+    let mut table = new_table(&rt, &mut disk, 512);
+    assert!(rt; table.sector_size == 512 && table.is_coherent());
+    let read = got(&rt, write_and_read(rt.alloc(), &mut table, &mut disk));
+    assert!(rt; read == table);
+    assert!(rt; got(&rt, read_standing(rt.alloc(), &mut disk, 512)) == table);
+}
+
+#[test]
+fn a_table_grows_with_its_disk(rt: HostRuntime) {
+    let mut image = image_of_new_table(&rt, 0);
+    got(&rt, image.resize(102_400, 0));
+    let mut disk = holding(&rt, rt.alloc(), &image);
+    let mut table = got(&rt, read_held(rt.alloc(), &mut disk, 512));
+    assert!(rt; table.sector_size > 0 && table.is_coherent());
+    got(&rt, grow(&mut table, &mut disk));
+    let read = got(&rt, read_held(rt.alloc(), &mut disk, 512));
+    assert_shown(&rt, &read, "512 1/199/2 34..166 align 2048");
+    assert!(rt; read == table);
 }

@@ -1,11 +1,9 @@
 //! A plain reader of byte lists, slow and written from the format alone: a bit of the checksum at a
 //! time, one field after the other. What it says is held against what the library reads.
 
-use crate::asserts::got;
+use crate::asserts::{Host, got, text_of};
 use crate::fixtures::read_with_sectors;
-use gptman::{Error, GPT};
-use std::alloc::Global;
-use std::process::Abort;
+use gptman::Error;
 
 // So many bytes from this one on, where there are so many.
 fn part(bytes: &[u8], at: u128, len: u128) -> Option<&[u8]> {
@@ -76,132 +74,109 @@ fn header_fault(header: &[u8; 92]) -> Option<Error> {
     None
 }
 
-// The fault of the entries that the header names, if there is one.
-fn entries_fault(bytes: &[u8], header: &[u8; 92], sector_size: u64) -> Option<Error> {
+// What is said where bytes pass the end.
+fn past_end() -> Error {
+    Error::Io(std::io::Error::other("past the end"))
+}
+
+// The entries that the header names, or their fault.
+fn entries_of<'a>(bytes: &'a [u8], header: &[u8; 92], sector_size: u64) -> Result<&'a [u8], Error> {
     let count = u128::from(number(&header[80..84]));
     let size = small(&header[84..88]);
     if count > 0 && size != 128 {
-        return Some(Error::InvalidPartitionEntrySize(size));
+        return Err(Error::InvalidPartitionEntrySize(size));
     }
     let start = u128::from(number(&header[72..80])) * u128::from(sector_size);
     if count > 0 && start > u128::from(u64::MAX) {
-        return Some(Error::Overflow);
+        return Err(Error::Overflow);
     }
-    let entries = if count == 0 {
-        &[]
-    } else if let Some(entries) = part(bytes, start, 128 * count) {
-        entries
-    } else {
-        return Some(Error::Io(std::io::Error::other("past the end")));
+    let start = if count > 0 { start } else { 0 };
+    let Some(entries) = part(bytes, start, 128 * count) else {
+        return Err(past_end());
     };
     let stored = small(&header[88..92]);
     let computed = slow_checksum(entries);
     if stored != computed {
-        return Some(Error::InvalidPartitionEntryArrayChecksum(stored, computed));
+        return Err(Error::InvalidPartitionEntryArrayChecksum(stored, computed));
     }
-    None
+    Ok(entries)
 }
 
-// The fault of the copy at this byte, if there is one.
-fn copy_fault(rt: &impl Abort, bytes: &[u8], at: u64, sector_size: u64) -> Option<Error> {
+// The header and the entries of the copy at this byte, as hex text, or its fault.
+fn copy(rt: &impl Host, bytes: &[u8], at: u64, sector_size: u64) -> Result<String, Error> {
     let Some(found) = part(bytes, u128::from(at), 92) else {
-        return Some(Error::Io(std::io::Error::other("past the end")));
+        return Err(past_end());
     };
     assert!(rt; found.len() == 92);
     let mut header = [0; 92];
     header.copy_from_slice(found);
-    match header_fault(&header) {
-        None => entries_fault(bytes, &header, sector_size),
-        fault => fault,
+    if let Some(fault) = header_fault(&header) {
+        return Err(fault);
+    }
+    match entries_of(bytes, &header, sector_size) {
+        Ok(entries) => Ok(hex_of(rt, &header, entries)),
+        Err(fault) => Err(fault),
     }
 }
 
-// The first byte of the backup place. There is none on a disk of less than a sector.
-fn backup_place(bytes: &[u8], sector_size: u64) -> Option<u64> {
-    let len = bytes.len() as u64;
-    let sectors = len.checked_div(sector_size)?;
-    sectors.checked_sub(1)?.checked_mul(sector_size)
+// The header and then the entries, as hex text.
+fn hex_of(rt: &impl Host, header: &[u8; 92], entries: &[u8]) -> String {
+    let mut text = got(rt, hex::encode(rt.alloc(), header));
+    let more = got(rt, hex::encode(rt.alloc(), entries));
+    got(rt, text.push_str(more.as_str()));
+    text
 }
 
-// What a reading says: the header and entries that it takes, or its fault.
-fn expected(rt: &impl Abort, alloc: Global, bytes: &[u8], sector_size: u64) -> String {
-    match copy_fault(rt, bytes, sector_size, sector_size) {
-        None => taken(rt, alloc, bytes, sector_size, sector_size),
-        Some(primary) => fallback(rt, alloc, bytes, sector_size, &primary),
+// What a reading says: the copy that it takes, or its fault.
+fn expected(rt: &impl Host, bytes: &[u8], sector_size: u64) -> String {
+    match copy(rt, bytes, sector_size, sector_size) {
+        Ok(copy) => copy,
+        Err(primary) => fallback(rt, bytes, sector_size, &primary),
     }
 }
 
-// The same where the primary copy has this fault.
-fn fallback(
-    rt: &impl Abort,
-    alloc: Global,
-    bytes: &[u8],
-    sector_size: u64,
-    primary: &Error,
-) -> String {
-    let Some(place) = backup_place(bytes, sector_size) else {
-        return got(rt, Error::InvalidSignature.to_string(alloc));
+// The same where the primary copy has this fault. There is no backup place on a disk of less than a
+// sector.
+fn fallback(rt: &impl Host, bytes: &[u8], sector_size: u64, primary: &Error) -> String {
+    let sectors = (bytes.len() as u64)
+        .checked_div(sector_size)
+        .unwrap_or_default();
+    let Some(last) = sectors.checked_sub(1) else {
+        return text_of(rt, &Error::InvalidSignature);
     };
-    match copy_fault(rt, bytes, place, sector_size) {
-        None => taken(rt, alloc, bytes, place, sector_size),
-        Some(backup) => two_faults(rt, alloc, primary, &backup),
+    match copy(rt, bytes, last.saturating_mul(sector_size), sector_size) {
+        Ok(copy) => copy,
+        Err(backup) => two_faults(rt, primary, &backup),
     }
 }
 
 // What is said of the faults of both copies.
-fn two_faults(rt: &impl Abort, alloc: Global, primary: &Error, backup: &Error) -> String {
+fn two_faults(rt: &impl Host, primary: &Error, backup: &Error) -> String {
     if matches!(primary, Error::InvalidSignature) && matches!(backup, Error::InvalidSignature) {
-        return got(rt, Error::InvalidSignature.to_string(alloc));
+        return text_of(rt, primary);
     }
-    let said = format!(in alloc;
+    let said = format!(in rt.alloc();
         "could not read primary header ({primary}) nor backup header ({backup})"
     );
     got(rt, said)
 }
 
-// The bytes of the copy at this byte, as text.
-fn taken(rt: &impl Abort, alloc: Global, bytes: &[u8], at: u64, sector_size: u64) -> String {
-    let header = part(bytes, u128::from(at), 92).unwrap_or_default();
-    let start = u128::from(number(header.get(72..80).unwrap_or_default()))
-        * u128::from(sector_size);
-    let count = u128::from(number(header.get(80..84).unwrap_or_default()));
-    let entries = part(bytes, start, 128 * count).unwrap_or_default();
-    let mut text = got(rt, hex::encode(alloc, header));
-    push_hex(rt, alloc, &mut text, entries);
-    text
-}
-
-// Puts the bytes as text behind this one.
-fn push_hex(rt: &impl Abort, alloc: Global, text: &mut String, bytes: &[u8]) {
-    let more = got(rt, hex::encode(alloc, bytes));
-    got(rt, text.push_str(more.as_str()));
-}
-
-// The header and the entries of the table, in the same words.
-fn shown(rt: &impl Abort, alloc: Global, table: &GPT) -> String {
-    let mut text = got(rt, hex::encode(alloc, table.header.encode()));
-    for (_, entry) in table.iter() {
-        push_hex(rt, alloc, &mut text, &entry.encode());
-    }
-    text
-}
-
 // What the library reads, in the same words.
-fn read(rt: &impl Abort, alloc: Global, bytes: &[u8], sector_size: u64) -> String {
-    match read_with_sectors(alloc, bytes, sector_size) {
-        Ok(table) => shown(rt, alloc, &table),
-        Err(error) => got(rt, error.to_string(alloc)),
+fn read(rt: &impl Host, bytes: &[u8], sector_size: u64) -> String {
+    match read_with_sectors(rt.alloc(), bytes, sector_size) {
+        Ok(table) => {
+            let mut entries = Vec::new(rt.alloc());
+            for (_, entry) in table.iter() {
+                got(rt, entries.extend_from_slice(&entry.encode()));
+            }
+            hex_of(rt, &table.header.encode(), &entries)
+        }
+        Err(error) => text_of(rt, &error),
     }
 }
 
 /// Whether the library reads these bytes, of which a sector has some, as the plain reader does.
-pub(crate) fn is_read_alike(
-    rt: &impl Abort,
-    alloc: Global,
-    bytes: &[u8],
-    sector_size: u64,
-) -> bool {
-    assert!(rt; sector_size > 0);
-    let wanted = expected(rt, alloc, bytes, sector_size);
-    read(rt, alloc, bytes, sector_size).as_str() == wanted.as_str()
+pub(crate) fn is_read_alike(rt: &impl Host, bytes: &[u8], sector_size: u64) -> bool {
+    let wanted = expected(rt, bytes, sector_size);
+    read(rt, bytes, sector_size).as_str() == wanted.as_str()
 }

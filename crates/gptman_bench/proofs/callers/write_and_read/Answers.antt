@@ -1,6 +1,6 @@
 use Rattle.gptman.specs.Table.{table_in}
 use Rattle.gptman_bench.proofs.ReadBack.{read_back}
-use Rattle.gptman_bench.proofs.writing.write_and_read.Goals as goal
+use Rattle.gptman_bench.proofs.callers.write_and_read.Goals as goal
 
 pub returns : goal.returns
 returns g c = λ start.

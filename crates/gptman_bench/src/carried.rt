@@ -1,0 +1,51 @@
+//! Tests of the Rust crate, each under its own name, over disks made from numbers.
+
+use crate::asserts::{Host, got};
+use crate::fixtures::{disk_1, disk_2, image_of, put};
+use crate::memory::holding;
+use gptman::{GPT, GPTHeader};
+use std::process::Abort;
+
+mod alignment;
+mod places;
+mod reading;
+mod writing;
+
+// What is read of the two disks, and of their backup copies.
+const DISK_1: &str = "512 1/99/2 34..66 align 2, 1 Foo 34..43, 2 Bar 48..52";
+
+const BACKUP_1: &str = "512 99/1/67 34..66 align 2, 1 Foo 34..43, 2 Bar 48..52";
+
+const DISK_2: &str = "4096 1/99/2 6..94 align 2, 1 Foo 6..15, 2 Bar 70..79";
+
+const BACKUP_2: &str = "4096 99/1/95 6..94 align 2, 1 Foo 6..15, 2 Bar 70..79";
+
+// The table that is found on a disk with this one.
+fn found_of(rt: &impl Host, table: &GPT) -> GPT {
+    let mut disk = holding(rt, rt.alloc(), &image_of(rt, rt.alloc(), table));
+    got(rt, GPT::find_from(rt.alloc(), &mut disk))
+}
+
+// The table that is found on the first disk.
+fn first(rt: &impl Host) -> GPT {
+    found_of(rt, &got(rt, disk_1(rt.alloc())))
+}
+
+// The table that is found on the second disk.
+fn second(rt: &impl Host) -> GPT {
+    found_of(rt, &got(rt, disk_2(rt.alloc())))
+}
+
+// Puts the header of the table into sector 1 of the image, with 1 as its checksum.
+fn break_primary(rt: &impl Abort, image: &mut [u8], table: &GPT) {
+    let header = GPTHeader {
+        crc32_checksum: 1,
+        ..table.header
+    };
+    put(
+        rt,
+        image,
+        table.sector_size.min(4096) as usize,
+        &header.encode(),
+    );
+}
