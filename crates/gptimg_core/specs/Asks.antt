@@ -1,12 +1,16 @@
 -- What a command line asks for.
-use Rattle.std.specs.Prelude.{◌≡◌, Bool, true, false, List, Option, Some, None, String}
-use Rattle.gptimg_core.specs.Words.{command_in, texts_of}
+use Rattle.std.specs.Prelude.{◌≡◌, Bool, true, false, List, String}
+use Rattle.gptimg_core.specs.Spelling.{texts_of, IsAllowed, IsSpelled}
 use Rattle.gptimg_core.specs.declared.words.Command.{Command}
 use Rattle.gptimg_core.specs.declared.words.Command.TheVariants.{New, Mbr, Check, Show, Free, Change as Changing}
 
--- the words ask for this command
+-- the words ask for this command: they spell it, and its values are allowed
 abbrev pub AskFor : {A : Type 0} → List (String A) → Command → Type 0
-AskFor words command = command_in (texts_of words) ≡ Some command
+AskFor words command = IsSpelled (texts_of words) command × IsAllowed command
+
+-- they ask for a command
+abbrev pub AskForAny : {A : Type 0} → List (String A) → Type 0
+AskForAny words = (command : Command) × AskFor words command
 
 -- whether the command writes to the disk; the others only read
 abbrev pub writes : Command → Bool
@@ -17,7 +21,6 @@ writes (Show size) = false
 writes (Free size align) = false
 writes (Changing size change) = true
 
--- the same of the command that is asked for, if there is one
-abbrev pub writes_if_any : Option Command → Bool
-writes_if_any None = false
-writes_if_any (Some command) = writes command
+-- the words ask for a command that writes
+abbrev pub AskToWrite : {A : Type 0} → List (String A) → Type 0
+AskToWrite words = (command : Command) × AskFor words command × (writes command ≡ true)

@@ -1,5 +1,6 @@
--- What the words of a command line ask for. A text is the list of its bytes.
-use Rattle.std.specs.Prelude.{ℕ, ◌^◌, ◌<◌, ◌&&◌, Bool, true, false, IfSome, List, [], ◌∷◌, length, map, codes, replicate, nat_eq, nat_lt, bytes_eq, Option, Some, None, String, string_bytes, if◌then◌else◌}
+-- How `src/words.rt` reads words, step by step; a text is the list of its bytes. What the words ask for is `IsSpelled` of `Spelling`, which knows no step:
+-- `command_in` answers the command that is spelled, where its values are allowed, and none else.
+use Rattle.std.specs.Prelude.{ℕ, ◌^◌, ◌<◌, ◌&&◌, Bool, true, false, IfSome, List, [], ◌∷◌, length, codes, replicate, nat_eq, nat_lt, bytes_eq, Option, Some, None, if◌then◌else◌}
 use Rattle.std.specs.Option.{option_map, option_and_then}
 use Rattle.std.specs.Result.{result_ok}
 use Rattle.std.specs.List.{list_all}
@@ -13,10 +14,6 @@ use Rattle.gptimg_core.specs.declared.words.Choice.{Choice}
 use Rattle.gptimg_core.specs.declared.words.Choice.TheVariants.{First, Last, Best}
 use Rattle.gptimg_core.specs.declared.words.Command.{Command}
 use Rattle.gptimg_core.specs.declared.words.Command.TheVariants.{New, Mbr, Check, Show, Free, Change as Changing}
-
--- the bytes of each word
-abbrev pub texts_of : {A : Type 0} → List (String A) → List (List ℕ)
-texts_of words = map string_bytes words
 
 -- one or more decimal digits whose value fits in 64 bits
 abbrev pub number_in : List ℕ → Option ℕ
@@ -83,9 +80,9 @@ abbrev pub free_in : List ℕ → List (List ℕ) → Option Command
 free_in sector (align ∷ []) = option_and_then (λ size. option_map (λ n. Free size n) (size_in align)) (sector_size_in sector)
 free_in sector _ = None
 
--- `NUMBER TYPE UNIQUE SIZE WHERE ALIGN NAME`
-abbrev pub addition_in : List (List ℕ) → Option Addition
-addition_in (number ∷ type ∷ unique ∷ size ∷ choice ∷ align ∷ name ∷ []) =
+-- an addition of what its words give
+abbrev pub addition_of : Option ℕ → Option (List ℕ) → Option (List ℕ) → Option ℕ → Option Choice → Option ℕ → List ℕ → Option Addition
+addition_of number type unique size choice align name =
     option_and_then (λ number. option_and_then (λ type_guid. option_and_then (λ unique_guid. option_and_then (λ size. option_and_then (λ choice.
     option_map (λ align. record {
       number = number;
@@ -96,7 +93,12 @@ addition_in (number ∷ type ∷ unique ∷ size ∷ choice ∷ align ∷ name �
       align = align;
       name = name;
     })
-    (size_in align)) (choice_in choice)) (size_in size)) (guid_in unique)) (type_in type)) (entry_number_in number)
+    align) choice) size) unique) type) number
+
+-- `NUMBER TYPE UNIQUE SIZE WHERE ALIGN NAME`
+abbrev pub addition_in : List (List ℕ) → Option Addition
+addition_in (number ∷ type ∷ unique ∷ size ∷ choice ∷ align ∷ name ∷ []) =
+    addition_of (entry_number_in number) (type_in type) (guid_in unique) (size_in size) (choice_in choice) (size_in align) name
 addition_in _ = None
 
 -- `NUMBER`

@@ -4,13 +4,13 @@
 //! standard output.
 #![tactic(auto)]
 
-ghost use Rattle.std.specs.Prelude.{◌≡◌, ◌≤◌, ◌↔◌, Ok, None, false, IfErr, IfOk, OnOk};
+ghost use Rattle.std.specs.Prelude.{◌≡◌, ◌≢◌, ◌≤◌, ◌↔◌, ℕ, List, Ok, IfErr, IfOk, IsTrue, OnOk};
 ghost use Rattle.std.specs.Io.KnownBytes.{Appends};
 ghost use Rattle.gptman.specs.Disk.{IsHonest, Keeps, OnlyRead};
 ghost use Rattle.gptman.specs.Fault.{fault_of, io as io_fault};
-ghost use Rattle.gptimg_core.specs.Asks.{writes_if_any, AskFor};
+ghost use Rattle.gptimg_core.specs.Asks.{AskFor, AskForAny, AskToWrite};
 ghost use Rattle.gptimg_core.specs.Prints.{told_status, Runs};
-ghost use Rattle.gptimg_core.specs.Words.{command_in, texts_of};
+ghost use Rattle.gptimg_core.specs.Spelling.{spell, IsAllowed, IsSpelled};
 ghost use Rattle.gptimg_core.specs.declared.words.Command.{Command};
 
 use crate::commands::Report;
@@ -66,13 +66,14 @@ pub fn run<D: Disk, W: Write>(
 
     // What is answered.
     ensures status { IfOk result (λ status. status ≤ 2) }
-    ensures asks { IfOk result (λ status. (status ≡ 2) ↔ (command_in (texts_of words.now) ≡ None)) }
+    ensures asks { IfOk result (λ status. (status ≡ 2) ↔ ¬ AskForAny words.now) }
+    ensures asked { IfOk result (λ status. status ≢ 2 → AskForAny words.now) }
     ensures refused { IfErr result (λ e. fault_of e ≡ io_fault) }
 
     // Words of no command leave the disk alone, and print how the program is used.
     ensures usage { result ≡ Ok 2 → disk.new ≡ disk.old }
-    ensures not_asked { command_in (texts_of words.now) ≡ None → disk.new ≡ disk.old }
-    ensures prints_usage { command_in (texts_of words.now) ≡ None
+    ensures not_asked { ¬ AskForAny words.now → disk.new ≡ disk.old }
+    ensures prints_usage { ¬ AskForAny words.now
         → OnOk result (Appends (W.contents out.old) (W.contents out.new) USAGE.now) }
 
     // Words of a command have it done, and print what there is to tell of it.
@@ -81,7 +82,7 @@ pub fn run<D: Disk, W: Write>(
         (W.contents out.old) (W.contents out.new) }
 
     // Nothing is written but by a command that writes.
-    ensures reads { IsHonest (D.state disk.old) → writes_if_any (command_in (texts_of words.now)) ≡ false
+    ensures reads { IsHonest (D.state disk.old) → ¬ AskToWrite words.now
         → OnlyRead (D.state disk.old) (D.state disk.new) }
 {
     let Some(command) = words::parse(words) else {
@@ -96,13 +97,25 @@ pub fn run<D: Disk, W: Write>(
 /// Whether the words `SECTOR COMMAND ..` ask for a command that writes to the disk. With any others `run`
 /// only reads it, if at all.
 pub fn may_write(words: &[String]) -> bool
-    ensures { result ≡ writes_if_any (command_in (texts_of words.now)) }
+    ensures { IsTrue result ↔ AskToWrite words.now }
 {
     match words::parse(words) {
         Some(command) => command.writes(),
         None => false,
     }
 }
+
+/// Each command whose values are allowed is spelled by its usual words: decimal numbers without zeros
+/// in front, and digits in lower case. This call does nothing.
+pub fn usual_words_spell()
+    ensures { (command : Command) → IsAllowed command → IsSpelled (spell command) command }
+{}
+
+/// Words spell one such command at most. This call does nothing.
+pub fn words_spell_one()
+    ensures { (words : List (List ℕ)) (a b : Command) → IsSpelled words a → IsAllowed a
+        → IsSpelled words b → IsAllowed b → a ≡ b }
+{}
 
 // The status to end with, where this is what there is to tell.
 fn status_of(told: &Result<Report>) -> u8

@@ -2,11 +2,13 @@
 //!
 //! No disk is known here. Words that ask for no command are `None`, whatever is wrong with them.
 
-ghost use Rattle.std.specs.Prelude.{◌≡◌, IfSome};
-ghost use Rattle.gptimg_core.specs.Asks.{writes};
+ghost use Rattle.std.specs.Prelude.{◌≡◌, IfSome, Some};
+ghost use Rattle.gptimg_core.specs.Asks.{writes, AskFor};
+ghost use Rattle.gptimg_core.specs.Spelling.{spell, texts_of, IsAllowed};
 ghost use Rattle.gptimg_core.specs.Words.{addition_in, alone, change_in, named_change_in, named_command_in};
-ghost use Rattle.gptimg_core.specs.Words.{check_in, command_in, free_in, mbr_in, new_in, remove_in, show_in};
-ghost use Rattle.gptimg_core.specs.Words.{texts_of, IsSized, IsSizedAddition, IsSizedChange};
+ghost use Rattle.gptimg_core.specs.Words.{check_in, free_in, mbr_in, new_in, remove_in, show_in};
+ghost use Rattle.gptimg_core.specs.Words.{IsSized, IsSizedAddition, IsSizedChange};
+ghost use Rattle.gptimg_core.specs.declared.words.Command.{Command};
 
 use crate::words::values::{
     parse_choice, parse_entry_number, parse_guid, parse_kind, parse_sector_size, parse_size,
@@ -129,7 +131,10 @@ pub enum Choice {
 /// What the words `SECTOR COMMAND ..` ask for.
 pub fn parse(words: &[String]) -> Option<Command<'_>>
     ensures sized { IfSome result IsSized }
-    ensures value { result ≡ command_in (texts_of words.now) }
+    ensures spelled { IfSome result (λ command. AskFor words.now command) }
+    ensures only { (command : Command) → AskFor words.now command → result ≡ Some command }
+    ensures usual { (command : Command) → IsAllowed command → texts_of words.now ≡ spell command
+        → result ≡ Some command }
 {
     let [sector, name, arguments @ ..] = words else {
         return None;

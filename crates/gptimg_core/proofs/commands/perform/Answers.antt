@@ -1,9 +1,8 @@
-use Rattle.std.proofs.Common.{◌≡◌, inl, refl, sym, subst, IsTrue}
+use Rattle.std.proofs.Common.{inl, refl, sym, subst, IsTrue}
 use Rattle.std.specs.Prelude.{Result, Ok, Err, IfOk}
 use Rattle.gptman.specs.declared.table.GPT.{GPT}
 use Rattle.gptman_copy.specs.declared.error.Error.{Error}
-use Rattle.gptman_change.specs.Planning.{IsAnswer}
-use Rattle.gptimg_core.specs.Changes.{report_of, IsMade}
+use Rattle.gptimg_core.specs.Changes.{report_of}
 use Rattle.gptimg_core.specs.Checks.{is_good}
 use Rattle.gptimg_core.specs.declared.commands.Report.{Report}
 use Rattle.gptimg_core.specs.declared.words.Change.{Change}
