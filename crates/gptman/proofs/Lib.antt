@@ -30,6 +30,7 @@ pub mod Places
 pub mod Placing
 pub mod ReadAlone
 pub mod ReadBack
+mod ReadBefore
 pub mod ReadKept
 pub mod ReadingLaw
 pub mod SameTable

@@ -1,5 +1,5 @@
 -- Both copies of a table, written one after the other.
-use Rattle.std.proofs.Common.{◌≡◌, ◌⊎◌, ◌&&◌, ℕ, Bool, true, false, List, [], ◌∷◌, ◌++◌, length, None, sym, ap, ◌∙◌, subst, inl, inr}
+use Rattle.std.proofs.Common.{◌≡◌, ◌&&◌, ℕ, Bool, true, false, List, [], ◌∷◌, ◌++◌, length, None, sym, ap, ◌∙◌, subst}
 use Rattle.std.specs.List.{list_all}
 use Rattle.std.proofs.lemmas.Bool.{and_parts}
 use Rattle.std.proofs.lemmas.List.Folds.{list_all-append}
@@ -7,7 +7,7 @@ use Rattle.gptman_copy.specs.Disk.{AgreesOutside, DiskState, Wrote}
 use Rattle.gptman_copy.specs.Ranges.{AreApart}
 use Rattle.gptman_copy.specs.Fault.{Fault, overflow, no_space_left, first_failing}
 use Rattle.gptman_copy.specs.Copy.{with_checksums}
-use Rattle.gptman_copy.specs.Write.{other_header, write_ranges, both_ranges, copy_write_fault, write_fault, has_other_header, is_addressable, is_inside, HasBytes, IsCopyLaid}
+use Rattle.gptman_copy.specs.Write.{other_header, write_ranges, both_ranges, copy_write_fault, write_fault, has_other_header, is_addressable, is_inside, HasBytes}
 use Rattle.gptman_copy.specs.declared.codec.header.GPTHeader.{GPTHeader}
 use Rattle.gptman_copy.specs.declared.codec.entry.GPTPartitionEntry.{GPTPartitionEntry}
 use Rattle.gptman.proofs.Apart.{apart_exchanged}
@@ -15,16 +15,14 @@ use Rattle.gptman.proofs.LaidCopies.{laid_both}
 use Rattle.gptman.proofs.Sealing.{sealed_count, sealed_ranges}
 use Rattle.gptman.proofs.TwoSides.{IsCopied}
 use Rattle.gptman_copy.proofs.FirstFailing.{tests_pass}
-use Rattle.gptman_copy.proofs.Ranges.{Ranges, within_left, within_none, within_right}
+use Rattle.gptman_copy.proofs.Ranges.{Ranges, within_left, within_right}
 use Rattle.gptman_copy.proofs.Runs.{wrote_then, wrote_wider}
 
--- the other copy is written after calls that only read
-pub wrote_other : {a b c : DiskState} (h other : GPTHeader) (ss : ℕ) → other ≡ other_header h → Wrote [] a b → Wrote (write_ranges other ss) b c → Wrote (both_ranges h ss) a c
-wrote_other {a} {b} {c} h other ss is read wrote =
-    wrote_then (within_right (write_ranges h ss) (write_ranges (other_header h) ss)) (wrote_wider within_none read)
-    (subst (λ (x : GPTHeader). Wrote (write_ranges x ss) b c) is wrote)
+-- the other copy is written, and then the own one
+pub wrote_other : {a b : DiskState} (h other : GPTHeader) (ss : ℕ) → other ≡ other_header h → Wrote (write_ranges other ss) a b → Wrote (both_ranges h ss) a b
+wrote_other {a} {b} h other ss is wrote =
+    wrote_wider (within_right (write_ranges h ss) (write_ranges (other_header h) ss)) (subst (λ (x : GPTHeader). Wrote (write_ranges x ss) a b) is wrote)
 
--- and then the own one
 pub wrote_own : {a b c : DiskState} (h : GPTHeader) (ss : ℕ) → Wrote (both_ranges h ss) a b → Wrote (write_ranges h ss) b c → Wrote (both_ranges h ss) a c
 wrote_own h ss other own = wrote_then (within_left (write_ranges h ss) (write_ranges (other_header h) ss)) other own
 
@@ -53,17 +51,15 @@ both_allowed h ss len none =
       inside = pass.1.0;
     }
 
--- and both lie on the disk
-pub allowed_inside : {R : Type 0} (h : GPTHeader) (ss : ℕ) (disk : DiskState) → length disk.view ≡ disk.size → (None ≡ write_fault h ss disk.size) ⊎ (⊥ × R)
+pub room_inside : (h : GPTHeader) (ss : ℕ) (disk : DiskState) → length disk.view ≡ disk.size → write_fault h ss disk.size ≡ None
     → list_all (is_inside (length disk.view)) (both_ranges h ss) ≡ true
-allowed_inside h ss disk long (inl is) = (both_allowed h ss (length disk.view) (ap (write_fault h ss) long ∙ sym is)).inside
-allowed_inside h ss disk long (inr fails) = absurd fails.0
+room_inside h ss disk long room = (both_allowed h ss (length disk.view) (ap (write_fault h ss) long ∙ room)).inside
 
 -- Both copies stand where both were copied, off the layout too, where their ranges are apart and nothing was refused.
-pub copied_stand : (h : GPTHeader) (es : List GPTPartitionEntry) (ss : ℕ) (a s b c : DiskState) → AreApart (both_ranges h ss) → list_all (is_inside (length a.view)) (both_ranges h ss) ≡ true
-    → length es ≡ h.number_of_partition_entries → s.view ≡ a.view → IsCopied (other_header h) es ss s b → Wrote (write_ranges h ss) b c → IsCopied h es ss b c
+pub copied_stand : (h : GPTHeader) (es : List GPTPartitionEntry) (ss : ℕ) (a b c : DiskState) → AreApart (both_ranges h ss) → list_all (is_inside (length a.view)) (both_ranges h ss) ≡ true
+    → length es ≡ h.number_of_partition_entries → IsCopied (other_header h) es ss a b → Wrote (write_ranges h ss) b c → IsCopied h es ss b c
     → HasBytes c.view (with_checksums h es) es ss × HasBytes c.view (with_checksums (other_header h) es) es ss
-copied_stand h es ss a s b c apart lies count read first second own =
+copied_stand h es ss a b c apart lies count first second own =
     let mine : Ranges = write_ranges h ss in
     let theirs : Ranges = write_ranges (other_header h) ss in
     let mine_is = sealed_ranges h es ss in
@@ -73,7 +69,6 @@ copied_stand h es ss a s b c apart lies count read first second own =
     let ranges : theirs ++ mine ≡ write_ranges (with_checksums (other_header h) es) ss ++ write_ranges (with_checksums h es) ss = λ i. sym theirs_is i ++ sym mine_is i in
     let both = laid_both a.view b.view c.view (with_checksums (other_header h) es) (with_checksums h es) es ss (subst AreApart ranges (apart_exchanged mine theirs apart))
     (subst P (sym theirs_is) inside.1) (subst P (sym mine_is) inside.0) first.fits.0 own.fits.0 first.fits.1
-    (count ∙ sym (sealed_count (other_header h) es)) (count ∙ sym (sealed_count h es))
-    (subst (λ (v : List ℕ). IsCopyLaid (with_checksums (other_header h) es) es ss v b.view) read first.laid) own.laid
+    (count ∙ sym (sealed_count (other_header h) es)) (count ∙ sym (sealed_count h es)) first.laid own.laid
     (subst (λ (rs : Ranges). AgreesOutside rs b.view c.view) (sym mine_is) second.view) in
     (both.1, both.0)

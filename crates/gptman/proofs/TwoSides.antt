@@ -4,7 +4,7 @@ use Rattle.std.specs.List.{All, Contains}
 use Rattle.std.proofs.lemmas.List.{length-map}
 use Rattle.gptman_copy.specs.Coding.{FitsHeader, FitsEntry}
 use Rattle.gptman_copy.specs.Copy.{with_checksums}
-use Rattle.gptman_copy.specs.Disk.{DiskState, Image, LeavesOnly, OnlyRead, Outside, Untouched, Wrote, Within}
+use Rattle.gptman_copy.specs.Disk.{DiskState, Image, LeavesOnly, Outside, Untouched, Wrote, Within}
 use Rattle.gptman_copy.specs.Ranges.{AgreesInside, AreApart, AreClear, AreInside}
 use Rattle.gptman_copy.specs.Write.{other_header, header_range, write_ranges, FitsCopy, HasBytes, IsCopyLaid}
 use Rattle.gptman.specs.Crash.{other_side, BothSidesAfter, IsLeftAlone, SideAfter, StartsFromOne, StartsLaidOut, StartsSynced}
@@ -16,8 +16,8 @@ use Rattle.gptman.specs.Table.{Table, entries_in, table_in, table_of, IsHeaderFo
 use Rattle.gptman_copy.specs.declared.codec.header.GPTHeader.{GPTHeader}
 use Rattle.gptman_copy.specs.declared.codec.entry.GPTPartitionEntry.{GPTPartitionEntry}
 use Rattle.gptman.specs.declared.table.GPT.{GPT}
-use Rattle.gptman_copy.proofs.Ranges.{Ranges, contains_first, contains_later, within_none}
-use Rattle.gptman_copy.proofs.Runs.{wrote_then, wrote_wider}
+use Rattle.gptman_copy.proofs.Ranges.{Ranges, contains_first, contains_later}
+use Rattle.gptman_copy.proofs.Runs.{wrote_wider}
 use Rattle.gptman.proofs.Apart.{clear_if_apart}
 use Rattle.gptman.proofs.Argument.{Came, IsToldBy, at_any_moment, clear_ranges, held_in_any_image, held_stored, only_read, other_begun, own_begun, stays, untouched_ranges, written}
 use Rattle.gptman.proofs.FourRanges.{form_ranges, other_ranges, sides_apart, sides_clear}
@@ -134,40 +134,35 @@ module _ (side : Side) (h : GPTHeader) (es : List GPTPartitionEntry) (ss len : �
   own_run : (a b : DiskState) → Wrote (write_ranges h ss) a b → Wrote own a b
   own_run a b run = wrote_wider (subst (λ (rs : Ranges). Within (write_ranges h ss) rs) (sym (form_ranges side h es ss len form laid)) (within_copy h ss)) run
 
-  other_run : (o : GPTHeader) (a s b : DiskState) → o ≡ other_header h → OnlyRead a s → Wrote (write_ranges o ss) s b → Wrote other a b
-  other_run o a s b is read run =
-      let within : Within (write_ranges (other_header h) ss) other =
-      subst (λ (rs : Ranges). Within (write_ranges (other_header h) ss) rs) (sym (other_ranges side h es ss len form laid)) (within_copy (other_header h) ss) in
-      wrote_then within (wrote_wider within_none read.wrote) (subst (λ (x : GPTHeader). Wrote (write_ranges x ss) s b) is run)
+  other_run : (a b : DiskState) → Wrote (write_ranges (other_header h) ss) a b → Wrote other a b
+  other_run a b run = wrote_wider (subst (λ (rs : Ranges). Within (write_ranges (other_header h) ss) rs) (sym (other_ranges side h es ss len form laid)) (within_copy (other_header h) ss)) run
 
   other_start : (other_header h).primary_lba * ss ≡ copy_start (other_side side) len ss
   other_start = written_start (other_side side) (other_header h) es ss len (other_form side h form) (subst (λ (u : Table). IsLaidOut u ss len) (sym (other_table h es)) laid)
 
   -- the other copy was begun
-  pub first_fails : (o : GPTHeader) (a s b : DiskState) → o ≡ other_header h → OnlyRead a s → Wrote (write_ranges o ss) s b
-      → Untouched s b ⊎ Contains b.pending (header_range o ss) → Comes a b
-  first_fails o a s b is read run begun = other_begun (other_run o a s b is read run) (⊎_elim
-      (λ still. inl (record { view = still.view ∙ read.view; pending = still.pending ∙ read.pending }))
-      (λ torn. inr (subst (λ (n : ℕ). Contains b.pending (n, 92)) (ap (λ (x : GPTHeader). x.primary_lba * ss) is ∙ other_start) torn)) begun)
+  pub first_fails : (a b : DiskState) → Wrote (write_ranges (other_header h) ss) a b → Untouched a b ⊎ Contains b.pending (header_range (other_header h) ss) → Comes a b
+  first_fails a b run begun =
+      other_begun (other_run a b run) (⊎_elim (λ still. inl still) (λ torn. inr (subst (λ (n : ℕ). Contains b.pending (n, 92)) other_start torn)) begun)
 
   -- it is held once it was copied
-  other_held : (a s b : DiskState) → len < 2 ^ 64 → length a.view ≡ len → OnlyRead a s → IsCopied (other_header h) es ss s b → HeldAt len ss (other_side side) t b.view
-  other_held a s b small long read copy =
-      copied_held (other_side side) (other_header h) es t ss len s b (other_table h es) (other_form side h form) laid small (ap (λ (v : List ℕ). length v) read.view ∙ long) copy
+  other_held : (a b : DiskState) → len < 2 ^ 64 → length a.view ≡ len → IsCopied (other_header h) es ss a b → HeldAt len ss (other_side side) t b.view
+  other_held a b small long copy =
+      copied_held (other_side side) (other_header h) es t ss len a b (other_table h es) (other_form side h form) laid small long copy
 
   -- and then the own one was begun
-  pub second_fails : (o : GPTHeader) (a s b c : DiskState) → len < 2 ^ 64 → length a.view ≡ len → o ≡ other_header h → OnlyRead a s → Wrote (write_ranges o ss) s b
-      → IsCopied (other_header h) es ss s b → Wrote (write_ranges h ss) b c → Untouched b c ⊎ Contains c.pending (header_range h ss) → Comes a c
-  second_fails o a s b c small long is read run copy second begun =
-      own_begun b (other_run o a s b is read run) copy.synced (other_held a s b small long read copy) (own_run b c second) (⊎_elim (λ still. inl still)
+  pub second_fails : (a b c : DiskState) → len < 2 ^ 64 → length a.view ≡ len → Wrote (write_ranges (other_header h) ss) a b → IsCopied (other_header h) es ss a b
+      → Wrote (write_ranges h ss) b c → Untouched b c ⊎ Contains c.pending (header_range h ss) → Comes a c
+  second_fails a b c small long run copy second begun =
+      own_begun b (other_run a b run) copy.synced (other_held a b small long copy) (own_run b c second) (⊎_elim (λ still. inl still)
       (λ torn. inr (subst (λ (n : ℕ). Contains c.pending (n, 92)) (written_start side h es ss len form laid) torn)) begun)
 
   -- or both were written
-  pub both_done : (o : GPTHeader) (a s b c : DiskState) → len < 2 ^ 64 → length a.view ≡ len → o ≡ other_header h → OnlyRead a s → Wrote (write_ranges o ss) s b
-      → IsCopied (other_header h) es ss s b → Wrote (write_ranges h ss) b c → IsCopied h es ss b c → Comes a c
-  both_done o a s b c small long is read run copy second done =
-      let first = other_held a s b small long read copy in
-      written b (other_run o a s b is read run) copy.synced first (own_run b c second) done.synced (copied_held side h es t ss len b c refl form laid small first.0 done)
+  pub both_done : (a b c : DiskState) → len < 2 ^ 64 → length a.view ≡ len → Wrote (write_ranges (other_header h) ss) a b → IsCopied (other_header h) es ss a b
+      → Wrote (write_ranges h ss) b c → IsCopied h es ss b c → Comes a c
+  both_done a b c small long run copy second done =
+      let first = other_held a b small long copy in
+      written b (other_run a b run) copy.synced first (own_run b c second) done.synced (copied_held side h es t ss len b c refl form laid small first.0 done)
 
   -- ---- so from one good copy, a stop at any moment leaves the old table or the new one
 
@@ -220,10 +215,10 @@ module _ (side : Side) (h : GPTHeader) (es : List GPTPartitionEntry) (ss len : �
 
   -- ---- after Ok both sides hold it
 
-  pub stored_both : (a s b c : DiskState) → len < 2 ^ 64 → length a.view ≡ len → OnlyRead a s → IsCopied (other_header h) es ss s b → Wrote (write_ranges h ss) b c
+  pub stored_both : (a b c : DiskState) → len < 2 ^ 64 → length a.view ≡ len → IsCopied (other_header h) es ss a b → Wrote (write_ranges h ss) b c
       → IsCopied h es ss b c → Holds c.view ss side t × Holds c.view ss (other_side side) t
-  stored_both a s b c small long read copy second done =
-      let first = other_held a s b small long read copy in (
+  stored_both a b c small long copy second done =
+      let first = other_held a b small long copy in (
         (copied_held side h es t ss len b c refl form laid small first.0 done).1,
         (stays (HeldAt len ss (other_side side) t) other own b.view c.view (held_told len ss (other_side side) t) other_clear first (own_run b c second).view).1,
       )
@@ -254,10 +249,10 @@ module _ (g : GPT) (a c : DiskState) (long : length a.view ≡ a.size) where
       (own_after at.side g.header (entries_in g) g.sector_size a.size at.form at.table a c refl from.synced here)
       (other_after at.side g.header (entries_in g) g.sector_size a.size at.form at.table a c refl from.synced here)
 
-  pub stored_of : (s b : DiskState) → a.size < 2 ^ 64 → StartsLaidOut a g → OnlyRead a s → IsCopied (other_header g.header) (entries_in g) g.sector_size s b
+  pub stored_of : (b : DiskState) → a.size < 2 ^ 64 → StartsLaidOut a g → IsCopied (other_header g.header) (entries_in g) g.sector_size a b
       → Wrote (write_ranges g.header g.sector_size) b c → IsCopied g.header (entries_in g) g.sector_size b c → IsStored c g.sector_size (table_in g)
-  stored_of s b small start read copy second done =
+  stored_of b small start copy second done =
       let at = start.layout in
-      let both = stored_both at.side g.header (entries_in g) g.sector_size a.size at.form at.table a s b c small long read copy second done in
+      let both = stored_both at.side g.header (entries_in g) g.sector_size a.size at.form at.table a b c small long copy second done in
       let named = by_name (λ p. Holds c.view g.sector_size p (table_in g)) at.side both.0 both.1 in
       record { synced = done.synced; at_primary = named.0; at_backup = named.1 }

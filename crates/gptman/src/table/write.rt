@@ -19,7 +19,7 @@ ghost use Rattle.gptman.specs.Stop.{IsStored, StopsAreReadAs, StopsHold};
 ghost use Rattle.gptman.specs.Table.{entries_in, table_in, Table};
 ghost use Rattle.gptman.specs.TableWrites.{other_with_checksums, table_ranges, table_write_fault};
 ghost use Rattle.gptman.specs.TableWrites.{value_with_checksums};
-ghost use Rattle.gptman.specs.TableWrites.{HasBothCopies, IsButSums, IsFailureOrMemory};
+ghost use Rattle.gptman.specs.TableWrites.{HasBothCopies, HasRoomOn, IsButSums, IsFailureOrMemory};
 ghost use Rattle.gptman.specs.TableWrites.{MayBeWritten, RefusesAtOnce, RefusesUnwritten, RefusesWrite};
 ghost use Rattle.gptman.specs.Valid.{IsValid};
 
@@ -114,8 +114,37 @@ impl GPT {
         check(alloc, &self.header, self.partitions.as_slice())?;
 
         // No memory is taken from here on.
+        let other = self.writable_other(disk)?;
+        self.write_both(disk, other)
+    }
+
+    // Writes both copies, where neither is refused: the other one, which gets this header, and then the
+    // own one.
+    fn write_both<D: Disk>(&mut self, disk: &mut D, mut other: GPTHeader) -> Result<GPTHeader>
+        requires sector { 0 < self.old.sector_size }
+        requires coherent { IsCoherent self.old.header (entries_in self.old) }
+        requires other { other ≡ other_header self.old.header }
+        requires room { HasRoomOn self.old (D.state disk.old).size }
+        ensures keeps { Keeps (D.state disk.old) (D.state disk.new) }
+        ensures counts { CountsFailure result (D.state disk.old) (D.state disk.new) }
+        ensures once { HasFailedOnceAtMost (D.state disk.old) (D.state disk.new) }
+        ensures refused { IfErr result (λ e. IsFailure (fault_of e) (D.state disk.old) (D.state disk.new)) }
+        ensures value { OnOk result (self.new ≡ value_with_checksums self.old) }
+        ensures sums { IsButSums self.old self.new }
+        ensures other { IfOk result (λ h. h ≡ other_with_checksums self.old) }
+        ensures wrote { Writes (table_ranges self.old) (D.state disk.old) (D.state disk.new) }
+        ensures synced { IsHonest (D.state disk.old) → OnOk result ((D.state disk.new).pending ≡ []) }
+        ensures laid { IsHonest (D.state disk.old) → AreApart (table_ranges self.old)
+            → IfOk result (HasBothCopies (D.state disk.new).view self.new) }
+        ensures stored { StartsLaidOut (D.state disk.old) self.old
+            → OnOk result (IsStored (D.state disk.new) self.old.sector_size (table_in self.old)) }
+        ensures one_good { (was : Table) → StartsFromOne (D.state disk.old) self.old was
+            → StopsHold (D.state disk.old) (D.state disk.new) self.old.sector_size
+            (was ∷ table_in self.old ∷ []) }
+        ensures after { StartsSynced (D.state disk.old) self.old
+            → OnErr result (BothSidesAfter self.old (D.state disk.old) (D.state disk.new)) }
+    {
         let sector_size = self.sector_size;
-        let mut other = self.writable_other(disk)?;
         let entries = self.partitions.as_slice();
         let checksum = self.header.generate_partition_entry_array_crc32(entries);
         write_and_sync(disk, &mut other, sector_size, entries, checksum)?;

@@ -1,0 +1,69 @@
+-- A write after calls that only read: what it begins with, and what it leaves, are as if these calls were not.
+use Rattle.std.proofs.Common.{◌≡◌, true, ℕ, List, [], ◌∷◌, length, sym, ◌∙◌, subst}
+use Rattle.std.specs.List.{Contains}
+use Rattle.gptman_copy.specs.Disk.{DiskState, Reads, Wrote}
+use Rattle.gptman_copy.specs.Ranges.{AgreesInside, AreClear}
+use Rattle.gptman.specs.Crash.{BothSidesAfter, IsLeftAlone, SideAfter, StartsFromOne, StartsLaidOut, StartsSynced, other_side}
+use Rattle.gptman.specs.Crash.SideAfter.{left_alone, written, torn}
+use Rattle.gptman.specs.Layout.{HasLayout, Holds, ranges_at}
+use Rattle.gptman.specs.Reading.{Side, copy_start}
+use Rattle.gptman.specs.Stop.{HoldsOneOf, StopsHold}
+use Rattle.gptman.specs.Table.{Table, table_in}
+use Rattle.gptman.specs.declared.table.GPT.{GPT}
+use Rattle.gptman_copy.proofs.Ranges.{Ranges, within_none, within_self}
+use Rattle.gptman_copy.proofs.Runs.{leaves_then, wrote_then, wrote_wider}
+use Rattle.gptman.proofs.Argument.{only_read}
+use Rattle.gptman.proofs.TwoSides.{good_of}
+
+module _ (g : GPT) (a b : DiskState) (read : Reads a b) where
+  pub laid_out_still : StartsLaidOut a g → StartsLaidOut b g
+  laid_out_still start = record {
+    honest = (read.only start.honest).wrote.honest;
+    layout = subst (HasLayout g) (sym read.keeps.size) start.layout;
+  }
+
+  pub synced_still : StartsSynced a g → StartsSynced b g
+  synced_still from = record { start = laid_out_still from.start; synced = (read.only from.start.honest).pending ∙ from.synced }
+
+  pub one_still : (was : Table) → StartsFromOne a g was → StartsFromOne b g was
+  one_still was from =
+      let only = read.only from.start.honest in
+      let kept = from.kept in
+      record {
+        start = laid_out_still from.start;
+        kept = record {
+          synced = only.pending ∙ kept.synced;
+          side = kept.side;
+          form = kept.form;
+          held = subst (λ (v : List ℕ). Holds v g.sector_size kept.side was) (sym only.view) kept.held;
+          clear = subst (λ (n : ℕ). AreClear (ranges_at kept.side was g.sector_size n) (ranges_at (other_side kept.side) (table_in g) g.sector_size n)) (sym read.keeps.size) kept.clear;
+        };
+      }
+
+  -- a stop while they read leaves the old table
+  pub good_still : (was : Table) → length a.view ≡ a.size → StartsFromOne a g was → StopsHold a b g.sector_size (was ∷ table_in g ∷ [])
+  good_still was long from = good_of g a b long was from (λ side form laid. only_read (read.only from.start.honest))
+
+  -- so where a stop in the write leaves the old table or the new one, a stop in both does
+  pub good_then : (c : DiskState) (ranges : Ranges) (was : Table) → length a.view ≡ a.size → StartsFromOne a g was → Wrote ranges b c → StopsHold b c g.sector_size (was ∷ table_in g ∷ [])
+      → StopsHold a c g.sector_size (was ∷ table_in g ∷ [])
+  good_then c ranges was long from wrote next =
+      leaves_then (λ x. HoldsOneOf x g.sector_size (was ∷ table_in g ∷ [])) (read.only from.start.honest).wrote.time wrote.time (good_still was long from) next
+
+  -- what is written is the same
+  pub wrote_still : (c : DiskState) (ranges : Ranges) → a.is_honest ≡ true → Wrote ranges b c → Wrote ranges a c
+  wrote_still c ranges honest wrote = wrote_then (within_self ranges) (wrote_wider within_none (read.only honest).wrote) wrote
+
+  -- and so is what an error leaves at a side
+  side_still : (c : DiskState) (side : Side) (t : Table) (ss : ℕ) → b.view ≡ a.view → SideAfter side t ss b c → SideAfter side t ss a c
+  side_still c side t ss view (left_alone is) = left_alone (subst (λ (n : ℕ). IsLeftAlone (ranges_at side t ss n) a c) read.keeps.size (record {
+    not_pending = is.not_pending;
+    same = subst (λ (v : List ℕ). AgreesInside (ranges_at side t ss b.size) v c.view) view is.same;
+  }))
+  side_still c side t ss view (written holds) = written holds
+  side_still c side t ss view (torn is) = torn (subst (λ (n : ℕ). Contains c.pending (copy_start side n ss, 92)) read.keeps.size is)
+
+  pub after_still : (c : DiskState) → a.is_honest ≡ true → BothSidesAfter g b c → BothSidesAfter g a c
+  after_still c honest both =
+      let view = (read.only honest).view in
+      (side_still c _ (table_in g) g.sector_size view both.0, side_still c _ (table_in g) g.sector_size view both.1)
