@@ -83,3 +83,7 @@ pub still_pending : {T E : Type 0} (r : Result T E) (bytes : List ℕ) (a b : Di
 still_pending (Ok v) bytes a b laid failed = grown_keeps laid.pending
 still_pending (Err e) bytes a b laid failed =
     ⊎_elim (λ same. subst (λ ps. Within a.pending ps) (sym same.pending) (within_self a.pending)) (λ grown. grown_keeps grown) failed
+
+-- the growth, by what was written and pending before a call that only read
+pub grown_since : (p n at m : ℕ) {before old new : Ranges} → p ≡ at → n ≡ m → old ≡ before → CoverTheSame new ((p, n) ∷ old) → CoverTheSame new ((at, m) ∷ before)
+grown_since p n at m {new = new} at_is size was grown = subst (λ ps. CoverTheSame new ps) (λ i. (at_is i, size i) ∷ was i) grown
