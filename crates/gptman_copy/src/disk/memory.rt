@@ -206,7 +206,8 @@ fn lack_memory(failures: &mut u64) -> io::Error
 }
 
 impl Disk for MemoryDisk {
-    ghost use Rattle.gptman_copy.specs.Fate.{calls_left, history_of, HasNoMemory, HasSync, HasWrite};
+    ghost use Rattle.gptman_copy.specs.Fate.{calls_left, history_of, CountsStops, CountsStopsOfWrite};
+    ghost use Rattle.gptman_copy.specs.Fate.{HasNoMemory, HasSync, HasWrite};
 
     ghost state = { λ d. memory_state d.start.items d.bytes.items d.events.items d.position d.failures };
 
@@ -337,6 +338,10 @@ impl Disk for MemoryDisk {
             ⊎ (serves (calls_left self.old) ≡ false)
             × HasWrite ((⟦<MemoryDisk as Disk>⟧.state self.old).position) buf.now false
             (history_of self.old) (history_of self.new)) }
+        ensures stops { CountsStopsOfWrite result
+            (next_range (⟦<MemoryDisk as Disk>⟧.state self.old) (length buf.now))
+            (history_of self.old) (history_of self.new)
+            (⟦<MemoryDisk as Disk>⟧.state self.old) (⟦<MemoryDisk as Disk>⟧.state self.new) }
         ensures kept { OnErr result (ReadsOnAsBefore (⟦<MemoryDisk as Disk>⟧.state self.old)
             (⟦<MemoryDisk as Disk>⟧.state self.new)) }
         ensures fuse { calls_left self.new ≡ after_call (calls_left self.old) }
@@ -390,6 +395,8 @@ impl Disk for MemoryDisk {
         ensures recorded { OnOk result (HasSync (history_of self.old) (history_of self.new)) }
         ensures refused { IfErr result (λ e. HasNoMemory e (history_of self.old) (history_of self.new)
             ⊎ (serves (calls_left self.old) ≡ false) × (history_of self.new ≡ history_of self.old)) }
+        ensures stops { CountsStops [] (history_of self.new) (⟦<MemoryDisk as Disk>⟧.state self.old)
+            (⟦<MemoryDisk as Disk>⟧.state self.new) }
         ensures kept { OnErr result (StaysAt (⟦<MemoryDisk as Disk>⟧.state self.old)
             (⟦<MemoryDisk as Disk>⟧.state self.new)) }
         ensures fuse { calls_left self.new ≡ after_call (calls_left self.old) }
