@@ -20,6 +20,8 @@ pub mod memory;
 ///
 /// An honest disk gives back what was written to it, and loses nothing that was synced. Of a disk
 /// that is not honest only its length and position are known, and that it counts its failures.
+///
+/// For a disk of your own there are `passes_end`, `past_end` and `count_failure`.
 pub trait Disk {
     /// The disk at this moment, as contracts see it.
     ghost state: { Self → DiskState };
@@ -63,8 +65,8 @@ pub trait Disk {
         ensures moves { OnOk result (Moves (state self.old) (state self.new) (length buf.old)) };
 
     /// Writes the bytes from the position on, over what is there, and goes behind them. Until a sync
-    /// succeeds, a stop may leave any bytes in their place. The caller sees to it that they do not pass
-    /// the end of the disk.
+    /// succeeds, a stop may leave any bytes in their place. A disk may join that range with others that
+    /// are not synced. The caller sees to it that the bytes do not pass the end of the disk.
     ///
     /// An error comes only where the device failed. Then nothing is written, or any bytes are left in
     /// that place.
