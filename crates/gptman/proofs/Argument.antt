@@ -2,8 +2,7 @@
 -- bytes in some ranges: that a side holds it.
 use Rattle.std.proofs.Common.{◌≡◌, ◌⊎◌, inl, inr, ℕ, List, [], ◌++◌, get_or, length, sym, ap, ◌∙◌, subst}
 use Rattle.std.proofs.lemmas.List.{append-nil}
-use Rattle.std.specs.List.{Contains}
-use Rattle.gptman_copy.specs.Disk.{AgreesOutside, DiskState, Image, LeavesOnly, OnlyRead, Outside, Untouched, Within, Wrote}
+use Rattle.gptman_copy.specs.Disk.{AgreesOutside, DiskState, Image, IsPending, LeavesOnly, OnlyRead, Outside, Untouched, Within, Wrote}
 use Rattle.gptman_copy.specs.Ranges.{AgreesInside, AreClear}
 use Rattle.gptman.specs.Crash.{IsLeftAlone}
 use Rattle.gptman_copy.proofs.Ranges.{Ranges, agrees_then, agrees_wider, within_none}
@@ -37,8 +36,8 @@ held_while P place there a b told clear synced held run = λ x left.
 -- How far a write of two copies came, from the disk before it to the disk after: the other side's ranges are written first, and then the own side's.
 pub data Came (own other : Ranges) (own_header other_header : ℕ × ℕ) (at_own at_other : List ℕ → Type 0) (a c : DiskState) : Type 1 where
   only_read : OnlyRead a c → Came own other own_header other_header at_own at_other a c
-  other_begun : Wrote other a c → Untouched a c ⊎ Contains c.pending other_header → Came own other own_header other_header at_own at_other a c
-  own_begun : (b : DiskState) → Wrote other a b → b.pending ≡ [] → at_other b.view → Wrote own b c → Untouched b c ⊎ Contains c.pending own_header
+  other_begun : Wrote other a c → Untouched a c ⊎ IsPending other_header c → Came own other own_header other_header at_own at_other a c
+  own_begun : (b : DiskState) → Wrote other a b → b.pending ≡ [] → at_other b.view → Wrote own b c → Untouched b c ⊎ IsPending own_header c
       → Came own other own_header other_header at_own at_other a c
   written : (b : DiskState) → Wrote other a b → b.pending ≡ [] → at_other b.view → Wrote own b c → c.pending ≡ [] → at_own c.view
       → Came own other own_header other_header at_own at_other a c

@@ -1,8 +1,8 @@
 -- What a list of edits leaves at each side where the next one is not written, and that each copy is read alone.
 use Rattle.std.proofs.Common.{◌≡◌, ◌⊎◌, ◌<◌, ◌+◌, ◌++◌, ⊎_elim, inl, inr, ℕ, true, List, [], ◌∷◌, length, refl, sym, ◌∙◌, subst, arith}
-use Rattle.std.specs.Prelude.{fold, take, Contains}
+use Rattle.std.specs.Prelude.{fold, take}
 use Rattle.std.proofs.lemmas.Bool.{cases_lt}
-use Rattle.gptman_copy.specs.Disk.{DiskState, IsSound, OnlyRead}
+use Rattle.gptman_copy.specs.Disk.{DiskState, IsPending, IsSound, OnlyRead}
 use Rattle.gptman_copy.specs.Ranges.{AgreesInside}
 use Rattle.gptman.specs.Commit.{BothSidesAfterEdits, HoldsInAnyImage, SideAfterEdits, Stands}
 use Rattle.gptman.specs.Commit.SideAfterEdits.{as_it_was, holds_last, holds_next, header_pending}
@@ -92,7 +92,7 @@ module _ (g : GPT) (made : List Edit) (now : GPT) (a b c : DiskState) (are : Are
       subst (λ (n : ℕ). Holds x n side (table_in (table_after g edits (done + 1)))) keeps.sector
       (subst (Holds x (after_edit now edit).sector_size side) (next_table g made now a b c are edits more done edit is count) (holds x image)))
   side_after side from sound (torn pending) =
-      header_pending (subst (λ (start : ℕ). Contains c.pending (start, 92)) (λ i. copy_start side (are.keeps.size i) (keeps.sector i)) pending)
+      header_pending (subst (λ (start : ℕ). IsPending (start, 92) c) (λ i. copy_start side (are.keeps.size i) (keeps.sector i)) pending)
 
   pub failed_after : StartsSynced a g → (b.is_honest ≡ true → IsSound b) → (StartsSynced b now → BothSidesAfter (after_edit now edit) b c) → BothSidesAfterEdits g edits done a c
   failed_after from sound after =

@@ -1,7 +1,6 @@
 -- A write after calls that only read: what it begins with, and what it leaves, are as if these calls were not.
 use Rattle.std.proofs.Common.{◌≡◌, true, ℕ, List, [], ◌∷◌, length, sym, ◌∙◌, subst}
-use Rattle.std.specs.List.{Contains}
-use Rattle.gptman_copy.specs.Disk.{DiskState, Reads, Wrote}
+use Rattle.gptman_copy.specs.Disk.{DiskState, IsPending, Reads, Wrote}
 use Rattle.gptman_copy.specs.Ranges.{AgreesInside, AreClear}
 use Rattle.gptman.specs.Crash.{BothSidesAfter, IsLeftAlone, SideAfter, StartsFromOne, StartsLaidOut, StartsSynced, other_side}
 use Rattle.gptman.specs.Crash.SideAfter.{left_alone, written, torn}
@@ -61,7 +60,7 @@ module _ (g : GPT) (a b : DiskState) (read : Reads a b) where
     same = subst (λ (v : List ℕ). AgreesInside (ranges_at side t ss b.size) v c.view) view is.same;
   }))
   side_still c side t ss view (written holds) = written holds
-  side_still c side t ss view (torn is) = torn (subst (λ (n : ℕ). Contains c.pending (copy_start side n ss, 92)) read.keeps.size is)
+  side_still c side t ss view (torn is) = torn (subst (λ (n : ℕ). IsPending (copy_start side n ss, 92) c) read.keeps.size is)
 
   pub after_still : (c : DiskState) → a.is_honest ≡ true → BothSidesAfter g b c → BothSidesAfter g a c
   after_still c honest both =

@@ -1,10 +1,10 @@
 -- The argument about stops, with the two sides of the stated layout and the tables that they hold.
 use Rattle.std.proofs.Common.{◌≡◌, ◌⊎◌, inl, inr, ⊎_elim, ◌<◌, ◌*◌, ◌^◌, ℕ, List, [], ◌∷◌, length, refl, sym, ap, ◌∙◌, subst, arith}
-use Rattle.std.specs.List.{All, Contains}
+use Rattle.std.specs.List.{All}
 use Rattle.std.proofs.lemmas.List.{length-map}
 use Rattle.gptman_copy.specs.Coding.{FitsHeader, FitsEntry}
 use Rattle.gptman_copy.specs.Copy.{with_checksums}
-use Rattle.gptman_copy.specs.Disk.{DiskState, Image, LeavesOnly, Outside, Untouched, Wrote, Within}
+use Rattle.gptman_copy.specs.Disk.{DiskState, Image, IsPending, LeavesOnly, OnlyRead, Outside, Untouched, Wrote, Within}
 use Rattle.gptman_copy.specs.Ranges.{AgreesInside, AreApart, AreClear, AreInside}
 use Rattle.gptman_copy.specs.Write.{other_header, header_range, write_ranges, FitsCopy, HasBytes, IsCopyLaid}
 use Rattle.gptman.specs.Crash.{other_side, BothSidesAfter, IsLeftAlone, SideAfter, StartsFromOne, StartsLaidOut, StartsSynced}
@@ -141,9 +141,9 @@ module _ (side : Side) (h : GPTHeader) (es : List GPTPartitionEntry) (ss len : �
   other_start = written_start (other_side side) (other_header h) es ss len (other_form side h form) (subst (λ (u : Table). IsLaidOut u ss len) (sym (other_table h es)) laid)
 
   -- the other copy was begun
-  pub first_fails : (a b : DiskState) → Wrote (write_ranges (other_header h) ss) a b → Untouched a b ⊎ Contains b.pending (header_range (other_header h) ss) → Comes a b
+  pub first_fails : (a b : DiskState) → Wrote (write_ranges (other_header h) ss) a b → Untouched a b ⊎ IsPending (header_range (other_header h) ss) b → Comes a b
   first_fails a b run begun =
-      other_begun (other_run a b run) (⊎_elim (λ still. inl still) (λ torn. inr (subst (λ (n : ℕ). Contains b.pending (n, 92)) other_start torn)) begun)
+      other_begun (other_run a b run) (⊎_elim (λ still. inl still) (λ torn. inr (subst (λ (n : ℕ). IsPending (n, 92) b) other_start torn)) begun)
 
   -- it is held once it was copied
   other_held : (a b : DiskState) → len < 2 ^ 64 → length a.view ≡ len → IsCopied (other_header h) es ss a b → HeldAt len ss (other_side side) t b.view
@@ -152,10 +152,10 @@ module _ (side : Side) (h : GPTHeader) (es : List GPTPartitionEntry) (ss len : �
 
   -- and then the own one was begun
   pub second_fails : (a b c : DiskState) → len < 2 ^ 64 → length a.view ≡ len → Wrote (write_ranges (other_header h) ss) a b → IsCopied (other_header h) es ss a b
-      → Wrote (write_ranges h ss) b c → Untouched b c ⊎ Contains c.pending (header_range h ss) → Comes a c
+      → Wrote (write_ranges h ss) b c → Untouched b c ⊎ IsPending (header_range h ss) c → Comes a c
   second_fails a b c small long run copy second begun =
       own_begun b (other_run a b run) copy.synced (other_held a b small long copy) (own_run b c second) (⊎_elim (λ still. inl still)
-      (λ torn. inr (subst (λ (n : ℕ). Contains c.pending (n, 92)) (written_start side h es ss len form laid) torn)) begun)
+      (λ torn. inr (subst (λ (n : ℕ). IsPending (n, 92) c) (written_start side h es ss len form laid) torn)) begun)
 
   -- or both were written
   pub both_done : (a b c : DiskState) → len < 2 ^ 64 → length a.view ≡ len → Wrote (write_ranges (other_header h) ss) a b → IsCopied (other_header h) es ss a b
@@ -180,8 +180,8 @@ module _ (side : Side) (h : GPTHeader) (es : List GPTPartitionEntry) (ss len : �
   alone : (p : Side) (a c : DiskState) → a.size ≡ len → IsLeftAlone (ranges_at p t ss len) a c → SideAfter p t ss a c
   alone p a c size is = left_alone (subst (λ (n : ℕ). IsLeftAlone (ranges_at p t ss n) a c) (sym size) is)
 
-  pending : (p : Side) (a c : DiskState) → a.size ≡ len → Contains c.pending (copy_start p len ss, 92) → SideAfter p t ss a c
-  pending p a c size is = torn (subst (λ (n : ℕ). Contains c.pending (copy_start p n ss, 92)) (sym size) is)
+  pending : (p : Side) (a c : DiskState) → a.size ≡ len → IsPending (copy_start p len ss, 92) c → SideAfter p t ss a c
+  pending p a c size is = torn (subst (λ (n : ℕ). IsPending (copy_start p n ss, 92) c) (sym size) is)
 
   own_clear : AreClear own other
   own_clear = clear_if_apart own other (sides_apart side t ss len laid)

@@ -1,9 +1,9 @@
 -- Lists of edits that are written one after the other.
-use Rattle.std.specs.Prelude.{◌≡◌, ◌<◌, ◌⊎◌, ◌+◌, ℕ, zero, suc, Bool, true, false, List, [], ◌∷◌, map, slice_get, Contains, Option, Some, None, if◌then◌else◌}
+use Rattle.std.specs.Prelude.{◌≡◌, ◌<◌, ◌⊎◌, ◌+◌, ℕ, zero, suc, Bool, true, false, List, [], ◌∷◌, map, slice_get, Option, Some, None, if◌then◌else◌}
 use Rattle.std.specs.List.{range_with_len}
 use Rattle.gptman_copy.specs.Ranges.{AreApart}
 use Rattle.gptman.specs.TableWrites.{other_with_checksums, table_ranges, value_with_checksums, HasBothCopies, IsButSums, RefusesWrite}
-use Rattle.gptman_copy.specs.Disk.{OnlyRead, DiskState, Image}
+use Rattle.gptman_copy.specs.Disk.{OnlyRead, DiskState, Image, IsPending}
 use Rattle.gptman.specs.Crash.{IsLeftAlone}
 use Rattle.gptman.specs.Edit.{after_edit, edit_fault, table_after}
 use Rattle.gptman_copy.specs.Fault.{Fault, fault_of, io, out_of_memory}
@@ -88,7 +88,7 @@ pub data SideAfterEdits (side : Side) (g : GPT) (edits : List Edit) (k : ℕ) (o
   as_it_was : k ≡ 0 → IsLeftAlone (ranges_at side (table_in g) g.sector_size old.size) old new → SideAfterEdits side g edits k old new
   holds_last : 0 < k → HoldsInAnyImage new g.sector_size side (table_in (table_after g edits k)) → SideAfterEdits side g edits k old new
   holds_next : HoldsInAnyImage new g.sector_size side (table_in (table_after g edits (k + 1))) → SideAfterEdits side g edits k old new
-  header_pending : Contains new.pending (copy_start side old.size g.sector_size, 92) → SideAfterEdits side g edits k old new
+  header_pending : IsPending (copy_start side old.size g.sector_size, 92) new → SideAfterEdits side g edits k old new
 
 -- at both sides
 abbrev pub BothSidesAfterEdits : GPT → List Edit → ℕ → DiskState → DiskState → Type 0

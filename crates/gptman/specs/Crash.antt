@@ -1,6 +1,6 @@
 -- What a write of a table starts from, and what it leaves where it is stopped or fails.
-use Rattle.std.specs.Prelude.{◌≡◌, ℕ, List, [], ◌++◌, length, Contains, Ok, IsErr, IsTrue}
-use Rattle.gptman_copy.specs.Disk.{AgreesOutside, DiskState, Image, IsHonest, LeavesOnly, Outside}
+use Rattle.std.specs.Prelude.{◌≡◌, ℕ, List, [], ◌++◌, length, Ok, IsErr, IsTrue}
+use Rattle.gptman_copy.specs.Disk.{AgreesOutside, DiskState, Image, IsHonest, IsPending, LeavesOnly, Outside}
 use Rattle.gptman_copy.specs.Fit.{fit_header}
 use Rattle.gptman_copy.specs.Ranges.{AgreesInside, AreClear, Inside}
 use Rattle.gptman.specs.Edit.{after_edit}
@@ -67,7 +67,7 @@ pub record IsLeftAlone (ranges : List (ℕ × ℕ)) (old new : DiskState) : Type
 pub data SideAfter (side : Side) (t : Table) (ss : ℕ) (old new : DiskState) : Type 0 where
   left_alone : IsLeftAlone (ranges_at side t ss old.size) old new → SideAfter side t ss old new
   written : ((b : List ℕ) → Image new b → Holds b ss side t) → SideAfter side t ss old new
-  torn : Contains new.pending (copy_start side old.size ss, 92) → SideAfter side t ss old new
+  torn : IsPending (copy_start side old.size ss, 92) new → SideAfter side t ss old new
 
 -- at both sides
 abbrev pub BothSidesAfter : GPT → DiskState → DiskState → Type 0

@@ -2,7 +2,7 @@
 use Rattle.std.specs.Prelude.{◌≡◌, OnOk, Result, ℕ, ◌-◌, ◌/◌, Bool, List, [], ◌∷◌, ◌++◌, min, replicate, Option, nat_le, if◌then◌else◌}
 use Rattle.byteorder.specs.Endian.{little_bytes}
 use Rattle.gptman_copy.specs.Answers.{Settles}
-use Rattle.gptman_copy.specs.Disk.{overlay, DiskState, IsHonest}
+use Rattle.gptman_copy.specs.Disk.{overlay, DiskState, GrowsBy, IsHonest}
 use Rattle.gptman_copy.specs.declared.error.Error.{Error}
 use Rattle.gptman_copy.specs.Fault.{Fault, overflow, no_space_left, first_failing}
 
@@ -23,7 +23,7 @@ mbr_range = (446, 66)
 -- The bytes became an MBR, and are not synced.
 pub record IsMbrLaid (bootable : Bool) (ss : ℕ) (old new : DiskState) : Type 0 where
   pub view : new.view ≡ overlay old.view 446 (mbr_bytes bootable ss old.size)
-  pub pending : new.pending ≡ mbr_range ∷ old.pending
+  pub pending : GrowsBy mbr_range old new
 
 -- what writing an MBR answers
 abbrev pub AnswersMbr : {T : Type 0} → ℕ → Result T Error → DiskState → DiskState → Type 0

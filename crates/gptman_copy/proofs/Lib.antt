@@ -4,6 +4,7 @@ pub mod Assembly
 pub mod BlockBytes
 pub mod ByBlock
 pub mod ByTable
+pub mod Counting
 pub mod CopyParts
 pub mod CopyTests
 pub mod Division

@@ -1,8 +1,8 @@
 -- Indexes outside of ranges, and lists that agree there.
-use Rattle.std.proofs.Common.{inl, inr, ⊎_elim, ◌≡◌, ◌⊎◌, ◌<◌, ◌≤◌, ℕ, suc, ◌+◌, List, [], ◌∷◌, ◌++◌, refl, sym, ap, ◌∙◌, subst, arith}
+use Rattle.std.proofs.Common.{inl, inr, ⊎_elim, ◌≡◌, ◌⊎◌, ◌<◌, ◌≤◌, ℕ, suc, ◌+◌, List, [], ◌∷◌, ◌++◌, refl, sym, ◌∙◌, subst, arith}
 use Rattle.std.specs.List.{Contains}
 use Rattle.std.specs.Prelude.{Result, Ok, Err, OnOk, OnErr, length}
-use Rattle.gptman_copy.specs.Disk.{Outside, AgreesOutside, Within, DiskState, IsLaid, MayBeLaid, StaysPending}
+use Rattle.gptman_copy.specs.Disk.{Outside, AgreesOutside, CoverTheSame, Within, DiskState, IsLaid, MayBeLaid, StaysPending}
 
 abbrev pub Ranges : Type 0
 Ranges = List (ℕ × ℕ)
@@ -66,17 +66,24 @@ contains_later r s rs has = (suc has.0, omega (arith, has.1), has.2)
 pub within_range : {p n at m : ℕ} {more : Ranges} → at ≤ p → p + n ≤ at + m → Within ((p, n) ∷ []) ((at, m) ∷ more)
 within_range {p} {n} {at} {m} low high = record { covers = λ k o. (⊎_elim (λ below. inl (omega (arith, below, low))) (λ above. inr (omega (arith, above, high))) o.0, tt) }
 
-pub contains_pushed : (r x : ℕ × ℕ) (old new : Ranges) → new ≡ x ∷ old → Contains old r → Contains new r
-contains_pushed r x old new is has = subst (λ ps. Contains ps r) (sym is) (contains_later r x old has)
+-- equal lists have the same indexes
+pub cover_equal : {rs ss : Ranges} → rs ≡ ss → CoverTheSame rs ss
+cover_equal {rs} is = subst (λ ps. CoverTheSame rs ps) is (record { there = within_self rs; back = within_self rs })
+
+-- what was pending is pending after it grew by a range
+pub grown_keeps : {r : ℕ × ℕ} {old new : Ranges} → CoverTheSame new (r ∷ old) → Within old new
+grown_keeps {old = old} grown = within_then (within_later (within_self old)) grown.back
+
+-- and so is the range
+pub grown_has : (p n at m : ℕ) {old new : Ranges} → p ≡ at → n ≡ m → CoverTheSame new ((p, n) ∷ old) → Within ((at, m) ∷ []) new
+grown_has p n at m at_is size grown = within_then (within_range (omega (arith, at_is)) (omega (arith, at_is, size))) grown.back
 
 -- what was pending still is after one write, whether it was served or refused
-pub contains_written : {T E : Type 0} (r : Result T E) (bytes : List ℕ) (a b : DiskState) → OnOk r (IsLaid bytes a b) → OnErr r (MayBeLaid (length bytes) a b) → StaysPending a b
-contains_written (Ok v) bytes a b laid failed range has = contains_pushed range _ a.pending b.pending laid.pending has
-contains_written (Err e) bytes a b laid failed range has =
-    ⊎_elim (λ same. subst (λ ps. Contains ps range) (sym same.pending) has) (λ more. contains_pushed range _ a.pending b.pending more has) failed
+pub still_pending : {T E : Type 0} (r : Result T E) (bytes : List ℕ) (a b : DiskState) → OnOk r (IsLaid bytes a b) → OnErr r (MayBeLaid (length bytes) a b) → StaysPending a b
+still_pending (Ok v) bytes a b laid failed = grown_keeps laid.pending
+still_pending (Err e) bytes a b laid failed =
+    ⊎_elim (λ same. subst (λ ps. Within a.pending ps) (sym same.pending) (within_self a.pending)) (λ grown. grown_keeps grown) failed
 
--- the range that became pending last
-pub contains_new : (p n at m : ℕ) (old new : Ranges) → p ≡ at → n ≡ m → new ≡ (p, n) ∷ old → Contains new (at, m)
-contains_new p n at m old new at_is size is =
-    let range : ◌≡◌ {A = ℕ × ℕ} (p, n) (at, m) = λ i. (at_is i, size i) in
-    subst (λ ps. Contains ps (at, m)) (sym (is ∙ ap (λ (r : ℕ × ℕ). r ∷ old) range)) (contains_first (at, m) old)
+-- the growth, by what was written and pending before a call that only read
+pub grown_since : (p n at m : ℕ) {before old new : Ranges} → p ≡ at → n ≡ m → old ≡ before → CoverTheSame new ((p, n) ∷ old) → CoverTheSame new ((at, m) ∷ before)
+grown_since p n at m {new = new} at_is size was grown = subst (λ ps. CoverTheSame new ps) (λ i. (at_is i, size i) ∷ was i) grown

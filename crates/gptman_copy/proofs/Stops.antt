@@ -67,7 +67,7 @@ fate_agrees (Garbage byte) b at bytes fits =
     subst (λ n. AgreesOutside ((at, n) ∷ []) b (overlay b at (replicate (length bytes) byte))) same
     (agrees_overlay b at (replicate (length bytes) byte) (omega (arith, same, fits)))
 
-view_agrees : (view : List ℕ) (w : Written) (done : Bool) → w.at + length w.bytes.items ≤ length view
+pub view_agrees : (view : List ℕ) (w : Written) (done : Bool) → w.at + length w.bytes.items ≤ length view
     → AgreesOutside ((w.at, length w.bytes.items) ∷ []) view (cond done (overlay view w.at w.bytes.items) view)
 view_agrees view w true fits = agrees_overlay view w.at w.bytes.items fits
 view_agrees view w false fits = agrees_self _ view

@@ -1,5 +1,5 @@
 -- What contracts see of a disk, and what its calls do.
-use Rattle.std.specs.Prelude.{◌≡◌, ◌<◌, ◌≤◌, ◌⊎◌, ◌+◌, ◌++◌, ℕ, Bool, true, IsTrue, List, [], ◌∷◌, length, get_or, take, drop, Contains}
+use Rattle.std.specs.Prelude.{◌≡◌, ◌<◌, ◌≤◌, ◌⊎◌, ◌+◌, ◌++◌, ℕ, Bool, true, IsTrue, List, [], ◌∷◌, length, get_or, take, drop}
 use Rattle.gptman_copy.specs.Bytes.{part}
 
 -- A disk at one moment. `left_since t b`: a stop at some moment from t on, within calls too, may have left b.
@@ -58,6 +58,11 @@ pub record AgreesOutside (ranges : List (ℕ × ℕ)) (a b : List ℕ) : Type 0 
 -- each index in the first ranges is in the second
 pub record Within (inner outer : List (ℕ × ℕ)) : Type 0 where
   pub covers : (k : ℕ) → Outside outer k → Outside inner k
+
+-- The same indexes are in both.
+pub record CoverTheSame (one other : List (ℕ × ℕ)) : Type 0 where
+  pub there : Within one other
+  pub back : Within other one
 
 -- What a stop may leave now.
 abbrev pub Image : DiskState → List ℕ → Type 0
@@ -147,9 +152,9 @@ pub record Untouched (old new : DiskState) : Type 0 where
   pub view : new.view ≡ old.view
   pub pending : new.pending ≡ old.pending
 
--- what a read gives from the position on is as it was
-abbrev pub IsLeftAlone : DiskState → DiskState → Type 0
-IsLeftAlone old new = StaysAt old new × (new.view ≡ old.view)
+-- the position is as it was, and what a read gives
+abbrev pub ReadsOnAsBefore : DiskState → DiskState → Type 0
+ReadsOnAsBefore old new = StaysAt old new × (new.view ≡ old.view)
 
 -- the disk failed, or nothing was written
 abbrev pub FailedOrUntouched : DiskState → DiskState → Type 0
@@ -159,19 +164,27 @@ FailedOrUntouched old new = Rose old new ⊎ Untouched old new
 abbrev pub Overlays : List ℕ → DiskState → DiskState → Type 0
 Overlays bytes old new = new.view ≡ overlay old.view old.position bytes
 
--- what was not synced is not synced yet
+-- each byte of the range is pending
+abbrev pub IsPending : ℕ × ℕ → DiskState → Type 0
+IsPending range disk = Within (range ∷ []) disk.pending
+
+-- each byte that was pending still is
 abbrev pub StaysPending : DiskState → DiskState → Type 0
-StaysPending old new = (range : ℕ × ℕ) → Contains old.pending range → Contains new.pending range
+StaysPending old new = Within old.pending new.pending
+
+-- the bytes that were pending and those of the range are pending, and no others; by which ranges is left open
+abbrev pub GrowsBy : ℕ × ℕ → DiskState → DiskState → Type 0
+GrowsBy range old new = CoverTheSame new.pending (range ∷ old.pending)
 
 -- The next bytes became these, and are not synced.
 pub record IsLaid (bytes : List ℕ) (old new : DiskState) : Type 0 where
   pub view : Overlays bytes old new
-  pub pending : new.pending ≡ next_range old (length bytes) ∷ old.pending
+  pub pending : GrowsBy (next_range old (length bytes)) old new
 
 -- nothing was written, or the next n bytes are not synced
 abbrev pub MayBeLaid : ℕ → DiskState → DiskState → Type 0
-MayBeLaid n old new = Untouched old new ⊎ (new.pending ≡ next_range old n ∷ old.pending)
+MayBeLaid n old new = Untouched old new ⊎ GrowsBy (next_range old n) old new
 
 -- nothing was written, or this range is not synced
 abbrev pub LeavesPending : ℕ × ℕ → DiskState → DiskState → Type 0
-LeavesPending range old new = Untouched old new ⊎ Contains new.pending range
+LeavesPending range old new = Untouched old new ⊎ IsPending range new

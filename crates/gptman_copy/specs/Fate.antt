@@ -1,10 +1,10 @@
 -- What a stop makes of a record of writes and syncs.
-use Rattle.std.specs.Prelude.{◌≡◌, ℕ, Bool, true, false, List, [], ◌∷◌, ◌++◌, Option, length, replicate, if◌then◌else◌}
+use Rattle.std.specs.Prelude.{◌≡◌, ◌≤◌, ◌⊎◌, ℕ, Result, Ok, Err, Bool, true, false, List, [], ◌∷◌, ◌++◌, Option, length, replicate, if◌then◌else◌}
 use Rattle.std.specs.List.{list_any}
 use Rattle.std.specs.IoError.{error_kind}
 use Rattle.std.specs.declared.io.Error.{Error}
 use Rattle.std.specs.declared.io.ErrorKind.TheVariants.{OutOfMemory}
-use Rattle.gptman_copy.specs.Disk.{overlay}
+use Rattle.gptman_copy.specs.Disk.{overlay, AgreesOutside, DiskState}
 use Rattle.gptman_copy.specs.Memory.{view_of}
 use Rattle.gptman_copy.specs.declared.disk.memory.Event.{Event}
 use Rattle.gptman_copy.specs.declared.disk.memory.Event.TheVariants.{Write, Sync}
@@ -72,3 +72,14 @@ HasSync old new = new ≡ record { start = old.start; events = old.events ++ Syn
 -- there was no memory for the record, and it is as it was; the error's kind says so
 abbrev pub HasNoMemory : Error → History → History → Type 0
 HasNoMemory e old new = (error_kind e ≡ OutOfMemory) × (new ≡ old)
+
+-- What a stop within a call that writes in these ranges may leave counts as left since any moment before the call: any bytes in the ranges and in what was
+-- pending, and elsewhere those that a read gave. So does, since any moment up to now, what the record leaves with any fates.
+pub record CountsStops (ranges : List (ℕ × ℕ)) (history : History) (old new : DiskState) : Type 0 where
+  pub within : (t : ℕ) (b : List ℕ) → t ≤ old.clock → AgreesOutside (ranges ++ old.pending) old.view b → new.left_since t b
+  pub after : (t : ℕ) (fates : List Fate) → t ≤ new.clock → new.left_since t (bytes_left fates history)
+
+-- the same of a write in one range; where there was no memory for its record nothing was written
+abbrev pub CountsStopsOfWrite : {T : Type 0} → Result T Error → ℕ × ℕ → History → History → DiskState → DiskState → Type 0
+CountsStopsOfWrite (Ok v) range before after old new = CountsStops (range ∷ []) after old new
+CountsStopsOfWrite (Err e) range before after old new = CountsStops (range ∷ []) after old new ⊎ (HasNoMemory e before after × CountsStops [] after old new)

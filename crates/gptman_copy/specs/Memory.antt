@@ -50,6 +50,10 @@ memory_state start bytes events position failures = record {
   is_honest = true;
 }
 
+-- the range is pending, before those that were
+abbrev pub AddsPending : ℕ × ℕ → DiskState → DiskState → Type 0
+AddsPending range old new = new.pending ≡ range ∷ old.pending
+
 -- the laws of an honest disk hold of it
 pub memory_sound : (start bytes : List ℕ) (events : List Event) (position failures : ℕ) → bytes ≡ view_of start events → IsSound (memory_state start bytes events position failures)
 memory_sound start bytes events position failures replays = record {

@@ -3,8 +3,11 @@
 //! A write may be lost, torn or kept in part until a sync succeeds. This module knows nothing of
 //! tables; it says what a read gives, and what a stop at any moment may leave.
 
-ghost use Rattle.std.specs.Prelude.{◌≡◌, ◌≤◌, ◌<◌, ◌^◌, ◌⊎◌, [], ◌∷◌, length, IfOk, OnOk, OnErr, IsErr};
-ghost use Rattle.gptman_copy.specs.Disk.{next_bytes, next_range, DiskState, HasFailedAsOften};
+ghost use Rattle.std.specs.Prelude.{◌≡◌, ◌≤◌, ◌<◌, ◌^◌, ◌+◌, ◌⊎◌, ◌↔◌, [], ◌∷◌, length, IfOk, OnOk, OnErr};
+ghost use Rattle.std.specs.Prelude.{IsErr, IsTrue};
+ghost use Rattle.std.specs.IoError.{error_kind};
+ghost use Rattle.std.specs.declared.io.ErrorKind.TheVariants.{UnexpectedEof};
+ghost use Rattle.gptman_copy.specs.Disk.{next_bytes, next_range, CoverTheSame, DiskState, HasFailedAsOften};
 ghost use Rattle.gptman_copy.specs.Disk.{HasFailedOnce, HasNext, IsCountedOnce, IsHonest, IsLaid, IsSound};
 ghost use Rattle.gptman_copy.specs.Disk.{Keeps, MayBeLaid, Moves, PassesEnd, Reads, Rose, StandsAt, Writes};
 
@@ -17,6 +20,8 @@ pub mod memory;
 ///
 /// An honest disk gives back what was written to it, and loses nothing that was synced. Of a disk
 /// that is not honest only its length and position are known, and that it counts its failures.
+///
+/// For a disk of your own there are `passes_end`, `past_end` and `count_failure`.
 pub trait Disk {
     /// The disk at this moment, as contracts see it.
     ghost state: { Self → DiskState };
@@ -60,8 +65,8 @@ pub trait Disk {
         ensures moves { OnOk result (Moves (state self.old) (state self.new) (length buf.old)) };
 
     /// Writes the bytes from the position on, over what is there, and goes behind them. Until a sync
-    /// succeeds, a stop may leave any bytes in their place. The caller sees to it that they do not pass
-    /// the end of the disk.
+    /// succeeds, a stop may leave any bytes in their place. A disk may join that range with others that
+    /// are not synced. The caller sees to it that the bytes do not pass the end of the disk.
     ///
     /// An error comes only where the device failed. Then nothing is written, or any bytes are left in
     /// that place.
@@ -92,7 +97,7 @@ pub trait Disk {
         ensures view { IsHonest (state self.old) → (state self.new).view ≡ (state self.old).view }
         ensures synced { IsHonest (state self.old) → OnOk result ((state self.new).pending ≡ []) }
         ensures failed { IsHonest (state self.old)
-            → OnErr result ((state self.new).pending ≡ (state self.old).pending) };
+            → OnErr result (CoverTheSame (state self.new).pending (state self.old).pending) };
 
     /// The length of every disk is a number of 64 bits.
     ghost bounded: { (disk : Self) → (state disk).size < 2 ^ 64 };
@@ -102,13 +107,22 @@ pub trait Disk {
     ghost sound: { (disk : Self) → IsHonest (state disk) → IsSound (state disk) };
 }
 
-// The error of a read that passes the end, which is no failure of the device.
-pub(crate) fn past_end() -> io::Error {
+/// Whether so many bytes from this position on pass the end of a disk of that size.
+pub fn passes_end(size: u64, position: u64, len: u64) -> bool
+    ensures { IsTrue result ↔ (size < position + len) }
+{
+    position > size || len > size - position
+}
+
+/// The error of a read that passes the end. It is no failure of the device, and is not counted.
+pub fn past_end() -> io::Error
+    ensures kind { error_kind result ≡ UnexpectedEof }
+{
     io::Error::new(io::ErrorKind::UnexpectedEof, "past the end")
 }
 
-// One failure more, up to the greatest number of 64 bits.
-fn count_failure(failures: &mut u64)
+/// Counts one failure of the device, up to the greatest number of 64 bits.
+pub fn count_failure(failures: &mut u64)
     ensures once { IsCountedOnce failures.old failures.new }
 {
     *failures = failures.saturating_add(1);

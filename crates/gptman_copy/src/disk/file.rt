@@ -5,7 +5,7 @@
 ghost use Rattle.std.specs.Prelude.{◌≡◌, ◌<◌, ◌^◌, IfOk, IfErr};
 ghost use Rattle.gptman_copy.specs.File.{file_state, never_honest};
 
-use super::{Disk, count_failure, past_end};
+use super::{Disk, count_failure, passes_end, past_end};
 use crate::error::Result;
 use std::fs::{File, OpenOptions};
 use std::io;
@@ -104,7 +104,7 @@ impl Disk for FileDisk {
     /// As the trait says. A read that passes the end fails without a call of the system.
     fn read_exact(&mut self, buf: &mut [u8]) -> io::Result<()> {
         let len = buf.len() as u64;
-        if self.position > self.size || len > self.size - self.position {
+        if passes_end(self.size, self.position, len) {
             return Err(past_end());
         }
         if let Err(error) = self.file.read_exact(buf) {

@@ -12,12 +12,13 @@ ghost use Rattle.std.specs.declared.io.ErrorKind.TheVariants.{OutOfMemory};
 ghost use Rattle.gptman_copy.specs.Disk.{next_bytes, next_range, overlay, HasFailedAsOften};
 ghost use Rattle.gptman_copy.specs.Disk.{HasFailedOnce, HasNext, IsCountedOnce};
 ghost use Rattle.gptman_copy.specs.Disk.{Image, IsFresh, IsHonest, IsLaid};
-ghost use Rattle.gptman_copy.specs.Disk.{IsLeftAlone, Keeps, MayBeLaid, Moves, PassesEnd, Reads, Rose};
-ghost use Rattle.gptman_copy.specs.Disk.{StandsAt, StaysAt, Writes};
+ghost use Rattle.gptman_copy.specs.Disk.{CoverTheSame, Keeps, MayBeLaid, Moves, PassesEnd, Reads};
+ghost use Rattle.gptman_copy.specs.Disk.{ReadsOnAsBefore, Rose};
+ghost use Rattle.gptman_copy.specs.Disk.{StandsAt, StaysAt, Untouched, Writes};
 ghost use Rattle.gptman_copy.specs.Memory.{after_call, event_fits, memory_sound, memory_state, serves};
-ghost use Rattle.gptman_copy.specs.Memory.{view_of};
+ghost use Rattle.gptman_copy.specs.Memory.{view_of, AddsPending};
 
-use super::{Disk, count_failure, past_end};
+use super::{Disk, count_failure, passes_end, past_end};
 use crate::error::Result;
 use std::alloc::Global;
 use std::io;
@@ -205,7 +206,8 @@ fn lack_memory(failures: &mut u64) -> io::Error
 }
 
 impl Disk for MemoryDisk {
-    ghost use Rattle.gptman_copy.specs.Fate.{calls_left, history_of, HasNoMemory, HasSync, HasWrite};
+    ghost use Rattle.gptman_copy.specs.Fate.{calls_left, history_of, CountsStops, CountsStopsOfWrite};
+    ghost use Rattle.gptman_copy.specs.Fate.{HasNoMemory, HasSync, HasWrite};
 
     ghost state = { λ d. memory_state d.start.items d.bytes.items d.events.items d.position d.failures };
 
@@ -289,7 +291,7 @@ impl Disk for MemoryDisk {
         let served = is_served(&mut self.fuse);
         let size = self.bytes.len() as u64;
         let len = buf.len() as u64;
-        if self.position > size || len > size - self.position {
+        if passes_end(size, self.position, len) {
             return Err(past_end());
         }
         if !served {
@@ -325,6 +327,10 @@ impl Disk for MemoryDisk {
         ensures failed { IsHonest (⟦<MemoryDisk as Disk>⟧.state self.old)
             → OnErr result (MayBeLaid (length buf.now) (⟦<MemoryDisk as Disk>⟧.state self.old)
             (⟦<MemoryDisk as Disk>⟧.state self.new)) }
+        ensures pending { AddsPending (next_range (⟦<MemoryDisk as Disk>⟧.state self.old) (length buf.now))
+            (⟦<MemoryDisk as Disk>⟧.state self.old) (⟦<MemoryDisk as Disk>⟧.state self.new)
+            ⊎ (IsErr result × Untouched (⟦<MemoryDisk as Disk>⟧.state self.old)
+            (⟦<MemoryDisk as Disk>⟧.state self.new)) }
         ensures recorded { OnOk result
             (HasWrite ((⟦<MemoryDisk as Disk>⟧.state self.old).position) buf.now true
             (history_of self.old) (history_of self.new)) }
@@ -332,7 +338,11 @@ impl Disk for MemoryDisk {
             ⊎ (serves (calls_left self.old) ≡ false)
             × HasWrite ((⟦<MemoryDisk as Disk>⟧.state self.old).position) buf.now false
             (history_of self.old) (history_of self.new)) }
-        ensures kept { OnErr result (IsLeftAlone (⟦<MemoryDisk as Disk>⟧.state self.old)
+        ensures stops { CountsStopsOfWrite result
+            (next_range (⟦<MemoryDisk as Disk>⟧.state self.old) (length buf.now))
+            (history_of self.old) (history_of self.new)
+            (⟦<MemoryDisk as Disk>⟧.state self.old) (⟦<MemoryDisk as Disk>⟧.state self.new) }
+        ensures kept { OnErr result (ReadsOnAsBefore (⟦<MemoryDisk as Disk>⟧.state self.old)
             (⟦<MemoryDisk as Disk>⟧.state self.new)) }
         ensures fuse { calls_left self.new ≡ after_call (calls_left self.old) }
     {
@@ -378,11 +388,15 @@ impl Disk for MemoryDisk {
         ensures synced { IsHonest (⟦<MemoryDisk as Disk>⟧.state self.old)
             → OnOk result ((⟦<MemoryDisk as Disk>⟧.state self.new).pending ≡ []) }
         ensures failed { IsHonest (⟦<MemoryDisk as Disk>⟧.state self.old)
-            → OnErr result ((⟦<MemoryDisk as Disk>⟧.state self.new).pending ≡
+            → OnErr result (CoverTheSame (⟦<MemoryDisk as Disk>⟧.state self.new).pending
+            (⟦<MemoryDisk as Disk>⟧.state self.old).pending) }
+        ensures pending { OnErr result ((⟦<MemoryDisk as Disk>⟧.state self.new).pending ≡
             (⟦<MemoryDisk as Disk>⟧.state self.old).pending) }
         ensures recorded { OnOk result (HasSync (history_of self.old) (history_of self.new)) }
         ensures refused { IfErr result (λ e. HasNoMemory e (history_of self.old) (history_of self.new)
             ⊎ (serves (calls_left self.old) ≡ false) × (history_of self.new ≡ history_of self.old)) }
+        ensures stops { CountsStops [] (history_of self.new) (⟦<MemoryDisk as Disk>⟧.state self.old)
+            (⟦<MemoryDisk as Disk>⟧.state self.new) }
         ensures kept { OnErr result (StaysAt (⟦<MemoryDisk as Disk>⟧.state self.old)
             (⟦<MemoryDisk as Disk>⟧.state self.new)) }
         ensures fuse { calls_left self.new ≡ after_call (calls_left self.old) }

@@ -2,7 +2,7 @@
 
 ghost use Rattle.std.specs.Prelude.{◌≡◌, ◌≤◌, ◌<◌, ◌+◌, ◌*◌, ◌⊎◌, ◌∷◌, [], nat_eq, if◌then◌else◌, length};
 ghost use Rattle.std.specs.Prelude.{take};
-ghost use Rattle.std.specs.Prelude.{true, false, Some, All, Contains, IfErr, IsTrue, MatchOption, OnErr};
+ghost use Rattle.std.specs.Prelude.{true, false, Some, All, IfErr, IsTrue, MatchOption, OnErr};
 ghost use Rattle.std.specs.Prelude.{OnOk};
 ghost use Rattle.std.specs.List.{list_all};
 ghost use Rattle.gptman_copy.specs.Answers.{CountsFailure, FailsPending, HasCause, Refuses, RefusesUntouched, Settles};
@@ -10,7 +10,7 @@ ghost use Rattle.gptman_copy.specs.Coding.{array_bytes, FitsEntry};
 ghost use Rattle.gptman_copy.specs.Copy.{with_checksums, IsCoherent};
 ghost use Rattle.gptman_copy.specs.Crc.{crc_of};
 ghost use Rattle.gptman_copy.specs.Disk.{HasFailedAsOften, HasFailedOnceAtMost};
-ghost use Rattle.gptman_copy.specs.Disk.{next_range, HasNext, IsHonest, Keeps, Moves, Overlays, Rose};
+ghost use Rattle.gptman_copy.specs.Disk.{next_range, HasNext, IsHonest, IsPending, Keeps, Moves, Overlays, Rose};
 ghost use Rattle.gptman_copy.specs.Disk.{StaysPending, Writes};
 ghost use Rattle.gptman_copy.specs.Fault.{fault_of, io as io_fault, overflow};
 ghost use Rattle.gptman_copy.specs.Write.{copy_write_fault, has_other_header, header_range, other_header};
@@ -69,7 +69,7 @@ impl GPTHeader {
         ensures laid { LaysCopy self.new partitions.now sector_size result
             (D.state disk.old) (D.state disk.new) }
         ensures pending { IsHonest (D.state disk.old)
-            → OnOk result (Contains (D.state disk.new).pending (header_range self.old sector_size)) }
+            → OnOk result (IsPending (header_range self.old sector_size) (D.state disk.new)) }
         ensures untouched { RefusesUntouched result (D.state disk.old) (D.state disk.new) }
         ensures failed { FailsPending (header_range self.old sector_size) result
             (D.state disk.old) (D.state disk.new) }
@@ -170,7 +170,7 @@ pub fn write_summed<D: Disk>(
     ensures laid { LaysCopy header.new partitions.now sector_size result
         (D.state disk.old) (D.state disk.new) }
     ensures pending { IsHonest (D.state disk.old)
-        → OnOk result (Contains (D.state disk.new).pending (header_range header.old sector_size)) }
+        → OnOk result (IsPending (header_range header.old sector_size) (D.state disk.new)) }
     ensures failed { FailsPending (header_range header.old sector_size) result
         (D.state disk.old) (D.state disk.new) }
 {
@@ -199,7 +199,7 @@ fn write_copy<D: Disk>(
     ensures laid { LaysCopy header.now partitions.now sector_size result
         (D.state disk.old) (D.state disk.new) }
     ensures pending { IsHonest (D.state disk.old)
-        → OnOk result (Contains (D.state disk.new).pending (header_range header.now sector_size)) }
+        → OnOk result (IsPending (header_range header.now sector_size) (D.state disk.new)) }
     ensures failed { FailsPending (header_range header.now sector_size) result
         (D.state disk.old) (D.state disk.new) }
 {

@@ -1,7 +1,9 @@
-use Rattle.std.proofs.Common.{◌≡◌, length, arith, rules}
-use Rattle.gptman_copy.proofs.Ranges.{within_none, within_range}
+use Rattle.std.proofs.Common.{◌≡◌, length, arith, rules, ap, ◌∙◌}
+use Rattle.gptman_copy.specs.Disk.{overlay}
+use Rattle.gptman_copy.proofs.Ranges.{grown_since, within_none, within_range}
 use Rattle.gptman_copy.proofs.Readers.{reads_then}
 use Rattle.gptman_copy.proofs.Runs.{wrote_then, wrote_wider}
+use Rattle.gptman.specs.Mbr.{mbr_bytes}
 use Rattle.gptman.proofs.table.mbr.write_mbr.Goals as goal
 
 pub returns-then-size-lt-MBR_END-clause-answer : goal.returns-then-size-lt-MBR_END-clause-answer
@@ -14,3 +16,17 @@ returns-in_err-write_all-clause-wrote g c = λ honest.
     let at : (g.D.Disk.state c.seek_start.new.self).position ≡ 446 = c.in_ok-seek_start.ensures.answer.1 in
     let size : length c.mbr_bytes.result ≡ 66 = omega arith in
     wrote_then (within_range (omega (arith, at)) (omega (arith, at, size))) (wrote_wider within_none read.wrote) (c.write_all.ensures.wrote read.wrote.honest)
+
+pub returns-clause-laid : goal.returns-clause-laid
+returns-clause-laid g c = λ honest.
+    let end = c.seek_end.ensures.reads.only honest in
+    let read = reads_then end (c.seek_start.ensures.reads.only end.wrote.honest) in
+    let laid = c.in_ok-write_all.ensures.laid read.wrote.honest in
+    let at : (g.D.Disk.state c.seek_start.new.self).position ≡ 446 = c.in_ok-seek_start.ensures.answer.1 in
+    let size : length c.mbr_bytes.result ≡ 66 = omega arith in
+    let bytes : c.mbr_bytes.result ≡ mbr_bytes c.args.bootable c.args.sector_size (g.D.Disk.state c.args.disk.now).size =
+    c.mbr_bytes.ensures ∙ ap (mbr_bytes c.args.bootable c.args.sector_size) c.in_ok-size.ensures.answer.0 in
+    record {
+      view = laid.view ∙ (λ i. overlay (read.view i) (at i) (bytes i));
+      pending = grown_since _ _ 446 66 at size read.pending laid.pending;
+    }

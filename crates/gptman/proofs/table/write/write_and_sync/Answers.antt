@@ -1,10 +1,10 @@
-use Rattle.std.proofs.Common.{◌*◌, [], ◌∷◌, inr, ℕ, subst, sym}
-use Rattle.std.specs.List.{Contains, list_all}
+use Rattle.std.proofs.Common.{[], ◌∷◌, inr, ℕ}
+use Rattle.std.specs.List.{list_all}
 use Rattle.gptman_copy.specs.Fault.{overflow, no_space_left}
 use Rattle.gptman_copy.specs.Write.{is_addressable, is_inside, write_ranges}
 use Rattle.gptman_copy.proofs.FirstFailing.{tests_pass}
 use Rattle.gptman_copy.proofs.Outcomes.{on_err_of}
-use Rattle.gptman_copy.proofs.Ranges.{within_none}
+use Rattle.gptman_copy.proofs.Ranges.{within_none, within_then}
 use Rattle.gptman_copy.proofs.Runs.{wrote_then}
 use Rattle.gptman.proofs.table.write.write_and_sync.Goals as goal
 
@@ -28,6 +28,5 @@ returns-clause-wrote g c = λ honest.
 pub returns-in_err-sync-clause-failed : goal.returns-in_err-sync-clause-failed
 returns-in_err-sync-clause-failed g c = λ honest.
     let w1 = c.write_summed.ensures.wrote honest in
-    let range : ℕ × ℕ = (c.args.header.now.primary_lba * c.args.sector_size, 92) in
-    let still = subst (λ ps. Contains ps range) (sym (c.in_err-sync.ensures.failed w1.honest)) (c.in_ok-write_summed.ensures.pending honest) in
+    let still = within_then (c.in_ok-write_summed.ensures.pending honest) (c.in_err-sync.ensures.failed w1.honest).back in
     on_err_of _ (inr still)

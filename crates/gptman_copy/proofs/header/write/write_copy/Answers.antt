@@ -1,11 +1,10 @@
-use Rattle.std.proofs.Common.{◌≡◌, ◌≢◌, ◌⊎◌, ◌*◌, inl, inr, ⊎_elim, ℕ, [], length, IsTrue, arith, subst, sym, ap, ◌∙◌}
-use Rattle.std.specs.List.{Contains}
+use Rattle.std.proofs.Common.{◌≡◌, ◌≢◌, ◌⊎◌, ◌*◌, inl, inr, ⊎_elim, ℕ, [], ◌∷◌, length, IsTrue, arith, subst, sym, ap, ◌∙◌}
 use Rattle.std.proofs.lemmas.List.{nil_from_length}
-use Rattle.gptman_copy.specs.Disk.{Untouched, overlay}
+use Rattle.gptman_copy.specs.Disk.{IsPending, Untouched, Within, overlay}
 use Rattle.gptman_copy.specs.Coding.{header_bytes, array_bytes}
 use Rattle.gptman_copy.proofs.Overlays.{overlay_nothing}
 use Rattle.gptman_copy.proofs.Outcomes.{on_err_of, on_ok_of}
-use Rattle.gptman_copy.proofs.Ranges.{contains_new, within_none}
+use Rattle.gptman_copy.proofs.Ranges.{grown_has, within_none, within_then}
 use Rattle.gptman_copy.proofs.Runs.{wrote_then, wrote_wider}
 use Rattle.gptman_copy.proofs.WriteRanges.{within_array, within_header}
 use Rattle.gptman_copy.proofs.header.write.write_copy.Given.{Over}
@@ -24,10 +23,10 @@ returns-in_err-write_all-clause-failed g c = λ honest.
     let s0 = g.D.Disk.state c.args.disk.now in
     let s2 = g.D.Disk.state c.write_all.new.self in
     let size : length c.encode.result ≡ 92 = omega arith in
-    let left : Untouched s0 s2 ⊎ Contains s2.pending (c.args.header.now.primary_lba * c.args.sector_size, 92) =
+    let left : Untouched s0 s2 ⊎ IsPending (c.args.header.now.primary_lba * c.args.sector_size, 92) s2 =
     ⊎_elim
     (λ same. inl (record { view = same.view ∙ (c.seek_start.ensures.reads.only honest).view; pending = same.pending ∙ (c.seek_start.ensures.reads.only honest).pending }))
-    (λ more. inr (contains_new _ _ _ _ _ _ c.in_ok-seek_start.ensures.answer.1 size more))
+    (λ more. inr (grown_has _ _ _ _ c.in_ok-seek_start.ensures.answer.1 size more))
     (c.in_err-write_all.ensures.failed w1.honest) in
     on_err_of _ left
 
@@ -65,8 +64,8 @@ returns-in_err-seek_start-2-clause-failed g c = λ honest.
     let w2 = c.write_all.ensures.wrote w1.honest in
     let range : ℕ × ℕ = (c.args.header.now.primary_lba * c.args.sector_size, 92) in
     let size : length c.encode.result ≡ 92 = omega arith in
-    let first = contains_new _ _ _ _ _ _ c.in_ok-seek_start.ensures.answer.1 size ((c.in_ok-write_all.ensures.laid w1.honest).pending) in
-    on_err_of _ (inr (subst (λ ps. Contains ps range) (sym ((c.seek_start-2.ensures.reads.only w2.honest).pending)) first))
+    let first = grown_has _ _ _ _ c.in_ok-seek_start.ensures.answer.1 size ((c.in_ok-write_all.ensures.laid w1.honest).pending) in
+    on_err_of _ (inr (subst (λ ps. Within (range ∷ []) ps) (sym ((c.seek_start-2.ensures.reads.only w2.honest).pending)) first))
 
 pub returns-clause-wrote : goal.returns-clause-wrote
 returns-clause-wrote g c = λ honest.
@@ -82,16 +81,16 @@ returns-clause-wrote g c = λ honest.
 
 -- the header's range became pending, and still is once the entries are written
 header_pending : (g : Over) (c : goal.After-write_entries g) → IsTrue (g.D.Disk.state c.args.disk.now).is_honest
-    → Contains (g.D.Disk.state c.write_entries.new.disk).pending (c.args.header.now.primary_lba * c.args.sector_size, 92)
+    → IsPending (c.args.header.now.primary_lba * c.args.sector_size, 92) (g.D.Disk.state c.write_entries.new.disk)
 header_pending g c honest =
     let w1 = (c.seek_start.ensures.reads.only honest).wrote in
     let w2 = c.write_all.ensures.wrote w1.honest in
     let w3 = (c.seek_start-2.ensures.reads.only w2.honest).wrote in
     let range : ℕ × ℕ = (c.args.header.now.primary_lba * c.args.sector_size, 92) in
     let size : length c.encode.result ≡ 92 = omega arith in
-    let first = contains_new _ _ _ _ _ _ c.in_ok-seek_start.ensures.answer.1 size ((c.in_ok-write_all.ensures.laid w1.honest).pending) in
-    let then_first = subst (λ ps. Contains ps range) (sym ((c.seek_start-2.ensures.reads.only w2.honest).pending)) first in
-    c.write_entries.ensures.still_pending w3.honest range then_first
+    let first = grown_has _ _ _ _ c.in_ok-seek_start.ensures.answer.1 size ((c.in_ok-write_all.ensures.laid w1.honest).pending) in
+    let then_first = subst (λ ps. Within (range ∷ []) ps) (sym ((c.seek_start-2.ensures.reads.only w2.honest).pending)) first in
+    within_then then_first (c.write_entries.ensures.still_pending w3.honest)
 
 pub returns-clause-failed : goal.returns-clause-failed
 returns-clause-failed g c = λ honest. on_err_of _ (inr (header_pending g c honest))
@@ -103,4 +102,4 @@ pub returns-then-is_empty-clause-pending : goal.returns-then-is_empty-clause-pen
 returns-then-is_empty-clause-pending g c = λ honest.
     let w1 = (c.seek_start.ensures.reads.only honest).wrote in
     let size : length c.encode.result ≡ 92 = omega arith in
-    contains_new _ _ _ _ _ _ c.in_ok-seek_start.ensures.answer.1 size ((c.in_ok-write_all.ensures.laid w1.honest).pending)
+    grown_has _ _ _ _ c.in_ok-seek_start.ensures.answer.1 size ((c.in_ok-write_all.ensures.laid w1.honest).pending)

@@ -7,7 +7,7 @@ use Rattle.gptman_copy.specs.declared.codec.entry.GPTPartitionEntry.{GPTPartitio
 use Rattle.gptman_copy.proofs.ArrayBytes.{array_long}
 use Rattle.gptman_copy.proofs.BlockBytes.{block_count, block_more, entries_more}
 use Rattle.gptman_copy.proofs.Overlays.{overlay_more}
-use Rattle.gptman_copy.proofs.Ranges.{within_range}
+use Rattle.gptman_copy.proofs.Ranges.{within_range, within_then}
 use Rattle.gptman_copy.proofs.Runs.{wrote_then}
 use Rattle.gptman_copy.proofs.header.write.write_entries.Goals as goal
 
@@ -59,5 +59,5 @@ loop-done-preserved g c =
           ∙ ap (λ p. overlay (overlay start.view start.position xs) p (array_bytes block)) here
           ∙ overlay_more start.view start.position xs (array_bytes block) fits
           ∙ ap (λ l. overlay start.view start.position l) (sym (block_more es done end upto));
-      still_pending = λ honest range has. next.still_pending (inv.wrote honest).honest range (inv.still_pending honest range has);
+      still_pending = λ honest. within_then (inv.still_pending honest) (next.still_pending (inv.wrote honest).honest);
     }

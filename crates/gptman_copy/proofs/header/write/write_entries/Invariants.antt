@@ -1,7 +1,6 @@
-use Rattle.std.proofs.Common.{◌≡◌, ◌≤◌, ℕ, ◌+◌, ◌-◌, ◌*◌, [], ◌∷◌, All, length, take, IsTrue}
-use Rattle.std.specs.List.{Contains}
+use Rattle.std.proofs.Common.{◌≡◌, ◌≤◌, ◌+◌, ◌-◌, ◌*◌, [], ◌∷◌, All, length, take, IsTrue}
 use Rattle.gptman_copy.specs.Coding.{FitsEntry, array_bytes}
-use Rattle.gptman_copy.specs.Disk.{Keeps, Wrote, overlay}
+use Rattle.gptman_copy.specs.Disk.{Keeps, StaysPending, Wrote, overlay}
 use Rattle.gptman_copy.proofs.header.write.write_entries.Given as goal
 
 abbrev pub invariant-loop-done : goal.invariant-loop-done
@@ -14,7 +13,7 @@ invariant-loop-done g l = record {
   wrote : IsTrue (g.D.Disk.state l.fn.disk).is_honest → Wrote (((g.D.Disk.state l.fn.disk).position, 128 * length l.partitions) ∷ []) (g.D.Disk.state l.fn.disk) (g.D.Disk.state l.disk);
   laid : IsTrue (g.D.Disk.state l.fn.disk).is_honest
       → (g.D.Disk.state l.disk).view ≡ overlay (g.D.Disk.state l.fn.disk).view (g.D.Disk.state l.fn.disk).position (array_bytes (take l.done l.partitions));
-  still_pending : IsTrue (g.D.Disk.state l.fn.disk).is_honest → (range : ℕ × ℕ) → Contains (g.D.Disk.state l.fn.disk).pending range → Contains (g.D.Disk.state l.disk).pending range;
+  still_pending : IsTrue (g.D.Disk.state l.fn.disk).is_honest → StaysPending (g.D.Disk.state l.fn.disk) (g.D.Disk.state l.disk);
 }
 
 abbrev pub decreases-loop-done : goal.decreases-loop-done

@@ -1,7 +1,9 @@
-use Rattle.std.proofs.Common.{arith, rules, ◌≡◌, ◌∙◌, ◌++◌, [], ◌∷◌, inr, refl, sym}
+use Rattle.std.proofs.Common.{arith, rules, ◌≡◌, ◌∙◌, ◌++◌, [], ◌∷◌, inl, inr, refl, ap, sym, List}
 use Rattle.std.proofs.lemmas.Grind.{common_steps}
+use Rattle.gptman_copy.specs.declared.disk.memory.Event.{Event}
 use Rattle.gptman_copy.specs.declared.disk.memory.Written.{Written}
 use Rattle.gptman_copy.specs.declared.disk.memory.Event.TheVariants.{Write}
+use Rattle.gptman_copy.proofs.Counting.{counts_kept, counts_write}
 use Rattle.gptman_copy.proofs.Events.{served, refused}
 use Rattle.gptman_copy.proofs.disk.memory.MemoryDiskDisk.write_all.Goals as goal
 
@@ -39,3 +41,30 @@ returns-clause-recorded c =
     let one_more : c.push.new.self.items ≡ d.events.items ++ Write w ∷ [] = search rules in
     let same : c.in-Ok.bytes.items ≡ c.args.buf.now = search rules in
     record { written = w; place = refl; bytes_are = same; done_is = c.if-not-done.false; start = refl; events = one_more }
+
+pub returns-then-not-done-clause-stops : goal.returns-then-not-done-clause-stops
+returns-then-not-done-clause-stops c =
+    let d = c.args.self.now in
+    let w : Written = record { at = d.position; bytes = c.in-Ok.bytes; done = c.is_served-done.result } in
+    let one_more : c.push.new.self.items ≡ d.events.items ++ Write w ∷ [] = search rules in
+    let same : c.in-Ok.bytes.items ≡ c.args.buf.now = search rules in
+    inl (counts_write d.start.items d.bytes.items d.bytes.items d.events.items c.push.new.self.items d.replays d.fits _ _ _ _ w d.position c.args.buf.now refl same d.size c.requires one_more)
+
+pub returns-clause-stops : goal.returns-clause-stops
+returns-clause-stops c =
+    let d = c.args.self.now in
+    let w : Written = record { at = d.position; bytes = c.in-Ok.bytes; done = c.is_served-done.result } in
+    let one_more : c.push.new.self.items ≡ d.events.items ++ Write w ∷ [] = search rules in
+    let same : c.in-Ok.bytes.items ≡ c.args.buf.now = search rules in
+    counts_write d.start.items d.bytes.items c.lay.new.bytes.items d.events.items c.push.new.self.items d.replays d.fits _ _ _ _ w d.position c.args.buf.now refl same d.size c.requires one_more
+
+pub returns-in_default-clause-stops : goal.returns-in_default-clause-stops
+returns-in_default-clause-stops c =
+    let d = c.args.self.now in
+    inr ((c.lack_memory.ensures.kind, refl), counts_kept d.start.items d.bytes.items d.bytes.items d.events.items d.events.items d.replays d.fits _ _ _ _ refl)
+
+pub returns-then-is_err-clause-stops : goal.returns-then-is_err-clause-stops
+returns-then-is_err-clause-stops c =
+    let d = c.args.self.now in
+    let same : c.push.new.self.items ≡ d.events.items = search rules in
+    inr ((c.lack_memory-then-is_err.ensures.kind, ap (λ (es : List Event). record { start = d.start.items; events = es }) same), counts_kept d.start.items d.bytes.items d.bytes.items d.events.items c.push.new.self.items d.replays d.fits _ _ _ _ same)
