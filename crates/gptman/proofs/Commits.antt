@@ -9,7 +9,7 @@ use Rattle.gptman.specs.Commit.{RefusesEdit}
 use Rattle.gptman.specs.Commit.RefusesEdit.{not_applied, not_written}
 use Rattle.gptman.specs.Crash.{HasRangesOf, IsKeptFor, other_side, StartsFromOne}
 use Rattle.gptman_copy.specs.Disk.{DiskState, IsSound, Keeps, LeavesOnly}
-use Rattle.gptman.specs.Edit.{after_edit, edit_fault}
+use Rattle.gptman.specs.Edit.{after_edit, edit_fault, edited_all}
 use Rattle.gptman_copy.specs.Fault.{Fault, io, invalid_partition_number}
 use Rattle.gptman_copy.specs.Ranges.{AreClear}
 use Rattle.gptman.specs.Layout.{HasLayout, Holds, IsLaidOut, ranges_at}
@@ -85,6 +85,12 @@ keeps_both g mid new first second = record {
   header = second.header ∙ ap (λ (h : GPTHeader). with_sums h new.header.disk_guid new.header.crc32_checksum new.header.partition_entry_array_crc32) first.header;
   long = second.long ∙ first.long;
 }
+
+-- So does a list of edits.
+pub list_keeps : (g : GPT) (edits : List Edit) → KeepsRanges g (edited_all g edits)
+list_keeps g [] = record { sector = refl; header = refl; long = refl }
+list_keeps g (edit ∷ edits) =
+    let next = after_edit g edit in keeps_both g next (edited_all next edits) (edited_keeps g edit) (list_keeps next edits)
 
 -- ---- what stands on the sides stays
 

@@ -1,13 +1,14 @@
 -- What a write of a table starts from, and what it leaves where it is stopped or fails.
 use Rattle.std.specs.Prelude.{◌≡◌, ℕ, List, [], ◌++◌, length, Ok, IsErr, IsTrue}
+use Rattle.gptman_copy.specs.Copy.{IsCoherent}
 use Rattle.gptman_copy.specs.Disk.{AgreesOutside, DiskState, Image, IsHonest, IsPending, LeavesOnly, Outside}
 use Rattle.gptman_copy.specs.Fit.{fit_header}
 use Rattle.gptman_copy.specs.Ranges.{AgreesInside, AreClear, Inside}
-use Rattle.gptman.specs.Edit.{after_edit}
+use Rattle.gptman.specs.Edit.{after_edit, edited_all}
 use Rattle.gptman.specs.Layout.{HasLayout, Holds, ranges_at}
 use Rattle.gptman.specs.Reading.{Side, primary, backup, copy_start, copy_in, reading_of, taken_from}
 use Rattle.gptman.specs.Stop.{IsStored, ReadsTable}
-use Rattle.gptman.specs.Table.{Table, table_in, IsHeaderForm}
+use Rattle.gptman.specs.Table.{Table, entries_in, table_in, IsHeaderForm}
 use Rattle.gptman.specs.TableReads.{copy_of}
 use Rattle.gptman_copy.specs.declared.codec.header.GPTHeader.{GPTHeader}
 use Rattle.gptman.specs.declared.edit.Edit.{Edit}
@@ -115,3 +116,8 @@ KeepsWhatIsRead disk = (g next : GPT) → IsHonest disk → disk.pending ≡ [] 
 -- An edit keeps the places of a value, and the stated layout.
 abbrev pub EditsKeepPlaces : Type 0
 EditsKeepPlaces = (g : GPT) (edit : Edit) (len : ℕ) → HasPlacesOf g (after_edit g edit) × (HasLayout g len → HasLayout (after_edit g edit) len)
+
+-- A list of edits keeps these too, and that the header says what the list of entries is.
+abbrev pub EditListsKeepPlaces : Type 0
+EditListsKeepPlaces = (g : GPT) (edits : List Edit) (len : ℕ) → let next = edited_all g edits in
+    HasPlacesOf g next × (HasLayout g len → HasLayout next len) × (IsCoherent g.header (entries_in g) → IsCoherent next.header (entries_in next))

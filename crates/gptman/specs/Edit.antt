@@ -1,5 +1,6 @@
 -- Edits of a table, as values.
-use Rattle.std.specs.Prelude.{ℕ, List, fold, take, Option, None}
+use Rattle.std.specs.Prelude.{ℕ, List, [], ◌∷◌, fold, take, Option, None}
+use Rattle.std.specs.Option.{option_or}
 use Rattle.gptman_copy.specs.Coding.{empty_entry}
 use Rattle.gptman_copy.specs.Fault.{Fault}
 use Rattle.gptman.specs.Number.{number_fault, with_entries, with_entry}
@@ -16,9 +17,13 @@ after_edit g (Remove i) = with_entry g i empty_entry
 after_edit g SortEntries = with_entries g (by_rank rank (entries_in g))
 after_edit g (DiskGuid guid) = record g { header = record g.header { disk_guid = guid } }
 
+-- the table after all edits, one after the other
+abbrev pub edited_all : GPT → List Edit → GPT
+edited_all g edits = fold after_edit g edits
+
 -- the table after the first k edits
 abbrev pub table_after : GPT → List Edit → ℕ → GPT
-table_after g edits k = fold after_edit g (take k edits)
+table_after g edits k = edited_all g (take k edits)
 
 -- what is refused of an edit's number
 abbrev pub edit_fault : GPT → Edit → Option Fault
@@ -26,3 +31,8 @@ edit_fault g (Put i e) = number_fault g i
 edit_fault g (Remove i) = number_fault g i
 edit_fault g SortEntries = None
 edit_fault g (DiskGuid guid) = None
+
+-- what is refused of the first edit that is refused, each of the table that those before it left
+abbrev pub edits_fault : GPT → List Edit → Option Fault
+edits_fault g [] = None
+edits_fault g (edit ∷ edits) = option_or (edit_fault g edit) (edits_fault (after_edit g edit) edits)

@@ -1,7 +1,7 @@
 //! Edits of a table as values, made one after the other.
 
 ghost use Rattle.std.specs.Prelude.{◌≡◌, ◌≤◌, ◌<◌, ◌⊎◌, [], ◌∷◌, ℕ, length};
-ghost use Rattle.std.specs.Prelude.{IfErr, IfNone, IfSome, IsTrue, OnErr, OnOk};
+ghost use Rattle.std.specs.Prelude.{IfErr, IfNone, IfOk, IfSome, IsTrue, OnErr, OnOk};
 ghost use Rattle.gptman_copy.specs.Answers.{refusal_of, CountsFailure, HasCause, Refuses};
 ghost use Rattle.gptman_copy.specs.Copy.{IsCoherent};
 ghost use Rattle.gptman_copy.specs.Disk.{HasFailedAsOften, HasFailedOnceAtMost, IsHonest, Keeps, OnlyRead};
@@ -13,7 +13,7 @@ ghost use Rattle.gptman.specs.Commit.{BothSidesAfterEdits, IsLaidAfter};
 ghost use Rattle.gptman.specs.Commit.{IsAllowed, IsAllowedAt, IsRefusedAt, RefusesEdit, Stands};
 ghost use Rattle.gptman.specs.Crash.{StartsFromOne, StartsLaidOut, StartsStored, StartsSynced};
 ghost use Rattle.gptman.specs.Crash.{AreReadAlone, BothSidesAfter, StopsKeepOthers};
-ghost use Rattle.gptman.specs.Edit.{after_edit, edit_fault, table_after};
+ghost use Rattle.gptman.specs.Edit.{after_edit, edit_fault, edited_all, edits_fault, table_after};
 ghost use Rattle.gptman.specs.Layout.{HasLayout};
 ghost use Rattle.gptman.specs.Stop.{IsStored, StopsAreReadAs, StopsHold};
 ghost use Rattle.gptman.specs.Table.{entries_in, table_in};
@@ -47,6 +47,21 @@ pub struct Progress {
     pub fault: Option<Error>,
 }
 
+impl Edit {
+    // The same edit again. Only that of an entry takes memory, for the text of its name.
+    fn clone(&self) -> Result<Edit>
+        ensures ok { IfOk result (λ edit. edit ≡ self.now) }
+        ensures refused { IfErr result (λ e. fault_of e ≡ out_of_memory) }
+    {
+        match self {
+            Edit::Put(i, entry) => Ok(Edit::Put(*i, entry.clone()?)),
+            Edit::Remove(i) => Ok(Edit::Remove(*i)),
+            Edit::SortEntries => Ok(Edit::SortEntries),
+            Edit::DiskGuid(guid) => Ok(Edit::DiskGuid(*guid)),
+        }
+    }
+}
+
 impl GPT {
     /// Makes the edit, in memory alone.
     ///
@@ -67,6 +82,35 @@ impl GPT {
                 Ok(())
             }
         }
+    }
+
+    /// Makes all of the edits, one after the other and in memory alone, or none of them.
+    ///
+    /// Where `apply` refuses one, of the table that those before it left, its refusal is the answer;
+    /// `OutOfMemory` where there is no memory for the same table again, for the name of an entry that
+    /// is put, or to sort the entries. Nothing changes then.
+    pub fn apply_all(&mut self, edits: &[Edit]) -> Result<()>
+        ensures answer { (refusal_of result ≡ edits_fault self.old edits.now)
+            ⊎ Refuses result out_of_memory }
+        ensures value { OnOk result (self.new ≡ edited_all self.old edits.now) }
+        ensures kept { OnErr result (self.new ≡ self.old) }
+    {
+        let mut edited = self.clone()?;
+        edited.apply_each(edits)?;
+        *self = edited;
+        Ok(())
+    }
+
+    // Makes the edits one after the other, up to the first that is refused.
+    fn apply_each(&mut self, edits: &[Edit]) -> Result<()>
+        ensures answer { (refusal_of result ≡ edits_fault self.old edits.now)
+            ⊎ Refuses result out_of_memory }
+        ensures value { OnOk result (self.new ≡ edited_all self.old edits.now) }
+    {
+        for edit in edits {
+            self.apply(edit.clone()?)?;
+        }
+        Ok(())
     }
 
     /// Makes the edits one after the other and writes the table after each. Stops at the first that is

@@ -1,7 +1,8 @@
 //! Laws for callers of a reading and of a write, over byte lists or over the state of a disk. These
 //! calls do nothing.
 
-ghost use Rattle.gptman.specs.Crash.{EditsKeepPlaces, GrowingIsSafe, KeepsWhatIsRead, TakesInForm};
+ghost use Rattle.gptman.specs.Crash.{EditListsKeepPlaces, EditsKeepPlaces, GrowingIsSafe};
+ghost use Rattle.gptman.specs.Crash.{KeepsWhatIsRead, TakesInForm};
 ghost use Rattle.gptman.specs.Stop.{AcceptsWhatStands, HoldsWhatIsRead, ReadsWhatItHolds};
 
 use gptman_copy::Disk;
@@ -42,4 +43,11 @@ pub fn what_is_read_is_kept<D: Disk>(disk: &D)
     ensures taken { TakesInForm (D.state disk.now).view }
     ensures kept { KeepsWhatIsRead (D.state disk.now) }
     ensures edited { EditsKeepPlaces }
+{}
+
+/// What a list of edits makes of a value, as `apply_all` does, has the sector size of the value, its
+/// form and its four ranges, and has the stated layout and is coherent where the value is so. So it
+/// may be given to `write_into`.
+pub fn edit_lists_keep_places()
+    ensures { EditListsKeepPlaces }
 {}
