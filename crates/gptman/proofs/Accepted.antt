@@ -90,14 +90,7 @@ failed_or_memory g fault old new is fits (not_valid said) = absurd (never_valid 
 failed_or_memory g fault old new is fits (no_room good full) = let e = sym fits ∙ full in absurd (cc)
 failed_or_memory g fault old new is fits (disk_failed good near failed) = inr failed
 
--- what is written of a valid table
-pub written_valid : {T : Type 0} (g : GPT) (r : Result T Error) (old new : DiskState) → IsValid g.header (entries_in g) → Settles (table_write_fault g old.size) r old new
-    → OnOk r (MayBeWritten g old.size)
-written_valid g (Ok x) old new is (inl said) = record { valid = is; room = sym said }
-written_valid g (Ok x) old new is (inr fails) = absurd fails.0
-written_valid g (Err e) old new is answer = tt
-
--- and what is refused
+-- what is refused of a valid table
 pub write_refused : {T : Type 0} (g : GPT) (r : Result T Error) (old new : DiskState) → IsValid g.header (entries_in g) → RefusesAtOnce (table_write_fault g old.size) r
     → Settles (table_write_fault g old.size) r old new → IfErr r (λ e. RefusesWrite g (fault_of e) old new)
 write_refused g (Ok x) old new is at_once answer = tt
@@ -110,11 +103,3 @@ checked_valid h es fs is (inl never) = absurd never
 checked_valid h es fs is (inr (shared_guid shared said)) = absurd (cc)
 checked_valid h es fs is (inr (bad_boundaries own bad said)) = absurd (cc)
 checked_valid h es fs is (inr (valid good said)) = subst (IsValid h) is good
-
--- and what they refuse is refused
-pub check_refused : {T : Type 0} (g : GPT) (fs : List GPTPartitionEntry) (r : Result T Error) (e : Error) (old new : DiskState) → r ≡ Err e → fs ≡ entries_in g
-    → (fault_of e ≡ out_of_memory) ⊎ IsValidity g.header fs (Some (fault_of e)) → IfErr r (λ e. RefusesWrite g (fault_of e) old new)
-check_refused {T} g fs r e old new is same said = subst (λ (o : Result T Error). IfErr o (λ e. RefusesWrite g (fault_of e) old new)) (sym is) (elim said as (λ _. RefusesWrite g (fault_of e) old new) [
-  | inl out ↦ no_memory out
-  | inr validity ↦ not_valid (subst (λ (xs : List GPTPartitionEntry). IsValidity g.header xs (Some (fault_of e))) same validity)
-])
