@@ -40,6 +40,25 @@ chosen_by false P x y z is h = inr h
 chosen : {A : Type 0} (text word : List ℕ) (x y z : A) → cond (bytes_eq text word) x y ≡ z → ((text ≡ word) × (x ≡ z)) ⊎ (y ≡ z)
 chosen text word x y z h = chosen_by (bytes_eq text word) (text ≡ word) x y z (bytes_decides text word).0 h
 
+-- what stands beside the word that the text is, or else what is for any other text
+abbrev pick : {A : Type 0} → List ℕ → List (List ℕ × A) → A → A
+pick text [] other = other
+pick text (row ∷ rows) other = cond (bytes_eq text row.0) row.1 (pick text rows other)
+
+-- what stands beside each word has the property where it is some value and the text is the word
+abbrev Each : {A : Type 0} → (A → Type 0) → List ℕ → List (List ℕ × Option A) → Type 0
+Each P text [] = Unit {0}
+Each P text (row ∷ rows) = ((a : _) → text ≡ row.0 → row.1 ≡ Some a → P a) × Each P text rows
+
+-- then what is picked has it, if any other text does not spoil it
+picked : {A : Type 0} (P : A → Type 0) (text : List ℕ) (rows : List (List ℕ × Option A)) (other : Option A) (a : A) → Each P text rows
+    → (other ≡ Some a → P a) → pick text rows other ≡ Some a → P a
+picked P text [] other a each rest h = rest h
+picked P text (row ∷ rows) other a each rest h = elim (chosen text row.0 row.1 (pick text rows other) (Some a) h) [
+  | inl is ↦ each.0 a is.0 is.1
+  | inr h ↦ picked P text rows other a each.1 rest h
+]
+
 all_true : (a b c : Bool) → (a && b && c) ≡ true → (a ≡ true) × (b ≡ true) × (c ≡ true)
 all_true true true true h = (refl, refl, refl)
 all_true true true false h = cc h
@@ -56,10 +75,6 @@ passed false x y h = cc h
 not_refused : {A : Type 0} (b : Bool) (x y : A) → cond b None (Some x) ≡ Some y → (b ≡ false) × (x ≡ y)
 not_refused true x y h = cc h
 not_refused false x y h = (refl, some_same x y h)
-
-then_parts : {A B : Type 0} (f : A → Option B) (a : Option A) (b : B) → option_and_then f a ≡ Some b → (x : A) × (a ≡ Some x) × (f x ≡ Some b)
-then_parts f None b h = cc h
-then_parts f (Some x) b h = (x, refl, h)
 
 map_parts : {A B : Type 0} (f : A → B) (a : Option A) (b : B) → option_map f a ≡ Some b → (x : A) × (a ≡ Some x) × (f x ≡ b)
 map_parts f None b h = cc h
@@ -172,20 +187,15 @@ sector_size_read text (Some n) h fits =
 
 -- ---- words of a few
 
+-- the text is the word of a value
+spelled_by : {A : Type 0} (word : A → List ℕ) (text : List ℕ) (x a : A) → text ≡ word x → Some x ≡ Some a → text ≡ word a
+spelled_by word text x a is h = is ∙ ap word (some_same x a h)
+
 choice_spelled : (text : List ℕ) (choice : Choice) → choice_in text ≡ Some choice → text ≡ choice_word choice
 choice_spelled text choice h =
-    elim (chosen text (codes "first") (Some First) (cond (bytes_eq text (codes "last")) (Some Last) (cond (bytes_eq text (codes "best")) (Some Best) None)) (Some choice) h) [
-      | inl first ↦ subst (λ c. text ≡ choice_word c) (some_same First choice first.1) first.0
-      | inr h ↦
-          elim (chosen text (codes "last") (Some Last) (cond (bytes_eq text (codes "best")) (Some Best) None) (Some choice) h) [
-            | inl last ↦ subst (λ c. text ≡ choice_word c) (some_same Last choice last.1) last.0
-            | inr h ↦
-                elim (chosen text (codes "best") (Some Best) None (Some choice) h) [
-                  | inl best ↦ subst (λ c. text ≡ choice_word c) (some_same Best choice best.1) best.0
-                  | inr none ↦ cc none
-                ]
-          ]
-    ]
+    let by = spelled_by choice_word text in
+    picked (λ c. text ≡ choice_word c) text ((codes "first", Some First) ∷ (codes "last", Some Last) ∷ (codes "best", Some Best) ∷ []) None choice
+    (by First, (by Last, (by Best, tt))) (λ none. cc none) h
 
 choice_read : (text : List ℕ) (choice : Choice) → text ≡ choice_word choice → choice_in text ≡ Some choice
 choice_read text First h = ap choice_in h
@@ -194,14 +204,9 @@ choice_read text Best h = ap choice_in h
 
 kind_spelled : (text : List ℕ) (bootable : Bool) → kind_in text ≡ Some bootable → text ≡ kind_word bootable
 kind_spelled text bootable h =
-    elim (chosen text (codes "plain") (Some false) (cond (bytes_eq text (codes "bootable")) (Some true) None) (Some bootable) h) [
-      | inl plain ↦ subst (λ b. text ≡ kind_word b) (some_same false bootable plain.1) plain.0
-      | inr h ↦
-          elim (chosen text (codes "bootable") (Some true) None (Some bootable) h) [
-            | inl boots ↦ subst (λ b. text ≡ kind_word b) (some_same true bootable boots.1) boots.0
-            | inr none ↦ cc none
-          ]
-    ]
+    let by = spelled_by kind_word text in
+    picked (λ b. text ≡ kind_word b) text ((codes "plain", Some false) ∷ (codes "bootable", Some true) ∷ []) None bootable
+    (by false, (by true, tt)) (λ none. cc none) h
 
 kind_read : (text : List ℕ) (bootable : Bool) → text ≡ kind_word bootable → kind_in text ≡ Some bootable
 kind_read text false h = ap kind_in h
@@ -364,32 +369,24 @@ remove_spelled name (number ∷ []) change is h =
     subst (Means (name ∷ number ∷ [])) p.2 ((is, n.0), n.1)
 remove_spelled name (number ∷ other ∷ words) change is h = cc h
 
-sort_spelled : (name : List ℕ) (words : List (List ℕ)) (change : Change) → name ≡ codes "sort" → alone Sort words ≡ Some change → Means (name ∷ words) change
-sort_spelled name [] change is h = subst (Means (name ∷ [])) (some_same Sort change h) (is, tt)
-sort_spelled name (other ∷ words) change is h = cc h
-
-grow_spelled : (name : List ℕ) (words : List (List ℕ)) (change : Change) → name ≡ codes "grow" → alone Grow words ≡ Some change → Means (name ∷ words) change
-grow_spelled name [] change is h = subst (Means (name ∷ [])) (some_same Grow change h) (is, tt)
-grow_spelled name (other ∷ words) change is h = cc h
+-- a change that takes no words, where its name means it
+alone_spelled : (one : Change) (name : List ℕ) (words : List (List ℕ)) (change : Change) → Means (name ∷ []) one → alone one words ≡ Some change → Means (name ∷ words) change
+alone_spelled one name [] change means h = subst (Means (name ∷ [])) (some_same one change h) means
+alone_spelled one name (other ∷ words) change means h = cc h
 
 change_spelled : (name : List ℕ) (words : List (List ℕ)) (change : Change) → named_change_in name words ≡ Some change → Means (name ∷ words) change
 change_spelled name words change h =
-    elim (chosen name (codes "add") (option_map (λ a. Add a) (addition_in words)) _ (Some change) h) [
-      | inl is ↦ add_spelled name words change is.0 is.1
-      | inr h ↦
-          elim (chosen name (codes "remove") (remove_in words) _ (Some change) h) [
-            | inl is ↦ remove_spelled name words change is.0 is.1
-            | inr h ↦
-                elim (chosen name (codes "sort") (alone Sort words) _ (Some change) h) [
-                  | inl is ↦ sort_spelled name words change is.0 is.1
-                  | inr h ↦
-                      elim (chosen name (codes "grow") (alone Grow words) None (Some change) h) [
-                        | inl is ↦ grow_spelled name words change is.0 is.1
-                        | inr none ↦ cc none
-                      ]
-                ]
-          ]
-    ]
+    picked (Means (name ∷ words)) name (
+      (codes "add", option_map (λ a. Add a) (addition_in words)) ∷ (codes "remove", remove_in words)
+      ∷ (codes "sort", alone Sort words) ∷ (codes "grow", alone Grow words) ∷ []
+    ) None change
+    (
+      add_spelled name words,
+      (
+        remove_spelled name words,
+        (λ change is. alone_spelled Sort name words change (is, tt), (λ change is. alone_spelled Grow name words change (is, tt), tt)),
+      ),
+    ) (λ none. cc none) h
 
 -- ---- commands
 
@@ -461,26 +458,14 @@ changing_spelled sector name words command h =
 named_spelled : (sector name : List ℕ) (words : List (List ℕ)) (command : Command) → named_command_in sector name words ≡ Some command
     → IsMeant (sector ∷ name ∷ words) command
 named_spelled sector name words command h =
-    elim (chosen name (codes "new") (new_in sector words) _ (Some command) h) [
-      | inl is ↦ new_spelled sector name words command is.0 is.1
-      | inr h ↦
-          elim (chosen name (codes "mbr") (mbr_in sector words) _ (Some command) h) [
-            | inl is ↦ mbr_spelled sector name words command is.0 is.1
-            | inr h ↦
-                elim (chosen name (codes "check") (check_in sector words) _ (Some command) h) [
-                  | inl is ↦ check_spelled sector name words command is.0 is.1
-                  | inr h ↦
-                      elim (chosen name (codes "show") (show_in sector words) _ (Some command) h) [
-                        | inl is ↦ show_spelled sector name words command is.0 is.1
-                        | inr h ↦
-                            elim (chosen name (codes "free") (free_in sector words) (change_in sector name words) (Some command) h) [
-                              | inl is ↦ free_spelled sector name words command is.0 is.1
-                              | inr h ↦ changing_spelled sector name words command h
-                            ]
-                      ]
-                ]
-          ]
-    ]
+    picked (IsMeant (sector ∷ name ∷ words)) name (
+      (codes "new", new_in sector words) ∷ (codes "mbr", mbr_in sector words) ∷ (codes "check", check_in sector words)
+      ∷ (codes "show", show_in sector words) ∷ (codes "free", free_in sector words) ∷ []
+    ) (change_in sector name words) command
+    (
+      new_spelled sector name words,
+      (mbr_spelled sector name words, (check_spelled sector name words, (show_spelled sector name words, (free_spelled sector name words, tt)))),
+    ) (changing_spelled sector name words command) h
 
 -- what is answered is spelled by the words, and allowed
 pub command_spelled : (words : List (List ℕ)) (command : Command) → command_in words ≡ Some command → IsMeant words command

@@ -95,7 +95,7 @@ pub failure_rose : {T : Type 0} (r : Result T Error) (old new : DiskState) → I
 failure_rose (Ok x) old new failed refuses = absurd refuses
 failure_rose (Err e) old new failed refuses = failed.1
 
--- What is refused.
+-- what is refused of a valid table
 pub write_refused : {T : Type 0} (g : GPT) (r : Result T Error) (old new : DiskState) → IsValid g.header (entries_in g) → RefusesAtOnce (table_write_fault g old.size) r
     → Settles (table_write_fault g old.size) r old new → IfErr r (λ e. RefusesWrite g (fault_of e) old new)
 write_refused g (Ok x) old new is at_once answer = tt

@@ -8,7 +8,7 @@ use Rattle.std.proofs.lemmas.List.Sorted.{IsPermutation-sym}
 use Rattle.gptman_copy.specs.Entry.{covered_range}
 use Rattle.gptman.specs.Valid.{AreDisjoint, EndsBefore}
 use Rattle.gptman_copy.specs.declared.codec.entry.GPTPartitionEntry.{GPTPartitionEntry}
-use Rattle.gptman.proofs.Covered.{covered_if, covers_if, range_of, covers_nothing}
+use Rattle.gptman.proofs.Covered.{covers_nothing, range_of}
 use Rattle.gptman.proofs.Pairs.{AllPairs-filter_map, AllPairs-from_filter_map, AllPairs-permutation}
 
 -- no sector is in both ranges
@@ -16,30 +16,13 @@ abbrev pub Separate : ℕ × ℕ → ℕ × ℕ → Type 0
 Separate r t = (x : ℕ) → r.0 ≤ x → x ≤ r.1 → t.0 ≤ x → x ≤ t.1 → ⊥
 
 separate_ranges : (e f : GPTPartitionEntry) (r t : ℕ × ℕ) → covered_range e ≡ Some r → covered_range f ≡ Some t → AreDisjoint e f → Separate r t
-separate_ranges e f r t er ft disjoint x a b c d =
-    let p = range_of e r er in
-    let q = range_of f t ft in
-    let p0 = p.from in
-    let p1 = p.to in
-    let q0 = q.from in
-    let q1 = q.to in
-    disjoint x (covers_if e x (record { used = p.used; from = omega arith; to = omega arith })) (covers_if f x (record { used = q.used; from = omega arith; to = omega arith }))
+separate_ranges e f r t er ft disjoint x a b c d = disjoint x ((range_of e r er).covered x a b) ((range_of f t ft).covered x c d)
 
 disjoint_entries : (e f : GPTPartitionEntry) (r t : ℕ × ℕ) → covered_range e ≡ Some r → covered_range f ≡ Some t → Separate r t → AreDisjoint e f
 disjoint_entries e f r t er ft separate x first second =
-    let p = range_of e r er in
-    let q = range_of f t ft in
-    let p0 = p.from in
-    let p1 = p.to in
-    let q0 = q.from in
-    let q1 = q.to in
-    let c = covered_if e x first in
-    let d = covered_if f x second in
-    let c0 = c.from in
-    let c1 = c.to in
-    let d0 = d.from in
-    let d1 = d.to in
-    separate x (omega arith) (omega arith) (omega arith) (omega arith)
+    let here = (range_of e r er).within x first in
+    let there = (range_of f t ft).within x second in
+    separate x here.0 here.1 there.0 there.1
 
 -- the ranges in any order are separate where the entries are disjoint
 pub ranges_separate : (es : List GPTPartitionEntry) (rs : List (ℕ × ℕ)) → IsPermutation (filter_map covered_range es) rs → AllPairs AreDisjoint es → AllPairs Separate rs

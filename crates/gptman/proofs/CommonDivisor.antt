@@ -15,9 +15,6 @@ pub record IsGreatestCommonDivisor (starts : List ℕ) (g : ℕ) : Type 0 where
   pub divides : All (λ s. g ∣ s) starts
   pub greatest : (d : ℕ) → All (λ s. d ∣ s) starts → d ∣ g
 
-pub common_none : IsGreatestCommonDivisor [] 0
-common_none = record { divides = All-nil (λ s. 0 ∣ s); greatest = λ d all. dvd-zero d }
-
 All-init : {X : Type 0} (P : X → Type 0) (xs ys : List X) → All P (xs ++ ys) → All P xs
 All-init {X} P xs ys all k d h = subst (λ (x : X). P x) (get_or_append_left xs ys d k h) (all k d (omega (arith, h, length-append xs ys)))
 
@@ -37,14 +34,6 @@ starts_used es i d h used =
 pub starts_unused : (es : List GPTPartitionEntry) (i : ℕ) (d : GPTPartitionEntry) → i < length es → is_used (get_or es i d) ≡ false → used_starts (take (i + 1) es) ≡ used_starts (take i es)
 starts_unused es i d h unused =
     ap (map (λ (e : GPTPartitionEntry). e.starting_lba)) (filter_more is_used es i d h ∙ ap (λ (c : Bool). filter is_used (take i es) ++ cond c (get_or es i d ∷ []) []) unused ∙ append-nil (filter is_used (take i es)))
-
-pub alignment_none : (first : ℕ) (starts : List ℕ) → length starts ≡ 0 → IsAlignmentOf first starts 2048
-alignment_none first starts empty = record {
-  none = λ e. refl;
-  alone = λ e. let l = ap length e in absurd (omega arith);
-  zero = λ some all. absurd (some (nil_from_length starts empty));
-  other = λ some more nonzero. absurd (some (nil_from_length starts empty));
-}
 
 pub alignment_zero : (first : ℕ) (starts : List ℕ) (g : ℕ) → IsGreatestCommonDivisor starts g → g ≡ 0 → length starts ≢ 0 → IsAlignmentOf first starts 1
 alignment_zero first starts g c e some = record {

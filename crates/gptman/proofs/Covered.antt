@@ -26,19 +26,20 @@ covers_if e x c =
     and_from (is_used e && nat_le e.starting_lba x) (nat_le x e.ending_lba) (and_from (is_used e) (nat_le e.starting_lba x) c.used (le-leb e.starting_lba x c.from))
     (le-leb x e.ending_lba c.to)
 
--- What a range says of its entry.
+-- The sectors in the range are those that the entry covers.
 pub record IsRangeOf (e : GPTPartitionEntry) (r : ℕ × ℕ) : Type 0 where
-  pub used : IsTrue (is_used e)
-  pub from : e.starting_lba ≡ r.0
-  pub to : e.ending_lba ≡ r.1
+  pub covered : (x : ℕ) → r.0 ≤ x → x ≤ r.1 → IsTrue (covers x e)
+  pub within : (x : ℕ) → IsTrue (covers x e) → (r.0 ≤ x) × (x ≤ r.1)
 
 pub range_of : (e : GPTPartitionEntry) (r : ℕ × ℕ) → covered_range e ≡ Some r → IsRangeOf e r
 range_of e r h =
-    let x = cond_some (is_used e && nat_le e.starting_lba e.ending_lba) (e.starting_lba, e.ending_lba) r h in
+    let given = cond_some (is_used e && nat_le e.starting_lba e.ending_lba) (e.starting_lba, e.ending_lba) r h in
+    let used = (and_parts (is_used e) (nat_le e.starting_lba e.ending_lba) given.0).0 in
+    let start : e.starting_lba ≡ r.0 = ap (λ (r : ℕ × ℕ). r.0) given.1 in
+    let end : e.ending_lba ≡ r.1 = ap (λ (r : ℕ × ℕ). r.1) given.1 in
     record {
-      used = (and_parts (is_used e) (nat_le e.starting_lba e.ending_lba) x.0).0;
-      from = ap (λ (r : ℕ × ℕ). r.0) x.1;
-      to = ap (λ (r : ℕ × ℕ). r.1) x.1;
+      covered = λ x from to. covers_if e x (record { used = used; from = omega arith; to = omega arith });
+      within = λ x is. let c = covered_if e x is in (omega (arith, c.from), omega (arith, c.to));
     }
 
 -- an entry without a range covers no sector

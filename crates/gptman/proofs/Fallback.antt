@@ -2,17 +2,18 @@
 use Rattle.std.proofs.Common.{◌≡◌, ◌≢◌, ◌⊎◌, ⊎_elim, inl, inr, ◌≤◌, ◌<◌, ℕ, ◌-◌, ◌*◌, ◌/◌, ◌&&◌, Bool, true, false, List, length, ltb, Result, Ok, Err, arith, refl, subst, sym, ap, ◌∙◌}
 use Rattle.std.specs.Prelude.{IfErr, IfOk, IsErr, IsTrue, if◌then◌else◌}
 use Rattle.std.proofs.lemmas.Bool.{and_from}
-use Rattle.gptman_copy.specs.Answers.{answer_of, is_copy_fault, is_damage, Refuses}
+use Rattle.std.proofs.lemmas.Result.{IfOk-weaker}
+use Rattle.gptman_copy.specs.Answers.{answer_of, is_copy_fault, is_damage, IsFailure, Refuses}
 use Rattle.gptman.specs.TableReads.{copy_of, is_reading_fault, CountsReading, FallsBack, IsCopyFault, IsReadingFault, MayBeRead, read, no_memory, no_seek, no_backup}
 use Rattle.gptman_copy.specs.Copy.{Copy, copy_at}
-use Rattle.gptman_copy.specs.Disk.{DiskState, HasFailedAsOften, Keeps}
+use Rattle.gptman_copy.specs.Disk.{DiskState, HasFailedAsOften, Keeps, Rose}
 use Rattle.gptman_copy.specs.Fault.{Fault, fault_of, is_signature_fault, io, invalid_signature, invalid_revision, invalid_header_size, invalid_checksum, invalid_array_checksum, read_error, no_space_left, conflict_partition_guid, invalid_partition_boundaries, invalid_partition_number, unused_partition, partition_not_found, overflow, out_of_memory, invalid_entry_size}
 use Rattle.gptman.specs.Reading.{primary, backup, both, copy_in, fallback, found_sector_size, reading_of}
 use Rattle.gptman_copy.specs.declared.error.Error.{Error}
 use Rattle.gptman.specs.declared.table.GPT.{GPT}
 use Rattle.gptman_copy.proofs.CopyParts.{header_refused}
 use Rattle.gptman_copy.proofs.CopyTests.{header_short}
-use Rattle.gptman_copy.proofs.Runs.{rose_since}
+use Rattle.gptman_copy.proofs.Runs.{rose_before, rose_since}
 
 -- the backup copy, or the fault that is said of it and of the first
 abbrev pub second_copy : Fault → Result Copy Fault → Result Copy Fault
@@ -144,7 +145,7 @@ fallback_err b ss fault is = by_length (ltb (length b) ss) refl
     by_length false large = second_err (copy_in backup b ss) refl (is ∙ fallback_long b ss io (grind arith))
 
 -- what a refusal of the whole reading is
-pub reading_refused : (r : Result GPT Error) (b : List ℕ) (ss : ℕ) (first : Fault) (old new : DiskState) → IsCopyFault primary b ss first → FallsBack r copy_of b ss first old new
+reading_refused : (r : Result GPT Error) (b : List ℕ) (ss : ℕ) (first : Fault) (old new : DiskState) → IsCopyFault primary b ss first → FallsBack r copy_of b ss first old new
     → IfErr r (λ e. IsReadingFault b ss (fault_of e))
 reading_refused (Ok g) b ss first old new at back = tt
 reading_refused (Err e) b ss first old new (inl failed) (read is) = fallback_err b ss (fault_of e) (is ∙ ap (fallback b ss) failed)
@@ -180,13 +181,58 @@ taken_by b ss first copy true small is =
 taken_by b ss first copy false large is = copy_second first copy (copy_in backup b ss) (is ∙ fallback_long b ss first (grind arith))
 
 -- what the fallback takes is the backup copy
-pub taken_backup : (r : Result GPT Error) (b : List ℕ) (ss : ℕ) (first : Fault) (old new : DiskState) → FallsBack r copy_of b ss first old new
+taken_backup : (r : Result GPT Error) (b : List ℕ) (ss : ℕ) (first : Fault) (old new : DiskState) → FallsBack r copy_of b ss first old new
     → IfOk r (λ g. copy_in backup b ss ≡ Ok (copy_of g))
 taken_backup (Err e) b ss first old new back = tt
 taken_backup (Ok g) b ss first old new (read is) = taken_by b ss first (copy_of g) (ltb (length b) ss) refl is
 taken_backup (Ok g) b ss first old new (no_memory out) = absurd out
 taken_backup (Ok g) b ss first old new (no_seek failed rose) = absurd failed
 taken_backup (Ok g) b ss first old new (no_backup said rose) = absurd said
+
+-- The copy at the primary place was not taken, and what follows is the answer of the fallback.
+pub record FellBack (r : Result GPT Error) (ss : ℕ) (first : Fault) (old mid new : DiskState) : Type 0 where
+  pub before : Keeps old mid
+  pub after : Keeps mid new
+  pub at_primary : IsFailure first old mid ⊎ (copy_in primary old.view ss ≡ Err first)
+  pub back : FallsBack r copy_of old.view ss first mid new
+
+-- from what the two readings answered
+pub fell_back : (r : Result GPT Error) (ss : ℕ) (first : Fault) (old mid new : DiskState) → Keeps old mid → Keeps mid new → mid.view ≡ old.view → first ≢ out_of_memory
+    → IsFailure first old mid ⊎ ((first ≡ out_of_memory) ⊎ (Err first ≡ copy_in primary old.view ss)) → FallsBack r copy_of mid.view ss first mid new
+    → FellBack r ss first old mid new
+fell_back r ss first old mid new before after same known answer back = record {
+  before = before;
+  after = after;
+  at_primary = ⊎_elim inl (⊎_elim (λ out. absurd (known out)) (λ is. inr (sym is))) answer;
+  back = subst (λ (b : List ℕ). FallsBack r copy_of b ss first mid new) same back;
+}
+
+-- then the reading answers so, unless the disk failed
+answer_by : (r : Result GPT Error) (ss : ℕ) (first : Fault) (old mid new : DiskState) → Keeps old mid → Keeps mid new
+    → IsFailure first old mid ⊎ (copy_in primary old.view ss ≡ Err first) → FallsBack r copy_of old.view ss first mid new
+    → Rose old new ⊎ (Refuses r out_of_memory ⊎ (answer_of copy_of r ≡ reading_of old.view ss))
+answer_by r ss first old mid new before after (inl failed) back = inl (rose_before old mid new failed.1 after)
+answer_by r ss first old mid new before after (inr at) (read is) = inr (inr (is ∙ sym (refused_first old.view ss first at)))
+answer_by r ss first old mid new before after (inr at) (no_memory out) = inr (inl out)
+answer_by r ss first old mid new before after (inr at) (no_seek failed rose) = inl (rose_since old mid new before rose)
+answer_by r ss first old mid new before after (inr at) (no_backup said rose) = inl (rose_since old mid new before rose)
+
+pub answer_after : {r : Result GPT Error} {ss : ℕ} {first : Fault} {old mid new : DiskState} → FellBack r ss first old mid new
+    → Rose old new ⊎ (Refuses r out_of_memory ⊎ (answer_of copy_of r ≡ reading_of old.view ss))
+answer_after {r} {ss} {first} {old} {mid} {new} f = answer_by r ss first old mid new f.before f.after f.at_primary f.back
+
+-- it is refused so
+pub refused_after : {r : Result GPT Error} {ss : ℕ} {first : Fault} {old mid new : DiskState} → FellBack r ss first old mid new
+    → IfErr r (λ e. IsReadingFault old.view ss (fault_of e))
+refused_after {r} {ss} {first} {old} {mid} {new} f = reading_refused r old.view ss first mid new (⊎_elim (λ failed. inl failed.0) inr f.at_primary) f.back
+
+-- and it takes the backup copy
+pub accepted_after : {r : Result GPT Error} {ss : ℕ} {first : Fault} {old mid new : DiskState} → FellBack r ss first old mid new
+    → IfOk r (λ g. MayBeRead old new ss (copy_of g))
+accepted_after {r} {ss} {first} {old} {mid} {new} f =
+    let why : IsErr (copy_in primary old.view ss) ⊎ Rose old new =
+    ⊎_elim (λ failed. inr (rose_before old mid new failed.1 f.after)) (λ at. inl (subst (λ (r : Result Copy Fault). IsErr r) (sym at) refl)) f.at_primary in
+    IfOk-weaker r _ _ (λ table is. inr (is, why)) (taken_backup r old.view ss first mid new f.back)
 
 primary_by : (b : List ℕ) (ss : ℕ) (copy : Copy) (short : Bool) → ltb (length b) ss ≡ short → copy_in primary b ss ≡ Ok copy → ss ≤ length b
 primary_by b ss copy true small at =

@@ -46,15 +46,6 @@ pub record Swept (F : ℕ → Type 0) (align : ℕ) (slots : List (ℕ × ℕ)) 
   pub ascending : AllPairs (λ s t. s.0 < t.0) slots
   pub wall : ¬ F p
 
-pub swept_none : (F : ℕ → Type 0) (align p : ℕ) → ((x : ℕ) → x ≤ p → ¬ F x) → Swept F align [] p
-swept_none F align p none = record {
-  each = All-nil (λ s. IsAlignedSlot F align s.0 s.1);
-  below = All-nil (λ s. s.0 ≤ p);
-  every = λ s n t h. absurd (none s h (slot_free F align s n t));
-  ascending = λ i j d h l. absurd (omega arith);
-  wall = none p (omega arith);
-}
-
 -- past sectors that are not free
 pub swept_skip : (F : ℕ → Type 0) (align : ℕ) (slots : List (ℕ × ℕ)) (p q : ℕ) → p ≤ q → ((x : ℕ) → p < x → x ≤ q → ¬ F x) → Swept F align slots p
     → Swept F align slots q

@@ -10,7 +10,7 @@ use Rattle.gptman.specs.Place.{IsFree, IsUsable, IsRun, IsAlignedSlot, AreSlots}
 use Rattle.gptman.specs.Sweep.{IsOutside, Misses}
 use Rattle.gptman_copy.specs.declared.codec.entry.GPTPartitionEntry.{GPTPartitionEntry}
 use Rattle.gptman_copy.specs.declared.codec.header.GPTHeader.{GPTHeader}
-use Rattle.gptman.proofs.Covered.{covered_if, covers_if, covers_nothing, range_of}
+use Rattle.gptman.proofs.Covered.{covers_nothing, range_of}
 use Rattle.gptman.proofs.Pairs.{All-filter_map, All-from_filter_map}
 use Rattle.gptman.proofs.Places.{IsSettled}
 
@@ -19,21 +19,10 @@ abbrev pub Spares : ℕ → GPTPartitionEntry → Type 0
 Spares x e = ¬ IsTrue (covers x e)
 
 range_misses : (x : ℕ) (e : GPTPartitionEntry) (r : ℕ × ℕ) → covered_range e ≡ Some r → Spares x e → Misses x r
-range_misses x e r is spares from to =
-    let range = range_of e r is in
-    let start = range.from in
-    let end = range.to in
-    spares (covers_if e x (record { used = range.used; from = omega arith; to = omega arith }))
+range_misses x e r is spares from to = spares ((range_of e r is).covered x from to)
 
 entry_spares : (x : ℕ) (e : GPTPartitionEntry) (r : ℕ × ℕ) → covered_range e ≡ Some r → Misses x r → Spares x e
-entry_spares x e r is misses covered =
-    let range = range_of e r is in
-    let start = range.from in
-    let end = range.to in
-    let c = covered_if e x covered in
-    let from = c.from in
-    let to = c.to in
-    misses (omega arith) (omega arith)
+entry_spares x e r is misses has = let range = (range_of e r is).within x has in misses range.0 range.1
 
 outside_if_free : (h : GPTHeader) (es : List GPTPartitionEntry) (rs : List (ℕ × ℕ)) → IsPermutation (filter_map covered_range es) rs → (x : ℕ)
     → IsFree h es x → IsOutside h rs x

@@ -38,7 +38,6 @@ pub mod Sealing
 pub mod Sorting
 pub mod Sweeping
 pub mod Taken
-pub mod ThereCopy
 pub mod TwoCopies
 pub mod TwoSides
 pub mod WrittenCopy

@@ -26,8 +26,3 @@ entry_mapped f was g k e is got =
     ∙ ap (with_entries was)
     (ap (λ (n : ℕ). slice_set (mapped_to f k (entries_in was)) n (f e)) z ∙ mapped_more f (entries_in was) k e read
     ∙ ap (λ (n : ℕ). mapped_to f n (entries_in was)) (sym (add-one k)))
-
--- at the end
-pub mapped_all : {X : Type 0} (f : X → X) (xs : List X) → mapped_to f (length xs) xs ≡ map f xs
-mapped_all f [] = refl
-mapped_all f (x ∷ xs) = ap (λ ys. f x ∷ ys) (mapped_all f xs)

@@ -21,9 +21,6 @@ fold_numbered h a n (x ∷ xs) = fold_numbered h (h a x) (n + 1) xs
 pub count_numbered : {X : Type 0} (p : X → Bool) (n : ℕ) (xs : List X) → count_by (λ (y : ℕ × X). p y.1) (enumerate_from n xs) ≡ count_by p xs
 count_numbered p n xs = fold_numbered (λ (a : ℕ) x. a + (if p x then 1 else 0)) 0 n xs
 
-pub at_start : {X : Type 0} (xs : List X) → IsAt xs 0 (enumerate_from 1 xs)
-at_start xs = record { left_is = refl; within = omega arith }
-
 -- the first of the elements from n on, each numbered
 head_of : {X : Type 0} (xs : List X) (n m : ℕ) (y : ℕ × X) (left : List (ℕ × X)) → enumerate_from m (drop n xs) ≡ y ∷ left
     → (y.0 ≡ m) × (suc n ≤ length xs) × (slice_get xs n ≡ Some y.1) × (left ≡ enumerate_from (m + 1) (drop (suc n) xs))
@@ -50,10 +47,3 @@ turn xs n all y left at e =
       element = h.2;
       next = record { left_is = h.3 ∙ ap (λ (k : ℕ). enumerate_from (n + 1 + 1) (drop k xs)) (sym (add-one n)); within = omega (arith, h.1) };
     }
-
--- the end of a loop
-pub at_end : {X : Type 0} (xs : List X) (n : ℕ) (all : List (ℕ × X)) → IsAt xs n all → all ≡ [] → n ≡ length xs
-at_end xs n all at e =
-    let a = length_numbered (n + 1) (drop n xs) in let b : length (enumerate_from (n + 1) (drop n xs)) ≡ 0 = ap length (sym at.left_is ∙ e) in
-    let w = at.within in
-    omega (arith, a, b, length-drop n xs, w)

@@ -7,7 +7,7 @@ use Rattle.gptman.specs.Place.{AreSlots, HasNoPlace, IsBestPlace, IsFirstPlace, 
 use Rattle.gptman.specs.Table.{entries_in}
 use Rattle.gptman.specs.declared.table.GPT.{GPT}
 use Rattle.gptman.proofs.FreeSectors.{free_settled}
-use Rattle.gptman.proofs.Places.{best_is, first_is, last_is, no_place}
+use Rattle.gptman.proofs.Places.{best_is, first_is, last_is, no_place, IsSettled}
 
 -- The slots of the value, among which a place for n sectors is looked for where size is asked.
 pub record IsAsked (g : GPT) (size n : ℕ) (slots : List (ℕ × ℕ)) : Type 0 where
@@ -32,41 +32,44 @@ none_offered g size n slots a short =
     subst (λ (n : ℕ). HasNoPlace (IsFreeIn g) g.align n) a.is
     (no_place (IsFreeIn g) g.align n slots (free_settled g.header (entries_in g)) a.positive (omega arith) a.found short)
 
-pub first_offered : (g : GPT) (size n : ℕ) (slots : List (ℕ × ℕ)) (s : ℕ × ℕ) → IsAsked g size n slots → IsBestSlot IsNoLater n slots s
-    → IsFirstPlace (IsFreeIn g) g.align (max 1 size) s.0
-first_offered g size n slots s a chosen =
-    let is = a.is in
-    subst (λ (n : ℕ). IsFirstPlace (IsFreeIn g) g.align n s.0) a.is
-    (first_is (IsFreeIn g) g.align n slots s (free_settled g.header (entries_in g)) a.positive (omega arith) a.found chosen)
+-- Of the slot that is better than the others, a choice makes such a place, within the slot.
+pub record Chooses (better : ℕ × ℕ → ℕ × ℕ → Type 0) (start : ℕ → ℕ → ℕ × ℕ → ℕ) (IsSuch : (ℕ → Type 0) → ℕ → ℕ → ℕ → Type 0) : Type 1 where
+  pub found : (F : ℕ → Type 0) (align n : ℕ) (slots : List (ℕ × ℕ)) (s : ℕ × ℕ) → IsSettled F → 0 < align → 1 ≤ n → AreSlots F align slots
+      → IsBestSlot better n slots s → IsSuch F align n (start align n s)
+  pub within : (align n : ℕ) (s : ℕ × ℕ) → 0 < align → n ≤ s.1 → start align n s + n ≤ s.0 + s.1
 
-pub last_offered : (g : GPT) (size n : ℕ) (slots : List (ℕ × ℕ)) (s : ℕ × ℕ) → IsAsked g size n slots → IsBestSlot IsNoEarlier n slots s
-    → IsLastPlace (IsFreeIn g) g.align (max 1 size) (s.0 + (s.1 - n) / g.align * g.align)
-last_offered g size n slots s a chosen =
-    let is = a.is in
-    subst (λ (k : ℕ). IsLastPlace (IsFreeIn g) g.align k (s.0 + (s.1 - n) / g.align * g.align)) a.is
-    (last_is (IsFreeIn g) g.align n slots s (free_settled g.header (entries_in g)) a.positive (omega arith) a.found chosen)
+pub first : Chooses IsNoLater (λ align n s. s.0) IsFirstPlace
+first = record { found = first_is; within = λ align n s positive fits. omega arith }
 
-pub best_offered : (g : GPT) (size n : ℕ) (slots : List (ℕ × ℕ)) (s : ℕ × ℕ) → IsAsked g size n slots → IsBestSlot IsTighter n slots s
-    → IsBestPlace (IsFreeIn g) g.align (max 1 size) s.0
-best_offered g size n slots s a chosen =
-    subst (λ (n : ℕ). IsBestPlace (IsFreeIn g) g.align n s.0) a.is (best_is (IsFreeIn g) g.align n slots s a.found chosen)
+pub last : Chooses IsNoEarlier (λ align n s. s.0 + (s.1 - n) / align * align) IsLastPlace
+last = record {
+  found = last_is;
+  within = λ align n s positive fits.
+      let whole : (s.1 - n) / align * align + (s.1 - n) % align ≡ s.1 - n = omega arith in
+      omega arith;
+}
 
--- n sectors from the start of the chosen slot on end where the number of the last fits
-pub start_fits : (better : ℕ × ℕ → ℕ × ℕ → Type 0) (g : GPT) (size n : ℕ) (slots : List (ℕ × ℕ)) (s : ℕ × ℕ) → IsAsked g size n slots
-    → IsBestSlot better n slots s → s.0 + max 1 size ≤ 2 ^ 64
-start_fits better g size n slots s a chosen =
-    let is = a.is in
-    let long = chosen.fits in
-    let fits = All-contains (λ s. s.0 + s.1 ≤ 2 ^ 64) slots s a.fits chosen.member in
-    omega arith
+pub best : Chooses IsTighter (λ align n s. s.0) IsBestPlace
+best = record {
+  found = λ F align n slots s settled positive some are chosen. best_is F align n slots s are chosen;
+  within = λ align n s positive fits. omega arith;
+}
 
--- so do those from the last multiple on that leaves room for them
-pub last_fits : (better : ℕ × ℕ → ℕ × ℕ → Type 0) (g : GPT) (size n : ℕ) (slots : List (ℕ × ℕ)) (s : ℕ × ℕ) → IsAsked g size n slots
-    → IsBestSlot better n slots s → s.0 + (s.1 - n) / g.align * g.align + max 1 size ≤ 2 ^ 64
-last_fits better g size n slots s a chosen =
+-- what is offered of the chosen slot
+pub offered : {better : ℕ × ℕ → ℕ × ℕ → Type 0} {start : ℕ → ℕ → ℕ × ℕ → ℕ} {IsSuch : (ℕ → Type 0) → ℕ → ℕ → ℕ → Type 0} → Chooses better start IsSuch
+    → (g : GPT) (size n : ℕ) (slots : List (ℕ × ℕ)) (s : ℕ × ℕ) → IsAsked g size n slots → IsBestSlot better n slots s → record {
+      refused : Unit {0};
+      value : IsSuch (IsFreeIn g) g.align (max 1 size) (start g.align n s);
+      fits : start g.align n s + max 1 size ≤ 2 ^ 64;
+    }
+offered {better} {start} {IsSuch} choice g size n slots s a chosen =
     let is = a.is in
-    let long = chosen.fits in
-    let fits = All-contains (λ s. s.0 + s.1 ≤ 2 ^ 64) slots s a.fits chosen.member in
     let positive = a.positive in
-    let whole : (s.1 - n) / g.align * g.align + (s.1 - n) % g.align ≡ s.1 - n = omega arith in
-    omega arith
+    let inside = choice.within g.align n s a.positive chosen.fits in
+    let fits = All-contains (λ s. s.0 + s.1 ≤ 2 ^ 64) slots s a.fits chosen.member in
+    record {
+      refused = tt;
+      value = subst (λ (k : ℕ). IsSuch (IsFreeIn g) g.align k (start g.align n s)) a.is
+          (choice.found (IsFreeIn g) g.align n slots s (free_settled g.header (entries_in g)) a.positive (omega arith) a.found chosen);
+      fits = omega arith;
+    }

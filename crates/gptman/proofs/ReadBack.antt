@@ -1,16 +1,28 @@
 -- The entries of an accepted copy are told by what they hold.
 use Rattle.std.proofs.Common.{◌≡◌, ◌*◌, ℕ, List, [], ◌∷◌, map, Ok, refl, sym, ap, ◌∙◌, subst}
 use Rattle.std.specs.List.{range_with_len}
+use Rattle.std.specs.Prelude.{encode_utf8_all}
 use Rattle.gptman_copy.specs.Bytes.{part}
 use Rattle.gptman_copy.specs.Coding.{header_of, entry_of}
 use Rattle.gptman_copy.specs.Copy.{Copy, copy_at, entries_of}
+use Rattle.gptman_copy.specs.Name.{text_of}
 use Rattle.gptman.specs.Reading.{Side, primary, backup, copy_in}
-use Rattle.gptman.specs.Table.{TableEntry}
-use Rattle.gptman.proofs.WrittenCopy.{content_of, entry_in}
+use Rattle.gptman.specs.Table.{content_of, TableEntry}
 use Rattle.gptman_copy.specs.declared.codec.entry.GPTPartitionEntry.{GPTPartitionEntry}
 use Rattle.gptman_copy.proofs.CopyParts.{entries_part}
 use Rattle.gptman.proofs.Fallback.{backup_long, backup_room}
 use Rattle.gptman.proofs.Held.{accepted_is}
+
+-- an entry as it is read back: its text is that of its units
+abbrev entry_in : TableEntry → GPTPartitionEntry
+entry_in e = record {
+  partition_type_guid = e.partition_type_guid;
+  unique_partition_guid = e.unique_partition_guid;
+  starting_lba = e.starting_lba;
+  ending_lba = e.ending_lba;
+  attribute_bits = e.attribute_bits;
+  partition_name = record { text = encode_utf8_all (text_of e.units); units = e.units };
+}
 
 -- the entries with these contents, as they are read back
 abbrev back : List GPTPartitionEntry → List GPTPartitionEntry

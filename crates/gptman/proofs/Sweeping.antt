@@ -44,14 +44,6 @@ in_range h rs i x d within from to o = o.uncovered i d within from to
 past_last : (h : GPTHeader) (rs : List (ℕ × ℕ)) (x : ℕ) → h.last_usable_lba < x → ¬ IsOutside h rs x
 past_last h rs x past o = let high = o.usable.high in omega arith
 
--- before the first range
-pub going_none : (h : GPTHeader) (align : ℕ) (rs : List (ℕ × ℕ)) (p : ℕ) → p ≡ h.first_usable_lba - 1 → Going h align rs 0 [] p
-going_none h align rs p e = record {
-  swept = swept_none (IsOutside h rs) align p (λ x le o. let positive = o.usable.positive in let low = o.usable.low in omega arith);
-  ends = All-nil (λ r. r.1 ≤ p);
-  low = omega arith;
-}
-
 -- the ends after one more range
 ends_more : (rs : List (ℕ × ℕ)) (i p q : ℕ) (r : ℕ × ℕ) → i < length rs → r ≡ get_or rs i r → All (λ r. r.1 ≤ p) (take i rs) → p ≤ q → r.1 ≤ q
     → All (λ r. r.1 ≤ q) (take (i + 1) rs)

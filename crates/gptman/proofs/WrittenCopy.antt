@@ -12,56 +12,26 @@ use Rattle.gptman_copy.specs.Crc.{crc_of}
 use Rattle.gptman_copy.specs.Fault.{Fault, invalid_signature}
 use Rattle.gptman_copy.specs.Copy.{Copy, CopyAt, copy_at, header_crc, right_signature, right_revision}
 use Rattle.gptman.specs.Reading.{Side, primary, backup, copy_start, copy_in}
+pub use Rattle.gptman.specs.Table.{content_of}
 use Rattle.gptman.specs.Table.{Table, TableEntry, IsHeaderForm, table_of}
 use Rattle.gptman.specs.Layout.{Holds, IsLaidOut}
 use Rattle.gptman_copy.specs.Write.{HasBytes}
 use Rattle.gptman_copy.specs.declared.codec.header.GPTHeader.{GPTHeader}
 use Rattle.gptman_copy.specs.declared.codec.entry.GPTPartitionEntry.{GPTPartitionEntry}
 use Rattle.gptman_copy.proofs.HeaderBytes.{spelled_corresponds as header_coding}
-use Rattle.gptman_copy.proofs.EntryBytes.{spelled_corresponds as entry_coding}
+use Rattle.gptman_copy.proofs.EntryBytes.{with_text, spelled_corresponds as entry_coding}
 use Rattle.gptman_copy.proofs.ArrayBytes.{array_long, array_part}
 use Rattle.gptman_copy.proofs.Overlays.{part-part}
 use Rattle.gptman.proofs.CopyThere.{copy_there_is}
 use Rattle.gptman.proofs.Sealing.{IsSealed}
 use Rattle.gptman_copy.proofs.CopyTests.{entries_start, entries_length}
 
--- an entry without the text that its name has in memory
-abbrev pub content_of : GPTPartitionEntry → TableEntry
-content_of e = record {
-  partition_type_guid = e.partition_type_guid;
-  unique_partition_guid = e.unique_partition_guid;
-  starting_lba = e.starting_lba;
-  ending_lba = e.ending_lba;
-  attribute_bits = e.attribute_bits;
-  units = e.partition_name.units;
-}
-
--- an entry as it is read back: its text is that of its units
-abbrev pub entry_in : TableEntry → GPTPartitionEntry
-entry_in e = record {
-  partition_type_guid = e.partition_type_guid;
-  unique_partition_guid = e.unique_partition_guid;
-  starting_lba = e.starting_lba;
-  ending_lba = e.ending_lba;
-  attribute_bits = e.attribute_bits;
-  partition_name = record { text = encode_utf8_all (text_of e.units); units = e.units };
-}
-
 -- an entry as it is read back: its text is that of its units
 abbrev pub as_read : GPTPartitionEntry → GPTPartitionEntry
-as_read e = entry_in (content_of e)
+as_read e = with_text e (encode_utf8_all (text_of e.partition_name.units))
 
 read_coding : (e : GPTPartitionEntry) → FitsEntry e → IsEntryCoding (as_read e) (entry_bytes e)
-read_coding e fits =
-    let c = entry_coding e fits in
-    record {
-      partition_type_guid = c.partition_type_guid;
-      unique_partition_guid = c.unique_partition_guid;
-      starting_lba = c.starting_lba;
-      ending_lba = c.ending_lba;
-      attribute_bits = c.attribute_bits;
-      units = c.units;
-    }
+read_coding e fits = entry_coding e (encode_utf8_all (text_of e.partition_name.units)) fits
 
 -- A header that a reading does not refuse, with its number of entries.
 pub record IsRight (h : GPTHeader) (es : List GPTPartitionEntry) : Type 0 where

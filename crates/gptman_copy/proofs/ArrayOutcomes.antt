@@ -37,19 +37,6 @@ block_refused b ss h fault old mid new ready size first some (inr (is, cause)) =
     (λ short. inr (inr (ap Err is ∙ sym (short_refused b ss h mid ready size short some))))
     cause
 
--- a block that the disk refused
-pub block_cause : (ss : ℕ) (h : GPTHeader) (fault : Fault) (old mid new : DiskState) → IsReadyFor h ss mid → Keeps old mid → h.number_of_partition_entries ≢ 0
-    → IsBlockFault (128 * h.number_of_partition_entries) fault mid new → fault ≡ io → Rose old new ⊎ (old.size < entries_start h ss + entries_length h)
-block_cause ss h fault old mid new ready first some (inl memory) is = let wrong = sym is ∙ memory in absurd (cc)
-block_cause ss h fault old mid new ready first some (inr (same, cause)) is = ⊎_elim
-    (λ rose. inl (rose_since old mid new first rose))
-    (λ short. inr (behind ready short))
-    cause
-  where
-    behind : IsReadyFor h ss mid → mid.size < mid.position + 128 * h.number_of_partition_entries → old.size < entries_start h ss + entries_length h
-    behind (empty none) short = absurd (some none)
-    behind (there right fits at) short = omega (arith, short, at, first.size)
-
 -- the entries were read, all of them
 pub in_place : (b : List ℕ) (ss : ℕ) (h : GPTHeader) (mid : DiskState) → IsReadyFor h ss mid → length b ≡ mid.size
     → (h.number_of_partition_entries ≡ 0) ⊎ (mid.position + 128 * h.number_of_partition_entries ≤ mid.size) → IsInPlace b ss h

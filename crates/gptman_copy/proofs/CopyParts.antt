@@ -25,6 +25,10 @@ copy_fault b p ss = first_failing (copy_tests (length b) p ss (part b p 92) (ent
 abbrev pub copy_there : List ℕ → ℕ → ℕ → Copy
 copy_there b p ss = record { header = header_of (part b p 92); entries = entries_of (entries_part b p ss) (header_of (part b p 92)).number_of_partition_entries }
 
+-- the same bytes at the same place are the same copy
+pub copy_moved : {b c : List ℕ} {p q : ℕ} (ss : ℕ) → b ≡ c → p ≡ q → copy_at b p ss ≡ copy_at c q ss
+copy_moved ss same at = λ i. copy_at (same i) (at i) ss
+
 refused_by : {X : Type 0} (o : Option Fault) (x : X) (fault : Fault) → unless o x ≡ Err fault → o ≡ Some fault
 refused_by None x fault is = absurd (cc)
 refused_by (Some other) x fault is = cc

@@ -71,10 +71,14 @@ front_at t q s d a rest lt lq fs fd fa =
     let Q : List ℕ → Type 0 = λ xs. FrontAt (map (elements t) (range_with_len 0 16)) xs s d a (front_of (map (elements t) (range_with_len 0 16)) xs s d a ++ rest) in
     subst P (sym (cells t 16 lt)) (subst Q (sym (cells q 16 lq)) (front_listed (elements t) (elements q) s d a rest fs fd fa))
 
--- an entry corresponds to its bytes
-pub spelled_corresponds : (e : GPTPartitionEntry) → FitsEntry e → IsEntryCoding e (entry_bytes e)
+-- the entry with this text of its name in memory
+abbrev pub with_text : GPTPartitionEntry → List ℕ → GPTPartitionEntry
+with_text e text = record e { partition_name = record e.partition_name { text = text } }
+
+-- an entry corresponds to its bytes, whatever text its name has in memory
+pub spelled_corresponds : (e : GPTPartitionEntry) (text : List ℕ) → FitsEntry e → IsEntryCoding (with_text e text) (entry_bytes e)
 unfolding entry_bytes
-spelled_corresponds e fits =
+spelled_corresponds e text fits =
     let front = front_at e.partition_type_guid e.unique_partition_guid e.starting_lba e.ending_lba e.attribute_bits
     (flat_map (little_bytes 2) e.partition_name.units) fits.partition_type_guid fits.unique_partition_guid fits.starting_lba fits.ending_lba fits.attribute_bits in
     record {

@@ -1,5 +1,5 @@
 -- What the code of fitting a header computes is what the definition says.
-use Rattle.std.proofs.Common.{◌≡◌, ◌≢◌, ◌/◌, ◌||◌, ℕ, Bool, Option, Some, None, eqb, sym, ap, inl, inr}
+use Rattle.std.proofs.Common.{◌≡◌, ◌≢◌, ◌/◌, ◌||◌, ℕ, Bool, Option, Some, None, sym, ap, inl, inr}
 use Rattle.std.specs.Prelude.{if◌then◌else◌}
 use Rattle.std.proofs.lemmas.Bool.Decides.{eqb_tells}
 use Rattle.gptman_copy.specs.Fault.{Fault, overflow}
@@ -14,9 +14,3 @@ fit_fault_is h ss len some =
       | inl zero ↦ absurd (some zero.1)
       | inr not ↦ sym (ap chosen not.0)
     ]
-
--- the header without an array
-pub no_array : (h : GPTHeader) (ss len : ℕ) → array_size h ≡ 0 → Some overflow ≡ fit_fault h ss len
-no_array h ss len none =
-    let chosen : ℕ → Option Fault = λ n. if eqb n 0 || is_too_small (len / ss) (array_sectors h ss) then Some overflow else None in
-    sym (ap chosen none)

@@ -1,20 +1,24 @@
-use Rattle.std.proofs.Common.{⊎_elim, ◌⊎◌, inl, inr, sym, ◌∙◌, subst, ℕ}
+use Rattle.std.proofs.Common.{⊎_elim, ◌⊎◌, inl, inr, sym, ◌∙◌, subst, ℕ, IsTrue}
 use Rattle.std.proofs.lemmas.Result.{err_from_is_err_and}
-use Rattle.gptman.specs.Disk.{DiskState, HasFailedAsOften, Keeps}
+use Rattle.gptman.specs.Disk.{DiskState, HasFailedAsOften, Keeps, OnlyRead}
 use Rattle.gptman.specs.Answers.{IsFailure}
 use Rattle.gptman.specs.Fault.{Fault, fault_of}
+use Rattle.gptman.specs.Table.{Table}
 use Rattle.gptman.specs.declared.table.GPT.{GPT}
 use Rattle.gptman.proofs.Commits.{write_since}
 use Rattle.gptman_copy.proofs.Outcomes.{on_err_of}
 use Rattle.gptman_copy.proofs.Readers.{reads_then}
 use Rattle.gptman_copy.proofs.Runs.{keeps_then, rose_since}
-use Rattle.gptman_change.specs.Changes.{unwritten}
+use Rattle.gptman_change.specs.Changes.{unwritten, IsSafe, LeavesChange, StartsGoodFor}
 use Rattle.gptman_change.specs.Changes.RefusesChange.{not_made, not_read, not_written}
-use Rattle.gptman_change.specs.Planning.{RefusesPlan}
+use Rattle.gptman_change.specs.Planning.{AlwaysKeepsPlaces, RefusesPlan}
+use Rattle.gptman_change.specs.Reads.{size_for, IsReadFrom}
 use Rattle.gptman_change.proofs.Left.{change_written, laid_since, wrote_since}
 use Rattle.gptman_change.proofs.Read.{counts_before, read_before}
 use Rattle.gptman_change.proofs.Safe.{from_good, unwritten_safe, written_safe}
+use Rattle.gptman_change.proofs.change_table.Given.{Over}
 use Rattle.gptman_change.proofs.change_table.Goals as goal
+use Rattle.gptman_change.proofs.change_table.Goals.{After-change, After-write_into, In_ok-answer}
 
 pub returns-in_err-table-clause-refused : goal.returns-in_err-table-clause-refused
 returns-in_err-table-clause-refused g c = λ honest.
@@ -42,111 +46,117 @@ returns-in_err-answer-clause-refused g c = λ honest.
     (read_before c.args.sector_size old mid new table (c.in_ok-table.ensures.value honest) c.change.ensures.reads.keeps)
     (plan_since (g.P.Plan.refuses c.args.plan.now) _ table _ old mid new c.read_table.ensures.reads.keeps c.in_err-answer.ensures.refused))
 
-pub returns-in_err-answer-clause-leaves : goal.returns-in_err-answer-clause-leaves
-returns-in_err-answer-clause-leaves g c = λ honest.
+-- up to the write the disk is read alone
+only_read : (g : Over) (c : After-change g) → IsTrue (g.D.Disk.state c.args.disk.now).is_honest → OnlyRead (g.D.Disk.state c.args.disk.now) (g.D.Disk.state c.change.new.disk)
+only_read g c honest =
     let first = c.read_table.ensures.reads.only honest in
-    unwritten (reads_then first (c.change.ensures.reads.only first.wrote.honest))
+    reads_then first (c.change.ensures.reads.only first.wrote.honest)
+
+keeps_to : (g : Over) (c : After-change g) → Keeps (g.D.Disk.state c.args.disk.now) (g.D.Disk.state c.change.new.disk)
+keeps_to g c = keeps_then c.read_table.ensures.reads.keeps c.change.ensures.reads.keeps
+
+-- what the plan made, by the length of the disk before the call
+made : (g : Over) (c : In_ok-answer g)
+    → g.P.Plan.makes c.args.plan.now (g.D.Disk.state c.args.disk.now).size c.in_ok-table.table c.change.new.table c.in_ok-answer.answer
+made g c =
+    subst (λ (n : ℕ). g.P.Plan.makes c.args.plan.now n c.in_ok-table.table c.change.new.table c.in_ok-answer.answer) c.read_table.ensures.reads.keeps.size
+    c.in_ok-answer.ensures.value
+
+-- the table was read, also once the write is over
+was_read : (g : Over) (c : After-write_into g) → IsTrue (g.D.Disk.state c.args.disk.now).is_honest
+    → IsReadFrom c.args.sector_size (g.D.Disk.state c.args.disk.now) (g.D.Disk.state c.write_into.new.disk) c.in_ok-table.table
+was_read g c honest =
+    read_before c.args.sector_size (g.D.Disk.state c.args.disk.now) (g.D.Disk.state c.read_table.new.disk) (g.D.Disk.state c.write_into.new.disk) c.in_ok-table.table
+    (c.in_ok-table.ensures.value honest) (keeps_then c.change.ensures.reads.keeps c.write_into.ensures.keeps)
+
+pub returns-in_err-answer-clause-leaves : goal.returns-in_err-answer-clause-leaves
+returns-in_err-answer-clause-leaves g c = λ honest. unwritten (only_read g (goal.at.returns-in_err-answer-clause-leaves g c).After-change honest)
 
 pub returns-in_err-answer-clause-safe : goal.returns-in_err-answer-clause-safe
 returns-in_err-answer-clause-safe g c = λ places was good.
-    let first = c.read_table.ensures.reads.only good.honest in
-    unwritten_safe _ _ was (g.D.Disk.state c.args.disk.now) (g.D.Disk.state c.change.new.disk) good (reads_then first (c.change.ensures.reads.only first.wrote.honest))
+    unwritten_safe _ _ was (g.D.Disk.state c.args.disk.now) (g.D.Disk.state c.change.new.disk) good
+    (only_read g (goal.at.returns-in_err-answer-clause-safe g c).After-change good.honest)
 
 pub returns-in_err-write_into-clause-kept : goal.returns-in_err-write_into-clause-kept
 returns-in_err-write_into-clause-kept g c honest =
-    let first = c.read_table.ensures.reads.only honest in
-    let read = reads_then first (c.change.ensures.reads.only first.wrote.honest) in
-    let keeps = keeps_then c.read_table.ensures.reads.keeps c.change.ensures.reads.keeps in
+    let at = goal.at.returns-in_err-write_into-clause-kept g c in
+    let read = only_read g at.After-change honest in
     let refused = c.in_err-write_into.ensures in
     on_err_of _ (⊎_elim
-    (λ failed. inl (rose_since _ (g.D.Disk.state c.change.new.disk) (g.D.Disk.state c.write_into.new.disk) keeps (refused.cause failed)))
+    (λ failed. inl (rose_since _ (g.D.Disk.state c.change.new.disk) (g.D.Disk.state c.write_into.new.disk) (keeps_to g at.After-change) (refused.cause failed)))
     (λ same. inr (record { view = same.view ∙ read.view; pending = same.pending ∙ read.pending })) (refused.untouched read.wrote.honest))
 
 pub returns-in_err-write_into-clause-refused : goal.returns-in_err-write_into-clause-refused
 returns-in_err-write_into-clause-refused g c = λ honest.
-    let old = g.D.Disk.state c.args.disk.now in
-    let mid = g.D.Disk.state c.read_table.new.disk in
-    let last = g.D.Disk.state c.change.new.disk in
-    let new = g.D.Disk.state c.write_into.new.disk in
-    let table = c.in_ok-table.table in
+    let at = goal.at.returns-in_err-write_into-clause-refused g c in
     let next = c.change.new.table in
-    let keeps = keeps_then c.read_table.ensures.reads.keeps c.change.ensures.reads.keeps in
     let p = err_from_is_err_and c.from_residual-in_err-write_into.result c.from_residual-in_err-write_into.ensures.1 in
-    rw (p.1, p.2) (not_written table next c.in_ok-answer.answer
-    (read_before c.args.sector_size old mid new table (c.in_ok-table.ensures.value honest) (keeps_then c.change.ensures.reads.keeps c.write_into.ensures.keeps))
-    (subst (λ (n : ℕ). g.P.Plan.makes c.args.plan.now n table next c.in_ok-answer.answer) c.read_table.ensures.reads.keeps.size c.in_ok-answer.ensures.value)
-    (write_since next (fault_of c.in_err-write_into.field-0.0) old last new keeps c.in_err-write_into.ensures.refused))
+    rw (p.1, p.2) (not_written c.in_ok-table.table next c.in_ok-answer.answer (was_read g at.After-write_into honest) (made g at.In_ok-answer)
+    (write_since next (fault_of c.in_err-write_into.field-0.0) (g.D.Disk.state c.args.disk.now) (g.D.Disk.state c.change.new.disk) (g.D.Disk.state c.write_into.new.disk)
+    (keeps_to g at.After-change) c.in_err-write_into.ensures.refused))
 
 pub returns-clause-answer : goal.returns-clause-answer
-returns-clause-answer g c = record {
-  table = c.in_ok-table.table;
-  next = c.change.new.table;
-  made = subst (λ (n : ℕ). g.P.Plan.makes c.args.plan.now n c.in_ok-table.table c.change.new.table c.in_ok-answer.answer)
-      c.read_table.ensures.reads.keeps.size c.in_ok-answer.ensures.value;
-}
+returns-clause-answer g c = record { table = c.in_ok-table.table; next = c.change.new.table; made = made g (goal.at.returns-clause-answer g c).In_ok-answer }
 
 pub returns-clause-changed : goal.returns-clause-changed
 returns-clause-changed g c honest =
+    let at = goal.at.returns-clause-changed g c in
     let old = g.D.Disk.state c.args.disk.now in
     let mid = g.D.Disk.state c.read_table.new.disk in
     let last = g.D.Disk.state c.change.new.disk in
     let new = g.D.Disk.state c.write_into.new.disk in
-    let table = c.in_ok-table.table in
     let next = c.change.new.table in
-    let first = c.read_table.ensures.reads.only honest in
-    let read = reads_then first (c.change.ensures.reads.only first.wrote.honest) in
-    let keeps = keeps_then c.read_table.ensures.reads.keeps c.change.ensures.reads.keeps in
+    let read = only_read g at.After-change honest in
+    let keeps = keeps_to g at.After-change in
     record {
-      table = table;
+      table = c.in_ok-table.table;
       next = next;
-      read = read_before c.args.sector_size old mid new table (c.in_ok-table.ensures.value honest) (keeps_then c.change.ensures.reads.keeps c.write_into.ensures.keeps);
+      read = was_read g at.After-write_into honest;
       counts =
-          let made : HasFailedAsOften mid last = ⊎_elim (λ same. same) (λ io. absurd io) c.in_ok-answer.ensures.counts in
+          let answered : HasFailedAsOften mid last = ⊎_elim (λ same. same) (λ io. absurd io) c.in_ok-answer.ensures.counts in
           let written : HasFailedAsOften last new = ⊎_elim (λ same. same) (λ io. absurd io) c.in_ok-write_into.ensures.counts in
-          counts_before old mid new table (c.in_ok-table.ensures.counts honest) (written ∙ made);
-      made = subst (λ (n : ℕ). g.P.Plan.makes c.args.plan.now n table next c.in_ok-answer.answer) c.read_table.ensures.reads.keeps.size c.in_ok-answer.ensures.value;
+          counts_before old mid new c.in_ok-table.table (c.in_ok-table.ensures.counts honest) (written ∙ answered);
+      made = made g at.In_ok-answer;
       wrote = wrote_since next old last new read (c.write_into.ensures.wrote read.wrote.honest);
       stored = λ layout. c.in_ok-write_into.ensures.stored (laid_since next old last read keeps layout);
       alone = λ layout. c.in_ok-write_into.ensures.alone (laid_since next old last read keeps layout);
-      good = λ was good stays. from_good table next was old mid (c.in_ok-table.ensures.value honest).accepted good stays;
+      good = λ was good stays. from_good c.in_ok-table.table next was old mid (c.in_ok-table.ensures.value honest).accepted good stays;
     }
 
-pub returns-in_err-write_into-clause-leaves : goal.returns-in_err-write_into-clause-leaves
-returns-in_err-write_into-clause-leaves g c = λ honest.
+-- what the write leaves, whether it is done or fails
+leaves : (g : Over) (c : After-write_into g) → IsTrue (g.D.Disk.state c.args.disk.now).is_honest
+    → LeavesChange (g.P.Plan.makes c.args.plan.now (g.D.Disk.state c.args.disk.now).size) c.args.sector_size (g.D.Disk.state c.args.disk.now) (g.D.Disk.state c.write_into.new.disk)
+leaves g c honest =
     change_written (g.P.Plan.makes c.args.plan.now) c.args.sector_size c.in_ok-table.table c.change.new.table c.in_ok-answer.answer (g.D.Disk.state c.args.disk.now)
     (g.D.Disk.state c.read_table.new.disk) (g.D.Disk.state c.change.new.disk) (g.D.Disk.state c.write_into.new.disk) honest c.read_table.ensures.reads c.change.ensures.reads
     c.write_into.ensures.keeps (c.in_ok-table.ensures.value honest) c.in_ok-answer.ensures.value c.write_into.ensures.wrote c.write_into.ensures.one_good
+
+pub returns-in_err-write_into-clause-leaves : goal.returns-in_err-write_into-clause-leaves
+returns-in_err-write_into-clause-leaves g c = leaves g (goal.at.returns-in_err-write_into-clause-leaves g c).After-write_into
 
 pub returns-clause-leaves : goal.returns-clause-leaves
-returns-clause-leaves g c = λ honest.
-    change_written (g.P.Plan.makes c.args.plan.now) c.args.sector_size c.in_ok-table.table c.change.new.table c.in_ok-answer.answer (g.D.Disk.state c.args.disk.now)
-    (g.D.Disk.state c.read_table.new.disk) (g.D.Disk.state c.change.new.disk) (g.D.Disk.state c.write_into.new.disk) honest c.read_table.ensures.reads c.change.ensures.reads
-    c.write_into.ensures.keeps (c.in_ok-table.ensures.value honest) c.in_ok-answer.ensures.value c.write_into.ensures.wrote c.write_into.ensures.one_good
+returns-clause-leaves g c = leaves g (goal.at.returns-clause-leaves g c).After-write_into
+
+-- and what it leaves of one good copy
+safe : (g : Over) (c : After-write_into g) → AlwaysKeepsPlaces (g.P.Plan.makes c.args.plan.now (g.D.Disk.state c.args.disk.now).size) → (was : Table)
+    → StartsGoodFor (g.D.Disk.state c.args.disk.now) c.args.sector_size was
+    → IsSafe (g.P.Plan.makes c.args.plan.now (g.D.Disk.state c.args.disk.now).size) (size_for (g.D.Disk.state c.args.disk.now).view c.args.sector_size) was
+      (g.D.Disk.state c.args.disk.now) (g.D.Disk.state c.write_into.new.disk)
+safe g c places was good =
+    let old = g.D.Disk.state c.args.disk.now in
+    let mid = g.D.Disk.state c.read_table.new.disk in
+    let last = g.D.Disk.state c.change.new.disk in
+    let table = c.in_ok-table.table in
+    let first = c.read_table.ensures.reads.only good.honest in
+    let read = reads_then first (c.change.ensures.reads.only first.wrote.honest) in
+    written_safe _ c.args.sector_size was table c.change.new.table c.in_ok-answer.answer old last (g.D.Disk.state c.write_into.new.disk) _ good read
+    (keeps_then c.read_table.ensures.reads.keeps c.change.ensures.reads.keeps)
+    (read_before c.args.sector_size old mid last table (c.in_ok-table.ensures.value good.honest) c.change.ensures.reads.keeps)
+    (subst (λ (n : ℕ). g.P.Plan.makes c.args.plan.now n table c.change.new.table c.in_ok-answer.answer) c.read_table.ensures.reads.keeps.size c.in_ok-answer.ensures.value)
+    places (c.write_into.ensures.wrote read.wrote.honest) c.what_is_read_is_kept.ensures.kept (c.write_into.ensures.one_good was)
 
 pub returns-in_err-write_into-clause-safe : goal.returns-in_err-write_into-clause-safe
-returns-in_err-write_into-clause-safe g c = λ places was good.
-    let old = g.D.Disk.state c.args.disk.now in
-    let mid = g.D.Disk.state c.read_table.new.disk in
-    let last = g.D.Disk.state c.change.new.disk in
-    let table = c.in_ok-table.table in
-    let first = c.read_table.ensures.reads.only good.honest in
-    let read = reads_then first (c.change.ensures.reads.only first.wrote.honest) in
-    let made = subst (λ (n : ℕ). g.P.Plan.makes c.args.plan.now n table c.change.new.table c.in_ok-answer.answer) c.read_table.ensures.reads.keeps.size c.in_ok-answer.ensures.value in
-    written_safe _ c.args.sector_size was table c.change.new.table c.in_ok-answer.answer old last (g.D.Disk.state c.write_into.new.disk) _ good read
-    (keeps_then c.read_table.ensures.reads.keeps c.change.ensures.reads.keeps)
-    (read_before c.args.sector_size old mid last table (c.in_ok-table.ensures.value good.honest) c.change.ensures.reads.keeps) made places
-    (c.write_into.ensures.wrote read.wrote.honest) c.what_is_read_is_kept.ensures.kept (c.write_into.ensures.one_good was)
+returns-in_err-write_into-clause-safe g c = safe g (goal.at.returns-in_err-write_into-clause-safe g c).After-write_into
 
 pub returns-clause-safe : goal.returns-clause-safe
-returns-clause-safe g c = λ places was good.
-    let old = g.D.Disk.state c.args.disk.now in
-    let mid = g.D.Disk.state c.read_table.new.disk in
-    let last = g.D.Disk.state c.change.new.disk in
-    let table = c.in_ok-table.table in
-    let first = c.read_table.ensures.reads.only good.honest in
-    let read = reads_then first (c.change.ensures.reads.only first.wrote.honest) in
-    let made = subst (λ (n : ℕ). g.P.Plan.makes c.args.plan.now n table c.change.new.table c.in_ok-answer.answer) c.read_table.ensures.reads.keeps.size c.in_ok-answer.ensures.value in
-    written_safe _ c.args.sector_size was table c.change.new.table c.in_ok-answer.answer old last (g.D.Disk.state c.write_into.new.disk) _ good read
-    (keeps_then c.read_table.ensures.reads.keeps c.change.ensures.reads.keeps)
-    (read_before c.args.sector_size old mid last table (c.in_ok-table.ensures.value good.honest) c.change.ensures.reads.keeps) made places
-    (c.write_into.ensures.wrote read.wrote.honest) c.what_is_read_is_kept.ensures.kept (c.write_into.ensures.one_good was)
+returns-clause-safe g c = safe g (goal.at.returns-clause-safe g c).After-write_into

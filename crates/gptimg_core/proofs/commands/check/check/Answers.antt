@@ -4,7 +4,7 @@ use Rattle.gptman.specs.Copy.{copy_of_whole, Copy, copy_at}
 use Rattle.gptman.specs.Disk.{DiskState, Rose}
 use Rattle.gptman.specs.Fault.{Fault}
 use Rattle.gptman.specs.Reading.{primary, backup, copy_in}
-use Rattle.gptman.specs.Table.{Table, table_of}
+use Rattle.gptman.specs.Table.{content_of, Table, table_of}
 use Rattle.gptman_copy.specs.declared.codec.entry.GPTPartitionEntry.{GPTPartitionEntry}
 use Rattle.gptman_copy.specs.declared.error.Error.{Error}
 use Rattle.gptman.proofs.ReadBack.{same_entries}
@@ -14,7 +14,6 @@ use Rattle.gptimg_core.specs.Checks.{AreFoundSame, AreOneTable, HoldOneTable}
 use Rattle.gptman_copy.specs.declared.copy.WholeCopy.{WholeCopy}
 use Rattle.gptimg_core.proofs.Found.{found_before, found_since}
 use Rattle.gptimg_core.proofs.commands.check.check.Goals as goal
-use Rattle.gptman.proofs.WrittenCopy.{content_of}
 
 -- what was found as one table is held so
 both_hold : (view : List ℕ) (ss : ℕ) (p b : Result WholeCopy Error) (old new : DiskState) → Fails p old new ⊎ (answer_of copy_of_whole p ≡ copy_in primary view ss)

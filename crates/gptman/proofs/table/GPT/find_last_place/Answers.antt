@@ -1,25 +1,14 @@
 use Rattle.std.proofs.Common.{arith}
-use Rattle.gptman.specs.Chosen.{IsNoEarlier}
-use Rattle.gptman.proofs.Offers.{asked, last_offered, none_offered, last_fits}
+use Rattle.gptman.proofs.Offers.{asked, none_offered, offered, last}
 use Rattle.gptman.proofs.table.GPT.find_last_place.Goals as goal
 
-pub returns-in-Some-clause-value : goal.returns-in-Some-clause-value
-returns-in-Some-clause-value c =
-    last_offered c.args.self.now c.args.size c.max-size.result c.deref.result.now _
-    (asked _ _ _ _ _ c.requires (omega arith) c.deref.ensures.value c.in_ok-slots.ensures.value c.in_ok-slots.ensures.fits) c.in-Some.ensures
-
-pub returns-in-Some-clause-fits : goal.returns-in-Some-clause-fits
-returns-in-Some-clause-fits c =
-    last_fits IsNoEarlier c.args.self.now c.args.size c.max-size.result c.deref.result.now _
-    (asked _ _ _ _ _ c.requires (omega arith) c.deref.ensures.value c.in_ok-slots.ensures.value c.in_ok-slots.ensures.fits) c.in-Some.ensures
+pub returns-in-Some : goal.returns-in-Some
+returns-in-Some c = offered last c.args.self.now c.args.size c.max-size.result c.deref.result.now _ (asked _ _ _ _ _ c.requires (omega arith) c.deref.ensures.value c.in_ok-slots.ensures.value c.in_ok-slots.ensures.fits) c.in-Some.ensures
 
 pub returns-clause-value : goal.returns-clause-value
-returns-clause-value c =
-    none_offered c.args.self.now c.args.size c.max-size.result c.deref.result.now
-    (asked _ _ _ _ _ c.requires (omega arith) c.deref.ensures.value c.in_ok-slots.ensures.value c.in_ok-slots.ensures.fits) c.in-None.ensures
+returns-clause-value c = none_offered c.args.self.now c.args.size c.max-size.result c.deref.result.now (asked _ _ _ _ _ c.requires (omega arith) c.deref.ensures.value c.in_ok-slots.ensures.value c.in_ok-slots.ensures.fits) c.in-None.ensures
 
 pub overflow_add-result : goal.overflow_add-result
 overflow_add-result c =
-    let fits = last_fits IsNoEarlier c.args.self.now c.args.size c.max-size.result c.deref.result.now _
-    (asked _ _ _ _ _ c.requires (omega arith) c.deref.ensures.value c.in_ok-slots.ensures.value c.in_ok-slots.ensures.fits) c.in-Some.ensures in
+    let offer = offered last c.args.self.now c.args.size c.max-size.result c.deref.result.now _ (asked _ _ _ _ _ c.requires (omega arith) c.deref.ensures.value c.in_ok-slots.ensures.value c.in_ok-slots.ensures.fits) c.in-Some.ensures in
     omega arith

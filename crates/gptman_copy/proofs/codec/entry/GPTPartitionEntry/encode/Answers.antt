@@ -34,7 +34,7 @@ returns-clause-spelled c =
     written_all w6 refl ∙ ap (λ (bs : List ℕ). front ++ bs) (c.bytes_of.ensures.bytes ∙ ap (flat_map (little_bytes 2)) c.units.ensures)
 
 pub returns-clause-coding : goal.returns-clause-coding
-returns-clause-coding c = subst (IsEntryCoding c.args.self.now) (sym (returns-clause-spelled c)) (spelled_corresponds c.args.self.now (fits_of c))
+returns-clause-coding c = subst (IsEntryCoding c.args.self.now) (sym (returns-clause-spelled c)) (spelled_corresponds c.args.self.now c.args.self.now.partition_name.text (fits_of c))
 
 pub returns-clause-fits : goal.returns-clause-fits
 returns-clause-fits c = fits_of c

@@ -1,20 +1,19 @@
-use Rattle.std.proofs.Common.{◌≡◌, ◌≤◌, ◌+◌, ⊎_elim, inl, inr, length, refl, sym, ap, ◌∙◌, arith}
+use Rattle.std.proofs.Common.{◌≡◌, ◌≤◌, ◌+◌, inr, length, sym, ap, ◌∙◌, arith}
 use Rattle.std.proofs.lemmas.Result.{err_from_is_err_and}
 use Rattle.gptman_copy.specs.Coding.{header_bytes, header_of}
 use Rattle.gptman_copy.specs.Bytes.{part}
 use Rattle.gptman_copy.proofs.CopyTests.{header_short, header_inside}
+use Rattle.gptman_copy.specs.Copy.{header_result}
 use Rattle.gptman_copy.proofs.HeaderBytes.{header_is}
+use Rattle.gptman_copy.proofs.Readers.{read_refused}
 use Rattle.gptman_copy.proofs.codec.header.GPTHeader.read_from.Goals as goal
 
 pub returns-in_err-read_exact-clause-answer : goal.returns-in_err-read_exact-clause-answer
 returns-in_err-read_exact-clause-answer g c = λ honest.
     let old = g.D.Disk.state c.args.disk.now in
-    let size : length old.view ≡ old.size = (g.met.D.Disk.sound c.args.disk.now honest).size in
     let p = err_from_is_err_and c.from_residual.result c.from_residual.ensures.1 in
-    rw (p.1, p.2) (⊎_elim
-    (λ rose. inl (refl, rose))
-    (λ short. inr (sym (header_short old.view old.position (omega (arith, short, size)))))
-    c.in_err-read_exact.ensures.cause)
+    rw (p.1, p.2) (read_refused (header_result old.view old.position) old (g.D.Disk.state c.read_exact.new.self) 92 (g.met.D.Disk.sound c.args.disk.now honest).size
+    (header_short old.view old.position) c.in_err-read_exact.ensures.cause)
 
 pub returns-clause-answer : goal.returns-clause-answer
 returns-clause-answer g c = λ honest.

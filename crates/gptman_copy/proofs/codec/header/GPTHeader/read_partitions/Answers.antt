@@ -1,14 +1,15 @@
-use Rattle.std.proofs.Common.{◌≡◌, ◌*◌, ℕ, List, length, Ok, Err, inr, sym, ap, ◌∙◌}
+use Rattle.std.proofs.Common.{◌≡◌, ◌*◌, ℕ, List, IsTrue, length, Ok, Err, inr, sym, ap, ◌∙◌}
 use Rattle.std.proofs.lemmas.Result.{err_from_is_err_and}
 use Rattle.gptman_copy.specs.Bytes.{part}
 use Rattle.gptman_copy.specs.Copy.{entries_of}
 use Rattle.gptman_copy.specs.Crc.{crc_of}
 use Rattle.gptman_copy.specs.Fault.{invalid_array_checksum}
 use Rattle.gptman_copy.proofs.ArrayOutcomes.{seek_refused, block_refused, in_place, array_read}
-use Rattle.gptman_copy.proofs.CopyTests.{array_changed, array_good}
+use Rattle.gptman_copy.proofs.CopyTests.{array_changed, array_good, entries_start, entries_length, IsInPlace}
 use Rattle.gptman_copy.proofs.Readers.{both_read}
+use Rattle.gptman_copy.proofs.codec.header.GPTHeader.read_partitions.Given.{Over}
 use Rattle.gptman_copy.proofs.codec.header.GPTHeader.read_partitions.Goals as goal
-use Rattle.gptman_copy.proofs.CopyTests.{entries_start, entries_length}
+use Rattle.gptman_copy.proofs.codec.header.GPTHeader.read_partitions.Goals.{In_ok-array}
 
 pub returns-in_err-seek_entries-clause-answer : goal.returns-in_err-seek_entries-clause-answer
 returns-in_err-seek_entries-clause-answer g c = λ honest.
@@ -28,8 +29,15 @@ returns-in_err-array-clause-answer g c = λ honest.
 pub returns-then-self-array-clause-reads : goal.returns-then-self-array-clause-reads
 returns-then-self-array-clause-reads g c = both_read c.seek_entries.ensures.reads c.read_array.ensures.reads
 
-pub returns-then-self-array-clause-answer : goal.returns-then-self-array-clause-answer
-returns-then-self-array-clause-answer g c = λ honest.
+-- the entries are in place, and the checksum that was made is theirs
+record AreRead (g : Over) (c : In_ok-array g) : Type 0 where
+  placed : IsInPlace (g.D.Disk.state c.args.disk.now).view c.args.sector_size c.args.self.now
+  bytes : part (g.D.Disk.state c.seek_entries.new.disk).view (g.D.Disk.state c.seek_entries.new.disk).position (128 * c.args.self.now.number_of_partition_entries)
+      ≡ part (g.D.Disk.state c.args.disk.now).view (entries_start c.args.self.now c.args.sector_size) (entries_length c.args.self.now)
+  sum : c.in_ok-array.array.checksum ≡ crc_of (part (g.D.Disk.state c.args.disk.now).view (entries_start c.args.self.now c.args.sector_size) (entries_length c.args.self.now))
+
+are_read : (g : Over) (c : In_ok-array g) → IsTrue (g.D.Disk.state c.args.disk.now).is_honest → AreRead g c
+are_read g c honest =
     let h = c.args.self.now in
     let ss = c.args.sector_size in
     let old = g.D.Disk.state c.args.disk.now in
@@ -37,30 +45,25 @@ returns-then-self-array-clause-answer g c = λ honest.
     let reads = c.seek_entries.ensures.reads.only honest in
     let size : length old.view ≡ mid.size = (g.met.D.Disk.sound c.args.disk.now honest).size ∙ sym c.seek_entries.ensures.reads.keeps.size in
     let ready = c.in_ok-seek_entries.ensures.ready in
-    let placed = in_place old.view ss h mid ready size c.in_ok-array.ensures.within in
-    let sum : c.in_ok-array.array.checksum ≡ crc_of (part old.view (entries_start h ss) (entries_length h)) =
-    c.in_ok-array.ensures.checksum reads.wrote.honest
-    ∙ ap (λ (b : List ℕ). crc_of (part b mid.position (128 * h.number_of_partition_entries))) reads.view
-    ∙ ap crc_of (array_read old.view ss h mid ready) in
-    inr (inr (ap (λ (n : ℕ). Err (invalid_array_checksum h.partition_entry_array_crc32 n)) sum
-    ∙ sym (array_changed old.view ss h placed (λ same. c.if-self-array.true (same ∙ sym sum)))))
+    let bytes : part mid.view mid.position (128 * h.number_of_partition_entries) ≡ part old.view (entries_start h ss) (entries_length h) =
+    ap (λ (b : List ℕ). part b mid.position (128 * h.number_of_partition_entries)) reads.view ∙ array_read old.view ss h mid ready in
+    record {
+      placed = in_place old.view ss h mid ready size c.in_ok-array.ensures.within;
+      bytes = bytes;
+      sum = c.in_ok-array.ensures.checksum reads.wrote.honest ∙ ap crc_of bytes;
+    }
+
+pub returns-then-self-array-clause-answer : goal.returns-then-self-array-clause-answer
+returns-then-self-array-clause-answer g c = λ honest.
+    let h = c.args.self.now in
+    let read = are_read g (goal.at.returns-then-self-array-clause-answer g c).In_ok-array honest in
+    inr (inr (ap (λ (n : ℕ). Err (invalid_array_checksum h.partition_entry_array_crc32 n)) read.sum
+    ∙ sym (array_changed (g.D.Disk.state c.args.disk.now).view c.args.sector_size h read.placed (λ same. c.if-self-array.true (same ∙ sym read.sum)))))
 
 pub returns-clause-answer : goal.returns-clause-answer
 returns-clause-answer g c = λ honest.
     let h = c.args.self.now in
-    let ss = c.args.sector_size in
-    let old = g.D.Disk.state c.args.disk.now in
-    let mid = g.D.Disk.state c.seek_entries.new.disk in
-    let reads = c.seek_entries.ensures.reads.only honest in
-    let size : length old.view ≡ mid.size = (g.met.D.Disk.sound c.args.disk.now honest).size ∙ sym c.seek_entries.ensures.reads.keeps.size in
-    let ready = c.in_ok-seek_entries.ensures.ready in
-    let n : ℕ = h.number_of_partition_entries in
-    let placed = in_place old.view ss h mid ready size c.in_ok-array.ensures.within in
-    let array = array_read old.view ss h mid ready in
-    let sum : c.in_ok-array.array.checksum ≡ crc_of (part old.view (entries_start h ss) (entries_length h)) =
-    c.in_ok-array.ensures.checksum reads.wrote.honest
-    ∙ ap (λ (b : List ℕ). crc_of (part b mid.position (128 * n))) reads.view ∙ ap crc_of array in
-    let entries : c.in_ok-array.array.partitions.items ≡ entries_of (part old.view (entries_start h ss) (entries_length h)) n =
-    c.in_ok-array.ensures.entries reads.wrote.honest
-    ∙ ap (λ (b : List ℕ). entries_of (part b mid.position (128 * n)) n) reads.view ∙ ap (λ (y : List ℕ). entries_of y n) array in
-    inr (inr (ap Ok entries ∙ sym (array_good old.view ss h placed (c.if-self-array.false ∙ sum))))
+    let read = are_read g (goal.at.returns-clause-answer g c).In_ok-array honest in
+    let entries = c.in_ok-array.ensures.entries (c.seek_entries.ensures.reads.only honest).wrote.honest
+    ∙ ap (λ (y : List ℕ). entries_of y h.number_of_partition_entries) read.bytes in
+    inr (inr (ap Ok entries ∙ sym (array_good (g.D.Disk.state c.args.disk.now).view c.args.sector_size h read.placed (c.if-self-array.false ∙ read.sum))))
