@@ -5,6 +5,7 @@ ghost use Rattle.std.specs.Prelude.{◌<◌, ◌^◌};
 ghost use Rattle.gptman_copy.specs.File.{file_state, never_honest};
 
 use gptman::Disk;
+use gptman::disk::{passes_end, past_end};
 use std::alloc::Global;
 use std::io;
 
@@ -89,8 +90,8 @@ impl Disk for LongDisk {
 
     fn read_exact(&mut self, buf: &mut [u8]) -> io::Result<()> {
         let len = buf.len() as u64;
-        if self.position > self.len || len > self.len - self.position {
-            return Err(io::Error::other("past the end"));
+        if passes_end(self.len, self.position, len) {
+            return Err(past_end());
         }
         if self.is_damaged(len) {
             return Err(io::Error::other("the device failed"));
