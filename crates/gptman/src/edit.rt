@@ -1,7 +1,7 @@
 //! Edits of a table as values, made one after the other.
 
 ghost use Rattle.std.specs.Prelude.{◌≡◌, ◌≤◌, ◌<◌, ◌⊎◌, [], ◌∷◌, ℕ, length};
-ghost use Rattle.std.specs.Prelude.{IfErr, IfNone, IfOk, IfSome, IsTrue, OnErr, OnOk};
+ghost use Rattle.std.specs.Prelude.{IfErr, IfNone, IfOk, IfSome, IsOk, IsTrue, OnErr, OnOk};
 ghost use Rattle.gptman_copy.specs.Answers.{refusal_of, CountsFailure, HasCause, Refuses};
 ghost use Rattle.gptman_copy.specs.Copy.{IsCoherent};
 ghost use Rattle.gptman_copy.specs.Disk.{HasFailedAsOften, HasFailedOnceAtMost, IsHonest, Keeps, OnlyRead};
@@ -88,13 +88,17 @@ impl GPT {
     ///
     /// Where `apply` refuses one, of the table that those before it left, its refusal is the answer;
     /// `OutOfMemory` where there is no memory for the same table again, for the name of an entry that
-    /// is put, or to sort the entries. Nothing changes then.
+    /// is put, or to sort the entries. Nothing changes then. An empty list takes no memory.
     pub fn apply_all(&mut self, edits: &[Edit]) -> Result<()>
         ensures answer { (refusal_of result ≡ edits_fault self.old edits.now)
             ⊎ Refuses result out_of_memory }
         ensures value { OnOk result (self.new ≡ edited_all self.old edits.now) }
         ensures kept { OnErr result (self.new ≡ self.old) }
+        ensures empty { edits.now ≡ [] → IsOk result }
     {
+        if edits.is_empty() {
+            return Ok(());
+        }
         let mut edited = self.clone()?;
         edited.apply_each(edits)?;
         *self = edited;

@@ -101,14 +101,13 @@ fn put_at_end(alloc: Global, shape: &Shape) -> Result<Edit> {
     Ok(Edit::Put(shape.entries, entry))
 }
 
-// Each edit in memory.
+// Each edit in memory, the last three as a list.
 fn are_edits_made(alloc: Global, shape: &Shape, table: GPT) -> Result<bool> {
     let mut table = table;
     table.apply(put_at_end(alloc, shape)?)?;
     let is_put = table.find_at_sector(shape.last()) == Some(shape.entries);
-    table.apply(Edit::Remove(shape.entries))?;
-    table.apply(Edit::DiskGuid([1; 16]))?;
-    table.apply(Edit::SortEntries)?;
+    let edits = [Edit::Remove(shape.entries), Edit::DiskGuid([1; 16]), Edit::SortEntries];
+    table.apply_all(&edits)?;
     Ok(is_put && is_sorted(shape, &table) && table.header.disk_guid == [1; 16])
 }
 

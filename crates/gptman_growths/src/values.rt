@@ -12,7 +12,9 @@ pub fn try_call(name: &str, memory: &mut Memory) -> Option<Result<Verdict>> {
         "name_new" | "name_clone" | "entry_clone" | "entry_decode" | "table_clone" => {
             Some(copy(name, memory))
         }
-        "table_sort" | "table_apply_sort" | "table_apply_put" => Some(change(name, memory)),
+        "table_sort" | "table_apply_sort" | "table_apply_put" | "table_apply_all" => {
+            Some(change(name, memory))
+        }
         _ => None,
     }
 }
@@ -53,10 +55,19 @@ fn is_changed(name: &str, table: &mut GPT, entry: GPTPartitionEntry) -> Result<b
     match name {
         "table_sort" => table.sort()?,
         "table_apply_sort" => table.apply(Edit::SortEntries)?,
-        _ => {
+        "table_apply_put" => {
             table.apply(Edit::Put(3, entry))?;
             return Ok(has_entry(table, 3, "New"));
         }
+        _ => {
+            table.apply_all(&[Edit::Put(3, entry), Edit::SortEntries])?;
+            return Ok(is_sorted(table) && has_entry(table, 4, "New"));
+        }
     }
-    Ok(has_entry(table, 1, "Foo") && has_entry(table, 2, "Baz") && has_entry(table, 3, "Bar"))
+    Ok(is_sorted(table))
+}
+
+// Whether the entries of the table come in order.
+fn is_sorted(table: &GPT) -> bool {
+    has_entry(table, 1, "Foo") && has_entry(table, 2, "Baz") && has_entry(table, 3, "Bar")
 }
