@@ -10,7 +10,7 @@ use Rattle.gptman_copy.specs.Answers.{HasCause, IsFailure, Settles}
 use Rattle.gptman.specs.TableWrites.RefusesWrite.{no_memory, not_valid, no_room, disk_failed}
 use Rattle.gptman.specs.Crash.{other_side}
 use Rattle.gptman_copy.specs.Disk.{DiskState}
-use Rattle.gptman_copy.specs.Fault.{Fault, fault_of, overflow, no_space_left, out_of_memory}
+use Rattle.gptman_copy.specs.Fault.{Fault, fault_of, overflow, no_space_left}
 use Rattle.gptman.specs.Layout.{HasLayout, IsLaidOut}
 use Rattle.gptman.specs.Reading.{Side}
 use Rattle.gptman.specs.Table.{entries_in, table_of, IsHeaderForm}

@@ -1,5 +1,5 @@
 -- Lists whose elements are numbered.
-use Rattle.std.proofs.Common.{◌≡◌, ℕ, ◌+◌, List, [], ◌∷◌, zero, suc, length, length-drop, Bool, refl, sym, ◌∙◌, ap, add-one, arith, count_by, drop, slice_get, Some, ◌<◌, ◌≤◌}
+use Rattle.std.proofs.Common.{◌≡◌, ℕ, ◌+◌, List, [], ◌∷◌, zero, suc, length, Bool, refl, sym, ◌∙◌, ap, add-one, arith, count_by, drop, slice_get, Some, ◌<◌, ◌≤◌}
 use Rattle.std.specs.List.{enumerate_from, fold}
 use Rattle.std.specs.Prelude.{if◌then◌else◌}
 

@@ -7,7 +7,8 @@ use Rattle.gptman_copy.specs.Coding.{header_of, entry_of}
 use Rattle.gptman_copy.specs.Copy.{Copy, copy_at, entries_of}
 use Rattle.gptman_copy.specs.Name.{text_of}
 use Rattle.gptman.specs.Reading.{Side, primary, backup, copy_in}
-use Rattle.gptman.specs.Table.{content_of, TableEntry}
+use Rattle.gptman.specs.Table.{TableEntry}
+use Rattle.gptman.proofs.WrittenCopy.{content_of}
 use Rattle.gptman_copy.specs.declared.codec.entry.GPTPartitionEntry.{GPTPartitionEntry}
 use Rattle.gptman_copy.proofs.CopyParts.{entries_part}
 use Rattle.gptman.proofs.Fallback.{backup_long, backup_room}

@@ -1,10 +1,10 @@
 -- The sweep over ranges that are sorted by their first sector.
-use Rattle.std.proofs.Common.{◌≡◌, ℕ, ◌+◌, ◌-◌, ◌^◌, ◌<◌, ◌≤◌, min, max, List, [], length, get_or, take, inl, inr, sym, ap, subst, arith}
+use Rattle.std.proofs.Common.{◌≡◌, ℕ, ◌+◌, ◌-◌, ◌^◌, ◌<◌, ◌≤◌, min, max, List, length, get_or, take, inl, inr, sym, ap, subst, arith}
 use Rattle.std.specs.List.{All}
 use Rattle.std.specs.List.Sorted.{IsNonDecreasingBy}
 use Rattle.std.proofs.lemmas.Bool.{cases_lt}
 use Rattle.std.proofs.lemmas.List.{get_or-take, get_or_default, length-take}
-use Rattle.std.proofs.lemmas.List.Elements.{All-nil, All-more, All-weaker}
+use Rattle.std.proofs.lemmas.List.Elements.{All-more, All-weaker}
 use Rattle.gptman.specs.Place.{IsRun, IsAlignedSlot, AreSlots}
 use Rattle.gptman.specs.Sweep.{IsOutside, AddsGap}
 use Rattle.gptman.specs.Sweep.AddsGap.{gap, no_gap}

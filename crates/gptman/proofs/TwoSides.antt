@@ -4,7 +4,7 @@ use Rattle.std.specs.List.{All}
 use Rattle.std.proofs.lemmas.List.{length-map}
 use Rattle.gptman_copy.specs.Coding.{FitsHeader, FitsEntry}
 use Rattle.gptman_copy.specs.Copy.{with_checksums}
-use Rattle.gptman_copy.specs.Disk.{DiskState, Image, IsPending, LeavesOnly, OnlyRead, Outside, Untouched, Wrote, Within}
+use Rattle.gptman_copy.specs.Disk.{DiskState, Image, IsPending, LeavesOnly, Outside, Untouched, Wrote, Within}
 use Rattle.gptman_copy.specs.Ranges.{AgreesInside, AreApart, AreClear, AreInside}
 use Rattle.gptman_copy.specs.Write.{other_header, header_range, write_ranges, FitsCopy, HasBytes, IsCopyLaid}
 use Rattle.gptman.specs.Crash.{other_side, BothSidesAfter, IsLeftAlone, SideAfter, StartsFromOne, StartsLaidOut, StartsSynced}

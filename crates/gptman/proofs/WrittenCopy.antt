@@ -12,7 +12,6 @@ use Rattle.gptman_copy.specs.Crc.{crc_of}
 use Rattle.gptman_copy.specs.Fault.{Fault, invalid_signature}
 use Rattle.gptman_copy.specs.Copy.{Copy, CopyAt, copy_at, header_crc, right_signature, right_revision}
 use Rattle.gptman.specs.Reading.{Side, primary, backup, copy_start, copy_in}
-pub use Rattle.gptman.specs.Table.{content_of}
 use Rattle.gptman.specs.Table.{Table, TableEntry, IsHeaderForm, table_of}
 use Rattle.gptman.specs.Layout.{Holds, IsLaidOut}
 use Rattle.gptman_copy.specs.Write.{HasBytes}
@@ -25,6 +24,17 @@ use Rattle.gptman_copy.proofs.Overlays.{part-part}
 use Rattle.gptman.proofs.CopyThere.{copy_there_is}
 use Rattle.gptman.proofs.Sealing.{IsSealed}
 use Rattle.gptman_copy.proofs.CopyTests.{entries_start, entries_length}
+
+-- what an entry holds, as a table has it
+abbrev pub content_of : GPTPartitionEntry → TableEntry
+content_of e = record {
+  partition_type_guid = e.partition_type_guid;
+  unique_partition_guid = e.unique_partition_guid;
+  starting_lba = e.starting_lba;
+  ending_lba = e.ending_lba;
+  attribute_bits = e.attribute_bits;
+  units = e.partition_name.units;
+}
 
 -- an entry as it is read back: its text is that of its units
 abbrev pub as_read : GPTPartitionEntry → GPTPartitionEntry

@@ -17,17 +17,6 @@ pub record TableEntry : Type 0 where
   pub attribute_bits : ℕ
   pub units : List ℕ
 
--- what an entry holds so
-abbrev pub content_of : GPTPartitionEntry → TableEntry
-content_of e = record {
-  partition_type_guid = e.partition_type_guid;
-  unique_partition_guid = e.unique_partition_guid;
-  starting_lba = e.starting_lba;
-  ending_lba = e.ending_lba;
-  attribute_bits = e.attribute_bits;
-  units = e.partition_name.units;
-}
-
 -- A table, without what its two forms differ in and without checksums. The sectors of its headers are a pair in no order, kept with the lower first.
 pub record Table : Type 0 where
   pub signature : List ℕ
@@ -57,7 +46,14 @@ table_of h es = record {
   disk_guid = h.disk_guid;
   count = h.number_of_partition_entries;
   entry_size = h.size_of_partition_entry;
-  entries = map content_of es;
+  entries = map (λ (e : GPTPartitionEntry). record {
+    partition_type_guid = e.partition_type_guid;
+    unique_partition_guid = e.unique_partition_guid;
+    starting_lba = e.starting_lba;
+    ending_lba = e.ending_lba;
+    attribute_bits = e.attribute_bits;
+    units = e.partition_name.units;
+  }) es;
 }
 
 -- the entries of a value, in order

@@ -4,7 +4,8 @@ use Rattle.gptman.specs.Copy.{copy_of_whole, Copy, copy_at}
 use Rattle.gptman.specs.Disk.{DiskState, Rose}
 use Rattle.gptman.specs.Fault.{Fault}
 use Rattle.gptman.specs.Reading.{primary, backup, copy_in}
-use Rattle.gptman.specs.Table.{content_of, Table, table_of}
+use Rattle.gptman.specs.Table.{Table, table_of}
+use Rattle.gptman.proofs.WrittenCopy.{content_of}
 use Rattle.gptman_copy.specs.declared.codec.entry.GPTPartitionEntry.{GPTPartitionEntry}
 use Rattle.gptman_copy.specs.declared.error.Error.{Error}
 use Rattle.gptman.proofs.ReadBack.{same_entries}
