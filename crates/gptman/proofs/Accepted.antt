@@ -1,16 +1,16 @@
 -- What a write answers, and that a valid table of the stated layout is not refused.
 use Rattle.std.proofs.Common.{◌≡◌, ◌≢◌, ◌⊎◌, ◌≤◌, ◌<◌, ◌+◌, ◌*◌, ◌^◌, ◌&&◌, ◌||◌, ℕ, Bool, true, false, not, List, [], ◌∷◌, ltb, ⊎_elim, Some, None, Result, Ok, Err, refl, sym, ap, ◌∙◌, subst, inl, inr, arith}
-use Rattle.std.specs.Prelude.{if◌then◌else◌, nat_eq, IfErr, OnOk}
+use Rattle.std.specs.Prelude.{if◌then◌else◌, nat_eq, IfErr}
 use Rattle.std.specs.List.{list_all}
 use Rattle.std.proofs.lemmas.Bool.{and_from, le-leb, lt-ltb}
 use Rattle.std.proofs.lemmas.Bool.Decides.{eqb_tells}
 use Rattle.std.proofs.lemmas.List.Folds.{list_all-append}
-use Rattle.gptman.specs.TableWrites.{table_write_fault, HasRoomOn, IsFailureOrMemory, MayBeWritten, RefusesAtOnce, RefusesWrite}
+use Rattle.gptman.specs.TableWrites.{table_write_fault, HasRoomOn, IsFailureOrMemory, RefusesAtOnce, RefusesWrite}
 use Rattle.gptman_copy.specs.Answers.{Settles}
 use Rattle.gptman.specs.TableWrites.RefusesWrite.{no_memory, not_valid, no_room, disk_failed}
 use Rattle.gptman.specs.Crash.{other_side}
 use Rattle.gptman_copy.specs.Disk.{DiskState}
-use Rattle.gptman_copy.specs.Fault.{Fault, fault_of, overflow, no_space_left, out_of_memory}
+use Rattle.gptman_copy.specs.Fault.{Fault, fault_of, overflow, no_space_left}
 use Rattle.gptman.specs.Layout.{HasLayout, IsLaidOut}
 use Rattle.gptman.specs.Reading.{Side}
 use Rattle.gptman.specs.Table.{entries_in, table_of, IsHeaderForm}

@@ -1,15 +1,15 @@
 -- The sweep over ranges that are sorted by their first sector.
-use Rattle.std.proofs.Common.{◌≡◌, ℕ, ◌+◌, ◌-◌, ◌^◌, ◌<◌, ◌≤◌, min, max, List, [], length, get_or, take, inl, inr, sym, ap, subst, arith}
+use Rattle.std.proofs.Common.{◌≡◌, ℕ, ◌+◌, ◌-◌, ◌^◌, ◌<◌, ◌≤◌, min, max, List, length, get_or, take, inl, inr, sym, ap, subst, arith}
 use Rattle.std.specs.List.{All}
 use Rattle.std.specs.List.Sorted.{IsNonDecreasingBy}
 use Rattle.std.proofs.lemmas.Bool.{cases_lt}
 use Rattle.std.proofs.lemmas.List.{get_or-take, get_or_default, length-take}
-use Rattle.std.proofs.lemmas.List.Elements.{All-nil, All-more, All-weaker}
+use Rattle.std.proofs.lemmas.List.Elements.{All-more, All-weaker}
 use Rattle.gptman.specs.Place.{IsRun, IsAlignedSlot, AreSlots}
 use Rattle.gptman.specs.Sweep.{IsOutside, AddsGap}
 use Rattle.gptman.specs.Sweep.AddsGap.{gap, no_gap}
 use Rattle.gptman_copy.specs.declared.codec.header.GPTHeader.{GPTHeader}
-use Rattle.gptman.proofs.FreeRuns.{Swept, swept_none, swept_skip, swept_run, swept_all}
+use Rattle.gptman.proofs.FreeRuns.{Swept, swept_skip, swept_run, swept_all}
 
 -- After i ranges: the slots up to p, which is no smaller than the end of each of these ranges. Which sectors are outside is said of all ranges from the
 -- start, and not of those so far.
