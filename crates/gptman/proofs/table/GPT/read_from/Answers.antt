@@ -18,7 +18,7 @@ returns-clause-reads g c = both_read c.read_primary.ensures.reads c.read_backup.
 -- the primary copy was refused, and what follows is the answer of the fallback
 primary_refused : (g : Over) (c : goal.After-read_backup g) → IsTrue (g.D.Disk.state c.args.disk.now).is_honest
     → FellBack c.read_backup.result c.args.sector_size (fault_of c.in-Err.primary) (g.D.Disk.state c.args.disk.now)
-      (g.D.Disk.state c.read_primary.new.disk) (g.D.Disk.state c.read_backup.new.disk)
+    (g.D.Disk.state c.read_primary.new.disk) (g.D.Disk.state c.read_backup.new.disk)
 primary_refused g c honest =
     let reads = c.read_primary.ensures.reads.only honest in
     let known : fault_of c.in-Err.primary ≢ out_of_memory = search rules in
