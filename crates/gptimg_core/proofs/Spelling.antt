@@ -377,10 +377,9 @@ alone_spelled one name (other ∷ words) change means h = cc h
 change_spelled : (name : List ℕ) (words : List (List ℕ)) (change : Change) → named_change_in name words ≡ Some change → Means (name ∷ words) change
 change_spelled name words change h =
     picked (Means (name ∷ words)) name (
-      (codes "add", option_map (λ a. Add a) (addition_in words)) ∷ (codes "remove", remove_in words)
-      ∷ (codes "sort", alone Sort words) ∷ (codes "grow", alone Grow words) ∷ []
-    ) None change
-    (
+    (codes "add", option_map (λ a. Add a) (addition_in words)) ∷ (codes "remove", remove_in words)
+    ∷ (codes "sort", alone Sort words) ∷ (codes "grow", alone Grow words) ∷ []
+    ) None change (
       add_spelled name words,
       (
         remove_spelled name words,
@@ -402,24 +401,32 @@ changing_spells sector (name ∷ word ∷ other ∷ words) size change is h = (i
 abbrev IsMeant : List (List ℕ) → Command → Type 0
 IsMeant words command = IsSpelled words command × IsAllowed command
 
+-- a command of the sector's word and one more word, by what is read of the two
+two_words : {A B : Type 0} (make : A → B → Command) (first : Option A) (read : List ℕ → Option B) (of : List (List ℕ) → Option Command)
+    (P : List (List ℕ) → Command → Type 0) → of [] ≡ None → ((word other : List ℕ) (words : List (List ℕ)) → of (word ∷ other ∷ words) ≡ None)
+    → ((word : List ℕ) → of (word ∷ []) ≡ option_and_then (λ x. option_map (λ y. make x y) (read word)) first)
+    → ((word : List ℕ) (x : A) (y : B) → first ≡ Some x → read word ≡ Some y → P (word ∷ []) (make x y))
+    → (words : List (List ℕ)) (command : Command) → of words ≡ Some command → P words command
+two_words make first read of P none more one given [] command h = cc (sym none ∙ h)
+two_words make first read of P none more one given (word ∷ []) command h =
+    let p = both_parts make first (read word) command (sym (one word) ∙ h) in
+    subst (P (word ∷ [])) p.4 (given word p.0 p.1 p.2 p.3)
+two_words make first read of P none more one given (word ∷ other ∷ words) command h = cc (sym (more word other words) ∙ h)
+
 new_spelled : (sector name : List ℕ) (words : List (List ℕ)) (command : Command) → name ≡ codes "new" → new_in sector words ≡ Some command
     → IsMeant (sector ∷ name ∷ words) command
-new_spelled sector name [] command is h = cc h
-new_spelled sector name (digits ∷ []) command is h =
-    let p = both_parts (λ size guid. New size guid) (size_in sector) (guid_in digits) command h in
-    let s = size_spelled sector p.0 p.2 in
-    let g = guid_spelled digits p.1 p.3 in
-    subst (IsMeant (sector ∷ name ∷ digits ∷ [])) p.4 ((s.0, is, g.0), (s.1, g.1))
-new_spelled sector name (digits ∷ other ∷ words) command is h = cc h
+new_spelled sector name words command is =
+    two_words (λ size guid. New size guid) (size_in sector) guid_in (new_in sector) (λ ws. IsMeant (sector ∷ name ∷ ws)) refl (λ word other ws. refl) (λ word. refl)
+    (λ digits size guid is_size is_guid.
+    let s = size_spelled sector size is_size in
+    let g = guid_spelled digits guid is_guid in
+    ((s.0, is, g.0), (s.1, g.1))) words command
 
 mbr_spelled : (sector name : List ℕ) (words : List (List ℕ)) (command : Command) → name ≡ codes "mbr" → mbr_in sector words ≡ Some command
     → IsMeant (sector ∷ name ∷ words) command
-mbr_spelled sector name [] command is h = cc h
-mbr_spelled sector name (kind ∷ []) command is h =
-    let p = both_parts (λ size bootable. Mbr size bootable) (size_in sector) (kind_in kind) command h in
-    let s = size_spelled sector p.0 p.2 in
-    subst (IsMeant (sector ∷ name ∷ kind ∷ [])) p.4 ((s.0, is, kind_spelled kind p.1 p.3), s.1)
-mbr_spelled sector name (kind ∷ other ∷ words) command is h = cc h
+mbr_spelled sector name words command is =
+    two_words (λ size bootable. Mbr size bootable) (size_in sector) kind_in (mbr_in sector) (λ ws. IsMeant (sector ∷ name ∷ ws)) refl (λ word other ws. refl) (λ word. refl)
+    (λ kind size bootable is_size is_kind. let s = size_spelled sector size is_size in ((s.0, is, kind_spelled kind bootable is_kind), s.1)) words command
 
 check_spelled : (sector name : List ℕ) (words : List (List ℕ)) (command : Command) → name ≡ codes "check" → check_in sector words ≡ Some command
     → IsMeant (sector ∷ name ∷ words) command
@@ -439,13 +446,12 @@ show_spelled sector name (other ∷ words) command is h = cc h
 
 free_spelled : (sector name : List ℕ) (words : List (List ℕ)) (command : Command) → name ≡ codes "free" → free_in sector words ≡ Some command
     → IsMeant (sector ∷ name ∷ words) command
-free_spelled sector name [] command is h = cc h
-free_spelled sector name (number ∷ []) command is h =
-    let p = both_parts (λ size align. Free size align) (sector_size_in sector) (size_in number) command h in
-    let s = sector_size_spelled sector p.0 p.2 in
-    let n = size_spelled number p.1 p.3 in
-    subst (IsMeant (sector ∷ name ∷ number ∷ [])) p.4 ((s.0, is, n.0), (s.1, n.1))
-free_spelled sector name (number ∷ other ∷ words) command is h = cc h
+free_spelled sector name words command is =
+    two_words (λ size align. Free size align) (sector_size_in sector) size_in (free_in sector) (λ ws. IsMeant (sector ∷ name ∷ ws)) refl (λ word other ws. refl) (λ word. refl)
+    (λ number size align is_size is_align.
+    let s = sector_size_spelled sector size is_size in
+    let n = size_spelled number align is_align in
+    ((s.0, is, n.0), (s.1, n.1))) words command
 
 changing_spelled : (sector name : List ℕ) (words : List (List ℕ)) (command : Command) → change_in sector name words ≡ Some command
     → IsMeant (sector ∷ name ∷ words) command
@@ -459,10 +465,9 @@ named_spelled : (sector name : List ℕ) (words : List (List ℕ)) (command : Co
     → IsMeant (sector ∷ name ∷ words) command
 named_spelled sector name words command h =
     picked (IsMeant (sector ∷ name ∷ words)) name (
-      (codes "new", new_in sector words) ∷ (codes "mbr", mbr_in sector words) ∷ (codes "check", check_in sector words)
-      ∷ (codes "show", show_in sector words) ∷ (codes "free", free_in sector words) ∷ []
-    ) (change_in sector name words) command
-    (
+    (codes "new", new_in sector words) ∷ (codes "mbr", mbr_in sector words) ∷ (codes "check", check_in sector words)
+    ∷ (codes "show", show_in sector words) ∷ (codes "free", free_in sector words) ∷ []
+    ) (change_in sector name words) command (
       new_spelled sector name words,
       (mbr_spelled sector name words, (check_spelled sector name words, (show_spelled sector name words, (free_spelled sector name words, tt)))),
     ) (changing_spelled sector name words command) h

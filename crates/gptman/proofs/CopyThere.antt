@@ -98,7 +98,7 @@ module _ (b : List ℕ) (p ss : ℕ) where
                   none_or count (eqb header.size_of_partition_entry 128) (header.size_of_partition_entry ≡ 128) (eq-eqb header.size_of_partition_entry 128) c.entry_size,
                   (
                     none_or count (ltb start (2 ^ 64)) (start < length b) (λ below. lt-ltb start (2 ^ 64) (omega (arith, below, long)))
-                    (start_below count start size (length b) refl c.inside),
+                        (start_below count start size (length b) refl c.inside),
                     (
                       none_or count (leb (start + size) (length b)) (start + size ≤ length b) (le-leb (start + size) (length b)) c.inside,
                       (eq-eqb header.partition_entry_array_crc32 (crc_of array) c.checksum, tt),

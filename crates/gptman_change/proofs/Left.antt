@@ -1,10 +1,10 @@
 -- What a write leaves that comes after calls that only read.
 use Rattle.std.proofs.Common.{sym, subst, ◌∙◌, ℕ, List, [], ◌∷◌, Option}
-use Rattle.gptman.specs.Crash.{IsKeptFor, other_side, AreReadAlone, StartsFromOne, StartsLaidOut}
+use Rattle.gptman.specs.Crash.{IsKeptFor, other_side, StartsFromOne, StartsLaidOut}
 use Rattle.gptman.specs.Disk.{OnlyRead, DiskState, AgreesOutside, IsHonest, Keeps, LeavesOnly, Reads, Writes, Wrote}
 use Rattle.gptman.specs.Layout.{HasLayout, Holds, ranges_at}
 use Rattle.gptman.specs.Ranges.{AreClear}
-use Rattle.gptman.specs.Stop.{HoldsOneOf, IsStored, StopsHold}
+use Rattle.gptman.specs.Stop.{HoldsOneOf, StopsHold}
 use Rattle.gptman.specs.Table.{Table, table_in}
 use Rattle.gptman.specs.TableWrites.{table_ranges}
 use Rattle.gptman.specs.declared.table.GPT.{GPT}

@@ -1,5 +1,5 @@
 -- From one good copy and no other, a plan that keeps the places of a table leaves the old table or the planned one.
-use Rattle.std.proofs.Common.{◌≡◌, ◌⊎◌, inl, inr, refl, sym, ◌∙◌, subst, ℕ, List, [], ◌∷◌, Ok, Option}
+use Rattle.std.proofs.Common.{◌≡◌, inl, inr, refl, sym, ◌∙◌, subst, ℕ, List, [], ◌∷◌, Ok, Option}
 use Rattle.gptman.specs.Crash.{IsReadInForm, KeepsWhatIsRead, StartsFromOne}
 use Rattle.gptman.specs.Disk.{AgreesOutside, DiskState, Keeps, LeavesOnly, OnlyRead, Wrote}
 use Rattle.gptman.specs.Layout.{HasLayout, IsLaidOut}

@@ -241,12 +241,6 @@ crc_of_register m bytes =
 
 -- ---- for the loops
 
--- one step more
-pub steps_more : (k r : ℕ) → steps (k + 1) r ≡ step (steps k r)
-unfolding steps
-steps_more zero r = refl
-steps_more (suc k) r = let e : suc k + 1 ≡ suc (k + 1) = omega arith in rw e (steps_more k (step r))
-
 pub bytes_append : (xs ys : List ℕ) → AreBytes xs → AreBytes ys → AreBytes (xs ++ ys)
 bytes_append [] ys hx hy i = hy i
 bytes_append (x ∷ xs) ys hx hy zero = hx 0

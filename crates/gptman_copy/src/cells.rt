@@ -25,9 +25,7 @@ pub(crate) fn put_u16(bytes: &mut [u8], at: usize, number: u16)
     ensures written { bytes.new ≡ take at bytes.old ++ (little_bytes 2 number ++ drop (at + 2) bytes.old) }
     ensures in_range { number < 2 ^ 16 }
 {
-    let mut part = [0; 2];
-    LittleEndian::write_u16(&mut part, number);
-    put(bytes, at, &part);
+    LittleEndian::write_u16(&mut bytes[at..at + 2], number);
 }
 
 /// Writes the number over the 4 bytes from `at` on.
@@ -36,9 +34,7 @@ pub fn put_u32(bytes: &mut [u8], at: usize, number: u32)
     ensures written { bytes.new ≡ take at bytes.old ++ (little_bytes 4 number ++ drop (at + 4) bytes.old) }
     ensures in_range { number < 2 ^ 32 }
 {
-    let mut part = [0; 4];
-    LittleEndian::write_u32(&mut part, number);
-    put(bytes, at, &part);
+    LittleEndian::write_u32(&mut bytes[at..at + 4], number);
 }
 
 /// Writes the number over the 8 bytes from `at` on.
@@ -47,9 +43,7 @@ pub(crate) fn put_u64(bytes: &mut [u8], at: usize, number: u64)
     ensures written { bytes.new ≡ take at bytes.old ++ (little_bytes 8 number ++ drop (at + 8) bytes.old) }
     ensures in_range { number < 2 ^ 64 }
 {
-    let mut part = [0; 8];
-    LittleEndian::write_u64(&mut part, number);
-    put(bytes, at, &part);
+    LittleEndian::write_u64(&mut bytes[at..at + 8], number);
 }
 
 /// The `N` bytes from `at` on.

@@ -1,15 +1,11 @@
 -- A partition at the place that was found for it.
-use Rattle.std.proofs.Common.{◌≡◌, ◌<◌, ℕ, Option, None, Some, max, refl, sym, subst, arith}
-use Rattle.std.proofs.lemmas.Option.{MatchOption-at_none, MatchOption-at_some}
+use Rattle.std.proofs.Common.{ℕ, sym, subst}
 use Rattle.gptman.specs.Crash.{EditsKeepPlaces}
-use Rattle.gptman.specs.Layout.{HasLayout}
-use Rattle.gptman.specs.Number.{with_entry}
-use Rattle.gptman.specs.Place.{FindsPlace, HasNoPlace, IsFirstPlace, IsFreeIn}
 use Rattle.gptman_copy.specs.declared.codec.entry.GPTPartitionEntry.{GPTPartitionEntry}
 use Rattle.gptman.specs.declared.edit.Edit.TheVariants.{Put}
 use Rattle.gptman.specs.declared.table.GPT.{GPT}
 use Rattle.gptman_change.specs.Planning.{AlwaysKeepsPlaces, KeepsPlaces}
-use Rattle.gptman_example.specs.Adding.{placed, IsFirstUnused, IsWith}
+use Rattle.gptman_example.specs.Adding.{placed, IsWith}
 
 -- It keeps the places of the table, as each edit does.
 pub keeps_places : (partition : GPTPartitionEntry) (size : ℕ) → EditsKeepPlaces → AlwaysKeepsPlaces (IsWith partition size)

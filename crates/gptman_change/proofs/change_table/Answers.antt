@@ -1,7 +1,6 @@
-use Rattle.std.proofs.Common.{⊎_elim, ◌⊎◌, inl, inr, sym, ◌∙◌, subst, ℕ, IsTrue}
+use Rattle.std.proofs.Common.{⊎_elim, inl, inr, ◌∙◌, subst, ℕ, IsTrue}
 use Rattle.std.proofs.lemmas.Result.{err_from_is_err_and}
 use Rattle.gptman.specs.Disk.{DiskState, HasFailedAsOften, Keeps, OnlyRead}
-use Rattle.gptman.specs.Answers.{IsFailure}
 use Rattle.gptman.specs.Fault.{Fault, fault_of}
 use Rattle.gptman.specs.Table.{Table}
 use Rattle.gptman.specs.declared.table.GPT.{GPT}
@@ -141,7 +140,7 @@ returns-clause-leaves g c = leaves g (goal.at.returns-clause-leaves g c).After-w
 safe : (g : Over) (c : After-write_into g) → AlwaysKeepsPlaces (g.P.Plan.makes c.args.plan.now (g.D.Disk.state c.args.disk.now).size) → (was : Table)
     → StartsGoodFor (g.D.Disk.state c.args.disk.now) c.args.sector_size was
     → IsSafe (g.P.Plan.makes c.args.plan.now (g.D.Disk.state c.args.disk.now).size) (size_for (g.D.Disk.state c.args.disk.now).view c.args.sector_size) was
-      (g.D.Disk.state c.args.disk.now) (g.D.Disk.state c.write_into.new.disk)
+    (g.D.Disk.state c.args.disk.now) (g.D.Disk.state c.write_into.new.disk)
 safe g c places was good =
     let old = g.D.Disk.state c.args.disk.now in
     let mid = g.D.Disk.state c.read_table.new.disk in

@@ -15,21 +15,21 @@ returns-in-Ok-clause-answer g c = λ honest.
 pub returns-clause-reads : goal.returns-clause-reads
 returns-clause-reads g c = both_read c.read_primary.ensures.reads c.read_backup.ensures.reads
 
--- the primary copy was not taken
-fallen : (g : Over) (c : goal.After-read_backup g) → IsTrue (g.D.Disk.state c.args.disk.now).is_honest
+-- the primary copy was refused, and what follows is the answer of the fallback
+primary_refused : (g : Over) (c : goal.After-read_backup g) → IsTrue (g.D.Disk.state c.args.disk.now).is_honest
     → FellBack c.read_backup.result c.args.sector_size (fault_of c.in-Err.primary) (g.D.Disk.state c.args.disk.now)
-      (g.D.Disk.state c.read_primary.new.disk) (g.D.Disk.state c.read_backup.new.disk)
-fallen g c honest =
+    (g.D.Disk.state c.read_primary.new.disk) (g.D.Disk.state c.read_backup.new.disk)
+primary_refused g c honest =
     let reads = c.read_primary.ensures.reads.only honest in
     let known : fault_of c.in-Err.primary ≢ out_of_memory = search rules in
     fell_back c.read_backup.result c.args.sector_size _ _ _ _ c.read_primary.ensures.reads.keeps c.read_backup.ensures.reads.keeps reads.view known
     (c.in-Err.ensures.answer honest) (c.read_backup.ensures.answer reads.wrote.honest)
 
 pub returns-clause-answer : goal.returns-clause-answer
-returns-clause-answer g c = λ honest. answer_after (fallen g c honest)
+returns-clause-answer g c = λ honest. answer_after (primary_refused g c honest)
 
 pub returns-clause-refused : goal.returns-clause-refused
-returns-clause-refused g c = λ honest. refused_after (fallen g c honest)
+returns-clause-refused g c = λ honest. refused_after (primary_refused g c honest)
 
 pub returns-clause-accepted : goal.returns-clause-accepted
-returns-clause-accepted g c = λ honest. accepted_after (fallen g c honest)
+returns-clause-accepted g c = λ honest. accepted_after (primary_refused g c honest)
