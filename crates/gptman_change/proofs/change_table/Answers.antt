@@ -54,20 +54,6 @@ only_read g c honest =
 keeps_to : (g : Over) (c : After-change g) → Keeps (g.D.Disk.state c.args.disk.now) (g.D.Disk.state c.change.new.disk)
 keeps_to g c = keeps_then c.read_table.ensures.reads.keeps c.change.ensures.reads.keeps
 
--- what the plan made, by the length of the disk before the call
-made : (g : Over) (c : In_ok-answer g)
-    → g.P.Plan.makes c.args.plan.now (g.D.Disk.state c.args.disk.now).size c.in_ok-table.table c.change.new.table c.in_ok-answer.answer
-made g c =
-    subst (λ (n : ℕ). g.P.Plan.makes c.args.plan.now n c.in_ok-table.table c.change.new.table c.in_ok-answer.answer) c.read_table.ensures.reads.keeps.size
-    c.in_ok-answer.ensures.value
-
--- the table was read, also once the write is over
-was_read : (g : Over) (c : After-write_into g) → IsTrue (g.D.Disk.state c.args.disk.now).is_honest
-    → IsReadFrom c.args.sector_size (g.D.Disk.state c.args.disk.now) (g.D.Disk.state c.write_into.new.disk) c.in_ok-table.table
-was_read g c honest =
-    read_before c.args.sector_size (g.D.Disk.state c.args.disk.now) (g.D.Disk.state c.read_table.new.disk) (g.D.Disk.state c.write_into.new.disk) c.in_ok-table.table
-    (c.in_ok-table.ensures.value honest) (keeps_then c.change.ensures.reads.keeps c.write_into.ensures.keeps)
-
 pub returns-in_err-answer-clause-leaves : goal.returns-in_err-answer-clause-leaves
 returns-in_err-answer-clause-leaves g c = λ honest. unwritten (only_read g (goal.at.returns-in_err-answer-clause-leaves g c).After-change honest)
 
@@ -84,6 +70,20 @@ returns-in_err-write_into-clause-kept g c honest =
     on_err_of _ (⊎_elim
     (λ failed. inl (rose_since _ (g.D.Disk.state c.change.new.disk) (g.D.Disk.state c.write_into.new.disk) (keeps_to g at.After-change) (refused.cause failed)))
     (λ same. inr (record { view = same.view ∙ read.view; pending = same.pending ∙ read.pending })) (refused.untouched read.wrote.honest))
+
+-- what the plan made, by the length of the disk before the call
+made : (g : Over) (c : In_ok-answer g)
+    → g.P.Plan.makes c.args.plan.now (g.D.Disk.state c.args.disk.now).size c.in_ok-table.table c.change.new.table c.in_ok-answer.answer
+made g c =
+    subst (λ (n : ℕ). g.P.Plan.makes c.args.plan.now n c.in_ok-table.table c.change.new.table c.in_ok-answer.answer) c.read_table.ensures.reads.keeps.size
+    c.in_ok-answer.ensures.value
+
+-- the table was read, also once the write is over
+was_read : (g : Over) (c : After-write_into g) → IsTrue (g.D.Disk.state c.args.disk.now).is_honest
+    → IsReadFrom c.args.sector_size (g.D.Disk.state c.args.disk.now) (g.D.Disk.state c.write_into.new.disk) c.in_ok-table.table
+was_read g c honest =
+    read_before c.args.sector_size (g.D.Disk.state c.args.disk.now) (g.D.Disk.state c.read_table.new.disk) (g.D.Disk.state c.write_into.new.disk) c.in_ok-table.table
+    (c.in_ok-table.ensures.value honest) (keeps_then c.change.ensures.reads.keeps c.write_into.ensures.keeps)
 
 pub returns-in_err-write_into-clause-refused : goal.returns-in_err-write_into-clause-refused
 returns-in_err-write_into-clause-refused g c = λ honest.
