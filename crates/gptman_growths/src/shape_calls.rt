@@ -106,7 +106,11 @@ fn are_edits_made(alloc: Global, shape: &Shape, table: GPT) -> Result<bool> {
     let mut table = table;
     table.apply(put_at_end(alloc, shape)?)?;
     let is_put = table.find_at_sector(shape.last()) == Some(shape.entries);
-    let edits = [Edit::Remove(shape.entries), Edit::DiskGuid([1; 16]), Edit::SortEntries];
+    let edits = [
+        Edit::Remove(shape.entries),
+        Edit::DiskGuid([1; 16]),
+        Edit::SortEntries,
+    ];
     table.apply_all(&edits)?;
     Ok(is_put && is_sorted(shape, &table) && table.header.disk_guid == [1; 16])
 }
