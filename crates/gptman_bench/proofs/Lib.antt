@@ -1,3 +1,2 @@
 pub mod Growing
-pub mod PassedOn
-pub mod ReadBack
+pub mod Readings

@@ -1,7 +1,7 @@
 //! Callers that know a table by the library's contracts alone. What each ensures is proved from them.
 
-ghost use Rattle.std.specs.Prelude.{◌≡◌, ◌≢◌, ◌<◌, ◌≤◌, ◌+◌, ◌-◌, ◌⊎◌, ◌↔◌, [], ◌∷◌, Ok, Some, count_by};
-ghost use Rattle.std.specs.Prelude.{filter, length, map, slice_get, All, IsTrue, IfOk, List, MatchOption};
+ghost use Rattle.std.specs.Prelude.{◌≡◌, ◌≢◌, ◌<◌, ◌+◌, ◌⊎◌, ◌↔◌, [], ◌∷◌, Ok, count_by};
+ghost use Rattle.std.specs.Prelude.{filter, map, All, IsTrue, IfOk, List, MatchOption};
 ghost use Rattle.std.specs.Prelude.{OnOk, OnErr};
 ghost use Rattle.std.specs.List.{enumerate_from};
 ghost use Rattle.gptman.specs.Copy.{CopyAt, IsCoherent};
@@ -9,27 +9,28 @@ ghost use Rattle.gptman.specs.Crash.{StartsLaidOut, StartsSynced};
 ghost use Rattle.gptman.specs.Disk.{IsHonest, Rose};
 ghost use Rattle.gptman.specs.Entry.{is_used};
 ghost use Rattle.gptman.specs.Layout.{Holds};
-ghost use Rattle.gptman.specs.Number.{with_entries, with_entry, IsNumber};
-ghost use Rattle.gptman.specs.Order.{by_rank, rank};
+ghost use Rattle.gptman.specs.Number.{with_entries, IsNumber};
 ghost use Rattle.gptman.specs.Place.{HasNoPlace, IsFreeIn, IsPlace};
-ghost use Rattle.gptman.specs.Reading.{backup, primary, taken_from};
+ghost use Rattle.gptman.specs.Reading.{primary, taken_from};
 ghost use Rattle.gptman.specs.Stop.{IsStored, StopsAreReadAs};
-ghost use Rattle.gptman.specs.Table.{entries_in, grow_to, table_in, IsForm, IsHeaderForm};
-ghost use Rattle.gptman.specs.TableReads.{copy_of, AnswersReading};
+ghost use Rattle.gptman.specs.Table.{entries_in, grow_to, table_in, IsHeaderForm};
+ghost use Rattle.gptman.specs.TableReads.{AnswersReading};
 ghost use Rattle.gptman.specs.Valid.{IsValid};
 ghost use Rattle.gptman_copy.specs.declared.codec.entry.GPTPartitionEntry.{GPTPartitionEntry};
 ghost use Rattle.gptman_copy.specs.declared.codec.header.GPTHeader.{GPTHeader};
 ghost use Rattle.gptman_bench.specs.Cleared.{cleared};
 
-use crate::asserts::{Host, assert_shown, assert_used, got};
-use crate::fixtures::{blank, disk_1, image_of_new_table, new_table, partition, put_entry};
-use crate::memory::holding;
+use crate::asserts::{Host, assert_same, assert_shown, assert_used, got};
+use crate::fixtures::{disk_1, holding, partition};
 use gptman::place::laws::{maximum_is_offered, placement_keeps_valid};
 use gptman::table::laws::{
     growing_is_safe, what_is_held_is_read, what_is_read_is_held, what_stands_is_accepted,
 };
-use gptman::{Disk, GPT, GPTHeader, GPTPartitionEntry, Result};
+use gptman::{Disk, Edit, GPT, GPTHeader, GPTPartitionEntry, MemoryDisk, Result};
+use gptman_fixtures::calls::apply;
+use gptman_fixtures::samples::image_of_new;
 use std::alloc::{AllocError, Global};
+use std::process::Abort;
 
 /// Whether two tables are equal in all their fields.
 fn are_equal(a: &GPT, b: &GPT) -> bool
@@ -43,31 +44,6 @@ fn are_equal_entries(a: &gptman::GPTPartitionEntry, b: &gptman::GPTPartitionEntr
     ensures { IsTrue result ↔ (a.now ≡ b.now) }
 {
     a == b
-}
-
-/// Sorts the entries twice, which is sorting them once.
-fn sort_twice(table: &mut GPT) -> Result<()>
-    ensures { OnOk result (table.new ≡ with_entries table.old (by_rank rank (entries_in table.old))) }
-{
-    table.sort()?;
-    table.sort()
-}
-
-/// Exchanges two entries.
-fn exchange(table: &mut GPT, i: u32, j: u32) -> Result<()>
-    requires first { IsNumber table.old i }
-    requires second { IsNumber table.old j }
-    ensures exchanged { OnOk result ((a b : GPTPartitionEntry)
-        → slice_get (entries_in table.old) (i - 1) ≡ Some a
-        → slice_get (entries_in table.old) (j - 1) ≡ Some b
-        → table.new ≡ with_entry (with_entry table.old i b) j a) }
-    ensures kept { OnErr result (table.new ≡ table.old) }
-{
-    let a = table[i].clone()?;
-    let b = table[j].clone()?;
-    table[i] = b;
-    table[j] = a;
-    Ok(())
 }
 
 /// Gives the entry so many sectors, or one if that is 0, at the first place that there is, and puts it
@@ -126,16 +102,6 @@ fn clear_by_number(table: &mut GPT)
     }
 }
 
-/// Clears the attributes of each entry, by the iterator. All but the entries is as it was.
-fn clear_by_iterator(table: &mut GPT)
-    ensures rest { table.new ≡ with_entries table.old (entries_in table.new) }
-    ensures len { length (entries_in table.new) ≡ length (entries_in table.old) }
-{
-    for (_, entry) in table.iter_mut() {
-        entry.attribute_bits = 0;
-    }
-}
-
 /// How many entries are used, by a loop.
 #[tactic(auto, using(gptman::proofs::Numbering::count_numbered))]
 fn count_used(table: &GPT) -> u64
@@ -188,20 +154,6 @@ fn read_standing<D: Disk>(alloc: Global, disk: &mut D, sector_size: u64) -> Resu
     GPT::read_from(alloc, disk, sector_size)
 }
 
-/// Writes the table and reads it back. What is read from an honest disk of the stated layout is the
-/// table in primary form, or in backup form where the disk failed.
-fn write_and_read<D: Disk>(alloc: Global, table: &mut GPT, disk: &mut D) -> gptman::Result<GPT>
-    requires sector { 0 < table.old.sector_size }
-    requires coherent { IsCoherent table.old.header (entries_in table.old) }
-    ensures { StartsLaidOut (D.state disk.old) table.old
-        → IfOk result (λ g. IsForm primary (table_in table.old) (copy_of g)
-        ⊎ (IsForm backup (table_in table.old) (copy_of g) × Rose (D.state disk.old) (D.state disk.new))) }
-{
-    let sector_size = table.sector_size;
-    table.write_into(disk)?;
-    GPT::read_from(alloc, disk, sector_size)
-}
-
 /// Fits the table to the disk and writes it. Where the primary place holds the table in the value's own
 /// form and nothing is pending, a stop at any moment leaves a disk that is read as the table or as the
 /// fitted one, unless the reading takes a foreign copy: also where a call failed.
@@ -223,47 +175,32 @@ fn grow<D: Disk>(table: &mut GPT, disk: &mut D) -> Result<GPTHeader>
     table.write_into(disk)
 }
 
-// Disk 1 with "Baz" behind its entries.
-fn unsorted(rt: &impl Host) -> GPT {
-    let mut table = got(rt, disk_1(rt.alloc()));
-    put_entry(rt, &mut table, 10, ("Baz", 1), (44, 47));
-    assert!(rt; table.is_coherent() && table.header.number_of_partition_entries == 128);
-    table
+#[test]
+fn entries_are_counted(rt: HostRuntime) {
+    let table = disk_1(&rt);
+    assert!(rt; count_used(&table) == 2);
+    assert!(rt; got(&rt, used_numbers(rt.alloc(), &table)).as_slice() == [1, 2].as_slice());
 }
 
-#[test]
-fn entries_are_counted_sorted_and_exchanged(rt: HostRuntime) {
-    let mut table = unsorted(&rt);
-    assert!(rt; count_used(&table) == 3);
-    assert!(rt; got(&rt, used_numbers(rt.alloc(), &table)).as_slice() == [1, 2, 10].as_slice());
-    got(&rt, exchange(&mut table, 1, 2));
-    assert_used(&rt, &table, ", 1 Bar 48..52, 2 Foo 34..43, 10 Baz 44..47");
-    got(&rt, sort_twice(&mut table));
-    assert_used(&rt, &table, ", 1 Foo 34..43, 2 Baz 44..47, 3 Bar 48..52");
+// Clears the attributes of a table.
+fn clear(rt: &impl Abort, table: &mut GPT) {
+    assert!(rt; table.is_coherent());
+    clear_by_number(table);
 }
 
 #[test]
 fn attributes_are_cleared(rt: HostRuntime) {
-    let given = unsorted(&rt);
-    let mut table = unsorted(&rt);
-    for (number, entry) in table.iter_mut() {
-        entry.attribute_bits = u64::from(number);
-    }
-    let mut other = got(&rt, table.clone());
-    assert!(rt; table.is_coherent());
-    clear_by_number(&mut table);
-    assert!(rt; are_equal(&table, &given) && !are_equal(&other, &given));
-    clear_by_iterator(&mut other);
-    assert!(rt; are_equal(&other, &given));
-}
-
-#[test]
-fn entries_differ_by_a_field(rt: HostRuntime) {
-    let entry = partition(&rt, ("Foo", 1), (34, 43));
-    let mut other = got(&rt, entry.clone());
-    assert!(rt; are_equal_entries(&entry, &other));
-    other.attribute_bits = 4;
-    assert!(rt; !are_equal_entries(&entry, &other));
+    let mut table = disk_1(&rt);
+    let mut entry = partition(&rt, ("Baz", 1), (44, 47));
+    let plain = partition(&rt, ("Baz", 1), (44, 47));
+    entry.attribute_bits = 5;
+    assert!(rt; !are_equal_entries(&entry, &plain));
+    got(&rt, apply(&mut table, Edit::Put(3, plain)));
+    let mut other = disk_1(&rt);
+    got(&rt, apply(&mut other, Edit::Put(3, entry)));
+    assert!(rt; !are_equal(&table, &other));
+    clear(&rt, &mut other);
+    assert!(rt; are_equal(&table, &other));
 }
 
 // Adds "Baz" at the first place for so many sectors, and answers whether there was one.
@@ -274,38 +211,45 @@ fn add_baz(rt: &impl Host, table: &mut GPT, size: u64) -> bool {
     got(rt, add_first(table, 3, baz, size))
 }
 
+// The greatest place by this alignment.
+fn greatest(rt: &impl Abort, table: &mut GPT, align: u64) -> Option<(u64, u64)> {
+    table.align = align;
+    assert!(rt; table.align > 0);
+    got(rt, greatest_place(table))
+}
+
 // The free runs are 44 to 47 and 53 to 66.
 #[test]
 fn an_entry_is_added_where_there_is_a_place(rt: HostRuntime) {
-    let mut table = got(&rt, disk_1(rt.alloc()));
-    for (align, place) in [(1, Some((53, 14))), (4, Some((56, 8))), (10, None)] {
-        table.align = align;
-        assert!(rt; table.align > 0 && got(&rt, greatest_place(&table)) == place);
-    }
-    table.align = 1;
+    let mut table = disk_1(&rt);
+    assert!(rt; greatest(&rt, &mut table, 10).is_none());
+    assert!(rt; greatest(&rt, &mut table, 4) == Some((56, 8)));
+    assert!(rt; greatest(&rt, &mut table, 1) == Some((53, 14)));
     assert!(rt; !add_baz(&rt, &mut table, 15) && add_baz(&rt, &mut table, 4));
     assert_used(&rt, &table, ", 1 Foo 34..43, 2 Bar 48..52, 3 Baz 44..47");
 }
 
-#[test]
-fn a_table_is_written_and_read(rt: HostRuntime) {
-    let mut disk = blank(&rt, 2, 51_200);
-    let mut table = new_table(&rt, &mut disk, 512);
-    assert!(rt; table.sector_size == 512 && table.is_coherent());
-    let read = got(&rt, write_and_read(rt.alloc(), &mut table, &mut disk));
-    assert!(rt; read == table);
-    assert!(rt; got(&rt, read_standing(rt.alloc(), &mut disk, 512)) == table);
+// What both readings of the disk answer.
+fn read_twice(rt: &impl Host, disk: &mut MemoryDisk) -> GPT {
+    let table = got(rt, read_held(rt.alloc(), disk, 512));
+    assert_same(rt, &table, &got(rt, read_standing(rt.alloc(), disk, 512)));
+    table
+}
+
+// Fits the table to the disk, and writes it.
+fn grow_on(rt: &impl Abort, table: &mut GPT, disk: &mut MemoryDisk) {
+    assert!(rt; table.sector_size > 0 && table.is_coherent());
+    got(rt, grow(table, disk));
 }
 
 #[test]
 fn a_table_grows_with_its_disk(rt: HostRuntime) {
-    let mut image = image_of_new_table(&rt, 0);
+    let mut image = got(&rt, image_of_new(rt.alloc(), 0));
     got(&rt, image.resize(102_400, 0));
-    let mut disk = holding(&rt, rt.alloc(), &image);
-    let mut table = got(&rt, read_held(rt.alloc(), &mut disk, 512));
-    assert!(rt; table.sector_size > 0 && table.is_coherent());
-    got(&rt, grow(&mut table, &mut disk));
-    let read = got(&rt, read_held(rt.alloc(), &mut disk, 512));
+    let mut disk = holding(&rt, &image);
+    let mut table = read_twice(&rt, &mut disk);
+    grow_on(&rt, &mut table, &mut disk);
+    let read = read_twice(&rt, &mut disk);
     assert_shown(&rt, &read, "512 1/199/2 34..166 align 2048");
-    assert!(rt; read == table);
+    assert_same(&rt, &read, &table);
 }

@@ -2,8 +2,8 @@
 
 use crate::asserts::{Host, got};
 use crate::fixtures::{disk_1, disk_2, image_of, put};
-use crate::memory::holding;
 use gptman::{GPT, GPTHeader};
+use gptman_fixtures::samples::find_image;
 use std::process::Abort;
 
 mod alignment;
@@ -22,18 +22,17 @@ const BACKUP_2: &str = "4096 99/1/95 6..94 align 2, 1 Foo 6..15, 2 Bar 70..79";
 
 // The table that is found on a disk with this one.
 fn found_of(rt: &impl Host, table: &GPT) -> GPT {
-    let mut disk = holding(rt, rt.alloc(), &image_of(rt, rt.alloc(), table));
-    got(rt, GPT::find_from(rt.alloc(), &mut disk))
+    got(rt, find_image(rt.alloc(), &image_of(rt, table)))
 }
 
 // The table that is found on the first disk.
 fn first(rt: &impl Host) -> GPT {
-    found_of(rt, &got(rt, disk_1(rt.alloc())))
+    found_of(rt, &disk_1(rt))
 }
 
 // The table that is found on the second disk.
 fn second(rt: &impl Host) -> GPT {
-    found_of(rt, &got(rt, disk_2(rt.alloc())))
+    found_of(rt, &disk_2(rt))
 }
 
 // Puts the header of the table into sector 1 of the image, with 1 as its checksum.
@@ -42,10 +41,6 @@ fn break_primary(rt: &impl Abort, image: &mut [u8], table: &GPT) {
         crc32_checksum: 1,
         ..table.header
     };
-    put(
-        rt,
-        image,
-        table.sector_size.min(4096) as usize,
-        &header.encode(),
-    );
+    let at = table.sector_size.min(4096) as usize;
+    put(rt, image, at, &header.encode());
 }

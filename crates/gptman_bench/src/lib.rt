@@ -9,20 +9,12 @@ mod callers;
 #[cfg(test)]
 mod carried;
 #[cfg(test)]
-mod faulty;
-#[cfg(test)]
 mod fixtures;
-#[cfg(test)]
-mod memory;
 #[cfg(test)]
 mod oracle;
 #[cfg(test)]
 mod program;
 #[cfg(test)]
-mod program_stops;
-#[cfg(test)]
 mod rows;
 #[cfg(test)]
 mod searches;
-#[cfg(test)]
-mod stops;

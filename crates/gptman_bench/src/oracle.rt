@@ -1,9 +1,10 @@
 //! A plain reader of byte lists, slow and written from the format alone: a bit of the checksum at a
 //! time, one field after the other. What it says is held against what the library reads.
 
-use crate::asserts::{Host, got, text_of};
-use crate::fixtures::read_with_sectors;
-use gptman::Error;
+use crate::asserts::{Host, got};
+use gptman::{Error, GPT};
+use gptman_fixtures::samples::read_image;
+use gptman_fixtures::told as texts;
 
 // So many bytes from this one on, where there are so many.
 fn part(bytes: &[u8], at: u128, len: u128) -> Option<&[u8]> {
@@ -53,6 +54,11 @@ pub(crate) fn header_checksum(header: &[u8; 92]) -> u32 {
     let mut bytes = *header;
     bytes[16..20].fill(0);
     slow_checksum(&bytes)
+}
+
+// The text of an error.
+fn text_of(rt: &impl Host, error: &Error) -> String {
+    got(rt, texts::text_of(rt.alloc(), error))
 }
 
 // The fault of the header in these bytes, if there is one.
@@ -161,16 +167,19 @@ fn two_faults(rt: &impl Host, primary: &Error, backup: &Error) -> String {
     got(rt, said)
 }
 
+// The table that the library reads, in the same words.
+fn told(rt: &impl Host, table: &GPT) -> String {
+    let mut entries = Vec::new(rt.alloc());
+    for (_, entry) in table.iter() {
+        got(rt, entries.extend_from_slice(&entry.encode()));
+    }
+    hex_of(rt, &table.header.encode(), &entries)
+}
+
 // What the library reads, in the same words.
 fn read(rt: &impl Host, bytes: &[u8], sector_size: u64) -> String {
-    match read_with_sectors(rt.alloc(), bytes, sector_size) {
-        Ok(table) => {
-            let mut entries = Vec::new(rt.alloc());
-            for (_, entry) in table.iter() {
-                got(rt, entries.extend_from_slice(&entry.encode()));
-            }
-            hex_of(rt, &table.header.encode(), &entries)
-        }
+    match read_image(rt.alloc(), bytes, sector_size) {
+        Ok(table) => told(rt, &table),
         Err(error) => text_of(rt, &error),
     }
 }

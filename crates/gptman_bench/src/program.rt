@@ -2,129 +2,122 @@
 //! an output that fails. All else that it prints and writes is tried on the built program, by the rows of
 //! `tests/program/`.
 
-use crate::asserts::got;
-use crate::fixtures::{disk_1, disk_2, disk_of, image_of, put};
-use crate::memory::{fused, holding};
+use crate::asserts::{Host, got};
+use crate::fixtures::{blank, bytes_of, disk_1, disk_2, holding, image_of, put};
 use gptimg_core::{USAGE, run};
-use gptman::{Disk, Error, FileDisk};
-use std::alloc::Global;
+use gptman::{Disk, Error, FileDisk, Result};
+use gptman_fixtures::calls::{fused, has_bytes};
+use gptman_fixtures::words::split;
 use std::process::Abort;
 use std::{fs, io};
 
-/// Does what this line asks for. Answers the status, and what was printed.
-pub(crate) fn call_line<D: Disk>(
-    rt: &impl Abort,
-    alloc: Global,
+// Does what this line asks for. Answers the status, or an error where the output failed.
+fn try_line<D: Disk, W: io::Write>(
+    rt: &impl Host,
     disk: &mut D,
+    out: &mut W,
     line: &str,
-) -> (u8, Vec<u8>) {
-    let mut printed = Vec::new(alloc);
-    let words = words_of(rt, alloc, line);
-    let status = got(rt, run(alloc, &words, disk, &mut printed));
+) -> Result<u8> {
+    let words = got(rt, split(rt.alloc(), line));
+    run(rt.alloc(), &words, disk, out)
+}
+
+// The same, with the status and what was printed.
+fn call_line<D: Disk>(rt: &impl Host, disk: &mut D, line: &str) -> (u8, Vec<u8>) {
+    let mut printed = Vec::new(rt.alloc());
+    let status = got(rt, try_line(rt, disk, &mut printed, line));
     (status, printed)
 }
 
-// The words of a line.
-fn words_of(rt: &impl Abort, alloc: Global, line: &str) -> Vec<String> {
-    let mut words = Vec::new(alloc);
-    for word in line.split_whitespace() {
-        got(rt, words.push(got(rt, String::from_str(alloc, word))));
-    }
-    words
-}
-
-/// Whether what was printed is one of these texts.
-pub(crate) fn is_one_of(printed: &[u8], texts: &[&str]) -> bool {
+// Whether what was printed is one of these texts.
+fn is_one_of(printed: &[u8], texts: &[&str]) -> bool {
     texts.iter().any(|text| text.as_bytes() == printed)
 }
 
-// A line, the status that it ends with, and what it prints. On 100 sectors of 512 zero bytes; the first
-// two make a table with "Foo" from 34 to 43.
-const EXAMPLE: [(&str, u8, &str); 6] = [
-    ("512 new ffffffffffffffffffffffffffffffff", 0, "ok\n"),
-    (
-        "512 add 1 11111111111111111111111111111111 22222222222222222222222222222222 10 first 1 Foo",
-        0,
-        "1 34..43\n",
-    ),
-    ("512 free 10", 0, "50 17\n"),
-    (
-        "512 add 2 11111111111111111111111111111111 33333333333333333333333333333333 24 best 1 Bar",
-        1,
-        "fault: NoSpaceLeft\n",
-    ),
-    (
-        "auto show",
-        0,
-        "sector 512 form primary disk ffffffffffffffffffffffffffffffff usable 34..66 entries 128 align 1\n\
-         1 11111111111111111111111111111111 22222222222222222222222222222222 34..43 0000000000000000 Foo\n",
-    ),
-    ("0 show", 2, USAGE),
-];
+// The line ends with this status, and prints this text.
+fn assert_line<D: Disk>(rt: &impl Host, disk: &mut D, line: &str, status: u8, text: &str) {
+    let (answer, printed) = call_line(rt, disk, line);
+    assert!(rt; answer == status, "{line}");
+    assert!(rt; printed.as_slice() == text.as_bytes(), "{line}");
+}
 
-// So many of its lines do what they say, in turn.
-fn assert_example<D: Disk>(rt: &impl Abort, alloc: Global, disk: &mut D, count: usize) {
-    for (line, status, text) in EXAMPLE.iter().take(count) {
-        let (answer, printed) = call_line(rt, alloc, disk, line);
-        let is_right = answer == *status && is_one_of(&printed, &[*text]);
-        assert!(rt; is_right, "{line}");
-    }
+// On 100 sectors of 512 zero bytes a table is made with "Foo" from 34 to 43.
+fn make_foo<D: Disk>(rt: &impl Host, disk: &mut D) {
+    assert_line(rt, disk, "512 new F", 0, "ok\n");
+    assert_line(rt, disk, "512 add 1 T U 10 first 1 Foo", 0, "1 34..43\n");
+}
+
+const SHOWN: &str =
+    "sector 512 form primary disk ffffffffffffffffffffffffffffffff usable 34..66 entries 128 align 1\n\
+     1 11111111111111111111111111111111 22222222222222222222222222222222 34..43 0000000000000000 Foo\n";
+
+// So it is on this disk, and then a few lines do what they say.
+fn assert_example<D: Disk>(rt: &impl Host, disk: &mut D) {
+    make_foo(rt, disk);
+    assert_line(rt, disk, "512 free 10", 0, "50 17\n");
+    let line = "512 add 2 T V 24 best 1 Bar";
+    assert_line(rt, disk, line, 1, "fault: NoSpaceLeft\n");
+    assert_line(rt, disk, "auto show", 0, SHOWN);
+    assert_line(rt, disk, "0 show", 2, USAGE);
 }
 
 #[test]
 fn an_example_holds_in_memory_and_in_a_file(rt: HostRuntime) {
-    let mut disk = got(&rt, disk_of(rt.alloc(), 0, 51_200));
-    assert_example(&rt, rt.alloc(), &mut disk, 6);
+    assert_example(&rt, &mut blank(&rt, 0, 51_200));
     let path = "example.img";
     got(&rt, fs::write(&rt, path, [0; 51_200].as_slice()));
-    let mut disk = got(&rt, FileDisk::open(&rt, path));
-    assert_example(&rt, rt.alloc(), &mut disk, 6);
+    assert_example(&rt, &mut got(&rt, FileDisk::open(&rt, path)));
     got(&rt, fs::remove_file(&rt, path));
 }
 
-/// The bytes of a disk of 100 sectors of 512 with a new table, to which "Foo" was added from 34 to 43.
-pub(crate) fn image_with_foo(rt: &impl Abort, alloc: Global) -> Vec<u8> {
-    let mut disk = got(rt, disk_of(alloc, 0, 51_200));
-    assert_example(rt, alloc, &mut disk, 2);
-    got(rt, disk.bytes().to_vec(alloc))
+// The bytes of a disk of 100 sectors of 512 with a new table, to which "Foo" was added from 34 to 43.
+fn image_with_foo(rt: &impl Host) -> Vec<u8> {
+    let mut disk = blank(rt, 0, 51_200);
+    make_foo(rt, &mut disk);
+    bytes_of(rt, &disk)
 }
 
-// On a disk of these bytes that fails after no call, after one and so on, the line prints one of these
-// texts, until it is done. Where no call is served no byte changes.
-fn assert_fails(rt: &impl Abort, alloc: Global, image: &[u8], line: &str, texts: &[&str]) {
+// On a disk of these bytes that fails after so many calls, the line prints one of these texts, unless it is
+// done, which is answered. Where no call is served no byte changes.
+fn fails_after(rt: &impl Host, image: &[u8], calls: u64, line: &str, texts: &[&str]) -> bool {
+    let mut disk = got(rt, fused(rt.alloc(), image, calls));
+    let (status, printed) = call_line(rt, &mut disk, line);
+    let is_done = status == 0;
+    assert!(rt; is_done || (status == 1 && is_one_of(&printed, texts)), "{line}");
+    assert!(rt; is_done || calls > 0 || has_bytes(&disk, image), "{line}");
+    !is_done
+}
+
+// So it does where the disk fails after no call, after one and so on.
+fn assert_fails(rt: &impl Host, image: &[u8], line: &str, texts: &[&str]) {
     for calls in 0..=40 {
-        let mut disk = fused(rt, alloc, image, calls);
-        let (status, printed) = call_line(rt, alloc, &mut disk, line);
-        if status == 0 {
+        if !fails_after(rt, image, calls, line, texts) {
             return;
         }
-        let is_named = status == 1 && is_one_of(&printed, texts);
-        let is_kept = calls > 0 || disk.bytes() == image;
-        assert!(rt; is_named && is_kept, "{line}, {calls} calls");
     }
     panic!(rt; "{line} takes more than 40 calls");
 }
 
 // The same of each line that begins so.
-fn assert_all_fail(rt: &impl Abort, alloc: Global, image: &[u8], start: &str, texts: &[&str]) {
-    for line in &LINES {
+fn assert_all_fail(rt: &impl Host, image: &[u8], start: &str, texts: &[&str]) {
+    for line in LINES {
         if line.starts_with(start) {
-            assert_fails(rt, alloc, image, line, texts);
+            assert_fails(rt, image, line, texts);
         }
     }
 }
 
-/// Lines that read or change a table, or write the MBR, of an image with entry 1 used and entry 3 not.
-pub(crate) const LINES: [&str; 15] = [
+// Lines that read or change a table, or write the MBR, of an image with entry 1 used and entry 3 not.
+const LINES: [&str; 15] = [
     "512 show",
     "auto show",
     "512 free 1",
     "auto free 1",
-    "512 new 33333333333333333333333333333333",
+    "512 new V",
     "512 mbr plain",
     "512 mbr bootable",
-    "512 add 3 11111111111111111111111111111111 33333333333333333333333333333333 5 last 4 Bar",
-    "auto add 3 11111111111111111111111111111111 33333333333333333333333333333333 5 last 4 Bar",
+    "512 add 3 T V 5 last 4 Bar",
+    "auto add 3 T V 5 last 4 Bar",
     "512 remove 1",
     "auto remove 1",
     "512 sort",
@@ -137,8 +130,7 @@ const FAILED: &str = "fault: Io\n";
 
 #[test]
 fn a_failing_disk_is_named(rt: HostRuntime) {
-    let image = image_with_foo(&rt, rt.alloc());
-    assert_all_fail(&rt, rt.alloc(), &image, "", &[FAILED]);
+    assert_all_fail(&rt, &image_with_foo(&rt), "", &[FAILED]);
 }
 
 // The faults of a disk that fails where one copy is bad: that of the primary copy is named too where the
@@ -147,15 +139,14 @@ const FAILED_LATER: [&str; 2] = [FAILED, "fault: ReadError(InvalidSignature, Io)
 
 #[test]
 fn a_failing_disk_with_one_copy_is_named(rt: HostRuntime) {
-    let mut image = image_with_foo(&rt, rt.alloc());
+    let mut image = image_with_foo(&rt);
     put(&rt, &mut image, 512, &[0; 92]);
-    assert_all_fail(&rt, rt.alloc(), &image, "", &FAILED_LATER);
+    assert_all_fail(&rt, &image, "", &FAILED_LATER);
 }
 
 #[test]
 fn a_failing_disk_has_no_sector_size(rt: HostRuntime) {
-    let image = image_of(&rt, rt.alloc(), &got(&rt, disk_2(rt.alloc())));
-    assert_all_fail(&rt, rt.alloc(), &image, "auto", &FAILED_LATER);
+    assert_all_fail(&rt, &image_of(&rt, &disk_2(&rt)), "auto", &FAILED_LATER);
 }
 
 // What `check` prints of a failing disk.
@@ -167,8 +158,7 @@ const CHECKED: [&str; 3] = [
 
 #[test]
 fn a_failing_disk_is_told_of_by_check(rt: HostRuntime) {
-    let image = image_of(&rt, rt.alloc(), &got(&rt, disk_1(rt.alloc())));
-    assert_fails(&rt, rt.alloc(), &image, "512 check", &CHECKED);
+    assert_fails(&rt, &image_of(&rt, &disk_1(&rt)), "512 check", &CHECKED);
 }
 
 // A writer that takes so many bytes, and then fails.
@@ -192,29 +182,46 @@ impl io::Write for Short {
     }
 }
 
+// With so much room, the line ends with this status where it has enough room, and else with an error.
+fn assert_answer(rt: &impl Abort, answer: &Result<u8>, status: u8, has_room: bool, line: &str) {
+    let is_right = match answer {
+        Ok(answer) => *answer == status && has_room,
+        Err(error) => matches!(error, Error::Io(_)) && !has_room,
+    };
+    assert!(rt; is_right, "{line}");
+}
+
+// The line leaves these bytes on a disk of those, whatever room it has; it needs so much, and ends with
+// this status then.
+fn assert_room(
+    rt: &impl Host,
+    (image, left): (&[u8], &[u8]),
+    line: &str,
+    room: usize,
+    (needed, status): (usize, u8),
+) {
+    let mut disk = holding(rt, image);
+    let answer = try_line(rt, &mut disk, &mut Short { room }, line);
+    assert_answer(rt, &answer, status, room == needed, line);
+    assert!(rt; has_bytes(&disk, left), "{line}");
+}
+
 // The line needs room for all that it prints. With less it is an error, and the disk is the same.
-fn assert_needs_its_room(rt: &impl Abort, alloc: Global, image: &[u8], line: &str) {
-    let mut disk = holding(rt, alloc, image);
-    let (status, printed) = call_line(rt, alloc, &mut disk, line);
+fn assert_needs_its_room(rt: &impl Host, image: &[u8], line: &str) {
+    let mut disk = holding(rt, image);
+    let (status, printed) = call_line(rt, &mut disk, line);
     for room in 0..=printed.len() {
-        let mut again = holding(rt, alloc, image);
-        let words = words_of(rt, alloc, line);
-        let is_right = match run(alloc, &words, &mut again, &mut Short { room }) {
-            Ok(answer) => answer == status && room == printed.len(),
-            Err(error) => matches!(error, Error::Io(_)) && room < printed.len(),
-        };
-        let is_same = again.bytes() == disk.bytes();
-        assert!(rt; is_right && is_same, "{line}, {room} bytes");
+        assert_room(rt, (image, disk.bytes()), line, room, (printed.len(), status));
     }
 }
 
 #[test]
 fn a_failing_writer_is_an_error(rt: HostRuntime) {
-    let image = image_with_foo(&rt, rt.alloc());
-    for line in &LINES {
-        assert_needs_its_room(&rt, rt.alloc(), &image, line);
+    let image = image_with_foo(&rt);
+    for line in LINES {
+        assert_needs_its_room(&rt, &image, line);
     }
     for line in ["512 shows", "512 remove 0", "512 check"] {
-        assert_needs_its_room(&rt, rt.alloc(), &image, line);
+        assert_needs_its_room(&rt, &image, line);
     }
 }

@@ -23,6 +23,11 @@ pub(crate) fn found(rt: &impl Abort, table: &GPT, search: Search, size: u64) -> 
     got(rt, place)
 }
 
+// The search finds this place by this alignment.
+fn assert_place(rt: &impl Abort, table: &GPT, search: Search, size: u64, place: Option<u64>) {
+    assert!(rt; found(rt, table, search, size) == place, "{size}");
+}
+
 /// The search finds these places. A row has an alignment, how many sectors are wanted, and the place.
 pub(crate) fn assert_found(
     rt: &impl Abort,
@@ -32,10 +37,7 @@ pub(crate) fn assert_found(
 ) {
     for (align, size, place) in rows {
         table.align = *align;
-        assert!(rt;
-            found(rt, &table, search, *size) == *place,
-            "{size} by {align}"
-        );
+        assert_place(rt, &table, search, *size, *place);
     }
 }
 
@@ -48,22 +50,14 @@ pub(crate) fn maximum(rt: &impl Abort, table: &GPT) -> Option<u64> {
     }
 }
 
-/// The table offers these greatest sizes. A row has an alignment and the size.
-pub(crate) fn assert_maximum(rt: &impl Abort, mut table: GPT, rows: &[(u64, Option<u64>)]) {
-    for (align, size) in rows {
-        table.align = *align;
-        assert!(rt; maximum(rt, &table) == *size, "by {align}");
-    }
+/// The table offers this greatest size by this alignment.
+pub(crate) fn assert_maximum(rt: &impl Abort, table: &mut GPT, align: u64, size: Option<u64>) {
+    table.align = align;
+    assert!(rt; maximum(rt, table) == size, "by {align}");
 }
 
 /// The aligned slots of free sectors.
 pub(crate) fn free_sectors(rt: &impl Abort, table: &GPT) -> Vec<(u64, u64)> {
     assert!(rt; table.align > 0);
     got(rt, table.find_free_sectors())
-}
-
-/// The table has these aligned slots of free sectors.
-pub(crate) fn assert_free(rt: &impl Abort, table: &GPT, slots: &[(u64, u64)]) {
-    let found = free_sectors(rt, table);
-    assert!(rt; found.as_slice() == slots, "{found:?} for {slots:?}");
 }

@@ -2,7 +2,11 @@
 //! command lines. What a call of the library requires is tested first.
 #![tactic(auto)]
 
+pub mod calls;
+pub mod faulty;
 pub mod long_disk;
+pub mod samples;
 pub mod shape;
 pub mod tables;
+pub mod told;
 pub mod words;

@@ -1,15 +1,21 @@
 //! Tests on the alignment that is read.
 
 use super::{first, second};
-use crate::asserts::{Host, got};
-use crate::fixtures::{blank, new_table, put_entry, reread, write};
-use gptman::GPT;
+use crate::asserts::{Host, assert_same};
+use crate::fixtures::{blank, new_table, put_entry, read_from, remove, reread, write};
+use gptman::{GPT, MemoryDisk};
+use std::process::Abort;
+
+// The table is read with this alignment.
+fn assert_align(rt: &impl Host, table: &GPT, align: u64) {
+    assert!(rt; reread(rt, table).align == align);
+}
 
 // The table without its entries is read with the alignment of new tables.
 fn assert_none(rt: &impl Host, mut table: GPT) {
-    got(rt, table.remove(1));
-    got(rt, table.remove(2));
-    assert!(rt; reread(rt, &table).align == 2048);
+    remove(rt, &mut table, 1);
+    remove(rt, &mut table, 2);
+    assert_align(rt, &table, 2048);
 }
 
 #[test]
@@ -18,21 +24,21 @@ fn determine_partition_alignment_no_partition(rt: HostRuntime) {
     assert_none(&rt, second(&rt));
 }
 
-// Entries from 5 to 6 and from 8 to 16 times the alignment, on a disk of 21 times as many sectors, are
-// read with it.
+// The table with entries from 5 to 6 and from 8 to 16 times the alignment is written to the disk.
+fn write_multiples(rt: &impl Host, disk: &mut MemoryDisk, align: u64) -> GPT {
+    let mut table = new_table(rt, disk, 512);
+    put_entry(rt, &mut table, 1, ("", 1), (align * 5, align * 6));
+    put_entry(rt, &mut table, 2, ("", 2), (align * 8, align * 16));
+    write(rt, &mut table, disk);
+    table
+}
+
+// It is read with this alignment, on a disk of 21 times as many sectors.
 fn assert_multiples(rt: &impl Host, align: u16) {
     let mut disk = blank(rt, 0, 512 * 21 * usize::from(align));
-    let mut table = new_table(rt, &mut disk, 512);
-    let align = u64::from(align);
-    let (first, second) = ((align * 5, align * 6), (align * 8, align * 16));
-    put_entry(rt, &mut table, 1, ("", 1), first);
-    put_entry(rt, &mut table, 2, ("", 2), second);
-    got(rt, write(rt, &mut table, &mut disk));
-    table.align = align;
-    assert!(rt;
-        got(rt, GPT::read_from(rt.alloc(), &mut disk, 512)) == table,
-        "{align}"
-    );
+    let mut table = write_multiples(rt, &mut disk, u64::from(align));
+    table.align = u64::from(align);
+    assert_same(rt, &read_from(rt, &mut disk), &table);
 }
 
 #[test]
@@ -43,16 +49,16 @@ fn determine_partition_alignment(rt: HostRuntime) {
 }
 
 // The table with one entry, which takes these sectors, is read with this alignment.
-fn assert_align(rt: &impl Host, mut table: GPT, sectors: (u64, u64), align: u64) {
+fn assert_full(rt: &impl Host, mut table: GPT, sectors: (u64, u64), align: u64) {
     put_entry(rt, &mut table, 1, ("", 1), sectors);
-    got(rt, table.remove(2));
-    assert!(rt; reread(rt, &table).align == align);
+    remove(rt, &mut table, 2);
+    assert_align(rt, &table, align);
 }
 
 #[test]
 fn determine_partition_alignment_full_disk(rt: HostRuntime) {
-    assert_align(&rt, first(&rt), (34, 66), 1);
-    assert_align(&rt, first(&rt), (35, 66), 35);
-    assert_align(&rt, second(&rt), (6, 94), 1);
-    assert_align(&rt, second(&rt), (7, 94), 7);
+    assert_full(&rt, first(&rt), (34, 66), 1);
+    assert_full(&rt, first(&rt), (35, 66), 35);
+    assert_full(&rt, second(&rt), (6, 94), 1);
+    assert_full(&rt, second(&rt), (7, 94), 7);
 }

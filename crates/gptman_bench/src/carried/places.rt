@@ -2,9 +2,10 @@
 
 use super::{first, second};
 use crate::asserts::{Host, assert_used, got};
-use crate::fixtures::{image_after, put_entry};
+use crate::fixtures::{image_of, put_entry, remove};
 use crate::searches::{Search, assert_found, assert_maximum};
 use gptman::GPT;
+use gptman_fixtures::calls::sort;
 
 #[test]
 fn add_partition_left(rt: HostRuntime) {
@@ -49,47 +50,60 @@ fn add_partition_optimal_aligned(rt: HostRuntime) {
     assert_found(&rt, second(&rt), Search::Optimal, &rows);
 }
 
+// The first disk's table with "Baz" where there is a place for it.
+fn with_baz(rt: &impl Host) -> GPT {
+    let mut table = first(rt);
+    put_entry(rt, &mut table, 10, ("Baz", 1), (44, 47));
+    table
+}
+
+// The table is written, and then put in order.
+fn write_and_sort(rt: &impl Host, table: &mut GPT) {
+    assert_used(rt, table, ", 1 Foo 34..43, 2 Bar 48..52, 10 Baz 44..47");
+    image_of(rt, table);
+    got(rt, sort(table));
+    assert_used(rt, table, ", 1 Foo 34..43, 2 Baz 44..47, 3 Bar 48..52");
+}
+
 #[test]
 fn sort_partitions(rt: HostRuntime) {
     assert_found(&rt, first(&rt), Search::First, &[(1, 4, Some(44))]);
-    let mut table = first(&rt);
-    put_entry(&rt, &mut table, 10, ("Baz", 1), (44, 47));
-    assert_used(&rt, &table, ", 1 Foo 34..43, 2 Bar 48..52, 10 Baz 44..47");
-    image_after(&rt, &mut table, 51_200);
-    got(&rt, table.sort());
-    assert_used(&rt, &table, ", 1 Foo 34..43, 2 Baz 44..47, 3 Bar 48..52");
+    write_and_sort(&rt, &mut with_baz(&rt));
 }
 
 #[test]
 fn add_partition_on_unsorted_table(rt: HostRuntime) {
-    let mut table = first(&rt);
-    put_entry(&rt, &mut table, 11, ("Baz", 1), (44, 47));
-    assert_found(&rt, table, Search::First, &[(1, 8, Some(53))]);
+    assert_found(&rt, with_baz(&rt), Search::First, &[(1, 8, Some(53))]);
 }
 
 // The first disk's table with each entry removed.
 fn emptied(rt: &impl Host) -> GPT {
     let mut table = first(rt);
     for number in 1..=table.header.number_of_partition_entries {
-        got(rt, table.remove(number));
+        remove(rt, &mut table, number);
     }
     table
 }
 
 #[test]
 fn get_maximum_partition_size_on_empty_disk(rt: HostRuntime) {
-    assert_maximum(&rt, emptied(&rt), &[(1, Some(33))]);
+    assert_maximum(&rt, &mut emptied(&rt), 1, Some(33));
+}
+
+// The table with an entry that takes all sectors.
+fn filled(rt: &impl Host) -> GPT {
+    let mut table = emptied(rt);
+    put_entry(rt, &mut table, 1, ("Foo", 1), (34, 66));
+    table
 }
 
 #[test]
 fn get_maximum_partition_size_on_disk_full(rt: HostRuntime) {
-    let mut table = emptied(&rt);
-    put_entry(&rt, &mut table, 1, ("Foo", 1), (34, 66));
-    assert_maximum(&rt, table, &[(1, None)]);
+    assert_maximum(&rt, &mut filled(&rt), 1, None);
 }
 
 #[test]
 fn get_maximum_partition_size_on_empty_disk_and_aligned(rt: HostRuntime) {
-    let rows = [(10, Some(20)), (6, Some(30))];
-    assert_maximum(&rt, emptied(&rt), &rows);
+    assert_maximum(&rt, &mut emptied(&rt), 10, Some(20));
+    assert_maximum(&rt, &mut emptied(&rt), 6, Some(30));
 }

@@ -1,12 +1,13 @@
 //! Tests on reading.
 
 use super::{BACKUP_1, BACKUP_2, DISK_1, DISK_2, break_primary, first, second};
-use crate::asserts::{Host, assert_told, got};
+use crate::asserts::{Host, assert_shown, got};
 use crate::fixtures::{
-    assert_finds, assert_reads, complement, image_of, name_of_units, new_table, partition, reread,
+    assert_finds, assert_reads, complement, holding, image_of, new_table, partition, reread,
 };
-use crate::memory::{bytes_at, holding};
-use gptman::{Disk, Edit, GPT, GPTHeader, GPTPartitionEntry, MemoryDisk};
+use gptman::{Disk, Edit, GPT, GPTHeader, GPTPartitionEntry, MemoryDisk, PartitionName};
+use gptman_fixtures::calls::apply;
+use gptman_fixtures::samples::name_of_units;
 use std::process::Abort;
 
 // The header at this byte of the disk.
@@ -15,11 +16,25 @@ fn header_at(rt: &impl Abort, disk: &mut MemoryDisk, at: u64) -> GPTHeader {
     got(rt, GPTHeader::read_from(disk))
 }
 
-// The entry at this byte of the disk, which encodes to the bytes that stand there.
-fn entry_at(rt: &impl Host, disk: &mut MemoryDisk, at: u64) -> GPTPartitionEntry {
+// The entry at this byte of the disk.
+fn read_entry(rt: &impl Host, disk: &mut MemoryDisk, at: u64) -> GPTPartitionEntry {
     got(rt, disk.seek_start(at));
-    let entry = got(rt, GPTPartitionEntry::read_from(rt.alloc(), disk));
-    assert!(rt; entry.encode() == got(rt, bytes_at(disk, at)), "at {at}");
+    got(rt, GPTPartitionEntry::read_from(rt.alloc(), disk))
+}
+
+// The 128 bytes from this one on of the disk.
+fn bytes_at(rt: &impl Abort, disk: &mut MemoryDisk, at: u64) -> [u8; 128] {
+    let mut bytes = [0; 128];
+    got(rt, disk.seek_start(at));
+    got(rt, disk.read_exact(&mut bytes));
+    bytes
+}
+
+// The entry at this byte of the disk, which encodes to the bytes that stand there, and is used or not.
+fn entry_at(rt: &impl Host, disk: &mut MemoryDisk, at: u64, is_used: bool) -> GPTPartitionEntry {
+    let entry = read_entry(rt, disk, at);
+    assert!(rt; entry.encode() == bytes_at(rt, disk, at), "at {at}");
+    assert!(rt; entry.is_used() == is_used && entry.is_unused() != is_used);
     entry
 }
 
@@ -27,8 +42,7 @@ fn entry_at(rt: &impl Host, disk: &mut MemoryDisk, at: u64) -> GPTPartitionEntry
 fn entries_at(rt: &impl Host, disk: &mut MemoryDisk, at: u64) -> Vec<GPTPartitionEntry> {
     let mut entries = Vec::new(rt.alloc());
     for number in 0..128_u64 {
-        let entry = entry_at(rt, disk, at.saturating_add(128 * number));
-        assert!(rt; entry.is_used() == (number < 2) && entry.is_unused() == (number >= 2));
+        let entry = entry_at(rt, disk, at.saturating_add(128 * number), number < 2);
         got(rt, entries.push(entry));
     }
     entries
@@ -38,27 +52,37 @@ fn entries_at(rt: &impl Host, disk: &mut MemoryDisk, at: u64) -> Vec<GPTPartitio
 fn assert_checksums(rt: &impl Abort, header: &GPTHeader, entries: &[GPTPartitionEntry]) {
     assert!(rt; header.header_size == 92 && header.size_of_partition_entry == 128);
     assert!(rt; entries.len() == header.number_of_partition_entries as usize);
-    let sums = (header.crc32_checksum, header.partition_entry_array_crc32);
     let array = header.generate_partition_entry_array_crc32(entries);
-    assert!(rt; sums == (header.generate_crc32_checksum(), array) && sums.0 != 0 && sums.1 != 0);
+    assert!(rt; array != 0 && array == header.partition_entry_array_crc32);
+    let own = header.generate_crc32_checksum();
+    assert!(rt; own != 0 && own == header.crc32_checksum);
+}
+
+// The header is the same once its checksums were made again of it and of these entries.
+fn assert_updated(rt: &impl Abort, header: &GPTHeader, entries: &[GPTPartitionEntry]) {
+    assert!(rt; header.header_size == 92 && header.size_of_partition_entry == 128);
+    assert!(rt; entries.len() == header.number_of_partition_entries as usize);
     let mut updated = *header;
     updated.update_partition_entry_array_crc32(entries);
     updated.update_crc32_checksum();
     assert!(rt; updated == *header);
 }
 
+// Each entry is read from a disk with the table, of which this is the header.
+fn assert_entries(rt: &impl Host, disk: &mut MemoryDisk, header: &GPTHeader, sector_size: u64) {
+    let at = header.partition_entry_lba.saturating_mul(sector_size);
+    let entries = entries_at(rt, disk, at);
+    assert_checksums(rt, header, &entries);
+    assert_updated(rt, header, &entries);
+}
+
 // Both headers and each entry are read from a disk with the table.
 fn assert_read(rt: &impl Host, table: &GPT) {
-    let mut disk = holding(rt, rt.alloc(), &image_of(rt, rt.alloc(), table));
-    let header = header_at(rt, &mut disk, table.sector_size);
-    header_at(
-        rt,
-        &mut disk,
-        header.backup_lba.saturating_mul(table.sector_size),
-    );
-    let at = header.partition_entry_lba.saturating_mul(table.sector_size);
-    let entries = entries_at(rt, &mut disk, at);
-    assert_checksums(rt, &header, &entries);
+    let size = table.sector_size;
+    let mut disk = holding(rt, &image_of(rt, table));
+    let header = header_at(rt, &mut disk, size);
+    header_at(rt, &mut disk, header.backup_lba.saturating_mul(size));
+    assert_entries(rt, &mut disk, &header, size);
 }
 
 #[test]
@@ -67,27 +91,18 @@ fn read_header_and_partition_entries(rt: HostRuntime) {
     assert_read(&rt, &second(&rt));
 }
 
-// The image is read with its own sector size alone, which is found.
-fn assert_primary(rt: &impl Host, image: &[u8], (size, other): (u64, u64), said: &str) {
-    assert_reads(rt, image, size, said);
-    assert_finds(rt, image, said);
-    assert_reads(rt, image, other, "invalid signature");
+// The table's image is read with its own sector size alone, which is found.
+fn assert_primary(rt: &impl Host, table: &GPT, other_size: u64, said: &str) {
+    let image = image_of(rt, table);
+    assert_reads(rt, &image, table.sector_size, said);
+    assert_finds(rt, &image, said);
+    assert_reads(rt, &image, other_size, "invalid signature");
 }
 
 #[test]
 fn read_and_find_from_primary(rt: HostRuntime) {
-    assert_primary(
-        &rt,
-        &image_of(&rt, rt.alloc(), &first(&rt)),
-        (512, 4096),
-        DISK_1,
-    );
-    assert_primary(
-        &rt,
-        &image_of(&rt, rt.alloc(), &second(&rt)),
-        (4096, 512),
-        DISK_2,
-    );
+    assert_primary(&rt, &first(&rt), 4096, DISK_1);
+    assert_primary(&rt, &second(&rt), 512, DISK_2);
 }
 
 #[test]
@@ -97,7 +112,7 @@ fn input_too_short(rt: HostRuntime) {
 
 // The backup copy of the table is read and found where the primary header has another checksum.
 fn assert_backup(rt: &impl Host, table: &GPT, said: &str) {
-    let mut image = image_of(rt, rt.alloc(), table);
+    let mut image = image_of(rt, table);
     break_primary(rt, &mut image, table);
     assert_reads(rt, &image, table.sector_size, said);
     assert_finds(rt, &image, said);
@@ -109,17 +124,23 @@ fn find_backup(rt: HostRuntime) {
     assert_backup(&rt, &second(&rt), BACKUP_2);
 }
 
-// The table with "Name with garbage", a zero and letters in the place of its second name is read so.
-fn assert_label(rt: &impl Host, mut table: GPT, sectors: (u64, u64), said: &str) {
+// A name of "Name with garbage", a zero and letters.
+fn garbage(rt: &impl Host) -> PartitionName {
     let mut units = [0x41; 36];
     for (unit, byte) in units.iter_mut().zip(b"Name with garbage\0") {
         *unit = u16::from(*byte);
     }
+    let name = got(rt, name_of_units(rt.alloc(), &units));
+    assert!(rt; *name.units() == units);
+    name
+}
+
+// The table with that name in the place of its second one is read so.
+fn assert_label(rt: &impl Host, mut table: GPT, sectors: (u64, u64), said: &str) {
     let mut entry = partition(rt, ("", 0x0c), sectors);
-    entry.partition_name = name_of_units(rt, &units);
-    assert!(rt; *entry.partition_name.units() == units);
-    got(rt, table.apply(Edit::Put(2, entry)));
-    assert_told(rt, &Ok(reread(rt, &table)), said);
+    entry.partition_name = garbage(rt);
+    got(rt, apply(&mut table, Edit::Put(2, entry)));
+    assert_shown(rt, &reread(rt, &table), said);
 }
 
 #[test]
@@ -132,14 +153,14 @@ fn read_label_with_trailing_garbage_in_names(rt: HostRuntime) {
 
 #[test]
 fn gpt_read_from_on_image_with_corrupted_partition_entry_array_crc32_in_primary(rt: HostRuntime) {
-    let mut image = image_of(&rt, rt.alloc(), &first(&rt));
+    let mut image = image_of(&rt, &first(&rt));
     complement(&rt, &mut image, 1024);
     assert_reads(&rt, &image, 512, BACKUP_1);
 }
 
 // A new table for a disk with this one has its bounds.
 fn assert_same_bounds(rt: &impl Host, table: &GPT) {
-    let mut disk = holding(rt, rt.alloc(), &image_of(rt, rt.alloc(), table));
+    let mut disk = holding(rt, &image_of(rt, table));
     let new = new_table(rt, &mut disk, table.sector_size).header;
     assert!(rt; new.backup_lba == table.header.backup_lba);
     assert!(rt; new.last_usable_lba == table.header.last_usable_lba);

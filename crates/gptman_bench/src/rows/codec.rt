@@ -1,10 +1,10 @@
 //! Checksums, a header and an entry against the vectors of the format.
 
-use crate::asserts::got;
-use crate::fixtures::{new_header, partition, put};
-use crate::oracle::slow_checksum;
+use crate::asserts::{Host, got};
+use crate::fixtures::{new_header, partition};
 use gptman::crc::crc32;
 use gptman::{GPTHeader, GPTPartitionEntry};
+use gptman_fixtures::calls::{are_equal_entries, entry_of};
 use std::process::Abort;
 
 // A new header for 100 sectors of 512 bytes and a disk GUID of 16 bytes ff, before any write.
@@ -47,38 +47,6 @@ fn checksums_of_known_messages(rt: HostRuntime) {
     }
 }
 
-// The checksum of one byte is a word of the table, which the byte alone chooses, over ff000000.
-#[test]
-fn words_of_the_table(rt: HostRuntime) {
-    let rows = [
-        (0_u8, 0_u32),
-        (1, 0x7707_3096),
-        (2, 0xee0e_612c),
-        (128, 0xedb8_8320),
-        (255, 0x2d02_ef8d),
-    ];
-    for (place, word) in rows {
-        assert!(rt; crc32(&[!place]) ^ 0xff00_0000 == word, "word {place}");
-    }
-}
-
-// A block of zeros with this byte in this place, which chooses a word of a table of its own, has the
-// checksum that is made a bit at a time.
-fn assert_block(rt: &impl Abort, place: usize, byte: u8) {
-    let mut block = [0; 8];
-    put(rt, &mut block, place, &[byte]);
-    assert!(rt; crc32(&block) == slow_checksum(&block), "{block:?}");
-}
-
-#[test]
-fn every_word_of_the_eight_tables(rt: HostRuntime) {
-    for place in 0..8 {
-        for byte in 0..=u8::MAX {
-            assert_block(&rt, place, byte);
-        }
-    }
-}
-
 // The bytes of a hex text.
 fn bytes_of<const N: usize>(rt: &impl Abort, vector: &str) -> [u8; N] {
     let mut bytes = [0; N];
@@ -93,18 +61,21 @@ fn a_new_header_is_the_vector(rt: HostRuntime) {
     assert!(rt; header.encode() == vector && GPTHeader::decode(&vector) == header);
 }
 
-#[test]
-fn an_entry_is_the_vector(rt: HostRuntime) {
-    let mut entry = partition(&rt, ("Foo", 2), (40, 48));
+// The entry of the vector.
+fn entry(rt: &impl Host) -> GPTPartitionEntry {
+    let mut entry = partition(rt, ("Foo", 2), (40, 48));
     entry.partition_type_guid = [1; 16];
-    let vector = bytes_of(&rt, ENTRY);
-    assert!(rt; entry.encode() == vector);
-    assert!(rt; got(&rt, GPTPartitionEntry::decode(rt.alloc(), &vector)) == entry);
+    entry
+}
+
+// The entry has these bytes, and they are read as it.
+fn assert_entry(rt: &impl Host, entry: &GPTPartitionEntry, vector: &[u8; 128]) {
+    assert!(rt; entry.encode() == *vector);
+    assert!(rt; are_equal_entries(&got(rt, entry_of(rt.alloc(), vector)), entry));
 }
 
 #[test]
-fn the_empty_entry_is_zeros(rt: HostRuntime) {
-    let empty = GPTPartitionEntry::empty(rt.alloc());
-    assert!(rt; empty.encode() == [0; 128]);
-    assert!(rt; got(&rt, GPTPartitionEntry::decode(rt.alloc(), &[0; 128])) == empty);
+fn an_entry_is_the_vector(rt: HostRuntime) {
+    assert_entry(&rt, &entry(&rt), &bytes_of(&rt, ENTRY));
+    assert_entry(&rt, &GPTPartitionEntry::empty(rt.alloc()), &[0; 128]);
 }

@@ -1,9 +1,12 @@
 //! Images that are damaged, cut, zeroed and crafted, each read by the library and by a plain reader.
 
 use crate::asserts::{Host, got};
-use crate::fixtures::{assert_reads, blank, complement, new_header, partition, put, write_copy};
+use crate::fixtures::{
+    assert_reads, blank, bytes_of, complement, new_header, partition, put,
+};
 use crate::oracle::{header_checksum, is_read_alike};
-use gptman::{GPTHeader, GPTPartitionEntry};
+use gptman::{GPTHeader, GPTPartitionEntry, MemoryDisk};
+use gptman_fixtures::tables::write_copy;
 use std::process::Abort;
 
 // The first bytes of the two headers, of 40 sectors of 512 bytes.
@@ -19,24 +22,27 @@ fn four_entries(rt: &impl Host) -> [GPTPartitionEntry; 4] {
     ]
 }
 
-// An image with both copies of a table of these entries.
+// Writes a copy of a table of these entries, with its header, the other header and its entries in these
+// sectors.
+fn write_one(rt: &impl Host, disk: &mut MemoryDisk, own: u64, other: u64, entries: u64) {
+    let mut header = GPTHeader {
+        primary_lba: own,
+        backup_lba: other,
+        partition_entry_lba: entries,
+        first_usable_lba: 3,
+        last_usable_lba: 35,
+        number_of_partition_entries: 4,
+        ..new_header(rt)
+    };
+    got(rt, write_copy(&mut header, disk, 512, &four_entries(rt)));
+}
+
+// An image with both copies.
 fn image(rt: &impl Host) -> Vec<u8> {
     let mut disk = blank(rt, 0, 20_480);
-    let new = new_header(rt);
-    for (primary_lba, backup_lba, partition_entry_lba) in [(1, 39, 2), (39, 1, 36)] {
-        let mut header = GPTHeader {
-            primary_lba,
-            backup_lba,
-            partition_entry_lba,
-            first_usable_lba: 3,
-            last_usable_lba: 35,
-            number_of_partition_entries: 4,
-            ..new
-        };
-        let outcome = write_copy(rt, &mut header, &mut disk, 512, &four_entries(rt));
-        got(rt, outcome);
-    }
-    got(rt, disk.bytes().to_vec(rt.alloc()))
+    write_one(rt, &mut disk, 1, 39, 2);
+    write_one(rt, &mut disk, 39, 1, 36);
+    bytes_of(rt, &disk)
 }
 
 // Both readers agree on these bytes.
@@ -57,6 +63,13 @@ fn agree_damaged(rt: &impl Host, image: &mut [u8], at: usize) {
     complement(rt, image, at);
 }
 
+// Both agree on the image with each of so many bytes damaged so, from this one on.
+fn agree_all_damaged(rt: &impl Host, image: &mut [u8], start: usize, len: usize) {
+    for at in start..start.saturating_add(len) {
+        agree_damaged(rt, image, at);
+    }
+}
+
 // The bytes of a copy, and one more: of its header, and of its entries.
 #[test]
 fn damaged_copies_are_read_alike(rt: HostRuntime) {
@@ -64,9 +77,7 @@ fn damaged_copies_are_read_alike(rt: HostRuntime) {
     let said = "512 1/39/2 3..35 align 1, 1 Foo 5..9, 3 Bar 12..20";
     assert_reads(&rt, &image, 512, said);
     for (start, len) in [(512, 93), (19_968, 93), (1024, 513), (18_432, 513)] {
-        for at in start..start + len {
-            agree_damaged(&rt, &mut image, at);
-        }
+        agree_all_damaged(&rt, &mut image, start, len);
     }
 }
 
@@ -77,27 +88,39 @@ fn craft(rt: &impl Abort, header: &mut [u8; 92], at: usize) {
     put(rt, header, 16, &checksum.to_le_bytes());
 }
 
-// Both agree on the image with a byte of the first header crafted so, alone and with the other header
-// broken.
-fn agree_crafted(rt: &impl Host, headers: (usize, usize), at: usize) {
-    let mut bytes = image(rt);
+// The header at this byte, with a byte of it crafted so.
+fn crafted(rt: &impl Abort, image: &[u8], start: usize, at: usize) -> [u8; 92] {
     let mut header = [0; 92];
-    for (byte, old) in header.iter_mut().zip(bytes.iter().skip(headers.0)) {
+    for (byte, old) in header.iter_mut().zip(image.iter().skip(start)) {
         *byte = *old;
     }
     craft(rt, &mut header, at);
-    put(rt, &mut bytes, headers.0, &header);
+    header
+}
+
+// Both agree on the image with a byte of the first header crafted so, alone and with the other header
+// broken.
+fn agree_crafted(rt: &impl Host, (own, other): (usize, usize), at: usize) {
+    let mut bytes = image(rt);
+    let header = crafted(rt, &bytes, own, at);
+    put(rt, &mut bytes, own, &header);
     agree(rt, &bytes, "crafted", at);
-    complement(rt, &mut bytes, headers.1);
+    complement(rt, &mut bytes, other);
     agree(rt, &bytes, "crafted alone", at);
 }
 
 #[test]
 fn crafted_headers_are_read_alike(rt: HostRuntime) {
-    for headers in [(512, 19_968), (19_968, 512)] {
-        for at in 0..92 {
-            agree_crafted(&rt, headers, at);
-        }
+    for at in 0..92 {
+        agree_crafted(&rt, (512, 19_968), at);
+        agree_crafted(&rt, (19_968, 512), at);
+    }
+}
+
+// Both agree on the image cut about this byte.
+fn agree_cut(rt: &impl Host, image: &[u8], end: usize) {
+    for len in end.saturating_sub(4)..end.saturating_add(4) {
+        agree(rt, image.get(..len).unwrap_or(image), "cut", len);
     }
 }
 
@@ -107,9 +130,7 @@ fn cut_images_are_read_alike(rt: HostRuntime) {
     for end in [
         4, 512, 604, 1024, 1536, 18_432, 18_944, 19_968, 20_060, 20_480,
     ] {
-        for len in end - 4..end + 4 {
-            agree(&rt, image.get(..len).unwrap_or(&image), "cut", len);
-        }
+        agree_cut(&rt, &image, end);
     }
 }
 

@@ -1,22 +1,30 @@
-//! Entries and the list of them: their sectors and bytes, refused numbers, order and clones.
+//! Entries: their sectors and bytes, what is changed and read back, and how values are printed.
 
 use crate::asserts::{
-    BOUNDARIES, Host, OVERFLOW, assert_said, assert_text, assert_used, got, printed,
+    BOUNDARIES, Host, OVERFLOW, assert_printed, assert_said, assert_same, assert_shown,
+    assert_text, assert_used, got,
 };
-use crate::fixtures::{disk_1, image_after, partition, put_entry, read, reread, table_with};
-use gptman::{Edit, Fate, GPT, GPTPartitionEntry, PartitionName};
-use std::fmt::Debug;
+use crate::fixtures::{disk_1, image_of, partition, read, reread};
+use gptman::{Edit, Fate, GPT, GPTPartitionEntry};
+use gptman_fixtures::calls::name_of;
+use gptman_fixtures::samples::table_within;
+use std::process::Abort;
 
 // The entry from and to these sectors.
 fn entry(rt: &impl Host, start: u64, end: u64) -> GPTPartitionEntry {
     partition(rt, ("Foo", 0x0b), (start, end))
 }
 
+// The entry has so many sectors from the first to the last.
+fn assert_sectors(rt: &impl Abort, entry: &GPTPartitionEntry, size: u64) {
+    let (first, last) = (entry.starting_lba, entry.ending_lba);
+    assert!(rt; got(rt, entry.range()) == (first..=last));
+    assert!(rt; got(rt, entry.size()) == size);
+}
+
 #[test]
 fn an_entry_has_its_sectors(rt: HostRuntime) {
-    let whole = entry(&rt, 2048, 4096);
-    assert!(rt; got(&rt, whole.range()) == (2048..=4096));
-    assert!(rt; got(&rt, whole.size()) == 2049);
+    assert_sectors(&rt, &entry(&rt, 2048, 4096), 2049);
     assert_said(&rt, &entry(&rt, 0, u64::MAX).size(), OVERFLOW);
     assert_said(&rt, &entry(&rt, 5, 4).range(), BOUNDARIES);
 }
@@ -31,62 +39,28 @@ fn bytes_of(rt: &impl Host, table: &GPT, number: u32) -> String {
     got(rt, text)
 }
 
-#[test]
-fn a_partition_has_its_bytes(rt: HostRuntime) {
-    let used = [(2048, 2048), (40, u64::MAX)];
-    let table = table_with(&rt, (34, 66), 1, &used);
-    let rows = [
-        (1, "1048576..=1049087"),
-        (2, OVERFLOW),
-        (3, "unused partition"),
-        (0, "invalid partition number: 0"),
-        (129, "invalid partition number: 129"),
-    ];
-    for (number, said) in rows {
-        assert_text(&rt, bytes_of(&rt, &table, number).as_str(), said);
-    }
+// They are these, or this is said.
+fn assert_bytes(rt: &impl Host, table: &GPT, number: u32, said: &str) {
+    assert_text(rt, bytes_of(rt, table, number).as_str(), said);
 }
 
 #[test]
-fn a_refused_change_leaves_the_table(rt: HostRuntime) {
-    let mut table = got(&rt, disk_1(rt.alloc()));
-    assert!(rt; table.find_at_sector(43) == Some(1));
-    assert_said(&rt, &table.remove(0), "invalid partition number: 0");
-    assert_said(&rt, &table.remove_at_sector(44), "partition not found");
-    let put = table.apply(Edit::Put(0, entry(&rt, 1, 2)));
-    assert_said(&rt, &put, "invalid partition number: 0");
-    let removed = table.apply(Edit::Remove(129));
-    assert_said(&rt, &removed, "invalid partition number: 129");
-    assert!(rt; table == got(&rt, disk_1(rt.alloc())));
+fn a_partition_has_its_bytes(rt: HostRuntime) {
+    let used = [(2048, 2048), (40, u64::MAX)];
+    let table = got(&rt, table_within(rt.alloc(), (34, 66), 1, &used));
+    assert_bytes(&rt, &table, 1, "1048576..=1049087");
+    assert_bytes(&rt, &table, 2, OVERFLOW);
+    assert_bytes(&rt, &table, 3, "unused partition");
+    assert_bytes(&rt, &table, 129, "invalid partition number: 129");
 }
 
 #[test]
 fn the_entry_of_a_sector_is_removed(rt: HostRuntime) {
-    let mut table = got(&rt, disk_1(rt.alloc()));
-    got(&rt, table.remove_at_sector(52));
+    let mut table = disk_1(&rt);
+    assert!(rt; table.find_at_sector(43) == Some(1));
+    assert_said(&rt, &table.remove_at_sector(44), "partition not found");
+    assert_said(&rt, &table.remove_at_sector(52), "ok");
     assert_used(&rt, &table, ", 1 Foo 34..43");
-}
-
-#[test]
-fn an_edit_puts_entries_in_order(rt: HostRuntime) {
-    let mut table = got(&rt, disk_1(rt.alloc()));
-    put_entry(&rt, &mut table, 10, ("Baz", 1), (44, 47));
-    let mut sorted = got(&rt, table.clone());
-    got(&rt, sorted.sort());
-    got(&rt, table.apply(Edit::SortEntries));
-    assert!(rt; table == sorted);
-    assert_used(&rt, &table, ", 1 Foo 34..43, 2 Baz 44..47, 3 Bar 48..52");
-    got(&rt, sorted.sort());
-    assert!(rt; table == sorted);
-}
-
-#[test]
-fn clones_are_equal(rt: HostRuntime) {
-    let table = got(&rt, disk_1(rt.alloc()));
-    assert!(rt; got(&rt, table.clone()) == table);
-    let entry = entry(&rt, 34, 43);
-    assert!(rt; got(&rt, entry.clone()) == entry);
-    assert!(rt; got(&rt, entry.partition_name.clone()) == entry.partition_name);
 }
 
 // Disk 1's first entry with other fields.
@@ -97,57 +71,52 @@ fn robot(rt: &impl Host) -> GPTPartitionEntry {
         starting_lba: 34,
         ending_lba: 45,
         attribute_bits: 7,
-        partition_name: got(rt, PartitionName::new(rt.alloc(), "A Robot Named Fight!")),
+        partition_name: got(rt, name_of(rt.alloc(), "A Robot Named Fight!")),
     }
 }
 
-// Changes the first entry, and exchanges it with the second.
+// Puts the second entry under number 1, and other fields under number 2.
 fn change(rt: &impl Host, table: &mut GPT) {
     assert!(rt; table.is_coherent() && table.header.number_of_partition_entries >= 2);
     let second = got(rt, table[2].clone());
     table[2] = robot(rt);
     table[1] = second;
-    table.header.disk_guid = [9; 16];
 }
 
-// The table that is read of 100 sectors to which this one was written.
-fn written(rt: &impl Host, table: &mut GPT) -> GPT {
-    read(rt, &image_after(rt, table, 51_200), 512)
+// The table is written, and read back equal.
+fn assert_read_back(rt: &impl Host, table: &GPT, said: &str) {
+    let read = read(rt, &image_of(rt, table), 512);
+    assert_same(rt, &read, table);
+    assert_shown(rt, &read, said);
 }
 
 #[test]
 fn changed_entries_are_read_back(rt: HostRuntime) {
-    let mut table = reread(&rt, &got(&rt, disk_1(rt.alloc())));
+    let mut table = reread(&rt, &disk_1(&rt));
     change(&rt, &mut table);
-    let read = written(&rt, &mut table);
-    let entries = ", 1 Bar 48..52, 2 A Robot Named Fight! 34..45";
-    assert_used(&rt, &read, entries);
-    assert!(rt; read == table && read.align == 2 && read.header.disk_guid == [9; 16]);
-    let mut other = table_with(&rt, (34, 66), 1, &[]);
-    got(&rt, other.apply(Edit::Put(1, robot(&rt))));
-    let read = written(&rt, &mut other);
-    assert!(rt; read == other && read.align == 1);
-    assert_used(&rt, &read, ", 1 A Robot Named Fight! 34..45");
+    let said = "512 1/99/2 34..66 align 2, 1 Bar 48..52, 2 A Robot Named Fight! 34..45";
+    assert_read_back(&rt, &table, said);
 }
 
-// The value is printed for debugging with this start, and with the other text in it.
-fn assert_printed(rt: &impl Host, value: &impl Debug, start: &str, within: &str) {
-    let text = printed(rt, value);
-    assert!(rt; text.as_str().starts_with(start) && text.as_str().contains(within));
+// An edit that puts an entry is printed so.
+fn assert_put_printed(rt: &impl Host) {
+    let start = "Put(1, GPTPartitionEntry { partition_type_guid: [10, 10, ";
+    let sectors = "starting_lba: 34, ending_lba: 43, attribute_bits: 0";
+    assert_printed(rt, &Edit::Put(1, entry(rt, 34, 43)), start, sectors);
+}
+
+// A table is printed so.
+fn assert_table_printed(rt: &impl Host) {
+    let start = "GPT { sector_size: 512, header: GPTHeader { signature: [69, 70, ";
+    assert_printed(rt, &disk_1(rt), start, ", align: 2048 }");
 }
 
 #[test]
 fn values_are_printed_for_debugging(rt: HostRuntime) {
-    let edits = [Edit::Remove(3), Edit::SortEntries];
-    assert_printed(&rt, &edits, "[Remove(3), SortEntries]", "");
+    assert_printed(&rt, &Edit::Remove(3), "Remove(3)", "");
+    assert_printed(&rt, &Edit::SortEntries, "SortEntries", "");
     assert_printed(&rt, &Edit::DiskGuid([5; 16]), "DiskGuid([5, 5, ", ", 5])");
-    let fates = [Fate::Old, Fate::New, Fate::Garbage(7)];
-    assert_printed(&rt, &fates, "[Old, New, Garbage(7)]", "");
-    let put = Edit::Put(1, entry(&rt, 34, 43));
-    let start = "Put(1, GPTPartitionEntry { partition_type_guid: [10, 10, ";
-    let sectors = "starting_lba: 34, ending_lba: 43, attribute_bits: 0";
-    assert_printed(&rt, &put, start, sectors);
-    let table = got(&rt, disk_1(rt.alloc()));
-    let start = "GPT { sector_size: 512, header: GPTHeader { signature: [69, 70, ";
-    assert_printed(&rt, &table, start, ", align: 2048 }");
+    assert_printed(&rt, &Fate::Garbage(7), "Garbage(7)", "");
+    assert_put_printed(&rt);
+    assert_table_printed(&rt);
 }

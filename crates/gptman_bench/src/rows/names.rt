@@ -1,8 +1,9 @@
 //! Names: their text, their 36 units, and what is left of the text once it was written and read.
 
 use crate::asserts::{Host, assert_text, got};
-use crate::fixtures::name_of_units;
 use gptman::{GPTPartitionEntry, PartitionName};
+use gptman_fixtures::calls::{entry_of, name_of};
+use gptman_fixtures::samples::name_of_units;
 use std::process::Abort;
 
 // These units, and then zeros.
@@ -20,13 +21,18 @@ fn assert_name(rt: &impl Abort, name: &PartitionName, text: &str, first: &[u16])
     assert!(rt; *name.units() == padded(first), "{text}");
 }
 
-// A name of this text has these units, and the other text once an entry with it was written and read.
-fn assert_read_back(rt: &impl Host, text: &str, first: &[u16], read: &str) {
+// The name of an entry with this one, once it was written and read.
+fn read_back(rt: &impl Host, name: PartitionName) -> PartitionName {
     let mut entry = GPTPartitionEntry::empty(rt.alloc());
-    entry.partition_name = got(rt, PartitionName::new(rt.alloc(), text));
-    assert_name(rt, &entry.partition_name, text, first);
-    let entry = got(rt, GPTPartitionEntry::decode(rt.alloc(), &entry.encode()));
-    assert_name(rt, &entry.partition_name, read, first);
+    entry.partition_name = name;
+    got(rt, entry_of(rt.alloc(), &entry.encode())).partition_name
+}
+
+// A name of this text has these units, and the other text once it was written and read.
+fn assert_read_back(rt: &impl Host, text: &str, first: &[u16], read: &str) {
+    let name = got(rt, name_of(rt.alloc(), text));
+    assert_name(rt, &name, text, first);
+    assert_name(rt, &read_back(rt, name), read, first);
 }
 
 // The units of 35 letters, and this one.
@@ -36,19 +42,19 @@ fn letters_and(last: u16) -> [u16; 36] {
     units
 }
 
+// A name of 37 letters loses the last, and one whose 36th unit begins a pair loses that pair.
+fn assert_cut(rt: &impl Host) {
+    let letters = "aaaaaaaaaaaaaaaaaaaaaaaaaaaaaaaaaaaaa";
+    let read = "aaaaaaaaaaaaaaaaaaaaaaaaaaaaaaaaaaaa";
+    assert_read_back(rt, letters, &[0x61; 36], read);
+    let pair = "aaaaaaaaaaaaaaaaaaaaaaaaaaaaaaaaaaa\u{1f600}";
+    let read = "aaaaaaaaaaaaaaaaaaaaaaaaaaaaaaaaaaa\u{fffd}";
+    assert_read_back(rt, pair, &letters_and(0xd83d), read);
+}
+
 #[test]
 fn the_text_of_a_name_is_read_back(rt: HostRuntime) {
-    let letters = "aaaaaaaaaaaaaaaaaaaaaaaaaaaaaaaaaaaaa";
-    assert!(rt; letters.len() == 37);
-    assert_read_back(
-        &rt,
-        letters,
-        &[0x61; 36],
-        "aaaaaaaaaaaaaaaaaaaaaaaaaaaaaaaaaaaa",
-    );
-    let cut = "aaaaaaaaaaaaaaaaaaaaaaaaaaaaaaaaaaa\u{1f600}";
-    let read = "aaaaaaaaaaaaaaaaaaaaaaaaaaaaaaaaaaa\u{fffd}";
-    assert_read_back(&rt, cut, &letters_and(0xd83d), read);
+    assert_cut(&rt);
     assert_read_back(&rt, "\u{1f600}", &[0xd83d, 0xde00], "\u{1f600}");
     assert_read_back(&rt, "ab\0cd", &[0x61, 0x62, 0, 0x63, 0x64], "ab");
     let units = [
@@ -59,21 +65,14 @@ fn the_text_of_a_name_is_read_back(rt: HostRuntime) {
 }
 
 #[test]
-fn units_have_a_text(rt: HostRuntime) {
-    let rows: [(&[u16], &str); 4] = [
-        (&[0x61, 0x62, 0, 0x63, 0x64], "ab"),
-        (&[0x46, 0x6f, 0x6f], "Foo"),
-        (&[0xd800, 0x41], "\u{fffd}A"),
-        (&[0xd83d, 0xde00], "\u{1f600}"),
-    ];
-    for (first, text) in rows {
-        assert_name(&rt, &name_of_units(&rt, first), text, first);
-    }
+fn a_unit_that_is_no_half_of_a_pair_has_a_text(rt: HostRuntime) {
+    let name = got(&rt, name_of_units(rt.alloc(), &[0xd800, 0x41]));
+    assert_name(&rt, &name, "\u{fffd}A", &[0xd800, 0x41]);
 }
 
 #[test]
 fn a_name_is_shown_as_its_text_alone(rt: HostRuntime) {
-    let name = got(&rt, PartitionName::new(rt.alloc(), "Foo"));
+    let name = got(&rt, name_of(rt.alloc(), "Foo"));
     let shown = got(&rt, format!(in rt.alloc(); "{name}|{name:>8}|{name:*^9}|"));
     assert_text(&rt, shown.as_str(), "Foo|Foo|Foo|");
 }

@@ -2,9 +2,9 @@
 //! one by one. What it finds is held against what the library finds, in tables of a few shapes.
 
 use crate::asserts::{Host, got};
-use crate::fixtures::table_with;
 use crate::searches::{Search, found, free_sectors, maximum};
 use gptman::GPT;
+use gptman_fixtures::samples::table_within;
 use std::process::Abort;
 
 // The last sector of all cases.
@@ -112,20 +112,17 @@ fn assert_alike(rt: &impl Host, table: &GPT) {
     }
 }
 
+// So they do in a table with these usable sectors, this alignment and these used ones.
+fn assert_shape(rt: &impl Host, bounds: (u64, u64), align: u64, used: &[(u64, u64)]) {
+    let table = got(rt, table_within(rt.alloc(), bounds, align, used));
+    assert_alike(rt, &table);
+}
+
 #[test]
 fn places_are_those_of_a_plain_search(rt: HostRuntime) {
-    let rows: [((u64, u64), u64, &[(u64, u64)]); 4] = [
-        ((0, 30), 3, &[(4, 6), (12, 12), (20, 25)]),
-        (
-            (2, 28),
-            1,
-            &[(20, 25), (8, 15), (10, 12), (14, 17), (27, 26)],
-        ),
-        ((5, 21), 4, &[(0, 6), (15, 30)]),
-        ((9, 3), 2, &[(1, 2)]),
-    ];
-    for (bounds, align, used) in rows {
-        let table = table_with(&rt, bounds, align, used);
-        assert_alike(&rt, &table);
-    }
+    assert_shape(&rt, (0, 30), 3, &[(4, 6), (12, 12), (20, 25)]);
+    let overlapping = [(20, 25), (8, 15), (10, 12), (14, 17), (27, 26)];
+    assert_shape(&rt, (2, 28), 1, &overlapping);
+    assert_shape(&rt, (5, 21), 4, &[(0, 6), (15, 30)]);
+    assert_shape(&rt, (9, 3), 2, &[(1, 2)]);
 }

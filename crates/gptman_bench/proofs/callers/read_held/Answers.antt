@@ -1,4 +1,4 @@
-use Rattle.gptman_bench.proofs.ReadBack.{held_read}
+use Rattle.gptman_bench.proofs.Readings.{held_read}
 use Rattle.gptman_bench.proofs.callers.read_held.Goals as goal
 
 pub returns-clause-held : goal.returns-clause-held

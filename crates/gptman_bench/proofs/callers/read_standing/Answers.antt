@@ -1,6 +1,6 @@
 use Rattle.std.proofs.Common.{◌≡◌, ◌<◌, ◌^◌, ℕ, length, subst, sym}
 use Rattle.gptman.specs.Disk.{DiskState}
-use Rattle.gptman_bench.proofs.ReadBack.{standing_read}
+use Rattle.gptman_bench.proofs.Readings.{standing_read}
 use Rattle.gptman_bench.proofs.callers.read_standing.Goals as goal
 
 pub returns : goal.returns

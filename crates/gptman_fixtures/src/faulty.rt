@@ -3,20 +3,17 @@
 ghost use Rattle.std.specs.Prelude.{◌≡◌};
 ghost use Rattle.gptman_copy.specs.Disk.{IsCountedOnce};
 ghost use Rattle.gptman_copy.specs.Memory.{memory_sound};
-ghost use Rattle.gptman_bench.specs.Faulty.{faulty_sound, faulty_state};
+ghost use Rattle.gptman_fixtures.specs.Faulty.{faulty_sound, faulty_state};
 
-use crate::asserts::got;
-use crate::memory::{assert_left, put};
 use gptman::{Disk, MemoryDisk, Result};
 use std::alloc::Global;
 use std::io;
-use std::process::Abort;
 
 /// A disk that passes its calls on to one in memory, but for one of them, which fails. A write that fails
 /// so is passed on all the same. A read that passes the end is passed on too, and fails there: that is no
 /// failure of the disk, and is not counted as one.
 #[derive(Drop)]
-pub(crate) struct FaultyDisk {
+pub struct FaultyDisk {
     below: MemoryDisk,
     position: u64,
     // How many calls come before the one that fails. None once it was made.
@@ -27,7 +24,7 @@ pub(crate) struct FaultyDisk {
 
 impl FaultyDisk {
     /// Over these bytes, with the failure at the call of this number, counted from 0.
-    pub(crate) fn new(alloc: Global, bytes: Vec<u8>, failing: u64) -> Result<FaultyDisk> {
+    pub fn new(alloc: Global, bytes: Vec<u8>, failing: u64) -> Result<FaultyDisk> {
         Ok(FaultyDisk {
             below: MemoryDisk::new(alloc, bytes)?,
             position: 0,
@@ -37,12 +34,12 @@ impl FaultyDisk {
     }
 
     /// How many calls come before the one that fails. None once it was made.
-    pub(crate) fn calls_left(&self) -> Option<u64> {
+    pub fn calls_left(&self) -> Option<u64> {
         self.calls_left
     }
 
     /// The disk below, with all that was passed on to it.
-    pub(crate) fn into_inner(self) -> MemoryDisk {
+    pub fn into_inner(self) -> MemoryDisk {
         self.below
     }
 }
@@ -126,25 +123,6 @@ impl Disk for FaultyDisk {
 }
 
 /// A disk of these bytes of which one call fails.
-pub(crate) fn failing_once(rt: &impl Abort, alloc: Global, bytes: &[u8], call: u64) -> FaultyDisk {
-    let bytes = got(rt, bytes.to_vec(alloc));
-    got(rt, FaultyDisk::new(alloc, bytes, call))
-}
-
-#[test]
-fn a_write_that_fails_is_passed_on(rt: HostRuntime) {
-    let mut disk = failing_once(&rt, rt.alloc(), &[1, 2, 3, 4], 2);
-    assert!(rt; put(&rt, &mut disk, 1, &[7, 7]).is_err());
-    assert!(rt; disk.into_inner().bytes() == [1, 7, 7, 4].as_slice());
-}
-
-#[test]
-fn a_sync_that_fails_is_not_passed_on(rt: HostRuntime) {
-    for (is_again, left) in [(false, [1, 2, 3, 4]), (true, [1, 7, 7, 4])] {
-        let mut disk = failing_once(&rt, rt.alloc(), &[1, 2, 3, 4], 3);
-        got(&rt, put(&rt, &mut disk, 1, &[7, 7]));
-        assert!(rt; disk.sync().is_err());
-        assert!(rt; !is_again || disk.sync().is_ok());
-        assert_left(&rt, disk.into_inner(), &[], &left);
-    }
+pub fn failing_once(alloc: Global, bytes: &[u8], call: u64) -> Result<FaultyDisk> {
+    FaultyDisk::new(alloc, bytes.to_vec(alloc)?, call)
 }

@@ -1,5 +1,5 @@
-use Rattle.gptman_bench.proofs.PassedOn.{reads_over}
-use Rattle.gptman_bench.proofs.faulty.FaultyDiskDisk.read_exact.Goals as goal
+use Rattle.gptman_fixtures.proofs.PassedOn.{reads_over}
+use Rattle.gptman_fixtures.proofs.faulty.FaultyDiskDisk.read_exact.Goals as goal
 
 pub returns-in_err-read_exact-clause-reads : goal.returns-in_err-read_exact-clause-reads
 returns-in_err-read_exact-clause-reads c = reads_over c.args.self.now.failures c.read_exact.ensures.reads

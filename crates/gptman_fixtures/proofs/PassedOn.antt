@@ -1,7 +1,7 @@
 -- A call of the disk below, seen through a disk with failures of its own.
 use Rattle.std.proofs.Common.{arith, ℕ, [], List}
 use Rattle.gptman.specs.Disk.{DiskState, Elapses, Reads, Writes, Wrote}
-use Rattle.gptman_bench.specs.Faulty.{faulty_state}
+use Rattle.gptman_fixtures.specs.Faulty.{faulty_state}
 
 elapses_over : {a b : DiskState} (n m : ℕ) → Elapses a b → Elapses (faulty_state a n) (faulty_state b m)
 elapses_over n m time = record { later = time.later; nothing_else = time.nothing_else; keeps = time.keeps; earlier = time.earlier }

@@ -1,5 +1,5 @@
-use Rattle.gptman_bench.proofs.PassedOn.{writes_over}
-use Rattle.gptman_bench.proofs.faulty.FaultyDiskDisk.write_all.Goals as goal
+use Rattle.gptman_fixtures.proofs.PassedOn.{writes_over}
+use Rattle.gptman_fixtures.proofs.faulty.FaultyDiskDisk.write_all.Goals as goal
 
 pub returns-in_err-write_all-clause-wrote : goal.returns-in_err-write_all-clause-wrote
 returns-in_err-write_all-clause-wrote c = writes_over c.args.self.now.failures c.args.self.now.failures _ c.write_all.ensures.wrote

@@ -1,18 +1,12 @@
-//! Calls that are stopped, and disks of which calls fail.
+//! What is read of a disk on which a write of a new table over an old one was stopped, or failed.
 
-use crate::asserts::got;
-use crate::fixtures::{put, read_image};
+use crate::asserts::{Host, copied, got, read};
 use gptman::{Fate, GPT, GPTHeader, Result};
-use std::alloc::Global;
+use gptman_fixtures::samples::{put, read_image};
 use std::process::Abort;
 
-mod edits;
-mod mbr;
-mod reading;
-mod writing;
-
 /// The first bytes of the two headers of 100 sectors of 512.
-const HEADERS: [usize; 2] = [512, 50_688];
+pub(crate) const HEADERS: [usize; 2] = [512, 50_688];
 
 /// A write of a new table over an image, which is read as the old one.
 #[derive(Drop)]
@@ -48,10 +42,10 @@ pub(crate) fn is_same_table(a: &GPT, b: &GPT) -> bool {
 }
 
 /// The table that is read where the header at this byte is broken.
-fn read_without(rt: &impl Abort, alloc: Global, bytes: &[u8], header: usize) -> Result<GPT> {
-    let mut bytes = got(rt, bytes.to_vec(alloc));
-    put(rt, &mut bytes, header, &[0; 8]);
-    read_image(alloc, &bytes)
+pub(crate) fn read_without(rt: &impl Host, bytes: &[u8], header: usize) -> Result<GPT> {
+    let mut bytes = copied(rt, bytes);
+    got(rt, put(&mut bytes, header, &[0; 8]));
+    read_image(rt.alloc(), &bytes, 512)
 }
 
 // The table is the old or the new one.
@@ -59,13 +53,27 @@ fn assert_one(rt: &impl Abort, case: &Case, table: &GPT) {
     assert!(rt; is_same_table(table, &case.old) || is_same_table(table, &case.new));
 }
 
+// So is the copy that is read where the header at this byte is broken, if it can be read.
+fn assert_one_without(rt: &impl Host, case: &Case, bytes: &[u8], header: usize) {
+    if let Ok(table) = read_without(rt, bytes, header) {
+        assert_one(rt, case, &table);
+    }
+}
+
 /// The disk is read as one of the two tables, and so is each copy alone that can be read.
-pub(crate) fn assert_reads_one(rt: &impl Abort, alloc: Global, case: &Case, bytes: &[u8]) {
-    assert_one(rt, case, &got(rt, read_image(alloc, bytes)));
+pub(crate) fn assert_reads_one(rt: &impl Host, case: &Case, bytes: &[u8]) {
+    assert_one(rt, case, &read(rt, bytes));
     for header in HEADERS {
-        if let Ok(table) = read_without(rt, alloc, bytes, header) {
-            assert_one(rt, case, &table);
-        }
+        assert_one_without(rt, case, bytes, header);
+    }
+}
+
+/// The fate of all that is pending, of three.
+pub(crate) fn fate_of(number: u64) -> Fate {
+    match number % 3 {
+        0 => Fate::Old,
+        1 => Fate::New,
+        _ => Fate::Garbage(7),
     }
 }
 

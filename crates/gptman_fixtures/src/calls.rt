@@ -1,0 +1,94 @@
+//! Calls of the library, made here without a contract: a caller that has no use for their clauses is proved
+//! in less time so. `Overflow` is answered where what a call requires does not hold.
+
+use crate::tables::DISK_GUID;
+use gptman::{
+    Disk, Edit, Error, GPT, GPTHeader, GPTPartitionEntry, MemoryDisk, PartitionName, Result,
+};
+use std::alloc::Global;
+
+/// A new table for this disk, with sectors of so many bytes.
+pub fn new_on<D: Disk>(alloc: Global, disk: &mut D, sector_size: u64) -> Result<GPT> {
+    if sector_size == 0 {
+        return Err(Error::Overflow);
+    }
+    GPT::new_from(alloc, disk, sector_size, DISK_GUID)
+}
+
+/// The table that the disk holds, and its sector size is found.
+pub fn find<D: Disk>(alloc: Global, disk: &mut D) -> Result<GPT> {
+    GPT::find_from(alloc, disk)
+}
+
+/// A clone of the table.
+pub fn copy(table: &GPT) -> Result<GPT> {
+    table.clone()
+}
+
+/// Whether the tables are equal.
+pub fn are_equal(one: &GPT, other: &GPT) -> bool {
+    one == other
+}
+
+/// Changes the table as the edit says.
+pub fn apply(table: &mut GPT, edit: Edit) -> Result<()> {
+    table.apply(edit)
+}
+
+/// Removes the entry of this number.
+pub fn remove(table: &mut GPT, number: u32) -> Result<()> {
+    table.remove(number)
+}
+
+/// Puts the entries in order.
+pub fn sort(table: &mut GPT) -> Result<()> {
+    table.sort()
+}
+
+/// Whether the header of the table is that of a primary copy.
+pub fn is_primary(table: &GPT) -> bool {
+    table.is_primary()
+}
+
+/// Fits the header to this disk, with sectors of so many bytes.
+pub fn fit<D: Disk>(header: &mut GPTHeader, disk: &mut D, sector_size: u64) -> Result<()> {
+    if sector_size == 0 {
+        return Err(Error::Overflow);
+    }
+    header.update_from(disk, sector_size)
+}
+
+/// The entry that these bytes are.
+pub fn entry_of(alloc: Global, bytes: &[u8; 128]) -> Result<GPTPartitionEntry> {
+    GPTPartitionEntry::decode(alloc, bytes)
+}
+
+/// Whether the entries are equal.
+pub fn are_equal_entries(one: &GPTPartitionEntry, other: &GPTPartitionEntry) -> bool {
+    one == other
+}
+
+/// The name of this text.
+pub fn name_of(alloc: Global, text: &str) -> Result<PartitionName> {
+    PartitionName::new(alloc, text)
+}
+
+/// A disk of these bytes.
+pub fn holding(alloc: Global, bytes: &[u8]) -> Result<MemoryDisk> {
+    MemoryDisk::new(alloc, bytes.to_vec(alloc)?)
+}
+
+/// A disk of these bytes that fails after so many calls.
+pub fn fused(alloc: Global, bytes: &[u8], calls: u64) -> Result<MemoryDisk> {
+    MemoryDisk::with_fuse(alloc, bytes.to_vec(alloc)?, calls)
+}
+
+/// The bytes of the disk.
+pub fn bytes_of(alloc: Global, disk: &MemoryDisk) -> Result<Vec<u8>> {
+    Ok(disk.bytes().to_vec(alloc)?)
+}
+
+/// Whether these are the bytes of the disk.
+pub fn has_bytes(disk: &MemoryDisk, bytes: &[u8]) -> bool {
+    disk.bytes() == bytes
+}
