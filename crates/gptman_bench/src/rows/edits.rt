@@ -1,6 +1,6 @@
-//! Lists of edits that are written one after the other.
+//! Lists of edits that are written one after the other, or made together.
 
-use crate::asserts::{BOUNDARIES, Host, assert_text, assert_used, got};
+use crate::asserts::{BOUNDARIES, Host, assert_said, assert_text, assert_used, got};
 use crate::fixtures::{bytes_of, holding, image_of_new, partition, put, read};
 use gptman::{Disk, Edit, GPT, MemoryDisk, Progress};
 use gptman_fixtures::tables::commit;
@@ -86,4 +86,14 @@ fn each_kind(rt: &impl Host) -> Vec<Edit> {
 fn all_edits_are_written(rt: HostRuntime) {
     let left = (", 1 Foo 34..43", ", 1 Foo 34..43");
     assert_committed(&rt, each_kind(&rt), (5, "none"), left);
+}
+
+#[test]
+fn all_edits_are_made_or_none(rt: HostRuntime) {
+    let mut table = read(&rt, &image_of_new(&rt, 0), 512);
+    let edits = [put_foo(&rt, 7, 1, (50, 60)), Edit::Remove(129)];
+    assert_said(&rt, &table.apply_all(&edits), "invalid partition number: 129");
+    assert_used(&rt, &table, "");
+    got(&rt, table.apply_all(&each_kind(&rt)));
+    assert_used(&rt, &table, ", 1 Foo 34..43");
 }
