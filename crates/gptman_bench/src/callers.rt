@@ -1,7 +1,7 @@
 //! Callers that know a table by the library's contracts alone. What each ensures is proved from them.
 
 ghost use Rattle.std.specs.Prelude.{◌≡◌, ◌≢◌, ◌<◌, ◌+◌, ◌⊎◌, ◌↔◌, [], ◌∷◌, Ok, count_by};
-ghost use Rattle.std.specs.Prelude.{filter, map, All, IsTrue, IfOk, List, MatchOption};
+ghost use Rattle.std.specs.Prelude.{filter, length, map, All, IsTrue, IfOk, List, MatchOption};
 ghost use Rattle.std.specs.Prelude.{OnOk, OnErr};
 ghost use Rattle.std.specs.List.{enumerate_from};
 ghost use Rattle.gptman.specs.Copy.{CopyAt, IsCoherent};
@@ -10,6 +10,7 @@ ghost use Rattle.gptman.specs.Disk.{IsHonest, Rose};
 ghost use Rattle.gptman.specs.Entry.{is_used};
 ghost use Rattle.gptman.specs.Layout.{Holds};
 ghost use Rattle.gptman.specs.Number.{with_entries, IsNumber};
+ghost use Rattle.gptman.specs.Order.{by_rank, rank};
 ghost use Rattle.gptman.specs.Place.{HasNoPlace, IsFreeIn, IsPlace};
 ghost use Rattle.gptman.specs.Reading.{primary, taken_from};
 ghost use Rattle.gptman.specs.Stop.{IsStored, StopsAreReadAs};
@@ -44,6 +45,14 @@ fn are_equal_entries(a: &gptman::GPTPartitionEntry, b: &gptman::GPTPartitionEntr
     ensures { IsTrue result ↔ (a.now ≡ b.now) }
 {
     a == b
+}
+
+/// Sorts the entries twice, which is sorting them once.
+fn sort_twice(table: &mut GPT) -> Result<()>
+    ensures { OnOk result (table.new ≡ with_entries table.old (by_rank rank (entries_in table.old))) }
+{
+    table.sort()?;
+    table.sort()
 }
 
 /// Gives the entry so many sectors, or one if that is 0, at the first place that there is, and puts it
@@ -99,6 +108,16 @@ fn clear_by_number(table: &mut GPT)
     let count = table.header.number_of_partition_entries;
     for k in 0..count {
         table[k + 1].attribute_bits = 0;
+    }
+}
+
+/// Clears the attributes of each entry, by the iterator. All but the entries is as it was.
+fn clear_by_iterator(table: &mut GPT)
+    ensures rest { table.new ≡ with_entries table.old (entries_in table.new) }
+    ensures len { length (entries_in table.new) ≡ length (entries_in table.old) }
+{
+    for (_, entry) in table.iter_mut() {
+        entry.attribute_bits = 0;
     }
 }
 
@@ -176,10 +195,13 @@ fn grow<D: Disk>(table: &mut GPT, disk: &mut D) -> Result<GPTHeader>
 }
 
 #[test]
-fn entries_are_counted(rt: HostRuntime) {
-    let table = disk_1(&rt);
+fn entries_are_counted_and_sorted(rt: HostRuntime) {
+    let mut table = disk_1(&rt);
     assert!(rt; count_used(&table) == 2);
     assert!(rt; got(&rt, used_numbers(rt.alloc(), &table)).as_slice() == [1, 2].as_slice());
+    clear_by_iterator(&mut table);
+    got(&rt, sort_twice(&mut table));
+    assert_used(&rt, &table, ", 1 Foo 34..43, 2 Bar 48..52");
 }
 
 // Clears the attributes of a table.
