@@ -22,14 +22,13 @@ ghost use Rattle.gptman_copy.specs.declared.codec.header.GPTHeader.{GPTHeader};
 ghost use Rattle.gptman_bench.specs.Cleared.{cleared};
 
 use crate::asserts::{Host, assert_same, assert_shown, assert_used, got};
-use crate::fixtures::{disk_1, holding, partition};
+use crate::fixtures::{disk_1, holding, image_of_new, partition};
 use gptman::place::laws::{maximum_is_offered, placement_keeps_valid};
 use gptman::table::laws::{
     growing_is_safe, what_is_held_is_read, what_is_read_is_held, what_stands_is_accepted,
 };
 use gptman::{Disk, Edit, GPT, GPTHeader, GPTPartitionEntry, MemoryDisk, Result};
 use gptman_fixtures::calls::apply;
-use gptman_fixtures::samples::image_of_new;
 use std::alloc::{AllocError, Global};
 use std::process::Abort;
 
@@ -194,43 +193,54 @@ fn grow<D: Disk>(table: &mut GPT, disk: &mut D) -> Result<GPTHeader>
     table.write_into(disk)
 }
 
+// So many entries are used, and these.
+fn assert_counted(rt: &impl Host, table: &GPT, numbers: &[u32]) {
+    assert!(rt; count_used(table) == numbers.len() as u64);
+    assert!(rt; got(rt, used_numbers(rt.alloc(), table)).as_slice() == numbers);
+}
+
 #[test]
 fn entries_are_counted_and_sorted(rt: HostRuntime) {
     let mut table = disk_1(&rt);
-    assert!(rt; count_used(&table) == 2);
-    assert!(rt; got(&rt, used_numbers(rt.alloc(), &table)).as_slice() == [1, 2].as_slice());
+    assert_counted(&rt, &table, &[1, 2]);
     clear_by_iterator(&mut table);
     got(&rt, sort_twice(&mut table));
     assert_used(&rt, &table, ", 1 Foo 34..43, 2 Bar 48..52");
 }
 
-// Clears the attributes of a table.
-fn clear(rt: &impl Abort, table: &mut GPT) {
+// "Baz" with these attributes.
+fn baz(rt: &impl Host, attribute_bits: u64) -> GPTPartitionEntry {
+    let mut entry = partition(rt, ("Baz", 1), (44, 47));
+    entry.attribute_bits = attribute_bits;
+    entry
+}
+
+// Disk 1 with that entry.
+fn with_baz(rt: &impl Host, attribute_bits: u64) -> GPT {
+    let mut table = disk_1(rt);
+    got(rt, apply(&mut table, Edit::Put(3, baz(rt, attribute_bits))));
+    table
+}
+
+// The table is as the other one once its attributes are cleared, and was not before.
+fn assert_cleared(rt: &impl Abort, table: &mut GPT, other: &GPT) {
+    assert!(rt; !are_equal(table, other));
     assert!(rt; table.is_coherent());
     clear_by_number(table);
+    assert!(rt; are_equal(table, other));
 }
 
 #[test]
 fn attributes_are_cleared(rt: HostRuntime) {
-    let mut table = disk_1(&rt);
-    let mut entry = partition(&rt, ("Baz", 1), (44, 47));
-    let plain = partition(&rt, ("Baz", 1), (44, 47));
-    entry.attribute_bits = 5;
-    assert!(rt; !are_equal_entries(&entry, &plain));
-    got(&rt, apply(&mut table, Edit::Put(3, plain)));
-    let mut other = disk_1(&rt);
-    got(&rt, apply(&mut other, Edit::Put(3, entry)));
-    assert!(rt; !are_equal(&table, &other));
-    clear(&rt, &mut other);
-    assert!(rt; are_equal(&table, &other));
+    assert!(rt; !are_equal_entries(&baz(&rt, 5), &baz(&rt, 0)));
+    assert_cleared(&rt, &mut with_baz(&rt, 5), &with_baz(&rt, 0));
 }
 
-// Adds "Baz" at the first place for so many sectors, and answers whether there was one.
-fn add_baz(rt: &impl Host, table: &mut GPT, size: u64) -> bool {
-    let baz = partition(rt, ("Baz", 1), (0, 0));
+// Whether there is a place for "Baz" with so many sectors, where it is added.
+fn is_added(rt: &impl Host, table: &mut GPT, size: u64) -> bool {
     assert!(rt; table.align > 0 && table.is_coherent());
     assert!(rt; table.header.number_of_partition_entries > 3);
-    got(rt, add_first(table, 3, baz, size))
+    got(rt, add_first(table, 3, baz(rt, 0), size))
 }
 
 // The greatest place by this alignment.
@@ -240,22 +250,49 @@ fn greatest(rt: &impl Abort, table: &mut GPT, align: u64) -> Option<(u64, u64)> 
     got(rt, greatest_place(table))
 }
 
+// The greatest place by this alignment is this one.
+fn assert_greatest(rt: &impl Abort, table: &mut GPT, align: u64, place: Option<(u64, u64)>) {
+    assert!(rt; greatest(rt, table, align) == place);
+}
+
 // The free runs are 44 to 47 and 53 to 66.
+fn assert_places(rt: &impl Host, table: &mut GPT) {
+    assert_greatest(rt, table, 10, None);
+    assert_greatest(rt, table, 4, Some((56, 8)));
+    assert_greatest(rt, table, 1, Some((53, 14)));
+}
+
+// The entry is added in the first of them.
+fn assert_added(rt: &impl Host, table: &mut GPT) {
+    assert!(rt; !is_added(rt, table, 15));
+    assert!(rt; is_added(rt, table, 4));
+    assert_used(rt, table, ", 1 Foo 34..43, 2 Bar 48..52, 3 Baz 44..47");
+}
+
 #[test]
 fn an_entry_is_added_where_there_is_a_place(rt: HostRuntime) {
     let mut table = disk_1(&rt);
-    assert!(rt; greatest(&rt, &mut table, 10).is_none());
-    assert!(rt; greatest(&rt, &mut table, 4) == Some((56, 8)));
-    assert!(rt; greatest(&rt, &mut table, 1) == Some((53, 14)));
-    assert!(rt; !add_baz(&rt, &mut table, 15) && add_baz(&rt, &mut table, 4));
-    assert_used(&rt, &table, ", 1 Foo 34..43, 2 Bar 48..52, 3 Baz 44..47");
+    assert_places(&rt, &mut table);
+    assert_added(&rt, &mut table);
 }
 
-// What both readings of the disk answer.
-fn read_twice(rt: &impl Host, disk: &mut MemoryDisk) -> GPT {
-    let table = got(rt, read_held(rt.alloc(), disk, 512));
-    assert_same(rt, &table, &got(rt, read_standing(rt.alloc(), disk, 512)));
-    table
+// The table that the disk holds.
+fn held(rt: &impl Host, disk: &mut MemoryDisk) -> GPT {
+    got(rt, read_held(rt.alloc(), disk, 512))
+}
+
+// It is this one, and has this text.
+fn assert_held(rt: &impl Host, disk: &mut MemoryDisk, table: &GPT, said: &str) {
+    assert_same(rt, &held(rt, disk), table);
+    assert_same(rt, &got(rt, read_standing(rt.alloc(), disk, 512)), table);
+    assert_shown(rt, table, said);
+}
+
+// A disk of 200 sectors that holds a table for 100.
+fn longer_disk(rt: &impl Host) -> MemoryDisk {
+    let mut image = image_of_new(rt, 0);
+    got(rt, image.resize(102_400, 0));
+    holding(rt, &image)
 }
 
 // Fits the table to the disk, and writes it.
@@ -266,12 +303,8 @@ fn grow_on(rt: &impl Abort, table: &mut GPT, disk: &mut MemoryDisk) {
 
 #[test]
 fn a_table_grows_with_its_disk(rt: HostRuntime) {
-    let mut image = got(&rt, image_of_new(rt.alloc(), 0));
-    got(&rt, image.resize(102_400, 0));
-    let mut disk = holding(&rt, &image);
-    let mut table = read_twice(&rt, &mut disk);
+    let mut disk = longer_disk(&rt);
+    let mut table = held(&rt, &mut disk);
     grow_on(&rt, &mut table, &mut disk);
-    let read = read_twice(&rt, &mut disk);
-    assert_shown(&rt, &read, "512 1/199/2 34..166 align 2048");
-    assert_same(&rt, &read, &table);
+    assert_held(&rt, &mut disk, &table, "512 1/199/2 34..166 align 2048");
 }

@@ -13,8 +13,6 @@ mod fixtures;
 #[cfg(test)]
 mod oracle;
 #[cfg(test)]
-mod program;
-#[cfg(test)]
 mod rows;
 #[cfg(test)]
 mod searches;

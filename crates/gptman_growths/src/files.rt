@@ -3,6 +3,7 @@
 use crate::memory::Memory;
 use crate::verdict::{Verdict, of_answer, of_refusal};
 use gptman::{Error, FileDisk, GPTHeader, Result};
+use gptman_fixtures::calls::{are_equal, copy};
 use gptman_fixtures::tables::{image_of, new_table, unsorted_table, write};
 use std::alloc::{AllocGlobal, Global};
 use std::fs;
@@ -66,14 +67,20 @@ fn write_table<R: Files<File = File> + AllocGlobal>(
 ) -> Result<Verdict> {
     let image = make_file(files, memory.alloc())?;
     let mut table = unsorted_table(memory.alloc())?;
-    let before = table.clone()?;
+    let before = copy(&table)?;
     let mut disk = FileDisk::open(files, PATH)?;
     memory.begin();
     let outcome = write(&mut table, &mut disk);
     memory.end();
+    let is_file_kept = is_kept(files, &image)?;
+    Ok(of_write(&outcome, is_file_kept, are_equal(&table, &before)))
+}
+
+// Whether the file has these bytes. It is removed.
+fn is_kept<R: Files<File = File> + AllocGlobal>(files: &R, image: &[u8]) -> Result<bool> {
     let bytes = fs::read(files, PATH)?;
     fs::remove_file(files, PATH)?;
-    Ok(of_write(&outcome, bytes == image, table == before))
+    Ok(bytes.as_slice() == image)
 }
 
 // What came of writing a table, which left the file and the value as they were or not.

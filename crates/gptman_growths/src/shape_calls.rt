@@ -2,9 +2,10 @@
 
 use crate::readings::are_told;
 use gptman::{Disk, Edit, GPT, GPTPartitionEntry, MemoryDisk, Result};
+use gptman_fixtures::calls::{apply, are_equal, copy, find, new_on};
 use gptman_fixtures::shape::Shape;
 use gptman_fixtures::tables::{
-    DISK_GUID, are_those_of, commit, complement, partition, read, write, zero_disk,
+    are_those_of, commit, complement, partition, read, write, zero_disk,
 };
 use std::alloc::Global;
 
@@ -16,17 +17,33 @@ pub fn is_right(alloc: Global, shape: &Shape) -> Result<bool> {
 }
 
 fn are_right(alloc: Global, shape: &Shape, disk: &mut MemoryDisk, table: &GPT) -> Result<bool> {
-    Ok(
-        has_all_entries(alloc, shape, table)?
-            && is_read(alloc, shape, disk, table)?
-            && are_parts_read(alloc, shape, disk, table)?
-            && is_backup_read(alloc, shape, disk)?
-            && is_neither_read(alloc, shape, disk)?
-            && are_places_found(shape, table.clone()?)?
-            && are_edits_made(alloc, shape, table.clone()?)?
-            && are_edits_written(alloc, shape, disk, table.clone()?)?
-            && is_made_anew(alloc, shape, disk)?,
-    )
+    Ok(has_all_entries(alloc, shape, table)?
+        && are_readings_right(alloc, shape, disk, table)?
+        && are_changes_right(alloc, shape, disk, table)?)
+}
+
+fn are_readings_right(
+    alloc: Global,
+    shape: &Shape,
+    disk: &mut MemoryDisk,
+    table: &GPT,
+) -> Result<bool> {
+    Ok(is_read(alloc, shape, disk, table)?
+        && are_parts_read(alloc, shape, disk, table)?
+        && is_backup_read(alloc, shape, disk)?
+        && is_neither_read(alloc, shape, disk)?)
+}
+
+fn are_changes_right(
+    alloc: Global,
+    shape: &Shape,
+    disk: &mut MemoryDisk,
+    table: &GPT,
+) -> Result<bool> {
+    Ok(are_places_found(shape, copy(table)?)?
+        && are_edits_made(alloc, shape, copy(table)?)?
+        && are_edits_written(alloc, shape, disk, copy(table)?)?
+        && is_made_anew(alloc, shape, disk)?)
 }
 
 fn has_all_entries(alloc: Global, shape: &Shape, table: &GPT) -> Result<bool> {
@@ -35,11 +52,11 @@ fn has_all_entries(alloc: Global, shape: &Shape, table: &GPT) -> Result<bool> {
 
 // The same table where it is read, and where the size of a sector is looked for.
 fn is_read(alloc: Global, shape: &Shape, disk: &mut MemoryDisk, table: &GPT) -> Result<bool> {
-    let is_read = table.is_primary() && read(alloc, disk, shape.size())? == *table;
+    let is_read = table.is_primary() && are_equal(&read(alloc, disk, shape.size())?, table);
     if shape.sector_size != 512 && shape.sector_size != 4096 {
         return Ok(is_read);
     }
-    Ok(is_read && GPT::find_from(alloc, disk)? == *table)
+    Ok(is_read && are_equal(&find(alloc, disk)?, table))
 }
 
 // The first entry alone, and the list of all.
@@ -104,7 +121,7 @@ fn put_at_end(alloc: Global, shape: &Shape) -> Result<Edit> {
 // Each edit in memory, the last three as a list.
 fn are_edits_made(alloc: Global, shape: &Shape, table: GPT) -> Result<bool> {
     let mut table = table;
-    table.apply(put_at_end(alloc, shape)?)?;
+    apply(&mut table, put_at_end(alloc, shape)?)?;
     let is_put = table.find_at_sector(shape.last()) == Some(shape.entries);
     let edits = [
         Edit::Remove(shape.entries),
@@ -139,21 +156,30 @@ fn are_edits_written(
     let mut table = table;
     let edits = vec![in alloc; put_at_end(alloc, shape)?, Edit::SortEntries]?;
     let progress = commit(&mut table, disk, edits)?;
-    let read = read(alloc, disk, shape.size())?;
-    let is_put = read.find_at_sector(shape.last()) == Some(shape.used.saturating_add(1));
-    let is_sorted = read.find_at_sector(shape.first()) == Some(1);
-    Ok(progress.done == 2 && progress.fault.is_none() && is_put && is_sorted)
+    let is_done = progress.done == 2 && progress.fault.is_none();
+    Ok(is_done && is_sorted_with_new(shape, &read(alloc, disk, shape.size())?))
+}
+
+// Whether the new entry stands behind the used ones, and all are in order.
+fn is_sorted_with_new(shape: &Shape, table: &GPT) -> bool {
+    table.find_at_sector(shape.last()) == Some(shape.used.saturating_add(1))
+        && table.find_at_sector(shape.first()) == Some(1)
 }
 
 // A new table, which has 128 unused entries.
 fn is_made_anew(alloc: Global, shape: &Shape, disk: &mut MemoryDisk) -> Result<bool> {
-    let mut table = GPT::new_from(alloc, disk, shape.size(), DISK_GUID)?;
+    let mut table = new_on(alloc, disk, shape.size())?;
     write(&mut table, disk)?;
     let read = read(alloc, disk, shape.size())?;
+    Ok(is_unused(alloc, shape, &read)? && read.header == table.header)
+}
+
+// Whether the table has 128 unused entries.
+fn is_unused(alloc: Global, shape: &Shape, table: &GPT) -> Result<bool> {
     let unused = Shape {
         entries: 128,
         used: 0,
         ..*shape
     };
-    Ok(are_those_of(&unused.all_entries(alloc)?, &read) && read.header == table.header)
+    has_all_entries(alloc, &unused, table)
 }

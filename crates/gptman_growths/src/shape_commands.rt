@@ -11,13 +11,18 @@ use std::alloc::Global;
 /// A new table with sectors of each size from 512 to 4096 bytes.
 pub fn try_each_size(alloc: Global) -> Result<Verdict> {
     for size in 512..=4096_u32 {
-        let size = format!(in alloc; "{size}")?;
-        let mut disk = zero_disk(alloc, 102_400)?;
-        if !is_new(alloc, &mut disk, size.as_str(), size.as_str())? {
+        if !is_new_of(alloc, size)? {
             return Ok(Verdict::AnsweredWrongly);
         }
     }
     Ok(Verdict::Done)
+}
+
+// Whether a new table with sectors of this size is made.
+fn is_new_of(alloc: Global, size: u32) -> Result<bool> {
+    let size = format!(in alloc; "{size}")?;
+    let mut disk = zero_disk(alloc, 102_400)?;
+    is_new(alloc, &mut disk, size.as_str(), size.as_str())
 }
 
 /// Whether each command prints what it should, where the size of a sector is said, and where it is looked
@@ -33,25 +38,41 @@ pub fn is_right(alloc: Global, shape: &Shape) -> Result<bool> {
     is_life_right(alloc, shape, said.as_str(), "auto")
 }
 
+// A disk with such a table.
+fn disk_with(alloc: Global, shape: &Shape) -> Result<MemoryDisk> {
+    let mut disk = zero_disk(alloc, shape.bytes())?;
+    shape.write_to(alloc, &mut disk)?;
+    Ok(disk)
+}
+
 // The same of all commands one after the other, where the size is said so, and so to those that may look
 // for it.
 fn is_life_right(alloc: Global, shape: &Shape, said: &str, size: &str) -> Result<bool> {
-    let mut disk = zero_disk(alloc, shape.bytes())?;
-    shape.write_to(alloc, &mut disk)?;
-    Ok(
-        is_shown(alloc, shape, &mut disk, size)?
-            && is_free(alloc, shape, &mut disk, size)?
-            && are_added(alloc, shape, &mut disk, size)?
-            && are_changed(alloc, &mut disk, said, size)?
-            && is_new(alloc, &mut disk, said, size)?,
-    )
+    let mut disk = disk_with(alloc, shape)?;
+    let are_told = is_shown(alloc, shape, &mut disk, size)?
+        && is_free(alloc, shape, &mut disk, size)?
+        && are_added(alloc, shape, &mut disk, size)?;
+    Ok(are_told
+        && are_changed(alloc, &mut disk, said, size)?
+        && is_new(alloc, &mut disk, said, size)?)
+}
+
+// The status of the command of this line, which prints behind what was printed.
+fn status_of(
+    alloc: Global,
+    disk: &mut MemoryDisk,
+    line: &str,
+    printed: &mut Vec<u8>,
+) -> Result<u8> {
+    let words = split(alloc, line)?;
+    run(alloc, &words, disk, printed)
 }
 
 // What the commands of these lines print, one after the other. Nothing where the status of one is not 0.
 fn printed_by(alloc: Global, disk: &mut MemoryDisk, lines: &str) -> Result<Vec<u8>> {
     let mut printed = Vec::new(alloc);
     for line in lines.lines() {
-        if run(alloc, &split(alloc, line)?, disk, &mut printed)? != 0 {
+        if status_of(alloc, disk, line, &mut printed)? != 0 {
             return Ok(Vec::new(alloc));
         }
     }

@@ -5,6 +5,7 @@ use crate::held::Held;
 use crate::memory::Memory;
 use crate::verdict::{Verdict, of_answer, of_failure, of_refusal};
 use gptman::{Edit, Error, GPT, GPTHeader, Progress, Result};
+use gptman_fixtures::calls::{are_equal, copy};
 use gptman_fixtures::tables::{
     DISK_GUID, commit, has_entry, have_same_entries, image_of, new_table, unsorted_table, write,
     write_copy,
@@ -33,7 +34,7 @@ struct Writing {
 impl Writing {
     fn new(alloc: Global) -> Result<Writing> {
         let table = unsorted_table(alloc)?;
-        let before = table.clone()?;
+        let before = copy(&table)?;
         let mut empty = new_table(alloc)?;
         let held = Held::new(alloc, image_of(alloc, &mut empty)?)?;
         Ok(Writing {
@@ -53,7 +54,7 @@ impl Writing {
     // Of a write that was refused with this.
     fn verdict(&mut self, alloc: Global, error: &Error) -> Result<Verdict> {
         let holds_a_table = self.holds_a_table(alloc)?;
-        let is_kept = self.table == self.before;
+        let is_kept = are_equal(&self.table, &self.before);
         Ok(self.held.verdict(error, is_kept, holds_a_table))
     }
 

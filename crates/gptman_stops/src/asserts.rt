@@ -43,6 +43,11 @@ pub(crate) fn copied(rt: &impl Host, bytes: &[u8]) -> Vec<u8> {
     got(rt, bytes.to_vec(rt.alloc()))
 }
 
+/// A disk of these bytes.
+pub(crate) fn holding(rt: &impl Host, bytes: &[u8]) -> MemoryDisk {
+    got(rt, calls::holding(rt.alloc(), bytes))
+}
+
 /// A disk of these bytes that fails after so many calls.
 pub(crate) fn fused(rt: &impl Host, bytes: &[u8], calls: u64) -> MemoryDisk {
     got(rt, calls::fused(rt.alloc(), bytes, calls))

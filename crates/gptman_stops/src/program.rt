@@ -1,35 +1,17 @@
 //! Commands that are stopped, or of which one call to the disk fails: what is left is read as the table
 //! that was there or as the one that the command makes.
 
-use crate::asserts::{Host, copied, failing_once, fused, got, read};
+use crate::asserts::{Host, copied, failing_once, fused, got, holding, read};
 use crate::case::{Case, assert_reads_one, fate_of, fates, is_same_table};
-use gptimg_core::run;
-use gptman::{Disk, Fate, MemoryDisk};
-use gptman_fixtures::calls::{bytes_of, holding};
-use gptman_fixtures::samples::{image_with, put_entry};
-use gptman_fixtures::tables::new_table;
-use gptman_fixtures::words::split;
+use crate::lines::{LINES, call_line, do_line, image_with_foo};
+use gptman::{Fate, MemoryDisk};
+use gptman_fixtures::calls::bytes_of;
 use std::process::Abort;
 
-// Does what this line asks for. Answers the status, and what was printed.
-fn call_line<D: Disk>(rt: &impl Host, disk: &mut D, line: &str) -> (u8, Vec<u8>) {
-    let mut printed = Vec::new(rt.alloc());
-    let words = got(rt, split(rt.alloc(), line));
-    let status = got(rt, run(rt.alloc(), &words, disk, &mut printed));
-    (status, printed)
-}
-
-// The image of a new table with "Foo" from 34 to 43.
-fn image_with_foo(rt: &impl Host) -> Vec<u8> {
-    let mut table = got(rt, new_table(rt.alloc()));
-    got(rt, put_entry(rt.alloc(), &mut table, 1, ("Foo", 1), (34, 43)));
-    got(rt, image_with(rt.alloc(), &table))
-}
-
-// The bytes of that image after the line was done.
+// The bytes of this image after the line was done.
 fn image_after(rt: &impl Host, image: &[u8], line: &str) -> Vec<u8> {
-    let mut disk = got(rt, holding(rt.alloc(), image));
-    assert!(rt; call_line(rt, &mut disk, line).0 == 0, "{line}");
+    let mut disk = holding(rt, image);
+    do_line(rt, &mut disk, line);
     got(rt, bytes_of(rt.alloc(), &disk))
 }
 
@@ -85,30 +67,15 @@ fn fail_each_call(rt: &impl Host, image: Vec<u8>, line: &str) {
     panic!(rt; "{line} takes 40 calls or more");
 }
 
-// Lines that change a table, or write the MBR, of an image with entry 1 used and entry 3 not.
-const LINES: [&str; 11] = [
-    "512 new V",
-    "512 mbr plain",
-    "512 mbr bootable",
-    "512 add 3 T V 5 last 4 Bar",
-    "auto add 3 T V 5 last 4 Bar",
-    "512 remove 1",
-    "auto remove 1",
-    "512 sort",
-    "auto sort",
-    "512 grow",
-    "auto grow",
-];
-
 #[test]
 fn one_failed_call_of_a_command_loses_no_table(rt: HostRuntime) {
     let image = image_with_foo(&rt);
-    for line in LINES {
+    for line in &LINES[4..] {
         fail_each_call(&rt, copied(&rt, &image), line);
     }
 }
 
-// That image, made 200 sectors long.
+// The image with "Foo", made 200 sectors long.
 fn longer_image(rt: &impl Host) -> Vec<u8> {
     let mut image = image_with_foo(rt);
     got(rt, image.resize(102_400, 0));

@@ -25,8 +25,9 @@ fn determine_partition_alignment_no_partition(rt: HostRuntime) {
 }
 
 // The table with entries from 5 to 6 and from 8 to 16 times the alignment is written to the disk.
-fn write_multiples(rt: &impl Host, disk: &mut MemoryDisk, align: u64) -> GPT {
+fn write_multiples(rt: &impl Host, disk: &mut MemoryDisk, align: u16) -> GPT {
     let mut table = new_table(rt, disk, 512);
+    let align = u64::from(align);
     put_entry(rt, &mut table, 1, ("", 1), (align * 5, align * 6));
     put_entry(rt, &mut table, 2, ("", 2), (align * 8, align * 16));
     write(rt, &mut table, disk);
@@ -36,7 +37,7 @@ fn write_multiples(rt: &impl Host, disk: &mut MemoryDisk, align: u64) -> GPT {
 // It is read with this alignment, on a disk of 21 times as many sectors.
 fn assert_multiples(rt: &impl Host, align: u16) {
     let mut disk = blank(rt, 0, 512 * 21 * usize::from(align));
-    let mut table = write_multiples(rt, &mut disk, u64::from(align));
+    let mut table = write_multiples(rt, &mut disk, align);
     table.align = u64::from(align);
     assert_same(rt, &read_from(rt, &mut disk), &table);
 }

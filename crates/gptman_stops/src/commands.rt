@@ -1,33 +1,15 @@
-//! The program over a disk: a worked example in memory and in a file, disks that fail after some calls, and
-//! an output that fails. All else that it prints and writes is tried on the built program, by the rows of
+//! Commands on disks that fail after some calls, and with an output that fails; and a worked example, in
+//! memory and in a file. All else that is printed and written is tried on the built program, by the rows of
 //! `tests/program/`.
 
-use crate::asserts::{Host, got};
-use crate::fixtures::{blank, bytes_of, disk_1, disk_2, holding, image_of, put};
-use gptimg_core::{USAGE, run};
+use crate::asserts::{Host, fused, got, holding};
+use crate::lines::{LINES, call_line, image_with_foo, make_foo, try_line};
+use gptimg_core::USAGE;
 use gptman::{Disk, Error, FileDisk, Result};
-use gptman_fixtures::calls::{fused, has_bytes};
-use gptman_fixtures::words::split;
+use gptman_fixtures::calls::has_bytes;
+use gptman_fixtures::samples::{disk_1, disk_2, disk_of, image_with, put};
 use std::process::Abort;
 use std::{fs, io};
-
-// Does what this line asks for. Answers the status, or an error where the output failed.
-fn try_line<D: Disk, W: io::Write>(
-    rt: &impl Host,
-    disk: &mut D,
-    out: &mut W,
-    line: &str,
-) -> Result<u8> {
-    let words = got(rt, split(rt.alloc(), line));
-    run(rt.alloc(), &words, disk, out)
-}
-
-// The same, with the status and what was printed.
-fn call_line<D: Disk>(rt: &impl Host, disk: &mut D, line: &str) -> (u8, Vec<u8>) {
-    let mut printed = Vec::new(rt.alloc());
-    let status = got(rt, try_line(rt, disk, &mut printed, line));
-    (status, printed)
-}
 
 // Whether what was printed is one of these texts.
 fn is_one_of(printed: &[u8], texts: &[&str]) -> bool {
@@ -41,17 +23,11 @@ fn assert_line<D: Disk>(rt: &impl Host, disk: &mut D, line: &str, status: u8, te
     assert!(rt; printed.as_slice() == text.as_bytes(), "{line}");
 }
 
-// On 100 sectors of 512 zero bytes a table is made with "Foo" from 34 to 43.
-fn make_foo<D: Disk>(rt: &impl Host, disk: &mut D) {
-    assert_line(rt, disk, "512 new F", 0, "ok\n");
-    assert_line(rt, disk, "512 add 1 T U 10 first 1 Foo", 0, "1 34..43\n");
-}
-
 const SHOWN: &str =
     "sector 512 form primary disk ffffffffffffffffffffffffffffffff usable 34..66 entries 128 align 1\n\
      1 11111111111111111111111111111111 22222222222222222222222222222222 34..43 0000000000000000 Foo\n";
 
-// So it is on this disk, and then a few lines do what they say.
+// A table is made on this disk with "Foo" from 34 to 43, and then a few lines do what they say.
 fn assert_example<D: Disk>(rt: &impl Host, disk: &mut D) {
     make_foo(rt, disk);
     assert_line(rt, disk, "512 free 10", 0, "50 17\n");
@@ -63,24 +39,17 @@ fn assert_example<D: Disk>(rt: &impl Host, disk: &mut D) {
 
 #[test]
 fn an_example_holds_in_memory_and_in_a_file(rt: HostRuntime) {
-    assert_example(&rt, &mut blank(&rt, 0, 51_200));
+    assert_example(&rt, &mut got(&rt, disk_of(rt.alloc(), 0, 51_200)));
     let path = "example.img";
     got(&rt, fs::write(&rt, path, [0; 51_200].as_slice()));
     assert_example(&rt, &mut got(&rt, FileDisk::open(&rt, path)));
     got(&rt, fs::remove_file(&rt, path));
 }
 
-// The bytes of a disk of 100 sectors of 512 with a new table, to which "Foo" was added from 34 to 43.
-fn image_with_foo(rt: &impl Host) -> Vec<u8> {
-    let mut disk = blank(rt, 0, 51_200);
-    make_foo(rt, &mut disk);
-    bytes_of(rt, &disk)
-}
-
 // On a disk of these bytes that fails after so many calls, the line prints one of these texts, unless it is
 // done, which is answered. Where no call is served no byte changes.
 fn fails_after(rt: &impl Host, image: &[u8], calls: u64, line: &str, texts: &[&str]) -> bool {
-    let mut disk = got(rt, fused(rt.alloc(), image, calls));
+    let mut disk = fused(rt, image, calls);
     let (status, printed) = call_line(rt, &mut disk, line);
     let is_done = status == 0;
     assert!(rt; is_done || (status == 1 && is_one_of(&printed, texts)), "{line}");
@@ -107,25 +76,6 @@ fn assert_all_fail(rt: &impl Host, image: &[u8], start: &str, texts: &[&str]) {
     }
 }
 
-// Lines that read or change a table, or write the MBR, of an image with entry 1 used and entry 3 not.
-const LINES: [&str; 15] = [
-    "512 show",
-    "auto show",
-    "512 free 1",
-    "auto free 1",
-    "512 new V",
-    "512 mbr plain",
-    "512 mbr bootable",
-    "512 add 3 T V 5 last 4 Bar",
-    "auto add 3 T V 5 last 4 Bar",
-    "512 remove 1",
-    "auto remove 1",
-    "512 sort",
-    "auto sort",
-    "512 grow",
-    "auto grow",
-];
-
 const FAILED: &str = "fault: Io\n";
 
 #[test]
@@ -140,13 +90,15 @@ const FAILED_LATER: [&str; 2] = [FAILED, "fault: ReadError(InvalidSignature, Io)
 #[test]
 fn a_failing_disk_with_one_copy_is_named(rt: HostRuntime) {
     let mut image = image_with_foo(&rt);
-    put(&rt, &mut image, 512, &[0; 92]);
+    got(&rt, put(&mut image, 512, &[0; 92]));
     assert_all_fail(&rt, &image, "", &FAILED_LATER);
 }
 
 #[test]
 fn a_failing_disk_has_no_sector_size(rt: HostRuntime) {
-    assert_all_fail(&rt, &image_of(&rt, &disk_2(&rt)), "auto", &FAILED_LATER);
+    let table = got(&rt, disk_2(rt.alloc()));
+    let image = got(&rt, image_with(rt.alloc(), &table));
+    assert_all_fail(&rt, &image, "auto", &FAILED_LATER);
 }
 
 // What `check` prints of a failing disk.
@@ -158,7 +110,9 @@ const CHECKED: [&str; 3] = [
 
 #[test]
 fn a_failing_disk_is_told_of_by_check(rt: HostRuntime) {
-    assert_fails(&rt, &image_of(&rt, &disk_1(&rt)), "512 check", &CHECKED);
+    let table = got(&rt, disk_1(rt.alloc()));
+    let image = got(&rt, image_with(rt.alloc(), &table));
+    assert_fails(&rt, &image, "512 check", &CHECKED);
 }
 
 // A writer that takes so many bytes, and then fails.
@@ -221,7 +175,7 @@ fn a_failing_writer_is_an_error(rt: HostRuntime) {
     for line in LINES {
         assert_needs_its_room(&rt, &image, line);
     }
-    for line in ["512 shows", "512 remove 0", "512 check"] {
-        assert_needs_its_room(&rt, &image, line);
-    }
+    assert_needs_its_room(&rt, &image, "512 shows");
+    assert_needs_its_room(&rt, &image, "512 remove 0");
+    assert_needs_its_room(&rt, &image, "512 check");
 }
