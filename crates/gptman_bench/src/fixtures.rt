@@ -41,7 +41,10 @@ pub(crate) fn partition(
     (name, guid): (&str, u8),
     (from, to): (u64, u64),
 ) -> GPTPartitionEntry {
-    got(rt, tables::partition(rt.alloc(), name, [guid; 16], from, to))
+    got(
+        rt,
+        tables::partition(rt.alloc(), name, [guid; 16], from, to),
+    )
 }
 
 /// Puts such an entry under the number.
@@ -52,7 +55,10 @@ pub(crate) fn put_entry(
     named: (&str, u8),
     sectors: (u64, u64),
 ) {
-    got(rt, samples::put_entry(rt.alloc(), table, number, named, sectors));
+    got(
+        rt,
+        samples::put_entry(rt.alloc(), table, number, named, sectors),
+    );
 }
 
 /// Removes the entry of this number.
@@ -102,7 +108,11 @@ pub(crate) fn reread(rt: &impl Host, table: &GPT) -> GPT {
 
 /// The reading of these bytes with sectors of this size says this.
 pub(crate) fn assert_reads(rt: &impl Host, bytes: &[u8], sector_size: u64, said: &str) {
-    assert_told(rt, &samples::read_image(rt.alloc(), bytes, sector_size), said);
+    assert_told(
+        rt,
+        &samples::read_image(rt.alloc(), bytes, sector_size),
+        said,
+    );
 }
 
 /// The reading of these bytes that finds the sector size says this.

@@ -17,9 +17,11 @@ pub fn is_right(alloc: Global, shape: &Shape) -> Result<bool> {
 }
 
 fn are_right(alloc: Global, shape: &Shape, disk: &mut MemoryDisk, table: &GPT) -> Result<bool> {
-    Ok(has_all_entries(alloc, shape, table)?
-        && are_readings_right(alloc, shape, disk, table)?
-        && are_changes_right(alloc, shape, disk, table)?)
+    Ok(
+        has_all_entries(alloc, shape, table)?
+            && are_readings_right(alloc, shape, disk, table)?
+            && are_changes_right(alloc, shape, disk, table)?,
+    )
 }
 
 fn are_readings_right(
@@ -28,10 +30,12 @@ fn are_readings_right(
     disk: &mut MemoryDisk,
     table: &GPT,
 ) -> Result<bool> {
-    Ok(is_read(alloc, shape, disk, table)?
-        && are_parts_read(alloc, shape, disk, table)?
-        && is_backup_read(alloc, shape, disk)?
-        && is_neither_read(alloc, shape, disk)?)
+    Ok(
+        is_read(alloc, shape, disk, table)?
+            && are_parts_read(alloc, shape, disk, table)?
+            && is_backup_read(alloc, shape, disk)?
+            && is_neither_read(alloc, shape, disk)?,
+    )
 }
 
 fn are_changes_right(
@@ -40,10 +44,12 @@ fn are_changes_right(
     disk: &mut MemoryDisk,
     table: &GPT,
 ) -> Result<bool> {
-    Ok(are_places_found(shape, copy(table)?)?
-        && are_edits_made(alloc, shape, copy(table)?)?
-        && are_edits_written(alloc, shape, disk, copy(table)?)?
-        && is_made_anew(alloc, shape, disk)?)
+    Ok(
+        are_places_found(shape, copy(table)?)?
+            && are_edits_made(alloc, shape, copy(table)?)?
+            && are_edits_written(alloc, shape, disk, copy(table)?)?
+            && is_made_anew(alloc, shape, disk)?,
+    )
 }
 
 fn has_all_entries(alloc: Global, shape: &Shape, table: &GPT) -> Result<bool> {

@@ -52,9 +52,11 @@ fn is_life_right(alloc: Global, shape: &Shape, said: &str, size: &str) -> Result
     let are_told = is_shown(alloc, shape, &mut disk, size)?
         && is_free(alloc, shape, &mut disk, size)?
         && are_added(alloc, shape, &mut disk, size)?;
-    Ok(are_told
-        && are_changed(alloc, &mut disk, said, size)?
-        && is_new(alloc, &mut disk, said, size)?)
+    Ok(
+        are_told
+            && are_changed(alloc, &mut disk, said, size)?
+            && is_new(alloc, &mut disk, said, size)?,
+    )
 }
 
 // The status of the command of this line, which prints behind what was printed.

@@ -1,10 +1,8 @@
 //! What calls answer, as text that is compared with rows; and the disks of the tests.
 
 use gptman::{GPT, MemoryDisk, Result};
-use gptman_fixtures::calls;
 use gptman_fixtures::faulty::{self, FaultyDisk};
-use gptman_fixtures::samples;
-use gptman_fixtures::told;
+use gptman_fixtures::{calls, samples, told};
 use std::fmt::Debug;
 use std::process::Abort;
 

@@ -52,7 +52,10 @@ fn fails_after(rt: &impl Host, image: &[u8], calls: u64, line: &str, texts: &[&s
     let mut disk = fused(rt, image, calls);
     let (status, printed) = call_line(rt, &mut disk, line);
     let is_done = status == 0;
-    assert!(rt; is_done || (status == 1 && is_one_of(&printed, texts)), "{line}");
+    assert!(rt;
+        is_done || (status == 1 && is_one_of(&printed, texts)),
+        "{line}"
+    );
     assert!(rt; is_done || calls > 0 || has_bytes(&disk, image), "{line}");
     !is_done
 }
@@ -165,7 +168,13 @@ fn assert_needs_its_room(rt: &impl Host, image: &[u8], line: &str) {
     let mut disk = holding(rt, image);
     let (status, printed) = call_line(rt, &mut disk, line);
     for room in 0..=printed.len() {
-        assert_room(rt, (image, disk.bytes()), line, room, (printed.len(), status));
+        assert_room(
+            rt,
+            (image, disk.bytes()),
+            line,
+            room,
+            (printed.len(), status),
+        );
     }
 }
 

@@ -20,7 +20,11 @@ fn put_at(rt: &impl Host, number: u8, from: u64, to: u64) -> Edit {
 
 // Three entries, each put behind the one before.
 fn three_edits(rt: &impl Host) -> Vec<Edit> {
-    let edits = vec![in rt.alloc(); put_at(rt, 1, 34, 43), put_at(rt, 2, 44, 50), put_at(rt, 3, 51, 60)];
+    let edits = vec![in rt.alloc();
+        put_at(rt, 1, 34, 43),
+        put_at(rt, 2, 44, 50),
+        put_at(rt, 3, 51, 60),
+    ];
     got(rt, edits)
 }
 
@@ -55,7 +59,10 @@ fn is_after(rt: &impl Host, table: &GPT, image: &[u8], count: usize) -> bool {
 fn assert_after(rt: &impl Host, bytes: &[u8], image: &[u8], done: usize) {
     let read = read(rt, bytes);
     let is_last = is_after(rt, &read, image, done);
-    assert!(rt; is_last || is_after(rt, &read, image, done.saturating_add(1)), "{done} edits");
+    assert!(rt;
+        is_last || is_after(rt, &read, image, done.saturating_add(1)),
+        "{done} edits"
+    );
 }
 
 // The same of the bytes that a stop of the disk leaves, with all that is pending of one fate.

@@ -1,9 +1,7 @@
 //! A write that is stopped or fails at any call: what is left is read as the table that was there or
 //! as the one that was being written, and so is each copy alone that can be read.
 
-use crate::asserts::{
-    Host, assert_reads, assert_told, copied, failing_once, fused, got, read,
-};
+use crate::asserts::{Host, assert_reads, assert_told, copied, failing_once, fused, got, read};
 use crate::case::{Case, HEADERS, assert_reads_one, fate_of, fates, is_same_table, read_without};
 use gptman::{Disk, Edit, Error, Fate, GPT, MemoryDisk};
 use gptman_fixtures::calls::{apply, copy, has_bytes};

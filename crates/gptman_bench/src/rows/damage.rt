@@ -1,9 +1,7 @@
 //! Images that are damaged, cut, zeroed and crafted, each read by the library and by a plain reader.
 
 use crate::asserts::{Host, got};
-use crate::fixtures::{
-    assert_reads, blank, bytes_of, complement, new_header, partition, put,
-};
+use crate::fixtures::{assert_reads, blank, bytes_of, complement, new_header, partition, put};
 use crate::oracle::{header_checksum, is_read_alike};
 use gptman::{GPTHeader, GPTPartitionEntry, MemoryDisk};
 use gptman_fixtures::tables::write_copy;

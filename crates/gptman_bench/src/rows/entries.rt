@@ -4,10 +4,10 @@ use crate::asserts::{
     BOUNDARIES, Host, OVERFLOW, assert_printed, assert_said, assert_same, assert_shown,
     assert_text, assert_used, got,
 };
-use crate::fixtures::{disk_1, image_of, partition, read, reread};
+use crate::fixtures::{disk_1, partition, read, reread};
 use gptman::{Edit, Fate, GPT, GPTPartitionEntry};
 use gptman_fixtures::calls::name_of;
-use gptman_fixtures::samples::table_within;
+use gptman_fixtures::samples::{image_on, table_within};
 use std::process::Abort;
 
 // The entry from and to these sectors.
@@ -84,8 +84,9 @@ fn change(rt: &impl Host, table: &mut GPT) {
 }
 
 // The table is written, and read back equal.
-fn assert_read_back(rt: &impl Host, table: &GPT, said: &str) {
-    let read = read(rt, &image_of(rt, table), 512);
+fn assert_read_back(rt: &impl Host, table: &mut GPT, said: &str) {
+    let image = got(rt, image_on(rt.alloc(), 0, 51_200, table));
+    let read = read(rt, &image, 512);
     assert_same(rt, &read, table);
     assert_shown(rt, &read, said);
 }
@@ -95,7 +96,7 @@ fn changed_entries_are_read_back(rt: HostRuntime) {
     let mut table = reread(&rt, &disk_1(&rt));
     change(&rt, &mut table);
     let said = "512 1/99/2 34..66 align 2, 1 Bar 48..52, 2 A Robot Named Fight! 34..45";
-    assert_read_back(&rt, &table, said);
+    assert_read_back(&rt, &mut table, said);
 }
 
 // An edit that puts an entry is printed so.

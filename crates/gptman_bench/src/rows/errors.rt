@@ -8,7 +8,11 @@ use std::io;
 
 // The value is printed so for debugging.
 fn assert_printed(rt: &impl Host, value: &impl Debug, printed: &str) {
-    assert_text(rt, got(rt, format!(in rt.alloc(); "{value:?}")).as_str(), printed);
+    assert_text(
+        rt,
+        got(rt, format!(in rt.alloc(); "{value:?}")).as_str(),
+        printed,
+    );
 }
 
 // The error has this text, and is printed so.
@@ -22,17 +26,47 @@ fn assert_of_tables(rt: &impl Host) {
     let name = "InvalidPartitionBoundaries";
     assert_error(rt, &Error::InvalidPartitionBoundaries, BOUNDARIES, name);
     let text = "conflict of partition GUIDs";
-    assert_error(rt, &Error::ConflictPartitionGUID, text, "ConflictPartitionGUID");
+    assert_error(
+        rt,
+        &Error::ConflictPartitionGUID,
+        text,
+        "ConflictPartitionGUID",
+    );
     assert_error(rt, &Error::NoSpaceLeft, "no space left", "NoSpaceLeft");
-    assert_error(rt, &Error::UnusedPartition, "unused partition", "UnusedPartition");
-    assert_error(rt, &Error::PartitionNotFound, "partition not found", "PartitionNotFound");
+    assert_error(
+        rt,
+        &Error::UnusedPartition,
+        "unused partition",
+        "UnusedPartition",
+    );
+    assert_error(
+        rt,
+        &Error::PartitionNotFound,
+        "partition not found",
+        "PartitionNotFound",
+    );
 }
 
 #[test]
 fn errors_of_one_word_have_their_texts(rt: HostRuntime) {
-    assert_error(&rt, &Error::InvalidSignature, "invalid signature", "InvalidSignature");
-    assert_error(&rt, &Error::InvalidRevision, "invalid revision", "InvalidRevision");
-    assert_error(&rt, &Error::InvalidHeaderSize, "invalid header size", "InvalidHeaderSize");
+    assert_error(
+        &rt,
+        &Error::InvalidSignature,
+        "invalid signature",
+        "InvalidSignature",
+    );
+    assert_error(
+        &rt,
+        &Error::InvalidRevision,
+        "invalid revision",
+        "InvalidRevision",
+    );
+    assert_error(
+        &rt,
+        &Error::InvalidHeaderSize,
+        "invalid header size",
+        "InvalidHeaderSize",
+    );
     assert_error(&rt, &Error::Overflow, OVERFLOW, "Overflow");
     assert_error(&rt, &Error::OutOfMemory, "no memory", "OutOfMemory");
     assert_of_tables(&rt);
@@ -41,10 +75,20 @@ fn errors_of_one_word_have_their_texts(rt: HostRuntime) {
 // The checksum of a header, and that of its entries.
 fn assert_checksums(rt: &impl Host) {
     let text = "corrupted CRC32 checksum (3 != 4)";
-    assert_error(rt, &Error::InvalidChecksum(3, 4), text, "InvalidChecksum(3, 4)");
+    assert_error(
+        rt,
+        &Error::InvalidChecksum(3, 4),
+        text,
+        "InvalidChecksum(3, 4)",
+    );
     let text = "corrupted partition entry array CRC32 checksum (5 != 6)";
     let printed = "InvalidPartitionEntryArrayChecksum(5, 6)";
-    assert_error(rt, &Error::InvalidPartitionEntryArrayChecksum(5, 6), text, printed);
+    assert_error(
+        rt,
+        &Error::InvalidPartitionEntryArrayChecksum(5, 6),
+        text,
+        printed,
+    );
 }
 
 #[test]

@@ -94,7 +94,11 @@ fn a_file_has_the_bytes_past_its_last_whole_sector(rt: HostRuntime) {
 fn assert_not_written(rt: &impl FileHost, path: &str) {
     let mut disk = disk_over(rt, path, true);
     let mut table = new_table(rt, &mut disk, 512);
-    assert_said(rt, &tables::write(&mut table, &mut disk), "generic I/O error");
+    assert_said(
+        rt,
+        &tables::write(&mut table, &mut disk),
+        "generic I/O error",
+    );
     assert!(rt; are_all(&got(rt, fs::read(rt, path)), 2));
 }
 

@@ -38,13 +38,25 @@ fn a_new_table_is_fitted_to_the_disk(rt: HostRuntime) {
     assert_new(&rt, 3000, 100, "3000 1/99/2 8..92 align 2048", "ok");
     assert_new(&rt, 512, 67, "512 1/66/2 34..33 align 2048", "ok");
     assert_new(&rt, 512, 66, "512 1/65/2 34..32 align 2048", BOUNDARIES);
-    assert_new(&rt, 1, 51_200, "1 1/51199/2 16386..34814 align 2048", "no space left");
+    assert_new(
+        &rt,
+        1,
+        51_200,
+        "1 1/51199/2 16386..34814 align 2048",
+        "no space left",
+    );
     assert_none(&rt);
 }
 
 // The header has its own, the other header and its entries in these sectors, and these usable ones.
 fn assert_header(rt: &impl Abort, header: &GPTHeader, places: [u64; 3], usable: (u64, u64)) {
-    assert!(rt; [header.primary_lba, header.backup_lba, header.partition_entry_lba] == places);
+    assert!(rt;
+        [
+            header.primary_lba,
+            header.backup_lba,
+            header.partition_entry_lba
+        ] == places
+    );
     assert!(rt; (header.first_usable_lba, header.last_usable_lba) == usable);
 }
 

@@ -10,7 +10,10 @@ pub(crate) fn assert_mbr(rt: &impl Host, sector_size: u16, is_bootable: bool) {
     let mut disk = blank(rt, 2, 100 * usize::from(sector_size));
     let mut wanted = bytes_of(rt, &disk);
     got(rt, put_mbr(&mut wanted, is_bootable, 99));
-    got(rt, write_mbr(&mut disk, u64::from(sector_size), is_bootable));
+    got(
+        rt,
+        write_mbr(&mut disk, u64::from(sector_size), is_bootable),
+    );
     assert!(rt; has_bytes(&disk, &wanted));
 }
 

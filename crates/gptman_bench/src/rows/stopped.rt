@@ -27,7 +27,11 @@ fn assert_twice(rt: &impl Host, fates: &[Fate], bytes: [u8; 8]) {
 
 #[test]
 fn each_pending_write_has_its_fate(rt: HostRuntime) {
-    assert_twice(&rt, &[Fate::New, Fate::Garbage(9)], [1, 9, 9, 0, 0, 0, 0, 0]);
+    assert_twice(
+        &rt,
+        &[Fate::New, Fate::Garbage(9)],
+        [1, 9, 9, 0, 0, 0, 0, 0],
+    );
     assert_twice(&rt, &[Fate::Old, Fate::New], [0, 3, 4, 0, 0, 0, 0, 0]);
     assert_twice(&rt, &[Fate::New], [1, 2, 0, 0, 0, 0, 0, 0]);
     assert_twice(&rt, &[], [0; 8]);

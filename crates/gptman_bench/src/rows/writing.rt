@@ -7,7 +7,13 @@ use std::process::Abort;
 
 // The header has these places, and this checksum.
 fn assert_header(rt: &impl Abort, header: &GPTHeader, places: [u64; 3], checksum: u32) {
-    assert!(rt; [header.primary_lba, header.backup_lba, header.partition_entry_lba] == places);
+    assert!(rt;
+        [
+            header.primary_lba,
+            header.backup_lba,
+            header.partition_entry_lba
+        ] == places
+    );
     assert!(rt; header.crc32_checksum == checksum);
     assert!(rt; header.partition_entry_array_crc32 == 0xab54_d286);
 }
