@@ -92,7 +92,11 @@ fn all_edits_are_written(rt: HostRuntime) {
 fn all_edits_are_made_or_none(rt: HostRuntime) {
     let mut table = read(&rt, &image_of_new(&rt, 0), 512);
     let edits = [put_foo(&rt, 7, 1, (50, 60)), Edit::Remove(129)];
-    assert_said(&rt, &table.apply_all(&edits), "invalid partition number: 129");
+    assert_said(
+        &rt,
+        &table.apply_all(&edits),
+        "invalid partition number: 129",
+    );
     assert_used(&rt, &table, "");
     got(&rt, table.apply_all(&each_kind(&rt)));
     assert_used(&rt, &table, ", 1 Foo 34..43");
