@@ -27,6 +27,7 @@ guid_program=$top/crates/gptguid/out/gptguid
 . "$top/tests/program/headers.sh"
 . "$top/tests/program/commands.sh"
 . "$top/tests/program/rows.sh"
+. "$top/tests/program/shapes.sh"
 . "$top/tests/program/descriptors.sh"
 . "$top/tests/program/output.sh"
 . "$top/tests/program/files.sh"
@@ -64,6 +65,7 @@ try "the links of the documents" try_links
 try "words" try_words
 try "words of no command" try_usage
 try "rows" try_rows
+try "tables of many shapes" try_shapes
 try "names" try_names
 try "commands" try_commands
 try "closed descriptors" try_closed_descriptors

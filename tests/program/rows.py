@@ -3,39 +3,8 @@ digits of the SHA-256 of each, in the order of the rows. It shares no code with 
 """
 import hashlib
 import struct
-import zlib
 
-DISK, ONE, TWO, THREE = (bytes([byte]) * 16 for byte in (0xFF, 0x11, 0x22, 0x33))
-
-
-def entry(unique, first, last, name):
-    """The 128 bytes of an entry whose type is ONE."""
-    units = name.encode("utf-16-le").ljust(72, b"\0")
-    return ONE + unique + struct.pack("<QQQ", first, last, 0) + units
-
-
-def header(own, other, first, last, disk, at, array):
-    """The 92 bytes of a header with both checksums."""
-    def packed(checksum):
-        return struct.pack("<8s4sII4sQQQQ16sQIII", b"EFI PART", b"\0\0\1\0", 92, checksum, bytes(4), own,
-                           other, first, last, disk, at, 128, 128, zlib.crc32(array))
-    return packed(zlib.crc32(packed(0)))
-
-
-def put(image, at, data):
-    """The image with these bytes over others."""
-    return image[:at] + data + image[at + len(data):]
-
-
-def lay(image, entries, sector=512, disk=DISK):
-    """The image with both copies of a table of 128 entries, of which these are used."""
-    array = b"".join(entries.get(number, bytes(128)) for number in range(1, 129))
-    end, taken = len(image) // sector - 1, -(-len(array) // sector)
-    first, last = 2 + taken, end - taken - 1
-    for own, other, at in (1, end, 2), (end, 1, last + 1):
-        image = put(image, own * sector, header(own, other, first, last, disk, at, array))
-        image = put(image, at * sector, array)
-    return image
+from writer import ONE, THREE, TWO, entry, lay, put
 
 
 def mbr(image, flag):

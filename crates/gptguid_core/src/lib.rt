@@ -71,6 +71,3 @@ pub fn run<S: ByteSource, W: Write>(words: &[String], source: &mut S, out: &mut 
         word => lines::print_word(out, word),
     }
 }
-
-#[cfg(test)]
-mod tests;

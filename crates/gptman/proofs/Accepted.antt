@@ -16,7 +16,7 @@ use Rattle.gptman.specs.Reading.{Side}
 use Rattle.gptman.specs.Table.{entries_in, table_of, IsHeaderForm}
 use Rattle.gptman.specs.Valid.{IsValid, IsValidity}
 use Rattle.gptman.specs.Valid.IsValidity.{shared_guid, bad_boundaries, valid}
-use Rattle.gptman_copy.specs.Write.{other_header, array_range, write_ranges, both_ranges, is_addressable, is_inside, has_other_header, write_fault}
+use Rattle.gptman_copy.specs.Write.{other_header, array_range, copy_ranges, four_ranges, is_addressable, is_inside, has_other_header, write_fault}
 use Rattle.gptman_copy.specs.declared.codec.entry.GPTPartitionEntry.{GPTPartitionEntry}
 use Rattle.gptman_copy.specs.declared.codec.header.GPTHeader.{GPTHeader}
 use Rattle.gptman_copy.specs.declared.error.Error.{Error}
@@ -29,7 +29,7 @@ use Rattle.gptman.proofs.WrittenCopy.{array_inside, array_start, header_inside, 
 -- ---- the ranges of a table of the layout pass
 
 ranges_pass : (p : ℕ × ℕ → Bool) (h : GPTHeader) (ss : ℕ) → p (h.primary_lba * ss, 92) ≡ true
-    → (h.number_of_partition_entries ≢ 0 → p (h.partition_entry_lba * ss, 128 * h.number_of_partition_entries) ≡ true) → list_all p (write_ranges h ss) ≡ true
+    → (h.number_of_partition_entries ≢ 0 → p (h.partition_entry_lba * ss, 128 * h.number_of_partition_entries) ≡ true) → list_all p (copy_ranges h ss) ≡ true
 ranges_pass p h ss header array =
     let at : Bool → Bool = λ b. list_all p (if b then [] else ((h.partition_entry_lba * ss, 128 * h.number_of_partition_entries) ∷ [])) in
     and_from (p (h.primary_lba * ss, 92)) (list_all p (array_range h ss)) header
@@ -40,7 +40,7 @@ ranges_pass p h ss header array =
 
 -- whatever ranges within the disk pass, those of a copy of the layout do
 copy_passes : (p : ℕ × ℕ → Bool) (side : Side) (h : GPTHeader) (es : List GPTPartitionEntry) (ss len : ℕ) → ((at n : ℕ) → at + n ≤ len → p (at, n) ≡ true)
-    → IsHeaderForm side h → IsLaidOut (table_of h es) ss len → list_all p (write_ranges h ss) ≡ true
+    → IsHeaderForm side h → IsLaidOut (table_of h es) ss len → list_all p (copy_ranges h ss) ≡ true
 copy_passes p side h es ss len within form laid =
     let n : ℕ = h.number_of_partition_entries in
     let start : h.partition_entry_lba * ss ≡ array_start side (table_of h es) ss = written_array side h es ss form in
@@ -52,10 +52,10 @@ copy_passes p side h es ss len within form laid =
     ])
 
 both_pass : (p : ℕ × ℕ → Bool) (side : Side) (h : GPTHeader) (es : List GPTPartitionEntry) (ss len : ℕ) → ((at n : ℕ) → at + n ≤ len → p (at, n) ≡ true)
-    → IsHeaderForm side h → IsLaidOut (table_of h es) ss len → list_all p (both_ranges h ss) ≡ true
+    → IsHeaderForm side h → IsLaidOut (table_of h es) ss len → list_all p (four_ranges h ss) ≡ true
 both_pass p side h es ss len within form laid =
-    list_all-append p (write_ranges h ss) (write_ranges (other_header h) ss)
-    ∙ and_from (list_all p (write_ranges h ss)) (list_all p (write_ranges (other_header h) ss))
+    list_all-append p (copy_ranges h ss) (copy_ranges (other_header h) ss)
+    ∙ and_from (list_all p (copy_ranges h ss)) (list_all p (copy_ranges (other_header h) ss))
     (copy_passes p side h es ss len within form laid)
     (copy_passes p (other_side side) (other_header h) es ss len within (other_form side h form) (other_laid side h es ss len form laid))
 
@@ -69,8 +69,8 @@ layout_fits g len small layout =
     let h = g.header in
     let es = entries_in g in
     let ss = g.sector_size in
-    none_from_tests ((has_other_header h && list_all is_addressable (both_ranges h ss), overflow) ∷ (list_all (is_inside len) (both_ranges h ss), no_space_left) ∷ []) (
-      and_from (has_other_header h) (list_all is_addressable (both_ranges h ss))
+    none_from_tests ((has_other_header h && list_all is_addressable (four_ranges h ss), overflow) ∷ (list_all (is_inside len) (four_ranges h ss), no_space_left) ∷ []) (
+      and_from (has_other_header h) (list_all is_addressable (four_ranges h ss))
           (or_second (not (nat_eq h.partition_entry_lba 2)) (ltb (h.last_usable_lba + 1) (2 ^ 64)) (lt-ltb (h.last_usable_lba + 1) (2 ^ 64) layout.table.fits))
           (both_pass is_addressable layout.side h es ss len (λ at n inside. lt-ltb (at + n) (2 ^ 64) (omega (arith, inside, small))) layout.form layout.table),
       (both_pass (is_inside len) layout.side h es ss len (λ at n inside. le-leb (at + n) len inside) layout.form layout.table, tt),

@@ -9,7 +9,7 @@ use Rattle.gptman.specs.Commit.SideAfterEdits.{as_it_was, holds_last, holds_next
 use Rattle.gptman.specs.Crash.{AreReadAlone, BothSidesAfter, IsLeftAlone, IsReadAlone, SideAfter, StartsSynced}
 use Rattle.gptman.specs.Crash.SideAfter.{left_alone, written, torn}
 use Rattle.gptman.specs.Edit.{after_edit, table_after}
-use Rattle.gptman.specs.Layout.{HasLayout, Holds, ranges_at}
+use Rattle.gptman.specs.Layout.{HasLayout, Holds, copy_ranges_at}
 use Rattle.gptman.specs.Reading.{Side, primary, backup, copy_start}
 use Rattle.gptman.specs.Stop.{IsStored}
 use Rattle.gptman.specs.Table.{table_in}
@@ -46,26 +46,26 @@ module _ (g : GPT) (made : List Edit) (now : GPT) (a b c : DiskState) (are : Are
   keeps = keeps_both g now (after_edit now edit) are.sides (edited_keeps now edit)
 
   -- the ranges of the next table are those of the first one
-  same_as_first : (side : Side) → ranges_at side (table_in (after_edit now edit)) (after_edit now edit).sector_size b.size ≡ ranges_at side (table_in g) g.sector_size a.size
+  same_as_first : (side : Side) → copy_ranges_at side (table_in (after_edit now edit)) (after_edit now edit).sector_size b.size ≡ copy_ranges_at side (table_in g) g.sector_size a.size
   same_as_first side =
-      (λ i. ranges_at side (table_in (after_edit now edit)) (keeps.sector i) (are.keeps.size i))
+      (λ i. copy_ranges_at side (table_in (after_edit now edit)) (keeps.sector i) (are.keeps.size i))
       ∙ sym (same_ranges side (table_in g) (table_in (after_edit now edit)) g.sector_size a.size (same_ranges_too g (after_edit now edit) keeps))
 
   -- and of the last one
   same_as_last : (side : Side) (len : ℕ) → len ≡ b.size
-      → ranges_at side (table_in (after_edit now edit)) (after_edit now edit).sector_size b.size ≡ ranges_at side (table_in now) g.sector_size len
+      → copy_ranges_at side (table_in (after_edit now edit)) (after_edit now edit).sector_size b.size ≡ copy_ranges_at side (table_in now) g.sector_size len
   same_as_last side len long =
-      (λ i. ranges_at side (table_in (after_edit now edit)) (keeps.sector i) (sym long i))
+      (λ i. copy_ranges_at side (table_in (after_edit now edit)) (keeps.sector i) (sym long i))
       ∙ sym (same_ranges side (table_in now) (table_in (after_edit now edit)) g.sector_size len (same_ranges_too now (after_edit now edit) (edited_keeps now edit)))
 
   -- a side that was left alone still holds the last table
   still_holds : (side : Side) → IsSound b → IsStored b g.sector_size (table_in now)
-      → IsLeftAlone (ranges_at side (table_in (after_edit now edit)) (after_edit now edit).sector_size b.size) b c
+      → IsLeftAlone (copy_ranges_at side (table_in (after_edit now edit)) (after_edit now edit).sector_size b.size) b c
       → HoldsInAnyImage c g.sector_size side (table_in (table_after g edits done))
   still_holds side sound stored alone x image =
-      let here : IsLeftAlone (ranges_at side (table_in now) g.sector_size (length b.view)) b c =
+      let here : IsLeftAlone (copy_ranges_at side (table_in now) g.sector_size (length b.view)) b c =
       subst (λ (rs : Ranges). IsLeftAlone rs b c) (same_as_last side (length b.view) sound.size) alone in
-      let agrees : AgreesInside (ranges_at side (table_in now) g.sector_size (length b.view)) b.view x = record {
+      let agrees : AgreesInside (copy_ranges_at side (table_in now) g.sector_size (length b.view)) b.view x = record {
         long = image.long ∙ here.same.long;
         same = λ k inside. image.same k (here.not_pending k inside) ∙ here.same.same k inside;
       } in
@@ -85,7 +85,7 @@ module _ (g : GPT) (made : List Edit) (now : GPT) (a b c : DiskState) (are : Are
         let here = subst (λ (rs : Ranges). IsLeftAlone rs b c) (same_as_first side) alone in
         as_it_was zero (record {
           not_pending = here.not_pending;
-          same = subst (λ (v : List ℕ). AgreesInside (ranges_at side (table_in g) g.sector_size a.size) v c.view) read.view here.same;
+          same = subst (λ (v : List ℕ). AgreesInside (copy_ranges_at side (table_in g) g.sector_size a.size) v c.view) read.view here.same;
         })
   ]
   side_after side from sound (written holds) = holds_next (λ x image.

@@ -21,7 +21,7 @@ use Rattle.gptman_copy.specs.Copy.{with_checksums, IsCoherent}
 use Rattle.gptman.specs.Valid.{HasGoodBoundaries, IsValid, IsValidity}
 use Rattle.gptman.specs.Valid.IsValidity.{shared_guid, bad_boundaries, valid}
 use Rattle.gptman_copy.specs.Ranges.{AreApart}
-use Rattle.gptman_copy.specs.Write.{both_ranges, other_header, write_fault}
+use Rattle.gptman_copy.specs.Write.{four_ranges, other_header, write_fault}
 use Rattle.gptman_copy.specs.declared.codec.header.GPTHeader.{GPTHeader}
 use Rattle.gptman.specs.declared.edit.Edit.{Edit}
 use Rattle.gptman.specs.declared.edit.Edit.TheVariants.{Put, Remove, SortEntries, DiskGuid}
@@ -207,7 +207,7 @@ pub record AreMade (g : GPT) (made : List Edit) (now : GPT) (a b : DiskState) : 
   pub accepted : (k : ℕ) → k < length made → IsAllowedAt g made k
   pub fits : 0 < length made → write_fault g.header g.sector_size a.size ≡ None
   pub keeps : Keeps a b
-  pub wrote : a.is_honest ≡ true → Wrote (both_ranges g.header g.sector_size) a b
+  pub wrote : a.is_honest ≡ true → Wrote (four_ranges g.header g.sector_size) a b
   pub untouched : a.is_honest ≡ true → length made ≡ 0 → OnlyRead a b
   pub stands : a.is_honest ≡ true → HasLayout g a.size → ((length made ≡ 0) × OnlyRead a b) ⊎ IsStored b g.sector_size (table_in now)
   pub laid : a.is_honest ≡ true → 0 < length made → IsLaidAfter b g made (length made)
@@ -221,7 +221,7 @@ pub record IsMade (g : GPT) (edit : Edit) (new : GPT) (a b : DiskState) : Type 0
   pub fits : write_fault g.header g.sector_size a.size ≡ None
   pub value : new ≡ value_with_checksums (after_edit g edit)
   pub keeps : Keeps a b
-  pub wrote : a.is_honest ≡ true → Wrote (both_ranges g.header g.sector_size) a b
+  pub wrote : a.is_honest ≡ true → Wrote (four_ranges g.header g.sector_size) a b
   pub synced : a.is_honest ≡ true → b.pending ≡ []
   pub laid : a.is_honest ≡ true → AreApart (table_ranges g) → HasBothCopies b.view new (other_with_checksums (after_edit g edit))
   pub stored : a.is_honest ≡ true → HasLayout g a.size → IsStored b g.sector_size (table_in (after_edit g edit))
@@ -264,7 +264,7 @@ module _ (g : GPT) (made : List Edit) (now : GPT) (a b : DiskState) (are : AreMa
 
   -- what a stop leaves of the edits so far and of the next write
   pub leaves_next : (edit : Edit) (c : DiskState) → a.is_honest ≡ true → HasLayout g a.size → IsKeptFor a g (table_in g)
-      → Wrote (both_ranges now.header now.sector_size) b c
+      → Wrote (four_ranges now.header now.sector_size) b c
       → (HasLayout now b.size → IsKeptFor b now (table_in now) → LeavesOnly b c (λ x. HoldsOneOf x now.sector_size (table_in now ∷ table_in (after_edit now edit) ∷ [])))
       → LeavesOnly a c (HoldsSome g (made ++ edit ∷ []))
   leaves_next edit c honest layout kept wrote good =
@@ -272,10 +272,10 @@ module _ (g : GPT) (made : List Edit) (now : GPT) (a b : DiskState) (are : AreMa
       (λ x left. some_more g made (edit ∷ []) x (are.leaves honest layout kept x left))
       (λ x left. next_some edit x (good (now_layout layout) (are.kept honest layout kept) x left))
 
-  pub wrote_next : (c : DiskState) → a.is_honest ≡ true → (b.is_honest ≡ true → Wrote (both_ranges now.header now.sector_size) b c) → Wrote (both_ranges g.header g.sector_size) a c
+  pub wrote_next : (c : DiskState) → a.is_honest ≡ true → (b.is_honest ≡ true → Wrote (four_ranges now.header now.sector_size) b c) → Wrote (four_ranges g.header g.sector_size) a c
   wrote_next c honest wrote =
       let so_far = are.wrote honest in
-      wrote_then (within_self (both_ranges g.header g.sector_size)) so_far
+      wrote_then (within_self (four_ranges g.header g.sector_size)) so_far
       (subst (λ (rs : Ranges). Wrote rs b c) (ranges_still g now are.sides) (wrote so_far.honest))
 
   -- what is wanted of the sides stays
@@ -377,7 +377,7 @@ made_none g a coherent sound = record {
   accepted = λ k below. absurd (omega (arith, below));
   fits = λ some. absurd (omega (arith, some));
   keeps = record { size = refl; honest = refl; failures = omega arith };
-  wrote = λ honest. wrote_not (both_ranges g.header g.sector_size) a honest (sound honest);
+  wrote = λ honest. wrote_not (four_ranges g.header g.sector_size) a honest (sound honest);
   untouched = λ honest none. still honest;
   stands = λ honest layout. inl (refl, still honest);
   laid = λ honest some. absurd (omega (arith, some));
@@ -503,7 +503,7 @@ module _ (g : GPT) (made : List Edit) (now : GPT) (a b c : DiskState) (are : Are
       → LeavesOnly a c (λ x. HoldsOneOf x g.sector_size (tables_to g edits (if is_io fault then done + 1 else done)))
   failed_leaves fault honest layout kept sound untouched next = by_fault (is_io fault) refl
     where
-      wrote : Wrote (both_ranges g.header g.sector_size) a b
+      wrote : Wrote (four_ranges g.header g.sector_size) a b
       wrote = are.wrote honest
 
       by_fault : (t : Bool) → is_io fault ≡ t → LeavesOnly a c (λ x. HoldsOneOf x g.sector_size (tables_to g edits (if t then done + 1 else done)))

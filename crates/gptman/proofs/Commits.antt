@@ -12,7 +12,7 @@ use Rattle.gptman_copy.specs.Disk.{DiskState, IsSound, Keeps, LeavesOnly}
 use Rattle.gptman.specs.Edit.{after_edit, edit_fault, edited_all}
 use Rattle.gptman_copy.specs.Fault.{Fault, io, invalid_partition_number}
 use Rattle.gptman_copy.specs.Ranges.{AreClear}
-use Rattle.gptman.specs.Layout.{HasLayout, Holds, IsLaidOut, ranges_at}
+use Rattle.gptman.specs.Layout.{HasLayout, Holds, IsLaidOut, copy_ranges_at}
 use Rattle.gptman.specs.Number.{has_number}
 use Rattle.gptman.specs.Order.{by_rank, put_in, rank}
 use Rattle.gptman.specs.Reading.{Side, primary, backup}
@@ -21,7 +21,7 @@ use Rattle.gptman.specs.Table.{Table, table_of, entries_in, table_in, IsHeaderFo
 use Rattle.gptman_copy.specs.Copy.{IsCoherent}
 use Rattle.gptman.specs.Valid.{IsValidity}
 use Rattle.gptman.specs.Valid.IsValidity.{shared_guid, bad_boundaries, valid}
-use Rattle.gptman_copy.specs.Write.{both_ranges, write_fault}
+use Rattle.gptman_copy.specs.Write.{four_ranges, write_fault}
 use Rattle.gptman_copy.specs.declared.codec.entry.GPTPartitionEntry.{GPTPartitionEntry}
 use Rattle.gptman_copy.specs.declared.codec.header.GPTHeader.{GPTHeader}
 use Rattle.gptman.specs.declared.edit.Edit.{Edit}
@@ -143,22 +143,22 @@ module _ (g new : GPT) (keeps : KeepsRanges g new) where
   kept_still disk was kept =
       let side : Side = kept.side in
       let ss : ℕ = g.sector_size in
-      let clear : AreClear (ranges_at side was ss disk.size) (ranges_at (other_side side) (table_in new) ss disk.size) =
-      subst (λ (rs : List (ℕ × ℕ)). AreClear (ranges_at side was ss disk.size) rs) (same_ranges (other_side side) (table_in g) (table_in new) ss disk.size same_ranges_too) kept.clear in
+      let clear : AreClear (copy_ranges_at side was ss disk.size) (copy_ranges_at (other_side side) (table_in new) ss disk.size) =
+      subst (λ (rs : List (ℕ × ℕ)). AreClear (copy_ranges_at side was ss disk.size) rs) (same_ranges (other_side side) (table_in g) (table_in new) ss disk.size same_ranges_too) kept.clear in
       record {
         synced = kept.synced;
         side = side;
         form = form_still side kept.form;
         held = subst (λ (n : ℕ). Holds disk.view n side was) (sym keeps.sector) kept.held;
-        clear = subst (λ (n : ℕ). AreClear (ranges_at side was n disk.size) (ranges_at (other_side side) (table_in new) n disk.size)) (sym keeps.sector) clear;
+        clear = subst (λ (n : ℕ). AreClear (copy_ranges_at side was n disk.size) (copy_ranges_at (other_side side) (table_in new) n disk.size)) (sym keeps.sector) clear;
       }
 
   -- and what a write is refused with for want of room
   pub room_still : (len : ℕ) → write_fault new.header new.sector_size len ≡ write_fault g.header g.sector_size len
   room_still len = (λ i. write_fault (keeps.header i) (keeps.sector i) len)
 
-  pub ranges_still : both_ranges new.header new.sector_size ≡ both_ranges g.header g.sector_size
-  ranges_still = (λ i. both_ranges (keeps.header i) (keeps.sector i))
+  pub ranges_still : four_ranges new.header new.sector_size ≡ four_ranges g.header g.sector_size
+  ranges_still = (λ i. four_ranges (keeps.header i) (keeps.sector i))
 
 -- ---- one edit
 

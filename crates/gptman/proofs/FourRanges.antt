@@ -3,14 +3,14 @@ use Rattle.std.proofs.Common.{◌≡◌, ℕ, ◌+◌, ◌-◌, ◌*◌, ◌/◌
 use Rattle.gptman.specs.Crash.{HasRangesOf, other_side}
 use Rattle.gptman_copy.specs.Disk.{Within}
 use Rattle.gptman_copy.specs.Ranges.{AreApart, AreClear}
-use Rattle.gptman.specs.Layout.{IsLaidOut, ranges_at}
+use Rattle.gptman.specs.Layout.{IsLaidOut, copy_ranges_at}
 use Rattle.gptman.specs.Reading.{Side, primary, backup}
 use Rattle.gptman.specs.Table.{Table, table_of, IsHeaderForm}
-use Rattle.gptman_copy.specs.Write.{other_header, both_ranges}
+use Rattle.gptman_copy.specs.Write.{other_header, four_ranges}
 use Rattle.gptman_copy.specs.declared.codec.entry.GPTPartitionEntry.{GPTPartitionEntry}
 use Rattle.gptman_copy.specs.declared.codec.header.GPTHeader.{GPTHeader}
 use Rattle.gptman.proofs.Apart.{apart_exchanged, clear_if_apart}
-use Rattle.gptman.proofs.LaidCopies.{copy_ranges, within_copy}
+use Rattle.gptman.proofs.LaidCopies.{full_ranges, within_copy}
 use Rattle.gptman.proofs.OtherHeader.{other_table, other_form}
 use Rattle.gptman_copy.proofs.Ranges.{Ranges, within_then, within_both, within_left, within_right}
 use Rattle.gptman.proofs.WrittenCopy.{written_start, written_array}
@@ -19,7 +19,7 @@ use Rattle.gptman.proofs.WrittenCopy.{written_start, written_array}
 
 module _ (side : Side) (h : GPTHeader) (es : List GPTPartitionEntry) (ss len : ℕ) (form : IsHeaderForm side h) (laid : IsLaidOut (table_of h es) ss len) where
   -- its ranges are those of its table at the side
-  pub form_ranges : ranges_at side (table_of h es) ss len ≡ copy_ranges h ss
+  pub form_ranges : copy_ranges_at side (table_of h es) ss len ≡ full_ranges h ss
   form_ranges =
       let start = written_start side h es ss len form laid in
       let array = written_array side h es ss form in
@@ -30,42 +30,42 @@ module _ (side : Side) (h : GPTHeader) (es : List GPTPartitionEntry) (ss len : �
 
 -- and those of the other header are the table's at the other side
 pub other_ranges : (side : Side) (h : GPTHeader) (es : List GPTPartitionEntry) (ss len : ℕ) → IsHeaderForm side h → IsLaidOut (table_of h es) ss len
-    → ranges_at (other_side side) (table_of h es) ss len ≡ copy_ranges (other_header h) ss
+    → copy_ranges_at (other_side side) (table_of h es) ss len ≡ full_ranges (other_header h) ss
 other_ranges side h es ss len form laid =
-    ap (λ (t : Table). ranges_at (other_side side) t ss len) (sym (other_table h es))
+    ap (λ (t : Table). copy_ranges_at (other_side side) t ss len) (sym (other_table h es))
     ∙ form_ranges (other_side side) (other_header h) es ss len (other_form side h form) (other_laid side h es ss len form laid)
 
 -- a table's ranges at a side and at the other one are apart
-pub sides_apart : (side : Side) (t : Table) (ss len : ℕ) → IsLaidOut t ss len → AreApart (ranges_at side t ss len ++ ranges_at (other_side side) t ss len)
+pub sides_apart : (side : Side) (t : Table) (ss len : ℕ) → IsLaidOut t ss len → AreApart (copy_ranges_at side t ss len ++ copy_ranges_at (other_side side) t ss len)
 sides_apart primary t ss len laid = laid.apart
-sides_apart backup t ss len laid = apart_exchanged (ranges_at primary t ss len) (ranges_at backup t ss len) laid.apart
+sides_apart backup t ss len laid = apart_exchanged (copy_ranges_at primary t ss len) (copy_ranges_at backup t ss len) laid.apart
 
 -- all four ranges of a table
-abbrev pub four_ranges : Table → ℕ → ℕ → Ranges
-four_ranges t ss len = ranges_at primary t ss len ++ ranges_at backup t ss len
+abbrev pub four_ranges_at : Table → ℕ → ℕ → Ranges
+four_ranges_at t ss len = copy_ranges_at primary t ss len ++ copy_ranges_at backup t ss len
 
 -- The ranges of both sides are the four ranges.
-pub in_four : (side : Side) (t : Table) (ss len : ℕ) → Within (ranges_at side t ss len ++ ranges_at (other_side side) t ss len) (four_ranges t ss len)
+pub in_four : (side : Side) (t : Table) (ss len : ℕ) → Within (copy_ranges_at side t ss len ++ copy_ranges_at (other_side side) t ss len) (four_ranges_at t ss len)
 in_four primary t ss len = record { covers = λ k o. o }
-in_four backup t ss len = within_both (within_right (ranges_at primary t ss len) (ranges_at backup t ss len)) (within_left (ranges_at primary t ss len) (ranges_at backup t ss len))
+in_four backup t ss len = within_both (within_right (copy_ranges_at primary t ss len) (copy_ranges_at backup t ss len)) (within_left (copy_ranges_at primary t ss len) (copy_ranges_at backup t ss len))
 
 -- What a write of a table of the layout writes lies in them.
 pub within_four : (side : Side) (h : GPTHeader) (es : List GPTPartitionEntry) (ss len : ℕ) → IsHeaderForm side h → IsLaidOut (table_of h es) ss len
-    → Within (both_ranges h ss) (four_ranges (table_of h es) ss len)
+    → Within (four_ranges h ss) (four_ranges_at (table_of h es) ss len)
 within_four side h es ss len form laid =
     let own = form_ranges side h es ss len form laid in
     let other = other_ranges side h es ss len form laid in
-    let both : Within (both_ranges h ss) (copy_ranges h ss ++ copy_ranges (other_header h) ss) =
-    within_both (within_then (within_copy h ss) (within_left (copy_ranges h ss) (copy_ranges (other_header h) ss)))
-    (within_then (within_copy (other_header h) ss) (within_right (copy_ranges h ss) (copy_ranges (other_header h) ss))) in
-    within_then both (subst (λ (rs : Ranges). Within rs (four_ranges (table_of h es) ss len)) (λ i. own i ++ other i) (in_four side (table_of h es) ss len))
+    let both : Within (four_ranges h ss) (full_ranges h ss ++ full_ranges (other_header h) ss) =
+    within_both (within_then (within_copy h ss) (within_left (full_ranges h ss) (full_ranges (other_header h) ss)))
+    (within_then (within_copy (other_header h) ss) (within_right (full_ranges h ss) (full_ranges (other_header h) ss))) in
+    within_then both (subst (λ (rs : Ranges). Within rs (four_ranges_at (table_of h es) ss len)) (λ i. own i ++ other i) (in_four side (table_of h es) ss len))
 
 -- no byte of the other side's is one of the side's
-pub sides_clear : (side : Side) (t : Table) (ss len : ℕ) → IsLaidOut t ss len → AreClear (ranges_at (other_side side) t ss len) (ranges_at side t ss len)
-sides_clear primary t ss len laid = clear_if_apart (ranges_at backup t ss len) (ranges_at primary t ss len) (sides_apart backup t ss len laid)
-sides_clear backup t ss len laid = clear_if_apart (ranges_at primary t ss len) (ranges_at backup t ss len) (sides_apart primary t ss len laid)
+pub sides_clear : (side : Side) (t : Table) (ss len : ℕ) → IsLaidOut t ss len → AreClear (copy_ranges_at (other_side side) t ss len) (copy_ranges_at side t ss len)
+sides_clear primary t ss len laid = clear_if_apart (copy_ranges_at backup t ss len) (copy_ranges_at primary t ss len) (sides_apart backup t ss len laid)
+sides_clear backup t ss len laid = clear_if_apart (copy_ranges_at primary t ss len) (copy_ranges_at backup t ss len) (sides_apart primary t ss len laid)
 
 -- Tables of one count and one last usable sector have the same ranges.
-pub same_ranges : (side : Side) (old new : Table) (ss len : ℕ) → HasRangesOf old new → ranges_at side old ss len ≡ ranges_at side new ss len
+pub same_ranges : (side : Side) (old new : Table) (ss len : ℕ) → HasRangesOf old new → copy_ranges_at side old ss len ≡ copy_ranges_at side new ss len
 same_ranges primary old new ss len same = ap (λ (n : ℕ). (ss, 92) ∷ (2 * ss, 128 * n) ∷ []) (sym same.count)
 same_ranges backup old new ss len same = λ i. ((len / ss - 1) * ss, 92) ∷ ((sym same.last i + 1) * ss, 128 * sym same.count i) ∷ []

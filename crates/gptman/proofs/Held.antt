@@ -5,7 +5,7 @@ use Rattle.gptman_copy.specs.Bytes.{part}
 use Rattle.gptman_copy.specs.Coding.{header_of}
 use Rattle.gptman_copy.specs.Copy.{Copy, copy_at, entries_of}
 use Rattle.gptman_copy.specs.Fault.{Fault, first_failing, invalid_signature}
-use Rattle.gptman.specs.Layout.{Holds, ranges_at}
+use Rattle.gptman.specs.Layout.{Holds, copy_ranges_at}
 use Rattle.gptman_copy.specs.Ranges.{AgreesInside}
 use Rattle.gptman.specs.Reading.{Side, primary, backup, copy_start, copy_in}
 use Rattle.gptman.specs.Table.{Table, IsForm}
@@ -50,7 +50,7 @@ accepted_header b p ss copy ok = ap (λ (c : Copy). c.header) (accepted_is b p s
 -- ---- what two lists agree in
 
 at_side : (side : Side) (b c : List ℕ) (ss : ℕ) (t : Table) (copy : Copy) → copy_at b (copy_start side (length b) ss) ss ≡ Ok copy → IsForm side t copy
-    → AgreesInside (ranges_at side t ss (length b)) b c → copy_at c (copy_start side (length b) ss) ss ≡ Ok copy
+    → AgreesInside (copy_ranges_at side t ss (length b)) b c → copy_at c (copy_start side (length b) ss) ss ≡ Ok copy
 at_side side b c ss t copy ok form agrees =
     let p : ℕ = copy_start side (length b) ss in
     let h : GPTHeader = header_of (part b p 92) in
@@ -65,7 +65,7 @@ at_side side b c ss t copy ok form agrees =
     copy_at-local b c p ss agrees.long header (ap (λ (x : List ℕ). part c (entries_start (header_of x) ss) (entries_length (header_of x))) header ∙ entries) ∙ ok
 
 -- What agrees with a list in the two ranges that a table has at a side holds it there too.
-pub holds_local : (b c : List ℕ) (ss : ℕ) (side : Side) (t : Table) → Holds b ss side t → AgreesInside (ranges_at side t ss (length b)) b c → Holds c ss side t
+pub holds_local : (b c : List ℕ) (ss : ℕ) (side : Side) (t : Table) → Holds b ss side t → AgreesInside (copy_ranges_at side t ss (length b)) b c → Holds c ss side t
 unfolding copy_in
 holds_local b c ss primary t holds agrees = record {
   copy = holds.copy;

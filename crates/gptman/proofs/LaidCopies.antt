@@ -8,7 +8,7 @@ use Rattle.gptman_copy.specs.Bytes.{part}
 use Rattle.gptman_copy.specs.Coding.{FitsHeader, FitsEntry, header_bytes, array_bytes}
 use Rattle.gptman_copy.specs.Disk.{AgreesOutside, Within}
 use Rattle.gptman_copy.specs.Ranges.{AreApart, AreInside}
-use Rattle.gptman_copy.specs.Write.{array_range, write_ranges, is_inside, IsCopyLaid, HasBytes}
+use Rattle.gptman_copy.specs.Write.{array_range, copy_ranges, is_inside, IsCopyLaid, HasBytes}
 use Rattle.gptman_copy.specs.declared.codec.header.GPTHeader.{GPTHeader}
 use Rattle.gptman_copy.specs.declared.codec.entry.GPTPartitionEntry.{GPTPartitionEntry}
 use Rattle.gptman_copy.proofs.ArrayBytes.{array_long}
@@ -20,17 +20,17 @@ use Rattle.gptman.proofs.Argument.{IsToldBy, stays}
 use Rattle.gptman.proofs.Pieces.{ranges_of, AllStand, laid_agrees, laid_stand}
 
 -- the two ranges of a copy, its header and its entries, also where there are no entries
-abbrev pub copy_ranges : GPTHeader → ℕ → Ranges
-copy_ranges h ss = (h.primary_lba * ss, 92) ∷ (h.partition_entry_lba * ss, 128 * h.number_of_partition_entries) ∷ []
+abbrev pub full_ranges : GPTHeader → ℕ → Ranges
+full_ranges h ss = (h.primary_lba * ss, 92) ∷ (h.partition_entry_lba * ss, 128 * h.number_of_partition_entries) ∷ []
 
 -- A copy that was laid stands there, where its two ranges are apart and on the disk. The list is as long as it was.
-pub laid_stands : (old new : List ℕ) (h : GPTHeader) (es : List GPTPartitionEntry) (ss : ℕ) → AreApart (copy_ranges h ss) → AreInside (copy_ranges h ss) (length old)
+pub laid_stands : (old new : List ℕ) (h : GPTHeader) (es : List GPTPartitionEntry) (ss : ℕ) → AreApart (full_ranges h ss) → AreInside (full_ranges h ss) (length old)
     → FitsHeader h → All FitsEntry es → length es ≡ h.number_of_partition_entries → IsCopyLaid h es ss old new → HasBytes new h es ss × (length new ≡ length old)
 laid_stands old new h es ss apart inside fits_h fits count laid =
     let pieces : List (ℕ × List ℕ) = (h.primary_lba * ss, header_bytes h) ∷ (h.partition_entry_lba * ss, array_bytes es) ∷ [] in
     let long_h = header_long h fits_h in
     let array : length (array_bytes es) ≡ 128 * h.number_of_partition_entries = omega (arith, array_long es fits, count) in
-    let ranges : ranges_of pieces ≡ copy_ranges h ss = λ i. (h.primary_lba * ss, long_h i) ∷ (h.partition_entry_lba * ss, array i) ∷ [] in
+    let ranges : ranges_of pieces ≡ full_ranges h ss = λ i. (h.primary_lba * ss, long_h i) ∷ (h.partition_entry_lba * ss, array i) ∷ [] in
     let room : AreInside (ranges_of pieces) (length old) = subst (λ (rs : Ranges). AreInside rs (length old)) (sym ranges) inside in
     let stand = subst (AllStand pieces) (sym laid) (laid_stand old pieces (subst AreApart (sym ranges) apart) room) in (
       record { header = ap (λ (n : ℕ). part new (h.primary_lba * ss) n) (sym long_h) ∙ stand.0; entries = stand.1.0 },
@@ -39,7 +39,7 @@ laid_stands old new h es ss apart inside fits_h fits count laid =
 
 -- It is told by the bytes in its ranges.
 pub bytes_told : (h : GPTHeader) (es : List GPTPartitionEntry) (ss : ℕ) → All FitsEntry es → length es ≡ h.number_of_partition_entries
-    → IsToldBy (λ b. HasBytes b h es ss) (copy_ranges h ss)
+    → IsToldBy (λ b. HasBytes b h es ss) (full_ranges h ss)
 bytes_told h es ss fits count b c has agrees =
     let array : length (array_bytes es) ≡ 128 * h.number_of_partition_entries = omega (arith, array_long es fits, count) in
     record {
@@ -73,7 +73,7 @@ with_empty a c p q n apart =
     ]
 
 -- the ranges of a copy that lie on a disk
-pub copy_inside : (h : GPTHeader) (ss len : ℕ) → list_all (is_inside len) (write_ranges h ss) ≡ true → AreInside (copy_ranges h ss) len
+pub copy_inside : (h : GPTHeader) (ss len : ℕ) → list_all (is_inside len) (copy_ranges h ss) ≡ true → AreInside (full_ranges h ss) len
 copy_inside h ss len inside =
     let n : ℕ = h.number_of_partition_entries in
     let start : ℕ = h.partition_entry_lba * ss in
@@ -87,35 +87,35 @@ copy_inside h ss len inside =
     (inr (leb-true (h.primary_lba * ss + 92) len parts.0), (entries, tt))
 
 -- two copies that are apart, their empty arrays counted in
-pub copies_apart : (g h : GPTHeader) (ss : ℕ) → h.number_of_partition_entries ≡ g.number_of_partition_entries → AreApart (write_ranges g ss ++ write_ranges h ss)
-    → AreApart (copy_ranges g ss ++ copy_ranges h ss)
+pub copies_apart : (g h : GPTHeader) (ss : ℕ) → h.number_of_partition_entries ≡ g.number_of_partition_entries → AreApart (copy_ranges g ss ++ copy_ranges h ss)
+    → AreApart (full_ranges g ss ++ full_ranges h ss)
 copies_apart g h ss same apart =
-    let P : ℕ → Type 0 = λ n. AreApart (write_ranges g ss ++ ((h.primary_lba * ss, 92) ∷ entries_range n (nat_eq n 0) (h.partition_entry_lba * ss))) in
-    let Q : ℕ → Type 0 = λ n. AreApart (copy_ranges g ss ++ ((h.primary_lba * ss, 92) ∷ (h.partition_entry_lba * ss, 128 * n) ∷ [])) in
+    let P : ℕ → Type 0 = λ n. AreApart (copy_ranges g ss ++ ((h.primary_lba * ss, 92) ∷ entries_range n (nat_eq n 0) (h.partition_entry_lba * ss))) in
+    let Q : ℕ → Type 0 = λ n. AreApart (full_ranges g ss ++ ((h.primary_lba * ss, 92) ∷ (h.partition_entry_lba * ss, 128 * n) ∷ [])) in
     subst Q (sym same) (with_empty (g.primary_lba * ss) (g.partition_entry_lba * ss) (h.primary_lba * ss) (h.partition_entry_lba * ss) g.number_of_partition_entries (subst P same apart))
 
 -- the ranges that are written are among those of the copy
-pub within_copy : (h : GPTHeader) (ss : ℕ) → Within (write_ranges h ss) (copy_ranges h ss)
+pub within_copy : (h : GPTHeader) (ss : ℕ) → Within (copy_ranges h ss) (full_ranges h ss)
 within_copy h ss =
     let start : ℕ = h.partition_entry_lba * ss in
     let n : ℕ = h.number_of_partition_entries in
-    let P : Bool → Type 0 = λ b. Within ((h.primary_lba * ss, 92) ∷ entries_range n b start) (copy_ranges h ss) in
-    elim (eqb_tells n 0) as (λ _. Within (write_ranges h ss) (copy_ranges h ss)) [
+    let P : Bool → Type 0 = λ b. Within ((h.primary_lba * ss, 92) ∷ entries_range n b start) (full_ranges h ss) in
+    elim (eqb_tells n 0) as (λ _. Within (copy_ranges h ss) (full_ranges h ss)) [
       | inl zero ↦ subst P (sym zero.0) (record { covers = λ k o. (o.0, tt) })
-      | inr some ↦ subst P (sym some.0) (within_self (copy_ranges h ss))
+      | inr some ↦ subst P (sym some.0) (within_self (full_ranges h ss))
     ]
 
 -- Two copies that are apart and on the disk stand there once both are laid.
-pub laid_both : (old mid new : List ℕ) (g h : GPTHeader) (es : List GPTPartitionEntry) (ss : ℕ) → AreApart (write_ranges g ss ++ write_ranges h ss)
-    → list_all (is_inside (length old)) (write_ranges g ss) ≡ true → list_all (is_inside (length old)) (write_ranges h ss) ≡ true
+pub laid_both : (old mid new : List ℕ) (g h : GPTHeader) (es : List GPTPartitionEntry) (ss : ℕ) → AreApart (copy_ranges g ss ++ copy_ranges h ss)
+    → list_all (is_inside (length old)) (copy_ranges g ss) ≡ true → list_all (is_inside (length old)) (copy_ranges h ss) ≡ true
     → FitsHeader g → FitsHeader h → All FitsEntry es → length es ≡ g.number_of_partition_entries → length es ≡ h.number_of_partition_entries
-    → IsCopyLaid g es ss old mid → IsCopyLaid h es ss mid new → AgreesOutside (write_ranges h ss) mid new → HasBytes new g es ss × HasBytes new h es ss
+    → IsCopyLaid g es ss old mid → IsCopyLaid h es ss mid new → AgreesOutside (copy_ranges h ss) mid new → HasBytes new g es ss × HasBytes new h es ss
 laid_both old mid new g h es ss apart inside_g inside_h fits_g fits_h fits count_g count_h laid_g laid_h agrees =
     let all = copies_apart g h ss (sym count_h ∙ count_g) apart in
-    let own_g : AreApart (copy_ranges g ss) = ((all.0.0, tt), (tt, tt)) in
+    let own_g : AreApart (full_ranges g ss) = ((all.0.0, tt), (tt, tt)) in
     let first = laid_stands old mid g es ss own_g (copy_inside g ss (length old) inside_g) fits_g fits count_g laid_g in
-    let room : AreInside (copy_ranges h ss) (length mid) = subst (AreInside (copy_ranges h ss)) (sym first.1) (copy_inside h ss (length old) inside_h) in (
-      stays (λ b. HasBytes b g es ss) (copy_ranges g ss) (copy_ranges h ss) mid new (bytes_told g es ss fits count_g)
-          (clear_if_apart (copy_ranges g ss) (copy_ranges h ss) all) first.0 (agrees_wider (within_copy h ss) agrees),
+    let room : AreInside (full_ranges h ss) (length mid) = subst (AreInside (full_ranges h ss)) (sym first.1) (copy_inside h ss (length old) inside_h) in (
+      stays (λ b. HasBytes b g es ss) (full_ranges g ss) (full_ranges h ss) mid new (bytes_told g es ss fits count_g)
+          (clear_if_apart (full_ranges g ss) (full_ranges h ss) all) first.0 (agrees_wider (within_copy h ss) agrees),
       (laid_stands mid new h es ss all.1.1 room fits_h fits count_h laid_h).0,
     )

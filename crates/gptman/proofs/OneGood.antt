@@ -3,23 +3,23 @@ use Rattle.std.proofs.Common.{◌≡◌, List, sym, subst}
 use Rattle.gptman.specs.Crash.{HasRangesOf, IsKeptFor, other_side, StartsFromOne, StartsStored}
 use Rattle.gptman_copy.specs.Disk.{AgreesOutside, DiskState, IsSound, LeavesOnly, Wrote}
 use Rattle.gptman_copy.specs.Ranges.{AreClear}
-use Rattle.gptman.specs.Layout.{HasLayout, Holds, ranges_at}
+use Rattle.gptman.specs.Layout.{HasLayout, Holds, copy_ranges_at}
 use Rattle.gptman.specs.Reading.{Side, primary, backup}
 use Rattle.gptman.specs.Stop.{IsStored}
 use Rattle.gptman.specs.Table.{Table, entries_in, table_in, IsHeaderForm}
-use Rattle.gptman_copy.specs.Write.{both_ranges}
+use Rattle.gptman_copy.specs.Write.{four_ranges}
 use Rattle.gptman.specs.declared.table.GPT.{GPT}
 use Rattle.std.proofs.Common.{ℕ, []}
 use Rattle.gptman.proofs.Apart.{clear_if_apart}
 use Rattle.gptman.proofs.Argument.{leaves_ranges}
-use Rattle.gptman.proofs.FourRanges.{four_ranges, sides_apart, same_ranges, within_four}
+use Rattle.gptman.proofs.FourRanges.{four_ranges_at, sides_apart, same_ranges, within_four}
 use Rattle.gptman_copy.proofs.Ranges.{Ranges, agrees_wider}
 
 -- All bytes outside of the four ranges
-pub leaves_outside : (g : GPT) (a b : DiskState) → a.pending ≡ [] → HasLayout g a.size → Wrote (both_ranges g.header g.sector_size) a b
-    → LeavesOnly a b (AgreesOutside (four_ranges (table_in g) g.sector_size a.size) a.view)
+pub leaves_outside : (g : GPT) (a b : DiskState) → a.pending ≡ [] → HasLayout g a.size → Wrote (four_ranges g.header g.sector_size) a b
+    → LeavesOnly a b (AgreesOutside (four_ranges_at (table_in g) g.sector_size a.size) a.view)
 leaves_outside g a b synced layout run x left =
-    agrees_wider (within_four layout.side g.header (entries_in g) g.sector_size a.size layout.form layout.table) (leaves_ranges (both_ranges g.header g.sector_size) a b run synced x left)
+    agrees_wider (within_four layout.side g.header (entries_in g) g.sector_size a.size layout.form layout.table) (leaves_ranges (four_ranges g.header g.sector_size) a b run synced x left)
 
 -- where no call was made a stop leaves the disk as it was
 pub leaves_still : (a : DiskState) (P : List ℕ → Type 0) → IsSound a → a.pending ≡ [] → ((x : List ℕ) → AgreesOutside [] a.view x → P x) → LeavesOnly a a P
@@ -35,14 +35,14 @@ stored_at backup disk ss t stored = stored.at_backup
 pub held_is_kept : (side : Side) (disk : DiskState) (g : GPT) (old : Table) → disk.pending ≡ [] → IsHeaderForm side g.header → Holds disk.view g.sector_size side old → HasLayout g disk.size
     → HasRangesOf old (table_in g) → IsKeptFor disk g old
 held_is_kept side disk g old synced form held layout same =
-    let other : Ranges = ranges_at (other_side side) (table_in g) g.sector_size disk.size in
+    let other : Ranges = copy_ranges_at (other_side side) (table_in g) g.sector_size disk.size in
     record {
       synced = synced;
       side = side;
       form = form;
       held = held;
       clear = subst (λ (rs : Ranges). AreClear rs other) (sym (same_ranges side old (table_in g) g.sector_size disk.size same))
-          (clear_if_apart (ranges_at side (table_in g) g.sector_size disk.size) other (sides_apart side (table_in g) g.sector_size disk.size layout.table));
+          (clear_if_apart (copy_ranges_at side (table_in g) g.sector_size disk.size) other (sides_apart side (table_in g) g.sector_size disk.size layout.table));
     }
 
 -- Two good copies of a table with the same ranges are one good copy at the value's own side.

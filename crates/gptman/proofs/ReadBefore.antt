@@ -4,7 +4,7 @@ use Rattle.gptman_copy.specs.Disk.{DiskState, IsPending, Reads, Wrote}
 use Rattle.gptman_copy.specs.Ranges.{AgreesInside, AreClear}
 use Rattle.gptman.specs.Crash.{BothSidesAfter, IsLeftAlone, SideAfter, StartsFromOne, StartsLaidOut, StartsSynced, other_side}
 use Rattle.gptman.specs.Crash.SideAfter.{left_alone, written, torn}
-use Rattle.gptman.specs.Layout.{HasLayout, Holds, ranges_at}
+use Rattle.gptman.specs.Layout.{HasLayout, Holds, copy_ranges_at}
 use Rattle.gptman.specs.Reading.{Side, copy_start}
 use Rattle.gptman.specs.Stop.{HoldsOneOf, StopsHold}
 use Rattle.gptman.specs.Table.{Table, table_in}
@@ -35,7 +35,7 @@ module _ (g : GPT) (a b : DiskState) (read : Reads a b) where
           side = kept.side;
           form = kept.form;
           held = subst (λ (v : List ℕ). Holds v g.sector_size kept.side was) (sym only.view) kept.held;
-          clear = subst (λ (n : ℕ). AreClear (ranges_at kept.side was g.sector_size n) (ranges_at (other_side kept.side) (table_in g) g.sector_size n)) (sym read.keeps.size) kept.clear;
+          clear = subst (λ (n : ℕ). AreClear (copy_ranges_at kept.side was g.sector_size n) (copy_ranges_at (other_side kept.side) (table_in g) g.sector_size n)) (sym read.keeps.size) kept.clear;
         };
       }
 
@@ -55,9 +55,9 @@ module _ (g : GPT) (a b : DiskState) (read : Reads a b) where
 
   -- and so is what an error leaves at a side
   side_still : (c : DiskState) (side : Side) (t : Table) (ss : ℕ) → b.view ≡ a.view → SideAfter side t ss b c → SideAfter side t ss a c
-  side_still c side t ss view (left_alone is) = left_alone (subst (λ (n : ℕ). IsLeftAlone (ranges_at side t ss n) a c) read.keeps.size (record {
+  side_still c side t ss view (left_alone is) = left_alone (subst (λ (n : ℕ). IsLeftAlone (copy_ranges_at side t ss n) a c) read.keeps.size (record {
     not_pending = is.not_pending;
-    same = subst (λ (v : List ℕ). AgreesInside (ranges_at side t ss b.size) v c.view) view is.same;
+    same = subst (λ (v : List ℕ). AgreesInside (copy_ranges_at side t ss b.size) v c.view) view is.same;
   }))
   side_still c side t ss view (written holds) = written holds
   side_still c side t ss view (torn is) = torn (subst (λ (n : ℕ). IsPending (copy_start side n ss, 92) c) read.keeps.size is)

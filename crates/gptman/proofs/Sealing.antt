@@ -6,7 +6,7 @@ use Rattle.gptman_copy.specs.Crc.{crc_of}
 use Rattle.gptman_copy.specs.Copy.{header_crc, with_checksums}
 use Rattle.gptman.specs.Reading.{Side, primary, backup}
 use Rattle.gptman.specs.Table.{table_of, IsHeaderForm}
-use Rattle.gptman_copy.specs.Write.{write_ranges}
+use Rattle.gptman_copy.specs.Write.{copy_ranges}
 use Rattle.gptman_copy.specs.declared.codec.header.GPTHeader.{GPTHeader}
 use Rattle.gptman_copy.specs.declared.codec.entry.GPTPartitionEntry.{GPTPartitionEntry}
 use Rattle.gptman_copy.proofs.Assembly.{cells}
@@ -62,7 +62,7 @@ sealed_form primary h es form = form
 sealed_form backup h es form = form
 
 -- and is written to the same ranges
-pub sealed_ranges : (h : GPTHeader) (es : List GPTPartitionEntry) (ss : ℕ) → write_ranges (with_checksums h es) ss ≡ write_ranges h ss
+pub sealed_ranges : (h : GPTHeader) (es : List GPTPartitionEntry) (ss : ℕ) → copy_ranges (with_checksums h es) ss ≡ copy_ranges h ss
 unfolding with_checksums
 sealed_ranges h es ss = refl
 

@@ -7,7 +7,7 @@ use Rattle.gptman_copy.specs.Disk.{AgreesOutside, DiskState, Wrote}
 use Rattle.gptman_copy.specs.Ranges.{AreApart}
 use Rattle.gptman_copy.specs.Fault.{Fault, overflow, no_space_left, first_failing}
 use Rattle.gptman_copy.specs.Copy.{with_checksums}
-use Rattle.gptman_copy.specs.Write.{other_header, write_ranges, both_ranges, copy_write_fault, write_fault, has_other_header, is_addressable, is_inside, HasBytes}
+use Rattle.gptman_copy.specs.Write.{other_header, copy_ranges, four_ranges, copy_write_fault, write_fault, has_other_header, is_addressable, is_inside, HasBytes}
 use Rattle.gptman_copy.specs.declared.codec.header.GPTHeader.{GPTHeader}
 use Rattle.gptman_copy.specs.declared.codec.entry.GPTPartitionEntry.{GPTPartitionEntry}
 use Rattle.gptman.proofs.Apart.{apart_exchanged}
@@ -19,12 +19,12 @@ use Rattle.gptman_copy.proofs.Ranges.{Ranges, within_left, within_right}
 use Rattle.gptman_copy.proofs.Runs.{wrote_then, wrote_wider}
 
 -- the other copy is written, and then the own one
-pub wrote_other : {a b : DiskState} (h other : GPTHeader) (ss : ℕ) → other ≡ other_header h → Wrote (write_ranges other ss) a b → Wrote (both_ranges h ss) a b
+pub wrote_other : {a b : DiskState} (h other : GPTHeader) (ss : ℕ) → other ≡ other_header h → Wrote (copy_ranges other ss) a b → Wrote (four_ranges h ss) a b
 wrote_other {a} {b} h other ss is wrote =
-    wrote_wider (within_right (write_ranges h ss) (write_ranges (other_header h) ss)) (subst (λ (x : GPTHeader). Wrote (write_ranges x ss) a b) is wrote)
+    wrote_wider (within_right (copy_ranges h ss) (copy_ranges (other_header h) ss)) (subst (λ (x : GPTHeader). Wrote (copy_ranges x ss) a b) is wrote)
 
-pub wrote_own : {a b c : DiskState} (h : GPTHeader) (ss : ℕ) → Wrote (both_ranges h ss) a b → Wrote (write_ranges h ss) b c → Wrote (both_ranges h ss) a c
-wrote_own h ss other own = wrote_then (within_left (write_ranges h ss) (write_ranges (other_header h) ss)) other own
+pub wrote_own : {a b c : DiskState} (h : GPTHeader) (ss : ℕ) → Wrote (four_ranges h ss) a b → Wrote (copy_ranges h ss) b c → Wrote (four_ranges h ss) a c
+wrote_own h ss other own = wrote_then (within_left (copy_ranges h ss) (copy_ranges (other_header h) ss)) other own
 
 both_pass : (a b : Bool) (x y : Fault) → a ≡ true → b ≡ true → first_failing ((a, x) ∷ (b, y) ∷ []) ≡ None
 both_pass true b x y is_a is_b = ap (λ (t : Bool). first_failing ((true, x) ∷ (t, y) ∷ [])) is_b
@@ -34,14 +34,14 @@ both_pass false b x y is_a is_b = cc
 pub record AreAllowed (h : GPTHeader) (ss len : ℕ) : Type 0 where
   pub own : copy_write_fault h ss len ≡ None
   pub other : copy_write_fault (other_header h) ss len ≡ None
-  pub inside : list_all (is_inside len) (both_ranges h ss) ≡ true
+  pub inside : list_all (is_inside len) (four_ranges h ss) ≡ true
 
 -- That is so where the table is not refused.
 pub both_allowed : (h : GPTHeader) (ss len : ℕ) → write_fault h ss len ≡ None → AreAllowed h ss len
 both_allowed h ss len none =
-    let own : Ranges = write_ranges h ss in
-    let other : Ranges = write_ranges (other_header h) ss in
-    let pass = tests_pass ((has_other_header h && list_all is_addressable (both_ranges h ss), overflow) ∷ (list_all (is_inside len) (both_ranges h ss), no_space_left) ∷ []) none in
+    let own : Ranges = copy_ranges h ss in
+    let other : Ranges = copy_ranges (other_header h) ss in
+    let pass = tests_pass ((has_other_header h && list_all is_addressable (four_ranges h ss), overflow) ∷ (list_all (is_inside len) (four_ranges h ss), no_space_left) ∷ []) none in
     let fit = and_parts (has_other_header h) (list_all is_addressable (own ++ other)) pass.0 in
     let fits = and_parts (list_all is_addressable own) (list_all is_addressable other) (sym (list_all-append is_addressable own other) ∙ fit.1) in
     let lie = and_parts (list_all (is_inside len) own) (list_all (is_inside len) other) (sym (list_all-append (is_inside len) own other) ∙ pass.1.0) in
@@ -52,21 +52,21 @@ both_allowed h ss len none =
     }
 
 pub room_inside : (h : GPTHeader) (ss : ℕ) (disk : DiskState) → length disk.view ≡ disk.size → write_fault h ss disk.size ≡ None
-    → list_all (is_inside (length disk.view)) (both_ranges h ss) ≡ true
+    → list_all (is_inside (length disk.view)) (four_ranges h ss) ≡ true
 room_inside h ss disk long room = (both_allowed h ss (length disk.view) (ap (write_fault h ss) long ∙ room)).inside
 
 -- Both copies stand where both were copied, off the layout too, where their ranges are apart and nothing was refused.
-pub copied_stand : (h : GPTHeader) (es : List GPTPartitionEntry) (ss : ℕ) (a b c : DiskState) → AreApart (both_ranges h ss) → list_all (is_inside (length a.view)) (both_ranges h ss) ≡ true
-    → length es ≡ h.number_of_partition_entries → IsCopied (other_header h) es ss a b → Wrote (write_ranges h ss) b c → IsCopied h es ss b c
+pub copied_stand : (h : GPTHeader) (es : List GPTPartitionEntry) (ss : ℕ) (a b c : DiskState) → AreApart (four_ranges h ss) → list_all (is_inside (length a.view)) (four_ranges h ss) ≡ true
+    → length es ≡ h.number_of_partition_entries → IsCopied (other_header h) es ss a b → Wrote (copy_ranges h ss) b c → IsCopied h es ss b c
     → HasBytes c.view (with_checksums h es) es ss × HasBytes c.view (with_checksums (other_header h) es) es ss
 copied_stand h es ss a b c apart lies count first second own =
-    let mine : Ranges = write_ranges h ss in
-    let theirs : Ranges = write_ranges (other_header h) ss in
+    let mine : Ranges = copy_ranges h ss in
+    let theirs : Ranges = copy_ranges (other_header h) ss in
     let mine_is = sealed_ranges h es ss in
     let theirs_is = sealed_ranges (other_header h) es ss in
     let inside = and_parts (list_all (is_inside (length a.view)) mine) (list_all (is_inside (length a.view)) theirs) (sym (list_all-append (is_inside (length a.view)) mine theirs) ∙ lies) in
     let P : Ranges → Type 0 = λ rs. list_all (is_inside (length a.view)) rs ≡ true in
-    let ranges : theirs ++ mine ≡ write_ranges (with_checksums (other_header h) es) ss ++ write_ranges (with_checksums h es) ss = λ i. sym theirs_is i ++ sym mine_is i in
+    let ranges : theirs ++ mine ≡ copy_ranges (with_checksums (other_header h) es) ss ++ copy_ranges (with_checksums h es) ss = λ i. sym theirs_is i ++ sym mine_is i in
     let both = laid_both a.view b.view c.view (with_checksums (other_header h) es) (with_checksums h es) es ss (subst AreApart ranges (apart_exchanged mine theirs apart))
     (subst P (sym theirs_is) inside.1) (subst P (sym mine_is) inside.0) first.fits.0 own.fits.0 first.fits.1
     (count ∙ sym (sealed_count (other_header h) es)) (count ∙ sym (sealed_count h es)) first.laid own.laid

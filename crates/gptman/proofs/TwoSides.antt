@@ -6,10 +6,10 @@ use Rattle.gptman_copy.specs.Coding.{FitsHeader, FitsEntry}
 use Rattle.gptman_copy.specs.Copy.{with_checksums}
 use Rattle.gptman_copy.specs.Disk.{DiskState, Image, IsPending, LeavesOnly, Outside, Untouched, Wrote, Within}
 use Rattle.gptman_copy.specs.Ranges.{AgreesInside, AreApart, AreClear, AreInside}
-use Rattle.gptman_copy.specs.Write.{other_header, header_range, write_ranges, FitsCopy, HasBytes, IsCopyLaid}
+use Rattle.gptman_copy.specs.Write.{other_header, header_range, copy_ranges, FitsCopy, HasBytes, IsCopyLaid}
 use Rattle.gptman.specs.Crash.{other_side, BothSidesAfter, IsLeftAlone, SideAfter, StartsFromOne, StartsLaidOut, StartsSynced}
 use Rattle.gptman.specs.Crash.SideAfter.{left_alone, written as holds_new, torn}
-use Rattle.gptman.specs.Layout.{Holds, IsLaidOut, ranges_at}
+use Rattle.gptman.specs.Layout.{Holds, IsLaidOut, copy_ranges_at}
 use Rattle.gptman.specs.Reading.{Side, primary, backup, copy_start}
 use Rattle.gptman.specs.Stop.{HoldsOneOf, IsStored, StopsHold}
 use Rattle.gptman.specs.Table.{Table, entries_in, table_in, table_of, IsHeaderForm}
@@ -22,7 +22,7 @@ use Rattle.gptman.proofs.Apart.{clear_if_apart}
 use Rattle.gptman.proofs.Argument.{Came, IsToldBy, at_any_moment, clear_ranges, held_in_any_image, held_stored, only_read, other_begun, own_begun, stays, untouched_ranges, written}
 use Rattle.gptman.proofs.FourRanges.{form_ranges, other_ranges, sides_apart, sides_clear}
 use Rattle.gptman.proofs.Held.{holds_local}
-use Rattle.gptman.proofs.LaidCopies.{copy_ranges, laid_stands, within_copy}
+use Rattle.gptman.proofs.LaidCopies.{full_ranges, laid_stands, within_copy}
 use Rattle.gptman.proofs.OtherHeader.{other_table, other_form}
 use Rattle.gptman.proofs.Sealing.{IsSealed, sealed_is, sealed_table, sealed_form}
 use Rattle.gptman.proofs.WrittenCopy.{content_of, written_array, written_holds, written_start}
@@ -43,11 +43,11 @@ header_count : (t : Table) (side : Side) (h : GPTHeader) (es : List GPTPartition
 header_count t side h es ss len is laid = sym (length-map es content_of) ∙ (header_laid t side h es ss len is laid).entries
 
 -- the ranges of its copy are those of the table at the side
-header_ranges : (t : Table) (side : Side) (h : GPTHeader) (es : List GPTPartitionEntry) (ss len : ℕ) → IsHeaderOf t side h es → IsLaidOut t ss len → ranges_at side t ss len ≡ copy_ranges h ss
+header_ranges : (t : Table) (side : Side) (h : GPTHeader) (es : List GPTPartitionEntry) (ss len : ℕ) → IsHeaderOf t side h es → IsLaidOut t ss len → copy_ranges_at side t ss len ≡ full_ranges h ss
 header_ranges t side h es ss len is laid =
     let start = written_start side h es ss len is.form (header_laid t side h es ss len is laid) in
     let array = written_array side h es ss is.form in
-    ap (λ (u : Table). ranges_at side u ss len) (sym is.table)
+    ap (λ (u : Table). copy_ranges_at side u ss len) (sym is.table)
     ∙ (λ i. (sym start i, 92) ∷ (sym array i, 128 * h.number_of_partition_entries) ∷ [])
 
 -- the side holds the table where its bytes stand
@@ -72,16 +72,16 @@ abbrev pub HeldAt : ℕ → ℕ → Side → Table → List ℕ → Type 0
 HeldAt len ss side t b = (length b ≡ len) × Holds b ss side t
 
 -- It is told by the bytes in its two ranges there.
-pub held_told : (len ss : ℕ) (side : Side) (t : Table) → IsToldBy (HeldAt len ss side t) (ranges_at side t ss len)
+pub held_told : (len ss : ℕ) (side : Side) (t : Table) → IsToldBy (HeldAt len ss side t) (copy_ranges_at side t ss len)
 held_told len ss side t b c held agrees =
-    (agrees.long ∙ held.0, holds_local b c ss side t held.1 (subst (λ (n : ℕ). AgreesInside (ranges_at side t ss n) b c) (sym held.0) agrees))
+    (agrees.long ∙ held.0, holds_local b c ss side t held.1 (subst (λ (n : ℕ). AgreesInside (copy_ranges_at side t ss n) b c) (sym held.0) agrees))
 
 -- the two ranges of a side are apart and on the disk
-side_apart : (side : Side) (t : Table) (ss len : ℕ) → IsLaidOut t ss len → AreApart (ranges_at side t ss len)
+side_apart : (side : Side) (t : Table) (ss len : ℕ) → IsLaidOut t ss len → AreApart (copy_ranges_at side t ss len)
 side_apart primary t ss len laid = ((laid.apart.0.0, tt), (tt, tt))
 side_apart backup t ss len laid = laid.apart.1.1
 
-side_inside : (side : Side) (t : Table) (ss len : ℕ) → IsLaidOut t ss len → AreInside (ranges_at side t ss len) len
+side_inside : (side : Side) (t : Table) (ss len : ℕ) → IsLaidOut t ss len → AreInside (copy_ranges_at side t ss len) len
 side_inside primary t ss len laid = (laid.inside.0, (laid.inside.1.0, tt))
 side_inside backup t ss len laid = laid.inside.1.1
 
@@ -109,8 +109,8 @@ copied_held side h es t ss len a b table form laid small long copy =
     let g : GPTHeader = with_checksums h es in
     let is = sealed_header side h es t table form copy.fits.0 in
     let ranges = header_ranges t side g es ss len is laid in
-    let room : AreInside (copy_ranges g ss) (length a.view) =
-    subst (λ (rs : Ranges). AreInside rs (length a.view)) ranges (subst (λ (n : ℕ). AreInside (ranges_at side t ss len) n) (sym long) (side_inside side t ss len laid)) in
+    let room : AreInside (full_ranges g ss) (length a.view) =
+    subst (λ (rs : Ranges). AreInside rs (length a.view)) ranges (subst (λ (n : ℕ). AreInside (copy_ranges_at side t ss len) n) (sym long) (side_inside side t ss len laid)) in
     let stands = laid_stands a.view b.view g es ss (subst AreApart ranges (side_apart side t ss len laid)) room copy.fits.0 copy.fits.1 (header_count t side g es ss len is laid) copy.laid in
     let same : length b.view ≡ len = stands.1 ∙ long in
     (same, header_held b.view t side g es ss (omega (arith, small, same)) is (subst (IsLaidOut t ss) (sym same) laid) copy.fits.1 stands.0)
@@ -122,26 +122,26 @@ module _ (side : Side) (h : GPTHeader) (es : List GPTPartitionEntry) (ss len : �
   t = table_of h es
 
   abbrev own : Ranges
-  own = ranges_at side t ss len
+  own = copy_ranges_at side t ss len
 
   abbrev other : Ranges
-  other = ranges_at (other_side side) t ss len
+  other = copy_ranges_at (other_side side) t ss len
 
   -- how far it came
   abbrev pub Comes : DiskState → DiskState → Type 1
   Comes a c = Came own other (copy_start side len ss, 92) (copy_start (other_side side) len ss, 92) (HeldAt len ss side t) (HeldAt len ss (other_side side) t) a c
 
-  own_run : (a b : DiskState) → Wrote (write_ranges h ss) a b → Wrote own a b
-  own_run a b run = wrote_wider (subst (λ (rs : Ranges). Within (write_ranges h ss) rs) (sym (form_ranges side h es ss len form laid)) (within_copy h ss)) run
+  own_run : (a b : DiskState) → Wrote (copy_ranges h ss) a b → Wrote own a b
+  own_run a b run = wrote_wider (subst (λ (rs : Ranges). Within (copy_ranges h ss) rs) (sym (form_ranges side h es ss len form laid)) (within_copy h ss)) run
 
-  other_run : (a b : DiskState) → Wrote (write_ranges (other_header h) ss) a b → Wrote other a b
-  other_run a b run = wrote_wider (subst (λ (rs : Ranges). Within (write_ranges (other_header h) ss) rs) (sym (other_ranges side h es ss len form laid)) (within_copy (other_header h) ss)) run
+  other_run : (a b : DiskState) → Wrote (copy_ranges (other_header h) ss) a b → Wrote other a b
+  other_run a b run = wrote_wider (subst (λ (rs : Ranges). Within (copy_ranges (other_header h) ss) rs) (sym (other_ranges side h es ss len form laid)) (within_copy (other_header h) ss)) run
 
   other_start : (other_header h).primary_lba * ss ≡ copy_start (other_side side) len ss
   other_start = written_start (other_side side) (other_header h) es ss len (other_form side h form) (subst (λ (u : Table). IsLaidOut u ss len) (sym (other_table h es)) laid)
 
   -- the other copy was begun
-  pub first_fails : (a b : DiskState) → Wrote (write_ranges (other_header h) ss) a b → Untouched a b ⊎ IsPending (header_range (other_header h) ss) b → Comes a b
+  pub first_fails : (a b : DiskState) → Wrote (copy_ranges (other_header h) ss) a b → Untouched a b ⊎ IsPending (header_range (other_header h) ss) b → Comes a b
   first_fails a b run begun =
       other_begun (other_run a b run) (⊎_elim (λ still. inl still) (λ torn. inr (subst (λ (n : ℕ). IsPending (n, 92) b) other_start torn)) begun)
 
@@ -151,34 +151,34 @@ module _ (side : Side) (h : GPTHeader) (es : List GPTPartitionEntry) (ss len : �
       copied_held (other_side side) (other_header h) es t ss len a b (other_table h es) (other_form side h form) laid small long copy
 
   -- and then the own one was begun
-  pub second_fails : (a b c : DiskState) → len < 2 ^ 64 → length a.view ≡ len → Wrote (write_ranges (other_header h) ss) a b → IsCopied (other_header h) es ss a b
-      → Wrote (write_ranges h ss) b c → Untouched b c ⊎ IsPending (header_range h ss) c → Comes a c
+  pub second_fails : (a b c : DiskState) → len < 2 ^ 64 → length a.view ≡ len → Wrote (copy_ranges (other_header h) ss) a b → IsCopied (other_header h) es ss a b
+      → Wrote (copy_ranges h ss) b c → Untouched b c ⊎ IsPending (header_range h ss) c → Comes a c
   second_fails a b c small long run copy second begun =
       own_begun b (other_run a b run) copy.synced (other_held a b small long copy) (own_run b c second) (⊎_elim (λ still. inl still)
       (λ torn. inr (subst (λ (n : ℕ). IsPending (n, 92) c) (written_start side h es ss len form laid) torn)) begun)
 
   -- or both were written
-  pub both_done : (a b c : DiskState) → len < 2 ^ 64 → length a.view ≡ len → Wrote (write_ranges (other_header h) ss) a b → IsCopied (other_header h) es ss a b
-      → Wrote (write_ranges h ss) b c → IsCopied h es ss b c → Comes a c
+  pub both_done : (a b c : DiskState) → len < 2 ^ 64 → length a.view ≡ len → Wrote (copy_ranges (other_header h) ss) a b → IsCopied (other_header h) es ss a b
+      → Wrote (copy_ranges h ss) b c → IsCopied h es ss b c → Comes a c
   both_done a b c small long run copy second done =
       let first = other_held a b small long copy in
       written b (other_run a b run) copy.synced first (own_run b c second) done.synced (copied_held side h es t ss len b c refl form laid small first.0 done)
 
   -- ---- so from one good copy, a stop at any moment leaves the old table or the new one
 
-  pub one_good : (was : Table) (a c : DiskState) → length a.view ≡ len → a.pending ≡ [] → Holds a.view ss side was → AreClear (ranges_at side was ss len) other → Comes a c
+  pub one_good : (was : Table) (a c : DiskState) → length a.view ≡ len → a.pending ≡ [] → Holds a.view ss side was → AreClear (copy_ranges_at side was ss len) other → Comes a c
       → LeavesOnly a c (λ x. HoldsOneOf x ss (was ∷ t ∷ []))
   one_good was a c long synced held clear come = λ x left. ⊎_elim
       (λ old. record { side = side; table = was; listed = contains_first was (t ∷ []); holds = old.1 })
       (λ new. record { side = other_side side; table = t; listed = contains_later t was (t ∷ []) (contains_first t []); holds = new.1 })
       (at_any_moment own other (copy_start side len ss, 92) (copy_start (other_side side) len ss, 92) (HeldAt len ss side t) (HeldAt len ss (other_side side) t) a c
-      (HeldAt len ss side was) (ranges_at side was ss len) (held_told len ss side was) clear (held_told len ss (other_side side) t) (sides_clear side t ss len laid)
+      (HeldAt len ss side was) (copy_ranges_at side was ss len) (held_told len ss side was) clear (held_told len ss (other_side side) t) (sides_clear side t ss len laid)
       synced (long, held) come x left)
 
   -- ---- and after an error each side is as it was, or holds the new table in whatever a stop may leave, or has its header pending
 
-  alone : (p : Side) (a c : DiskState) → a.size ≡ len → IsLeftAlone (ranges_at p t ss len) a c → SideAfter p t ss a c
-  alone p a c size is = left_alone (subst (λ (n : ℕ). IsLeftAlone (ranges_at p t ss n) a c) (sym size) is)
+  alone : (p : Side) (a c : DiskState) → a.size ≡ len → IsLeftAlone (copy_ranges_at p t ss len) a c → SideAfter p t ss a c
+  alone p a c size is = left_alone (subst (λ (n : ℕ). IsLeftAlone (copy_ranges_at p t ss n) a c) (sym size) is)
 
   pending : (p : Side) (a c : DiskState) → a.size ≡ len → IsPending (copy_start p len ss, 92) c → SideAfter p t ss a c
   pending p a c size is = torn (subst (λ (n : ℕ). IsPending (copy_start p n ss, 92) c) (sym size) is)
@@ -215,7 +215,7 @@ module _ (side : Side) (h : GPTHeader) (es : List GPTPartitionEntry) (ss len : �
 
   -- ---- after Ok both sides hold it
 
-  pub stored_both : (a b c : DiskState) → len < 2 ^ 64 → length a.view ≡ len → IsCopied (other_header h) es ss a b → Wrote (write_ranges h ss) b c
+  pub stored_both : (a b c : DiskState) → len < 2 ^ 64 → length a.view ≡ len → IsCopied (other_header h) es ss a b → Wrote (copy_ranges h ss) b c
       → IsCopied h es ss b c → Holds c.view ss side t × Holds c.view ss (other_side side) t
   stored_both a b c small long copy second done =
       let first = other_held a b small long copy in (
@@ -250,7 +250,7 @@ module _ (g : GPT) (a c : DiskState) (long : length a.view ≡ a.size) where
       (other_after at.side g.header (entries_in g) g.sector_size a.size at.form at.table a c refl from.synced here)
 
   pub stored_of : (b : DiskState) → a.size < 2 ^ 64 → StartsLaidOut a g → IsCopied (other_header g.header) (entries_in g) g.sector_size a b
-      → Wrote (write_ranges g.header g.sector_size) b c → IsCopied g.header (entries_in g) g.sector_size b c → IsStored c g.sector_size (table_in g)
+      → Wrote (copy_ranges g.header g.sector_size) b c → IsCopied g.header (entries_in g) g.sector_size b c → IsStored c g.sector_size (table_in g)
   stored_of b small start copy second done =
       let at = start.layout in
       let both = stored_both at.side g.header (entries_in g) g.sector_size a.size at.form at.table a b c small long copy second done in

@@ -7,7 +7,7 @@ use Rattle.gptman_copy.specs.Disk.{OnlyRead, DiskState, Image, IsPending}
 use Rattle.gptman.specs.Crash.{IsLeftAlone}
 use Rattle.gptman.specs.Edit.{after_edit, edit_fault, table_after}
 use Rattle.gptman_copy.specs.Fault.{Fault, fault_of, io, out_of_memory}
-use Rattle.gptman.specs.Layout.{Holds, ranges_at}
+use Rattle.gptman.specs.Layout.{Holds, copy_ranges_at}
 use Rattle.gptman.specs.Reading.{Side, primary, backup, copy_start}
 use Rattle.gptman.specs.Stop.{HoldsOneOf, IsStored}
 use Rattle.gptman.specs.Table.{Table, entries_in, table_in}
@@ -85,7 +85,7 @@ HoldsInAnyImage disk ss side t = (b : List ℕ) → Image disk b → Holds b ss 
 -- What k edits that were written, and the next one that was not, leave at a side: what was there, where there were none; or in whatever a stop may leave the
 -- table after k edits, or the one after k + 1; or a header that is not synced.
 pub data SideAfterEdits (side : Side) (g : GPT) (edits : List Edit) (k : ℕ) (old new : DiskState) : Type 0 where
-  as_it_was : k ≡ 0 → IsLeftAlone (ranges_at side (table_in g) g.sector_size old.size) old new → SideAfterEdits side g edits k old new
+  as_it_was : k ≡ 0 → IsLeftAlone (copy_ranges_at side (table_in g) g.sector_size old.size) old new → SideAfterEdits side g edits k old new
   holds_last : 0 < k → HoldsInAnyImage new g.sector_size side (table_in (table_after g edits k)) → SideAfterEdits side g edits k old new
   holds_next : HoldsInAnyImage new g.sector_size side (table_in (table_after g edits (k + 1))) → SideAfterEdits side g edits k old new
   header_pending : IsPending (copy_start side old.size g.sector_size, 92) new → SideAfterEdits side g edits k old new

@@ -5,7 +5,7 @@ use Rattle.gptman_copy.specs.Disk.{AgreesOutside, DiskState, Image, IsHonest, Is
 use Rattle.gptman_copy.specs.Fit.{fit_header}
 use Rattle.gptman_copy.specs.Ranges.{AgreesInside, AreClear, Inside}
 use Rattle.gptman.specs.Edit.{after_edit, edited_all}
-use Rattle.gptman.specs.Layout.{HasLayout, Holds, ranges_at}
+use Rattle.gptman.specs.Layout.{HasLayout, Holds, copy_ranges_at}
 use Rattle.gptman.specs.Reading.{Side, primary, backup, copy_start, copy_in, reading_of, taken_from}
 use Rattle.gptman.specs.Stop.{IsStored, ReadsTable}
 use Rattle.gptman.specs.Table.{Table, entries_in, table_in, IsHeaderForm}
@@ -25,7 +25,7 @@ pub record IsKeptFor (disk : DiskState) (g : GPT) (old : Table) : Type 0 where
   pub side : Side
   pub form : IsHeaderForm side g.header
   pub held : Holds disk.view g.sector_size side old
-  pub clear : AreClear (ranges_at side old g.sector_size disk.size) (ranges_at (other_side side) (table_in g) g.sector_size disk.size)
+  pub clear : AreClear (copy_ranges_at side old g.sector_size disk.size) (copy_ranges_at (other_side side) (table_in g) g.sector_size disk.size)
 
 -- The two tables have the same four ranges on a disk where both have the stated layout.
 pub record HasRangesOf (old new : Table) : Type 0 where
@@ -57,7 +57,7 @@ pub record StartsStored (disk : DiskState) (g : GPT) (old : Table) : Type 0 wher
 
 -- A stop at any moment since old leaves all bytes outside of the value's four ranges as they were.
 abbrev pub StopsKeepOthers : DiskState → DiskState → GPT → Type 0
-StopsKeepOthers old new g = LeavesOnly old new (AgreesOutside (ranges_at primary (table_in g) g.sector_size old.size ++ ranges_at backup (table_in g) g.sector_size old.size) old.view)
+StopsKeepOthers old new g = LeavesOnly old new (AgreesOutside (copy_ranges_at primary (table_in g) g.sector_size old.size ++ copy_ranges_at backup (table_in g) g.sector_size old.size) old.view)
 
 -- No byte of the ranges is pending, and each is as it was.
 pub record IsLeftAlone (ranges : List (ℕ × ℕ)) (old new : DiskState) : Type 0 where
@@ -66,7 +66,7 @@ pub record IsLeftAlone (ranges : List (ℕ × ℕ)) (old new : DiskState) : Type
 
 -- What a failed write leaves at a side: what was there, or the new table in whatever a stop may leave, or a header that is not synced.
 pub data SideAfter (side : Side) (t : Table) (ss : ℕ) (old new : DiskState) : Type 0 where
-  left_alone : IsLeftAlone (ranges_at side t ss old.size) old new → SideAfter side t ss old new
+  left_alone : IsLeftAlone (copy_ranges_at side t ss old.size) old new → SideAfter side t ss old new
   written : ((b : List ℕ) → Image new b → Holds b ss side t) → SideAfter side t ss old new
   torn : IsPending (copy_start side old.size ss, 92) new → SideAfter side t ss old new
 
@@ -76,8 +76,8 @@ BothSidesAfter g old new = SideAfter primary (table_in g) g.sector_size old new 
 
 -- What agrees with the view in the two ranges of one side is read as the table, from the backup side where the primary copy is not accepted.
 pub record IsReadAlone (view : List ℕ) (ss : ℕ) (t : Table) (b : List ℕ) : Type 0 where
-  pub from_primary : AgreesInside (ranges_at primary t ss (length view)) view b → ReadsTable b ss primary t
-  pub from_backup : AgreesInside (ranges_at backup t ss (length view)) view b → IsErr (copy_in primary b ss) → ReadsTable b ss backup t
+  pub from_primary : AgreesInside (copy_ranges_at primary t ss (length view)) view b → ReadsTable b ss primary t
+  pub from_backup : AgreesInside (copy_ranges_at backup t ss (length view)) view b → IsErr (copy_in primary b ss) → ReadsTable b ss backup t
 
 -- Each copy of the value's table alone is read as it.
 abbrev pub AreReadAlone : List ℕ → GPT → Type 0

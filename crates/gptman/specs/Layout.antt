@@ -7,8 +7,8 @@ use Rattle.gptman.specs.declared.table.GPT.{GPT}
 use Rattle.gptman_copy.specs.Ranges.{AreApart, AreInside}
 
 -- The two ranges of a table at a side of a disk of len bytes, each a start and a length: its header, and its entries, from sector 2 or behind the last usable one.
-abbrev pub ranges_at : Side → Table → ℕ → ℕ → List (ℕ × ℕ)
-ranges_at side t ss len =
+abbrev pub copy_ranges_at : Side → Table → ℕ → ℕ → List (ℕ × ℕ)
+copy_ranges_at side t ss len =
     (copy_start side len ss, 92) ∷ (elim side [ primary ↦ 2 * ss | backup ↦ (t.last_usable_lba + 1) * ss ], 128 * t.count) ∷ []
 
 -- The stated layout, of a table and hence of both its forms.
@@ -21,8 +21,8 @@ pub record IsLaidOut (t : Table) (ss len : ℕ) : Type 0 where
   pub entries : length t.entries ≡ t.count
   pub low_sector : t.low_sector ≡ min 1 (len / ss - 1)
   pub high_sector : t.high_sector ≡ max 1 (len / ss - 1)
-  pub inside : AreInside (ranges_at primary t ss len ++ ranges_at backup t ss len) len
-  pub apart : AreApart (ranges_at primary t ss len ++ ranges_at backup t ss len)
+  pub inside : AreInside (copy_ranges_at primary t ss len ++ copy_ranges_at backup t ss len) len
+  pub apart : AreApart (copy_ranges_at primary t ss len ++ copy_ranges_at backup t ss len)
   pub fits : t.last_usable_lba + 1 < 2 ^ 64
 
 -- The value has the stated layout on a disk of len bytes: its table has it, and its header is in one of the two forms.

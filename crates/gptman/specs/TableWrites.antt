@@ -4,7 +4,7 @@ use Rattle.gptman_copy.specs.Answers.{IsFailure, Refuses}
 use Rattle.gptman_copy.specs.Copy.{with_checksums}
 use Rattle.gptman_copy.specs.Disk.{DiskState, IsHonest, OnlyRead}
 use Rattle.gptman_copy.specs.Fault.{Fault, fault_of, io, no_space_left, overflow, out_of_memory}
-use Rattle.gptman_copy.specs.Write.{both_ranges, HasBytes, other_header, SameButSums, write_fault}
+use Rattle.gptman_copy.specs.Write.{four_ranges, HasBytes, other_header, SameButSums, write_fault}
 use Rattle.gptman.specs.Table.{entries_in}
 use Rattle.gptman.specs.Valid.{IsValid, IsValidity}
 use Rattle.gptman_copy.specs.declared.error.Error.{Error}
@@ -33,7 +33,7 @@ HasRoomOn g len = table_write_fault g len ≡ None
 
 -- the ranges of both copies of a value
 abbrev pub table_ranges : GPT → List (ℕ × ℕ)
-table_ranges g = both_ranges g.header g.sector_size
+table_ranges g = four_ranges g.header g.sector_size
 
 -- a refusal other than NoSpaceLeft is answered whatever the disk does
 abbrev pub RefusesAtOnce : {T : Type 0} → Option Fault → Result T Error → Type 0

@@ -2,7 +2,7 @@
 use Rattle.std.proofs.Common.{sym, subst, ◌∙◌, ℕ, List, [], ◌∷◌, Option}
 use Rattle.gptman.specs.Crash.{IsKeptFor, other_side, StartsFromOne, StartsLaidOut}
 use Rattle.gptman.specs.Disk.{OnlyRead, DiskState, AgreesOutside, IsHonest, Keeps, LeavesOnly, Reads, Writes, Wrote}
-use Rattle.gptman.specs.Layout.{HasLayout, Holds, ranges_at}
+use Rattle.gptman.specs.Layout.{HasLayout, Holds, copy_ranges_at}
 use Rattle.gptman.specs.Ranges.{AreClear}
 use Rattle.gptman.specs.Stop.{HoldsOneOf, StopsHold}
 use Rattle.gptman.specs.Table.{Table, table_in}
@@ -30,7 +30,7 @@ module _ (next : GPT) (was : Table) (old mid : DiskState) (read : OnlyRead old m
     side = kept.side;
     form = kept.form;
     held = subst (λ (view : List ℕ). Holds view next.sector_size kept.side was) (sym read.view) kept.held;
-    clear = subst (λ (n : ℕ). AreClear (ranges_at kept.side was next.sector_size n) (ranges_at (other_side kept.side) (table_in next) next.sector_size n))
+    clear = subst (λ (n : ℕ). AreClear (copy_ranges_at kept.side was next.sector_size n) (copy_ranges_at (other_side kept.side) (table_in next) next.sector_size n))
         (sym keeps.size) kept.clear;
   }
 

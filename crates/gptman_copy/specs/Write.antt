@@ -25,8 +25,8 @@ abbrev pub header_range : GPTHeader → ℕ → ℕ × ℕ
 header_range h ss = (h.primary_lba * ss, 92)
 
 -- the ranges of a copy that is written: its header, its entries
-abbrev pub write_ranges : GPTHeader → ℕ → List (ℕ × ℕ)
-write_ranges h ss = header_range h ss ∷ array_range h ss
+abbrev pub copy_ranges : GPTHeader → ℕ → List (ℕ × ℕ)
+copy_ranges h ss = header_range h ss ∷ array_range h ss
 
 -- the range's start and end fit in 64 bits
 abbrev pub is_addressable : ℕ × ℕ → Bool
@@ -39,13 +39,13 @@ is_inside len r = nat_le (r.0 + r.1) len
 -- what is refused of one copy
 abbrev pub copy_write_fault : GPTHeader → ℕ → ℕ → Option Fault
 copy_write_fault h ss len = first_failing (
-    (list_all is_addressable (write_ranges h ss), overflow)
-    ∷ (list_all (is_inside len) (write_ranges h ss), no_space_left)
+    (list_all is_addressable (copy_ranges h ss), overflow)
+    ∷ (list_all (is_inside len) (copy_ranges h ss), no_space_left)
     ∷ [])
 
 -- the ranges of both copies
-abbrev pub both_ranges : GPTHeader → ℕ → List (ℕ × ℕ)
-both_ranges h ss = write_ranges h ss ++ write_ranges (other_header h) ss
+abbrev pub four_ranges : GPTHeader → ℕ → List (ℕ × ℕ)
+four_ranges h ss = copy_ranges h ss ++ copy_ranges (other_header h) ss
 
 -- the other copy's first entry sector is a number of 64 bits
 abbrev pub has_other_header : GPTHeader → Bool
@@ -54,8 +54,8 @@ has_other_header h = not (nat_eq h.partition_entry_lba 2) || nat_lt (h.last_usab
 -- What is refused of a table that is valid: the first of these tests that fails.
 abbrev pub write_fault : GPTHeader → ℕ → ℕ → Option Fault
 write_fault h ss len = first_failing (
-    (has_other_header h && list_all is_addressable (both_ranges h ss), overflow)
-    ∷ (list_all (is_inside len) (both_ranges h ss), no_space_left)
+    (has_other_header h && list_all is_addressable (four_ranges h ss), overflow)
+    ∷ (list_all (is_inside len) (four_ranges h ss), no_space_left)
     ∷ [])
 
 -- at most the checksums differ

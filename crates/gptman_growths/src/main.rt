@@ -19,7 +19,6 @@ mod places;
 mod readings;
 mod shape;
 mod shape_calls;
-mod shape_commands;
 mod values;
 mod verdict;
 mod writings;

@@ -1,33 +1,21 @@
 //! The shapes of which tables are made: sectors of several sizes, up to 10,000 entries, and odd reserved
 //! bytes. In each the used entries are in reverse order, and ten sectors are free at the end.
 
-use crate::shape_commands::try_each_size;
+use crate::shape_calls;
 use crate::verdict::Verdict;
-use crate::{shape_calls, shape_commands};
 use gptman::Result;
 use gptman_fixtures::shape::Shape;
 use std::alloc::Global;
 
-/// Makes the calls or the commands on the tables of this name. None where there are none.
+/// Makes the calls on the tables of this name. None where there are none.
 pub fn try_call(name: &str, alloc: Global) -> Option<Result<Verdict>> {
-    if name == "commands_each_size" {
-        return Some(try_each_size(alloc));
-    }
-    let (is_call, shapes) = match name.strip_prefix("calls_") {
-        Some(shapes) => (true, shapes),
-        None => (false, name.strip_prefix("commands_")?),
-    };
-    Some(try_shapes(alloc, is_call, &named(shapes)?))
+    let shapes = named(name.strip_prefix("calls_")?)?;
+    Some(try_shapes(alloc, &shapes))
 }
 
-fn try_shapes(alloc: Global, is_call: bool, shapes: &[Shape]) -> Result<Verdict> {
+fn try_shapes(alloc: Global, shapes: &[Shape]) -> Result<Verdict> {
     for shape in shapes {
-        let is_right = if is_call {
-            shape_calls::is_right(alloc, shape)?
-        } else {
-            shape_commands::is_right(alloc, shape)?
-        };
-        if !is_right {
+        if !shape_calls::is_right(alloc, shape)? {
             return Ok(Verdict::AnsweredWrongly);
         }
     }

@@ -10,7 +10,7 @@ ghost use Rattle.gptman_copy.specs.Crc.{crc_of};
 ghost use Rattle.gptman_copy.specs.Disk.{HasFailedOnceAtMost, IsHonest, Keeps, Reads, Writes};
 ghost use Rattle.gptman_copy.specs.Fault.{fault_of, io as io_fault};
 ghost use Rattle.gptman_copy.specs.Ranges.{AreApart};
-ghost use Rattle.gptman_copy.specs.Write.{copy_write_fault, header_range, other_header, write_ranges};
+ghost use Rattle.gptman_copy.specs.Write.{copy_write_fault, header_range, other_header, copy_ranges};
 ghost use Rattle.gptman_copy.specs.Write.{FitsCopy, LaysCopy, SameButSums};
 ghost use Rattle.gptman.specs.Crash.{AreReadAlone, BothSidesAfter, StopsKeepOthers};
 ghost use Rattle.gptman.specs.Crash.{StartsFromOne, StartsLaidOut, StartsStored, StartsSynced};
@@ -198,7 +198,7 @@ fn write_and_sync<D: Disk>(
     ensures value { OnOk result (header.new ≡ with_checksums header.old partitions.now) }
     ensures fits { OnOk result (FitsCopy header.new partitions.now) }
     ensures sums { SameButSums header.old header.new }
-    ensures wrote { Writes (write_ranges header.old sector_size) (D.state disk.old) (D.state disk.new) }
+    ensures wrote { Writes (copy_ranges header.old sector_size) (D.state disk.old) (D.state disk.new) }
     ensures synced { IsHonest (D.state disk.old) → OnOk result ((D.state disk.new).pending ≡ []) }
     ensures laid { LaysCopy header.new partitions.now sector_size result
         (D.state disk.old) (D.state disk.new) }

@@ -20,21 +20,22 @@ use std::ops::RangeInclusive;
 /// An entry of the table: a partition, or room for one that is not used. The fields follow one another
 /// with no gap in the 128 bytes of the format's partition entry.
 ///
-/// Sectors are counted from 0. All numbers are little endian on the disk.
+/// Sectors are counted from 0. All numbers are little endian on the disk. Each field begins with its name
+/// in the UEFI specification.
 #[derive(Drop, PartialEq, Eq, Debug)]
 pub struct GPTPartitionEntry {
-    /// The type of the partition, a GUID as its 16 bytes stand on the disk. All zero means that the
-    /// entry is not used.
+    /// `PartitionTypeGUID`: the type of the partition, a GUID as its 16 bytes stand on the disk. All zero
+    /// means that the entry is not used.
     pub partition_type_guid: [u8; 16],
-    /// The GUID of this partition alone, as its 16 bytes stand on the disk.
+    /// `UniquePartitionGUID`: the GUID of this partition alone, as its 16 bytes stand on the disk.
     pub unique_partition_guid: [u8; 16],
-    /// The first sector of the partition.
+    /// `StartingLBA`: the first sector of the partition.
     pub starting_lba: u64,
-    /// The last sector of the partition, inclusive.
+    /// `EndingLBA`: the last sector of the partition, inclusive.
     pub ending_lba: u64,
-    /// The attribute bits.
+    /// `Attributes`: the attribute bits.
     pub attribute_bits: u64,
-    /// The name.
+    /// `PartitionName`: the name.
     pub partition_name: PartitionName,
 }
 

@@ -9,36 +9,37 @@ use crate::cells::{note_bytes, part_at, put, put_u32, put_u64, u32_at, u64_at};
 /// The header of a GUID partition table, field by field as the format lays it out in 92 bytes: in
 /// sector 1, and once more in the last sector. The fields follow one another with no gap.
 ///
-/// Sectors are counted from 0. All numbers are little endian on the disk.
+/// Sectors are counted from 0. All numbers are little endian on the disk. Each field begins with its name
+/// in the UEFI specification.
 #[derive(Clone, Copy, PartialEq, Eq, Debug)]
 pub struct GPTHeader {
-    /// The text "EFI PART".
+    /// `Signature`: the text "EFI PART".
     pub signature: [u8; 8],
-    /// 00 00 01 00, for revision 1.0.
+    /// `Revision`: 00 00 01 00, for revision 1.0.
     pub revision: [u8; 4],
-    /// The size of the header, 92 bytes.
+    /// `HeaderSize`: the size of the header, 92 bytes.
     pub header_size: u32,
-    /// The CRC-32 of the header's 92 bytes, with these four bytes taken as zero.
+    /// `HeaderCRC32`: the CRC-32 of the header's 92 bytes, with these four bytes taken as zero.
     pub crc32_checksum: u32,
-    /// Four bytes with no meaning, zero in a new header. They are kept as they were read.
+    /// `Reserved`: four bytes with no meaning, zero in a new header. They are kept as they were read.
     pub reserved: [u8; 4],
-    /// The sector of this header.
+    /// `MyLBA`: the sector of this header.
     pub primary_lba: u64,
-    /// The sector of the other header.
+    /// `AlternateLBA`: the sector of the other header.
     pub backup_lba: u64,
-    /// The first sector that a partition may use.
+    /// `FirstUsableLBA`: the first sector that a partition may use.
     pub first_usable_lba: u64,
-    /// The last sector that a partition may use.
+    /// `LastUsableLBA`: the last sector that a partition may use.
     pub last_usable_lba: u64,
-    /// The GUID of the disk, as its 16 bytes stand on it.
+    /// `DiskGUID`: the GUID of the disk, as its 16 bytes stand on it.
     pub disk_guid: [u8; 16],
-    /// The first sector of this copy's entries.
+    /// `PartitionEntryLBA`: the first sector of this copy's entries.
     pub partition_entry_lba: u64,
-    /// How many entries there are, the unused ones included.
+    /// `NumberOfPartitionEntries`: how many entries there are, the unused ones included.
     pub number_of_partition_entries: u32,
-    /// The size of an entry in bytes, 128 (or any where there is no entry).
+    /// `SizeOfPartitionEntry`: the size of an entry in bytes, 128 (or any where there is no entry).
     pub size_of_partition_entry: u32,
-    /// The CRC-32 of the bytes of all entries, in order.
+    /// `PartitionEntryArrayCRC32`: the CRC-32 of the bytes of all entries, in order.
     pub partition_entry_array_crc32: u32,
 }
 

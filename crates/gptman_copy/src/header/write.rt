@@ -14,7 +14,7 @@ ghost use Rattle.gptman_copy.specs.Disk.{next_range, HasNext, IsHonest, IsPendin
 ghost use Rattle.gptman_copy.specs.Disk.{StaysPending, Writes};
 ghost use Rattle.gptman_copy.specs.Fault.{fault_of, io as io_fault, overflow};
 ghost use Rattle.gptman_copy.specs.Write.{copy_write_fault, has_other_header, header_range, other_header};
-ghost use Rattle.gptman_copy.specs.Write.{write_ranges};
+ghost use Rattle.gptman_copy.specs.Write.{copy_ranges};
 ghost use Rattle.gptman_copy.specs.Write.{is_addressable as is_range_addressable};
 ghost use Rattle.gptman_copy.specs.Write.{is_inside as is_range_inside};
 ghost use Rattle.gptman_copy.specs.Write.{FitsCopy, LaysCopy, SameButSums};
@@ -65,7 +65,7 @@ impl GPTHeader {
         ensures sums { SameButSums self.old self.new }
 
         // What becomes of the disk.
-        ensures wrote { Writes (write_ranges self.old sector_size) (D.state disk.old) (D.state disk.new) }
+        ensures wrote { Writes (copy_ranges self.old sector_size) (D.state disk.old) (D.state disk.new) }
         ensures laid { LaysCopy self.new partitions.now sector_size result
             (D.state disk.old) (D.state disk.new) }
         ensures pending { IsHonest (D.state disk.old)
@@ -106,14 +106,14 @@ impl GPTHeader {
 
     /// Whether the ranges of this copy, its header and its entries, start and end below byte 2^64.
     pub fn is_addressable(&self, sector_size: u64) -> bool
-        ensures { result ≡ list_all is_range_addressable (write_ranges self.now sector_size) }
+        ensures { result ≡ list_all is_range_addressable (copy_ranges self.now sector_size) }
     {
         self.end_of_header(sector_size) < 1 << 64 && self.end_of_entries(sector_size) < 1 << 64
     }
 
     /// Whether the ranges of this copy end within so many bytes.
     pub fn is_inside(&self, sector_size: u64, size: u64) -> bool
-        ensures { result ≡ list_all (is_range_inside size) (write_ranges self.now sector_size) }
+        ensures { result ≡ list_all (is_range_inside size) (copy_ranges self.now sector_size) }
     {
         self.end_of_header(sector_size) <= u128::from(size)
             && self.end_of_entries(sector_size) <= u128::from(size)
@@ -158,7 +158,7 @@ pub fn write_summed<D: Disk>(
     requires coherent { IsCoherent header.old partitions.now }
     requires checksum { checksum ≡ crc_of (array_bytes partitions.now) }
     requires inside { IsTrue (list_all (is_range_inside (D.state disk.old).size)
-        (write_ranges header.old sector_size)) }
+        (copy_ranges header.old sector_size)) }
     ensures keeps { Keeps (D.state disk.old) (D.state disk.new) }
     ensures counts { OnOk result (HasFailedAsOften (D.state disk.old) (D.state disk.new)) }
     ensures once { HasFailedOnceAtMost (D.state disk.old) (D.state disk.new) }
@@ -166,7 +166,7 @@ pub fn write_summed<D: Disk>(
     ensures value { header.new ≡ with_checksums header.old partitions.now }
     ensures fits { OnOk result (FitsCopy header.new partitions.now) }
     ensures sums { SameButSums header.old header.new }
-    ensures wrote { Writes (write_ranges header.old sector_size) (D.state disk.old) (D.state disk.new) }
+    ensures wrote { Writes (copy_ranges header.old sector_size) (D.state disk.old) (D.state disk.new) }
     ensures laid { LaysCopy header.new partitions.now sector_size result
         (D.state disk.old) (D.state disk.new) }
     ensures pending { IsHonest (D.state disk.old)
@@ -189,13 +189,13 @@ fn write_copy<D: Disk>(
 ) -> io::Result<()>
     requires count { length partitions.now ≡ header.now.number_of_partition_entries }
     requires inside { IsTrue (list_all (is_range_inside (D.state disk.old).size)
-        (write_ranges header.now sector_size)) }
+        (copy_ranges header.now sector_size)) }
     ensures keeps { Keeps (D.state disk.old) (D.state disk.new) }
     ensures counts { OnOk result (HasFailedAsOften (D.state disk.old) (D.state disk.new)) }
     ensures once { HasFailedOnceAtMost (D.state disk.old) (D.state disk.new) }
     ensures cause { OnErr result (Rose (D.state disk.old) (D.state disk.new)) }
     ensures fits { OnOk result (FitsCopy header.now partitions.now) }
-    ensures wrote { Writes (write_ranges header.now sector_size) (D.state disk.old) (D.state disk.new) }
+    ensures wrote { Writes (copy_ranges header.now sector_size) (D.state disk.old) (D.state disk.new) }
     ensures laid { LaysCopy header.now partitions.now sector_size result
         (D.state disk.old) (D.state disk.new) }
     ensures pending { IsHonest (D.state disk.old)

@@ -2,7 +2,7 @@ use Rattle.std.proofs.Common.{◌≡◌, ◌∙◌, refl, sym, ap, subst, ℕ, L
 use Rattle.std.proofs.lemmas.Result.{err_from_is_err_and}
 use Rattle.gptman_copy.specs.Copy.{with_checksums}
 use Rattle.gptman_copy.specs.Disk.{LeavesPending, Wrote}
-use Rattle.gptman_copy.specs.Write.{copy_write_fault, header_range, other_header, write_ranges, HasBytes}
+use Rattle.gptman_copy.specs.Write.{copy_write_fault, header_range, other_header, copy_ranges, HasBytes}
 use Rattle.gptman.specs.Table.{entries_in}
 use Rattle.gptman_copy.specs.declared.codec.entry.GPTPartitionEntry.{GPTPartitionEntry}
 use Rattle.gptman_copy.specs.declared.codec.header.GPTHeader.{GPTHeader}
@@ -17,9 +17,9 @@ use Rattle.gptman.proofs.table.GPT.write_both.Goals as goal
 
 -- the other copy's ranges were written
 other_begun : (g : Over) (c : goal.After-from_residual g) (honest : IsTrue (g.D.Disk.state c.args.disk.now).is_honest)
-    → Wrote (write_ranges (other_header c.args.self.now.header) c.args.self.now.sector_size) (g.D.Disk.state c.args.disk.now) (g.D.Disk.state c.write_and_sync.new.disk)
+    → Wrote (copy_ranges (other_header c.args.self.now.header) c.args.self.now.sector_size) (g.D.Disk.state c.args.disk.now) (g.D.Disk.state c.write_and_sync.new.disk)
 other_begun g c honest =
-    subst (λ (h : GPTHeader). Wrote (write_ranges h c.args.self.now.sector_size) (g.D.Disk.state c.args.disk.now) (g.D.Disk.state c.write_and_sync.new.disk))
+    subst (λ (h : GPTHeader). Wrote (copy_ranges h c.args.self.now.sector_size) (g.D.Disk.state c.args.disk.now) (g.D.Disk.state c.write_and_sync.new.disk))
     c.requires.other (c.write_and_sync.ensures.wrote honest)
 
 -- the own copy's were, and before them the other copy's
@@ -70,7 +70,7 @@ come_second g c honest side form laid =
     second_fails side c.args.self.now.header (entries_in c.args.self.now) c.args.self.now.sector_size (g.D.Disk.state c.args.disk.now).size form laid
     (g.D.Disk.state c.args.disk.now) (g.D.Disk.state c.write_and_sync.new.disk) (g.D.Disk.state c.write_and_sync-2.new.disk)
     (g.met.D.Disk.bounded c.args.disk.now) (g.met.D.Disk.sound c.args.disk.now honest).size
-    (subst (λ (h : GPTHeader). Wrote (write_ranges h c.args.self.now.sector_size) (g.D.Disk.state c.args.disk.now) (g.D.Disk.state c.write_and_sync.new.disk)) c.requires.other first)
+    (subst (λ (h : GPTHeader). Wrote (copy_ranges h c.args.self.now.sector_size) (g.D.Disk.state c.args.disk.now) (g.D.Disk.state c.write_and_sync.new.disk)) c.requires.other first)
     (other_then g c honest) (c.write_and_sync-2.ensures.wrote first.honest) (c.in_err-write_and_sync-2.ensures.failed first.honest)
 
 pub returns-in_err-write_and_sync-2-clause-one_good : goal.returns-in_err-write_and_sync-2-clause-one_good
@@ -111,7 +111,7 @@ come_both g c honest side form laid =
     both_done side c.args.self.now.header (entries_in c.args.self.now) c.args.self.now.sector_size (g.D.Disk.state c.args.disk.now).size form laid
     (g.D.Disk.state c.args.disk.now) (g.D.Disk.state c.write_and_sync.new.disk) (g.D.Disk.state c.write_and_sync-2.new.disk)
     (g.met.D.Disk.bounded c.args.disk.now) (g.met.D.Disk.sound c.args.disk.now honest).size
-    (subst (λ (h : GPTHeader). Wrote (write_ranges h c.args.self.now.sector_size) (g.D.Disk.state c.args.disk.now) (g.D.Disk.state c.write_and_sync.new.disk)) c.requires.other first)
+    (subst (λ (h : GPTHeader). Wrote (copy_ranges h c.args.self.now.sector_size) (g.D.Disk.state c.args.disk.now) (g.D.Disk.state c.write_and_sync.new.disk)) c.requires.other first)
     (other_done g c honest) (c.write_and_sync-2.ensures.wrote first.honest) (own_done g c honest)
 
 pub returns-clause-one_good : goal.returns-clause-one_good

@@ -1,7 +1,7 @@
 use Rattle.std.proofs.Common.{[], ◌∷◌, inr, ℕ}
 use Rattle.std.specs.List.{list_all}
 use Rattle.gptman_copy.specs.Fault.{overflow, no_space_left}
-use Rattle.gptman_copy.specs.Write.{is_addressable, is_inside, write_ranges}
+use Rattle.gptman_copy.specs.Write.{is_addressable, is_inside, copy_ranges}
 use Rattle.gptman_copy.proofs.FirstFailing.{tests_pass}
 use Rattle.gptman_copy.proofs.Outcomes.{on_err_of}
 use Rattle.gptman_copy.proofs.Ranges.{within_none, within_then}
@@ -10,7 +10,7 @@ use Rattle.gptman.proofs.table.write.write_and_sync.Goals as goal
 
 pub write_summed-requires-clause-inside : goal.write_summed-requires-clause-inside
 write_summed-requires-clause-inside g c =
-    let ranges = write_ranges c.args.header.now c.args.sector_size in
+    let ranges = copy_ranges c.args.header.now c.args.sector_size in
     let size : ℕ = (g.D.Disk.state c.args.disk.now).size in
     let pass = tests_pass ((list_all is_addressable ranges, overflow) ∷ (list_all (is_inside size) ranges, no_space_left) ∷ []) c.requires.allowed in
     pass.1.0

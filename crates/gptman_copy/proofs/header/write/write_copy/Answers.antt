@@ -1,7 +1,7 @@
 use Rattle.std.proofs.Common.{◌≡◌, ◌≢◌, ◌⊎◌, ◌*◌, inl, inr, ⊎_elim, ℕ, [], ◌∷◌, length, IsTrue, arith, subst, sym, ap, ◌∙◌}
 use Rattle.std.proofs.lemmas.List.{nil_from_length}
 use Rattle.gptman_copy.specs.Disk.{IsPending, Untouched, Within, Wrote, overlay}
-use Rattle.gptman_copy.specs.Write.{header_range, write_ranges}
+use Rattle.gptman_copy.specs.Write.{header_range, copy_ranges}
 use Rattle.gptman_copy.specs.Coding.{header_bytes, array_bytes}
 use Rattle.gptman_copy.proofs.Overlays.{overlay_nothing}
 use Rattle.gptman_copy.proofs.Outcomes.{on_err_of, on_ok_of}
@@ -14,7 +14,7 @@ use Rattle.gptman_copy.proofs.header.write.write_copy.Goals.{After-write_all, In
 
 -- the header was written, or a part of it
 header_wrote : (g : Over) (c : After-write_all g) → IsTrue (g.D.Disk.state c.args.disk.now).is_honest
-    → Wrote (write_ranges c.args.header.now c.args.sector_size) (g.D.Disk.state c.args.disk.now) (g.D.Disk.state c.write_all.new.self)
+    → Wrote (copy_ranges c.args.header.now c.args.sector_size) (g.D.Disk.state c.args.disk.now) (g.D.Disk.state c.write_all.new.self)
 header_wrote g c honest =
     let seek = (c.seek_start.ensures.reads.only honest).wrote in
     let size : length c.encode.result ≡ 92 = omega arith in
