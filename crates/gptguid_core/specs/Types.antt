@@ -244,3 +244,11 @@ number_in ts name = option_map (λ t. t.1) (find (λ t. bytes_eq t.0 name) ts)
 -- the GUID of a name
 abbrev pub guid_of_name : List ℕ → Option (List ℕ)
 guid_of_name name = option_map guid_of_number (number_in types name)
+
+-- the first name of a GUID among some types
+abbrev pub name_in : List (List ℕ × ℕ) → List ℕ → Option (List ℕ)
+name_in ts guid = option_map (λ t. t.0) (find (λ t. bytes_eq (guid_of_number t.1) guid) ts)
+
+-- the first name of a GUID
+abbrev pub name_of_guid : List ℕ → Option (List ℕ)
+name_of_guid guid = name_in types guid

@@ -18,7 +18,7 @@ mod names;
 mod source;
 
 pub use forms::{digits_of, from_digits, from_random, from_text, text_of};
-pub use names::from_name;
+pub use names::{from_name, name_of, types};
 pub use source::{ByteSource, SystemSource};
 
 /// The line that says how the program is used, with its newline.
