@@ -18,6 +18,7 @@ pub mod FreeSectors
 pub mod Guids
 pub mod Held
 pub mod LaidCopies
+pub mod Layouts
 pub mod Mapping
 pub mod Multiples
 pub mod Numbering

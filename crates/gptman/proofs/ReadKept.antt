@@ -32,7 +32,7 @@ keeps_what_is_read disk g next honest synced read places layout =
           (subst (λ (n : ℕ). Holds disk.view n read.side (table_in g)) (sym places.sector) held) layout places.ranges;
     }
 
-has_places : (g next : GPT) → KeepsRanges g next → HasPlacesOf g next
+pub has_places : (g next : GPT) → KeepsRanges g next → HasPlacesOf g next
 has_places g next keeps = record { sector = keeps.sector; form = form_still g next keeps; ranges = same_ranges_too g next keeps }
 
 pub edits_keep_places : EditsKeepPlaces

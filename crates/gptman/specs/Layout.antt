@@ -3,6 +3,8 @@ use Rattle.std.specs.Prelude.{◌≡◌, ◌≤◌, ◌<◌, ◌+◌, ◌-◌, �
 use Rattle.gptman_copy.specs.Copy.{Copy, right_signature, right_revision}
 use Rattle.gptman.specs.Reading.{Side, primary, backup, copy_start, copy_in}
 use Rattle.gptman.specs.Table.{Table, table_in, IsForm, IsHeaderForm}
+use Rattle.gptman_copy.specs.declared.codec.entry.GPTPartitionEntry.{GPTPartitionEntry}
+use Rattle.gptman_copy.specs.declared.codec.header.GPTHeader.{GPTHeader}
 use Rattle.gptman.specs.declared.table.GPT.{GPT}
 use Rattle.gptman_copy.specs.Ranges.{AreApart, AreInside}
 
@@ -21,6 +23,29 @@ pub record IsLaidOut (t : Table) (ss len : ℕ) : Type 0 where
   pub entries : length t.entries ≡ t.count
   pub low_sector : t.low_sector ≡ min 1 (len / ss - 1)
   pub high_sector : t.high_sector ≡ max 1 (len / ss - 1)
+  pub inside : AreInside (copy_ranges_at primary t ss len ++ copy_ranges_at backup t ss len) len
+  pub apart : AreApart (copy_ranges_at primary t ss len ++ copy_ranges_at backup t ss len)
+  pub fits : t.last_usable_lba + 1 < 2 ^ 64
+
+-- A header begins as every table's does.
+pub record HasRightMarks (h : GPTHeader) : Type 0 where
+  pub signature : h.signature ≡ right_signature
+  pub revision : h.revision ≡ right_revision
+
+-- A sector has room for a header, and the header says what the list is.
+pub record HasRightSizes (h : GPTHeader) (es : List GPTPartitionEntry) (ss : ℕ) : Type 0 where
+  pub sector : 92 ≤ ss
+  pub header_size : h.header_size ≡ 92
+  pub entry_size : h.size_of_partition_entry ≡ 128
+  pub entries : length es ≡ h.number_of_partition_entries
+
+-- The two headers are those of sector 1 and of the last whole sector.
+pub record HasRightSectors (t : Table) (ss len : ℕ) : Type 0 where
+  pub low : t.low_sector ≡ min 1 (len / ss - 1)
+  pub high : t.high_sector ≡ max 1 (len / ss - 1)
+
+-- The four ranges are within the disk and apart from each other.
+pub record AreInPlace (t : Table) (ss len : ℕ) : Type 0 where
   pub inside : AreInside (copy_ranges_at primary t ss len ++ copy_ranges_at backup t ss len) len
   pub apart : AreApart (copy_ranges_at primary t ss len ++ copy_ranges_at backup t ss len)
   pub fits : t.last_usable_lba + 1 < 2 ^ 64

@@ -1,5 +1,5 @@
 -- Entries by their numbers, which count from 1.
-use Rattle.std.specs.Prelude.{◌≤◌, ℕ, ◌+◌, ◌-◌, Bool, ◌&&◌, nat_le, if◌then◌else◌, List, ◌++◌, length, take, drop, position, slice_index_or, slice_set, Option, Some, None, Result, Err}
+use Rattle.std.specs.Prelude.{◌≤◌, ℕ, ◌+◌, ◌-◌, Bool, ◌&&◌, nat_le, if◌then◌else◌, List, ◌++◌, length, take, drop, position, slice_get, slice_index_or, slice_set, Option, Some, None, Result, Err}
 use Rattle.std.specs.Option.{option_map}
 use Rattle.gptman_copy.specs.Coding.{empty_entry}
 use Rattle.gptman_copy.specs.Entry.{bytes_of, covers}
@@ -22,6 +22,10 @@ number_fault g i = if has_number g i then None else Some (invalid_partition_numb
 
 abbrev pub entry_at : GPT → ℕ → GPTPartitionEntry
 entry_at g i = slice_index_or (entries_in g) (i - 1) empty_entry
+
+-- the entry of a number, where the list has one
+abbrev pub entry_of_number : GPT → ℕ → Option GPTPartitionEntry
+entry_of_number g i = if nat_le 1 i then slice_get (entries_in g) (i - 1) else None
 
 -- the value with another list of entries
 abbrev pub with_entries : GPT → List GPTPartitionEntry → GPT

@@ -1,5 +1,5 @@
 -- What a table is, whichever of its two forms one looks at.
-use Rattle.std.specs.Prelude.{◌≡◌, ◌+◌, ℕ, List, replicate, map, min, max}
+use Rattle.std.specs.Prelude.{◌≡◌, ◌⊎◌, ◌+◌, ℕ, List, replicate, map, min, max}
 use Rattle.gptman_copy.specs.Coding.{empty_entry}
 use Rattle.gptman_copy.specs.Fit.{new_header, fit_header}
 use Rattle.gptman_copy.specs.Copy.{Copy}
@@ -68,6 +68,10 @@ table_in g = table_of g.header g.partitions
 abbrev pub IsHeaderForm : Side → GPTHeader → Type 0
 IsHeaderForm primary h = (h.primary_lba ≡ 1) × (h.partition_entry_lba ≡ 2)
 IsHeaderForm backup h = (h.backup_lba ≡ 1) × (h.partition_entry_lba ≡ h.last_usable_lba + 1)
+
+-- in one of the two
+abbrev pub IsInForm : GPTHeader → Type 0
+IsInForm h = IsHeaderForm primary h ⊎ IsHeaderForm backup h
 
 -- the copy is the table in the form of that side
 pub record IsForm (side : Side) (t : Table) (copy : Copy) : Type 0 where

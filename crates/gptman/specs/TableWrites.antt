@@ -1,10 +1,11 @@
 -- What writing a table answers, and what it leaves.
-use Rattle.std.specs.Prelude.{◌≡◌, ◌≢◌, ◌⊎◌, ℕ, List, Option, None, Some, Result, IfErr}
+use Rattle.std.specs.Prelude.{◌≡◌, ◌≢◌, ◌⊎◌, ◌&&◌, ℕ, Bool, List, Option, None, Some, Result, IfErr}
+use Rattle.std.specs.List.{list_all}
 use Rattle.gptman_copy.specs.Answers.{IsFailure, Refuses}
 use Rattle.gptman_copy.specs.Copy.{with_checksums}
 use Rattle.gptman_copy.specs.Disk.{DiskState, IsHonest, OnlyRead}
 use Rattle.gptman_copy.specs.Fault.{Fault, fault_of, io, no_space_left, overflow, out_of_memory}
-use Rattle.gptman_copy.specs.Write.{four_ranges, HasBytes, other_header, SameButSums, write_fault}
+use Rattle.gptman_copy.specs.Write.{four_ranges, has_other_header, is_addressable, other_header, write_fault, HasBytes, SameButSums}
 use Rattle.gptman.specs.Table.{entries_in}
 use Rattle.gptman.specs.Valid.{IsValid, IsValidity}
 use Rattle.gptman_copy.specs.declared.error.Error.{Error}
@@ -22,6 +23,10 @@ IsButSums g new = (new ≡ record g { header = new.header }) × SameButSums g.he
 -- the header of the other copy, with its checksums
 abbrev pub other_with_checksums : GPT → GPTHeader
 other_with_checksums g = with_checksums (other_header g.header) (entries_in g)
+
+-- both copies start and end below byte 2^64
+abbrev pub is_addressable_table : GPT → Bool
+is_addressable_table g = has_other_header g.header && list_all is_addressable (four_ranges g.header g.sector_size)
 
 -- what is refused of a valid value on a disk of len bytes
 abbrev pub table_write_fault : GPT → ℕ → Option Fault
@@ -58,6 +63,12 @@ pub data RefusesWrite (g : GPT) (fault : Fault) (old new : DiskState) : Type 0 w
   not_valid : IsValidity g.header (entries_in g) (Some fault) → RefusesWrite g fault old new
   no_room : IsValid g.header (entries_in g) → table_write_fault g old.size ≡ Some fault → RefusesWrite g fault old new
   disk_failed : IsValid g.header (entries_in g) → table_write_fault g old.size ≢ Some overflow → IsFailure fault old new → RefusesWrite g fault old new
+
+-- Why a table may not be written to a disk of len bytes, or cannot be checked: there is no memory, it is not valid, or there is no room for it.
+pub data RefusesTable (g : GPT) (len : ℕ) (fault : Fault) : Type 0 where
+  table_no_memory : fault ≡ out_of_memory → RefusesTable g len fault
+  table_not_valid : IsValidity g.header (entries_in g) (Some fault) → RefusesTable g len fault
+  table_no_room : IsValid g.header (entries_in g) → table_write_fault g len ≡ Some fault → RefusesTable g len fault
 
 -- so of a valid one with room on the disk
 abbrev pub IsFailureOrMemory : Fault → DiskState → DiskState → Type 0

@@ -19,6 +19,7 @@ pub(crate) mod covered;
 mod entries;
 pub mod iter;
 pub mod laws;
+mod layout;
 mod mbr;
 mod numbers;
 mod read;

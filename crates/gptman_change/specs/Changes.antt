@@ -11,7 +11,7 @@ use Rattle.gptman.specs.Table.{Table, table_in, IsForm}
 use Rattle.gptman.specs.TableReads.{CountsReading}
 use Rattle.gptman.specs.TableWrites.{table_ranges, RefusesWrite}
 use Rattle.gptman.specs.declared.table.GPT.{GPT}
-use Rattle.gptman_change.specs.Planning.{KeepsPlaces, Makes, RefusesPlan}
+use Rattle.gptman_change.specs.Planning.{KeepsPlaces, Leaves, Makes, RefusesPlan}
 use Rattle.gptman_change.specs.Reads.{size_for, IsReadFrom, RefusesReading}
 
 -- A stop at any moment leaves one of the two tables at one place at least, and the disk is read as one of them, unless the reading takes a foreign copy.
@@ -46,6 +46,19 @@ pub record MakesChange {A : Type 0} (planned : Makes A) (size : Option ℕ) (ans
   pub stored : HasLayout next old.size → IsStored new next.sector_size (table_in next)
   pub alone : HasLayout next old.size → AreReadAlone new.view next
   pub good : (was : Table) → StartsGood old table.sector_size was → KeepsPlaces table next → (table_in table ≡ was) × HasLayout next old.size
+
+-- A table was read from the disk, and the plan left it: nothing was written.
+pub record LeavesTable {A : Type 0} (left : Leaves A) (size : Option ℕ) (answer : A) (old new : DiskState) : Type 0 where
+  pub table : GPT
+  pub read : IsReadFrom size old new table
+  pub counts : CountsReading old new table
+  pub answered : left table answer
+  pub only : OnlyRead old new
+
+-- What an Ok says: the planned table was written, or the plan left the one that is there.
+pub data AnswersChange {A : Type 0} (planned : Makes A) (left : Leaves A) (size : Option ℕ) (answer : A) (old new : DiskState) : Type 0 where
+  is_written : MakesChange planned size answer old new → AnswersChange planned left size answer old new
+  is_left : LeavesTable left size answer old new → AnswersChange planned left size answer old new
 
 -- What is left, at every exit: the disk was only read; or the table that was read was written as planned, in its four ranges alone. Then, from one good copy of a
 -- table for the planned one, a stop at any moment leaves that table or the planned one.

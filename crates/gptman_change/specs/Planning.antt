@@ -6,16 +6,26 @@ use Rattle.gptman.specs.Fault.{Fault}
 use Rattle.gptman.specs.Crash.{HasPlacesOf}
 use Rattle.gptman.specs.Layout.{HasLayout}
 use Rattle.gptman.specs.declared.table.GPT.{GPT}
+use Rattle.gptman_change.specs.declared.Planned.{Planned}
+use Rattle.gptman_change.specs.declared.Planned.TheVariants.{Write, Leave}
 
 -- what a plan makes of a table: the table before, the table after, and the answer beside it
 abbrev pub Makes : Type 0 → Type 1
 Makes A = GPT → GPT → A → Type 0
 
+-- of which table a plan answers this, and has nothing written
+abbrev pub Leaves : Type 0 → Type 1
+Leaves A = GPT → A → Type 0
+
+-- What a plan says of a table and what it made of it: the answer to a table that is written, or to one that is left.
+abbrev pub IsPlannedAs : {A : Type 0} → Makes A → Leaves A → GPT → GPT → Planned A → Type 0
+IsPlannedAs made left table next (Write answer) = made table next answer
+IsPlannedAs made left table next (Leave answer) = left table answer
+
 -- The answer is one that the plan gives of some table.
-pub record IsAnswer {A : Type 0} (planned : Makes A) (answer : A) : Type 0 where
-  pub table : GPT
-  pub next : GPT
-  pub made : planned table next answer
+pub data IsAnswer {A : Type 0} (made : Makes A) (left : Leaves A) (answer : A) : Type 0 where
+  of_written : (table next : GPT) → made table next answer → IsAnswer made left answer
+  of_left : (table : GPT) → left table answer → IsAnswer made left answer
 
 -- A table keeps its places: its sector size, its form and its four ranges, and the stated layout where it had it.
 pub record KeepsPlaces (table next : GPT) : Type 0 where

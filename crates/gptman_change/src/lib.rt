@@ -13,14 +13,23 @@ ghost use Rattle.gptman.specs.Fault.{Fault, fault_of};
 ghost use Rattle.gptman.specs.Table.{Table, entries_in};
 ghost use Rattle.gptman.specs.TableReads.{CountsReading};
 ghost use Rattle.gptman.specs.declared.table.GPT.{GPT};
-ghost use Rattle.gptman_change.specs.Changes.{IsSafe, LeavesChange, MakesChange, RefusesChange};
+ghost use Rattle.gptman_change.specs.Changes.{AnswersChange, IsSafe, LeavesChange, RefusesChange};
 ghost use Rattle.gptman_change.specs.Changes.{StartsGoodFor};
-ghost use Rattle.gptman_change.specs.Planning.{AlwaysKeepsPlaces, IsAnswer, RefusesPlan};
+ghost use Rattle.gptman_change.specs.Planning.{AlwaysKeepsPlaces, IsAnswer, IsPlannedAs, RefusesPlan};
 ghost use Rattle.gptman_change.specs.Reads.{size_for, IsReadFrom, RefusesReading};
 
 use gptman::table::laws::what_is_read_is_kept;
 use gptman::{Disk, GPT, Result};
 use std::alloc::Global;
+
+/// What becomes of a table, and what is answered beside it.
+#[derive(Drop)]
+pub enum Planned<A> {
+    /// The changed table is written.
+    Write(A),
+    /// Nothing is written, and the table on the disk stays as it is.
+    Leave(A),
+}
 
 /// A change of a table in memory.
 pub trait Plan {
@@ -33,14 +42,23 @@ pub trait Plan {
     /// What the plan makes of a table on a disk of so many bytes, and answers.
     ghost makes: { Self → ℕ → GPT → GPT → Self.Answer → Type 0 };
 
+    /// Of which table on a disk of so many bytes it answers this, and has nothing written.
+    ghost leaves: { Self → ℕ → GPT → Self.Answer → Type 0 } = { λ _ _ _ _. ⊥ };
+
     /// With which error it makes nothing of a table, on a disk of so many bytes that does not fail.
     ghost refuses: { Self → ℕ → GPT → Fault → Type 0 };
 
     /// That it asks the disk for its length, and so may fail with it.
     ghost asks: { Self → Type 0 };
 
-    /// Changes the table. The disk is there for what has to know its length, and is only read.
-    fn change<D: Disk>(&self, alloc: Global, disk: &mut D, table: &mut GPT) -> Result<Self::Answer>
+    /// Changes the table, or leaves it. The disk is there for what has to know its length, and is only
+    /// read.
+    fn change<D: Disk>(
+        &self,
+        alloc: Global,
+        disk: &mut D,
+        table: &mut GPT,
+    ) -> Result<Planned<Self::Answer>>
         requires ready { ready self.now }
         requires sector { 0 < table.old.sector_size }
         requires coherent { IsCoherent table.old.header (entries_in table.old) }
@@ -48,7 +66,8 @@ pub trait Plan {
         ensures reads { Reads (D.state disk.old) (D.state disk.new) }
         ensures counts { CountsFailure result (D.state disk.old) (D.state disk.new) }
         ensures once { HasFailedOnceAtMost (D.state disk.old) (D.state disk.new) }
-        ensures value { IfOk result (makes self.now (D.state disk.old).size table.old table.new) }
+        ensures value { IfOk result (IsPlannedAs (makes self.now (D.state disk.old).size)
+            (leaves self.now (D.state disk.old).size) table.old table.new) }
         ensures refused { IfErr result (λ e. RefusesPlan (refuses self.now (D.state disk.old).size)
             (asks self.now) table.old (fault_of e) (D.state disk.old) (D.state disk.new)) }
         ensures cause { HasCause result (D.state disk.old) (D.state disk.new) }
@@ -81,7 +100,7 @@ pub fn read_table<D: Disk>(alloc: Global, disk: &mut D, sector_size: Option<u64>
 }
 
 /// Reads the table on the disk, with sectors of so many bytes or of a size that is found, has the plan
-/// change it, and writes it to both places. Answers what the plan answers.
+/// change it, and writes it to both places, unless the plan leaves it. Answers what the plan answers.
 ///
 /// The errors are those of reading a table, of the plan, and of `GPT::write_into`. After one other than
 /// `Io` the disk is as it was.
@@ -95,11 +114,13 @@ pub fn change_table<D: Disk, P: Plan>(
     requires ready { P.ready plan.now }
     ensures keeps { Keeps (D.state disk.old) (D.state disk.new) }
 
-    // After Ok the plan gave its answer, and both places hold the planned table.
-    ensures answer { IfOk result (IsAnswer (P.makes plan.now (D.state disk.old).size)) }
-    ensures changed { IsHonest (D.state disk.old) → IfOk result (λ answer. MakesChange
-        (P.makes plan.now (D.state disk.old).size) sector_size answer
-        (D.state disk.old) (D.state disk.new)) }
+    // After Ok the plan gave its answer, and both places hold the planned table, or the plan left it and
+    // the disk was only read.
+    ensures answer { IfOk result (IsAnswer (P.makes plan.now (D.state disk.old).size)
+        (P.leaves plan.now (D.state disk.old).size)) }
+    ensures changed { IsHonest (D.state disk.old) → IfOk result (λ answer. AnswersChange
+        (P.makes plan.now (D.state disk.old).size) (P.leaves plan.now (D.state disk.old).size)
+        sector_size answer (D.state disk.old) (D.state disk.new)) }
 
     // An error has one of three reasons, and leaves the disk as it was unless it failed.
     ensures refused { IsHonest (D.state disk.old) → IfErr result (λ e. RefusesChange
@@ -119,7 +140,11 @@ pub fn change_table<D: Disk, P: Plan>(
         (size_for (D.state disk.old).view sector_size) was (D.state disk.old) (D.state disk.new) }
 {
     let mut table = read_table(alloc, disk, sector_size)?;
-    let answer = plan.change(alloc, disk, &mut table)?;
+    let planned = plan.change(alloc, disk, &mut table)?;
+    let answer = match planned {
+        Planned::Write(answer) => answer,
+        Planned::Leave(answer) => return Ok(answer),
+    };
     what_is_read_is_kept(disk); // a law, for the proof
     table.write_into(disk)?;
     Ok(answer)

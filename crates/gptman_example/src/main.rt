@@ -10,7 +10,7 @@ ghost use Rattle.gptman_example.specs.Adding.{AreAllUsed, HasNoRoom, IsFirstUnus
 
 use gptman::table::laws::what_is_read_is_kept;
 use gptman::{Disk, Error, FileDisk, GPT, GPTPartitionEntry, PartitionName, Result};
-use gptman_change::{Plan, change_table};
+use gptman_change::{Plan, Planned, change_table};
 use std::alloc::Global;
 use std::env;
 use std::fs::File;
@@ -38,7 +38,12 @@ impl Plan for NewPartition {
 
     ghost asks = { λ new. ⊥ };
 
-    fn change<D: Disk>(&self, _alloc: Global, _disk: &mut D, table: &mut GPT) -> Result<u64> {
+    fn change<D: Disk>(
+        &self,
+        _alloc: Global,
+        _disk: &mut D,
+        table: &mut GPT,
+    ) -> Result<Planned<u64>> {
         let Some(number) = first_unused(table) else {
             return Err(Error::NoSpaceLeft);
         };
@@ -50,7 +55,7 @@ impl Plan for NewPartition {
             ending_lba: first + (self.size - 1),
             ..self.partition.clone()?
         };
-        Ok(first)
+        Ok(Planned::Write(first))
     }
 }
 

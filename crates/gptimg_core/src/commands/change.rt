@@ -21,7 +21,7 @@ ghost use Rattle.gptimg_core.specs.declared.words.Change.TheVariants.{Add, Grow}
 use crate::commands::Report;
 use crate::words::{Addition, Change, Choice};
 use gptman::{Disk, Error, GPT, GPTPartitionEntry, PartitionName, Result};
-use gptman_change::Plan;
+use gptman_change::{Plan, Planned};
 use std::alloc::Global;
 
 /// A change is a plan that tells what it did.
@@ -37,12 +37,17 @@ impl Plan for Change<'_> {
     ghost asks = { AsksDisk };
 
     /// The errors are those of removing, sorting, fitting and adding.
-    fn change<D: Disk>(&self, alloc: Global, disk: &mut D, table: &mut GPT) -> Result<Report> {
+    fn change<D: Disk>(
+        &self,
+        alloc: Global,
+        disk: &mut D,
+        table: &mut GPT,
+    ) -> Result<Planned<Report>> {
         match self {
-            Change::Add(addition) => add(alloc, table, addition),
-            Change::Remove(number) => remove(table, *number),
-            Change::Sort => sort(table),
-            Change::Grow => fit(disk, table),
+            Change::Add(addition) => Ok(Planned::Write(add(alloc, table, addition)?)),
+            Change::Remove(number) => Ok(Planned::Write(remove(table, *number)?)),
+            Change::Sort => Ok(Planned::Write(sort(table)?)),
+            Change::Grow => Ok(Planned::Write(fit(disk, table)?)),
         }
     }
 }

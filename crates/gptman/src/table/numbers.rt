@@ -1,13 +1,14 @@
 //! Entries by their numbers, which count from 1, and by the sectors that they cover.
 
-ghost use Rattle.std.specs.Prelude.{◌≡◌, ◌-◌, ◌<◌, ℕ, Some, length, position, slice_get, IfSome, IsTrue};
-ghost use Rattle.std.specs.Prelude.{OnOk, OnErr};
+ghost use Rattle.std.specs.Prelude.{◌≡◌, ◌-◌, ◌<◌, ℕ, Some, length, option_map, position, slice_get};
+ghost use Rattle.std.specs.Prelude.{IfSome, IsSome, IsTrue, OnOk, OnErr};
 ghost use Rattle.std.specs.Borrow.{sem};
 ghost use Rattle.gptman_copy.specs.Answers.{answer_of, refusal_of};
 ghost use Rattle.gptman_copy.specs.Coding.{empty_entry};
 ghost use Rattle.gptman_copy.specs.Entry.{bytes_of, covers, ends_of};
 ghost use Rattle.gptman.specs.Lending.{LendsEntry};
-ghost use Rattle.gptman.specs.Number.{byte_range_in, entry_at, has_number, number_at, number_fault};
+ghost use Rattle.gptman.specs.Number.{byte_range_in, entry_at, entry_of_number, has_number, number_at};
+ghost use Rattle.gptman.specs.Number.{number_fault};
 ghost use Rattle.gptman.specs.Number.{sector_fault, with_entry, without, IsNumber};
 ghost use Rattle.gptman.specs.Table.{entries_in};
 ghost use Rattle.gptman.specs.Valid.{IsValid};
@@ -46,6 +47,15 @@ impl GPT {
         ensures { result ≡ has_number self.now i }
     {
         i >= 1 && i <= self.header.number_of_partition_entries && i <= self.partitions.len()
+    }
+
+    /// The entry of the number, which counts from 1; `None` where the list has no such entry.
+    pub fn get(&self, i: u32) -> Option<&GPTPartitionEntry>
+        ensures value { option_map (λ e. e.now) result ≡ entry_of_number self.now i }
+        ensures number { IsSome result → IsNumber self.now i }
+    {
+        let index = (i as usize).checked_sub(1)?;
+        self.partitions.as_slice().get(index)
     }
 
     /// The lowest number of a used entry that covers the sector, from its first to its last; `None`

@@ -2,13 +2,15 @@
 //!
 //! Each copy is synced before the next is begun, so at any moment one of them is whole.
 
-ghost use Rattle.std.specs.Prelude.{◌≡◌, ◌<◌, ◌⊎◌, [], ◌∷◌, None, IfErr, IfOk, OnErr, OnOk};
-ghost use Rattle.gptman_copy.specs.Answers.{CountsFailure, FailsPending, HasCause, IsFailure, Settles};
+ghost use Rattle.std.specs.Prelude.{◌≡◌, ◌<◌, ◌⊎◌, [], ◌∷◌, None, Some, if◌then◌else◌};
+ghost use Rattle.std.specs.Prelude.{IfErr, IfOk, IsTrue, OnErr, OnOk};
+ghost use Rattle.gptman_copy.specs.Answers.{refusal_of, CountsFailure, FailsPending, HasCause, IsFailure};
+ghost use Rattle.gptman_copy.specs.Answers.{Settles};
 ghost use Rattle.gptman_copy.specs.Coding.{array_bytes};
 ghost use Rattle.gptman_copy.specs.Copy.{with_checksums, IsCoherent};
 ghost use Rattle.gptman_copy.specs.Crc.{crc_of};
 ghost use Rattle.gptman_copy.specs.Disk.{HasFailedOnceAtMost, IsHonest, Keeps, Reads, Writes};
-ghost use Rattle.gptman_copy.specs.Fault.{fault_of, io as io_fault};
+ghost use Rattle.gptman_copy.specs.Fault.{fault_of, io as io_fault, overflow};
 ghost use Rattle.gptman_copy.specs.Ranges.{AreApart};
 ghost use Rattle.gptman_copy.specs.Write.{copy_write_fault, header_range, other_header, copy_ranges};
 ghost use Rattle.gptman_copy.specs.Write.{FitsCopy, LaysCopy, SameButSums};
@@ -17,10 +19,11 @@ ghost use Rattle.gptman.specs.Crash.{StartsFromOne, StartsLaidOut, StartsStored,
 ghost use Rattle.gptman.specs.Layout.{HasLayout};
 ghost use Rattle.gptman.specs.Stop.{IsStored, StopsAreReadAs, StopsHold};
 ghost use Rattle.gptman.specs.Table.{entries_in, table_in, Table};
-ghost use Rattle.gptman.specs.TableWrites.{other_with_checksums, table_ranges, table_write_fault};
-ghost use Rattle.gptman.specs.TableWrites.{value_with_checksums};
+ghost use Rattle.gptman.specs.TableWrites.{is_addressable_table, other_with_checksums, table_ranges};
+ghost use Rattle.gptman.specs.TableWrites.{table_write_fault, value_with_checksums};
 ghost use Rattle.gptman.specs.TableWrites.{HasBothCopies, HasRoomOn, IsButSums, IsFailureOrMemory};
-ghost use Rattle.gptman.specs.TableWrites.{MayBeWritten, RefusesAtOnce, RefusesUnwritten, RefusesWrite};
+ghost use Rattle.gptman.specs.TableWrites.{MayBeWritten, RefusesAtOnce, RefusesTable, RefusesUnwritten};
+ghost use Rattle.gptman.specs.TableWrites.{RefusesWrite};
 ghost use Rattle.gptman.specs.Valid.{IsValid};
 
 use crate::table::GPT;
@@ -118,6 +121,23 @@ impl GPT {
         self.write_both(disk, other)
     }
 
+    /// The checks of `write_into` alone, for a disk of so many bytes. An Ok says that a write of this table
+    /// to such a disk is refused by the disk alone, where it fails, or for want of memory.
+    ///
+    /// The errors are those of `write_into` but `Io`, in the same order.
+    pub fn check_write(&self, size: u64) -> Result<()>
+        ensures answer { OnOk result (MayBeWritten self.now size) }
+        ensures refused { IfErr result (λ e. RefusesTable self.now size (fault_of e)) }
+    {
+        check(
+            self.partitions.alloc(),
+            &self.header,
+            self.partitions.as_slice(),
+        )?;
+        let other = self.addressable_other()?;
+        self.check_room(&other, size)
+    }
+
     // Writes both copies, where neither is refused: the other one, which gets this header, and then the
     // own one.
     fn write_both<D: Disk>(&mut self, disk: &mut D, mut other: GPTHeader) -> Result<GPTHeader>
@@ -163,6 +183,18 @@ impl GPT {
         ensures cause { HasCause result (D.state disk.old) (D.state disk.new) }
         ensures value { IfOk result (λ h. h ≡ other_header self.now.header) }
     {
+        let other = self.addressable_other()?;
+        let size = disk.seek_end()?;
+        self.check_room(&other, size)?;
+        Ok(other)
+    }
+
+    // The other header, where both copies start and end below byte 2^64.
+    fn addressable_other(&self) -> Result<GPTHeader>
+        ensures answer { refusal_of result
+            ≡ (if is_addressable_table self.now then None else Some overflow) }
+        ensures value { IfOk result (λ h. h ≡ other_header self.now.header) }
+    {
         let own = &self.header;
         let Some(other) = own.other() else {
             return Err(Error::Overflow);
@@ -170,11 +202,20 @@ impl GPT {
         if !own.is_addressable(self.sector_size) || !other.is_addressable(self.sector_size) {
             return Err(Error::Overflow);
         }
-        let size = disk.seek_end()?;
+        Ok(other)
+    }
+
+    // Refuses a disk of so many bytes on which one of the two copies does not end.
+    fn check_room(&self, other: &GPTHeader, size: u64) -> Result<()>
+        requires other { other.now ≡ other_header self.now.header }
+        requires addressable { IsTrue (is_addressable_table self.now) }
+        ensures answer { refusal_of result ≡ table_write_fault self.now size }
+    {
+        let own = &self.header;
         if !own.is_inside(self.sector_size, size) || !other.is_inside(self.sector_size, size) {
             return Err(Error::NoSpaceLeft);
         }
-        Ok(other)
+        Ok(())
     }
 }
 

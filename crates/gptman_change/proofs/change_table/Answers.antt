@@ -8,16 +8,16 @@ use Rattle.gptman.proofs.Commits.{write_since}
 use Rattle.gptman_copy.proofs.Outcomes.{on_err_of}
 use Rattle.gptman_copy.proofs.Readers.{reads_then}
 use Rattle.gptman_copy.proofs.Runs.{keeps_then, rose_since}
-use Rattle.gptman_change.specs.Changes.{unwritten, IsSafe, LeavesChange, StartsGoodFor}
+use Rattle.gptman_change.specs.Changes.{is_left, is_written, unwritten, IsSafe, LeavesChange, StartsGoodFor}
 use Rattle.gptman_change.specs.Changes.RefusesChange.{not_made, not_read, not_written}
-use Rattle.gptman_change.specs.Planning.{AlwaysKeepsPlaces, RefusesPlan}
+use Rattle.gptman_change.specs.Planning.{of_left, of_written, AlwaysKeepsPlaces, IsPlannedAs, RefusesPlan}
 use Rattle.gptman_change.specs.Reads.{size_for, IsReadFrom}
 use Rattle.gptman_change.proofs.Left.{change_written, laid_since, wrote_since}
 use Rattle.gptman_change.proofs.Read.{counts_before, read_before}
 use Rattle.gptman_change.proofs.Safe.{from_good, unwritten_safe, written_safe}
 use Rattle.gptman_change.proofs.change_table.Given.{Over}
 use Rattle.gptman_change.proofs.change_table.Goals as goal
-use Rattle.gptman_change.proofs.change_table.Goals.{After-change, After-write_into, In_ok-answer}
+use Rattle.gptman_change.proofs.change_table.Goals.{After-change, After-write_into, In-Leave, In-Write}
 
 pub returns-in_err-table-clause-refused : goal.returns-in_err-table-clause-refused
 returns-in_err-table-clause-refused g c = λ honest.
@@ -34,16 +34,16 @@ plan_since : (refuses : ℕ → GPT → Fault → Type 0) (asks : Type 0) (table
 plan_since refuses asks table fault old mid new keeps (inl why) = inl (subst (λ (n : ℕ). refuses n table fault) keeps.size why)
 plan_since refuses asks table fault old mid new keeps (inr failed) = inr (failed.0, (failed.1.0, rose_since old mid new keeps failed.1.1))
 
-pub returns-in_err-answer-clause-refused : goal.returns-in_err-answer-clause-refused
-returns-in_err-answer-clause-refused g c = λ honest.
+pub returns-in_err-planned-clause-refused : goal.returns-in_err-planned-clause-refused
+returns-in_err-planned-clause-refused g c = λ honest.
     let old = g.D.Disk.state c.args.disk.now in
     let mid = g.D.Disk.state c.read_table.new.disk in
     let new = g.D.Disk.state c.change.new.disk in
     let table = c.in_ok-table.table in
-    let p = err_from_is_err_and c.from_residual-in_err-answer.result c.from_residual-in_err-answer.ensures.1 in
+    let p = err_from_is_err_and c.from_residual-in_err-planned.result c.from_residual-in_err-planned.ensures.1 in
     rw (p.1, p.2) (not_made table
     (read_before c.args.sector_size old mid new table (c.in_ok-table.ensures.value honest) c.change.ensures.reads.keeps)
-    (plan_since (g.P.Plan.refuses c.args.plan.now) _ table _ old mid new c.read_table.ensures.reads.keeps c.in_err-answer.ensures.refused))
+    (plan_since (g.P.Plan.refuses c.args.plan.now) _ table _ old mid new c.read_table.ensures.reads.keeps c.in_err-planned.ensures.refused))
 
 -- up to the write the disk is read alone
 only_read : (g : Over) (c : After-change g) → IsTrue (g.D.Disk.state c.args.disk.now).is_honest → OnlyRead (g.D.Disk.state c.args.disk.now) (g.D.Disk.state c.change.new.disk)
@@ -54,13 +54,13 @@ only_read g c honest =
 keeps_to : (g : Over) (c : After-change g) → Keeps (g.D.Disk.state c.args.disk.now) (g.D.Disk.state c.change.new.disk)
 keeps_to g c = keeps_then c.read_table.ensures.reads.keeps c.change.ensures.reads.keeps
 
-pub returns-in_err-answer-clause-leaves : goal.returns-in_err-answer-clause-leaves
-returns-in_err-answer-clause-leaves g c = λ honest. unwritten (only_read g (goal.at.returns-in_err-answer-clause-leaves g c).After-change honest)
+pub returns-in_err-planned-clause-leaves : goal.returns-in_err-planned-clause-leaves
+returns-in_err-planned-clause-leaves g c = λ honest. unwritten (only_read g (goal.at.returns-in_err-planned-clause-leaves g c).After-change honest)
 
-pub returns-in_err-answer-clause-safe : goal.returns-in_err-answer-clause-safe
-returns-in_err-answer-clause-safe g c = λ places was good.
+pub returns-in_err-planned-clause-safe : goal.returns-in_err-planned-clause-safe
+returns-in_err-planned-clause-safe g c = λ places was good.
     unwritten_safe _ _ was (g.D.Disk.state c.args.disk.now) (g.D.Disk.state c.change.new.disk) good
-    (only_read g (goal.at.returns-in_err-answer-clause-safe g c).After-change good.honest)
+    (only_read g (goal.at.returns-in_err-planned-clause-safe g c).After-change good.honest)
 
 pub returns-in_err-write_into-clause-kept : goal.returns-in_err-write_into-clause-kept
 returns-in_err-write_into-clause-kept g c honest =
@@ -71,12 +71,55 @@ returns-in_err-write_into-clause-kept g c honest =
     (λ failed. inl (rose_since _ (g.D.Disk.state c.change.new.disk) (g.D.Disk.state c.write_into.new.disk) (keeps_to g at.After-change) (refused.cause failed)))
     (λ same. inr (record { view = same.view ∙ read.view; pending = same.pending ∙ read.pending })) (refused.untouched read.wrote.honest))
 
--- what the plan made, by the length of the disk before the call
-made : (g : Over) (c : In_ok-answer g)
-    → g.P.Plan.makes c.args.plan.now (g.D.Disk.state c.args.disk.now).size c.in_ok-table.table c.change.new.table c.in_ok-answer.answer
+-- what the plan made, by the length of the disk after the reading
+made_here : (g : Over) (c : In-Write g)
+    → g.P.Plan.makes c.args.plan.now (g.D.Disk.state c.read_table.new.disk).size c.in_ok-table.table c.change.new.table c.in-Write.answer
+made_here g c =
+    let size = (g.D.Disk.state c.read_table.new.disk).size in
+    subst (λ planned. IsPlannedAs (g.P.Plan.makes c.args.plan.now size) (g.P.Plan.leaves c.args.plan.now size) c.in_ok-table.table c.change.new.table planned)
+    c.in-Write.is c.in_ok-planned.ensures.value
+
+-- and before the call
+made : (g : Over) (c : In-Write g)
+    → g.P.Plan.makes c.args.plan.now (g.D.Disk.state c.args.disk.now).size c.in_ok-table.table c.change.new.table c.in-Write.answer
 made g c =
-    subst (λ (n : ℕ). g.P.Plan.makes c.args.plan.now n c.in_ok-table.table c.change.new.table c.in_ok-answer.answer) c.read_table.ensures.reads.keeps.size
-    c.in_ok-answer.ensures.value
+    subst (λ (n : ℕ). g.P.Plan.makes c.args.plan.now n c.in_ok-table.table c.change.new.table c.in-Write.answer) c.read_table.ensures.reads.keeps.size
+    (made_here g c)
+
+-- what it answers to a table that it leaves
+left : (g : Over) (c : In-Leave g) → g.P.Plan.leaves c.args.plan.now (g.D.Disk.state c.args.disk.now).size c.in_ok-table.table c.in-Leave.answer
+left g c =
+    let size = (g.D.Disk.state c.read_table.new.disk).size in
+    subst (λ (n : ℕ). g.P.Plan.leaves c.args.plan.now n c.in_ok-table.table c.in-Leave.answer) c.read_table.ensures.reads.keeps.size
+    (subst (λ planned. IsPlannedAs (g.P.Plan.makes c.args.plan.now size) (g.P.Plan.leaves c.args.plan.now size) c.in_ok-table.table c.change.new.table planned)
+    c.in-Leave.is c.in_ok-planned.ensures.value)
+
+pub returns-in-Leave-clause-answer : goal.returns-in-Leave-clause-answer
+returns-in-Leave-clause-answer g c = of_left c.in_ok-table.table (left g (goal.at.returns-in-Leave-clause-answer g c).In-Leave)
+
+pub returns-in-Leave-clause-changed : goal.returns-in-Leave-clause-changed
+returns-in-Leave-clause-changed g c honest =
+    let at = goal.at.returns-in-Leave-clause-changed g c in
+    let old = g.D.Disk.state c.args.disk.now in
+    let mid = g.D.Disk.state c.read_table.new.disk in
+    let new = g.D.Disk.state c.change.new.disk in
+    is_left (record {
+      table = c.in_ok-table.table;
+      read = read_before c.args.sector_size old mid new c.in_ok-table.table (c.in_ok-table.ensures.value honest) c.change.ensures.reads.keeps;
+      counts =
+          let answered : HasFailedAsOften mid new = ⊎_elim (λ same. same) (λ io. absurd io) c.in_ok-planned.ensures.counts in
+          counts_before old mid new c.in_ok-table.table (c.in_ok-table.ensures.counts honest) answered;
+      answered = left g at.In-Leave;
+      only = only_read g at.After-change honest;
+    })
+
+pub returns-in-Leave-clause-leaves : goal.returns-in-Leave-clause-leaves
+returns-in-Leave-clause-leaves g c = λ honest. unwritten (only_read g (goal.at.returns-in-Leave-clause-leaves g c).After-change honest)
+
+pub returns-in-Leave-clause-safe : goal.returns-in-Leave-clause-safe
+returns-in-Leave-clause-safe g c = λ places was good.
+    unwritten_safe _ _ was (g.D.Disk.state c.args.disk.now) (g.D.Disk.state c.change.new.disk) good
+    (only_read g (goal.at.returns-in-Leave-clause-safe g c).After-change good.honest)
 
 -- the table was read, also once the write is over
 was_read : (g : Over) (c : After-write_into g) → IsTrue (g.D.Disk.state c.args.disk.now).is_honest
@@ -90,12 +133,12 @@ returns-in_err-write_into-clause-refused g c = λ honest.
     let at = goal.at.returns-in_err-write_into-clause-refused g c in
     let next = c.change.new.table in
     let p = err_from_is_err_and c.from_residual-in_err-write_into.result c.from_residual-in_err-write_into.ensures.1 in
-    rw (p.1, p.2) (not_written c.in_ok-table.table next c.in_ok-answer.answer (was_read g at.After-write_into honest) (made g at.In_ok-answer)
+    rw (p.1, p.2) (not_written c.in_ok-table.table next c.in-Write.answer (was_read g at.After-write_into honest) (made g at.In-Write)
     (write_since next (fault_of c.in_err-write_into.field-0.0) (g.D.Disk.state c.args.disk.now) (g.D.Disk.state c.change.new.disk) (g.D.Disk.state c.write_into.new.disk)
     (keeps_to g at.After-change) c.in_err-write_into.ensures.refused))
 
 pub returns-clause-answer : goal.returns-clause-answer
-returns-clause-answer g c = record { table = c.in_ok-table.table; next = c.change.new.table; made = made g (goal.at.returns-clause-answer g c).In_ok-answer }
+returns-clause-answer g c = of_written c.in_ok-table.table c.change.new.table (made g (goal.at.returns-clause-answer g c).In-Write)
 
 pub returns-clause-changed : goal.returns-clause-changed
 returns-clause-changed g c honest =
@@ -107,55 +150,64 @@ returns-clause-changed g c honest =
     let next = c.change.new.table in
     let read = only_read g at.After-change honest in
     let keeps = keeps_to g at.After-change in
-    record {
+    is_written (record {
       table = c.in_ok-table.table;
       next = next;
       read = was_read g at.After-write_into honest;
       counts =
-          let answered : HasFailedAsOften mid last = ⊎_elim (λ same. same) (λ io. absurd io) c.in_ok-answer.ensures.counts in
+          let answered : HasFailedAsOften mid last = ⊎_elim (λ same. same) (λ io. absurd io) c.in_ok-planned.ensures.counts in
           let written : HasFailedAsOften last new = ⊎_elim (λ same. same) (λ io. absurd io) c.in_ok-write_into.ensures.counts in
           counts_before old mid new c.in_ok-table.table (c.in_ok-table.ensures.counts honest) (written ∙ answered);
-      made = made g at.In_ok-answer;
+      made = made g at.In-Write;
       wrote = wrote_since next old last new read (c.write_into.ensures.wrote read.wrote.honest);
       stored = λ layout. c.in_ok-write_into.ensures.stored (laid_since next old last read keeps layout);
       alone = λ layout. c.in_ok-write_into.ensures.alone (laid_since next old last read keeps layout);
       good = λ was good stays. from_good c.in_ok-table.table next was old mid (c.in_ok-table.ensures.value honest).accepted good stays;
-    }
+    })
 
 -- what the write leaves, whether it is done or fails
-leaves : (g : Over) (c : After-write_into g) → IsTrue (g.D.Disk.state c.args.disk.now).is_honest
+leaves : (g : Over) (c : After-write_into g) → g.P.Plan.makes c.args.plan.now (g.D.Disk.state c.read_table.new.disk).size c.in_ok-table.table c.change.new.table c.in-Write.answer
+    → IsTrue (g.D.Disk.state c.args.disk.now).is_honest
     → LeavesChange (g.P.Plan.makes c.args.plan.now (g.D.Disk.state c.args.disk.now).size) c.args.sector_size (g.D.Disk.state c.args.disk.now) (g.D.Disk.state c.write_into.new.disk)
-leaves g c honest =
-    change_written (g.P.Plan.makes c.args.plan.now) c.args.sector_size c.in_ok-table.table c.change.new.table c.in_ok-answer.answer (g.D.Disk.state c.args.disk.now)
+leaves g c was_made honest =
+    change_written (g.P.Plan.makes c.args.plan.now) c.args.sector_size c.in_ok-table.table c.change.new.table c.in-Write.answer (g.D.Disk.state c.args.disk.now)
     (g.D.Disk.state c.read_table.new.disk) (g.D.Disk.state c.change.new.disk) (g.D.Disk.state c.write_into.new.disk) honest c.read_table.ensures.reads c.change.ensures.reads
-    c.write_into.ensures.keeps (c.in_ok-table.ensures.value honest) c.in_ok-answer.ensures.value c.write_into.ensures.wrote c.write_into.ensures.one_good
+    c.write_into.ensures.keeps (c.in_ok-table.ensures.value honest) was_made c.write_into.ensures.wrote c.write_into.ensures.one_good
 
 pub returns-in_err-write_into-clause-leaves : goal.returns-in_err-write_into-clause-leaves
-returns-in_err-write_into-clause-leaves g c = leaves g (goal.at.returns-in_err-write_into-clause-leaves g c).After-write_into
+returns-in_err-write_into-clause-leaves g c =
+    let at = goal.at.returns-in_err-write_into-clause-leaves g c in
+    leaves g at.After-write_into (made_here g at.In-Write)
 
 pub returns-clause-leaves : goal.returns-clause-leaves
-returns-clause-leaves g c = leaves g (goal.at.returns-clause-leaves g c).After-write_into
+returns-clause-leaves g c =
+    let at = goal.at.returns-clause-leaves g c in
+    leaves g at.After-write_into (made_here g at.In-Write)
 
 -- and what it leaves of one good copy
-safe : (g : Over) (c : After-write_into g) → AlwaysKeepsPlaces (g.P.Plan.makes c.args.plan.now (g.D.Disk.state c.args.disk.now).size) → (was : Table)
+safe : (g : Over) (c : After-write_into g) → g.P.Plan.makes c.args.plan.now (g.D.Disk.state c.args.disk.now).size c.in_ok-table.table c.change.new.table c.in-Write.answer
+    → AlwaysKeepsPlaces (g.P.Plan.makes c.args.plan.now (g.D.Disk.state c.args.disk.now).size) → (was : Table)
     → StartsGoodFor (g.D.Disk.state c.args.disk.now) c.args.sector_size was
     → IsSafe (g.P.Plan.makes c.args.plan.now (g.D.Disk.state c.args.disk.now).size) (size_for (g.D.Disk.state c.args.disk.now).view c.args.sector_size) was
     (g.D.Disk.state c.args.disk.now) (g.D.Disk.state c.write_into.new.disk)
-safe g c places was good =
+safe g c was_made places was good =
     let old = g.D.Disk.state c.args.disk.now in
     let mid = g.D.Disk.state c.read_table.new.disk in
     let last = g.D.Disk.state c.change.new.disk in
     let table = c.in_ok-table.table in
     let first = c.read_table.ensures.reads.only good.honest in
     let read = reads_then first (c.change.ensures.reads.only first.wrote.honest) in
-    written_safe _ c.args.sector_size was table c.change.new.table c.in_ok-answer.answer old last (g.D.Disk.state c.write_into.new.disk) _ good read
+    written_safe _ c.args.sector_size was table c.change.new.table c.in-Write.answer old last (g.D.Disk.state c.write_into.new.disk) _ good read
     (keeps_then c.read_table.ensures.reads.keeps c.change.ensures.reads.keeps)
     (read_before c.args.sector_size old mid last table (c.in_ok-table.ensures.value good.honest) c.change.ensures.reads.keeps)
-    (subst (λ (n : ℕ). g.P.Plan.makes c.args.plan.now n table c.change.new.table c.in_ok-answer.answer) c.read_table.ensures.reads.keeps.size c.in_ok-answer.ensures.value)
-    places (c.write_into.ensures.wrote read.wrote.honest) c.what_is_read_is_kept.ensures.kept (c.write_into.ensures.one_good was)
+    was_made places (c.write_into.ensures.wrote read.wrote.honest) c.what_is_read_is_kept.ensures.kept (c.write_into.ensures.one_good was)
 
 pub returns-in_err-write_into-clause-safe : goal.returns-in_err-write_into-clause-safe
-returns-in_err-write_into-clause-safe g c = safe g (goal.at.returns-in_err-write_into-clause-safe g c).After-write_into
+returns-in_err-write_into-clause-safe g c =
+    let at = goal.at.returns-in_err-write_into-clause-safe g c in
+    safe g at.After-write_into (made g at.In-Write)
 
 pub returns-clause-safe : goal.returns-clause-safe
-returns-clause-safe g c = safe g (goal.at.returns-clause-safe g c).After-write_into
+returns-clause-safe g c =
+    let at = goal.at.returns-clause-safe g c in
+    safe g at.After-write_into (made g at.In-Write)

@@ -1,8 +1,10 @@
-use Rattle.std.proofs.Common.{inl, refl, sym, subst, IsTrue}
+use Rattle.std.proofs.Common.{inl, refl, sym, subst, ℕ, IsTrue}
 use Rattle.std.specs.Prelude.{Result, Ok, Err, IfOk}
 use Rattle.gptman.specs.declared.table.GPT.{GPT}
 use Rattle.gptman_copy.specs.declared.error.Error.{Error}
-use Rattle.gptimg_core.specs.Changes.{report_of}
+use Rattle.gptman_change.specs.Planning.{of_left, of_written, IsAnswer}
+use Rattle.gptman_change.proofs.Written.{is_made}
+use Rattle.gptimg_core.specs.Changes.{report_of, IsMade}
 use Rattle.gptimg_core.specs.Checks.{is_good}
 use Rattle.gptimg_core.specs.declared.commands.Report.{Report}
 use Rattle.gptimg_core.specs.declared.words.Change.{Change}
@@ -19,6 +21,10 @@ good_report (Add a) g = refl
 good_report (Remove number) g = refl
 good_report Sort g = refl
 good_report Grow g = refl
+
+good_answer : (change : Change) (len : ℕ) (report : Report) → IsAnswer (IsMade change len) (λ _ _. ⊥) report → IsTrue (is_good report)
+good_answer change len report (of_written table next made) = subst (λ (r : Report). IsTrue (is_good r)) (sym made.1) (good_report change next)
+good_answer change len report (of_left table never) = absurd never
 
 pub returns-in-New-clause-does : goal.returns-in-New-clause-does
 returns-in-New-clause-does g c =
@@ -41,8 +47,12 @@ pub returns-in-Change-clause-does : goal.returns-in-Change-clause-does
 returns-in-Change-clause-does g c =
     let ensures = c.change_table.ensures in
     rw c.in-Change.is (record {
-      does = record { refused = ensures.refused; changed = ensures.changed; leaves = ensures.leaves };
-      good = if_ok_as c.change_table.result (λ report answer. inl (subst (λ (r : Report). IsTrue (is_good r)) (sym answer.made.1) (good_report c.in-Change.change answer.next))) ensures.answer;
+      does = record {
+        refused = ensures.refused;
+        changed = λ honest. is_made _ (λ _ _. ⊥) (λ table report never. never) _ _ _ c.change_table.result (ensures.changed honest);
+        leaves = ensures.leaves;
+      };
+      good = if_ok_as c.change_table.result (λ report answer. inl (good_answer c.in-Change.change _ report answer)) ensures.answer;
       cause = ensures.cause;
       kept = ensures.kept;
     })

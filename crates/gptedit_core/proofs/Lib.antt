@@ -1,0 +1,4 @@
+pub mod Laid
+pub mod Resolved
+pub mod Runs
+pub mod Steps

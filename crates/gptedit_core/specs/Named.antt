@@ -1,0 +1,43 @@
+-- Which entries a layout names, and what becomes of these and of the others.
+use Rattle.std.specs.Prelude.{◌≡◌, ◌≢◌, ◌≤◌, ℕ, List, [], ◌∷◌, false, All, IsTrue}
+use Rattle.gptman.specs.Entry.{is_unused}
+use Rattle.gptman.specs.Number.{entry_at}
+use Rattle.gptman_copy.specs.declared.codec.entry.GPTPartitionEntry.{GPTPartitionEntry}
+use Rattle.gptman.specs.declared.table.GPT.{GPT}
+use Rattle.gptedit_core.specs.Laying.{IsLaid}
+use Rattle.gptedit_core.specs.Placing.{IsSpan}
+use Rattle.gptedit_core.specs.declared.asked.Layout.{Layout}
+use Rattle.gptedit_core.specs.declared.asked.Mode.{Mode}
+use Rattle.gptedit_core.specs.declared.asked.Mode.TheVariants.{Become}
+use Rattle.gptedit_core.specs.declared.resolve.Partition.{Partition}
+
+-- no partition has the number
+abbrev pub IsUnnamed : ℕ → List Partition → Type 0
+IsUnnamed i ps = All (λ p. p.number ≢ i) ps
+
+-- What becomes of an entry that is not named: it stays; where the table may only become what is asked for, it is not used.
+abbrev pub StaysAs : Mode → GPTPartitionEntry → GPTPartitionEntry → Type 0
+StaysAs (Become false) e after = (after ≡ e) × IsTrue (is_unused e)
+StaysAs mode e after = after ≡ e
+
+-- The partition is in the table, under its number, where its place was in the table while it was put.
+pub record IsThere (p : Partition) (next : GPT) : Type 0 where
+  pub first : ℕ
+  pub last : ℕ
+  pub table : GPT
+  pub span : IsSpan p.place table (first, last)
+  pub entry : entry_at next p.number ≡ record p.entry { starting_lba = first; ending_lba = last }
+
+-- all of them are
+abbrev pub AreThere : List Partition → GPT → Type 0
+AreThere [] next = Unit {0}
+AreThere (p ∷ ps) next = IsThere p next × AreThere ps next
+
+-- Entries that a layout does not name or remove stay, and those that it names are there.
+pub record ChangesNamed (layout : Layout) (randoms : List (List ℕ)) (g next : GPT) (is : IsLaid layout randoms g next) : Type 0 where
+  pub others : (i : ℕ) → 1 ≤ i → IsUnnamed i is.partitions → All (λ j. j ≢ i) layout.removed.items → StaysAs layout.mode (entry_at g i) (entry_at next i)
+  pub named : AreThere is.partitions next
+
+-- of each layout and table
+abbrev pub LayoutsChangeNamed : Type 0
+LayoutsChangeNamed = (layout : Layout) (randoms : List (List ℕ)) (g next : GPT) (is : IsLaid layout randoms g next) → ChangesNamed layout randoms g next is

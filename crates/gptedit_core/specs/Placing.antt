@@ -1,0 +1,60 @@
+-- Where a partition comes to be.
+use Rattle.std.specs.Prelude.{◌≡◌, ◌≤◌, ◌<◌, ◌⊎◌, ℕ, ◌+◌, ◌-◌, ◌%◌, ◌&&◌, max, nat_le, nat_lt, if◌then◌else◌, Option, MatchOption}
+use Rattle.gptman.specs.Place.{HasNoPlace, HasNoSlot, IsAlignedSlot, IsBestPlace, IsFirstPlace, IsFreeIn, IsLastPlace, IsMaximumSize}
+use Rattle.gptman.specs.declared.table.GPT.{GPT}
+use Rattle.gptedit_core.specs.declared.asked.Choice.{Choice}
+use Rattle.gptedit_core.specs.declared.asked.Choice.TheVariants.{First, Last, Best}
+use Rattle.gptedit_core.specs.declared.place.Place.{Place}
+use Rattle.gptedit_core.specs.declared.place.Place.TheVariants.{At, From, Free, Longest}
+
+-- the last sector without those from the last multiple of align on, unless the first is among them or they end before a multiple
+abbrev pub trimmed : ℕ → ℕ → ℕ → ℕ
+trimmed align first last =
+    let spare = last % align + 1 in
+    if nat_lt spare align && nat_le (first + spare) last then last - spare else last
+
+-- s is the place that is chosen for n sectors
+abbrev pub IsChosen : Choice → (ℕ → Type 0) → ℕ → ℕ → ℕ → Type 0
+IsChosen First free align n s = IsFirstPlace free align n s
+IsChosen Last free align n s = IsLastPlace free align n s
+IsChosen Best free align n s = IsBestPlace free align n s
+
+-- the run, by its start and its length, has the sector
+abbrev pub HasSector : ℕ → ℕ × ℕ → Type 0
+HasSector s run = (run.0 ≤ s) × (s < run.0 + run.1)
+
+-- The sectors from s to last are free, and the one behind them is not; and s is one of the run of free sectors that ends there.
+pub record IsRunWith (free : ℕ → Type 0) (s last : ℕ) : Type 0 where
+  pub start : ℕ
+  pub long : ℕ
+  pub run : IsAlignedSlot free 1 start long
+  pub from : start ≤ s
+  pub within : s ≤ last
+  pub end : start + long ≡ last + 1
+
+-- there is no such run
+abbrev pub HasNoRunWith : (ℕ → Type 0) → ℕ → Type 0
+HasNoRunWith free s = (start long : ℕ) → IsAlignedSlot free 1 start long → ¬ HasSector s (start, long)
+
+-- the span is that of n sectors at the place that is chosen for them
+abbrev pub IsFreeSpan : Choice → ℕ → GPT → ℕ × ℕ → Type 0
+IsFreeSpan choice n g span = IsChosen choice (IsFreeIn g) g.align (max 1 n) span.0 × (span.1 ≡ span.0 + (max 1 n - 1))
+
+-- The sectors from first to last are what the place is in the table.
+abbrev pub IsSpan : Place → GPT → ℕ × ℕ → Type 0
+IsSpan (At first last) g span = span ≡ (first, last)
+IsSpan (From first) g span = (last : ℕ) × IsRunWith (IsFreeIn g) first last × (span ≡ (first, trimmed g.align first last))
+IsSpan (Free size choice) g span = IsFreeSpan choice size g span
+IsSpan Longest g span = (size : ℕ) × IsMaximumSize (IsFreeIn g) g.align size × (0 < size) × IsFreeSpan Best size g span
+
+-- the table has no room for the place
+abbrev pub HasNoRoom : Place → GPT → Type 0
+HasNoRoom (At first last) g = ⊥
+HasNoRoom (From first) g = HasNoRunWith (IsFreeIn g) first
+HasNoRoom (Free size choice) g = HasNoPlace (IsFreeIn g) g.align (max 1 size)
+HasNoRoom Longest g = HasNoSlot (IsFreeIn g) g.align
+    ⊎ ((size : ℕ) × IsMaximumSize (IsFreeIn g) g.align size × ((size ≡ 0) ⊎ HasNoPlace (IsFreeIn g) g.align (max 1 size)))
+
+-- the place is found, or there is no room for it
+abbrev pub FindsSpan : Place → GPT → Option (ℕ × ℕ) → Type 0
+FindsSpan place g found = MatchOption found (HasNoRoom place g) (IsSpan place g)

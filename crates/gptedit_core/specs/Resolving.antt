@@ -1,0 +1,167 @@
+-- What is asked of an entry of a table.
+use Rattle.std.specs.Prelude.{◌≡◌, ℕ, ◌+◌, ◌-◌, ◌/◌, ◌%◌, ◌^◌, Bool, false, ◌&&◌, nat_eq, nat_le, nat_lt, if◌then◌else◌, List, [], ◌∷◌, Option, None, Some, Result, Ok, Err, option_map, unwrap_or}
+use Rattle.std.specs.List.{enumerate_from}
+use Rattle.gptman.specs.Coding.{empty_entry}
+use Rattle.gptman.specs.Entry.{is_unused, is_used}
+use Rattle.gptman.specs.Fault.{fault_of, out_of_memory}
+use Rattle.gptman.specs.Number.{entry_of_number}
+use Rattle.gptman.specs.Table.{entries_in}
+use Rattle.gptman_copy.specs.declared.codec.entry.GPTPartitionEntry.{GPTPartitionEntry}
+use Rattle.gptman.specs.declared.table.GPT.{GPT}
+use Rattle.gptedit_core.specs.declared.amount.Amount.{Amount}
+use Rattle.gptedit_core.specs.declared.amount.Amount.TheVariants.{Sectors, Bytes}
+use Rattle.gptedit_core.specs.declared.asked.Asked.{Asked}
+use Rattle.gptedit_core.specs.declared.asked.Choice.{Choice}
+use Rattle.gptedit_core.specs.declared.asked.Mode.{Mode}
+use Rattle.gptedit_core.specs.declared.asked.Mode.TheVariants.{Add, Change, Become}
+use Rattle.gptedit_core.specs.declared.asked.Size.{Size}
+use Rattle.gptedit_core.specs.declared.asked.Size.TheVariants.{Exactly, Rest}
+use Rattle.gptedit_core.specs.declared.place.Place.{Place}
+use Rattle.gptedit_core.specs.declared.place.Place.TheVariants.{At, From, Free, Longest}
+use Rattle.gptedit_core.specs.declared.refusal.Refusal.{Refusal}
+use Rattle.gptedit_core.specs.declared.refusal.Refusal.TheVariants.{NoUnusedEntry, NoEntry, IsUsed, IsUnused, NoType, NoSize, NotWhole, TooLarge, WouldMove}
+use Rattle.gptedit_core.specs.declared.refusal.Stop.{Stop}
+use Rattle.gptedit_core.specs.declared.refusal.Stop.TheVariants.{Refused, Failed}
+use Rattle.gptedit_core.specs.declared.resolve.Partition.{Partition}
+use Rattle.gptedit_core.specs.declared.resolve.Room.{Room}
+use Rattle.gptedit_core.specs.declared.resolve.Room.TheVariants.{Sectors as RoomSectors, Rest as RoomRest}
+
+-- how many sectors of ss bytes an amount is, where it is a whole number of them
+abbrev pub sectors_in : Amount → ℕ → Option ℕ
+sectors_in (Sectors n) ss = Some n
+sectors_in (Bytes n) ss = if nat_eq (n % ss) 0 then Some (n / ss) else None
+
+-- the number of the first entry that passes a test
+abbrev pub first_numbered : (GPTPartitionEntry → Bool) → List (ℕ × GPTPartitionEntry) → Option ℕ
+first_numbered test [] = None
+first_numbered test (e ∷ es) = if test e.1 then Some e.0 else first_numbered test es
+
+-- the lowest number of an entry that is not used
+abbrev pub lowest_unused : GPT → Option ℕ
+lowest_unused g = first_numbered is_unused (enumerate_from 1 (entries_in g))
+
+-- the number that is asked for
+abbrev pub number_asked_or : GPT → Option ℕ → Option ℕ → Result ℕ Refusal
+number_asked_or g (Some i) unused = elim (entry_of_number g i) [ None ↦ Err (NoEntry i) | Some e ↦ Ok i ]
+number_asked_or g None (Some i) = Ok i
+number_asked_or g None None = Err NoUnusedEntry
+
+abbrev pub number_asked : GPT → Asked → Result ℕ Refusal
+number_asked g a = number_asked_or g a.number (lowest_unused g)
+
+-- the entry of a number where it is used
+abbrev pub used_at : GPT → ℕ → Option GPTPartitionEntry
+used_at g i = elim (entry_of_number g i) [ None ↦ None | Some e ↦ if is_used e then Some e else None ]
+
+-- what is refused of putting or changing an entry that is used or not
+abbrev pub use_fault : Mode → ℕ → Option GPTPartitionEntry → Option Refusal
+use_fault Add i None = None
+use_fault Add i (Some e) = Some (IsUsed i)
+use_fault Change i None = Some (IsUnused i)
+use_fault Change i (Some e) = None
+use_fault (Become replace) i used = None
+
+-- the first sector that is asked for, if one is
+abbrev pub start_asked : Option Amount → ℕ → Result (Option ℕ) Refusal
+start_asked None ss = Ok None
+start_asked (Some amount) ss = elim (sectors_in amount ss) [ None ↦ Err (NotWhole amount) | Some s ↦ Ok (Some s) ]
+
+-- how many sectors are asked for, if that is said
+abbrev pub room_asked : Option Size → ℕ → ℕ → Result (Option Room) Refusal
+room_asked None i ss = Ok None
+room_asked (Some Rest) i ss = Ok (Some RoomRest)
+room_asked (Some (Exactly amount)) i ss =
+    elim (sectors_in amount ss) [ None ↦ Err (NotWhole amount) | Some n ↦ if nat_eq n 0 then Err (NoSize i) else Ok (Some (RoomSectors n)) ]
+
+-- the sector and so many more behind it
+abbrev pub span_from : ℕ → ℕ → ℕ → Result Place Refusal
+span_from i first more = if nat_lt (first + more) (2 ^ 64) then Ok (At first (first + more)) else Err (TooLarge i)
+
+-- where a partition is to be that has so much room, begins here, and was there, as far as that is known
+abbrev pub place_of : ℕ → Option Room → Option ℕ → Option (ℕ × ℕ) → Choice → Result Place Refusal
+place_of i (Some (RoomSectors n)) (Some first) there choice = span_from i first (n - 1)
+place_of i (Some (RoomSectors n)) None (Some there) choice = span_from i there.0 (n - 1)
+place_of i (Some (RoomSectors n)) None None choice = Ok (Free n choice)
+place_of i (Some RoomRest) (Some first) there choice = Ok (From first)
+place_of i (Some RoomRest) None (Some there) choice = Ok (From there.0)
+place_of i (Some RoomRest) None None choice = Ok Longest
+place_of i None None (Some there) choice = Ok (At there.0 there.1)
+place_of i None (Some start) (Some there) choice = if nat_le there.0 there.1 then span_from i start (there.1 - there.0) else Err (NoSize i)
+place_of i None start None choice = Err (NoSize i)
+
+-- where an entry stands
+abbrev pub there_of : Option GPTPartitionEntry → Option (ℕ × ℕ)
+there_of used = option_map (λ e. (e.starting_lba, e.ending_lba)) used
+
+-- the same, but that what a table becomes leaves the rest where it is in an entry that is used
+abbrev pub place_in : Mode → ℕ → Option Room → Option ℕ → Option (ℕ × ℕ) → Choice → Result Place Refusal
+place_in (Become replace) i (Some RoomRest) None (Some there) choice = Ok (At there.0 there.1)
+place_in mode i room start there choice = place_of i room start there choice
+
+-- what is refused of a place where a partition stays or may not move
+abbrev pub stay_fault : Mode → ℕ → Option (ℕ × ℕ) → Place → Option Refusal
+stay_fault (Become false) i (Some there) (At first last) = if nat_eq first there.0 && nat_eq last there.1 then None else Some (WouldMove i)
+stay_fault (Become false) i (Some there) place = Some (WouldMove i)
+stay_fault mode i there place = None
+
+-- a value unless something is refused of it
+abbrev pub unless : {A : Type 0} → Option Refusal → A → Result A Refusal
+unless None a = Ok a
+unless (Some r) a = Err r
+
+-- the first step's value, and what the second makes of it
+abbrev pub and_then : {A B : Type 0} → Result A Refusal → (A → Result B Refusal) → Result B Refusal
+and_then (Ok a) f = f a
+and_then (Err r) f = Err r
+
+-- where a partition is to be that is asked for under number i, with sectors of ss bytes
+abbrev pub place_asked : Mode → Asked → ℕ → Option GPTPartitionEntry → ℕ → Result Place Refusal
+place_asked mode a i used ss =
+    and_then (start_asked a.start ss) (λ start.
+    and_then (room_asked a.size i ss) (λ room.
+    and_then (place_in mode i room start (there_of used) a.choice) (λ place.
+    unless (stay_fault mode i (there_of used) place) place)))
+
+-- the entry that is there where it is used, or one that is not with a random GUID
+abbrev pub entry_there : Option GPTPartitionEntry → List ℕ → GPTPartitionEntry
+entry_there None random = record empty_entry { unique_partition_guid = random }
+entry_there (Some e) random = e
+
+-- it with what is asked for
+abbrev pub entry_asked : Asked → Option GPTPartitionEntry → List ℕ → GPTPartitionEntry
+entry_asked a used random = let e = entry_there used random in record e {
+  partition_type_guid = unwrap_or a.type_guid e.partition_type_guid;
+  unique_partition_guid = unwrap_or a.unique_guid e.unique_partition_guid;
+  attribute_bits = unwrap_or a.attributes e.attribute_bits;
+  partition_name = unwrap_or a.name e.partition_name;
+}
+
+-- what is put under number i
+abbrev pub partition_at : GPT → Mode → Asked → List ℕ → ℕ → Result Partition Refusal
+partition_at g mode a random i =
+    let used = used_at g i in
+    let e = entry_asked a used random in
+    and_then (unless (use_fault mode i used) i) (λ _.
+    and_then (place_asked mode a i used g.sector_size) (λ place.
+    if is_unused e then Err (NoType i) else Ok (record { number = i; entry = e; place = place })))
+
+-- what is asked of one entry of a table
+abbrev pub resolved : GPT → Mode → Asked → List ℕ → Result Partition Refusal
+resolved g mode a random = and_then (number_asked g a) (partition_at g mode a random)
+
+-- a plan is stopped by what is refused, or for want of memory
+abbrev pub IsStopFor : {A : Type 0} → Result A Refusal → Stop → Type 0
+IsStopFor r (Refused refusal) = r ≡ Err refusal
+IsStopFor r (Failed e) = fault_of e ≡ out_of_memory
+
+-- what is refused
+abbrev pub refusal_in : Result (Unit {0}) Refusal → Option Refusal
+refusal_in (Ok _) = None
+refusal_in (Err r) = Some r
+
+-- what is asked of the entries of a table, each with a random GUID
+abbrev pub resolved_all : GPT → Mode → List Asked → List (List ℕ) → Result (List Partition) Refusal
+resolved_all g mode [] randoms = Ok []
+resolved_all g mode (a ∷ asked) [] = Ok []
+resolved_all g mode (a ∷ asked) (random ∷ randoms) =
+    and_then (resolved g mode a random) (λ p. and_then (resolved_all g mode asked randoms) (λ ps. Ok (p ∷ ps)))

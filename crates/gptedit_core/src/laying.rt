@@ -1,0 +1,175 @@
+//! What is asked for is put into a table, in memory.
+
+ghost use Rattle.std.specs.Prelude.{◌≡◌, ◌<◌, ◌≤◌, Ok, Err, IfErr, IfOk, OnOk, length};
+ghost use Rattle.gptedit_core.specs.Laying.{align_asked, cleared, lowest_used, others_fault};
+ghost use Rattle.gptedit_core.specs.Laying.{removed_all, removed_one};
+ghost use Rattle.gptedit_core.specs.Laying.{ArePut, IsLaid, IsPut, IsStopOf, RefusesLaying, RefusesPut};
+ghost use Rattle.gptedit_core.specs.Laying.{RefusesPutting};
+ghost use Rattle.gptedit_core.specs.Resolving.{refusal_in, resolved_all, IsStopFor};
+
+use crate::amount::Amount;
+use crate::asked::{Asked, Layout, Mode};
+use crate::refusal::{Refusal, Stop};
+use crate::resolve::{Partition, resolve};
+use gptman::{GPT, GPTPartitionEntry};
+use std::alloc::Global;
+
+/// Makes the table what is asked for. Entries that were not used get the random GUIDs, each the one of its
+/// place in the list, where none is given.
+pub fn lay(alloc: Global, table: &mut GPT, layout: &Layout, random: &[[u8; 16]]) -> Result<(), Stop>
+    requires sector { 0 < table.old.sector_size }
+    requires random { length layout.now.asked.items ≤ length random.now }
+    ensures planned { OnOk result (IsLaid layout.now random.now table.old table.new) }
+    ensures refused { IfErr result (RefusesLaying layout.now random.now table.old) }
+{
+    let partitions = resolve_all(alloc, table, layout.mode, &layout.asked, random)?;
+    let align = table.align;
+    table.align = find_align(layout.align, table.sector_size)?;
+    remove_all(alloc, table, &layout.removed)?;
+    clear(alloc, table, &partitions)?;
+    check_others(table, layout.mode)?;
+    put_all(table, &partitions)?;
+    table.align = align;
+    table.header.disk_guid = layout.disk_guid.unwrap_or(table.header.disk_guid);
+    Ok(())
+}
+
+// What is asked of each entry.
+fn resolve_all(
+    alloc: Global,
+    table: &GPT,
+    mode: Mode,
+    asked: &[Asked],
+    random: &[[u8; 16]],
+) -> Result<Vec<Partition>, Stop>
+    requires sector { 0 < table.now.sector_size }
+    requires random { length asked.now ≤ length random.now }
+    ensures ok { IfOk result (λ ps. resolved_all table.now mode asked.now random.now ≡ Ok ps.items) }
+    ensures refused { IfErr result (IsStopFor (resolved_all table.now mode asked.now random.now)) }
+{
+    let mut partitions = Vec::new(alloc);
+    for i in 0..asked.len() {
+        let partition = resolve(alloc, table, mode, &asked[i], random[i])?;
+        partitions.push(partition)?;
+    }
+    Ok(partitions)
+}
+
+// At multiples of how many sectors places are chosen.
+fn find_align(align: Amount, sector_size: u64) -> Result<u64, Refusal>
+    requires { 0 < sector_size }
+    ensures { result ≡ align_asked align sector_size }
+{
+    match align.sectors(sector_size) {
+        Some(0) => Err(Refusal::NoAlignment),
+        Some(sectors) => Ok(sectors),
+        None => Err(Refusal::NotWhole(align)),
+    }
+}
+
+// Removes entries, one after the other.
+fn remove_all(alloc: Global, table: &mut GPT, numbers: &[u32]) -> Result<(), Refusal>
+    ensures ok { OnOk result (removed_all numbers.now table.old ≡ Ok table.new) }
+    ensures refused { IfErr result (λ r. removed_all numbers.now table.old ≡ Err r) }
+    ensures align { table.new.align ≡ table.old.align }
+{
+    for number in numbers {
+        remove(alloc, table, *number)?;
+    }
+    Ok(())
+}
+
+// Removes an entry that is used.
+fn remove(alloc: Global, table: &mut GPT, number: u32) -> Result<(), Refusal>
+    ensures ok { OnOk result (removed_one number table.old ≡ Ok table.new) }
+    ensures refused { IfErr result (λ r. removed_one number table.old ≡ Err r) }
+    ensures align { table.new.align ≡ table.old.align }
+{
+    let Some(entry) = table.get(number) else {
+        return Err(Refusal::NoEntry(number));
+    };
+    if entry.is_unused() {
+        return Err(Refusal::IsUnused(number));
+    }
+    table[number] = GPTPartitionEntry::empty(alloc);
+    Ok(())
+}
+
+// Makes the entries of the partitions' numbers unused.
+fn clear(alloc: Global, table: &mut GPT, partitions: &[Partition]) -> Result<(), Refusal>
+    ensures ok { OnOk result (cleared partitions.now table.old ≡ Ok table.new) }
+    ensures refused { IfErr result (λ r. cleared partitions.now table.old ≡ Err r) }
+    ensures align { table.new.align ≡ table.old.align }
+{
+    for partition in partitions {
+        if table.get(partition.number).is_none() {
+            return Err(Refusal::NoEntry(partition.number));
+        }
+        table[partition.number] = GPTPartitionEntry::empty(alloc);
+    }
+    Ok(())
+}
+
+// Refuses a table that is to become what is asked for, and has entries that are not asked for.
+fn check_others(table: &GPT, mode: Mode) -> Result<(), Refusal>
+    ensures { refusal_in result ≡ others_fault mode table.now }
+{
+    match mode {
+        Mode::Add => Ok(()),
+        Mode::Change => Ok(()),
+        Mode::Become { replace: true } => Ok(()),
+        Mode::Become { replace: false } => match find_used(table) {
+            Some(number) => Err(Refusal::NotAsked(number)),
+            None => Ok(()),
+        },
+    }
+}
+
+// The lowest number of an entry that is used.
+fn find_used(table: &GPT) -> Option<u32>
+    ensures { result ≡ lowest_used table.now }
+{
+    for (number, entry) in table.iter() {
+        if entry.is_used() {
+            return Some(number);
+        }
+    }
+    None
+}
+
+// Puts the partitions into the table, one after the other.
+fn put_all(table: &mut GPT, partitions: &[Partition]) -> Result<(), Stop>
+    requires { 0 < table.old.align }
+    ensures put { OnOk result (ArePut partitions.now table.old table.new) }
+    ensures refused { IfErr result (IsStopOf (RefusesPutting partitions.now table.old)) }
+{
+    for partition in partitions {
+        put(table, partition)?;
+    }
+    Ok(())
+}
+
+// Puts a partition into the table, under the number of an entry that is not used.
+fn put(table: &mut GPT, partition: &Partition) -> Result<(), Stop>
+    requires { 0 < table.old.align }
+    ensures put { OnOk result (IsPut partition.now table.old table.new) }
+    ensures refused { IfErr result (IsStopOf (RefusesPut partition.now table.old)) }
+    ensures align { OnOk result (table.new.align ≡ table.old.align) }
+{
+    let number = partition.number;
+    let Some(there) = table.get(number) else {
+        return Err(Stop::Refused(Refusal::NoEntry(number)));
+    };
+    if there.is_used() {
+        return Err(Stop::Refused(Refusal::Twice(number)));
+    }
+    let Some((first, last)) = partition.place.find(table)? else {
+        return Err(Stop::Refused(Refusal::NoRoom(number)));
+    };
+    table[number] = GPTPartitionEntry {
+        starting_lba: first,
+        ending_lba: last,
+        ..partition.entry.clone()?
+    };
+    Ok(())
+}

@@ -1,0 +1,18 @@
+//! The daily work on a table of partitions: what is asked of its entries, and what the table becomes by it.
+//!
+//! It stands on tables in memory: what is asked for is put into a table, which the caller writes.
+#![tactic(auto)]
+
+pub mod amount;
+pub mod asked;
+pub mod laws;
+pub mod laying;
+pub mod place;
+pub mod refusal;
+pub mod resolve;
+
+pub use amount::Amount;
+pub use asked::{Asked, Choice, Layout, Mode, Size};
+pub use place::Place;
+pub use refusal::{Refusal, Stop};
+pub use resolve::Partition;

@@ -1,0 +1,122 @@
+//! Where a partition is to be, and where it comes to be.
+
+ghost use Rattle.std.specs.Prelude.{◌≡◌, ◌≤◌, ◌<◌, ◌+◌, ◌^◌, All, Contains, IfErr, IfOk, MatchOption};
+ghost use Rattle.gptman.specs.Fault.{fault_of, out_of_memory};
+ghost use Rattle.gptman.specs.Place.{AreSlots, IsFreeIn};
+ghost use Rattle.gptman.specs.Table.{entries_in};
+ghost use Rattle.gptedit_core.specs.Placing.{trimmed, FindsSpan, HasSector};
+ghost use Rattle.gptedit_core.specs.declared.place.Place.TheVariants.{Free, From, Longest};
+
+use crate::asked::Choice;
+use gptman::{Error, GPT, Result};
+
+/// Where a partition is to be, in sectors.
+#[derive(Clone, Copy, PartialEq, Eq, Debug)]
+pub enum Place {
+    /// From this sector to that.
+    At { first: u64, last: u64 },
+    /// From this sector to the end of the free sectors there.
+    From { first: u64 },
+    /// So many sectors, at least one, at a place that is chosen.
+    Free { size: u64, choice: Choice },
+    /// As many sectors as the longest slot has room for, of multiples of the alignment.
+    Longest,
+}
+
+impl Place {
+    /// The first and the last sector that this is in the table; `None` where it has no room for it. What has
+    /// no size of its own ends before a multiple of the alignment, where it can.
+    ///
+    /// `OutOfMemory` where there is no memory to find it.
+    pub fn find(self, table: &GPT) -> Result<Option<(u64, u64)>>
+        requires aligned { 0 < table.now.align }
+        ensures refused { IfErr result (λ e. fault_of e ≡ out_of_memory) }
+        ensures value { IfOk result (FindsSpan self table.now) }
+    {
+        match self {
+            Place::At { first, last } => Ok(Some((first, last))),
+            Place::From { first } => find_rest(table, first),
+            Place::Free { size, choice } => find_free(table, size.max(1), choice),
+            Place::Longest => find_longest(table),
+        }
+    }
+}
+
+// From this sector to the end of the free sectors there.
+#[tactic(auto, using(crate::proofs::Runs::run_at, crate::proofs::Runs::no_run))]
+fn find_rest(table: &GPT, first: u64) -> Result<Option<(u64, u64)>>
+    requires aligned { 0 < table.now.align }
+    ensures refused { IfErr result (λ e. fault_of e ≡ out_of_memory) }
+    ensures value { IfOk result (FindsSpan (From first) table.now) }
+{
+    let runs = find_runs(table)?;
+    match run_with(&runs, first) {
+        Some((start, long)) => Ok(Some((first, trim(table.align, first, start + (long - 1))))),
+        None => Ok(None),
+    }
+}
+
+// The runs of free sectors, each as its first sector and its length.
+fn find_runs(table: &GPT) -> Result<Vec<(u64, u64)>>
+    ensures refused { IfErr result (λ e. fault_of e ≡ out_of_memory) }
+    ensures value { IfOk result (λ v. AreSlots (IsFreeIn table.now) 1 v.items) }
+    ensures fits { IfOk result (λ v. All (λ s. s.0 + s.1 ≤ 2 ^ 64) v.items) }
+{
+    let mut table = table.clone()?;
+    table.align = 1;
+    table.find_free_sectors()
+}
+
+// The run of free sectors that has this sector.
+fn run_with(runs: &[(u64, u64)], sector: u64) -> Option<(u64, u64)>
+    ensures { MatchOption result (All (λ r. ¬ HasSector sector r) runs.now)
+        (λ r. Contains runs.now r × HasSector sector r) }
+{
+    runs.iter().copied().find(|(start, long)| *start <= sector && sector - *start < *long)
+}
+
+// So many sectors at the place that is chosen.
+fn find_free(table: &GPT, size: u64, choice: Choice) -> Result<Option<(u64, u64)>>
+    requires aligned { 0 < table.now.align }
+    requires sized { 0 < size }
+    ensures refused { IfErr result (λ e. fault_of e ≡ out_of_memory) }
+    ensures value { IfOk result (FindsSpan (Free size choice) table.now) }
+{
+    let found = match choice {
+        Choice::First => table.find_first_place(size),
+        Choice::Last => table.find_last_place(size),
+        Choice::Best => table.find_optimal_place(size),
+    };
+    match found? {
+        Some(first) => Ok(Some((first, first + (size - 1)))),
+        None => Ok(None),
+    }
+}
+
+// The longest slot of free sectors, without those behind its last multiple of the alignment.
+fn find_longest(table: &GPT) -> Result<Option<(u64, u64)>>
+    requires aligned { 0 < table.now.align }
+    ensures refused { IfErr result (λ e. fault_of e ≡ out_of_memory) }
+    ensures value { IfOk result (FindsSpan Longest table.now) }
+{
+    match table.get_maximum_partition_size() {
+        Ok(0) => Ok(None),
+        Ok(size) => find_free(table, size, Choice::Best),
+        Err(Error::NoSpaceLeft) => Ok(None),
+        Err(error) => Err(error),
+    }
+}
+
+// The last sector without those from the last multiple of the alignment on, unless the first is among them
+// or they end before a multiple.
+fn trim(align: u64, first: u64, last: u64) -> u64
+    requires { 0 < align }
+    ensures { result ≡ trimmed align first last }
+{
+    let spare = last % align + 1;
+    if spare < align && spare <= last && first <= last - spare {
+        last - spare
+    } else {
+        last
+    }
+}

@@ -1,0 +1,244 @@
+//! What is asked of an entry, where a table is at hand: its number, its fields and its place.
+
+ghost use Rattle.std.specs.Prelude.{◌≡◌, ◌<◌, ◌≤◌, None, IfErr, IfOk, length, option_map};
+ghost use Rattle.gptman.specs.Fault.{fault_of, out_of_memory};
+ghost use Rattle.gptedit_core.specs.Resolving.{entry_asked, lowest_unused, number_asked};
+ghost use Rattle.gptedit_core.specs.Resolving.{place_asked, place_of, refusal_in, resolved, room_asked};
+ghost use Rattle.gptedit_core.specs.Resolving.{span_from, start_asked, stay_fault, there_of, use_fault, used_at};
+ghost use Rattle.gptedit_core.specs.Resolving.{IsStopFor};
+
+use crate::amount::Amount;
+use crate::asked::{Asked, Choice, Mode, Size};
+use crate::place::Place;
+use crate::refusal::{Refusal, Stop};
+use gptman::{Error, GPT, GPTPartitionEntry};
+use std::alloc::Global;
+
+/// What is put under a number.
+#[derive(Drop, Debug)]
+pub struct Partition {
+    /// The number.
+    pub number: u32,
+    /// The type, the GUID, the attributes and the name of the entry.
+    pub entry: GPTPartitionEntry,
+    /// Where it is to be.
+    pub place: Place,
+}
+
+/// How many sectors a partition is to have.
+#[derive(Clone, Copy, PartialEq, Eq, Debug)]
+pub enum Room {
+    /// So many, at least one.
+    Sectors(u64),
+    /// As many as there are.
+    Rest,
+}
+
+/// What is asked of an entry of this table, which gets the random GUID where it was not used and none is
+/// given.
+pub fn resolve(
+    alloc: Global,
+    table: &GPT,
+    mode: Mode,
+    asked: &Asked,
+    random: [u8; 16],
+) -> Result<Partition, Stop>
+    requires sector { 0 < table.now.sector_size }
+    ensures ok { IfOk result (λ p. resolved table.now mode asked.now random ≡ Ok p) }
+    ensures refused { IfErr result (IsStopFor (resolved table.now mode asked.now random)) }
+{
+    let number = find_number(table, asked)?;
+    let used = used_entry(table, number);
+    check_use(mode, number, used)?;
+    let place = find_place(mode, asked, number, used, table.sector_size)?;
+    let entry = make_entry(alloc, asked, used, random)?;
+    if entry.is_unused() {
+        return Err(Stop::Refused(Refusal::NoType(number)));
+    }
+    Ok(Partition {
+        number,
+        entry,
+        place,
+    })
+}
+
+// The number that is asked for, or the lowest of an unused entry.
+fn find_number(table: &GPT, asked: &Asked) -> Result<u32, Refusal>
+    ensures { result ≡ number_asked table.now asked.now }
+{
+    match asked.number {
+        Some(number) => match table.get(number) {
+            Some(_) => Ok(number),
+            None => Err(Refusal::NoEntry(number)),
+        },
+        None => find_unused(table).ok_or(Refusal::NoUnusedEntry),
+    }
+}
+
+// The lowest number of an entry that is not used.
+fn find_unused(table: &GPT) -> Option<u32>
+    ensures { result ≡ lowest_unused table.now }
+{
+    for (number, entry) in table.iter() {
+        if entry.is_unused() {
+            return Some(number);
+        }
+    }
+    None
+}
+
+// The entry of the number, where it is used.
+fn used_entry(table: &GPT, number: u32) -> Option<&GPTPartitionEntry>
+    ensures { option_map (λ e. e.now) result ≡ used_at table.now number }
+{
+    let entry = table.get(number)?;
+    if entry.is_used() { Some(entry) } else { None }
+}
+
+// Whether the entry may be put or changed.
+fn check_use(mode: Mode, number: u32, used: Option<&GPTPartitionEntry>) -> Result<(), Refusal>
+    ensures { refusal_in result ≡ use_fault mode number (option_map (λ e. e.now) used.entry) }
+{
+    match (mode, used) {
+        (Mode::Add, Some(_)) => Err(Refusal::IsUsed(number)),
+        (Mode::Change, None) => Err(Refusal::IsUnused(number)),
+        _ => Ok(()),
+    }
+}
+
+// The fields of the entry that is used, or of one that is not, and those that are asked for.
+fn make_entry(
+    alloc: Global,
+    asked: &Asked,
+    used: Option<&GPTPartitionEntry>,
+    random: [u8; 16],
+) -> Result<GPTPartitionEntry, Error>
+    ensures ok { IfOk result (λ e. e ≡ entry_asked asked.now (option_map (λ e. e.now) used.entry) random) }
+    ensures refused { IfErr result (λ e. fault_of e ≡ out_of_memory) }
+{
+    let mut entry = match used {
+        Some(entry) => entry.clone()?,
+        None => GPTPartitionEntry {
+            unique_partition_guid: random,
+            ..GPTPartitionEntry::empty(alloc)
+        },
+    };
+    if let Some(name) = &asked.name {
+        entry.partition_name = name.clone()?;
+    }
+    entry.partition_type_guid = asked.type_guid.unwrap_or(entry.partition_type_guid);
+    entry.unique_partition_guid = asked.unique_guid.unwrap_or(entry.unique_partition_guid);
+    entry.attribute_bits = asked.attributes.unwrap_or(entry.attribute_bits);
+    Ok(entry)
+}
+
+// Where the partition is to be.
+fn find_place(
+    mode: Mode,
+    asked: &Asked,
+    number: u32,
+    used: Option<&GPTPartitionEntry>,
+    sector_size: u64,
+) -> Result<Place, Refusal>
+    requires { 0 < sector_size }
+    ensures { result ≡ place_asked mode asked.now number (option_map (λ e. e.now) used.entry) sector_size }
+{
+    let start = find_start(asked.start, sector_size)?;
+    let room = find_room(asked.size, number, sector_size)?;
+    let there = match used {
+        Some(entry) => Some((entry.starting_lba, entry.ending_lba)),
+        None => None,
+    };
+    let place = match (mode, room, start, there) {
+        (Mode::Become { .. }, Some(Room::Rest), None, Some((first, last))) => {
+            Place::At { first, last }
+        }
+        _ => place_of(number, room, start, there, asked.choice)?,
+    };
+    check_stay(mode, number, there, place)?;
+    Ok(place)
+}
+
+// The first sector that is asked for, if one is.
+fn find_start(start: Option<Amount>, sector_size: u64) -> Result<Option<u64>, Refusal>
+    requires { 0 < sector_size }
+    ensures { result ≡ start_asked start sector_size }
+{
+    let Some(amount) = start else { return Ok(None) };
+    match amount.sectors(sector_size) {
+        Some(sector) => Ok(Some(sector)),
+        None => Err(Refusal::NotWhole(amount)),
+    }
+}
+
+// How many sectors are asked for, if that is said.
+fn find_room(size: Option<Size>, number: u32, sector_size: u64) -> Result<Option<Room>, Refusal>
+    requires { 0 < sector_size }
+    ensures { result ≡ room_asked size number sector_size }
+{
+    let amount = match size {
+        None => return Ok(None),
+        Some(Size::Rest) => return Ok(Some(Room::Rest)),
+        Some(Size::Exactly(amount)) => amount,
+    };
+    match amount.sectors(sector_size) {
+        Some(0) => Err(Refusal::NoSize(number)),
+        Some(sectors) => Ok(Some(Room::Sectors(sectors))),
+        None => Err(Refusal::NotWhole(amount)),
+    }
+}
+
+// Where a partition is to be that has so much room, begins here, and was there, as far as that is known.
+fn place_of(
+    number: u32,
+    room: Option<Room>,
+    start: Option<u64>,
+    there: Option<(u64, u64)>,
+    choice: Choice,
+) -> Result<Place, Refusal>
+    ensures { result ≡ place_of number room start there choice }
+{
+    match (room, start, there) {
+        (Some(Room::Sectors(size)), Some(first), _) => {
+            span_from(number, first, size.saturating_sub(1))
+        }
+        (Some(Room::Sectors(size)), None, Some((first, _))) => {
+            span_from(number, first, size.saturating_sub(1))
+        }
+        (Some(Room::Sectors(size)), None, None) => Ok(Place::Free { size, choice }),
+        (Some(Room::Rest), Some(first), _) => Ok(Place::From { first }),
+        (Some(Room::Rest), None, Some((first, _))) => Ok(Place::From { first }),
+        (Some(Room::Rest), None, None) => Ok(Place::Longest),
+        (None, None, Some((first, last))) => Ok(Place::At { first, last }),
+        (None, Some(start), Some((first, last))) if first <= last => {
+            span_from(number, start, last - first)
+        }
+        (None, _, _) => Err(Refusal::NoSize(number)),
+    }
+}
+
+// The sector and so many more behind it.
+fn span_from(number: u32, first: u64, more: u64) -> Result<Place, Refusal>
+    ensures { result ≡ span_from number first more }
+{
+    match first.checked_add(more) {
+        Some(last) => Ok(Place::At { first, last }),
+        None => Err(Refusal::TooLarge(number)),
+    }
+}
+
+// Whether the partition stays where it is, or may move.
+fn check_stay(
+    mode: Mode,
+    number: u32,
+    there: Option<(u64, u64)>,
+    place: Place,
+) -> Result<(), Refusal>
+    ensures { refusal_in result ≡ stay_fault mode number there place }
+{
+    match (mode, there) {
+        (Mode::Become { replace: false }, Some((first, last)))
+            if place != (Place::At { first, last }) => { Err(Refusal::WouldMove(number)) }
+        _ => Ok(()),
+    }
+}

@@ -1,0 +1,171 @@
+//! The stated layout: where the two copies of a table stand on a disk.
+
+ghost use Rattle.std.specs.Prelude.{◌≡◌, ◌≤◌, ◌<◌, ◌⊎◌, ◌↔◌, [], ◌∷◌, ◌+◌, ◌*◌, IsTrue};
+ghost use Rattle.gptman_copy.specs.Ranges.{AreApart, AreInside};
+ghost use Rattle.gptman.specs.Layout.{AreInPlace, HasLayout, HasRightMarks, HasRightSectors, HasRightSizes};
+ghost use Rattle.gptman.specs.Reading.{backup, primary};
+ghost use Rattle.gptman.specs.Table.{entries_in, table_in, IsHeaderForm, IsInForm};
+
+use crate::table::GPT;
+use gptman_copy::sizes::{ENTRY_SIZE, HEADER_SIZE};
+
+impl GPT {
+    /// Whether the table has the stated layout on a disk of so many bytes: the right signature, revision and
+    /// sizes, as many entries as it counts, one header in sector 1 with its entries from sector 2, the other
+    /// in the last whole sector with its entries behind the last usable one, and all four within the disk
+    /// and apart from each other. Sectors have at least the 92 bytes of a header.
+    pub fn has_layout(&self, size: u64) -> bool
+        ensures { IsTrue result ↔ HasLayout self.now size }
+    {
+        self.has_right_header() && self.has_right_places(size)
+    }
+
+    // Whether the header is one that every table may have.
+    fn has_right_header(&self) -> bool
+        ensures { IsTrue result ↔ HasRightMarks self.now.header × IsInForm self.now.header
+            × HasRightSizes self.now.header (entries_in self.now) self.now.sector_size }
+    {
+        self.has_right_marks() && self.is_in_form() && self.has_right_sizes()
+    }
+
+    // Whether both copies stand in the places that such a disk has for them.
+    fn has_right_places(&self, size: u64) -> bool
+        requires { 0 < self.now.sector_size }
+        ensures { IsTrue result ↔ HasRightSectors (table_in self.now) self.now.sector_size size
+            × AreInPlace (table_in self.now) self.now.sector_size size }
+    {
+        self.has_right_sectors(size) && self.are_in_place(size)
+    }
+
+    // Whether the header begins as every table's does.
+    fn has_right_marks(&self) -> bool
+        ensures { IsTrue result ↔ HasRightMarks self.now.header }
+    {
+        self.header.signature == *b"EFI PART" && self.header.revision == [0, 0, 1, 0]
+    }
+
+    // Whether the sector has room for a header, and the header says what the list is.
+    fn has_right_sizes(&self) -> bool
+        ensures { IsTrue result
+            ↔ HasRightSizes self.now.header (entries_in self.now) self.now.sector_size }
+    {
+        let header = &self.header;
+        self.sector_size >= u64::from(HEADER_SIZE)
+            && header.header_size == HEADER_SIZE
+            && header.size_of_partition_entry == ENTRY_SIZE
+            && header.number_of_partition_entries as usize == self.partitions.as_slice().len()
+    }
+
+    // Whether the header is that of one of the two copies.
+    fn is_in_form(&self) -> bool
+        ensures { IsTrue result ↔ IsInForm self.now.header }
+    {
+        self.is_in_primary_form() || self.is_in_backup_form()
+    }
+
+    fn is_in_primary_form(&self) -> bool
+        ensures { IsTrue result ↔ IsHeaderForm primary self.now.header }
+    {
+        self.header.primary_lba == 1 && self.header.partition_entry_lba == 2
+    }
+
+    fn is_in_backup_form(&self) -> bool
+        ensures { IsTrue result ↔ IsHeaderForm backup self.now.header }
+    {
+        let entries = self.header.partition_entry_lba;
+        self.header.backup_lba == 1 && entries > 0 && entries - 1 == self.header.last_usable_lba
+    }
+
+    // Whether the two headers are those of sector 1 and of the last whole sector.
+    fn has_right_sectors(&self, size: u64) -> bool
+        requires { 0 < self.now.sector_size }
+        ensures { IsTrue result ↔ HasRightSectors (table_in self.now) self.now.sector_size size }
+    {
+        let header = &self.header;
+        let last = (size / self.sector_size).saturating_sub(1);
+        header.primary_lba.min(header.backup_lba) == last.min(1)
+            && header.primary_lba.max(header.backup_lba) == last.max(1)
+    }
+
+    // Whether the four ranges are within the disk and apart from each other.
+    fn are_in_place(&self, size: u64) -> bool
+        requires { 0 < self.now.sector_size }
+        ensures { IsTrue result ↔ AreInPlace (table_in self.now) self.now.sector_size size }
+    {
+        let Some(behind) = self.header.last_usable_lba.checked_add(1) else {
+            return false;
+        };
+        let last = (size / self.sector_size).saturating_sub(1);
+        let bytes = u64::from(ENTRY_SIZE) * u64::from(self.header.number_of_partition_entries);
+        let first = Bytes::new(1, self.sector_size, u64::from(HEADER_SIZE));
+        let entries = Bytes::new(2, self.sector_size, bytes);
+        let second = Bytes::new(last, self.sector_size, u64::from(HEADER_SIZE));
+        let others = Bytes::new(behind, self.sector_size, bytes);
+        are_within(first, entries, second, others, size)
+            && are_apart(first, entries, second, others)
+    }
+}
+
+// Whether the ranges are within a disk of so many bytes.
+fn are_within(a: Bytes, b: Bytes, c: Bytes, d: Bytes, size: u64) -> bool
+    ensures { IsTrue result ↔ AreInside ((a.start, a.length) ∷ (b.start, b.length)
+        ∷ (c.start, c.length) ∷ (d.start, d.length) ∷ []) size }
+{
+    a.is_within(size) && b.is_within(size) && c.is_within(size) && d.is_within(size)
+}
+
+// Whether no two of the ranges have a byte in common.
+fn are_apart(a: Bytes, b: Bytes, c: Bytes, d: Bytes) -> bool
+    ensures { IsTrue result ↔ AreApart ((a.start, a.length) ∷ (b.start, b.length)
+        ∷ (c.start, c.length) ∷ (d.start, d.length) ∷ []) }
+{
+    a.is_apart(b)
+        && a.is_apart(c)
+        && a.is_apart(d)
+        && b.is_apart(c)
+        && b.is_apart(d)
+        && c.is_apart(d)
+}
+
+// A range of bytes.
+#[derive(Clone, Copy)]
+struct Bytes {
+    start: u128,
+    length: u64,
+}
+
+impl Bytes {
+    // So many bytes from the start of this sector on.
+    fn new(sector: u64, sector_size: u64, length: u64) -> Bytes
+        ensures start { result.start ≡ sector * sector_size }
+        ensures length { result.length ≡ length }
+    {
+        Bytes {
+            start: u128::from(sector) * u128::from(sector_size),
+            length,
+        }
+    }
+
+    // Whether it has no bytes, or ends within a disk of so many.
+    fn is_within(self, size: u64) -> bool
+        ensures { IsTrue result ↔ (self.length ≡ 0) ⊎ (self.start + self.length ≤ size) }
+    {
+        let size = u128::from(size);
+        self.length == 0 || self.start <= size && u128::from(self.length) <= size - self.start
+    }
+
+    // Whether one of the two has no bytes, or they have none in common.
+    fn is_apart(self, other: Bytes) -> bool
+        ensures { IsTrue result ↔ (self.length ≡ 0) ⊎ ((other.length ≡ 0)
+            ⊎ ((self.start + self.length ≤ other.start) ⊎ (other.start + other.length ≤ self.start))) }
+    {
+        self.length == 0 || other.length == 0 || self.is_before(other) || other.is_before(self)
+    }
+
+    // Whether it ends where the other begins, or before.
+    fn is_before(self, other: Bytes) -> bool
+        ensures { IsTrue result ↔ (self.start + self.length ≤ other.start) }
+    {
+        self.start <= other.start && u128::from(self.length) <= other.start - self.start
+    }
+}
