@@ -1,4 +1,7 @@
+pub mod Checked
+pub mod Kept
 pub mod Laid
+pub mod Planned
 pub mod Resolved
 pub mod Runs
 pub mod Steps

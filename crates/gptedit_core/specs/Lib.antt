@@ -1,4 +1,5 @@
 pub mod Laying
 pub mod Named
 pub mod Placing
+pub mod Planning
 pub mod Resolving

@@ -5,14 +5,18 @@
 
 pub mod amount;
 pub mod asked;
+pub mod editing;
 pub mod laws;
 pub mod laying;
 pub mod place;
+pub mod plan;
 pub mod refusal;
 pub mod resolve;
 
 pub use amount::Amount;
 pub use asked::{Asked, Choice, Layout, Mode, Size};
+pub use editing::edit;
 pub use place::Place;
+pub use plan::{Job, Outcome, Request};
 pub use refusal::{Refusal, Stop};
 pub use resolve::Partition;

@@ -37,6 +37,12 @@ pub enum Refusal {
     NoRoom(u32),
     /// Places are to be chosen at multiples of nothing.
     NoAlignment,
+    /// The table has not the stated layout on this disk.
+    NotLaidOut,
+    /// Two entries would have one GUID.
+    SharedGuid,
+    /// Partitions would overlap, or lie outside of the usable sectors.
+    BadBoundaries,
 }
 
 /// Why a plan was not made.

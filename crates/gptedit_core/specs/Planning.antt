@@ -1,0 +1,88 @@
+-- What a request makes of a table.
+use Rattle.std.specs.Prelude.{◌≡◌, ◌≢◌, ◌≤◌, ◌⊎◌, ℕ, List, length, true, false}
+use Rattle.gptman.specs.Fault.{Fault, out_of_memory}
+use Rattle.gptman.specs.Layout.{HasLayout}
+use Rattle.gptman.specs.Number.{with_entries}
+use Rattle.gptman.specs.Order.{by_rank, rank}
+use Rattle.gptman.specs.Table.{entries_in}
+use Rattle.gptman.specs.TableWrites.{MayBeWritten}
+use Rattle.gptman.specs.Valid.{HasGoodBoundaries, HasOwnGuids}
+use Rattle.gptman.specs.declared.table.GPT.{GPT}
+use Rattle.gptman_change.specs.declared.Planned.{Planned}
+use Rattle.gptman_change.specs.declared.Planned.TheVariants.{Write, Leave}
+use Rattle.gptedit_core.specs.Laying.{IsLaid, RefusesAsked}
+use Rattle.gptedit_core.specs.declared.plan.Job.{Job}
+use Rattle.gptedit_core.specs.declared.plan.Job.TheVariants.{Lay, Sort, Rewrite}
+use Rattle.gptedit_core.specs.declared.plan.Outcome.{Outcome}
+use Rattle.gptedit_core.specs.declared.plan.Outcome.TheVariants.{Changed, Unchanged, Refused}
+use Rattle.gptedit_core.specs.declared.plan.Request.{Request}
+use Rattle.gptedit_core.specs.declared.refusal.Refusal.{Refusal}
+use Rattle.gptedit_core.specs.declared.refusal.Refusal.TheVariants.{BadBoundaries, NotLaidOut, SharedGuid}
+
+-- so many random GUIDs are enough for the job
+abbrev pub asks_random : Job → ℕ → Type 0
+asks_random (Lay layout) n = length layout.asked.items ≤ n
+asks_random job n = Unit {0}
+
+abbrev pub has_random : Request → Type 0
+has_random request = asks_random request.job (length request.random.items)
+
+-- The job makes this of the table.
+abbrev pub IsDone : Job → List (List ℕ) → GPT → GPT → Type 0
+IsDone (Lay layout) randoms g next = IsLaid layout randoms g next
+IsDone Sort randoms g next = next ≡ with_entries g (by_rank rank (entries_in g))
+IsDone Rewrite randoms g next = next ≡ g
+
+-- The job cannot be done.
+abbrev pub RefusesJob : Job → List (List ℕ) → GPT → Refusal → Type 0
+RefusesJob (Lay layout) randoms g r = RefusesAsked layout randoms g r
+RefusesJob job randoms g r = ⊥
+
+-- Why a table with the stated layout may not be written: two entries would have one GUID, or partitions would overlap or lie outside of the usable sectors.
+pub data RefusesCheck (g : GPT) (r : Refusal) : Type 0 where
+  shared : ¬ HasOwnGuids (entries_in g) → r ≡ SharedGuid → RefusesCheck g r
+  boundaries : HasOwnGuids (entries_in g) → ¬ HasGoodBoundaries g.header (entries_in g) → r ≡ BadBoundaries → RefusesCheck g r
+
+-- On a disk of len bytes a request makes this of a table: it has the stated layout, and what the job makes of it may be written.
+pub record IsPlanned (request : Request) (len : ℕ) (g next : GPT) : Type 0 where
+  pub layout : HasLayout g len
+  pub done : IsDone request.job request.random.items g next
+  pub may : MayBeWritten next len
+
+-- Why it makes nothing of it, by the first of these that is so.
+pub data RefusesRequest (request : Request) (len : ℕ) (g : GPT) (r : Refusal) : Type 0 where
+  not_laid_out : ¬ HasLayout g len → r ≡ NotLaidOut → RefusesRequest request len g r
+  not_done : HasLayout g len → RefusesJob request.job request.random.items g r → RefusesRequest request len g r
+  not_written : (next : GPT) → HasLayout g len → IsDone request.job request.random.items g next → RefusesCheck next r → RefusesRequest request len g r
+
+-- There is something to write: another table, or the same one that is to be written.
+abbrev pub IsNeeded : Job → GPT → GPT → Type 0
+IsNeeded Rewrite g next = Unit {0}
+IsNeeded job g next = g ≢ next
+
+-- What is told of a table and of what it becomes, and what is left in its place.
+abbrev pub TellsOf : Request → GPT → GPT → GPT → Planned Outcome → Type 0
+TellsOf request g next new (Write answer) = (new ≡ next) × (request.is_dry ≡ false) × IsNeeded request.job g next × (answer ≡ Changed g next)
+TellsOf request g next new (Leave answer) =
+    (new ≡ g) × (((¬ IsNeeded request.job g next) × (answer ≡ Unchanged g))
+    ⊎ ((request.is_dry ≡ true) × IsNeeded request.job g next × (answer ≡ Changed g next)))
+
+-- The table that is written, and what is told then.
+pub record IsWritten (request : Request) (len : ℕ) (g next : GPT) (answer : Outcome) : Type 0 where
+  pub planned : IsPlanned request len g next
+  pub needed : IsNeeded request.job g next
+  pub wet : request.is_dry ≡ false
+  pub told : answer ≡ Changed g next
+
+-- What is told of a table that is left.
+pub data IsLeft (request : Request) (len : ℕ) (g : GPT) (answer : Outcome) : Type 0 where
+  is_refused : (r : Refusal) → RefusesRequest request len g r → answer ≡ Refused g r → IsLeft request len g answer
+  is_unchanged : (next : GPT) → IsPlanned request len g next → (¬ IsNeeded request.job g next) → answer ≡ Unchanged g → IsLeft request len g answer
+  is_dry : (next : GPT) → IsPlanned request len g next → IsNeeded request.job g next → request.is_dry ≡ true → answer ≡ Changed g next → IsLeft request len g answer
+
+-- a plan ends with no other error of its own, and asks the disk for its length
+abbrev pub IsMemoryFault : Request → ℕ → GPT → Fault → Type 0
+IsMemoryFault request len g fault = fault ≡ out_of_memory
+
+abbrev pub MayAsk : Request → Type 0
+MayAsk request = Unit {0}
