@@ -1,6 +1,5 @@
 -- Why a table with the stated layout may not be written.
-use Rattle.std.proofs.Common.{◌≡◌, ◌≢◌, ◌<◌, ◌^◌, ℕ, refl, sym, ◌∙◌}
-use Rattle.std.specs.Prelude.{Some, None}
+use Rattle.std.proofs.Common.{◌≡◌, ◌≢◌, ◌<◌, ◌^◌, ℕ, refl}
 use Rattle.gptman.specs.Fault.{Fault, conflict_partition_guid, invalid_partition_boundaries, out_of_memory}
 use Rattle.gptman.specs.Layout.{HasLayout}
 use Rattle.gptman.specs.TableWrites.{RefusesTable}

@@ -1,23 +1,19 @@
 -- What a request makes of a table keeps its places.
-use Rattle.std.proofs.Common.{◌≡◌, ◌∙◌, ℕ, ◌-◌, List, [], ◌∷◌, refl, sym, ap, subst}
-use Rattle.std.specs.Prelude.{Option, Some, None, Result, Ok, Err, unwrap_or, length}
+use Rattle.std.proofs.Common.{◌≡◌, ℕ, List, [], ◌∷◌, refl, sym, subst}
+use Rattle.std.specs.Prelude.{Option, Some, None, Result, Ok, Err, unwrap_or}
 use Rattle.gptman.specs.Coding.{empty_entry}
-use Rattle.gptman.specs.Edit.{after_edit}
 use Rattle.gptman.specs.Copy.{IsCoherent}
-use Rattle.gptman.specs.Crash.{HasPlacesOf}
 use Rattle.gptman.specs.Entry.{is_unused}
 use Rattle.gptman.specs.Layout.{HasLayout}
 use Rattle.gptman.specs.Number.{entry_of_number, with_entry}
 use Rattle.gptman.specs.Table.{entries_in}
 use Rattle.gptman_copy.specs.declared.codec.entry.GPTPartitionEntry.{GPTPartitionEntry}
-use Rattle.gptman_copy.specs.declared.codec.header.GPTHeader.{GPTHeader}
-use Rattle.gptman.specs.declared.edit.Edit.{Edit}
-use Rattle.gptman.specs.declared.edit.Edit.TheVariants.{Put, SortEntries, DiskGuid}
+use Rattle.gptman.specs.declared.edit.Edit.TheVariants.{Put, SortEntries}
 use Rattle.gptman.specs.declared.table.GPT.{GPT}
 use Rattle.gptman.proofs.Commits.{coherent_still, edited_keeps, keeps_both, layout_still, KeepsRanges}
 use Rattle.gptman.proofs.ReadKept.{has_places}
 use Rattle.gptman_change.specs.Planning.{KeepsPlaces}
-use Rattle.gptedit_core.specs.Laying.{cleared, removed_all, removed_one, without_entry, ArePut, IsLaid, IsPut}
+use Rattle.gptedit_core.specs.Laying.{cleared, removed_all, removed_one, without_entry, ArePut}
 use Rattle.gptedit_core.specs.Planning.{IsDone}
 use Rattle.gptedit_core.specs.declared.plan.Job.{Job}
 use Rattle.gptedit_core.specs.declared.plan.Job.TheVariants.{Lay, Sort, Rewrite}

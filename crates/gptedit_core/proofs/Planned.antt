@@ -1,25 +1,26 @@
 -- What a request makes of a table, and what is told of it.
-use Rattle.std.proofs.Common.{◌≡◌, ◌⊎◌, inl, inr, refl, sym, subst, ℕ}
+use Rattle.std.proofs.Common.{◌≡◌, ◌⊎◌, ◌↔◌, inl, inr, refl, sym, subst, ℕ, Bool, true, false, not, IsTrue}
 use Rattle.std.specs.Prelude.{Result, Ok, Err, IfErr, IfOk, OnOk}
-use Rattle.gptman.specs.Copy.{IsCoherent}
+use Rattle.gptman.specs.Answers.{IsFailure}
+use Rattle.gptman.specs.Disk.{DiskState}
+use Rattle.gptman.specs.Fault.{Fault, io, overflow}
 use Rattle.gptman.specs.Layout.{HasLayout}
-use Rattle.gptman.specs.Table.{entries_in}
 use Rattle.gptman.specs.declared.table.GPT.{GPT}
 use Rattle.gptman_copy.specs.declared.error.Error.{Error}
 use Rattle.gptman_change.specs.Planning.{AlwaysKeepsPlaces, IsPlannedAs}
 use Rattle.gptman_change.specs.declared.Planned.{Planned}
 use Rattle.gptman_change.specs.declared.Planned.TheVariants.{Write, Leave}
 use Rattle.gptedit_core.specs.Laying.{IsStopOf}
-use Rattle.gptedit_core.specs.Planning.{IsDone, IsLeft, IsPlanned, IsWritten, RefusesCheck, RefusesRequest, TellsOf}
-use Rattle.gptedit_core.specs.Planning.IsLeft.{is_dry, is_unchanged}
+use Rattle.gptedit_core.specs.Planning.{Differs, IsDone, IsLeftAs, IsWritten, IsWrittenAs, RefusesCheck, RefusesRequest, TellsOf}
+use Rattle.gptedit_core.specs.Planning.IsLeftAs.{is_dry, is_refused, is_unchanged}
 use Rattle.gptedit_core.specs.Planning.RefusesRequest.{not_written}
 use Rattle.gptedit_core.specs.declared.plan.Outcome.{Outcome}
+use Rattle.gptedit_core.specs.declared.plan.Outcome.TheVariants.{Refused as Told}
 use Rattle.gptedit_core.specs.declared.plan.Request.{Request}
 use Rattle.gptedit_core.specs.declared.refusal.Refusal.{Refusal}
 use Rattle.gptedit_core.specs.declared.refusal.Stop.{Stop}
 use Rattle.gptedit_core.specs.declared.refusal.Stop.TheVariants.{Refused, Failed}
-use Rattle.gptedit_core.proofs.Kept.{done_coherent, done_keeps, done_places}
-use Rattle.gptman.proofs.Commits.{KeepsRanges}
+use Rattle.gptedit_core.proofs.Kept.{done_places}
 
 -- A refusal of the last check is one of the request.
 stop_check : (request : Request) (len : ℕ) (g next : GPT) → HasLayout g len → IsDone request.job request.random.items g next
@@ -32,37 +33,47 @@ pub refused_check : (request : Request) (len : ℕ) (g next : GPT) (r : Result (
 refused_check request len g next (Ok u) layout done is = tt
 refused_check request len g next (Err s) layout done is = stop_check request len g next layout done s is
 
--- What is told of a table that was planned.
-module _ (request : Request) (len : ℕ) (g next new : GPT) (planned : IsPlanned request len g next) where
-  told_as : (answer : Planned Outcome) → TellsOf request g next new answer → IsPlannedAs (IsWritten request len) (IsLeft request len) g new answer
+-- What is told of a table of which a plan makes another.
+module _ (P N : GPT → GPT → Type 0) (R : GPT → Refusal → Type 0) (dry needed : Bool) (g next new : GPT) (planned : P g next) (need : N g next ↔ IsTrue needed) where
+  is_needed : needed ≡ true → N g next
+  is_needed same = need.1 same
+
+  told_as : (answer : Planned Outcome) → TellsOf needed dry g next new answer → IsPlannedAs (IsWrittenAs P N dry) (IsLeftAs P N R dry) g new answer
   told_as (Write answer) is =
-      subst (λ (m : GPT). IsWritten request len g m answer) (sym is.0) (record { planned = planned; needed = is.2; wet = is.1; told = is.3 })
-  told_as (Leave answer) (same, inl unchanged) = is_unchanged next planned unchanged.0 unchanged.1
-  told_as (Leave answer) (same, inr dry) = is_dry next planned dry.1 dry.0 dry.2
+      subst (λ (m : GPT). IsWrittenAs P N dry g m answer) (sym is.0) (record { planned = planned; needed = is_needed is.2; wet = is.1; told = is.3 })
+  told_as (Leave answer) (same, inl unchanged) = is_unchanged next planned (λ yes. let true_now : needed ≡ true = need.0 yes in absurd (cc (true_now, unchanged.0))) unchanged.1
+  told_as (Leave answer) (same, inr only) = is_dry next planned (is_needed only.1) only.0 only.2
 
-  sector_as : (answer : Planned Outcome) → TellsOf request g next new answer → new.sector_size ≡ g.sector_size
-  sector_as (Write answer) is =
-      subst (λ (m : GPT). m.sector_size ≡ g.sector_size) (sym is.0) (done_keeps request.job request.random.items g next planned.done).sector
-  sector_as (Leave answer) is = subst (λ (m : GPT). m.sector_size ≡ g.sector_size) (sym is.0) refl
-
-  coherent_as : IsCoherent g.header (entries_in g) → (answer : Planned Outcome) → TellsOf request g next new answer → IsCoherent new.header (entries_in new)
-  coherent_as coherent (Write answer) is =
-      subst (λ (m : GPT). IsCoherent m.header (entries_in m)) (sym is.0) (done_coherent request.job request.random.items g next planned.done coherent)
-  coherent_as coherent (Leave answer) is = subst (λ (m : GPT). IsCoherent m.header (entries_in m)) (sym is.0) coherent
-
-  pub all_told : (r : Result (Planned Outcome) Error) → IfOk r (TellsOf request g next new)
-      → IfOk r (IsPlannedAs (IsWritten request len) (IsLeft request len) g new)
+  pub all_told : (r : Result (Planned Outcome) Error) → IfOk r (TellsOf needed dry g next new)
+      → IfOk r (IsPlannedAs (IsWrittenAs P N dry) (IsLeftAs P N R dry) g new)
   all_told (Ok answer) is = told_as answer is
   all_told (Err e) is = tt
 
-  pub all_sector : (r : Result (Planned Outcome) Error) → IfOk r (TellsOf request g next new) → OnOk r (new.sector_size ≡ g.sector_size)
-  all_sector (Ok answer) is = sector_as answer is
-  all_sector (Err e) is = tt
+-- What is told of a table that is refused.
+pub all_refused : (P N : GPT → GPT → Type 0) (R : GPT → Refusal → Type 0) (dry : Bool) (g : GPT) (refusal : Refusal) → R g refusal → (r : Result (Planned Outcome) Error)
+    → IfOk r (λ planned. planned ≡ Leave (Told g refusal)) → IfOk r (IsPlannedAs (IsWrittenAs P N dry) (IsLeftAs P N R dry) g g)
+all_refused P N R dry g refusal is (Ok planned) told = subst (IsPlannedAs (IsWrittenAs P N dry) (IsLeftAs P N R dry) g g) (sym told) (is_refused refusal is refl)
+all_refused P N R dry g refusal is (Err e) told = tt
 
-  pub all_coherent : IsCoherent g.header (entries_in g) → (r : Result (Planned Outcome) Error) → IfOk r (TellsOf request g next new)
-      → OnOk r (IsCoherent new.header (entries_in new))
-  all_coherent coherent (Ok answer) is = coherent_as coherent answer is
-  all_coherent coherent (Err e) is = tt
+-- An overflow is no failure of the disk.
+pub no_failure : (P : Type 0) (fault : Fault) (old new : DiskState) → fault ≡ overflow → ((fault ≡ overflow) × P) ⊎ IsFailure fault old new → P
+no_failure P fault old new is (inl small) = small.1
+no_failure P fault old new is (inr failure) = let other : fault ≡ io = failure.0 in absurd (cc)
+
+-- Two tables are not the same.
+pub differs : (same : Bool) (g next : GPT) → IsTrue same ↔ (g ≡ next) → Differs g next ↔ IsTrue (not same)
+differs true g next is = (λ no. absurd (no (is.0 refl)), λ yes. absurd (cc yes))
+differs false g next is = (λ no. refl, λ yes same. absurd (cc (is.1 same)))
+
+-- It has what the table and the other have.
+module _ (Q : GPT → Type 0) (dry needed : Bool) (g next new : GPT) (has : Q g) (next_has : Q next) where
+  new_has : (answer : Planned Outcome) → TellsOf needed dry g next new answer → Q new
+  new_has (Write answer) is = subst Q (sym is.0) next_has
+  new_has (Leave answer) is = subst Q (sym is.0) has
+
+  pub all_have : (r : Result (Planned Outcome) Error) → IfOk r (TellsOf needed dry g next new) → OnOk r (Q new)
+  all_have (Ok answer) is = new_has answer is
+  all_have (Err e) is = tt
 
 -- What is written keeps the places of the table.
 pub written_keeps : (request : Request) (len : ℕ) → AlwaysKeepsPlaces (IsWritten request len)

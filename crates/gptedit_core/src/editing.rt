@@ -8,8 +8,10 @@ ghost use Rattle.gptman.specs.Table.{Table};
 ghost use Rattle.gptman_change.specs.Changes.{AnswersChange, IsSafe, LeavesChange, RefusesChange};
 ghost use Rattle.gptman_change.specs.Changes.{StartsGoodFor};
 ghost use Rattle.gptman_change.specs.Reads.{size_for};
-ghost use Rattle.gptedit_core.specs.Planning.{has_random, IsLeft, IsMemoryFault, IsWritten, MayAsk};
+ghost use Rattle.gptedit_core.specs.Planning.{has_random, IsLeft, IsLeftGrown, IsMemoryFault, IsWritten};
+ghost use Rattle.gptedit_core.specs.Planning.{IsWrittenGrown, MayAsk};
 
+use crate::growth::Growth;
 use crate::plan::{Outcome, Request};
 use gptman::{Disk, Result};
 use gptman_change::change_table;
@@ -58,4 +60,39 @@ pub fn edit<D: Disk>(
         (size_for (D.state disk.old).view sector_size) was (D.state disk.old) (D.state disk.new) }
 {
     change_table(alloc, disk, sector_size, request)
+}
+
+/// Reads the table on the disk, with sectors of so many bytes or of a size that is found, and fits it to the
+/// disk's length: in both places and in one write, unless it is only to be told, is refused or has that
+/// length.
+///
+/// The errors are those of `edit`.
+pub fn grow<D: Disk>(
+    alloc: Global,
+    disk: &mut D,
+    sector_size: Option<u64>,
+    growth: &Growth,
+) -> Result<Outcome>
+    requires { IfSome sector_size (λ size. 0 < size) }
+    ensures keeps { Keeps (D.state disk.old) (D.state disk.new) }
+    ensures done { IsHonest (D.state disk.old) → IfOk result (λ outcome. AnswersChange
+        (IsWrittenGrown growth.now (D.state disk.old).size) (IsLeftGrown growth.now (D.state disk.old).size)
+        sector_size outcome (D.state disk.old) (D.state disk.new)) }
+    ensures refused { IsHonest (D.state disk.old) → IfErr result (λ e. RefusesChange
+        (IsWrittenGrown growth.now (D.state disk.old).size)
+        (IsMemoryFault growth.now (D.state disk.old).size)
+        (MayAsk growth.now) sector_size (fault_of e) (D.state disk.old) (D.state disk.new)) }
+    ensures cause { HasCause result (D.state disk.old) (D.state disk.new) }
+    ensures kept { IsHonest (D.state disk.old)
+        → OnErr result (FailedOrUntouched (D.state disk.old) (D.state disk.new)) }
+    ensures dry { IsHonest (D.state disk.old) → growth.now.is_dry ≡ true
+        → OnlyRead (D.state disk.old) (D.state disk.new) }
+
+    // From one good copy of a table for the grown one, a stop at any moment leaves one of the two. The law
+    // `growing_is_safe` of gptman says when the copy in the primary place is such a one.
+    ensures leaves { IsHonest (D.state disk.old) → LeavesChange
+        (IsWrittenGrown growth.now (D.state disk.old).size) sector_size
+        (D.state disk.old) (D.state disk.new) }
+{
+    change_table(alloc, disk, sector_size, growth)
 }

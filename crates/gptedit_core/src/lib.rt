@@ -6,6 +6,7 @@
 pub mod amount;
 pub mod asked;
 pub mod editing;
+pub mod growth;
 pub mod laws;
 pub mod laying;
 pub mod place;
@@ -15,7 +16,8 @@ pub mod resolve;
 
 pub use amount::Amount;
 pub use asked::{Asked, Choice, Layout, Mode, Size};
-pub use editing::edit;
+pub use editing::{edit, grow};
+pub use growth::Growth;
 pub use place::Place;
 pub use plan::{Job, Outcome, Request};
 pub use refusal::{Refusal, Stop};

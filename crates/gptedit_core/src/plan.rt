@@ -7,8 +7,9 @@ ghost use Rattle.gptman.specs.Layout.{HasLayout};
 ghost use Rattle.gptman.specs.Table.{entries_in};
 ghost use Rattle.gptman.specs.TableWrites.{MayBeWritten};
 ghost use Rattle.gptedit_core.specs.Laying.{IsStopOf};
-ghost use Rattle.gptedit_core.specs.Planning.{asks_random, has_random, IsDone, IsLeft, IsMemoryFault, IsNeeded, IsPlanned};
-ghost use Rattle.gptedit_core.specs.Planning.{IsWritten, MayAsk, RefusesCheck, RefusesJob, RefusesRequest, TellsOf};
+ghost use Rattle.gptedit_core.specs.Planning.{asks_random, has_random, IsDone, IsLeft, IsMemoryFault, IsNeeded};
+ghost use Rattle.gptedit_core.specs.Planning.{IsPlanned, IsWritten, MayAsk, RefusesCheck, RefusesJob};
+ghost use Rattle.gptedit_core.specs.Planning.{RefusesRequest, TellsOf};
 
 use crate::asked::Layout;
 use crate::laying::lay;
@@ -74,7 +75,10 @@ impl Plan for Request {
         let size = disk.seek_end()?;
         let mut next = table.clone()?;
         match make(self, alloc, size, &mut next) {
-            Ok(()) => tell(self, table, next),
+            Ok(()) => {
+                let is_needed = is_needed(&self.job, table, &next);
+                tell(table, next, is_needed, self.is_dry)
+            }
             Err(Stop::Failed(error)) => Err(error),
             Err(Stop::Refused(refusal)) => Ok(Planned::Leave(Outcome::Refused {
                 table: table.clone()?,
@@ -100,12 +104,7 @@ fn make(request: &Request, alloc: Global, size: u64, table: &mut GPT) -> Result<
 }
 
 // Does it in memory.
-fn do_job(
-    alloc: Global,
-    job: &Job,
-    random: &[[u8; 16]],
-    table: &mut GPT,
-) -> Result<(), Stop>
+fn do_job(alloc: Global, job: &Job, random: &[[u8; 16]], table: &mut GPT) -> Result<(), Stop>
     requires sector { 0 < table.old.sector_size }
     requires ready { asks_random job.now (length random.now) }
     ensures done { OnOk result (IsDone job.now random.now table.old table.new) }
@@ -118,8 +117,10 @@ fn do_job(
     }
 }
 
-// Refuses a table that may not be written to a disk of so many bytes.
-fn check(table: &GPT, size: u64) -> Result<(), Stop>
+/// Refuses a table that may not be written to a disk of so many bytes.
+///
+/// `SharedGuid` or `BadBoundaries`; `OutOfMemory` where there is no memory to tell.
+pub fn check(table: &GPT, size: u64) -> Result<(), Stop>
     requires { HasLayout table.now size }
     ensures may { OnOk result (MayBeWritten table.now size) }
     ensures refused { IfErr result (IsStopOf (RefusesCheck table.now)) }
@@ -132,16 +133,24 @@ fn check(table: &GPT, size: u64) -> Result<(), Stop>
     }
 }
 
-// What is told of a table and of what it becomes, which the table is made where it is to be written.
-fn tell(request: &Request, table: &mut GPT, next: GPT) -> gptman::Result<Planned<Outcome>>
-    ensures told { IfOk result (TellsOf request.now table.old next table.new) }
+/// What is told of a table and of what it becomes, which the table is made where there is something to
+/// write, and it is not only told.
+///
+/// `OutOfMemory` where there is no memory for it.
+pub fn tell(
+    table: &mut GPT,
+    next: GPT,
+    is_needed: bool,
+    is_dry: bool,
+) -> gptman::Result<Planned<Outcome>>
+    ensures told { IfOk result (TellsOf is_needed is_dry table.old next table.new) }
     ensures refused { IfErr result (λ e. fault_of e ≡ out_of_memory) }
 {
     let was = table.clone()?;
-    if !is_needed(&request.job, &was, &next) {
+    if !is_needed {
         return Ok(Planned::Leave(Outcome::Unchanged { table: was }));
     }
-    if request.is_dry {
+    if is_dry {
         return Ok(Planned::Leave(Outcome::Changed { was, next }));
     }
     *table = next.clone()?;
@@ -159,8 +168,8 @@ fn is_needed(job: &Job, was: &GPT, next: &GPT) -> bool
     }
 }
 
-// Whether the two tables are equal.
-fn is_same(was: &GPT, next: &GPT) -> bool
+/// Whether the two tables are equal.
+pub fn is_same(was: &GPT, next: &GPT) -> bool
     ensures { IsTrue result ↔ (was.now ≡ next.now) }
 {
     was == next

@@ -39,6 +39,8 @@ pub enum Refusal {
     NoAlignment,
     /// The table has not the stated layout on this disk.
     NotLaidOut,
+    /// The disk is too small for the table, or the table has no entries.
+    TooSmall,
     /// Two entries would have one GUID.
     SharedGuid,
     /// Partitions would overlap, or lie outside of the usable sectors.
