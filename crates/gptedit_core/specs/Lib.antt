@@ -1,3 +1,4 @@
+pub mod Dumping
 pub mod Laying
 pub mod Named
 pub mod Placing

@@ -5,6 +5,7 @@
 
 pub mod amount;
 pub mod asked;
+pub mod dump;
 pub mod editing;
 pub mod growth;
 pub mod laws;
@@ -16,6 +17,7 @@ pub mod resolve;
 
 pub use amount::Amount;
 pub use asked::{Asked, Choice, Layout, Mode, Size};
+pub use dump::layout_of;
 pub use editing::{edit, grow};
 pub use growth::Growth;
 pub use place::Place;

@@ -1,0 +1,43 @@
+-- The layout that a table is.
+use Rattle.std.specs.Prelude.{◌≡◌, ℕ, ◌+◌, ◌-◌, ◌^◌, ◌&&◌, nat_le, nat_lt, false, if◌then◌else◌, List, [], ◌∷◌, Some}
+use Rattle.std.specs.List.{enumerate_from}
+use Rattle.gptman.specs.Entry.{is_used}
+use Rattle.gptman.specs.Table.{entries_in}
+use Rattle.gptman_copy.specs.declared.codec.entry.GPTPartitionEntry.{GPTPartitionEntry}
+use Rattle.gptman.specs.declared.table.GPT.{GPT}
+use Rattle.gptedit_core.specs.declared.amount.Amount.TheVariants.{Sectors}
+use Rattle.gptedit_core.specs.declared.asked.Asked.{Asked}
+use Rattle.gptedit_core.specs.declared.asked.Choice.TheVariants.{First}
+use Rattle.gptedit_core.specs.declared.asked.Layout.{Layout}
+use Rattle.gptedit_core.specs.declared.asked.Mode.TheVariants.{Become}
+use Rattle.gptedit_core.specs.declared.asked.Size.TheVariants.{Exactly}
+
+-- how many sectors there are from the first to the last, where they are so many that fit in 64 bits
+abbrev pub more_sectors : ℕ → ℕ → ℕ
+more_sectors first last = if nat_le first last && nat_lt (last - first) (2 ^ 64 - 1) then last - first + 1 else 0
+
+-- what is asked where the entry of number i is to be as it is
+abbrev pub asked_of : ℕ → GPTPartitionEntry → Asked
+asked_of i e = record {
+  number = Some i;
+  type_guid = Some e.partition_type_guid;
+  unique_guid = Some e.unique_partition_guid;
+  attributes = Some e.attribute_bits;
+  name = Some e.partition_name;
+  start = Some (Sectors e.starting_lba);
+  size = Some (Exactly (Sectors (more_sectors e.starting_lba e.ending_lba)));
+  choice = First;
+}
+
+-- the same of each entry that is used
+abbrev pub asked_of_all : List (ℕ × GPTPartitionEntry) → List Asked
+asked_of_all [] = []
+asked_of_all (e ∷ es) = if is_used e.1 then asked_of e.0 e.1 ∷ asked_of_all es else asked_of_all es
+
+-- The layout has the disk's GUID, and each used entry as it is; nothing is replaced or removed.
+pub record IsLayoutOf (g : GPT) (layout : Layout) : Type 0 where
+  pub mode : layout.mode ≡ Become false
+  pub disk_guid : layout.disk_guid ≡ Some g.header.disk_guid
+  pub align : layout.align ≡ Sectors g.align
+  pub removed : layout.removed.items ≡ []
+  pub asked : layout.asked.items ≡ asked_of_all (enumerate_from 1 (entries_in g))
