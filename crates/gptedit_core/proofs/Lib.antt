@@ -1,4 +1,5 @@
 pub mod Checked
+pub mod Dumped
 pub mod Kept
 pub mod Laid
 pub mod Planned

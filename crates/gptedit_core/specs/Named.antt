@@ -1,9 +1,11 @@
 -- Which entries a layout names, and what becomes of these and of the others.
-use Rattle.std.specs.Prelude.{◌≡◌, ◌≢◌, ◌≤◌, ℕ, List, [], ◌∷◌, false, All, IsTrue}
+use Rattle.std.specs.Prelude.{◌≡◌, ◌≢◌, ◌≤◌, ℕ, List, [], ◌∷◌, false, length, All, IsTrue}
 use Rattle.gptman.specs.Entry.{is_unused}
 use Rattle.gptman.specs.Number.{entry_at}
+use Rattle.gptman.specs.Table.{table_in}
 use Rattle.gptman_copy.specs.declared.codec.entry.GPTPartitionEntry.{GPTPartitionEntry}
 use Rattle.gptman.specs.declared.table.GPT.{GPT}
+use Rattle.gptedit_core.specs.Dumping.{IsLayoutOf}
 use Rattle.gptedit_core.specs.Laying.{IsLaid}
 use Rattle.gptedit_core.specs.Placing.{IsSpan}
 use Rattle.gptedit_core.specs.declared.asked.Layout.{Layout}
@@ -41,3 +43,8 @@ pub record ChangesNamed (layout : Layout) (randoms : List (List ℕ)) (g next : 
 -- of each layout and table
 abbrev pub LayoutsChangeNamed : Type 0
 LayoutsChangeNamed = (layout : Layout) (randoms : List (List ℕ)) (g next : GPT) (is : IsLaid layout randoms g next) → ChangesNamed layout randoms g next is
+
+-- A layout that is one of a table gives that table where it is put into it.
+abbrev pub LayoutsGiveTable : Type 0
+LayoutsGiveTable = (g next : GPT) (layout : Layout) (randoms : List (List ℕ)) → IsLayoutOf g layout → length layout.asked.items ≤ length randoms → IsLaid layout randoms g next
+    → table_in next ≡ table_in g

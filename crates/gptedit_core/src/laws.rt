@@ -1,10 +1,15 @@
 //! Laws of what is asked for, over definitions alone. These calls do nothing.
 
-ghost use Rattle.gptedit_core.specs.Named.{LayoutsChangeNamed};
+ghost use Rattle.gptedit_core.specs.Named.{LayoutsChangeNamed, LayoutsGiveTable};
 
 /// A layout that is put into a table changes the entries that it names or removes, and no other: each that
 /// it names is there with what was asked for, at a place that the table had for it, and each other stays.
 /// Where the table becomes what is asked for, no other is used, or those that are go.
 pub fn layouts_change_what_they_name()
     ensures { LayoutsChangeNamed }
+{}
+
+/// The layout of a table (`layout_of`) gives that table where it is put into it.
+pub fn layouts_of_tables_give_them()
+    ensures { LayoutsGiveTable }
 {}

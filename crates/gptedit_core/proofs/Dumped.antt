@@ -1,0 +1,278 @@
+-- The layout of a table, put into it, gives the same table.
+use Rattle.std.proofs.Common.{◌≡◌, ◌≢◌, ◌≤◌, ◌<◌, ◌⊎◌, inl, inr, ℕ, ◌+◌, ◌-◌, ◌&&◌, List, [], ◌∷◌, refl, sym, ap, ◌∙◌, subst, arith, zero, suc, IsTrue, Bool, true, false, length}
+use Rattle.std.specs.Prelude.{Option, Some, None, Result, Ok, Err, All, get_or, nat_eq, nat_le, slice_get, unwrap_or, if◌then◌else◌}
+use Rattle.std.specs.List.{enumerate_from}
+use Rattle.std.proofs.lemmas.Bool.{eqb-true, le-leb}
+use Rattle.std.proofs.lemmas.List.{get_or_default, same_lists}
+use Rattle.std.proofs.lemmas.Option.{slice_get-get_or}
+use Rattle.gptman.specs.Coding.{empty_entry}
+use Rattle.gptman.specs.Entry.{is_unused, is_used}
+use Rattle.gptman.specs.Number.{entry_at, entry_of_number}
+use Rattle.gptman.specs.Table.{entries_in, table_in, table_of}
+use Rattle.gptman_copy.specs.declared.codec.entry.GPTPartitionEntry.{GPTPartitionEntry}
+use Rattle.gptman_copy.specs.declared.codec.header.GPTHeader.{GPTHeader}
+use Rattle.gptman.specs.declared.table.GPT.{GPT}
+use Rattle.gptedit_core.specs.Dumping.{asked_of, asked_of_all, IsLayoutOf}
+use Rattle.gptedit_core.specs.Laying.{IsLaid}
+use Rattle.gptedit_core.specs.Named.{AreThere, IsUnnamed, LayoutsGiveTable, StaysAs}
+use Rattle.gptedit_core.specs.Placing.{IsSpan}
+use Rattle.gptedit_core.specs.Resolving.{and_then, entry_asked, number_asked, partition_at, place_asked, place_in, resolved, resolved_all, room_asked, start_asked, stay_fault, there_of, unless, use_fault, used_at}
+use Rattle.gptedit_core.specs.declared.asked.Asked.{Asked}
+use Rattle.gptedit_core.specs.declared.asked.Layout.{Layout}
+use Rattle.gptedit_core.specs.declared.asked.Mode.{Mode}
+use Rattle.gptedit_core.specs.declared.asked.Mode.TheVariants.{Become}
+use Rattle.gptedit_core.specs.declared.place.Place.{Place}
+use Rattle.gptedit_core.specs.declared.place.Place.TheVariants.{At, From, Free, Longest}
+use Rattle.gptedit_core.specs.declared.refusal.Refusal.{Refusal}
+use Rattle.gptedit_core.specs.declared.refusal.Refusal.TheVariants.{NoEntry, NoType, WouldMove}
+use Rattle.gptedit_core.specs.declared.resolve.Partition.{Partition}
+use Rattle.gptedit_core.specs.declared.plan.Job.TheVariants.{Lay}
+use Rattle.gptedit_core.proofs.Kept.{done_keeps}
+use Rattle.gptedit_core.proofs.Laid.{change_named}
+use Rattle.gptedit_core.proofs.Steps.{and_then_ok, else_ok}
+
+-- ---- one entry that is asked for as it is
+
+unless_ok : {A : Type 0} (o : Option Refusal) (a b : A) → unless o a ≡ Ok b → (o ≡ None) × (a ≡ b)
+unless_ok None a b is = let same : a ≡ b = cc in (refl, same)
+unless_ok (Some r) a b is = absurd (cc)
+
+when_none : (b : Bool) (r : Refusal) → ◌≡◌ {A = Option Refusal} (if b then None else Some r) None → b ≡ true
+when_none true r is = refl
+when_none false r is = absurd (cc)
+
+both_true : (a b : Bool) → (a && b) ≡ true → (a ≡ true) × (b ≡ true)
+both_true true b is = (refl, is)
+both_true false b is = absurd (cc)
+
+stays_at : (i : ℕ) (there : ℕ × ℕ) (place : Place) → stay_fault (Become false) i (Some there) place ≡ None → place ≡ At there.0 there.1
+stays_at i there (At first last) is =
+    let both = both_true (nat_eq first there.0) (nat_eq last there.1) (when_none (nat_eq first there.0 && nat_eq last there.1) (WouldMove i) is) in
+    ap (λ n. At n last) (eqb-true first there.0 both.0) ∙ ap (λ n. At there.0 n) (eqb-true last there.1 both.1)
+stays_at i there (From first) is = absurd (cc)
+stays_at i there (Free size choice) is = absurd (cc)
+stays_at i there Longest is = absurd (cc)
+
+place_stays : (a : Asked) (i ss : ℕ) (e : GPTPartitionEntry) (place : Place) → place_asked (Become false) a i (Some e) ss ≡ Ok place → place ≡ At e.starting_lba e.ending_lba
+place_stays a i ss e place is =
+    let start = and_then_ok (start_asked a.start ss) _ place is in
+    let room = and_then_ok (room_asked a.size i ss) _ place start.2 in
+    let at = and_then_ok (place_in (Become false) i room.0 start.0 (there_of (Some e)) a.choice) _ place room.2 in
+    let stay = unless_ok (stay_fault (Become false) i (there_of (Some e)) at.0) at.0 place at.2 in
+    sym stay.1 ∙ stays_at i (e.starting_lba, e.ending_lba) at.0 stay.0
+
+-- The partition is the used entry of its number, where it stands.
+record IsOwn (g : GPT) (p : Partition) : Type 0 where
+  low : 1 ≤ p.number
+  e : GPTPartitionEntry
+  at : entry_at g p.number ≡ e
+  used : IsTrue (is_used e)
+  entry : p.entry ≡ e
+  place : p.place ≡ At e.starting_lba e.ending_lba
+
+abbrev with_used : GPT → Asked → List ℕ → ℕ → Option GPTPartitionEntry → Result Partition Refusal
+with_used g a random i used =
+    let e = entry_asked a used random in
+    and_then (unless (use_fault (Become false) i used) i) (λ _.
+    and_then (place_asked (Become false) a i used g.sector_size) (λ place.
+    if is_unused e then Err (NoType i) else Ok (record { number = i; entry = e; place = place })))
+
+own_part : (g : GPT) (i : ℕ) (e : GPTPartitionEntry) (random : List ℕ) (p : Partition) → 1 ≤ i → entry_at g i ≡ e → IsTrue (is_used e)
+    → with_used g (asked_of i e) random i (Some e) ≡ Ok p → (p.number ≡ i) × IsOwn g p
+own_part g i e random p low at used is =
+    let place = and_then_ok (place_asked (Become false) (asked_of i e) i (Some e) g.sector_size) _ p is in
+    let whole : Partition = record { number = i; entry = e; place = place.0 } in
+    let end = else_ok (is_unused e) (NoType i) whole p place.2 in (
+      sym (ap (λ (q : Partition). q.number) end.1),
+      subst (IsOwn g) end.1 (record { low = low; e = e; at = at; used = used; entry = refl; place = place_stays (asked_of i e) i g.sector_size e place.0 place.1 }),
+    )
+
+used_is : (g : GPT) (i : ℕ) (e : GPTPartitionEntry) → entry_of_number g i ≡ Some e → IsTrue (is_used e) → used_at g i ≡ Some e
+used_is g i e found used =
+    subst (λ (o : Option GPTPartitionEntry). ◌≡◌ {A = Option GPTPartitionEntry} (elim o [ None ↦ None | Some x ↦ if is_used x then Some x else None ]) (Some e)) (sym found)
+    (subst (λ (b : Bool). ◌≡◌ {A = Option GPTPartitionEntry} (if b then Some e else None) (Some e)) (sym used) refl)
+
+own_one : (g : GPT) (i : ℕ) (e : GPTPartitionEntry) (random : List ℕ) (p : Partition) → 1 ≤ i → entry_of_number g i ≡ Some e → entry_at g i ≡ e → IsTrue (is_used e)
+    → resolved g (Become false) (asked_of i e) random ≡ Ok p → (p.number ≡ i) × IsOwn g p
+own_one g i e random p low found at used is =
+    let a : Asked = asked_of i e in
+    let number = and_then_ok (number_asked g a) (partition_at g (Become false) a random) p is in
+    let here : number_asked g a ≡ Ok i =
+    subst (λ (o : Option GPTPartitionEntry). ◌≡◌ {A = Result ℕ Refusal} (elim o [ None ↦ Err (NoEntry i) | Some x ↦ Ok i ]) (Ok i)) (sym found) refl in
+    let both : Ok i ≡ Ok number.0 = sym here ∙ number.1 in
+    let same : number.0 ≡ i = cc in
+    let part : partition_at g (Become false) a random i ≡ Ok p = subst (λ (n : ℕ). partition_at g (Become false) a random n ≡ Ok p) same number.2 in
+    own_part g i e random p low at used (subst (λ (u : Option GPTPartitionEntry). with_used g a random i u ≡ Ok p) (used_is g i e found used) part)
+
+-- ---- all of them
+
+abbrev OwnedBy : GPT → List Partition → Type 0
+OwnedBy g [] = Unit {0}
+OwnedBy g (p ∷ ps) = IsOwn g p × OwnedBy g ps
+
+abbrev HasNumber : ℕ → List Partition → Type 0
+HasNumber i [] = ⊥
+HasNumber i (p ∷ ps) = (p.number ≡ i) ⊎ HasNumber i ps
+
+-- the table has these entries from number k on
+abbrev HasFrom : GPT → ℕ → List GPTPartitionEntry → Type 0
+HasFrom g k [] = Unit {0}
+HasFrom g k (e ∷ es) = (entry_of_number g k ≡ Some e) × (entry_at g k ≡ e) × HasFrom g (k + 1) es
+
+-- each used one of them is asked for
+abbrev CoversFrom : List Partition → ℕ → List GPTPartitionEntry → Type 0
+CoversFrom ps k [] = Unit {0}
+CoversFrom ps k (e ∷ es) = (IsTrue (is_used e) → HasNumber k ps) × CoversFrom ps (k + 1) es
+
+covers_more : (p : Partition) (ps : List Partition) (k : ℕ) (es : List GPTPartitionEntry) → CoversFrom ps k es → CoversFrom (p ∷ ps) k es
+covers_more p ps k [] is = tt
+covers_more p ps k (e ∷ es) is = (λ used. inr (is.0 used), covers_more p ps (k + 1) es is.1)
+
+abbrev if_used : Bool → ℕ → GPTPartitionEntry → List Asked → List Asked
+if_used b k e asked = if b then asked_of k e ∷ asked else asked
+
+own_more : (g : GPT) (b : Bool) (k : ℕ) (e : GPTPartitionEntry) (es : List GPTPartitionEntry) (randoms : List (List ℕ)) (ps : List Partition) → 1 ≤ k → is_used e ≡ b
+    → entry_of_number g k ≡ Some e → entry_at g k ≡ e
+    → length (if_used b k e (asked_of_all (enumerate_from (k + 1) es))) ≤ length randoms
+    → resolved_all g (Become false) (if_used b k e (asked_of_all (enumerate_from (k + 1) es))) randoms ≡ Ok ps
+    → ((rs : List (List ℕ)) (qs : List Partition) → length (asked_of_all (enumerate_from (k + 1) es)) ≤ length rs
+    → resolved_all g (Become false) (asked_of_all (enumerate_from (k + 1) es)) rs ≡ Ok qs → OwnedBy g qs × CoversFrom qs (k + 1) es)
+    → OwnedBy g ps × CoversFrom ps k (e ∷ es)
+own_more g false k e es randoms ps low is found at enough all rest =
+    let next = rest randoms ps enough all in
+    (next.0, (λ used. absurd (cc), next.1))
+own_more g true k e es [] ps low is found at enough all rest = absurd (omega (arith, enough))
+own_more g true k e es (random ∷ randoms) ps low is found at enough all rest =
+    let asked = asked_of_all (enumerate_from (k + 1) es) in
+    let first = and_then_ok (resolved g (Become false) (asked_of k e) random) _ ps all in
+    let others = and_then_ok (resolved_all g (Become false) asked randoms) _ ps first.2 in
+    let same : first.0 ∷ others.0 ≡ ps = cc in
+    let own = own_one g k e random first.0 low found at is first.1 in
+    let next = rest randoms others.0 (omega (arith, enough)) others.1 in
+    subst (λ (qs : List Partition). OwnedBy g qs × CoversFrom qs k (e ∷ es)) same
+    ((own.1, next.0), (λ used. inl own.0, covers_more first.0 others.0 (k + 1) es next.1))
+
+all_own : (g : GPT) (k : ℕ) (es : List GPTPartitionEntry) (randoms : List (List ℕ)) (ps : List Partition) → 1 ≤ k → HasFrom g k es
+    → length (asked_of_all (enumerate_from k es)) ≤ length randoms → resolved_all g (Become false) (asked_of_all (enumerate_from k es)) randoms ≡ Ok ps
+    → OwnedBy g ps × CoversFrom ps k es
+all_own g k [] randoms ps low has enough all = let none : [] ≡ ps = cc in subst (λ (qs : List Partition). OwnedBy g qs × CoversFrom qs k []) none (tt, tt)
+all_own g k (e ∷ es) randoms ps low has enough all =
+    own_more g (is_used e) k e es randoms ps low refl has.0 has.1 enough all
+    (λ rs qs long is. all_own g (k + 1) es rs qs (omega (arith, low)) has.2 long is)
+
+-- ---- what that leaves under each number
+
+-- What is there under the number of a partition that was the table's own is the entry that it had.
+own_there : (g next : GPT) (j : ℕ) (ps : List Partition) → OwnedBy g ps → AreThere ps next → HasNumber j ps → entry_at next j ≡ entry_at g j
+own_there g next j [] own there has = absurd has
+own_there g next j (p ∷ ps) own there (inr has) = own_there g next j ps own.1 there.1 has
+own_there g next j (p ∷ ps) own there (inl same) =
+    let own = own.0 in
+    let put = there.0 in
+    let span : (put.first, put.last) ≡ (own.e.starting_lba, own.e.ending_lba) = subst (λ (place : Place). IsSpan place put.table (put.first, put.last)) own.place put.span in
+    let first : put.first ≡ own.e.starting_lba = ap (λ (s : ℕ × ℕ). s.0) span in
+    let last : put.last ≡ own.e.ending_lba = ap (λ (s : ℕ × ℕ). s.1) span in
+    let there : entry_at next p.number ≡ own.e =
+    put.entry ∙ (λ i. record (own.entry i) { starting_lba = first i; ending_lba = last i }) in
+    subst (λ (n : ℕ). entry_at next n ≡ entry_at g n) same (there ∙ sym own.at)
+
+-- One that is not used is not named.
+own_unnamed : (g : GPT) (j : ℕ) (ps : List Partition) → OwnedBy g ps → is_used (entry_at g j) ≡ false → IsUnnamed j ps
+own_unnamed g j [] own unused k p below = absurd (omega (arith, below))
+own_unnamed g j (p ∷ ps) own unused zero q below = λ same.
+    let used : is_used (entry_at g j) ≡ true = ap (λ (n : ℕ). is_used (entry_at g n)) (sym same) ∙ (ap is_used own.0.at ∙ own.0.used) in
+    absurd (cc)
+own_unnamed g j (p ∷ ps) own unused (suc k) q below = own_unnamed g j ps own.1 unused k q (omega (arith, below))
+
+-- ---- the numbers of a list
+
+has_from : (g : GPT) (k : ℕ) (es : List GPTPartitionEntry)
+    → ((m : ℕ) → m < length es → (entry_of_number g (k + m) ≡ Some (get_or es m empty_entry)) × (entry_at g (k + m) ≡ get_or es m empty_entry)) → HasFrom g k es
+has_from g k [] at = tt
+has_from g k (e ∷ es) at =
+    let start : k + 0 ≡ k = omega arith in
+    let here = subst (λ (n : ℕ). (entry_of_number g n ≡ Some e) × (entry_at g n ≡ e)) start (at 0 (omega arith)) in (
+      here.0,
+      here.1,
+      has_from g (k + 1) es (λ m below.
+          let shift : k + suc m ≡ k + 1 + m = omega arith in
+          subst (λ (n : ℕ). (entry_of_number g n ≡ Some (get_or es m empty_entry)) × (entry_at g n ≡ get_or es m empty_entry)) shift (at (suc m) (omega (arith, below)))),
+    )
+
+-- the entry of the number that is one above its index
+at_number : (g : GPT) (m n : ℕ) → n ≡ m + 1 → entry_at g n ≡ get_or (entries_in g) m empty_entry
+at_number g m n is = let index : n - 1 ≡ m = omega (arith, is) in ap (λ (k : ℕ). get_or (entries_in g) k empty_entry) index
+
+of_number : (g : GPT) (m n : ℕ) → n ≡ m + 1 → m < length (entries_in g) → entry_of_number g n ≡ Some (get_or (entries_in g) m empty_entry)
+of_number g m n is below =
+    let index : n - 1 ≡ m = omega (arith, is) in
+    let above : nat_le 1 n ≡ true = le-leb 1 n (omega (arith, is)) in
+    subst (λ (b : Bool). ◌≡◌ {A = Option GPTPartitionEntry} (if b then slice_get (entries_in g) (n - 1) else None) (Some (get_or (entries_in g) m empty_entry))) (sym above)
+    (subst (λ (k : ℕ). slice_get (entries_in g) k ≡ Some (get_or (entries_in g) m empty_entry)) (sym index) (slice_get-get_or (entries_in g) m empty_entry below))
+
+has_all : (g : GPT) → HasFrom g 1 (entries_in g)
+has_all g = has_from g 1 (entries_in g) (λ m below. (of_number g m (1 + m) (omega arith) below, at_number g m (1 + m) (omega arith)))
+
+covers_at : (ps : List Partition) (k : ℕ) (es : List GPTPartitionEntry) (m : ℕ) → CoversFrom ps k es → m < length es → IsTrue (is_used (get_or es m empty_entry)) → HasNumber (k + m) ps
+covers_at ps k [] m is below used = absurd (omega (arith, below))
+covers_at ps k (e ∷ es) zero is below used = let start : k ≡ k + 0 = omega arith in subst (λ (n : ℕ). HasNumber n ps) start (is.0 used)
+covers_at ps k (e ∷ es) (suc m) is below used =
+    let shift : k + 1 + m ≡ k + suc m = omega arith in
+    subst (λ (n : ℕ). HasNumber n ps) shift (covers_at ps (k + 1) es m is.1 (omega (arith, below)) used)
+
+-- An entry that is used is one of the list.
+used_below : (es : List GPTPartitionEntry) (m : ℕ) → IsTrue (is_used (get_or es m empty_entry)) → m < length es
+used_below [] m used = absurd (cc)
+used_below (e ∷ es) zero used = omega arith
+used_below (e ∷ es) (suc m) used = let less = used_below es m used in omega (arith, less)
+
+-- ---- the whole table
+
+module _ (g next : GPT) (layout : Layout) (randoms : List (List ℕ)) (is : IsLayoutOf g layout) (enough : length layout.asked.items ≤ length randoms)
+    (laid : IsLaid layout randoms g next) where
+  own_asked : resolved_all g (Become false) (asked_of_all (enumerate_from 1 (entries_in g))) randoms ≡ Ok laid.partitions
+  own_asked =
+      subst (λ (mode : Mode). resolved_all g mode (asked_of_all (enumerate_from 1 (entries_in g))) randoms ≡ Ok laid.partitions) is.mode
+      (subst (λ (asked : List Asked). resolved_all g layout.mode asked randoms ≡ Ok laid.partitions) is.asked laid.asked)
+
+  owned : OwnedBy g laid.partitions × CoversFrom laid.partitions 1 (entries_in g)
+  owned = all_own g 1 (entries_in g) randoms laid.partitions (omega arith) (has_all g)
+      (subst (λ (asked : List Asked). length asked ≤ length randoms) is.asked enough) own_asked
+
+  each_used : (m : ℕ) → is_used (entry_at g (suc m)) ≡ true → entry_at next (suc m) ≡ entry_at g (suc m)
+  each_used m used =
+      let at : entry_at g (suc m) ≡ get_or (entries_in g) m empty_entry = at_number g m (suc m) (omega arith) in
+      let here : IsTrue (is_used (get_or (entries_in g) m empty_entry)) = subst (λ (e : GPTPartitionEntry). IsTrue (is_used e)) at used in
+      let below = used_below (entries_in g) m here in
+      let shift : 1 + m ≡ suc m = omega arith in
+      own_there g next (suc m) laid.partitions owned.0 (change_named layout randoms g next laid).named
+      (subst (λ (n : ℕ). HasNumber n laid.partitions) shift (covers_at laid.partitions 1 (entries_in g) m owned.1 below here))
+
+  each_unused : (m : ℕ) → is_used (entry_at g (suc m)) ≡ false → entry_at next (suc m) ≡ entry_at g (suc m)
+  each_unused m unused =
+      let kept : All (λ (j : ℕ). j ≢ suc m) layout.removed.items = subst (λ (js : List ℕ). All (λ (j : ℕ). j ≢ suc m) js) (sym is.removed) (λ k d below. absurd (omega (arith, below))) in
+      let stays = (change_named layout randoms g next laid).others (suc m) (omega arith) (own_unnamed g (suc m) laid.partitions owned.0 unused) kept in
+      (subst (λ (mode : Mode). StaysAs mode (entry_at g (suc m)) (entry_at next (suc m))) is.mode stays).0
+
+  each_by : (m : ℕ) (b : Bool) → is_used (entry_at g (suc m)) ≡ b → entry_at next (suc m) ≡ entry_at g (suc m)
+  each_by m true used = each_used m used
+  each_by m false unused = each_unused m unused
+
+  same_entries : entries_in next ≡ entries_in g
+  same_entries =
+      let long = (done_keeps (Lay layout) randoms g next laid).long in
+      same_lists (entries_in next) (entries_in g) long (λ k d below.
+      get_or_default (entries_in next) k d empty_entry below ∙ (sym (at_number next k (suc k) (omega arith)) ∙ (each_by k (is_used (entry_at g (suc k))) refl
+      ∙ (at_number g k (suc k) (omega arith) ∙ get_or_default (entries_in g) k empty_entry d (omega (arith, below, long))))))
+
+  same_guid : next.header.disk_guid ≡ g.header.disk_guid
+  same_guid =
+      ap (λ (m : GPT). m.header.disk_guid) laid.next_is ∙ ap (λ (guid : Option (List ℕ)). unwrap_or guid laid.last.header.disk_guid) is.disk_guid
+
+  same_table : table_in next ≡ table_in g
+  same_table =
+      ap (λ (h : GPTHeader). table_of h (entries_in next)) (done_keeps (Lay layout) randoms g next laid).header
+      ∙ (λ i. table_of (record g.header { disk_guid = same_guid i }) (same_entries i))
+
+pub give_table : LayoutsGiveTable
+give_table g next layout randoms is enough laid = same_table g next layout randoms is enough laid
