@@ -58,6 +58,59 @@ pub fn fit<D: Disk>(header: &mut GPTHeader, disk: &mut D, sector_size: u64) -> R
     header.update_from(disk, sector_size)
 }
 
+/// The entry that is read from where the disk stands.
+pub fn read_entry<D: Disk>(alloc: Global, disk: &mut D) -> Result<GPTPartitionEntry> {
+    GPTPartitionEntry::read_from(alloc, disk)
+}
+
+/// The free sectors: the first of each slot, and how many it has.
+pub fn free_sectors(table: &GPT) -> Result<Vec<(u64, u64)>> {
+    if table.align == 0 {
+        return Err(Error::Overflow);
+    }
+    table.find_free_sectors()
+}
+
+/// The first place for so many sectors.
+pub fn first_place(table: &GPT, size: u64) -> Result<Option<u64>> {
+    if table.align == 0 {
+        return Err(Error::Overflow);
+    }
+    table.find_first_place(size)
+}
+
+/// The last place for so many sectors.
+pub fn last_place(table: &GPT, size: u64) -> Result<Option<u64>> {
+    if table.align == 0 {
+        return Err(Error::Overflow);
+    }
+    table.find_last_place(size)
+}
+
+/// The place in the smallest slot for so many sectors.
+pub fn optimal_place(table: &GPT, size: u64) -> Result<Option<u64>> {
+    if table.align == 0 {
+        return Err(Error::Overflow);
+    }
+    table.find_optimal_place(size)
+}
+
+/// The size of the largest partition that there is room for.
+pub fn maximum_size(table: &GPT) -> Result<u64> {
+    if table.align == 0 {
+        return Err(Error::Overflow);
+    }
+    table.get_maximum_partition_size()
+}
+
+/// Whether the first entry of the table is this one.
+pub fn is_first(entry: &GPTPartitionEntry, table: &GPT) -> bool {
+    match table.iter().next() {
+        Some((number, first)) => number == 1 && first == entry,
+        None => false,
+    }
+}
+
 /// The entry that these bytes are.
 pub fn entry_of(alloc: Global, bytes: &[u8; 128]) -> Result<GPTPartitionEntry> {
     GPTPartitionEntry::decode(alloc, bytes)

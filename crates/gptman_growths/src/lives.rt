@@ -1,7 +1,10 @@
 //! Long lives of one disk in memory: many writes and syncs, large writes, and a stop with many fates.
 
+use crate::disks::store;
 use crate::verdict::{Verdict, of_answer};
-use gptman::{Disk, Fate, MemoryDisk, Result};
+use gptman::{Fate, MemoryDisk, Result};
+use gptman_fixtures::calls::has_bytes;
+use gptman_fixtures::samples::disk_of;
 use gptman_fixtures::tables::{write_at, zero_disk};
 use std::alloc::Global;
 
@@ -24,13 +27,13 @@ const WRITES: usize = 2000;
 fn live_long(alloc: Global) -> Result<Verdict> {
     let mut disk = zero_disk(alloc, LEN)?;
     let written = write_each(alloc, &mut disk)?;
-    let is_written = disk.bytes().get(..WRITES) == Some(written.as_slice());
+    let is_written = begins_with(&disk, &written);
     let whole = vec![in alloc; 5; LEN]?;
     write_at(&mut disk, 0, &whole)?;
-    disk.sync()?;
-    let is_read = disk.bytes() == whole.as_slice();
+    store(&mut disk)?;
+    let is_read = has_bytes(&disk, &whole);
     let left = disk.stop(&[])?;
-    Ok(of_answer(is_written && is_read && left.bytes() == whole.as_slice()))
+    Ok(of_answer(is_written && is_read && has_bytes(&left, &whole)))
 }
 
 // Writes a byte at each place, with a sync behind it, and answers these bytes.
@@ -40,9 +43,13 @@ fn write_each(alloc: Global, disk: &mut MemoryDisk) -> Result<Vec<u8>> {
         let byte = (at % 256) as u8;
         written.push(byte)?;
         write_at(disk, at as u64, &[byte])?;
-        disk.sync()?;
+        store(disk)?;
     }
     Ok(written)
+}
+
+fn begins_with(disk: &MemoryDisk, bytes: &[u8]) -> bool {
+    disk.bytes().starts_with(bytes)
 }
 
 // The fate of the write at this place, and what it leaves there where 1 stood and 7 was written.
@@ -56,15 +63,22 @@ fn fate_of(at: usize) -> (Fate, u8) {
 
 // No sync at all. Each write has a place of its own, and a fate of its own.
 fn stop_with_many_fates(alloc: Global) -> Result<Verdict> {
-    let mut disk = MemoryDisk::new(alloc, vec![in alloc; 1; LEN]?)?;
-    let (mut fates, mut wanted) = (Vec::new(alloc), Vec::new(alloc));
+    let mut disk = disk_of(alloc, 1, LEN)?;
+    let mut fates = Vec::new(alloc);
     for at in 0..WRITES {
-        let (fate, byte) = fate_of(at);
         write_at(&mut disk, at as u64, &[7])?;
-        fates.push(fate)?;
-        wanted.push(byte)?;
+        fates.push(fate_of(at).0)?;
     }
     let left = disk.stop(&fates)?;
-    let is_left = left.bytes().get(..WRITES) == Some(wanted.as_slice());
-    Ok(of_answer(is_left && left.bytes().get(WRITES) == Some(&1)))
+    Ok(of_answer(begins_with(&left, &what_is_left(alloc)?)))
+}
+
+// What the fates leave, and one byte more.
+fn what_is_left(alloc: Global) -> Result<Vec<u8>> {
+    let mut left = Vec::new(alloc);
+    for at in 0..WRITES {
+        left.push(fate_of(at).1)?;
+    }
+    left.push(1)?;
+    Ok(left)
 }
