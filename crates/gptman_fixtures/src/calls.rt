@@ -3,7 +3,7 @@
 
 use crate::tables::DISK_GUID;
 use gptman::{
-    Disk, Edit, Error, GPT, GPTHeader, GPTPartitionEntry, MemoryDisk, PartitionName, Result,
+    Disk, Edit, Error, Fate, GPT, GPTHeader, GPTPartitionEntry, MemoryDisk, PartitionName, Result,
 };
 use std::alloc::Global;
 
@@ -58,8 +58,9 @@ pub fn fit<D: Disk>(header: &mut GPTHeader, disk: &mut D, sector_size: u64) -> R
     header.update_from(disk, sector_size)
 }
 
-/// The entry that is read from where the disk stands.
-pub fn read_entry<D: Disk>(alloc: Global, disk: &mut D) -> Result<GPTPartitionEntry> {
+/// The entry that is read from this byte on.
+pub fn read_entry<D: Disk>(alloc: Global, disk: &mut D, at: u64) -> Result<GPTPartitionEntry> {
+    disk.seek_start(at)?;
     GPTPartitionEntry::read_from(alloc, disk)
 }
 
@@ -121,6 +122,21 @@ pub fn are_equal_entries(one: &GPTPartitionEntry, other: &GPTPartitionEntry) -> 
     one == other
 }
 
+/// A clone of the entry.
+pub fn copy_entry(entry: &GPTPartitionEntry) -> Result<GPTPartitionEntry> {
+    entry.clone()
+}
+
+/// A clone of the name.
+pub fn copy_name(name: &PartitionName) -> Result<PartitionName> {
+    name.clone()
+}
+
+/// Whether the names are equal.
+pub fn are_equal_names(one: &PartitionName, other: &PartitionName) -> bool {
+    one == other
+}
+
 /// The name of this text.
 pub fn name_of(alloc: Global, text: &str) -> Result<PartitionName> {
     PartitionName::new(alloc, text)
@@ -134,6 +150,17 @@ pub fn holding(alloc: Global, bytes: &[u8]) -> Result<MemoryDisk> {
 /// A disk of these bytes that fails after so many calls.
 pub fn fused(alloc: Global, bytes: &[u8], calls: u64) -> Result<MemoryDisk> {
     MemoryDisk::with_fuse(alloc, bytes.to_vec(alloc)?, calls)
+}
+
+/// Stores what was written to the disk.
+pub fn store<D: Disk>(disk: &mut D) -> Result<()> {
+    disk.sync()?;
+    Ok(())
+}
+
+/// The disk that a stop leaves, with these fates of what is pending.
+pub fn stopped(disk: MemoryDisk, fates: &[Fate]) -> Result<MemoryDisk> {
+    disk.stop(fates)
 }
 
 /// The bytes of the disk.

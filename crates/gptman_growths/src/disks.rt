@@ -2,8 +2,8 @@
 
 use crate::memory::Memory;
 use crate::verdict::{Verdict, is_of_record, of_answer, of_call};
-use gptman::{Disk, Fate, MemoryDisk, Result};
-use gptman_fixtures::calls::{has_bytes, holding};
+use gptman::{Fate, MemoryDisk, Result};
+use gptman_fixtures::calls::{has_bytes, holding, stopped, store};
 use gptman_fixtures::tables::write_at;
 use std::alloc::Global;
 
@@ -41,7 +41,7 @@ fn holds(disk: &MemoryDisk, bytes: [u8; 4]) -> bool {
 
 // Whether a stop with these fates leaves these bytes.
 fn is_left(disk: MemoryDisk, fates: &[Fate], bytes: [u8; 4]) -> Result<bool> {
-    Ok(holds(&disk.stop(fates)?, bytes))
+    Ok(holds(&stopped(disk, fates)?, bytes))
 }
 
 // The bytes 1 to 4 with 07 07 at 0, stored, and then at 1.
@@ -82,12 +82,6 @@ fn sync_disk(memory: &mut Memory) -> Result<Verdict> {
     };
     let is_so = is_left(disk, &[Fate::Garbage(9)], left)?;
     Ok(of_record(&outcome, is_so))
-}
-
-/// Syncs the disk.
-pub fn store(disk: &mut MemoryDisk) -> Result<()> {
-    disk.sync()?;
-    Ok(())
 }
 
 // Of a write or a sync that was done or found no memory for its record, and left the disk so.

@@ -2,7 +2,7 @@
 
 use crate::verdict::{Verdict, of_answer};
 use gptman::{PartitionName, Result};
-use gptman_fixtures::calls::{entry_of, name_of};
+use gptman_fixtures::calls::{are_equal_names, copy_name, entry_of, name_of};
 use gptman_fixtures::tables::partition;
 use std::alloc::Global;
 
@@ -25,8 +25,9 @@ const KEPT: &str = "aaaaaaaaaabbbbbbbbbbccccccccccdddddd";
 // In memory it is kept whole.
 fn name_in_memory(alloc: Global) -> Result<Verdict> {
     let name = name_of(alloc, LETTERS)?;
-    let again = name.clone()?;
-    Ok(of_answer(again.as_str() == LETTERS && again == name && has_kept_units(&again)))
+    let again = copy_name(&name)?;
+    let is_whole = again.as_str() == LETTERS && are_equal_names(&again, &name);
+    Ok(of_answer(is_whole && has_kept_units(&again)))
 }
 
 // Whether the units are those of the first 36 letters.

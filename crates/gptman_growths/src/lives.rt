@@ -1,9 +1,8 @@
 //! Long lives of one disk in memory: many writes and syncs, large writes, and a stop with many fates.
 
-use crate::disks::store;
 use crate::verdict::{Verdict, of_answer};
 use gptman::{Fate, MemoryDisk, Result};
-use gptman_fixtures::calls::has_bytes;
+use gptman_fixtures::calls::{has_bytes, stopped, store};
 use gptman_fixtures::samples::disk_of;
 use gptman_fixtures::tables::{write_at, zero_disk};
 use std::alloc::Global;
@@ -26,30 +25,37 @@ const WRITES: usize = 2000;
 // A sync behind each write. At last all bytes are written at once, which a stop then leaves.
 fn live_long(alloc: Global) -> Result<Verdict> {
     let mut disk = zero_disk(alloc, LEN)?;
-    let written = write_each(alloc, &mut disk)?;
-    let is_written = begins_with(&disk, &written);
+    write_each(&mut disk)?;
+    let is_written = is_each_written(&disk);
     let whole = vec![in alloc; 5; LEN]?;
     write_at(&mut disk, 0, &whole)?;
     store(&mut disk)?;
     let is_read = has_bytes(&disk, &whole);
-    let left = disk.stop(&[])?;
+    let left = stopped(disk, &[])?;
     Ok(of_answer(is_written && is_read && has_bytes(&left, &whole)))
 }
 
-// Writes a byte at each place, with a sync behind it, and answers these bytes.
-fn write_each(alloc: Global, disk: &mut MemoryDisk) -> Result<Vec<u8>> {
-    let mut written = Vec::new(alloc);
-    for at in 0..WRITES {
-        let byte = (at % 256) as u8;
-        written.push(byte)?;
-        write_at(disk, at as u64, &[byte])?;
-        store(disk)?;
-    }
-    Ok(written)
+// The byte that is written at this place.
+fn byte_of(at: usize) -> u8 {
+    (at % 256) as u8
 }
 
-fn begins_with(disk: &MemoryDisk, bytes: &[u8]) -> bool {
-    disk.bytes().starts_with(bytes)
+// Writes a byte at each place, with a sync behind it.
+fn write_each(disk: &mut MemoryDisk) -> Result<()> {
+    for at in 0..WRITES {
+        write_at(disk, at as u64, &[byte_of(at)])?;
+        store(disk)?;
+    }
+    Ok(())
+}
+
+fn is_each_written(disk: &MemoryDisk) -> bool {
+    for at in 0..WRITES {
+        if disk.bytes().get(at) != Some(&byte_of(at)) {
+            return false;
+        }
+    }
+    true
 }
 
 // The fate of the write at this place, and what it leaves there where 1 stood and 7 was written.
@@ -64,21 +70,26 @@ fn fate_of(at: usize) -> (Fate, u8) {
 // No sync at all. Each write has a place of its own, and a fate of its own.
 fn stop_with_many_fates(alloc: Global) -> Result<Verdict> {
     let mut disk = disk_of(alloc, 1, LEN)?;
-    let mut fates = Vec::new(alloc);
     for at in 0..WRITES {
         write_at(&mut disk, at as u64, &[7])?;
-        fates.push(fate_of(at).0)?;
     }
-    let left = disk.stop(&fates)?;
-    Ok(of_answer(begins_with(&left, &what_is_left(alloc)?)))
+    Ok(of_answer(is_each_left(&stopped(disk, &fates())?)))
 }
 
-// What the fates leave, and one byte more.
-fn what_is_left(alloc: Global) -> Result<Vec<u8>> {
-    let mut left = Vec::new(alloc);
+fn fates() -> [Fate; WRITES] {
+    let mut fates = [Fate::Old; WRITES];
     for at in 0..WRITES {
-        left.push(fate_of(at).1)?;
+        fates[at] = fate_of(at).0;
     }
-    left.push(1)?;
-    Ok(left)
+    fates
+}
+
+// Whether each place has what its fate leaves, and the next one what stood there.
+fn is_each_left(disk: &MemoryDisk) -> bool {
+    for at in 0..WRITES {
+        if disk.bytes().get(at) != Some(&fate_of(at).1) {
+            return false;
+        }
+    }
+    disk.bytes().get(WRITES) == Some(&1)
 }

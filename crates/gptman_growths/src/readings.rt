@@ -3,7 +3,7 @@
 use crate::held::Held;
 use crate::memory::Memory;
 use crate::verdict::{Verdict, of_reader};
-use gptman::{Disk, Error, GPT, Result};
+use gptman::{Error, GPT, Result};
 use gptman_fixtures::calls::{find, is_first, new_on, read_entry};
 use gptman_fixtures::tables::{
     are_those_of, complement, have_same_entries, image_of, read, unsorted_table,
@@ -55,8 +55,7 @@ fn is_right(name: &str, alloc: Global, held: &mut Held, table: &GPT) -> Result<b
 }
 
 fn is_first_read(alloc: Global, held: &mut Held, table: &GPT) -> Result<bool> {
-    held.disk.seek_start(1024)?;
-    let entry = read_entry(alloc, &mut held.disk)?;
+    let entry = read_entry(alloc, &mut held.disk, 1024)?;
     Ok(is_first(&entry, table))
 }
 

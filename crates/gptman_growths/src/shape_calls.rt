@@ -1,7 +1,7 @@
 //! Calls of the library on tables of many shapes, each made once with ample memory.
 
 use crate::readings::are_told;
-use gptman::{Disk, Edit, GPT, MemoryDisk, Result};
+use gptman::{Edit, GPT, MemoryDisk, Result};
 use gptman_fixtures::calls::{
     apply, are_equal, copy, find, first_place, free_sectors, is_first, last_place, maximum_size,
     new_on, optimal_place, read_entry,
@@ -75,8 +75,7 @@ fn are_parts_read(
     disk: &mut MemoryDisk,
     table: &GPT,
 ) -> Result<bool> {
-    disk.seek_start(shape.size().saturating_mul(2))?;
-    let first = read_entry(alloc, disk)?;
+    let first = read_entry(alloc, disk, shape.size().saturating_mul(2))?;
     let entries = table.header.read_partitions(alloc, disk, shape.size())?;
     Ok(is_first(&first, table) && are_those_of(&entries, table))
 }

@@ -3,7 +3,10 @@
 use crate::memory::Memory;
 use crate::verdict::{Verdict, of_call};
 use gptman::{Edit, GPT, GPTPartitionEntry, PartitionName, Result};
-use gptman_fixtures::calls::{are_equal, are_equal_entries, copy as copy_table, entry_of, name_of};
+use gptman_fixtures::calls::{
+    are_equal, are_equal_entries, are_equal_names, copy as copy_table, copy_entry, copy_name,
+    entry_of, name_of,
+};
 use gptman_fixtures::tables::{has_entry, partition, unsorted_table};
 use std::alloc::Global;
 
@@ -33,15 +36,15 @@ fn copy(name: &str, memory: &mut Memory) -> Result<Verdict> {
 fn is_copied(name: &str, alloc: Global, entry: &GPTPartitionEntry, table: &GPT) -> Result<bool> {
     match name {
         "name_new" => is_name(name_of(alloc, "Foo"), entry),
-        "name_clone" => is_name(entry.partition_name.clone(), entry),
-        "entry_clone" => is_entry(entry.clone(), entry),
+        "name_clone" => is_name(copy_name(&entry.partition_name), entry),
+        "entry_clone" => is_entry(copy_entry(entry), entry),
         "entry_decode" => is_entry(entry_of(alloc, &entry.encode()), entry),
         _ => Ok(are_equal(&copy_table(table)?, table)),
     }
 }
 
 fn is_name(made: Result<PartitionName>, entry: &GPTPartitionEntry) -> Result<bool> {
-    Ok(made? == entry.partition_name)
+    Ok(are_equal_names(&made?, &entry.partition_name))
 }
 
 fn is_entry(made: Result<GPTPartitionEntry>, entry: &GPTPartitionEntry) -> Result<bool> {
