@@ -2,6 +2,7 @@
 
 use crate::asserts::got;
 use gptman::{Error, GPT};
+use gptman_fixtures::calls;
 use std::process::Abort;
 
 /// A search for a place.
@@ -14,11 +15,10 @@ pub(crate) enum Search {
 
 /// The place for so many sectors that this search finds.
 pub(crate) fn found(rt: &impl Abort, table: &GPT, search: Search, size: u64) -> Option<u64> {
-    assert!(rt; table.align > 0);
     let place = match search {
-        Search::First => table.find_first_place(size),
-        Search::Last => table.find_last_place(size),
-        Search::Optimal => table.find_optimal_place(size),
+        Search::First => calls::first_place(table, size),
+        Search::Last => calls::last_place(table, size),
+        Search::Optimal => calls::optimal_place(table, size),
     };
     got(rt, place)
 }
@@ -43,8 +43,7 @@ pub(crate) fn assert_found(
 
 /// The greatest size that is offered. None is where no space is left.
 pub(crate) fn maximum(rt: &impl Abort, table: &GPT) -> Option<u64> {
-    assert!(rt; table.align > 0);
-    match table.get_maximum_partition_size() {
+    match calls::maximum_size(table) {
         Err(Error::NoSpaceLeft) => None,
         size => Some(got(rt, size)),
     }
@@ -58,6 +57,5 @@ pub(crate) fn assert_maximum(rt: &impl Abort, table: &mut GPT, align: u64, size:
 
 /// The aligned slots of free sectors.
 pub(crate) fn free_sectors(rt: &impl Abort, table: &GPT) -> Vec<(u64, u64)> {
-    assert!(rt; table.align > 0);
-    got(rt, table.find_free_sectors())
+    got(rt, calls::free_sectors(table))
 }

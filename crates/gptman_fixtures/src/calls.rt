@@ -3,7 +3,7 @@
 
 use crate::tables::DISK_GUID;
 use gptman::{
-    Disk, Edit, Error, GPT, GPTHeader, GPTPartitionEntry, MemoryDisk, PartitionName, Result,
+    Disk, Edit, Error, Fate, GPT, GPTHeader, GPTPartitionEntry, MemoryDisk, PartitionName, Result,
 };
 use std::alloc::Global;
 
@@ -58,6 +58,60 @@ pub fn fit<D: Disk>(header: &mut GPTHeader, disk: &mut D, sector_size: u64) -> R
     header.update_from(disk, sector_size)
 }
 
+/// The entry that is read from this byte on.
+pub fn read_entry<D: Disk>(alloc: Global, disk: &mut D, at: u64) -> Result<GPTPartitionEntry> {
+    disk.seek_start(at)?;
+    GPTPartitionEntry::read_from(alloc, disk)
+}
+
+/// The free sectors: the first of each slot, and how many it has.
+pub fn free_sectors(table: &GPT) -> Result<Vec<(u64, u64)>> {
+    if table.align == 0 {
+        return Err(Error::Overflow);
+    }
+    table.find_free_sectors()
+}
+
+/// The first place for so many sectors.
+pub fn first_place(table: &GPT, size: u64) -> Result<Option<u64>> {
+    if table.align == 0 {
+        return Err(Error::Overflow);
+    }
+    table.find_first_place(size)
+}
+
+/// The last place for so many sectors.
+pub fn last_place(table: &GPT, size: u64) -> Result<Option<u64>> {
+    if table.align == 0 {
+        return Err(Error::Overflow);
+    }
+    table.find_last_place(size)
+}
+
+/// The place in the smallest slot for so many sectors.
+pub fn optimal_place(table: &GPT, size: u64) -> Result<Option<u64>> {
+    if table.align == 0 {
+        return Err(Error::Overflow);
+    }
+    table.find_optimal_place(size)
+}
+
+/// The size of the largest partition that there is room for.
+pub fn maximum_size(table: &GPT) -> Result<u64> {
+    if table.align == 0 {
+        return Err(Error::Overflow);
+    }
+    table.get_maximum_partition_size()
+}
+
+/// Whether the first entry of the table is this one.
+pub fn is_first(entry: &GPTPartitionEntry, table: &GPT) -> bool {
+    match table.iter().next() {
+        Some((number, first)) => number == 1 && first == entry,
+        None => false,
+    }
+}
+
 /// The entry that these bytes are.
 pub fn entry_of(alloc: Global, bytes: &[u8; 128]) -> Result<GPTPartitionEntry> {
     GPTPartitionEntry::decode(alloc, bytes)
@@ -65,6 +119,21 @@ pub fn entry_of(alloc: Global, bytes: &[u8; 128]) -> Result<GPTPartitionEntry> {
 
 /// Whether the entries are equal.
 pub fn are_equal_entries(one: &GPTPartitionEntry, other: &GPTPartitionEntry) -> bool {
+    one == other
+}
+
+/// A clone of the entry.
+pub fn copy_entry(entry: &GPTPartitionEntry) -> Result<GPTPartitionEntry> {
+    entry.clone()
+}
+
+/// A clone of the name.
+pub fn copy_name(name: &PartitionName) -> Result<PartitionName> {
+    name.clone()
+}
+
+/// Whether the names are equal.
+pub fn are_equal_names(one: &PartitionName, other: &PartitionName) -> bool {
     one == other
 }
 
@@ -81,6 +150,17 @@ pub fn holding(alloc: Global, bytes: &[u8]) -> Result<MemoryDisk> {
 /// A disk of these bytes that fails after so many calls.
 pub fn fused(alloc: Global, bytes: &[u8], calls: u64) -> Result<MemoryDisk> {
     MemoryDisk::with_fuse(alloc, bytes.to_vec(alloc)?, calls)
+}
+
+/// Stores what was written to the disk.
+pub fn store<D: Disk>(disk: &mut D) -> Result<()> {
+    disk.sync()?;
+    Ok(())
+}
+
+/// The disk that a stop leaves, with these fates of what is pending.
+pub fn stopped(disk: MemoryDisk, fates: &[Fate]) -> Result<MemoryDisk> {
+    disk.stop(fates)
 }
 
 /// The bytes of the disk.

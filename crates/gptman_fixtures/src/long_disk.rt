@@ -4,8 +4,8 @@
 ghost use Rattle.std.specs.Prelude.{◌<◌, ◌^◌};
 ghost use Rattle.gptman_copy.specs.File.{file_state, never_honest};
 
-use gptman::Disk;
 use gptman::disk::{passes_end, past_end};
+use gptman::{Disk, Result};
 use std::alloc::Global;
 use std::io;
 
@@ -58,6 +58,13 @@ impl LongDisk {
     /// From now on a read fails that has one of the bytes from the first place up to the second.
     pub fn damage(&mut self, from: u64, to: u64) {
         self.damage = (from, to);
+    }
+
+    /// All its bytes.
+    pub fn into_bytes(self) -> Result<Vec<u8>> {
+        let mut bytes = vec![in self.alloc; 0; self.len as usize]?;
+        fill(&self.written, 0, &mut bytes);
+        Ok(bytes)
     }
 
     // Whether so many bytes from the position on have a damaged one.

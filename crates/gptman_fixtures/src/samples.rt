@@ -1,6 +1,7 @@
 //! Disks, tables and images of which tests make their cases.
 
 use crate::calls::{apply, bytes_of, copy, entry_of, find, holding, new_on};
+use crate::long_disk::LongDisk;
 use crate::tables::{DISK_GUID, partition, read, write};
 use gptman::{Disk, Edit, Error, GPT, GPTHeader, MemoryDisk, PartitionName, Result};
 use std::alloc::Global;
@@ -12,7 +13,7 @@ pub fn disk_of(alloc: Global, byte: u8, len: usize) -> Result<MemoryDisk> {
 
 /// A new header for 100 sectors of 512 bytes.
 pub fn new_header(alloc: Global) -> Result<GPTHeader> {
-    GPTHeader::new_from(&mut disk_of(alloc, 0, 51_200)?, 512, DISK_GUID)
+    GPTHeader::new_from(&mut LongDisk::new(alloc, 51_200), 512, DISK_GUID)
 }
 
 /// Puts a used entry with this name, a GUID of this byte, and these sectors under the number. Its type is
@@ -60,7 +61,9 @@ pub fn table_within(
     table.header.first_usable_lba = bounds.0;
     table.header.last_usable_lba = bounds.1;
     table.align = align;
-    for (number, sectors) in (1..=u8::MAX).zip(used) {
+    let mut number = 0_u8;
+    for sectors in used {
+        number = number.saturating_add(1);
         put_entry(alloc, &mut table, u32::from(number), ("", number), *sectors)?;
     }
     Ok(table)
@@ -69,9 +72,10 @@ pub fn table_within(
 /// The name of an entry whose units are these, and then zeros.
 pub fn name_of_units(alloc: Global, first: &[u16]) -> Result<PartitionName> {
     let mut bytes = [0; 128];
-    let (_, units) = bytes.split_at_mut(56);
-    for (pair, unit) in units.chunks_exact_mut(2).zip(first) {
-        pair.copy_from_slice(&unit.to_le_bytes());
+    let mut at = 56_usize;
+    for unit in first {
+        put(&mut bytes, at, &unit.to_le_bytes())?;
+        at = at.saturating_add(2);
     }
     Ok(entry_of(alloc, &bytes)?.partition_name)
 }

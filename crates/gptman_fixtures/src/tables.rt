@@ -3,6 +3,9 @@
 //! A call of the library that requires something is made here after a test of it: `Overflow` is answered
 //! where the test fails.
 
+use crate::calls::apply;
+use crate::long_disk::LongDisk;
+use crate::samples::disk_of;
 use gptman::{
     Disk, Edit, Error, GPT, GPTHeader, GPTPartitionEntry, MemoryDisk, PartitionName, Progress,
     Result,
@@ -14,7 +17,7 @@ pub const DISK_GUID: [u8; 16] = [0xff; 16];
 
 /// A disk of so many bytes, all of them zero.
 pub fn zero_disk(alloc: Global, len: usize) -> Result<MemoryDisk> {
-    MemoryDisk::new(alloc, vec![in alloc; 0; len]?)
+    disk_of(alloc, 0, len)
 }
 
 /// A used entry with this name, unique GUID and place. Its type is 16 bytes 0a.
@@ -37,7 +40,7 @@ pub fn partition(
 
 /// A new table for 100 sectors of 512 bytes.
 pub fn new_table(alloc: Global) -> Result<GPT> {
-    GPT::new_from(alloc, &mut zero_disk(alloc, 51_200)?, 512, DISK_GUID)
+    GPT::new_from(alloc, &mut LongDisk::new(alloc, 51_200), 512, DISK_GUID)
 }
 
 /// That table with a partition for each of these numbers, names, first and last sectors.
@@ -45,7 +48,7 @@ pub fn table_with(alloc: Global, partitions: &[(u8, &str, u64, u64)]) -> Result<
     let mut table = new_table(alloc)?;
     for (number, name, from, to) in partitions {
         let entry = partition(alloc, name, [*number; 16], *from, *to)?;
-        table.apply(Edit::Put(u32::from(*number), entry))?;
+        apply(&mut table, Edit::Put(u32::from(*number), entry))?;
     }
     Ok(table)
 }
@@ -111,9 +114,9 @@ pub fn write_at<D: Disk>(disk: &mut D, at: u64, bytes: &[u8]) -> Result<()> {
 
 /// The bytes of a zero disk of 100 sectors of 512 bytes after this table was written.
 pub fn image_of(alloc: Global, table: &mut GPT) -> Result<Vec<u8>> {
-    let mut disk = zero_disk(alloc, 51_200)?;
+    let mut disk = LongDisk::new(alloc, 51_200);
     write(table, &mut disk)?;
-    Ok(disk.bytes().to_vec(alloc)?)
+    disk.into_bytes()
 }
 
 /// Complements the byte at each of these places.

@@ -10,47 +10,58 @@ use gptman_fixtures::words::split;
 
 /// Makes the call of this name. None where it is none of these.
 pub fn try_call(name: &str, memory: &mut Memory) -> Option<Result<Verdict>> {
-    for command in COMMANDS {
-        if command.0 == name {
-            return Some(try_command(memory, command.1, command.2));
+    let (line, wanted) = command_of(name)?;
+    Some(try_command(memory, line, wanted))
+}
+
+// The words of the command of this name, and what it prints, with `;` where a line ends.
+fn command_of(name: &str) -> Option<(&'static str, &'static str)> {
+    for command in COMMANDS.lines() {
+        let (known, rest) = command.split_once('|')?;
+        if known == name {
+            return rest.split_once('|');
         }
     }
     None
 }
 
-// The name of a command, its words, and what it prints.
-type Command = (&'static str, &'static str, &'static str);
+// A line for each command: its name, its words, and what it prints.
+const COMMANDS: &str = "\
+show|512 show|sector 512 form primary disk ffffffffffffffffffffffffffffffff usable 34..66 entries 128 align 1;\
+1 0a0a0a0a0a0a0a0a0a0a0a0a0a0a0a0a 01010101010101010101010101010101 34..43 0000000000000000 Foo;
+show_auto|auto show|sector 512 form primary disk ffffffffffffffffffffffffffffffff usable 34..66 entries 128 align 1;\
+1 0a0a0a0a0a0a0a0a0a0a0a0a0a0a0a0a 01010101010101010101010101010101 34..43 0000000000000000 Foo;
+free|512 free 10|50 17;
+free_auto|auto free 10|50 17;
+check|512 check|primary ok;backup ok;same yes;
+new|512 new V|ok;
+add_first|512 add 2 T V 5 first 4 Bar|2 44..48;
+add_first_auto|auto add 2 T V 5 first 4 Bar|2 44..48;
+add_last|512 add 2 T V 5 last 4 Bar|2 60..64;
+add_last_auto|auto add 2 T V 5 last 4 Bar|2 60..64;
+add_best|512 add 2 T V 5 best 4 Bar|2 44..48;
+add_best_auto|auto add 2 T V 5 best 4 Bar|2 44..48;
+remove|512 remove 1|ok;
+remove_auto|auto remove 1|ok;
+sort|512 sort|ok;
+sort_auto|auto sort|ok;
+grow|512 grow|ok;
+grow_auto|auto grow|ok;
+mbr_plain|512 mbr plain|ok;
+mbr_bootable|512 mbr bootable|ok;
+";
 
-const SHOWN: &str =
-    "sector 512 form primary disk ffffffffffffffffffffffffffffffff usable 34..66 entries 128 align 1\n\
-     1 0a0a0a0a0a0a0a0a0a0a0a0a0a0a0a0a 01010101010101010101010101010101 34..43 0000000000000000 Foo\n";
-
-const COMMANDS: [Command; 20] = [
-    ("show", "512 show", SHOWN),
-    ("show_auto", "auto show", SHOWN),
-    ("free", "512 free 10", "50 17\n"),
-    ("free_auto", "auto free 10", "50 17\n"),
-    ("check", "512 check", "primary ok\nbackup ok\nsame yes\n"),
-    ("new", "512 new V", "ok\n"),
-    ("add_first", "512 add 2 T V 5 first 4 Bar", "2 44..48\n"),
-    (
-        "add_first_auto",
-        "auto add 2 T V 5 first 4 Bar",
-        "2 44..48\n",
-    ),
-    ("add_last", "512 add 2 T V 5 last 4 Bar", "2 60..64\n"),
-    ("add_last_auto", "auto add 2 T V 5 last 4 Bar", "2 60..64\n"),
-    ("add_best", "512 add 2 T V 5 best 4 Bar", "2 44..48\n"),
-    ("add_best_auto", "auto add 2 T V 5 best 4 Bar", "2 44..48\n"),
-    ("remove", "512 remove 1", "ok\n"),
-    ("remove_auto", "auto remove 1", "ok\n"),
-    ("sort", "512 sort", "ok\n"),
-    ("sort_auto", "auto sort", "ok\n"),
-    ("grow", "512 grow", "ok\n"),
-    ("grow_auto", "auto grow", "ok\n"),
-    ("mbr_plain", "512 mbr plain", "ok\n"),
-    ("mbr_bootable", "512 mbr bootable", "ok\n"),
-];
+// Whether this was printed: the text, with a newline for each `;`.
+fn is_printed(printed: &[u8], wanted: &str) -> bool {
+    let mut left = wanted.bytes();
+    for byte in printed {
+        let told = if *byte == b'\n' { b';' } else { *byte };
+        if left.next() != Some(told) {
+            return false;
+        }
+    }
+    left.next().is_none()
+}
 
 // There is room for what is printed, so that no growth of it is refused.
 fn try_command(memory: &mut Memory, line: &str, wanted: &str) -> Result<Verdict> {
@@ -76,7 +87,7 @@ fn of_command(
     let is_want = printed == b"fault: OutOfMemory\n".as_slice();
     let is_failure = printed == b"fault: Io\n".as_slice();
     match status {
-        Ok(0) => of_answer(printed == wanted.as_bytes() && is_left && !held.has_no_record()),
+        Ok(0) => of_answer(is_printed(printed, wanted) && is_left && !held.has_no_record()),
         Ok(1) if is_want => held.verdict(&Error::OutOfMemory, true, is_left),
         Ok(1) if is_failure && held.has_no_record() && is_left => Verdict::Refused,
         _ => Verdict::RefusedWrongly,

@@ -4,9 +4,10 @@
 use crate::memory::Memory;
 use crate::verdict::{Verdict, of_answer};
 use gptimg_core::run;
-use gptman::{Error, GPT, GPTHeader, Result};
+use gptman::{Error, GPTHeader, Result};
+use gptman_fixtures::calls::new_on;
 use gptman_fixtures::long_disk::LongDisk;
-use gptman_fixtures::tables::{DISK_GUID, read, write, write_at};
+use gptman_fixtures::tables::{read, write, write_at};
 use gptman_fixtures::words::split;
 use std::alloc::Global;
 
@@ -37,15 +38,20 @@ const LEN: u64 = 1 << 40;
 // Writes an empty table, over whose primary header stands one that counts so many entries; and damages
 // the disk behind so many blocks of them, up to the backup copy. Answers that header.
 fn write_counting(alloc: Global, disk: &mut LongDisk, blocks: u64) -> Result<GPTHeader> {
-    let mut table = GPT::new_from(alloc, disk, 512, DISK_GUID)?;
-    write(&mut table, disk)?;
-    let header = counting(table.header)?;
+    let header = counting(write_empty(alloc, disk)?)?;
     write_at(disk, 512, &header.encode())?;
     disk.damage(
         blocks.saturating_mul(4096).saturating_add(1024),
         LEN - 16_896,
     );
     Ok(header)
+}
+
+// Writes an empty table. Answers its header.
+fn write_empty(alloc: Global, disk: &mut LongDisk) -> Result<GPTHeader> {
+    let mut table = new_on(alloc, disk, 512)?;
+    write(&mut table, disk)?;
+    Ok(table.header)
 }
 
 // The header that counts so many, its checksum made.
@@ -85,7 +91,8 @@ fn read_table(alloc: Global) -> Result<Verdict> {
 fn try_command(alloc: Global, line: &str, status: u8, wanted: &str) -> Result<Verdict> {
     let mut disk = LongDisk::new(alloc, LEN);
     write_counting(alloc, &mut disk, BLOCKS)?;
+    let words = split(alloc, line)?;
     let mut printed = Vec::new(alloc);
-    let ended = run(alloc, &split(alloc, line)?, &mut disk, &mut printed)?;
+    let ended = run(alloc, &words, &mut disk, &mut printed)?;
     Ok(of_answer(ended == status && printed.as_slice() == wanted.as_bytes()))
 }

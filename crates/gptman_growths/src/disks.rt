@@ -2,7 +2,8 @@
 
 use crate::memory::Memory;
 use crate::verdict::{Verdict, is_of_record, of_answer, of_call};
-use gptman::{Disk, Fate, MemoryDisk, Result};
+use gptman::{Fate, MemoryDisk, Result};
+use gptman_fixtures::calls::{has_bytes, holding, stopped, store};
 use gptman_fixtures::tables::write_at;
 use std::alloc::Global;
 
@@ -35,19 +36,19 @@ fn is_made(name: &str, alloc: Global, bytes: Vec<u8>, disk: MemoryDisk) -> Resul
 }
 
 fn holds(disk: &MemoryDisk, bytes: [u8; 4]) -> bool {
-    disk.bytes() == bytes.as_slice()
+    has_bytes(disk, &bytes)
 }
 
 // Whether a stop with these fates leaves these bytes.
 fn is_left(disk: MemoryDisk, fates: &[Fate], bytes: [u8; 4]) -> Result<bool> {
-    Ok(holds(&disk.stop(fates)?, bytes))
+    Ok(holds(&stopped(disk, fates)?, bytes))
 }
 
 // The bytes 1 to 4 with 07 07 at 0, stored, and then at 1.
 fn written(alloc: Global) -> Result<MemoryDisk> {
-    let mut disk = MemoryDisk::new(alloc, [1, 2, 3, 4].to_vec(alloc)?)?;
+    let mut disk = holding(alloc, &[1, 2, 3, 4])?;
     write_at(&mut disk, 0, &[7, 7])?;
-    disk.sync()?;
+    store(&mut disk)?;
     write_at(&mut disk, 1, &[7, 7])?;
     Ok(disk)
 }
@@ -81,11 +82,6 @@ fn sync_disk(memory: &mut Memory) -> Result<Verdict> {
     };
     let is_so = is_left(disk, &[Fate::Garbage(9)], left)?;
     Ok(of_record(&outcome, is_so))
-}
-
-fn store(disk: &mut MemoryDisk) -> Result<()> {
-    disk.sync()?;
-    Ok(())
 }
 
 // Of a write or a sync that was done or found no memory for its record, and left the disk so.

@@ -2,8 +2,8 @@
 
 use crate::memory::Memory;
 use crate::verdict::{Verdict, of_answer, of_refusal};
-use gptman::{Error, FileDisk, GPTHeader, Result};
-use gptman_fixtures::calls::{are_equal, copy};
+use gptman::{Error, FileDisk, GPT, GPTHeader, Result};
+use gptman_fixtures::calls::are_equal;
 use gptman_fixtures::tables::{image_of, new_table, unsorted_table, write};
 use std::alloc::{AllocGlobal, Global};
 use std::fs;
@@ -53,12 +53,16 @@ fn open_file<R: Files<File = File> + AllocGlobal>(
     make_file(files, memory.alloc())?;
     memory.begin();
     let outcome = if name == "file_open" {
-        FileDisk::open(files, PATH)
+        open(files)
     } else {
         FileDisk::open_read(files, PATH)
     };
     memory.end();
     of_opening(files, &outcome)
+}
+
+fn open<R: Files<File = File> + AllocGlobal>(files: &R) -> Result<FileDisk> {
+    FileDisk::open(files, PATH)
 }
 
 fn write_table<R: Files<File = File> + AllocGlobal>(
@@ -67,13 +71,22 @@ fn write_table<R: Files<File = File> + AllocGlobal>(
 ) -> Result<Verdict> {
     let image = make_file(files, memory.alloc())?;
     let mut table = unsorted_table(memory.alloc())?;
-    let before = copy(&table)?;
-    let mut disk = FileDisk::open(files, PATH)?;
-    memory.begin();
-    let outcome = write(&mut table, &mut disk);
-    memory.end();
+    let outcome = write_to_file(files, memory, &mut table)?;
     let is_file_kept = is_kept(files, &image)?;
-    Ok(of_write(&outcome, is_file_kept, are_equal(&table, &before)))
+    let is_value_kept = are_equal(&table, &unsorted_table(memory.alloc())?);
+    Ok(of_write(&outcome, is_file_kept, is_value_kept))
+}
+
+fn write_to_file<R: Files<File = File> + AllocGlobal>(
+    files: &R,
+    memory: &mut Memory,
+    table: &mut GPT,
+) -> Result<Result<GPTHeader>> {
+    let mut disk = open(files)?;
+    memory.begin();
+    let outcome = write(table, &mut disk);
+    memory.end();
+    Ok(outcome)
 }
 
 // Whether the file has these bytes. It is removed.

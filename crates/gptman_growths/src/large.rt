@@ -1,7 +1,8 @@
 //! A name of 100 letters.
 
 use crate::verdict::{Verdict, of_answer};
-use gptman::{GPTPartitionEntry, PartitionName, Result};
+use gptman::{PartitionName, Result};
+use gptman_fixtures::calls::{are_equal_names, copy_name, entry_of, name_of};
 use gptman_fixtures::tables::partition;
 use std::alloc::Global;
 
@@ -23,9 +24,10 @@ const KEPT: &str = "aaaaaaaaaabbbbbbbbbbccccccccccdddddd";
 
 // In memory it is kept whole.
 fn name_in_memory(alloc: Global) -> Result<Verdict> {
-    let name = PartitionName::new(alloc, LETTERS)?;
-    let again = name.clone()?;
-    Ok(of_answer(again.as_str() == LETTERS && again == name && has_kept_units(&again)))
+    let name = name_of(alloc, LETTERS)?;
+    let again = copy_name(&name)?;
+    let is_whole = again.as_str() == LETTERS && are_equal_names(&again, &name);
+    Ok(of_answer(is_whole && has_kept_units(&again)))
 }
 
 // Whether the units are those of the first 36 letters.
@@ -42,7 +44,10 @@ fn has_kept_units(name: &PartitionName) -> bool {
 // On the disk 36 letters stand.
 fn name_on_disk(alloc: Global) -> Result<Verdict> {
     let entry = partition(alloc, LETTERS, [1; 16], 300, 301)?;
-    let read = GPTPartitionEntry::decode(alloc, &entry.encode())?;
-    let is_cut = read.partition_name.as_str() == KEPT;
-    Ok(of_answer(is_cut && has_kept_units(&read.partition_name)))
+    let read = entry_of(alloc, &entry.encode())?;
+    Ok(of_answer(is_cut(&read.partition_name)))
+}
+
+fn is_cut(name: &PartitionName) -> bool {
+    name.as_str() == KEPT && has_kept_units(name)
 }

@@ -1,7 +1,9 @@
 //! Long lives of one disk in memory: many writes and syncs, large writes, and a stop with many fates.
 
 use crate::verdict::{Verdict, of_answer};
-use gptman::{Disk, Fate, MemoryDisk, Result};
+use gptman::{Fate, MemoryDisk, Result};
+use gptman_fixtures::calls::{has_bytes, stopped, store};
+use gptman_fixtures::samples::disk_of;
 use gptman_fixtures::tables::{write_at, zero_disk};
 use std::alloc::Global;
 
@@ -23,26 +25,37 @@ const WRITES: usize = 2000;
 // A sync behind each write. At last all bytes are written at once, which a stop then leaves.
 fn live_long(alloc: Global) -> Result<Verdict> {
     let mut disk = zero_disk(alloc, LEN)?;
-    let written = write_each(alloc, &mut disk)?;
-    let is_written = disk.bytes().get(..WRITES) == Some(written.as_slice());
+    write_each(&mut disk)?;
+    let is_written = is_each_written(&disk);
     let whole = vec![in alloc; 5; LEN]?;
     write_at(&mut disk, 0, &whole)?;
-    disk.sync()?;
-    let is_read = disk.bytes() == whole.as_slice();
-    let left = disk.stop(&[])?;
-    Ok(of_answer(is_written && is_read && left.bytes() == whole.as_slice()))
+    store(&mut disk)?;
+    let is_read = has_bytes(&disk, &whole);
+    let left = stopped(disk, &[])?;
+    Ok(of_answer(is_written && is_read && has_bytes(&left, &whole)))
 }
 
-// Writes a byte at each place, with a sync behind it, and answers these bytes.
-fn write_each(alloc: Global, disk: &mut MemoryDisk) -> Result<Vec<u8>> {
-    let mut written = Vec::new(alloc);
+// The byte that is written at this place.
+fn byte_of(at: usize) -> u8 {
+    (at % 256) as u8
+}
+
+// Writes a byte at each place, with a sync behind it.
+fn write_each(disk: &mut MemoryDisk) -> Result<()> {
     for at in 0..WRITES {
-        let byte = (at % 256) as u8;
-        written.push(byte)?;
-        write_at(disk, at as u64, &[byte])?;
-        disk.sync()?;
+        write_at(disk, at as u64, &[byte_of(at)])?;
+        store(disk)?;
     }
-    Ok(written)
+    Ok(())
+}
+
+fn is_each_written(disk: &MemoryDisk) -> bool {
+    for at in 0..WRITES {
+        if disk.bytes().get(at) != Some(&byte_of(at)) {
+            return false;
+        }
+    }
+    true
 }
 
 // The fate of the write at this place, and what it leaves there where 1 stood and 7 was written.
@@ -56,15 +69,27 @@ fn fate_of(at: usize) -> (Fate, u8) {
 
 // No sync at all. Each write has a place of its own, and a fate of its own.
 fn stop_with_many_fates(alloc: Global) -> Result<Verdict> {
-    let mut disk = MemoryDisk::new(alloc, vec![in alloc; 1; LEN]?)?;
-    let (mut fates, mut wanted) = (Vec::new(alloc), Vec::new(alloc));
+    let mut disk = disk_of(alloc, 1, LEN)?;
     for at in 0..WRITES {
-        let (fate, byte) = fate_of(at);
         write_at(&mut disk, at as u64, &[7])?;
-        fates.push(fate)?;
-        wanted.push(byte)?;
     }
-    let left = disk.stop(&fates)?;
-    let is_left = left.bytes().get(..WRITES) == Some(wanted.as_slice());
-    Ok(of_answer(is_left && left.bytes().get(WRITES) == Some(&1)))
+    Ok(of_answer(is_each_left(&stopped(disk, &fates())?)))
+}
+
+fn fates() -> [Fate; WRITES] {
+    let mut fates = [Fate::Old; WRITES];
+    for at in 0..WRITES {
+        fates[at] = fate_of(at).0;
+    }
+    fates
+}
+
+// Whether each place has what its fate leaves, and the next one what stood there.
+fn is_each_left(disk: &MemoryDisk) -> bool {
+    for at in 0..WRITES {
+        if disk.bytes().get(at) != Some(&fate_of(at).1) {
+            return false;
+        }
+    }
+    disk.bytes().get(WRITES) == Some(&1)
 }

@@ -24,12 +24,17 @@ impl Turn {
         match word {
             "before" => Turn::CountBefore,
             "behind" => Turn::CountBehind,
-            _ => match word.parse::<u32>() {
-                Ok(growths) => Turn::Spend(growths),
-                Err(_) => Turn::Plain,
+            _ => match growths_of(word) {
+                Some(growths) => Turn::Spend(growths),
+                None => Turn::Plain,
             },
         }
     }
+}
+
+// The number that the word is.
+fn growths_of(word: &str) -> Option<u32> {
+    word.parse().ok()
 }
 
 /// The allocator of a call, and its turn.

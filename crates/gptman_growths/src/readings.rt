@@ -3,9 +3,10 @@
 use crate::held::Held;
 use crate::memory::Memory;
 use crate::verdict::{Verdict, of_reader};
-use gptman::{Disk, Error, GPT, GPTPartitionEntry, Result};
+use gptman::{Error, GPT, Result};
+use gptman_fixtures::calls::{find, is_first, new_on, read_entry};
 use gptman_fixtures::tables::{
-    DISK_GUID, are_those_of, complement, have_same_entries, image_of, read, unsorted_table,
+    are_those_of, complement, have_same_entries, image_of, read, unsorted_table,
 };
 use std::alloc::Global;
 
@@ -47,21 +48,20 @@ fn is_right(name: &str, alloc: Global, held: &mut Held, table: &GPT) -> Result<b
         "table_read" => Ok(is_read(&read(alloc, &mut held.disk, 512)?, 1, table)),
         "table_read_backup" => Ok(is_read(&read(alloc, &mut held.disk, 512)?, 99, table)),
         "table_read_neither" => is_neither_read(read(alloc, &mut held.disk, 512)),
-        "table_find" => Ok(is_read(&GPT::find_from(alloc, &mut held.disk)?, 1, table)),
-        "table_find_backup" => Ok(is_read(&GPT::find_from(alloc, &mut held.disk)?, 99, table)),
+        "table_find" => Ok(is_read(&find(alloc, &mut held.disk)?, 1, table)),
+        "table_find_backup" => Ok(is_read(&find(alloc, &mut held.disk)?, 99, table)),
         _ => are_all_read(alloc, held, table),
     }
 }
 
 fn is_first_read(alloc: Global, held: &mut Held, table: &GPT) -> Result<bool> {
-    held.disk.seek_start(1024)?;
-    let entry = GPTPartitionEntry::read_from(alloc, &mut held.disk)?;
-    Ok(table.iter().next() == Some((1, &entry)))
+    let entry = read_entry(alloc, &mut held.disk, 1024)?;
+    Ok(is_first(&entry, table))
 }
 
 // Whether a new table is one for 100 sectors of 512 bytes.
 fn is_new(alloc: Global, held: &mut Held) -> Result<bool> {
-    let table = GPT::new_from(alloc, &mut held.disk, 512, DISK_GUID)?;
+    let table = new_on(alloc, &mut held.disk, 512)?;
     let header = &table.header;
     let bounds = (
         header.first_usable_lba,

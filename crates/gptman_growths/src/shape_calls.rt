@@ -1,8 +1,11 @@
 //! Calls of the library on tables of many shapes, each made once with ample memory.
 
 use crate::readings::are_told;
-use gptman::{Disk, Edit, GPT, GPTPartitionEntry, MemoryDisk, Result};
-use gptman_fixtures::calls::{apply, are_equal, copy, find, new_on};
+use gptman::{Edit, GPT, MemoryDisk, Result};
+use gptman_fixtures::calls::{
+    apply, are_equal, copy, find, first_place, free_sectors, is_first, last_place, maximum_size,
+    new_on, optimal_place, read_entry,
+};
 use gptman_fixtures::shape::Shape;
 use gptman_fixtures::tables::{
     are_those_of, commit, complement, partition, read, write, zero_disk,
@@ -72,10 +75,9 @@ fn are_parts_read(
     disk: &mut MemoryDisk,
     table: &GPT,
 ) -> Result<bool> {
-    disk.seek_start(shape.size().saturating_mul(2))?;
-    let first = GPTPartitionEntry::read_from(alloc, disk)?;
+    let first = read_entry(alloc, disk, shape.size().saturating_mul(2))?;
     let entries = table.header.read_partitions(alloc, disk, shape.size())?;
-    Ok(entries.first() == Some(&first) && are_those_of(&entries, table))
+    Ok(is_first(&first, table) && are_those_of(&entries, table))
 }
 
 // A byte of each of the two headers.
@@ -108,13 +110,17 @@ fn read_damaged(alloc: Global, shape: &Shape, disk: &MemoryDisk, places: &[usize
 fn are_places_found(shape: &Shape, table: GPT) -> Result<bool> {
     let mut table = table;
     table.align = 1;
-    let gap = shape.gap();
-    let slots = table.find_free_sectors()?;
-    let are_slots = slots.len() == shape.used as usize && slots.last() == Some(&(gap, 10));
-    let are_places = table.find_first_place(2)? == Some(gap)
-        && table.find_last_place(2)? == Some(shape.last().saturating_sub(1))
-        && table.find_optimal_place(2)? == Some(gap);
-    Ok(are_slots && are_places && table.get_maximum_partition_size()? == 10)
+    let (gap, last) = (shape.gap(), shape.last().saturating_sub(1));
+    let are_places = first_place(&table, 2)? == Some(gap)
+        && last_place(&table, 2)? == Some(last)
+        && optimal_place(&table, 2)? == Some(gap);
+    Ok(are_places && are_slots(shape, &table)? && maximum_size(&table)? == 10)
+}
+
+// One free sector between two used ones, and ten at the end.
+fn are_slots(shape: &Shape, table: &GPT) -> Result<bool> {
+    let slots = free_sectors(table)?;
+    Ok(slots.len() == shape.used as usize && slots.last() == Some(&(shape.gap(), 10)))
 }
 
 // The edit that puts an entry of the last two sectors, which none other has, under the last number.

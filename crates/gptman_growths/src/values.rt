@@ -3,6 +3,10 @@
 use crate::memory::Memory;
 use crate::verdict::{Verdict, of_call};
 use gptman::{Edit, GPT, GPTPartitionEntry, PartitionName, Result};
+use gptman_fixtures::calls::{
+    are_equal, are_equal_entries, are_equal_names, copy as copy_table, copy_entry, copy_name,
+    entry_of, name_of,
+};
 use gptman_fixtures::tables::{has_entry, partition, unsorted_table};
 use std::alloc::Global;
 
@@ -30,24 +34,31 @@ fn copy(name: &str, memory: &mut Memory) -> Result<Verdict> {
 
 // Whether what is made is equal to what it is made of.
 fn is_copied(name: &str, alloc: Global, entry: &GPTPartitionEntry, table: &GPT) -> Result<bool> {
-    let old = &entry.partition_name;
     match name {
-        "name_new" => Ok(PartitionName::new(alloc, "Foo")? == *old),
-        "name_clone" => Ok(old.clone()? == *old),
-        "entry_clone" => Ok(entry.clone()? == *entry),
-        "entry_decode" => Ok(GPTPartitionEntry::decode(alloc, &entry.encode())? == *entry),
-        _ => Ok(table.clone()? == *table),
+        "name_new" => is_name(name_of(alloc, "Foo"), entry),
+        "name_clone" => is_name(copy_name(&entry.partition_name), entry),
+        "entry_clone" => is_entry(copy_entry(entry), entry),
+        "entry_decode" => is_entry(entry_of(alloc, &entry.encode()), entry),
+        _ => Ok(are_equal(&copy_table(table)?, table)),
     }
+}
+
+fn is_name(made: Result<PartitionName>, entry: &GPTPartitionEntry) -> Result<bool> {
+    Ok(are_equal_names(&made?, &entry.partition_name))
+}
+
+fn is_entry(made: Result<GPTPartitionEntry>, entry: &GPTPartitionEntry) -> Result<bool> {
+    Ok(are_equal_entries(&made?, entry))
 }
 
 fn change(name: &str, memory: &mut Memory) -> Result<Verdict> {
     let mut table = unsorted_table(memory.alloc())?;
-    let before = table.clone()?;
     let entry = partition(memory.alloc(), "New", [4; 16], 60, 61)?;
     memory.begin();
     let outcome = is_changed(name, &mut table, entry);
     memory.end();
-    Ok(of_call(&outcome, table == before))
+    let is_kept = are_equal(&table, &unsorted_table(memory.alloc())?);
+    Ok(of_call(&outcome, is_kept))
 }
 
 // Whether the table is as the change of this name makes it.

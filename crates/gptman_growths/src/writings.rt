@@ -5,10 +5,10 @@ use crate::held::Held;
 use crate::memory::Memory;
 use crate::verdict::{Verdict, of_answer, of_failure, of_refusal};
 use gptman::{Edit, Error, GPT, GPTHeader, Progress, Result};
-use gptman_fixtures::calls::{are_equal, copy};
+use gptman_fixtures::calls::are_equal;
+use gptman_fixtures::samples::new_header;
 use gptman_fixtures::tables::{
-    DISK_GUID, commit, has_entry, have_same_entries, image_of, new_table, unsorted_table, write,
-    write_copy,
+    commit, has_entry, have_same_entries, image_of, new_table, unsorted_table, write, write_copy,
 };
 use std::alloc::Global;
 
@@ -22,39 +22,30 @@ pub fn try_call(name: &str, memory: &mut Memory) -> Option<Result<Verdict>> {
     }
 }
 
-// A table, the same again, and a disk that holds an empty one.
+// A table, and a disk that holds an empty one.
 #[derive(Drop)]
 struct Writing {
     table: GPT,
-    before: GPT,
-    empty: GPT,
     held: Held,
 }
 
 impl Writing {
     fn new(alloc: Global) -> Result<Writing> {
+        let held = Held::new(alloc, image_of(alloc, &mut new_table(alloc)?)?)?;
         let table = unsorted_table(alloc)?;
-        let before = copy(&table)?;
-        let mut empty = new_table(alloc)?;
-        let held = Held::new(alloc, image_of(alloc, &mut empty)?)?;
-        Ok(Writing {
-            table,
-            before,
-            empty,
-            held,
-        })
+        Ok(Writing { table, held })
     }
 
     // Whether the disk holds the table that it held, or the one that was to be written.
     fn holds_a_table(&mut self, alloc: Global) -> Result<bool> {
         let read = self.held.read(alloc)?;
-        Ok(have_same_entries(&read, &self.empty) || have_same_entries(&read, &self.table))
+        Ok(is_empty(alloc, &read)? || have_same_entries(&read, &self.table))
     }
 
     // Of a write that was refused with this.
     fn verdict(&mut self, alloc: Global, error: &Error) -> Result<Verdict> {
         let holds_a_table = self.holds_a_table(alloc)?;
-        let is_kept = are_equal(&self.table, &self.before);
+        let is_kept = are_equal(&self.table, &unsorted_table(alloc)?);
         Ok(self.held.verdict(error, is_kept, holds_a_table))
     }
 
@@ -64,6 +55,11 @@ impl Writing {
         let is_whole = read.is_primary() && have_same_entries(&read, &self.table);
         Ok(of_answer(is_whole && !self.held.has_no_record()))
     }
+}
+
+// Whether it has the entries of the table that the disk held.
+fn is_empty(alloc: Global, table: &GPT) -> Result<bool> {
+    Ok(have_same_entries(table, &new_table(alloc)?))
 }
 
 fn write_table(memory: &mut Memory) -> Result<Verdict> {
@@ -79,15 +75,15 @@ fn write_table(memory: &mut Memory) -> Result<Verdict> {
 }
 
 // A header of no entries for 100 sectors of 512 bytes.
-fn header_alone(held: &mut Held) -> Result<GPTHeader> {
-    let mut header = GPTHeader::new_from(&mut held.disk, 512, DISK_GUID)?;
+fn header_alone(alloc: Global) -> Result<GPTHeader> {
+    let mut header = new_header(alloc)?;
     header.number_of_partition_entries = 0;
     Ok(header)
 }
 
 fn write_header(memory: &mut Memory) -> Result<Verdict> {
     let mut held = Held::new(memory.alloc(), vec![in memory.alloc(); 0; 51_200]?)?;
-    let mut header = header_alone(&mut held)?;
+    let mut header = header_alone(memory.alloc())?;
     memory.begin();
     let outcome = write_copy(&mut header, &mut held.disk, 512, &[]);
     memory.end();
@@ -131,7 +127,7 @@ fn of_stop(alloc: Global, writing: &mut Writing, done: usize, error: &Error) -> 
     let next = done.saturating_add(1);
     let read = writing.held.read(alloc)?;
     let is_before = if done == 0 {
-        have_same_entries(&read, &writing.empty)
+        is_empty(alloc, &read)?
     } else {
         is_after(&read, done)
     };

@@ -2,8 +2,11 @@
 
 use crate::plain::PlainDisk;
 use gptman::{Edit, Error, GPT, Result};
+use gptman_fixtures::calls::{
+    copy, first_place, free_sectors, last_place, maximum_size, optimal_place, sort,
+};
 use gptman_fixtures::shape::Shape;
-use gptman_fixtures::tables::{commit, write};
+use gptman_fixtures::tables::{commit, read, write};
 use std::alloc::Global;
 
 /// A call of the library.
@@ -97,7 +100,7 @@ impl Case {
             Call::Checksum => self.sum(),
             Call::Read => self.read(),
             Call::Write => self.write(),
-            Call::Sort => self.table.sort(),
+            Call::Sort => sort(&mut self.table),
             Call::Clone => self.clone_table(),
             Call::CommitTen => self.commit(),
             _ => self.find(call),
@@ -114,7 +117,7 @@ impl Case {
     }
 
     fn read(&mut self) -> Result<()> {
-        GPT::read_from(self.alloc, &mut self.disk, 512)?;
+        read(self.alloc, &mut self.disk, 512)?;
         Ok(())
     }
 
@@ -124,30 +127,27 @@ impl Case {
     }
 
     fn clone_table(&self) -> Result<()> {
-        self.table.clone()?;
+        copy(&self.table)?;
         Ok(())
     }
 
     // The free sectors, or a place for one sector.
     fn find(&self, call: Call) -> Result<()> {
-        if self.table.align == 0 {
-            return Err(Error::Overflow);
-        }
         match call {
             Call::FirstPlace => {
-                self.table.find_first_place(1)?;
+                first_place(&self.table, 1)?;
             }
             Call::LastPlace => {
-                self.table.find_last_place(1)?;
+                last_place(&self.table, 1)?;
             }
             Call::OptimalPlace => {
-                self.table.find_optimal_place(1)?;
+                optimal_place(&self.table, 1)?;
             }
             Call::MaximumSize => {
-                self.table.get_maximum_partition_size()?;
+                maximum_size(&self.table)?;
             }
             _ => {
-                self.table.find_free_sectors()?;
+                free_sectors(&self.table)?;
             }
         }
         Ok(())

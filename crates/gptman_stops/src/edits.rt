@@ -4,7 +4,7 @@
 use crate::asserts::{Host, failing_once, fused, got, read};
 use crate::case::{fate_of, is_same_table};
 use gptman::{Disk, Edit, Error, Fate, GPT, MemoryDisk, Progress};
-use gptman_fixtures::calls::apply;
+use gptman_fixtures::calls::{apply, stopped};
 use gptman_fixtures::samples::image_of_new;
 use gptman_fixtures::tables::{commit, partition};
 use std::process::Abort;
@@ -67,7 +67,7 @@ fn assert_after(rt: &impl Host, bytes: &[u8], image: &[u8], done: usize) {
 
 // The same of the bytes that a stop of the disk leaves, with all that is pending of one fate.
 fn assert_stopped(rt: &impl Host, disk: MemoryDisk, fate: Fate, image: &[u8], done: usize) {
-    let left = got(rt, disk.stop(&[fate; 6]));
+    let left = got(rt, stopped(disk, &[fate; 6]));
     assert_after(rt, left.bytes(), image, done);
 }
 

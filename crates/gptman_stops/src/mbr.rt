@@ -2,7 +2,7 @@
 
 use crate::asserts::{Host, assert_said, copied, failing_once, fused, got};
 use gptman::{Fate, MemoryDisk};
-use gptman_fixtures::calls::has_bytes;
+use gptman_fixtures::calls::{has_bytes, stopped};
 use gptman_fixtures::samples::{put, put_mbr, write_mbr};
 use std::process::Abort;
 
@@ -36,7 +36,7 @@ fn said(call: u64) -> &'static str {
 
 // A stop with this fate leaves these bytes.
 fn assert_left(rt: &impl Abort, disk: MemoryDisk, fate: Fate, bytes: &[u8]) {
-    assert!(rt; has_bytes(&got(rt, disk.stop(&[fate])), bytes));
+    assert!(rt; has_bytes(&got(rt, stopped(disk, &[fate])), bytes));
 }
 
 // Writes an MBR where this call and all later ones fail, and stops the disk: this is left.

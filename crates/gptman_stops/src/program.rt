@@ -5,7 +5,7 @@ use crate::asserts::{Host, copied, failing_once, fused, got, holding, read};
 use crate::case::{Case, assert_reads_one, fate_of, fates, is_same_table};
 use crate::lines::{LINES, call_line, do_line, image_with_foo};
 use gptman::{Fate, MemoryDisk};
-use gptman_fixtures::calls::bytes_of;
+use gptman_fixtures::calls::{bytes_of, stopped};
 use std::process::Abort;
 
 // The bytes of this image after the line was done.
@@ -31,8 +31,8 @@ fn assert_left(rt: &impl Host, case: &Case, bytes: &[u8], is_done: bool) {
 // So are the bytes of this disk, and those that a stop leaves with all that is pending of this fate.
 fn assert_disk(rt: &impl Host, case: &Case, left: MemoryDisk, fate: Fate, is_done: bool) {
     assert_left(rt, case, left.bytes(), is_done);
-    let stopped = got(rt, left.stop(&[fate; 6]));
-    assert_left(rt, case, stopped.bytes(), is_done);
+    let after = got(rt, stopped(left, &[fate; 6]));
+    assert_left(rt, case, after.bytes(), is_done);
 }
 
 // Whether a line that ended with this status was done. Where it was not, it prints that the disk failed. A
@@ -99,7 +99,7 @@ fn assert_old_or_new(rt: &impl Host, case: &Case, bytes: &[u8], is_done: bool) {
 fn stop_with(rt: &impl Host, case: &Case, calls: u64, fates: &[Fate]) -> bool {
     let mut disk = fused(rt, &case.image, calls);
     let is_done = call_line(rt, &mut disk, "512 grow").0 == 0;
-    let left = got(rt, disk.stop(fates));
+    let left = got(rt, stopped(disk, fates));
     assert_old_or_new(rt, case, left.bytes(), is_done);
     is_done
 }

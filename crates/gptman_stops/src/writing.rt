@@ -4,7 +4,7 @@
 use crate::asserts::{Host, assert_reads, assert_told, copied, failing_once, fused, got, read};
 use crate::case::{Case, HEADERS, assert_reads_one, fate_of, fates, is_same_table, read_without};
 use gptman::{Disk, Edit, Error, Fate, GPT, MemoryDisk};
-use gptman_fixtures::calls::{apply, copy, has_bytes};
+use gptman_fixtures::calls::{apply, copy, has_bytes, stopped};
 use gptman_fixtures::samples::{backup_form, disk_1, image_with, put, put_entry};
 use gptman_fixtures::tables::write;
 use std::process::Abort;
@@ -52,7 +52,7 @@ fn left_of(rt: &impl Host, case: &Case, calls: u64, fates: &[Fate]) -> MemoryDis
     let is_done = is_written(rt, &mut disk, &case.new);
     assert!(rt; is_done == (calls >= CALLS), "{calls} calls");
     assert!(rt; calls > 1 || has_bytes(&disk, &case.image));
-    got(rt, disk.stop(fates))
+    got(rt, stopped(disk, fates))
 }
 
 // Stops the write after so many calls, with these fates.
@@ -138,8 +138,8 @@ fn after_ok_each_copy_alone_is_the_new_table(rt: HostRuntime) {
 // disk without a stop.
 fn assert_left(rt: &impl Host, case: &Case, left: MemoryDisk, fate: Fate) {
     assert_reads_one(rt, case, left.bytes());
-    let stopped = got(rt, left.stop(&[fate; 6]));
-    assert_reads_one(rt, case, stopped.bytes());
+    let after = got(rt, stopped(left, &[fate; 6]));
+    assert_reads_one(rt, case, after.bytes());
 }
 
 // Writes the new table on a disk of which one call fails, or none, and stops it then.

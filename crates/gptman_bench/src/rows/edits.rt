@@ -3,6 +3,7 @@
 use crate::asserts::{BOUNDARIES, Host, assert_said, assert_text, assert_used, got};
 use crate::fixtures::{bytes_of, holding, image_of_new, partition, put, read};
 use gptman::{Disk, Edit, GPT, MemoryDisk, Progress};
+use gptman_fixtures::calls::stopped;
 use gptman_fixtures::tables::commit;
 use gptman_fixtures::told::text_of;
 use std::process::Abort;
@@ -28,7 +29,7 @@ fn assert_progress(rt: &impl Host, progress: &Progress, done: usize, said: &str)
 
 // Whichever header of this disk is broken once it is stopped, it is read with these entries.
 fn assert_stored(rt: &impl Host, disk: MemoryDisk, said: &str) {
-    let mut left = bytes_of(rt, &got(rt, disk.stop(&[])));
+    let mut left = bytes_of(rt, &got(rt, stopped(disk, &[])));
     assert_used(rt, &read(rt, &left, 512), said);
     put(rt, &mut left, 512, &[0; 8]);
     assert_used(rt, &read(rt, &left, 512), said);

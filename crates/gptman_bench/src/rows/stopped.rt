@@ -2,8 +2,8 @@
 
 use crate::asserts::{Host, got};
 use crate::fixtures::holding;
-use gptman::{Disk, Fate, MemoryDisk};
-use gptman_fixtures::calls::has_bytes;
+use gptman::{Fate, MemoryDisk};
+use gptman_fixtures::calls::{has_bytes, stopped, store};
 use gptman_fixtures::tables::write_at;
 use std::process::Abort;
 
@@ -17,7 +17,7 @@ fn twice_written(rt: &impl Host) -> MemoryDisk {
 
 // A stop with these fates leaves these bytes.
 fn assert_left(rt: &impl Abort, disk: MemoryDisk, fates: &[Fate], bytes: [u8; 8]) {
-    assert!(rt; has_bytes(&got(rt, disk.stop(fates)), &bytes));
+    assert!(rt; has_bytes(&got(rt, stopped(disk, fates)), &bytes));
 }
 
 // So it does after two writes.
@@ -40,7 +40,7 @@ fn each_pending_write_has_its_fate(rt: HostRuntime) {
 // The same after a sync, and one write more.
 fn assert_synced(rt: &impl Host, fates: &[Fate]) {
     let mut disk = twice_written(rt);
-    got(rt, disk.sync());
+    got(rt, store(&mut disk));
     got(rt, write_at(&mut disk, 2, &[7, 7]));
     assert_left(rt, disk, fates, [1, 3, 4, 0, 0, 0, 0, 0]);
 }
