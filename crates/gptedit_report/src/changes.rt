@@ -1,0 +1,209 @@
+//! What a change did to a table.
+
+use crate::compare::{Change, compare};
+use crate::texts::{EntryText, GuidText, QuotedName, SectorsText, TypeText};
+use gptedit_text::values::AttributeNames;
+use gptman::{GPT, GPTHeader, GPTPartitionEntry};
+use std::alloc::Global;
+use std::io::Write;
+use std::{fmt, io};
+
+/// Prints how a table becomes another: a line for the disk's GUID, for the usable sectors and for the number
+/// of entries, where they differ, and one for each partition that does, by its number. `+` begins a partition
+/// that is added, `-` one that is removed, `~` one that is changed, and `2 -> 1` one that has another number.
+/// Where nothing differs the line is `unchanged`. A dry run is said to be one.
+///
+/// It takes time in O(n log n) for n entries. An error comes where `out` failed, and where there is no memory.
+pub fn print_changes<W: Write>(
+    out: &mut W,
+    alloc: Global,
+    was: &GPT,
+    next: &GPT,
+    is_dry: bool,
+) -> io::Result<()> {
+    let changes = compare(alloc, was, next)?;
+    let header = HeaderChange { was, next };
+    if changes.is_empty() && !header.is_any() {
+        return out.write_all(b"unchanged\n");
+    }
+    if is_dry {
+        out.write_all(b"a dry run, nothing is written:\n")?;
+    }
+    write!(out, "{header}")?;
+    for change in changes.iter() {
+        let change = *change;
+        writeln!(out, "{}", ChangeText { was, next, change })?;
+    }
+    Ok(())
+}
+
+// How the header of a table becomes that of another.
+#[derive(Clone, Copy)]
+struct HeaderChange<'a> {
+    was: &'a GPT,
+    next: &'a GPT,
+}
+
+impl HeaderChange<'_> {
+    // Whether anything of it is told.
+    fn is_any(&self) -> bool {
+        let (was, next) = (&self.was.header, &self.next.header);
+        was.disk_guid != next.disk_guid
+            || have_other_bounds(was, next)
+            || was.number_of_partition_entries != next.number_of_partition_entries
+    }
+}
+
+impl fmt::Display for HeaderChange<'_> {
+    fn fmt<W: fmt::Write>(&self, f: &mut fmt::Formatter<W>) -> fmt::Result {
+        let (was, next) = (&self.was.header, &self.next.header);
+        if was.disk_guid != next.disk_guid {
+            let (before, after) = (GuidText(&was.disk_guid), GuidText(&next.disk_guid));
+            writeln!(f, "disk GUID {before} -> {after}")?;
+        }
+        if have_other_bounds(was, next) {
+            write_bounds(f, was, next)?;
+        }
+        let before = was.number_of_partition_entries;
+        let after = next.number_of_partition_entries;
+        if before != after {
+            writeln!(f, "entries {before} -> {after}")?;
+        }
+        Ok(())
+    }
+}
+
+// Whether two headers give other usable sectors.
+fn have_other_bounds(was: &GPTHeader, next: &GPTHeader) -> bool {
+    was.first_usable_lba != next.first_usable_lba || was.last_usable_lba != next.last_usable_lba
+}
+
+// The usable sectors before and after.
+fn write_bounds<W: fmt::Write>(
+    f: &mut fmt::Formatter<W>,
+    was: &GPTHeader,
+    next: &GPTHeader,
+) -> fmt::Result {
+    let (first, last) = (was.first_usable_lba, was.last_usable_lba);
+    write!(f, "usable sectors {first}..{last} -> ")?;
+    let (first, last) = (next.first_usable_lba, next.last_usable_lba);
+    writeln!(f, "{first}..{last}")
+}
+
+// A change of an entry, on one line.
+#[derive(Clone, Copy)]
+struct ChangeText<'a> {
+    was: &'a GPT,
+    next: &'a GPT,
+    change: Change,
+}
+
+impl fmt::Display for ChangeText<'_> {
+    fn fmt<W: fmt::Write>(&self, f: &mut fmt::Formatter<W>) -> fmt::Result {
+        match self.change {
+            Change::Removed { number } => write_whole(f, "-", self.was, number),
+            Change::Added { number } => write_whole(f, "+", self.next, number),
+            Change::Kept { from, to } => {
+                if from == to {
+                    write!(f, "~ {to}")?;
+                } else {
+                    write!(f, "{from} -> {to}")?;
+                }
+                match (self.was.get(from), self.next.get(to)) {
+                    (Some(was), Some(next)) => write_fields(f, was, next, self.was.sector_size),
+                    _ => Ok(()),
+                }
+            }
+        }
+    }
+}
+
+// A sign, a number, and the whole entry of that number.
+fn write_whole<W: fmt::Write>(
+    f: &mut fmt::Formatter<W>,
+    sign: &str,
+    table: &GPT,
+    number: u32,
+) -> fmt::Result {
+    write!(f, "{sign} {number}")?;
+    match table.get(number) {
+        Some(entry) => {
+            let sector_size = table.sector_size;
+            write!(f, " {}", EntryText { entry, sector_size })
+        }
+        None => Ok(()),
+    }
+}
+
+// The fields that differ, each before and after.
+fn write_fields<W: fmt::Write>(
+    f: &mut fmt::Formatter<W>,
+    was: &GPTPartitionEntry,
+    next: &GPTPartitionEntry,
+    sector_size: u64,
+) -> fmt::Result {
+    let mut comma = "";
+    if was.partition_name.units() != next.partition_name.units() {
+        let (before, after) = (&was.partition_name, &next.partition_name);
+        write_field(f, comma, "name", &QuotedName(before), &QuotedName(after))?;
+        comma = ",";
+    }
+    if was.partition_type_guid != next.partition_type_guid {
+        let (before, after) = (&was.partition_type_guid, &next.partition_type_guid);
+        write_field(f, comma, "type", &TypeText(before), &TypeText(after))?;
+        comma = ",";
+    }
+    if was.starting_lba != next.starting_lba || was.ending_lba != next.ending_lba {
+        let before = SectorsText {
+            entry: was,
+            sector_size,
+        };
+        let after = SectorsText {
+            entry: next,
+            sector_size,
+        };
+        write_field(f, comma, "sectors", &before, &after)?;
+        comma = ",";
+    }
+    if was.attribute_bits != next.attribute_bits {
+        let (before, after) = (was.attribute_bits, next.attribute_bits);
+        write_field(
+            f,
+            comma,
+            "attributes",
+            &SomeAttributes(before),
+            &SomeAttributes(after),
+        )?;
+        comma = ",";
+    }
+    if was.unique_partition_guid != next.unique_partition_guid {
+        let (before, after) = (&was.unique_partition_guid, &next.unique_partition_guid);
+        write_field(f, comma, "GUID", &GuidText(before), &GuidText(after))?;
+    }
+    Ok(())
+}
+
+// A field, before and after.
+fn write_field<W: fmt::Write, D: fmt::Display>(
+    f: &mut fmt::Formatter<W>,
+    comma: &str,
+    name: &str,
+    before: &D,
+    after: &D,
+) -> fmt::Result {
+    write!(f, "{comma} {name} {before} -> {after}")
+}
+
+// The names of attributes, or that there is none.
+#[derive(Clone, Copy)]
+struct SomeAttributes(u64);
+
+impl fmt::Display for SomeAttributes {
+    fn fmt<W: fmt::Write>(&self, f: &mut fmt::Formatter<W>) -> fmt::Result {
+        if self.0 == 0 {
+            f.write_str("none")
+        } else {
+            write!(f, "{}", AttributeNames(self.0))
+        }
+    }
+}

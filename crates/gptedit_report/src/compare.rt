@@ -1,0 +1,137 @@
+//! How the entries of a table become those of another.
+
+use gptman::{GPT, GPTPartitionEntry};
+use std::alloc::{AllocError, Global};
+use std::collections::BTreeMap;
+
+/// How an entry that is used becomes another, each under its number.
+#[derive(Clone, Copy)]
+pub(crate) enum Change {
+    /// It is not used afterwards.
+    Removed { number: u32 },
+    /// It was not used before.
+    Added { number: u32 },
+    /// It was under the first number, and is under the second.
+    Kept { from: u32, to: u32 },
+}
+
+impl Change {
+    // Changes are told by the number afterwards, and a removal before what comes in its place.
+    fn rank(self) -> (u32, u8) {
+        match self {
+            Change::Removed { number } => (number, 0),
+            Change::Added { number } => (number, 1),
+            Change::Kept { to, .. } => (to, 1),
+        }
+    }
+}
+
+/// The entries that differ between the two tables, by their numbers. An entry is the same under another
+/// number where it has the same GUID, and under its own number also where it has the same sectors. It takes
+/// time in O(n log n) for n entries.
+pub(crate) fn compare(alloc: Global, was: &GPT, next: &GPT) -> Result<Vec<Change>, AllocError> {
+    let mut changes = Vec::new(alloc);
+    let mut gone = find_gone(alloc, was, next, &mut changes)?;
+    let added = find_added(alloc, was, next, &mut gone, &mut changes)?;
+    add_renamed(was, next, &added, &mut gone, &mut changes)?;
+    for number in gone.values() {
+        changes.push(Change::Removed { number: *number })?;
+    }
+    changes.sort_by_key(|change| change.rank())?;
+    Ok(changes)
+}
+
+// The numbers of the entries that have another GUID afterwards, by their GUIDs. Of several with one GUID, all
+// but one are removed.
+fn find_gone(
+    alloc: Global,
+    was: &GPT,
+    next: &GPT,
+    changes: &mut Vec<Change>,
+) -> Result<BTreeMap<[u8; 16], u32>, AllocError> {
+    let mut gone = BTreeMap::new(alloc);
+    for (number, entry) in was.iter() {
+        if entry.is_used() && !has_guid(next, number, &entry.unique_partition_guid) {
+            if let Some(number) = gone.insert(entry.unique_partition_guid, number)? {
+                changes.push(Change::Removed { number })?;
+            }
+        }
+    }
+    Ok(gone)
+}
+
+// Whether the entry of this number is used, and has this GUID.
+fn has_guid(table: &GPT, number: u32, guid: &[u8; 16]) -> bool {
+    match used_at(table, number) {
+        Some(entry) => entry.unique_partition_guid == *guid,
+        None => false,
+    }
+}
+
+/// The entry of this number, where it is used.
+pub(crate) fn used_at(table: &GPT, number: u32) -> Option<&GPTPartitionEntry> {
+    let entry = table.get(number)?;
+    if entry.is_used() { Some(entry) } else { None }
+}
+
+// The numbers of the entries whose GUIDs no entry had before. Of the others, those that differ are told.
+fn find_added(
+    alloc: Global,
+    was: &GPT,
+    next: &GPT,
+    gone: &mut BTreeMap<[u8; 16], u32>,
+    changes: &mut Vec<Change>,
+) -> Result<Vec<u32>, AllocError> {
+    let mut added = Vec::new(alloc);
+    for (to, entry) in next.iter() {
+        if entry.is_unused() {
+            continue;
+        }
+        if has_guid(was, to, &entry.unique_partition_guid) {
+            if was.get(to) != Some(entry) {
+                changes.push(Change::Kept { from: to, to })?;
+            }
+        } else if let Some(from) = gone.remove(&entry.unique_partition_guid) {
+            changes.push(Change::Kept { from, to })?;
+        } else {
+            added.push(to)?;
+        }
+    }
+    Ok(added)
+}
+
+// Tells the entries that were added, or have a new GUID.
+fn add_renamed(
+    was: &GPT,
+    next: &GPT,
+    added: &[u32],
+    gone: &mut BTreeMap<[u8; 16], u32>,
+    changes: &mut Vec<Change>,
+) -> Result<(), AllocError> {
+    for number in added {
+        let number = *number;
+        let change = match same_place(was, next, number) {
+            Some(before) if gone.get(&before) == Some(&number) => {
+                gone.remove(&before);
+                Change::Kept {
+                    from: number,
+                    to: number,
+                }
+            }
+            _ => Change::Added { number },
+        };
+        changes.push(change)?;
+    }
+    Ok(())
+}
+
+// The GUID before of an entry that was used, and has the same sectors afterwards.
+fn same_place(was: &GPT, next: &GPT, number: u32) -> Option<[u8; 16]> {
+    let before = used_at(was, number)?;
+    let after = next.get(number)?;
+    if before.starting_lba == after.starting_lba && before.ending_lba == after.ending_lba {
+        Some(before.unique_partition_guid)
+    } else {
+        None
+    }
+}

@@ -1,0 +1,138 @@
+//! What the library's errors mean, and what to do.
+
+use gptman::Error;
+use std::fmt;
+
+/// The name of the error, without its numbers.
+pub(crate) fn fault_name(fault: &Error) -> &'static str {
+    match fault {
+        Error::Io(_) => "Io",
+        Error::InvalidSignature => "InvalidSignature",
+        Error::InvalidRevision => "InvalidRevision",
+        Error::InvalidHeaderSize => "InvalidHeaderSize",
+        Error::InvalidChecksum(_, _) => "InvalidChecksum",
+        Error::InvalidPartitionEntryArrayChecksum(_, _) => "InvalidPartitionEntryArrayChecksum",
+        Error::ReadError(_, _) => "ReadError",
+        Error::NoSpaceLeft => "NoSpaceLeft",
+        Error::ConflictPartitionGUID => "ConflictPartitionGUID",
+        Error::InvalidPartitionBoundaries => "InvalidPartitionBoundaries",
+        Error::InvalidPartitionNumber(_) => "InvalidPartitionNumber",
+        Error::UnusedPartition => "UnusedPartition",
+        Error::PartitionNotFound => "PartitionNotFound",
+        Error::Overflow => "Overflow",
+        Error::OutOfMemory => "OutOfMemory",
+        Error::InvalidPartitionEntrySize(_) => "InvalidPartitionEntrySize",
+    }
+}
+
+/// What an error means to people, and what to do about it, in one or two lines without the last newline.
+#[derive(Clone, Copy)]
+pub struct ErrorText<'a> {
+    /// The error.
+    pub error: &'a Error,
+    /// The image or device, as it was named.
+    pub image: &'a str,
+}
+
+impl fmt::Display for ErrorText<'_> {
+    fn fmt<W: fmt::Write>(&self, f: &mut fmt::Formatter<W>) -> fmt::Result {
+        match self.error {
+            Error::ReadError(primary, backup) => {
+                let (primary, backup) = (Meaning(primary), Meaning(backup));
+                writeln!(
+                    f,
+                    "there is no good copy: of the primary one, {primary}; of the backup, {backup}"
+                )?;
+            }
+            error => writeln!(f, "{}", Meaning(error))?,
+        }
+        let image = self.image;
+        match command_for(self.error) {
+            Some((command, does)) => write!(f, "`gptedit {command} {image}` {does}"),
+            None => f.write_str(advice_for(self.error)),
+        }
+    }
+}
+
+// What helps where no command does.
+fn advice_for(error: &Error) -> &'static str {
+    match error {
+        Error::Overflow => "make the disk longer",
+        _ => "run it again where there is more",
+    }
+}
+
+// The command that helps, and what it does.
+fn command_for(error: &Error) -> Option<(&'static str, &'static str)> {
+    match error {
+        Error::OutOfMemory | Error::Overflow => None,
+        Error::Io(_) => Some(("check", "tells what is there now")),
+        Error::InvalidSignature | Error::ReadError(_, _) => Some((
+            "new",
+            "makes a table; where sectors have another size, say --sector",
+        )),
+        Error::NoSpaceLeft => Some(("free", "lists what is free")),
+        Error::ConflictPartitionGUID => {
+            Some(("randomize", "gives each partition a GUID of its own"))
+        }
+        Error::InvalidPartitionNumber(_)
+        | Error::UnusedPartition
+        | Error::PartitionNotFound
+        | Error::InvalidPartitionBoundaries => Some(("show", "lists the partitions")),
+        _ => Some(("check", "tells what is wrong")),
+    }
+}
+
+/// What an error means, within a sentence.
+#[derive(Clone, Copy)]
+pub(crate) struct Meaning<'a>(pub(crate) &'a Error);
+
+impl fmt::Display for Meaning<'_> {
+    fn fmt<W: fmt::Write>(&self, f: &mut fmt::Formatter<W>) -> fmt::Result {
+        match self.0 {
+            Error::Io(error) => write!(f, "the disk failed: {error}"),
+            Error::InvalidChecksum(stored, computed) => write_sums(f, "header", *stored, *computed),
+            Error::InvalidPartitionEntryArrayChecksum(stored, computed) => {
+                write_sums(f, "entries", *stored, *computed)
+            }
+            Error::InvalidPartitionNumber(number) => write!(f, "there is no entry {number}"),
+            Error::InvalidPartitionEntrySize(size) => {
+                write!(f, "the entries have {size} bytes, and not 128")
+            }
+            error => f.write_str(plain_meaning(error)),
+        }
+    }
+}
+
+// That a checksum is not that of the bytes.
+fn write_sums<W: fmt::Write>(
+    f: &mut fmt::Formatter<W>,
+    what: &str,
+    stored: u32,
+    computed: u32,
+) -> fmt::Result {
+    write!(
+        f,
+        "the checksum of the {what} is {computed:08x}, and not {stored:08x} as stored"
+    )
+}
+
+// What an error without numbers means.
+fn plain_meaning(error: &Error) -> &'static str {
+    match error {
+        Error::InvalidSignature => "no header of a table stands there",
+        Error::InvalidRevision => "the header has another revision than 1.0",
+        Error::InvalidHeaderSize => "the header does not give its size as 92 bytes",
+        Error::ReadError(_, _) => "there is no good copy",
+        Error::NoSpaceLeft => "there is no room",
+        Error::ConflictPartitionGUID => "two partitions have one GUID",
+        Error::InvalidPartitionBoundaries => {
+            "partitions would share sectors, end before they start, or lie outside of the usable sectors"
+        }
+        Error::UnusedPartition => "the entry is not used",
+        Error::PartitionNotFound => "no partition has that sector",
+        Error::Overflow => "the disk has too few sectors for two copies of the table",
+        Error::OutOfMemory => "there was no memory",
+        _ => "the table is damaged",
+    }
+}

@@ -1,0 +1,76 @@
+//! Free sectors.
+
+use crate::columns::{Column, print_columns, push_cell};
+use crate::json::run_values;
+use gptedit_text::values::ByteCount;
+use serde_json::Value;
+use std::alloc::{AllocError, Global};
+use std::io;
+use std::io::Write;
+
+// What is told of a run.
+const COLUMNS: [Column; 4] = [
+    Column {
+        heading: "Start",
+        width: 6,
+        is_right: true,
+    },
+    Column {
+        heading: "End",
+        width: 6,
+        is_right: true,
+    },
+    Column {
+        heading: "Sectors",
+        width: 0,
+        is_right: true,
+    },
+    Column {
+        heading: "Size",
+        width: 7,
+        is_right: true,
+    },
+];
+
+/// Prints runs of free sectors, each given by its first sector and its length: under headings a line for
+/// each, with its first and last sector, its length in sectors, and its size. Where there is none, a line
+/// says so.
+///
+/// An error comes where `out` failed, and where there is no memory.
+pub fn print_free<W: Write>(
+    out: &mut W,
+    alloc: Global,
+    sector_size: u64,
+    runs: &[(u64, u64)],
+) -> io::Result<()> {
+    if runs.is_empty() {
+        return out.write_all(b"no free sectors\n");
+    }
+    let mut rows = Vec::with_capacity(alloc, runs.len())?;
+    for (start, length) in runs {
+        rows.push(row_of(alloc, sector_size, *start, *length)?)?;
+    }
+    print_columns(out, alloc, COLUMNS.as_slice(), &rows)
+}
+
+// The cells of a run.
+fn row_of(
+    alloc: Global,
+    sector_size: u64,
+    start: u64,
+    length: u64,
+) -> Result<Vec<String>, AllocError> {
+    let end = start.saturating_add(length.saturating_sub(1));
+    let size = ByteCount(length.saturating_mul(sector_size));
+    let mut row = Vec::with_capacity(alloc, COLUMNS.len())?;
+    push_cell(alloc, &mut row, &start)?;
+    push_cell(alloc, &mut row, &end)?;
+    push_cell(alloc, &mut row, &length)?;
+    push_cell(alloc, &mut row, &size)?;
+    Ok(row)
+}
+
+/// Runs of free sectors as JSON: a list of `start` and `size`, in sectors.
+pub fn free_json(alloc: Global, runs: &[(u64, u64)]) -> Result<String, AllocError> {
+    Value::Array(run_values(alloc, runs)?).to_string_pretty(alloc)
+}

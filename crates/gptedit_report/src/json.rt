@@ -1,0 +1,136 @@
+//! Tables as JSON.
+
+use crate::copies::CopiesState;
+use crate::fault::fault_name;
+use crate::members::Members;
+use crate::sfdisk::{Attributes, separator_of};
+use gptman::{Error, GPT, GPTPartitionEntry};
+use serde_json::Value;
+use std::alloc::{AllocError, Global};
+
+// How many entries a table has of which sfdisk does not tell the number.
+const USUAL_COUNT: u32 = 128;
+
+/// A table as JSON: `partitiontable` as `sfdisk --json` has it, and `gptman` with the copy that was read
+/// (`form`), what both copies are, the size of the disk in bytes, the alignment of places in sectors, and
+/// the runs of free sectors, each with its first sector and its length.
+pub fn table_json(
+    alloc: Global,
+    image: &str,
+    size: u64,
+    table: &GPT,
+    state: &CopiesState<'_>,
+    free: &[(u64, u64)],
+) -> Result<String, AllocError> {
+    let mut members = Members::new(alloc);
+    members.put("partitiontable", standard_value(alloc, image, table)?)?;
+    members.put("gptman", own_value(alloc, size, table, state, free)?)?;
+    members.into_value().to_string_pretty(alloc)
+}
+
+// What sfdisk tells of a table.
+fn standard_value(alloc: Global, image: &str, table: &GPT) -> Result<Value, AllocError> {
+    let mut members = Members::new(alloc);
+    members.put_text("label", "gpt")?;
+    members.put_guid("id", &table.header.disk_guid)?;
+    members.put_text("device", image)?;
+    members.put_text("unit", "sectors")?;
+    members.put_number("firstlba", table.header.first_usable_lba)?;
+    members.put_number("lastlba", table.header.last_usable_lba)?;
+    members.put_number("sectorsize", table.sector_size)?;
+    members.put_list("partitions", partition_values(alloc, image, table)?)?;
+    let count = table.header.number_of_partition_entries;
+    if count != USUAL_COUNT {
+        members.put_text("table-length", format!(in alloc; "{count}")?.as_str())?;
+    }
+    Ok(members.into_value())
+}
+
+// The used entries.
+fn partition_values(alloc: Global, image: &str, table: &GPT) -> Result<Vec<Value>, AllocError> {
+    let separator = separator_of(image);
+    let mut partitions = Vec::new(alloc);
+    for (number, entry) in table.iter() {
+        if entry.is_used() {
+            let node = format!(in alloc; "{image}{separator}{number}")?;
+            partitions.push(partition_value(alloc, node.as_str(), entry)?)?;
+        }
+    }
+    Ok(partitions)
+}
+
+// An entry. Its name and its attributes are left out where there are none.
+fn partition_value(
+    alloc: Global,
+    node: &str,
+    entry: &GPTPartitionEntry,
+) -> Result<Value, AllocError> {
+    let mut members = Members::new(alloc);
+    members.put_text("node", node)?;
+    members.put_number("start", entry.starting_lba)?;
+    members.put_number("size", entry.size().unwrap_or(0))?;
+    members.put_guid("type", &entry.partition_type_guid)?;
+    members.put_guid("uuid", &entry.unique_partition_guid)?;
+    members.put_some_text("name", entry.partition_name.as_str())?;
+    let attributes = format!(in alloc; "{}", Attributes(entry.attribute_bits))?;
+    members.put_some_text("attrs", attributes.as_str())?;
+    Ok(members.into_value())
+}
+
+// What sfdisk does not tell.
+fn own_value(
+    alloc: Global,
+    size: u64,
+    table: &GPT,
+    state: &CopiesState<'_>,
+    free: &[(u64, u64)],
+) -> Result<Value, AllocError> {
+    let mut members = Members::new(alloc);
+    members.put_text("form", form_name(table))?;
+    put_copies(&mut members, state)?;
+    members.put_number("size", size)?;
+    members.put_number("align", table.align)?;
+    members.put_list("free", run_values(alloc, free)?)?;
+    Ok(members.into_value())
+}
+
+/// Puts what each copy is, good or the name of its fault, and whether both are one table.
+pub(crate) fn put_copies(members: &mut Members, state: &CopiesState<'_>) -> Result<(), AllocError> {
+    members.put_text("primary", copy_name(state.primary_fault()))?;
+    members.put_text("backup", copy_name(state.backup_fault()))?;
+    members.put("same", Value::Bool(state.is_good()))
+}
+
+// The copy that was read.
+fn form_name(table: &GPT) -> &'static str {
+    if table.is_primary() {
+        "primary"
+    } else {
+        "backup"
+    }
+}
+
+// What a copy is: good, or the name of its fault.
+fn copy_name(fault: Option<&Error>) -> &'static str {
+    match fault {
+        Some(fault) => fault_name(fault),
+        None => "good",
+    }
+}
+
+/// Runs of sectors, each with its first and its length.
+pub(crate) fn run_values(alloc: Global, runs: &[(u64, u64)]) -> Result<Vec<Value>, AllocError> {
+    let mut values = Vec::with_capacity(alloc, runs.len())?;
+    for (start, length) in runs {
+        values.push(run_value(alloc, *start, *length)?)?;
+    }
+    Ok(values)
+}
+
+// A run.
+fn run_value(alloc: Global, start: u64, length: u64) -> Result<Value, AllocError> {
+    let mut members = Members::new(alloc);
+    members.put_number("start", start)?;
+    members.put_number("size", length)?;
+    Ok(members.into_value())
+}

@@ -1,0 +1,210 @@
+//! Why what was asked for cannot be had, and what to do.
+
+use crate::texts::EntryText;
+use gptedit_core::{Amount, Refusal};
+use gptedit_text::values::AmountText;
+use gptman::GPT;
+use std::fmt;
+
+/// Why what was asked for cannot be had of a table, and what to do, in one or two lines without the last
+/// newline.
+#[derive(Clone, Copy)]
+pub struct RefusalText<'a> {
+    /// The refusal.
+    pub refusal: &'a Refusal,
+    /// The table as it is on the disk.
+    pub table: &'a GPT,
+    /// The image or device, as it was named.
+    pub image: &'a str,
+}
+
+impl fmt::Display for RefusalText<'_> {
+    fn fmt<W: fmt::Write>(&self, f: &mut fmt::Formatter<W>) -> fmt::Result {
+        match self.refusal {
+            Refusal::NotWhole(amount) => write_not_whole(f, *amount, self.table.sector_size),
+            Refusal::NoAlignment => {
+                f.write_str("partitions cannot begin at multiples of nothing: say --align 1MiB")
+            }
+            Refusal::NoUnusedEntry => self.write_no_unused(f),
+            Refusal::NoEntry(number) => self.write_no_entry(f, *number),
+            Refusal::IsUsed(number) => self.write_is_used(f, *number),
+            Refusal::IsUnused(number) => self.write_is_unused(f, *number),
+            Refusal::WouldMove(number) => self.write_would_move(f, *number),
+            Refusal::NotAsked(number) => self.write_not_asked(f, *number),
+            Refusal::NoRoom(number) => self.write_no_room(f, *number),
+            Refusal::Twice(number) => write!(f, "entry {number} is asked for twice: name it once"),
+            Refusal::NoType(number) => write_no_type(f, *number),
+            Refusal::NoSize(number) => write_no_size(f, *number),
+            Refusal::TooLarge(number) => write_too_large(f, *number),
+            Refusal::NotLaidOut => write_not_laid_out(f, self.image),
+            Refusal::TooSmall => write_too_small(f),
+            Refusal::SharedGuid => write_shared_guid(f, self.image),
+            Refusal::BadBoundaries => write_bad_boundaries(f, self.image, self.table),
+        }
+    }
+}
+
+impl RefusalText<'_> {
+    fn write_no_unused<W: fmt::Write>(&self, f: &mut fmt::Formatter<W>) -> fmt::Result {
+        let (count, image) = (self.table.header.number_of_partition_entries, self.image);
+        write!(
+            f,
+            "all {count} entries are used: `gptedit remove {image} N` empties one"
+        )
+    }
+
+    fn write_no_entry<W: fmt::Write>(&self, f: &mut fmt::Formatter<W>, number: u32) -> fmt::Result {
+        let count = self.table.header.number_of_partition_entries;
+        write!(f, "there is no entry {number}: the table has {count}")
+    }
+
+    fn write_is_used<W: fmt::Write>(&self, f: &mut fmt::Formatter<W>, number: u32) -> fmt::Result {
+        self.write_entry(f, number)?;
+        write!(
+            f,
+            " is there already\nwithout a number the lowest unused one is taken; "
+        )?;
+        write!(f, "`gptedit remove {} {number}` empties it", self.image)
+    }
+
+    fn write_is_unused<W: fmt::Write>(
+        &self,
+        f: &mut fmt::Formatter<W>,
+        number: u32,
+    ) -> fmt::Result {
+        write!(
+            f,
+            "entry {number} is not used: `gptedit show {}` lists those that are",
+            self.image
+        )
+    }
+
+    fn write_would_move<W: fmt::Write>(
+        &self,
+        f: &mut fmt::Formatter<W>,
+        number: u32,
+    ) -> fmt::Result {
+        self.write_entry(f, number)?;
+        f.write_str(
+            " would not stay where it is\n--replace gives it other sectors, and moves no contents",
+        )
+    }
+
+    fn write_not_asked<W: fmt::Write>(
+        &self,
+        f: &mut fmt::Formatter<W>,
+        number: u32,
+    ) -> fmt::Result {
+        self.write_entry(f, number)?;
+        f.write_str(" is not in the layout\n--replace removes it")
+    }
+
+    fn write_no_room<W: fmt::Write>(&self, f: &mut fmt::Formatter<W>, number: u32) -> fmt::Result {
+        let image = self.image;
+        write!(
+            f,
+            "there is no room for partition {number}: `gptedit free {image}` lists what is free"
+        )
+    }
+
+    // The number of a partition, and what is there.
+    fn write_entry<W: fmt::Write>(&self, f: &mut fmt::Formatter<W>, number: u32) -> fmt::Result {
+        write!(f, "partition {number}")?;
+        match self.table.get(number) {
+            Some(entry) => {
+                let sector_size = self.table.sector_size;
+                write!(f, " ({})", EntryText { entry, sector_size })
+            }
+            None => Ok(()),
+        }
+    }
+}
+
+// That an amount is no whole number of sectors, and the next one that is, in bytes and in sectors.
+fn write_not_whole<W: fmt::Write>(
+    f: &mut fmt::Formatter<W>,
+    amount: Amount,
+    sector_size: u64,
+) -> fmt::Result {
+    write!(
+        f,
+        "{} is no whole number of sectors of {sector_size} bytes",
+        AmountText(amount)
+    )?;
+    let Some((bytes, sectors)) = round_up(amount, sector_size) else {
+        return Ok(());
+    };
+    write!(f, ": say {bytes}B or {sectors}s")
+}
+
+// The amount in bytes and in sectors, made a whole number of sectors.
+fn round_up(amount: Amount, sector_size: u64) -> Option<(u64, u64)> {
+    match amount {
+        Amount::Bytes(bytes) if sector_size > 0 => {
+            let sectors = bytes.div_ceil(sector_size);
+            Some((sectors.checked_mul(sector_size)?, sectors))
+        }
+        _ => None,
+    }
+}
+
+fn write_no_type<W: fmt::Write>(f: &mut fmt::Formatter<W>, number: u32) -> fmt::Result {
+    write!(
+        f,
+        "partition {number} has no type: say --type, or type in the layout; "
+    )?;
+    f.write_str("`gptedit types` lists those that have a name")
+}
+
+fn write_no_size<W: fmt::Write>(f: &mut fmt::Formatter<W>, number: u32) -> fmt::Result {
+    write!(
+        f,
+        "partition {number} has no size: say --size, or size in the layout, as 64MiB, 2048s or rest"
+    )
+}
+
+fn write_too_large<W: fmt::Write>(f: &mut fmt::Formatter<W>, number: u32) -> fmt::Result {
+    write!(
+        f,
+        "partition {number} would end past 2^64 sectors: say a smaller start or size"
+    )
+}
+
+/// That a table does not stand where gptedit writes one, and what to do.
+pub fn write_not_laid_out<W: fmt::Write>(f: &mut fmt::Formatter<W>, image: &str) -> fmt::Result {
+    writeln!(f, "the table does not stand where gptedit writes one")?;
+    write!(
+        f,
+        "where the disk has grown, `gptedit grow {image}` mends that, else the tool that made it; "
+    )?;
+    write!(f, "`gptedit check {image}` tells which")
+}
+
+fn write_too_small<W: fmt::Write>(f: &mut fmt::Formatter<W>) -> fmt::Result {
+    f.write_str(
+        "the disk is too small for the table, or the table has no entries: make the disk longer",
+    )
+}
+
+/// That two partitions would have one GUID, and what to do.
+pub fn write_shared_guid<W: fmt::Write>(f: &mut fmt::Formatter<W>, image: &str) -> fmt::Result {
+    writeln!(f, "two partitions would have one GUID")?;
+    write!(
+        f,
+        "say another, or none for a random one; `gptedit show {image}` lists those that are there"
+    )
+}
+
+/// That partitions would overlap or lie outside of the usable sectors, and what to do.
+pub fn write_bad_boundaries<W: fmt::Write>(
+    f: &mut fmt::Formatter<W>,
+    image: &str,
+    table: &GPT,
+) -> fmt::Result {
+    let (first, last) = (table.header.first_usable_lba, table.header.last_usable_lba);
+    writeln!(
+        f,
+        "partitions would share sectors, or lie outside of the usable ones, {first}..{last}"
+    )?;
+    write!(f, "`gptedit free {image}` lists what is free")
+}

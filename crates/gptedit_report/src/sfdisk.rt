@@ -1,0 +1,55 @@
+//! Spellings of `sfdisk --json`.
+
+use std::fmt;
+
+// The attributes that have a name there, each with its bit.
+const NAMES: [(&str, u64); 3] = [
+    ("RequiredPartition", 1),
+    ("NoBlockIOProtocol", 2),
+    ("LegacyBIOSBootable", 4),
+];
+
+// The lowest bit of those that belong to the type of the partition.
+const TYPE_BITS: u32 = 48;
+
+/// The attributes as sfdisk spells them, as `RequiredPartition GUID:60,63`. It has no spelling for bits 3 to
+/// 47.
+#[derive(Clone, Copy)]
+pub(crate) struct Attributes(pub(crate) u64);
+
+impl fmt::Display for Attributes {
+    fn fmt<W: fmt::Write>(&self, f: &mut fmt::Formatter<W>) -> fmt::Result {
+        let mut space = "";
+        for (name, bit) in NAMES {
+            if self.0 & bit != 0 {
+                write!(f, "{space}{name}")?;
+                space = " ";
+            }
+        }
+        if self.0 >> TYPE_BITS == 0 {
+            return Ok(());
+        }
+        write!(f, "{space}GUID:")?;
+        write_type_bits(f, self.0)
+    }
+}
+
+// The numbers of the bits that belong to the type.
+fn write_type_bits<W: fmt::Write>(f: &mut fmt::Formatter<W>, bits: u64) -> fmt::Result {
+    let mut comma = "";
+    for bit in TYPE_BITS..64 {
+        if bits >> bit & 1 == 1 {
+            write!(f, "{comma}{bit}")?;
+            comma = ",";
+        }
+    }
+    Ok(())
+}
+
+/// What stands between a device's name and the number of a partition.
+pub(crate) fn separator_of(image: &str) -> &'static str {
+    match image.as_bytes() {
+        [.., b'0'..=b'9'] => "p",
+        _ => "",
+    }
+}

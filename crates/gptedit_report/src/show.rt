@@ -1,0 +1,130 @@
+//! A table for people.
+
+use crate::columns::{Column, print_columns, push_cell};
+use crate::copies::CopiesState;
+use crate::texts::{GuidText, NameText, SizeText, TypeText};
+use gptedit_text::values::{AttributeNames, ByteCount};
+use gptman::{GPT, GPTPartitionEntry};
+use std::alloc::{AllocError, Global};
+use std::io;
+use std::io::Write;
+
+// What is shown of a partition.
+const COLUMNS: [Column; 8] = [
+    Column {
+        heading: "#",
+        width: 2,
+        is_right: true,
+    },
+    Column {
+        heading: "Start",
+        width: 6,
+        is_right: true,
+    },
+    Column {
+        heading: "End",
+        width: 6,
+        is_right: true,
+    },
+    Column {
+        heading: "Size",
+        width: 7,
+        is_right: true,
+    },
+    Column {
+        heading: "Type",
+        width: 0,
+        is_right: false,
+    },
+    Column {
+        heading: "Name",
+        width: 0,
+        is_right: false,
+    },
+    Column {
+        heading: "GUID",
+        width: 0,
+        is_right: false,
+    },
+    Column {
+        heading: "Attributes",
+        width: 0,
+        is_right: false,
+    },
+];
+
+/// Prints a table that stands on a disk of so many bytes, and what its two copies are: two lines about the
+/// disk, and where there are partitions, an empty line and a line for each under headings. Starts and ends
+/// are in sectors.
+///
+/// An error comes where `out` failed, and where there is no memory.
+pub fn show_table<W: Write>(
+    out: &mut W,
+    alloc: Global,
+    image: &str,
+    size: u64,
+    table: &GPT,
+    state: &CopiesState<'_>,
+) -> io::Result<()> {
+    print_disk(out, image, size, table)?;
+    print_usable(out, table, state)?;
+    let rows = rows_of(alloc, table)?;
+    if rows.is_empty() {
+        return Ok(());
+    }
+    out.write_all(b"\n")?;
+    print_columns(out, alloc, COLUMNS.as_slice(), &rows)
+}
+
+// Prints how large the disk is, and its GUID.
+fn print_disk<W: Write>(out: &mut W, image: &str, size: u64, table: &GPT) -> io::Result<()> {
+    let sector_size = table.sector_size;
+    let sectors = size.checked_div(sector_size).unwrap_or(0);
+    write!(out, "{image}: {sectors} sectors of {sector_size} bytes")?;
+    writeln!(
+        out,
+        " ({}), GUID {}",
+        ByteCount(size),
+        GuidText(&table.header.disk_guid)
+    )
+}
+
+// Prints which sectors partitions may use, how many entries there are, and what the copies are.
+fn print_usable<W: Write>(out: &mut W, table: &GPT, state: &CopiesState<'_>) -> io::Result<()> {
+    let (first, last) = (table.header.first_usable_lba, table.header.last_usable_lba);
+    let count = table.header.number_of_partition_entries;
+    writeln!(
+        out,
+        "usable sectors {first}..{last}, {count} entries; {state}"
+    )
+}
+
+// The cells of each used entry.
+fn rows_of(alloc: Global, table: &GPT) -> Result<Vec<Vec<String>>, AllocError> {
+    let mut rows = Vec::new(alloc);
+    for (number, entry) in table.iter() {
+        if entry.is_used() {
+            rows.push(row_of(alloc, number, entry, table.sector_size)?)?;
+        }
+    }
+    Ok(rows)
+}
+
+// The cells of an entry.
+fn row_of(
+    alloc: Global,
+    number: u32,
+    entry: &GPTPartitionEntry,
+    sector_size: u64,
+) -> Result<Vec<String>, AllocError> {
+    let mut row = Vec::with_capacity(alloc, COLUMNS.len())?;
+    push_cell(alloc, &mut row, &number)?;
+    push_cell(alloc, &mut row, &entry.starting_lba)?;
+    push_cell(alloc, &mut row, &entry.ending_lba)?;
+    push_cell(alloc, &mut row, &SizeText { entry, sector_size })?;
+    push_cell(alloc, &mut row, &TypeText(&entry.partition_type_guid))?;
+    push_cell(alloc, &mut row, &NameText(&entry.partition_name))?;
+    push_cell(alloc, &mut row, &GuidText(&entry.unique_partition_guid))?;
+    push_cell(alloc, &mut row, &AttributeNames(entry.attribute_bits))?;
+    Ok(row)
+}

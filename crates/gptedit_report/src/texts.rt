@@ -1,0 +1,130 @@
+//! Parts of a table as texts for people.
+
+use gptedit_text::values::ByteCount;
+use gptguid_core::{name_of, text_of};
+use gptman::{GPTPartitionEntry, PartitionName};
+use std::char::decode_utf16;
+use std::fmt;
+
+/// A name as it stands on the disk. Characters that could change what a terminal shows, and surrogates
+/// that are in no pair, are written as `\u{..}`.
+#[derive(Clone, Copy)]
+pub(crate) struct NameText<'a>(pub(crate) &'a PartitionName);
+
+impl fmt::Display for NameText<'_> {
+    fn fmt<W: fmt::Write>(&self, f: &mut fmt::Formatter<W>) -> fmt::Result {
+        for read in decode_utf16(self.0.units().iter().copied()) {
+            match read {
+                Ok('\0') => return Ok(()),
+                Ok(c) if is_hidden(c) => write_escaped(f, u32::from(c))?,
+                Ok(c) => f.write_char(c)?,
+                Err(error) => write_escaped(f, u32::from(error.unpaired_surrogate()))?,
+            }
+        }
+        Ok(())
+    }
+}
+
+// Whether a terminal may take the character as a command, a line's end or a change of direction.
+fn is_hidden(c: char) -> bool {
+    c.is_control()
+        || matches!(c, '\u{61c}' | '\u{200e}' | '\u{200f}' | '\u{2028}'..='\u{202e}' | '\u{2066}'..='\u{2069}')
+}
+
+// The character of this number, as an escape.
+fn write_escaped<W: fmt::Write>(f: &mut fmt::Formatter<W>, number: u32) -> fmt::Result {
+    f.write_str("\\u{")?;
+    write!(f, "{number:x}")?;
+    f.write_str("}")
+}
+
+/// A name in quotes, else as `NameText`.
+#[derive(Clone, Copy)]
+pub(crate) struct QuotedName<'a>(pub(crate) &'a PartitionName);
+
+impl fmt::Display for QuotedName<'_> {
+    fn fmt<W: fmt::Write>(&self, f: &mut fmt::Formatter<W>) -> fmt::Result {
+        write!(f, "\"{}\"", NameText(self.0))
+    }
+}
+
+/// The text of a GUID, in lower case.
+#[derive(Clone, Copy)]
+pub(crate) struct GuidText<'a>(pub(crate) &'a [u8; 16]);
+
+impl fmt::Display for GuidText<'_> {
+    fn fmt<W: fmt::Write>(&self, f: &mut fmt::Formatter<W>) -> fmt::Result {
+        let mut buffer = [0; 36];
+        for c in text_of(self.0, &mut buffer).chars() {
+            f.write_char(c.to_ascii_lowercase())?;
+        }
+        Ok(())
+    }
+}
+
+/// The name of a type, or else its GUID.
+#[derive(Clone, Copy)]
+pub(crate) struct TypeText<'a>(pub(crate) &'a [u8; 16]);
+
+impl fmt::Display for TypeText<'_> {
+    fn fmt<W: fmt::Write>(&self, f: &mut fmt::Formatter<W>) -> fmt::Result {
+        match name_of(self.0) {
+            Some(name) => f.write_str(name),
+            None => write!(f, "{}", GuidText(self.0)),
+        }
+    }
+}
+
+/// How many bytes a partition has, where sectors have so many: as for people, and nothing for one that ends
+/// before it starts.
+#[derive(Clone, Copy)]
+pub(crate) struct SizeText<'a> {
+    pub(crate) entry: &'a GPTPartitionEntry,
+    pub(crate) sector_size: u64,
+}
+
+impl fmt::Display for SizeText<'_> {
+    fn fmt<W: fmt::Write>(&self, f: &mut fmt::Formatter<W>) -> fmt::Result {
+        match self.entry.size() {
+            Ok(sectors) => write!(f, "{}", ByteCount(sectors.saturating_mul(self.sector_size))),
+            Err(_) => Ok(()),
+        }
+    }
+}
+
+/// The sectors of an entry, from the first to the last, and its size.
+#[derive(Clone, Copy)]
+pub(crate) struct SectorsText<'a> {
+    pub(crate) entry: &'a GPTPartitionEntry,
+    pub(crate) sector_size: u64,
+}
+
+impl fmt::Display for SectorsText<'_> {
+    fn fmt<W: fmt::Write>(&self, f: &mut fmt::Formatter<W>) -> fmt::Result {
+        let entry = self.entry;
+        let size = SizeText {
+            entry,
+            sector_size: self.sector_size,
+        };
+        write!(f, "{}..{} {size}", entry.starting_lba, entry.ending_lba)
+    }
+}
+
+/// An entry on one line: its sectors, its size, its type, and its name in quotes.
+#[derive(Clone, Copy)]
+pub(crate) struct EntryText<'a> {
+    pub(crate) entry: &'a GPTPartitionEntry,
+    pub(crate) sector_size: u64,
+}
+
+impl fmt::Display for EntryText<'_> {
+    fn fmt<W: fmt::Write>(&self, f: &mut fmt::Formatter<W>) -> fmt::Result {
+        let entry = self.entry;
+        let sectors = SectorsText {
+            entry,
+            sector_size: self.sector_size,
+        };
+        let (kind, name) = (&entry.partition_type_guid, &entry.partition_name);
+        write!(f, "{sectors} {} {}", TypeText(kind), QuotedName(name))
+    }
+}

@@ -1,0 +1,64 @@
+//! The types of partitions that have a name.
+
+use crate::columns::{Column, print_columns, push_cell};
+use crate::members::Members;
+use crate::texts::GuidText;
+use gptguid_core::from_name;
+use serde_json::Value;
+use std::alloc::{AllocError, Global};
+use std::io;
+use std::io::Write;
+
+// What is told of a type.
+const COLUMNS: [Column; 2] = [
+    Column {
+        heading: "Name",
+        width: 0,
+        is_right: false,
+    },
+    Column {
+        heading: "GUID",
+        width: 0,
+        is_right: false,
+    },
+];
+
+/// Prints the types that have a name, under headings a line for each: its name and its GUID.
+///
+/// An error comes where `out` failed, and where there is no memory.
+pub fn print_types<W: Write>(out: &mut W, alloc: Global) -> io::Result<()> {
+    let mut rows = Vec::new(alloc);
+    for (name, _) in gptguid_core::types() {
+        if let Some(guid) = from_name(name) {
+            rows.push(row_of(alloc, name, &guid)?)?;
+        }
+    }
+    print_columns(out, alloc, COLUMNS.as_slice(), &rows)
+}
+
+// The cells of a type.
+fn row_of(alloc: Global, name: &str, guid: &[u8; 16]) -> Result<Vec<String>, AllocError> {
+    let mut row = Vec::with_capacity(alloc, COLUMNS.len())?;
+    push_cell(alloc, &mut row, &name)?;
+    push_cell(alloc, &mut row, &GuidText(guid))?;
+    Ok(row)
+}
+
+/// The types that have a name as JSON: a list of `name` and `guid`, in upper case.
+pub fn types_json(alloc: Global) -> Result<String, AllocError> {
+    let mut values = Vec::new(alloc);
+    for (name, _) in gptguid_core::types() {
+        if let Some(guid) = from_name(name) {
+            values.push(type_value(alloc, name, &guid)?)?;
+        }
+    }
+    Value::Array(values).to_string_pretty(alloc)
+}
+
+// A type.
+fn type_value(alloc: Global, name: &str, guid: &[u8; 16]) -> Result<Value, AllocError> {
+    let mut members = Members::new(alloc);
+    members.put_text("name", name)?;
+    members.put_guid("guid", guid)?;
+    Ok(members.into_value())
+}

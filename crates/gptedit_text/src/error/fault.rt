@@ -1,0 +1,94 @@
+//! What is wrong under a key.
+
+use crate::values::Wrong;
+use std::fmt;
+
+/// What is wrong under a key.
+#[derive(Clone, Copy, PartialEq, Eq, Debug)]
+pub enum Fault {
+    /// It is no table.
+    NotTable,
+    /// It is no list of tables.
+    NotTables,
+    /// It is no text.
+    NotText,
+    /// It is no text of a size or a position.
+    NotSize,
+    /// It is no number of a partition.
+    NotNumber,
+    /// It is no list of attributes.
+    NotAttributes,
+    /// It is a word that is not right.
+    Value(Wrong),
+    /// The number is that of a partition before.
+    Taken(u32),
+    /// A partition before has the size `rest`.
+    SecondRest,
+    /// The name has too many units of UTF-16.
+    LongName,
+    /// The name has a zero character.
+    ZeroInName,
+    /// The label is another one.
+    NotGpt,
+    /// The unit is another one.
+    NotInSectors,
+    /// It is no whole number below 2^64.
+    NotCount,
+    /// It is no place or size as scripts have them.
+    NotExtent,
+    /// It is no list of attributes as scripts have them.
+    NotScriptAttributes,
+    /// It is bootable, which no partition of such a table is.
+    Bootable,
+    /// A double quote has no second one, or no separator behind it.
+    OpenQuote,
+    /// It is not UTF-8.
+    NotUtf8,
+}
+
+/// What would be right.
+impl fmt::Display for Fault {
+    fn fmt<W: fmt::Write>(&self, f: &mut fmt::Formatter<W>) -> fmt::Result {
+        match self {
+            Fault::Value(wrong) => write!(f, "{wrong}"),
+            Fault::Taken(number) => {
+                write!(
+                    f,
+                    "a partition before it has the number {number}; give each its own"
+                )
+            }
+            fault => f.write_str(fault.rule()),
+        }
+    }
+}
+
+impl Fault {
+    // What would be right, where no value has to be told.
+    fn rule(self) -> &'static str {
+        match self {
+            Fault::NotTable => "it is one table, as [disk]",
+            Fault::NotTables => "it is a table for each partition, as [[partition]]",
+            Fault::NotText => "it is a text in double quotes",
+            Fault::NotSize => "it is a text with a unit, as \"2048s\" (sectors) or \"64MiB\"",
+            Fault::NotNumber => "a number is whole, from 1 to 4294967295",
+            Fault::NotAttributes => "attributes are a list, as [\"required\", 60]",
+            Fault::SecondRest => "only one partition has the rest; give the others a size",
+            Fault::LongName => "a name has at most 36 units of UTF-16",
+            Fault::ZeroInName => "a name has no zero character",
+            Fault::NotGpt => "the label is gpt",
+            Fault::NotInSectors => "the unit is sectors",
+            Fault::NotCount => "it is a whole number below 2^64",
+            Fault::NotExtent => {
+                "it is a number of sectors, or of bytes with a unit, as 64MiB; + is the default"
+            }
+            Fault::NotScriptAttributes => {
+                "attributes are RequiredPartition, NoBlockIOProtocol, LegacyBIOSBootable and bits \
+                 from 0 to 63, as GUID:60,63"
+            }
+            Fault::Bootable => "the attribute is attrs=\"LegacyBIOSBootable\"",
+            Fault::OpenQuote => "a double quote has a second one, and a comma or a blank behind it",
+            Fault::NotUtf8 => "its escapes are UTF-8",
+            Fault::Value(_) | Fault::Taken(_) => "",
+        }
+    }
+}

@@ -1,0 +1,111 @@
+//! What stands under the keys of a table.
+
+use crate::error::{Fault, LayoutError, Place, Section};
+use crate::values::{Wrong, read_attribute};
+use std::alloc::Global;
+use toml::{Table, Value};
+
+/// A table and the section that it is.
+#[derive(Clone, Copy)]
+pub struct Keyed<'a> {
+    table: &'a Table,
+    section: Section,
+}
+
+impl<'a> Keyed<'a> {
+    /// The table as this section.
+    pub fn new(table: &'a Table, section: Section) -> Keyed<'a> {
+        Keyed { table, section }
+    }
+
+    /// Where the section stands, on a line that is not known yet.
+    pub fn place(&self) -> Place {
+        Place {
+            line: None,
+            section: self.section,
+        }
+    }
+
+    /// That what stands under this key does not belong there.
+    pub fn fault(&self, key: &'static str, fault: Fault) -> LayoutError {
+        self.place().fault(key, fault)
+    }
+
+    /// Refuses a key that the section has not.
+    pub fn check_keys(&self, alloc: Global) -> Result<(), LayoutError> {
+        for key in self.table.keys() {
+            if !self
+                .section
+                .keys()
+                .iter()
+                .any(|known| *known == key.as_str())
+            {
+                return Err(LayoutError::Unknown {
+                    place: self.place(),
+                    key: String::from_str(alloc, key.as_str())?,
+                });
+            }
+        }
+        Ok(())
+    }
+
+    /// What stands under this key.
+    pub fn get(&self, key: &'static str) -> Option<&'a Value> {
+        self.table.get(key)
+    }
+
+    /// The text under this key.
+    pub fn text(&self, key: &'static str) -> Result<Option<&'a str>, LayoutError> {
+        match self.get(key) {
+            None => Ok(None),
+            Some(Value::String(text)) => Ok(Some(text.as_str())),
+            Some(_) => match key {
+                "start" | "size" | "align" => Err(self.fault(key, Fault::NotSize)),
+                _ => Err(self.fault(key, Fault::NotText)),
+            },
+        }
+    }
+
+    /// The value that the word under this key says.
+    pub fn word<T, F: Fn(&str) -> Result<T, Wrong>>(
+        &self,
+        key: &'static str,
+        read: F,
+    ) -> Result<Option<T>, LayoutError>
+        requires { F.IsAlwaysCallable read }
+    {
+        let Some(text) = self.text(key)? else {
+            return Ok(None);
+        };
+        match read(text) {
+            Ok(value) => Ok(Some(value)),
+            Err(wrong) => Err(self.fault(key, Fault::Value(wrong))),
+        }
+    }
+
+    /// The attributes that the list under this key says, by names and numbers of bits.
+    pub fn attributes(&self, key: &'static str) -> Result<Option<u64>, LayoutError> {
+        let Some(value) = self.get(key) else {
+            return Ok(None);
+        };
+        let Some(list) = value.as_array() else {
+            return Err(self.fault(key, Fault::NotAttributes));
+        };
+        let mut bits = 0;
+        for value in list.iter() {
+            bits |= self.attribute(key, value)?;
+        }
+        Ok(Some(bits))
+    }
+
+    // One attribute.
+    fn attribute(&self, key: &'static str, value: &Value) -> Result<u64, LayoutError> {
+        let bit = match value {
+            Value::String(word) => read_attribute(word.as_str()),
+            Value::Integer(bit) if *bit >= 0 && *bit < 64 => Ok(1 << *bit),
+            Value::Integer(_) => Err(Wrong::NoAttribute),
+            _ => return Err(self.fault(key, Fault::NotAttributes)),
+        };
+        bit.map_err(|wrong| self.fault(key, Fault::Value(wrong)))
+    }
+}

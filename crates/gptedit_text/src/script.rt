@@ -1,0 +1,63 @@
+//! Scripts of `sfdisk`, as `sfdisk --dump` prints them.
+
+mod extent;
+mod fields;
+mod header;
+mod token;
+mod words;
+
+use crate::entries::Entries;
+use crate::error::{LayoutError, Place, Section};
+use crate::script::fields::read_line;
+use crate::script::header::{Headers, header_of};
+use gptedit_core::Layout;
+pub use header::ScriptHeader;
+use std::alloc::Global;
+
+/// Whether the text is a script: its first line that is not empty or a comment begins with `label:`.
+pub fn is_script(text: &str) -> bool {
+    match text
+        .lines()
+        .map(|line| line.trim())
+        .find(|line| is_said(line))
+    {
+        Some(line) => line.starts_with("label:"),
+        None => false,
+    }
+}
+
+/// The layout that a script says, and what its headers say of the table, which is for the caller to compare.
+///
+/// Its headers are `label: gpt`, `label-id`, `device` (which is passed over), `unit: sectors`, `first-lba`,
+/// `last-lba`, `table-length`, `sector-size` and `grain`. Behind them each line is a partition:
+/// `NODE : start=.., size=.., type=.., uuid=.., name="..", attrs=".."`, where each part may be left out, or
+/// `START,SIZE,TYPE`. The number is the one that NODE ends with, else the lowest that no line before it has.
+/// A start that is left out is chosen, a size that is left out is the rest, and such a type is `linux`.
+/// Starts and sizes are sectors of the table, or bytes with a unit, from `KiB` to `EiB`.
+pub fn read_script(alloc: Global, text: &str) -> Result<(Layout, ScriptHeader), LayoutError> {
+    let mut headers = Headers::new();
+    let mut entries = Entries::new(alloc);
+    for (index, line) in text.lines().enumerate() {
+        let line = line.trim();
+        let number = index.checked_add(1);
+        match header_of(line) {
+            _ if !is_said(line) => (),
+            Some((name, value)) if entries.is_empty() => {
+                headers.read(alloc, place_in(Section::Header, number), name, value)?;
+            }
+            _ => read_line(alloc, &mut entries, place_in(Section::Line, number), line)?,
+        }
+    }
+    let (disk_guid, align, header) = headers.finish()?;
+    Ok((entries.into_layout(alloc, disk_guid, align), header))
+}
+
+// Whether the line is not empty and no comment.
+fn is_said(line: &str) -> bool {
+    !line.is_empty() && !line.starts_with('#')
+}
+
+// The place on this line.
+fn place_in(section: Section, line: Option<usize>) -> Place {
+    Place { line, section }
+}

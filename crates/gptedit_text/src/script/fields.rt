@@ -1,0 +1,207 @@
+//! The lines of a script that say partitions.
+
+use crate::entries::{Entries, plain_entry, read_name};
+use crate::error::{Fault, LayoutError, Place};
+use crate::script::extent::read_extent;
+use crate::script::token::next_token;
+use crate::script::words::{read_script_attributes, read_script_type, unescaped};
+use crate::values::{Wrong, read_guid};
+use gptedit_core::{Amount, Asked, Size};
+use std::alloc::Global;
+
+// The parts of a line without names, in their order.
+const ORDER: [&str; 4] = ["start", "size", "type", "bootable"];
+
+/// Reads a line that says a partition, which stands at this place.
+pub fn read_line(
+    alloc: Global,
+    entries: &mut Entries,
+    place: Place,
+    line: &str,
+) -> Result<(), LayoutError> {
+    let (node, fields) = split_node(line);
+    let number = match digits_behind(node) {
+        "" => Some(entries.lowest_number()),
+        digits => digits.parse::<u32>().ok(),
+    };
+    let Some(number) = number else {
+        return Err(place.fault("number", Fault::NotNumber));
+    };
+    if number == 0 {
+        return Err(place.fault("number", Fault::NotNumber));
+    }
+    let mut asked = Asked {
+        type_guid: read_script_type("L").ok(),
+        size: Some(Size::Rest),
+        ..plain_entry(number)
+    };
+    if fields.contains('=') {
+        read_named(alloc, place, &mut asked, fields)?;
+    } else {
+        read_ordered(alloc, place, &mut asked, fields)?;
+    }
+    entries.add(place, number, asked)
+}
+
+// The node, which stands before the last colon before the first name, and what is behind it.
+fn split_node(line: &str) -> (&str, &str) {
+    let Some((front, _)) = line.split_once('=') else {
+        return ("", line);
+    };
+    let Some((node, _)) = front.rsplit_once(':') else {
+        return ("", line);
+    };
+    let rest = line.strip_prefix(node).unwrap_or(line);
+    (node.trim_end(), rest.strip_prefix(':').unwrap_or(rest))
+}
+
+// The digits that a node ends with.
+fn digits_behind(node: &str) -> &str {
+    let stem = node.trim_end_matches(|c: char| c.is_ascii_digit());
+    node.strip_prefix(stem).unwrap_or("")
+}
+
+// Reads parts that have names. Each takes at least one byte.
+fn read_named(
+    alloc: Global,
+    place: Place,
+    asked: &mut Asked,
+    fields: &str,
+) -> Result<(), LayoutError> {
+    let mut rest = fields.trim_start();
+    for _ in 0..fields.len() {
+        if rest.is_empty() {
+            break;
+        }
+        if rest.starts_with("bootable") {
+            return Err(place.fault("bootable", Fault::Bootable));
+        }
+        let Some((name, behind)) = rest.split_once('=') else {
+            return Err(unknown(alloc, place, rest));
+        };
+        let Some(key) = key_of(place, name.trim_end()) else {
+            return Err(unknown(alloc, place, name));
+        };
+        let (value, after) = token_of(place, key, behind)?;
+        read_field(alloc, place, asked, key, value)?;
+        rest = after;
+    }
+    Ok(())
+}
+
+// Reads parts that have no names.
+fn read_ordered(
+    alloc: Global,
+    place: Place,
+    asked: &mut Asked,
+    fields: &str,
+) -> Result<(), LayoutError> {
+    let mut rest = fields.trim_start();
+    for key in ORDER {
+        let (value, after) = token_of(place, key, rest)?;
+        if value != "-" {
+            read_field(alloc, place, asked, key, value)?;
+        }
+        rest = after;
+    }
+    if rest.is_empty() {
+        Ok(())
+    } else {
+        Err(unknown(alloc, place, rest))
+    }
+}
+
+// The key of a name, in any case.
+fn key_of(place: Place, name: &str) -> Option<&'static str> {
+    if name.eq_ignore_ascii_case("Id") {
+        return Some("type");
+    }
+    let keys = place.section.keys();
+    keys.iter()
+        .copied()
+        .find(|key| key.eq_ignore_ascii_case(name))
+}
+
+// That there is no such part.
+fn unknown(alloc: Global, place: Place, name: &str) -> LayoutError {
+    match String::from_str(alloc, name) {
+        Ok(key) => LayoutError::Unknown { place, key },
+        Err(error) => LayoutError::from(error),
+    }
+}
+
+// The value of a part, and the parts behind it.
+fn token_of<'a>(
+    place: Place,
+    key: &'static str,
+    text: &'a str,
+) -> Result<(&'a str, &'a str), LayoutError> {
+    match next_token(text) {
+        Ok(parts) => Ok(parts),
+        Err(fault) => Err(place.fault(key, fault)),
+    }
+}
+
+// Reads the value of a part. One that is empty is not said.
+fn read_field(
+    alloc: Global,
+    place: Place,
+    asked: &mut Asked,
+    key: &'static str,
+    value: &str,
+) -> Result<(), LayoutError> {
+    if value.is_empty() {
+        return Ok(());
+    }
+    match key {
+        "start" => asked.start = extent_of(place, key, value)?,
+        "size" => {
+            asked.size = match extent_of(place, key, without_plus(value))? {
+                Some(amount) => Some(Size::Exactly(amount)),
+                None => Some(Size::Rest),
+            };
+        }
+        "type" => asked.type_guid = Some(word_of(place, key, read_script_type(value))?),
+        "uuid" => asked.unique_guid = Some(word_of(place, key, read_guid(value))?),
+        "attrs" => asked.attributes = Some(attributes_of(place, key, value)?),
+        "name" => {
+            let text = unescaped(alloc, place, value)?;
+            asked.name = Some(read_name(alloc, place, text.as_str())?);
+        }
+        _ => return Err(place.fault(key, Fault::Bootable)),
+    }
+    Ok(())
+}
+
+// A size without the sign before its digits.
+fn without_plus(value: &str) -> &str {
+    match value.strip_prefix('+') {
+        Some(digits) if !digits.is_empty() => digits,
+        _ => value,
+    }
+}
+
+// A start or a size, where it is not the default.
+fn extent_of(place: Place, key: &'static str, value: &str) -> Result<Option<Amount>, LayoutError> {
+    if value == "+" {
+        return Ok(None);
+    }
+    match read_extent(value) {
+        Some(amount) => Ok(Some(amount)),
+        None => Err(place.fault(key, Fault::NotExtent)),
+    }
+}
+
+// What a word says.
+fn word_of(
+    place: Place,
+    key: &'static str,
+    value: Result<[u8; 16], Wrong>,
+) -> Result<[u8; 16], LayoutError> {
+    value.map_err(|wrong| place.fault(key, Fault::Value(wrong)))
+}
+
+// The attributes of a list.
+fn attributes_of(place: Place, key: &'static str, value: &str) -> Result<u64, LayoutError> {
+    read_script_attributes(value).ok_or(place.fault(key, Fault::NotScriptAttributes))
+}

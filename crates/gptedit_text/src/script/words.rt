@@ -1,0 +1,88 @@
+//! Types, attributes and names in a script.
+
+use crate::error::{Fault, LayoutError, Place};
+use crate::values::{Wrong, read_type};
+use std::alloc::Global;
+
+// The attributes that have a name, and their bits.
+const NAMES: [(&str, u64); 3] = [
+    ("RequiredPartition", 0),
+    ("NoBlockIOProtocol", 1),
+    ("LegacyBIOSBootable", 2),
+];
+
+/// The type that a word says: a letter or a short name as scripts have them, a name, or a GUID.
+pub fn read_script_type(word: &str) -> Result<[u8; 16], Wrong> {
+    read_type(match word {
+        "L" => "linux",
+        "S" => "swap",
+        "H" => "home",
+        "U" => "uefi",
+        "R" | "raid" => "linux-raid",
+        "V" | "lvm" => "linux-lvm",
+        word => word,
+    })
+}
+
+/// The attributes of a list, with commas or blanks between them.
+pub fn read_script_attributes(text: &str) -> Option<u64> {
+    let mut bits = 0;
+    for word in text.split([',', ' ', '\t']) {
+        if !word.is_empty() {
+            bits |= read_attribute(word)?;
+        }
+    }
+    Some(bits)
+}
+
+// One attribute: its name, or the number of its bit, maybe behind `GUID:`.
+fn read_attribute(word: &str) -> Option<u64> {
+    for (name, bit) in NAMES {
+        if word == name {
+            return Some(1 << bit);
+        }
+    }
+    let number = word.strip_prefix("GUID:").unwrap_or(word);
+    if number.starts_with('+') {
+        return None;
+    }
+    match number.parse::<u64>() {
+        Ok(bit) if bit < 64 => Some(1 << bit),
+        _ => None,
+    }
+}
+
+/// The text of a name, in which `\x22` stands for a byte of UTF-8.
+pub fn unescaped(alloc: Global, place: Place, text: &str) -> Result<String, LayoutError> {
+    let mut bytes = Vec::new(alloc);
+    let mut pieces = text.split("\\x");
+    if let Some(piece) = pieces.next() {
+        bytes.extend_from_slice(piece.as_bytes())?;
+    }
+    for piece in pieces {
+        match split_byte(piece) {
+            Some((byte, rest)) => {
+                bytes.push(byte)?;
+                bytes.extend_from_slice(rest.as_bytes())?;
+            }
+            None => {
+                bytes.extend_from_slice(b"\\x")?;
+                bytes.extend_from_slice(piece.as_bytes())?;
+            }
+        }
+    }
+    match String::from_utf8(bytes) {
+        Ok(text) => Ok(text),
+        Err(_) => Err(place.fault("name", Fault::NotUtf8)),
+    }
+}
+
+// The byte of the two hexadecimal digits at the front, and what is behind them.
+fn split_byte(text: &str) -> Option<(u8, &str)> {
+    let (digits, rest) = text.split_at_checked(2)?;
+    if digits.starts_with('+') {
+        return None;
+    }
+    let byte = u8::from_str_radix(digits, 16).ok()?;
+    Some((byte, rest))
+}

@@ -1,0 +1,113 @@
+//! Attributes of partitions, as names and as numbers of bits.
+
+ghost use Rattle.std.specs.Prelude.{◌≡◌, ◌<◌, Contains, IfOk, IfSome};
+ghost use Rattle.std.specs.Str.Parse.{digits_value, IsNumeral};
+ghost use Rattle.gptedit_text.specs.Words.{attribute_names, SaysAttribute};
+
+use crate::values::wrong::Wrong;
+use std::fmt;
+
+// The bits that have a name.
+const NAMES: [(&str, u64); 6] = [
+    ("required", 0),
+    ("no-block-io", 1),
+    ("legacy-boot", 2),
+    ("grow-file-system", 59),
+    ("read-only", 60),
+    ("no-auto", 63),
+];
+
+/// The attributes that a word says: nothing; or with commas between them, `required` (bit 0),
+/// `no-block-io` (1), `legacy-boot` (2), `grow-file-system` (59), `read-only` (60), `no-auto` (63) and
+/// numbers of bits, from 0 to 63; or all bits as `0x` and hexadecimal digits.
+pub fn read_attributes(text: &str) -> Result<u64, Wrong> {
+    if text.is_empty() {
+        return Ok(0);
+    }
+    if let Some(digits) = text.strip_prefix("0x") {
+        return read_digits(digits);
+    }
+    let mut bits = 0;
+    for word in text.split(',') {
+        bits |= read_attribute(word)?;
+    }
+    Ok(bits)
+}
+
+// All bits, as hexadecimal digits.
+fn read_digits(digits: &str) -> Result<u64, Wrong> {
+    if digits.starts_with('+') {
+        return Err(Wrong::NoAttribute);
+    }
+    u64::from_str_radix(digits, 16).map_err(|_| Wrong::NoAttribute)
+}
+
+/// The one attribute that a word says, by its name or the number of its bit.
+pub fn read_attribute(word: &str) -> Result<u64, Wrong>
+    ensures { IfOk result (SaysAttribute word.now) }
+{
+    let bit = match find_bit(word) {
+        Some(bit) => bit,
+        None => read_bit(word)?,
+    };
+    Ok(1 << bit)
+}
+
+// The bit of a name.
+fn find_bit(word: &str) -> Option<u64>
+    ensures { IfSome result (λ bit. (bit < 64) × Contains attribute_names (word.now, bit)) }
+{
+    for (name, bit) in NAMES {
+        if word == name {
+            return Some(bit);
+        }
+    }
+    None
+}
+
+// A bit by its number.
+fn read_bit(word: &str) -> Result<u64, Wrong>
+    ensures { IfOk result (λ bit. (bit < 64) × IsNumeral 10 word.now × (digits_value 10 word.now ≡ bit)) }
+{
+    if word.starts_with('+') {
+        return Err(Wrong::NoAttribute);
+    }
+    match word.parse::<u64>() {
+        Ok(bit) if bit < 64 => Ok(bit),
+        _ => Err(Wrong::NoAttribute),
+    }
+}
+
+/// Attributes as `read_attributes` reads them: names and numbers of bits, with commas; nothing for none.
+#[derive(Clone, Copy, PartialEq, Eq, Debug)]
+pub struct AttributeNames(pub u64);
+
+impl fmt::Display for AttributeNames {
+    fn fmt<W: fmt::Write>(&self, f: &mut fmt::Formatter<W>) -> fmt::Result {
+        let mut comma = "";
+        for bit in 0..64 {
+            if self.0 >> bit & 1 == 1 {
+                let name = AttributeName(bit);
+                write!(f, "{comma}{name}")?;
+                comma = ",";
+            }
+        }
+        Ok(())
+    }
+}
+
+/// The attribute of this bit as `read_attribute` reads it: its name, or its number.
+#[derive(Clone, Copy, PartialEq, Eq, Debug)]
+pub struct AttributeName(pub u64);
+
+impl fmt::Display for AttributeName {
+    fn fmt<W: fmt::Write>(&self, f: &mut fmt::Formatter<W>) -> fmt::Result {
+        let bit = self.0;
+        for (name, named) in NAMES {
+            if bit == named {
+                return f.write_str(name);
+            }
+        }
+        write!(f, "{bit}")
+    }
+}

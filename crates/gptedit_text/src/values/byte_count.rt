@@ -1,0 +1,51 @@
+//! Sizes for people.
+
+ghost use Rattle.std.specs.Prelude.{◌<◌, ◌≤◌, ◌^◌};
+
+use std::fmt;
+
+// The units, the largest first.
+const UNITS: [(&str, u64); 6] = [
+    ("EiB", 1 << 60),
+    ("PiB", 1 << 50),
+    ("TiB", 1 << 40),
+    ("GiB", 1 << 30),
+    ("MiB", 1 << 20),
+    ("KiB", 1 << 10),
+];
+
+/// So many bytes, for people: in the largest unit of which there is at least one, with at most one decimal,
+/// cut down. `512 B`, `64 MiB`, `1.5 GiB`.
+#[derive(Clone, Copy, PartialEq, Eq, Debug)]
+pub struct ByteCount(pub u64);
+
+impl fmt::Display for ByteCount {
+    fn fmt<W: fmt::Write>(&self, f: &mut fmt::Formatter<W>) -> fmt::Result {
+        let bytes = self.0;
+        for (name, unit) in UNITS {
+            if bytes >= unit {
+                return write_in(f, bytes, name, unit);
+            }
+        }
+        write!(f, "{bytes} B")
+    }
+}
+
+// So many bytes in this unit.
+fn write_in<W: fmt::Write>(
+    f: &mut fmt::Formatter<W>,
+    bytes: u64,
+    name: &str,
+    unit: u64,
+) -> fmt::Result
+    requires some { 0 < unit }
+    requires fits { unit ≤ 2 ^ 60 }
+{
+    let whole = bytes / unit;
+    let tenths = bytes % unit * 10 / unit;
+    if tenths == 0 {
+        write!(f, "{whole} {name}")
+    } else {
+        write!(f, "{whole}.{tenths} {name}")
+    }
+}

@@ -1,0 +1,120 @@
+//! What the words of `add`, `set`, `resize` and `remove` ask of entries.
+
+use crate::error::WordsError;
+use crate::request::Change;
+use crate::values::{given, name, number, numbers};
+use clap::ArgMatches;
+use gptedit_core::{Amount, Asked, Choice, Layout, Mode, Size};
+use gptedit_text::values::{
+    Wrong, read_amount, read_attributes, read_choice, read_guid, read_size, read_type,
+};
+use std::alloc::{AllocError, Global};
+
+/// At multiples of so much partitions begin, where nothing else is said.
+const ALIGN: Amount = Amount::Bytes(1 << 20);
+
+/// What the words of `add` ask for.
+pub(crate) fn read_add<'a>(
+    alloc: Global,
+    words: &ArgMatches<'a>,
+) -> Result<Change<'a>, WordsError<'a>> {
+    let asked = Asked {
+        number: words.get_one("--number"),
+        start: given(words, "--start", read_amount)?,
+        size: given(words, "--size", read_size)?,
+        choice: given(words, "--place", read_choice)?.unwrap_or(Choice::First),
+        ..read_fields(alloc, words)?
+    };
+    Ok(Change::Lay(Layout {
+        mode: Mode::Add,
+        align: given(words, "--align", read_amount)?.unwrap_or(ALIGN),
+        ..layout_of(alloc, asked)?
+    }))
+}
+
+/// What the words of `set` ask for.
+pub(crate) fn read_set<'a>(
+    alloc: Global,
+    words: &ArgMatches<'a>,
+) -> Result<Change<'a>, WordsError<'a>> {
+    let fields = ["--name", "--type", "--guid", "--attributes"];
+    if !fields.iter().any(|field| words.contains_id(field)) {
+        return Err(WordsError::NothingToSet);
+    }
+    let asked = Asked {
+        number: Some(number(words, "N")?),
+        ..read_fields(alloc, words)?
+    };
+    Ok(Change::Lay(layout_of(alloc, asked)?))
+}
+
+/// What the words of `resize` ask for.
+pub(crate) fn read_resize<'a>(
+    alloc: Global,
+    words: &ArgMatches<'a>,
+) -> Result<Change<'a>, WordsError<'a>> {
+    let asked = Asked {
+        number: Some(number(words, "N")?),
+        size: given(words, "SIZE|max", read_new_size)?,
+        ..nothing_asked()
+    };
+    Ok(Change::Lay(layout_of(alloc, asked)?))
+}
+
+// The size that a word of `resize` says.
+fn read_new_size(text: &str) -> Result<Size, Wrong> {
+    match text {
+        "max" => Ok(Size::Rest),
+        _ => read_amount(text).map(Size::Exactly),
+    }
+}
+
+/// What the words of `remove` ask for.
+pub(crate) fn read_remove<'a>(
+    alloc: Global,
+    words: &ArgMatches<'a>,
+) -> Result<Change<'a>, WordsError<'a>> {
+    Ok(Change::Lay(Layout {
+        mode: Mode::Change,
+        disk_guid: None,
+        align: ALIGN,
+        removed: numbers(alloc, words, "N")?,
+        asked: Vec::new(alloc),
+    }))
+}
+
+// The layout that changes one entry.
+fn layout_of(alloc: Global, asked: Asked) -> Result<Layout, AllocError> {
+    Ok(Layout {
+        mode: Mode::Change,
+        disk_guid: None,
+        align: ALIGN,
+        removed: Vec::new(alloc),
+        asked: vec![in alloc; asked]?,
+    })
+}
+
+// What the options ask of the fields of an entry.
+fn read_fields<'a>(alloc: Global, words: &ArgMatches<'a>) -> Result<Asked, WordsError<'a>> {
+    Ok(Asked {
+        type_guid: given(words, "--type", read_type)?,
+        unique_guid: given(words, "--guid", read_guid)?,
+        attributes: given(words, "--attributes", read_attributes)?,
+        name: name(alloc, words)?,
+        ..nothing_asked()
+    })
+}
+
+// An entry of which nothing is asked.
+fn nothing_asked() -> Asked {
+    Asked {
+        number: None,
+        type_guid: None,
+        unique_guid: None,
+        attributes: None,
+        name: None,
+        start: None,
+        size: None,
+        choice: Choice::First,
+    }
+}
