@@ -20,14 +20,14 @@ pub(crate) fn read_add<'a>(
 ) -> Result<Change<'a>, WordsError<'a>> {
     let asked = Asked {
         number: words.get_one("--number"),
-        start: given(words, "--start", read_amount)?,
-        size: given(words, "--size", read_size)?,
-        choice: given(words, "--place", read_choice)?.unwrap_or(Choice::First),
+        start: given(words, "--start", |text| read_amount(text))?,
+        size: given(words, "--size", |text| read_size(text))?,
+        choice: given(words, "--place", |text| read_choice(text))?.unwrap_or(Choice::First),
         ..read_fields(alloc, words)?
     };
     Ok(Change::Lay(Layout {
         mode: Mode::Add,
-        align: given(words, "--align", read_amount)?.unwrap_or(ALIGN),
+        align: given(words, "--align", |text| read_amount(text))?.unwrap_or(ALIGN),
         ..layout_of(alloc, asked)?
     }))
 }
@@ -55,7 +55,7 @@ pub(crate) fn read_resize<'a>(
 ) -> Result<Change<'a>, WordsError<'a>> {
     let asked = Asked {
         number: Some(number(words, "N")?),
-        size: given(words, "SIZE|max", read_new_size)?,
+        size: given(words, "SIZE|max", |text| read_new_size(text))?,
         ..nothing_asked()
     };
     Ok(Change::Lay(layout_of(alloc, asked)?))
@@ -97,9 +97,9 @@ fn layout_of(alloc: Global, asked: Asked) -> Result<Layout, AllocError> {
 // What the options ask of the fields of an entry.
 fn read_fields<'a>(alloc: Global, words: &ArgMatches<'a>) -> Result<Asked, WordsError<'a>> {
     Ok(Asked {
-        type_guid: given(words, "--type", read_type)?,
-        unique_guid: given(words, "--guid", read_guid)?,
-        attributes: given(words, "--attributes", read_attributes)?,
+        type_guid: given(words, "--type", |text| read_type(text))?,
+        unique_guid: given(words, "--guid", |text| read_guid(text))?,
+        attributes: given(words, "--attributes", |text| read_attributes(text))?,
         name: name(alloc, words)?,
         ..nothing_asked()
     })

@@ -38,7 +38,7 @@ fn read_command<'a>(
         "show" => Ok(Command::Show),
         "check" => Ok(Command::Check),
         "free" => Ok(Command::Free {
-            align: given(words, "--align", read_amount)?,
+            align: given(words, "--align", |text| read_amount(text))?,
         }),
         "dump" => Ok(Command::Dump),
         _ => Ok(Command::Write {
@@ -73,7 +73,7 @@ fn read_change<'a>(
 // What the words of `new` ask for.
 fn read_new<'a>(words: &ArgMatches<'a>) -> Result<Change<'a>, WordsError<'a>> {
     Ok(Change::New {
-        guid: given(words, "--guid", read_guid)?,
+        guid: given(words, "--guid", |text| read_guid(text))?,
     })
 }
 
