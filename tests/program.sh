@@ -2,10 +2,10 @@
 # Tries gptimg as a process: its words and commands, its files, its standard streams, its memory, many of it
 # at once, one that is killed, and what README.md, docs/GUIDE.md and docs/FAULTS.md say that it prints.
 #
-# usage: tests/program.sh [PROGRAM]
+# usage: tests/program.sh [PROGRAM [GPTGUID]]
 #
-# PROGRAM is ./gptimg at the top of the repository where it is left out; `make gptimg` puts it there. The
-# program gptguid is that of its crate, where `make gptguid` and `rt ci` leave it.
+# PROGRAM is ./gptimg at the top of the repository where it is left out; `make gptimg` puts it there. GPTGUID
+# is the program gptguid: else that of its crate, where `make gptguid` and `rt ci` leave it.
 # Prints a line for each subject, and in full what does not hold. The last line is 'N passed, M
 # failed', and the status is 1 where something failed. Needs bash, coreutils, diffutils, grep, sed and the
 # program. What needs sgdisk, sfdisk, strace, flock, python3, qemu-img, gpart, mtools, or tools of file
@@ -20,7 +20,7 @@ if [ ! -x "$program" ]; then
     exit 1
 fi
 
-guid_program=$top/crates/gptguid/out/gptguid
+guid_program=$(realpath -m "${2:-$top/crates/gptguid/out/gptguid}") || exit
 
 . "$top/tests/program/asserts.sh"
 . "$top/tests/program/images.sh"
