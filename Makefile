@@ -1,11 +1,11 @@
 # Needs `rt` of the Rattle kit on the PATH; README.md says what else.
 
-.PHONY: try gptimg gptguid install demo check test plants bench crash-states trials
+.PHONY: try gptimg gptguid gptedit install demo check test plants bench crash-states trials
 
 # Where `make install` puts the programs and their manual pages.
 PREFIX = /usr/local
 
-# A first look in half a minute: builds the program before its proof, and shows the table of an image.
+# A first look in two minutes: builds gptedit before its proof, and shows the table of an image.
 try:
 	@scripts/try
 
@@ -17,14 +17,21 @@ gptimg:
 gptguid:
 	@scripts/build gptguid
 
-# Installs both, and builds first what was not built yet.
+# The same for the program for daily work, at ./gptedit.
+gptedit:
+	@scripts/build gptedit
+
+# Installs all three, and builds first what was not built yet.
 install:
 	@test -x gptimg || scripts/build
 	@test -x gptguid || scripts/build gptguid
+	@test -x gptedit || scripts/build gptedit
 	install -D -m 755 gptimg "$(DESTDIR)$(PREFIX)/bin/gptimg"
 	install -D -m 755 gptguid "$(DESTDIR)$(PREFIX)/bin/gptguid"
+	install -D -m 755 gptedit "$(DESTDIR)$(PREFIX)/bin/gptedit"
 	install -D -m 644 docs/gptimg.1 "$(DESTDIR)$(PREFIX)/share/man/man1/gptimg.1"
 	install -D -m 644 docs/gptguid.1 "$(DESTDIR)$(PREFIX)/share/man/man1/gptguid.1"
+	install -D -m 644 docs/gptedit.1 "$(DESTDIR)$(PREFIX)/share/man/man1/gptedit.1"
 
 # Makes an empty disk image, writes a table to it and shows it.
 demo: gptimg
@@ -52,7 +59,7 @@ bench:
 # Tells how many of the states that a stop may leave lose the table, of the program and of those of sgdisk,
 # sfdisk, parted, cgpt and systemd-repart that are installed. Needs python3 and strace. Draws
 # docs/crash-states.svg, and leaves the figures in crash-states.json.
-crash-states: gptimg
+crash-states: gptimg gptedit
 	@python3 -B -m unittest discover -q trials/crash_states
 	@python3 -B trials/crash_states --json crash-states.json --chart docs/crash-states.svg
 

@@ -2,10 +2,11 @@
 # Tries gptimg as a process: its words and commands, its files, its standard streams, its memory, many of it
 # at once, one that is killed, and what README.md, docs/GUIDE.md and docs/FAULTS.md say that it prints.
 #
-# usage: tests/program.sh [PROGRAM [GPTGUID]]
+# usage: tests/program.sh [PROGRAM [GPTGUID [GPTEDIT]]]
 #
 # PROGRAM is ./gptimg at the top of the repository where it is left out; `make gptimg` puts it there. GPTGUID
-# is the program gptguid: else that of its crate, where `make gptguid` and `rt ci` leave it.
+# is the program gptguid, and GPTEDIT gptedit: else those of their crates, where `make gptguid`, `make gptedit`
+# and `rt ci` leave them. What gptedit does by itself tests/gptedit tries.
 # Prints a line for each subject, and in full what does not hold. The last line is 'N passed, M
 # failed', and the status is 1 where something failed. Needs bash, coreutils, diffutils, grep, sed and the
 # program. What needs sgdisk, sfdisk, strace, flock, python3, qemu-img, gpart, mtools, or tools of file
@@ -21,6 +22,7 @@ if [ ! -x "$program" ]; then
 fi
 
 guid_program=$(realpath -m "${2:-$top/crates/gptguid/out/gptguid}") || exit
+edit_program=$(realpath -m "${3:-$top/crates/gptedit/out/gptedit}") || exit
 
 . "$top/tests/program/asserts.sh"
 . "$top/tests/program/images.sh"

@@ -2,9 +2,9 @@
 # The examples of README.md, docs/GUIDE.md and docs/FAULTS.md, run from these documents themselves.
 #
 # What stands under a heading `##` is run by one shell, in an empty folder, with the programs on PATH as
-# gptimg and gptguid. In a block of kind `console` a line that begins with `$ ` is a command, one that
-# begins with `> ` goes on with it, and the other lines are what it prints. A block of kind `bash` whose
-# first line is `# NAME` is the file NAME. What stands in a block of kind `text` or `rust`, or in none, is
+# gptimg, gptguid and gptedit. In a block of kind `console` a line that begins with `$ ` is a command, one that
+# begins with `> ` goes on with it, and the other lines are what it prints. A block of kind `bash` or `toml`
+# whose first line is `# NAME` is the file NAME. What stands in a block of kind `text` or `rust`, or in none, is
 # not run.
 #
 # A block that names a tool which is not installed is left out, with a line. So what stands on such a
@@ -83,7 +83,7 @@ read_line() {
         :'```'*) start_block "${line#'```'}" ;;
         *:'```') end_block ;;
         console:*) read_console ;;
-        bash:*) read_file ;;
+        bash:* | toml:*) read_file ;;
     esac
 }
 
@@ -93,8 +93,8 @@ start_block() {
     file=
     block_start=${#commands[@]}
     case $kind in
-        console | bash | text | rust) ;;
-        *) fails "$document, $heading: the kind of a block" "console, bash, text or rust" "$kind" ;;
+        console | bash | toml | text | rust) ;;
+        *) fails "$document, $heading: the kind of a block" "console, bash, toml, text or rust" "$kind" ;;
     esac
 }
 
@@ -141,6 +141,7 @@ start_examples() {
     mkdir -p "$examples" "$said" "$folder/bin"
     ln -sf "$program" "$folder/bin/gptimg"
     ln -sf "$guid_program" "$folder/bin/gptguid"
+    ln -sf "$edit_program" "$folder/bin/gptedit"
     commands=()
     wanted=()
 }

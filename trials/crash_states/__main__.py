@@ -1,7 +1,7 @@
 """Tells how many of the states that a stop may leave lose the partition table.
 
-Each program adds the same partition to an image, and runs once under strace. Its writes and syncs
-of the image are replayed. At each moment a stop may leave each write that is not yet synced old,
+Each program adds the same partition to an image, and runs once under strace; and those that make several
+changes by one command do so. Their writes and syncs of the image are replayed. At each moment a stop may leave each write that is not yet synced old,
 new, garbage or torn; each such state is read, and counted as lost where neither the table before
 nor the one after is read from it (states.py and judging.py say how).
 
@@ -19,7 +19,7 @@ import tempfile
 
 import report
 from judging import Trial, starts
-from programs import programs
+from programs import plans, programs
 
 
 def options():
@@ -27,6 +27,7 @@ def options():
     parser = argparse.ArgumentParser(prog="crash_states", description=__doc__,
                                      formatter_class=argparse.RawDescriptionHelpFormatter)
     parser.add_argument("--gptimg", default="./gptimg", help="the program gptimg (./gptimg)")
+    parser.add_argument("--gptedit", default="./gptedit", help="the program gptedit (./gptedit)")
     parser.add_argument("--mixtures", type=int, default=40,
                         help="mixtures by chance for each moment (40)")
     parser.add_argument("--json", help="write the results to this file")
@@ -34,10 +35,10 @@ def options():
     return parser.parse_args()
 
 
-def installed(gptimg, folder):
+def installed(listed):
     """The programs that are there. Prints a line for each."""
     there = []
-    for program in programs(gptimg, folder):
+    for program in listed:
         if program.is_there():
             there.append(program)
             print("%s: %s" % (program.name, program.told_version()))
@@ -51,6 +52,15 @@ def results(chosen, mixtures, folder):
     for start, base in starts().items():
         for program in chosen:
             yield Trial(program, start, base, folder).result(mixtures)
+
+
+def judged(there, mixtures, folder):
+    """The results of these programs. Tells each that was tried."""
+    found = []
+    for result in results(there, mixtures, folder):
+        found.append(result)
+        print("tried: %s, %s" % (result["program"], result["start"]), file=sys.stderr)
+    return found
 
 
 def write(path, text):
@@ -67,14 +77,14 @@ def main():
         sys.exit("strace is not installed, and without it no run can be recorded")
     with tempfile.TemporaryDirectory() as folder:
         folder = os.path.realpath(folder)
-        there = installed(os.path.abspath(chosen.gptimg), folder)
-        found = []
-        for result in results(there, chosen.mixtures, folder):
-            found.append(result)
-            print("tried: %s, %s" % (result["program"], result["start"]), file=sys.stderr)
-    print("\n".join(report.lines(found)))
-    write(chosen.json, json.dumps(found, indent=1) + "\n")
-    write(chosen.chart, report.chart(found))
+        one = judged(installed(programs(os.path.abspath(chosen.gptimg), folder)), chosen.mixtures, folder)
+        several = judged(installed(plans(os.path.abspath(chosen.gptedit), folder)), chosen.mixtures, folder)
+    print("One partition is added")
+    print("\n".join(report.lines(one)))
+    print("\nSeveral changes are made by one command")
+    print("\n".join(report.lines(several)))
+    write(chosen.json, json.dumps({"one": one, "several": several}, indent=1) + "\n")
+    write(chosen.chart, report.chart(one))
 
 
 if __name__ == "__main__":

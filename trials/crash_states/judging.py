@@ -1,7 +1,8 @@
 """Runs a program from a start, and judges each state that a stop in the middle of it may leave.
 
 The tables on the way are the one at the start, and the one after each command of the program. A
-state loses the table where none of them is read from it: nothing is read, or some other table is.
+state loses the table where none of them is read from it: nothing is read, or some other table, which is told
+as between.
 
 It is judged twice. By the format: the copy in sector 1 is taken where it is right, else the one in
 the last sector. And by the program itself, which lists the state's partitions: whether it looks for
@@ -91,8 +92,8 @@ class Trial:
                 image.put(event.at, event.data)
         if gpt.Image(final, image.changed).key() or len(final) != len(self.base):
             return "not judged: the record does not give the image that it left"
-        if None in self.tables or len(gpt.listing(self.tables[-1])) != len(PARTITIONS) + 1:
-            return "not judged: there is no new partition"
+        if None in self.tables or len(gpt.listing(self.tables[-1])) != self.program.leaves:
+            return "not judged: there are not the new partitions"
         return None
 
     def judge(self, mixtures):
@@ -103,6 +104,7 @@ class Trial:
         mild = self.states(mixtures, False)
         return {
             "states": len(found), "lost": len(lost), "lost_by_own_reading": len(unread),
+            "between": sum(gpt.read(found[key][1]) is not None for key in lost),
             "moments": len(self.events) + 1,
             "moments_that_lose": len(set().union(*(found[key][2] for key in lost))),
             "states_without_garbage": len(mild),

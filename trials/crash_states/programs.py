@@ -1,6 +1,8 @@
-"""The programs: how each adds a partition, and how each reads a table.
+"""The programs: how each changes a table, and how each reads one.
 
-The partition is the third one, from sector 26624 to 28671. systemd-repart chooses its place itself.
+They add a partition, the third one, from sector 26624 to 28671; systemd-repart chooses its place itself. Or
+they make several changes by one command: the first partition goes, the second gets another name, and three
+come. systemd-repart adds three, as it neither removes nor renames.
 """
 import json
 import os
@@ -12,7 +14,8 @@ import recording
 FIRST, COUNT = 26624, 2048
 LAST = FIRST + COUNT - 1
 TYPE = "af3dc60f838472478e793d69d8477de4"
-REPART = "[Partition]\nType=srv\nLabel=foo\nSizeMinBytes=1M\nSizeMaxBytes=1M\n"
+REPART = "[Partition]\nType=srv\nLabel=%s\nSizeMinBytes=1M\nSizeMaxBytes=1M\n"
+COMING = [(3, 2048, "foo"), (4, 4096, "bar"), (5, FIRST, "baz")]
 
 
 class Program:
@@ -25,6 +28,7 @@ class Program:
         self.read = read
         self.before = others.get("before", {})
         self.words = others.get("words", "")
+        self.leaves = others.get("leaves", 3)
         self.version = others.get("version", [add[0], "--version"])
 
     def commands(self, start, image):
@@ -46,8 +50,7 @@ class Program:
 
 def programs(gptimg, folder):
     """All programs. The definitions of systemd-repart are laid into the folder."""
-    with open(os.path.join(folder, "10-foo.conf"), "w", encoding="ascii") as file:
-        file.write(REPART)
+    define(folder, ["foo"])
     grow = {"after growth": [[gptimg, "IMAGE", "512", "grow"]]}
     repair = {start: [["cgpt", "repair", "IMAGE"]] for start in (
         "primary header zeroed", "primary entries damaged", "backup header zeroed", "after growth")}
@@ -66,6 +69,39 @@ def programs(gptimg, folder):
         Program("systemd-repart", ["systemd-repart", "--definitions=" + folder, "--dry-run=no",
                                    "--empty=refuse", "IMAGE"], read_sfdisk,
                 reader=["sfdisk"]),
+    ]
+
+
+def define(folder, names):
+    """Lays definitions of partitions with these names into a folder, for systemd-repart."""
+    os.makedirs(folder, exist_ok=True)
+    for place, name in enumerate(names):
+        with open(os.path.join(folder, "%d0-%s.conf" % (place + 1, name)), "w", encoding="ascii") as file:
+            file.write(REPART % name)
+
+
+def plans(gptedit, folder):
+    """The programs that make several changes by one command."""
+    folder = os.path.join(folder, "plan")
+    define(folder, [name for _, _, name in COMING])
+    layout, script = os.path.join(folder, "layout.toml"), "label: gpt\n"
+    script += "IMAGE2 : start=10240, size=16384, name=renamed\n"
+    words = ["sgdisk", "-d", "1", "-c", "2:renamed"]
+    with open(layout, "w", encoding="ascii") as file:
+        file.write('[[partition]]\nnumber = 2\nname = "renamed"\n')
+        for number, first, name in COMING:
+            file.write('[[partition]]\nnumber = %d\ntype = "linux"\nname = "%s"\nstart = "%ds"\nsize = "%ds"\n'
+                       % (number, name, first, COUNT))
+            script += "IMAGE%d : start=%d, size=%d, name=%s\n" % (number, first, COUNT, name)
+            words += ["-n", "%d:%d:%d" % (number, first, first + COUNT - 1), "-c", "%d:%s" % (number, name)]
+    grow = {"after growth": [[gptedit, "grow", "IMAGE"]]}
+    return [
+        Program("gptedit apply", [gptedit, "apply", "IMAGE", layout, "--replace"],
+                lambda image: read_json([gptedit, "show", "--json", image], image), before=grow, leaves=4),
+        Program("sgdisk", words + ["IMAGE"], read_sgdisk, leaves=4),
+        Program("sfdisk", ["sfdisk", "-q", "IMAGE"], read_sfdisk, words=script, leaves=4),
+        Program("systemd-repart", ["systemd-repart", "--definitions=" + folder, "--dry-run=no",
+                                   "--empty=refuse", "IMAGE"], read_sfdisk, reader=["sfdisk"], leaves=5),
     ]
 
 
@@ -93,7 +129,12 @@ def read_sgdisk(image):
 
 def read_sfdisk(image):
     """The listing of `sfdisk --json`. systemd-repart reads by the same library, libfdisk."""
-    ended = recording.run(["sfdisk", "--quiet", "--json", image])
+    return read_json(["sfdisk", "--quiet", "--json", image], image)
+
+
+def read_json(command, image):
+    """The listing of a command that tells a table as JSON."""
+    ended = recording.run(command)
     try:
         told = ended.stdout[ended.stdout.index("{"):ended.stdout.rindex("}") + 1]
         table = json.loads(told)["partitiontable"]

@@ -27,21 +27,21 @@ def part_of(count, whole):
 
 def lines(results):
     """The lines of the table, start by start."""
-    row = "%-15s %6s %6s  %-10s %-8s %-12s %-12s %-12s"
+    row = "%-15s %6s %6s  %-10s %-8s %-12s %-8s %-12s %-12s"
     start = None
     for result in results:
         if result["start"] != start:
             start = result["start"]
             yield "\nStart: " + start
-            yield row % ("program", "writes", "syncs", "moments", "share", "states", "own reading",
-                         "no garbage")
+            yield row % ("program", "writes", "syncs", "moments", "share", "states", "between",
+                         "own reading", "no garbage")
         if "fault" in result:
             yield "%-15s %s" % (result["program"], result["fault"])
             continue
         yield row % (
             result["program"], result["writes"], result["syncs"],
             part_of(result["moments_that_lose"], result["moments"]), percent(share(result)),
-            part_of(result["lost"], result["states"]),
+            part_of(result["lost"], result["states"]), result["between"],
             part_of(result["lost_by_own_reading"], result["states"]),
             part_of(result["lost_without_garbage"], result["states_without_garbage"]))
 

@@ -12,6 +12,7 @@ use Rattle.gptedit_core.specs.declared.amount.Amount.{Amount}
 use Rattle.gptedit_core.specs.declared.amount.Amount.TheVariants.{Sectors, Bytes}
 use Rattle.gptedit_core.specs.declared.asked.Asked.{Asked}
 use Rattle.gptedit_core.specs.declared.asked.Choice.{Choice}
+use Rattle.gptedit_core.specs.declared.asked.Choice.TheVariants.{First}
 use Rattle.gptedit_core.specs.declared.asked.Mode.{Mode}
 use Rattle.gptedit_core.specs.declared.asked.Mode.TheVariants.{Add, Change, Become}
 use Rattle.gptedit_core.specs.declared.asked.Size.{Size}
@@ -25,6 +26,10 @@ use Rattle.gptedit_core.specs.declared.refusal.Stop.TheVariants.{Refused, Failed
 use Rattle.gptedit_core.specs.declared.resolve.Partition.{Partition}
 use Rattle.gptedit_core.specs.declared.resolve.Room.{Room}
 use Rattle.gptedit_core.specs.declared.resolve.Room.TheVariants.{Sectors as RoomSectors, Rest as RoomRest}
+
+-- nothing is asked of the entry of that number
+abbrev pub nothing_of : Option ℕ → Asked
+nothing_of number = record { number = number; type_guid = None; unique_guid = None; attributes = None; name = None; start = None; size = None; choice = First }
 
 -- how many sectors of ss bytes an amount is, where it is a whole number of them
 abbrev pub sectors_in : Amount → ℕ → Option ℕ

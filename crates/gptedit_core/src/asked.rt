@@ -1,5 +1,8 @@
 //! What is asked of a table.
 
+ghost use Rattle.std.specs.Prelude.{◌≡◌};
+ghost use Rattle.gptedit_core.specs.Resolving.{nothing_of};
+
 use crate::amount::Amount;
 use gptman::PartitionName;
 
@@ -43,6 +46,24 @@ pub struct Asked {
     pub size: Option<Size>,
     /// Which of the free places it gets, where one is chosen.
     pub choice: Choice,
+}
+
+impl Asked {
+    /// Nothing, of the entry of this number.
+    pub fn nothing(number: Option<u32>) -> Asked
+        ensures { result ≡ nothing_of number }
+    {
+        Asked {
+            number,
+            type_guid: None,
+            unique_guid: None,
+            attributes: None,
+            name: None,
+            start: None,
+            size: None,
+            choice: Choice::First,
+        }
+    }
 }
 
 /// What may be done with the entries.

@@ -1,6 +1,6 @@
 //! The daily work on a table of partitions: what is asked of its entries, and what the table becomes by it.
 //!
-//! It stands on tables in memory: what is asked for is put into a table, which the caller writes.
+//! `edit` and `grow` do it on a disk, in one write. What they write is a plan over tables in memory.
 #![tactic(auto)]
 
 pub mod amount;

@@ -53,11 +53,24 @@ pub fn print_check<W: Write>(out: &mut W, alloc: Global, look: &Look<'_>) -> io:
     Ok(findings.is_empty())
 }
 
-/// What is wrong as JSON: `good` where nothing is, what both copies are (as `table_json` has it), and
+/// Prints what is wrong as JSON: `good` where nothing is, what both copies are (as `table_json` has it), and
 /// `findings`, each with what is wrong (`finding`), how it is mended (`mend`), and the command of `gptedit`
-/// that does so (`command`), or null.
-pub fn check_json(alloc: Global, look: &Look<'_>) -> Result<String, AllocError> {
+/// that does so (`command`), or null. Answers whether nothing is wrong.
+///
+/// An error comes where `out` failed, and where there is no memory.
+pub fn print_check_json<W: Write>(out: &mut W, alloc: Global, look: &Look<'_>) -> io::Result<bool> {
     let findings = find_all(alloc, look)?;
+    let text = findings_json(alloc, look, &findings)?;
+    writeln!(out, "{text}")?;
+    Ok(findings.is_empty())
+}
+
+// These findings as JSON.
+fn findings_json(
+    alloc: Global,
+    look: &Look<'_>,
+    findings: &[Finding<'_>],
+) -> Result<String, AllocError> {
     let mut values = Vec::with_capacity(alloc, findings.len())?;
     for finding in findings.iter() {
         values.push(finding_value(alloc, finding, look.image)?)?;

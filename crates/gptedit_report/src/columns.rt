@@ -4,15 +4,36 @@ use std::alloc::{AllocError, Global};
 use std::io::Write;
 use std::{fmt, io};
 
-/// A column.
+/// A column, by what stands above its cells and how many characters it takes at least. Its cells stand at its
+/// left as texts do, or at its right as numbers do.
 #[derive(Clone, Copy)]
-pub(crate) struct Column {
-    /// What stands above its cells.
-    pub(crate) heading: &'static str,
-    /// How many characters it takes at least.
-    pub(crate) width: usize,
-    /// Whether its cells stand at its right, as numbers do.
-    pub(crate) is_right: bool,
+pub(crate) enum Column {
+    Left(&'static str, usize),
+    Right(&'static str, usize),
+}
+
+impl Column {
+    // What stands above its cells.
+    fn heading(self) -> &'static str {
+        match self {
+            Column::Left(heading, _) | Column::Right(heading, _) => heading,
+        }
+    }
+
+    // How many characters it takes.
+    fn width(self) -> usize {
+        match self {
+            Column::Left(_, width) | Column::Right(_, width) => width,
+        }
+    }
+
+    // The same column, that takes so many characters at least.
+    fn at_least(self, least: usize) -> Column {
+        match self {
+            Column::Left(heading, width) => Column::Left(heading, width.max(least)),
+            Column::Right(heading, width) => Column::Right(heading, width.max(least)),
+        }
+    }
 }
 
 /// Prints the headings, and then each row, a line each with no spaces at its end.
@@ -25,7 +46,7 @@ pub(crate) fn print_columns<W: Write>(
     let columns = widen(alloc, columns, rows)?;
     let mut headings = Vec::new(alloc);
     for column in columns.iter() {
-        headings.push(String::from_str(alloc, column.heading)?)?;
+        headings.push(String::from_str(alloc, column.heading())?)?;
     }
     print_row(out, alloc, &columns, &headings)?;
     for row in rows {
@@ -53,12 +74,11 @@ fn widen(
 ) -> Result<Vec<Column>, AllocError> {
     let mut wide = Vec::with_capacity(alloc, columns.len())?;
     for column in columns {
-        let width = column.width.max(count(column.heading));
-        wide.push(Column { width, ..*column })?;
+        wide.push(column.at_least(count(column.heading())))?;
     }
     for row in rows {
         for (column, cell) in wide.iter_mut().zip(row.iter()) {
-            column.width = column.width.max(count(cell.as_str()));
+            *column = column.at_least(count(cell.as_str()));
         }
     }
     Ok(wide)
@@ -78,11 +98,10 @@ fn print_row<W: Write>(
 ) -> io::Result<()> {
     let mut line = String::new(alloc);
     for (column, cell) in columns.iter().zip(cells.iter()) {
-        let width = column.width;
-        if column.is_right {
-            write!(line, "{cell:>width$}  ")?;
-        } else {
-            write!(line, "{cell:<width$}  ")?;
+        let width = column.width();
+        match column {
+            Column::Left(_, _) => write!(line, "{cell:<width$}  ")?,
+            Column::Right(_, _) => write!(line, "{cell:>width$}  ")?,
         }
     }
     writeln!(out, "{}", line.trim_end())

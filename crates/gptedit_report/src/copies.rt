@@ -1,6 +1,6 @@
 //! What the two copies of a table are.
 
-use crate::fault::fault_name;
+use gptimg_core::name_of;
 use gptman::{Error, GPTHeader, Result};
 use gptman_copy::copy::WholeCopy;
 use std::fmt;
@@ -71,10 +71,10 @@ impl fmt::Display for CopiesState<'_> {
         match self {
             CopiesState::Good => f.write_str("both copies good"),
             CopiesState::PrimaryBad(fault) => {
-                write!(f, "backup copy good, primary bad ({})", fault_name(*fault))
+                write!(f, "backup copy good, primary bad ({})", name_of(*fault))
             }
             CopiesState::BackupBad(fault) => {
-                write!(f, "primary copy good, backup bad ({})", fault_name(*fault))
+                write!(f, "primary copy good, backup bad ({})", name_of(*fault))
             }
             CopiesState::BothBad(_, _) => f.write_str("both copies bad"),
             CopiesState::PrimaryElsewhere => {

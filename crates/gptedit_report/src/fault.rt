@@ -3,28 +3,6 @@
 use gptman::Error;
 use std::fmt;
 
-/// The name of the error, without its numbers.
-pub(crate) fn fault_name(fault: &Error) -> &'static str {
-    match fault {
-        Error::Io(_) => "Io",
-        Error::InvalidSignature => "InvalidSignature",
-        Error::InvalidRevision => "InvalidRevision",
-        Error::InvalidHeaderSize => "InvalidHeaderSize",
-        Error::InvalidChecksum(_, _) => "InvalidChecksum",
-        Error::InvalidPartitionEntryArrayChecksum(_, _) => "InvalidPartitionEntryArrayChecksum",
-        Error::ReadError(_, _) => "ReadError",
-        Error::NoSpaceLeft => "NoSpaceLeft",
-        Error::ConflictPartitionGUID => "ConflictPartitionGUID",
-        Error::InvalidPartitionBoundaries => "InvalidPartitionBoundaries",
-        Error::InvalidPartitionNumber(_) => "InvalidPartitionNumber",
-        Error::UnusedPartition => "UnusedPartition",
-        Error::PartitionNotFound => "PartitionNotFound",
-        Error::Overflow => "Overflow",
-        Error::OutOfMemory => "OutOfMemory",
-        Error::InvalidPartitionEntrySize(_) => "InvalidPartitionEntrySize",
-    }
-}
-
 /// What an error means to people, and what to do about it, in one or two lines without the last newline.
 #[derive(Clone, Copy)]
 pub struct ErrorText<'a> {

@@ -2,8 +2,9 @@
 
 use crate::check::{Look, Mbr};
 use crate::copies::CopiesState;
-use crate::fault::{Meaning, fault_name};
+use crate::fault::Meaning;
 use crate::layout::Standing;
+use gptimg_core::name_of;
 use gptman::{Error, GPT};
 use std::alloc::{AllocError, Global};
 use std::fmt;
@@ -176,7 +177,7 @@ impl fmt::Display for Wrong<'_> {
 
 // That a copy is bad, and why.
 fn write_bad<W: fmt::Write>(f: &mut fmt::Formatter<W>, place: &str, fault: &Error) -> fmt::Result {
-    let (name, meaning) = (fault_name(fault), Meaning(fault));
+    let (name, meaning) = (name_of(fault), Meaning(fault));
     write!(f, "the {place} copy is bad ({name}: {meaning})")
 }
 

@@ -10,26 +10,10 @@ use std::io::Write;
 
 // What is told of a run.
 const COLUMNS: [Column; 4] = [
-    Column {
-        heading: "Start",
-        width: 6,
-        is_right: true,
-    },
-    Column {
-        heading: "End",
-        width: 6,
-        is_right: true,
-    },
-    Column {
-        heading: "Sectors",
-        width: 0,
-        is_right: true,
-    },
-    Column {
-        heading: "Size",
-        width: 7,
-        is_right: true,
-    },
+    Column::Right("Start", 6),
+    Column::Right("End", 6),
+    Column::Right("Sectors", 0),
+    Column::Right("Size", 7),
 ];
 
 /// Prints runs of free sectors, each given by its first sector and its length: under headings a line for

@@ -1,9 +1,9 @@
 //! Tables as JSON.
 
 use crate::copies::CopiesState;
-use crate::fault::fault_name;
 use crate::members::Members;
 use crate::sfdisk::{Attributes, separator_of};
+use gptimg_core::name_of;
 use gptman::{Error, GPT, GPTPartitionEntry};
 use serde_json::Value;
 use std::alloc::{AllocError, Global};
@@ -113,7 +113,7 @@ fn form_name(table: &GPT) -> &'static str {
 // What a copy is: good, or the name of its fault.
 fn copy_name(fault: Option<&Error>) -> &'static str {
     match fault {
-        Some(fault) => fault_name(fault),
+        Some(fault) => name_of(fault),
         None => "good",
     }
 }

@@ -21,7 +21,7 @@ mod texts;
 pub mod types;
 
 pub use changes::print_changes;
-pub use check::{Look, Mbr, check_json, print_check};
+pub use check::{Look, Mbr, print_check, print_check_json};
 pub use copies::CopiesState;
 pub use fault::ErrorText;
 pub use free::{free_json, print_free};

@@ -11,46 +11,14 @@ use std::io::Write;
 
 // What is shown of a partition.
 const COLUMNS: [Column; 8] = [
-    Column {
-        heading: "#",
-        width: 2,
-        is_right: true,
-    },
-    Column {
-        heading: "Start",
-        width: 6,
-        is_right: true,
-    },
-    Column {
-        heading: "End",
-        width: 6,
-        is_right: true,
-    },
-    Column {
-        heading: "Size",
-        width: 7,
-        is_right: true,
-    },
-    Column {
-        heading: "Type",
-        width: 0,
-        is_right: false,
-    },
-    Column {
-        heading: "Name",
-        width: 0,
-        is_right: false,
-    },
-    Column {
-        heading: "GUID",
-        width: 0,
-        is_right: false,
-    },
-    Column {
-        heading: "Attributes",
-        width: 0,
-        is_right: false,
-    },
+    Column::Right("#", 2),
+    Column::Right("Start", 6),
+    Column::Right("End", 6),
+    Column::Right("Size", 7),
+    Column::Left("Type", 0),
+    Column::Left("Name", 0),
+    Column::Left("GUID", 0),
+    Column::Left("Attributes", 0),
 ];
 
 /// Prints a table that stands on a disk of so many bytes, and what its two copies are: two lines about the

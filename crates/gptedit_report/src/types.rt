@@ -10,18 +10,7 @@ use std::io;
 use std::io::Write;
 
 // What is told of a type.
-const COLUMNS: [Column; 2] = [
-    Column {
-        heading: "Name",
-        width: 0,
-        is_right: false,
-    },
-    Column {
-        heading: "GUID",
-        width: 0,
-        is_right: false,
-    },
-];
+const COLUMNS: [Column; 2] = [Column::Left("Name", 0), Column::Left("GUID", 0)];
 
 /// Prints the types that have a name, under headings a line for each: its name and its GUID.
 ///

@@ -1,16 +1,14 @@
 //! The entries that a text asks for, as they are read one after the other.
 
 use crate::error::{Fault, LayoutError, Place};
-use gptedit_core::{Amount, Asked, Choice, Layout, Mode, Size};
+use crate::values::is_long_name;
+use gptedit_core::{Amount, Asked, Layout, Mode, Size};
 use gptman::PartitionName;
 use std::alloc::Global;
 use std::collections::BTreeSet;
 
 /// Places are chosen at multiples of so much, unless a text says otherwise.
 pub const ALIGN: Amount = Amount::Bytes(1 << 20);
-
-/// How many units of UTF-16 a name has at most.
-const NAME_UNITS: usize = 36;
 
 /// The entries that were read.
 #[derive(Drop)]
@@ -20,6 +18,7 @@ pub struct Entries {
     last: u32,
     lowest: u32,
     has_rest: bool,
+    has_start: bool,
 }
 
 impl Entries {
@@ -31,6 +30,7 @@ impl Entries {
             last: 0,
             lowest: 1,
             has_rest: false,
+            has_start: false,
         }
     }
 
@@ -49,6 +49,11 @@ impl Entries {
         self.lowest
     }
 
+    /// Whether one of them says where it begins.
+    pub fn has_start(&self) -> bool {
+        self.has_start
+    }
+
     /// One entry more, of this number, which stands at this place. A number that is taken and a second rest
     /// are refused.
     pub fn add(&mut self, place: Place, number: u32, asked: Asked) -> Result<(), LayoutError> {
@@ -61,6 +66,7 @@ impl Entries {
             }
             self.has_rest = true;
         }
+        self.has_start = self.has_start || asked.start.is_some();
         self.last = number;
         self.raise_lowest();
         self.asked.push(asked)?;
@@ -89,27 +95,13 @@ impl Entries {
     }
 }
 
-/// An entry of this number, of which nothing else is asked.
-pub fn plain_entry(number: u32) -> Asked {
-    Asked {
-        number: Some(number),
-        type_guid: None,
-        unique_guid: None,
-        attributes: None,
-        name: None,
-        start: None,
-        size: None,
-        choice: Choice::First,
-    }
-}
-
 /// The name of a partition, at this place. One that an entry has no room for is refused, and one with a
 /// zero, which would end there.
 pub fn read_name(alloc: Global, place: Place, text: &str) -> Result<PartitionName, LayoutError> {
     if text.contains('\0') {
         return Err(place.fault("name", Fault::ZeroInName));
     }
-    if text.encode_utf16().count() > NAME_UNITS {
+    if is_long_name(text) {
         return Err(place.fault("name", Fault::LongName));
     }
     PartitionName::new(alloc, text).map_err(|_| LayoutError::OutOfMemory)

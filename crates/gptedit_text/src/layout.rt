@@ -2,7 +2,7 @@
 
 mod keyed;
 
-use crate::entries::{ALIGN, Entries, plain_entry, read_name};
+use crate::entries::{ALIGN, Entries, read_name};
 use crate::error::{Fault, LayoutError, Section};
 use crate::layout::keyed::Keyed;
 use crate::lines::{position_of, with_line};
@@ -138,6 +138,6 @@ fn read_entry(alloc: Global, partition: &Keyed<'_>, number: u32) -> Result<Asked
         name,
         start: partition.word("start", read_amount)?,
         size: partition.word("size", read_size)?,
-        ..plain_entry(number)
+        ..Asked::nothing(Some(number))
     })
 }

@@ -13,6 +13,9 @@ use std::alloc::{AllocError, Global};
 /// At multiples of so much partitions begin, where nothing else is said.
 const ALIGN: Amount = Amount::Bytes(1 << 20);
 
+/// What they begin at a multiple of, where no place is chosen.
+const ANY: Amount = Amount::Sectors(1);
+
 /// What the words of `add` ask for.
 pub(crate) fn read_add<'a>(
     alloc: Global,
@@ -25,10 +28,10 @@ pub(crate) fn read_add<'a>(
         choice: given(words, "--place", |text| read_choice(text))?.unwrap_or(Choice::First),
         ..read_fields(alloc, words)?
     };
+    let align = given(words, "--align", |text| read_amount(text))?.unwrap_or(ALIGN);
     Ok(Change::Lay(Layout {
         mode: Mode::Add,
-        align: given(words, "--align", |text| read_amount(text))?.unwrap_or(ALIGN),
-        ..layout_of(alloc, asked)?
+        ..layout_of(alloc, align, asked)?
     }))
 }
 
@@ -45,7 +48,7 @@ pub(crate) fn read_set<'a>(
         number: Some(number(words, "N")?),
         ..read_fields(alloc, words)?
     };
-    Ok(Change::Lay(layout_of(alloc, asked)?))
+    Ok(Change::Lay(layout_of(alloc, ANY, asked)?))
 }
 
 /// What the words of `resize` ask for.
@@ -56,9 +59,9 @@ pub(crate) fn read_resize<'a>(
     let asked = Asked {
         number: Some(number(words, "N")?),
         size: given(words, "SIZE|max", |text| read_new_size(text))?,
-        ..nothing_asked()
+        ..Asked::nothing(None)
     };
-    Ok(Change::Lay(layout_of(alloc, asked)?))
+    Ok(Change::Lay(layout_of(alloc, ALIGN, asked)?))
 }
 
 // The size that a word of `resize` says.
@@ -77,18 +80,18 @@ pub(crate) fn read_remove<'a>(
     Ok(Change::Lay(Layout {
         mode: Mode::Change,
         disk_guid: None,
-        align: ALIGN,
+        align: ANY,
         removed: numbers(alloc, words, "N")?,
         asked: Vec::new(alloc),
     }))
 }
 
 // The layout that changes one entry.
-fn layout_of(alloc: Global, asked: Asked) -> Result<Layout, AllocError> {
+fn layout_of(alloc: Global, align: Amount, asked: Asked) -> Result<Layout, AllocError> {
     Ok(Layout {
         mode: Mode::Change,
         disk_guid: None,
-        align: ALIGN,
+        align,
         removed: Vec::new(alloc),
         asked: vec![in alloc; asked]?,
     })
@@ -101,20 +104,6 @@ fn read_fields<'a>(alloc: Global, words: &ArgMatches<'a>) -> Result<Asked, Words
         unique_guid: given(words, "--guid", |text| read_guid(text))?,
         attributes: given(words, "--attributes", |text| read_attributes(text))?,
         name: name(alloc, words)?,
-        ..nothing_asked()
+        ..Asked::nothing(None)
     })
-}
-
-// An entry of which nothing is asked.
-fn nothing_asked() -> Asked {
-    Asked {
-        number: None,
-        type_guid: None,
-        unique_guid: None,
-        attributes: None,
-        name: None,
-        start: None,
-        size: None,
-        choice: Choice::First,
-    }
 }

@@ -2,12 +2,9 @@
 
 use crate::error::WordsError;
 use clap::ArgMatches;
-use gptedit_text::values::Wrong;
+use gptedit_text::values::{Wrong, is_long_name};
 use gptman::PartitionName;
 use std::alloc::Global;
-
-// How many units of UTF-16 a name may have.
-const NAME_UNITS: usize = 36;
 
 /// The text of a word that is needed.
 pub(crate) fn needed<'a>(
@@ -66,18 +63,13 @@ pub(crate) fn name<'a>(
     let Some(text) = words.get_str("--name") else {
         return Ok(None);
     };
-    if is_long(text) {
+    if is_long_name(text) {
         return Err(WordsError::LongName(text));
     }
     match PartitionName::new(alloc, text) {
         Ok(name) => Ok(Some(name)),
         Err(_) => Err(WordsError::OutOfMemory),
     }
-}
-
-// Whether a text is longer than a name may be.
-fn is_long(text: &str) -> bool {
-    text.encode_utf16().count() > NAME_UNITS
 }
 
 /// The size of a sector in bytes, where it is given.

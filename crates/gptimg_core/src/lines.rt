@@ -233,8 +233,8 @@ fn print_name<W: Write>(out: &mut W, fault: &Error) -> io::Result<()>
     out.write_all(b")")
 }
 
-// The name of the error's variant.
-fn name_of(fault: &Error) -> &'static str
+/// The name of the error's variant, without its numbers.
+pub fn name_of(fault: &Error) -> &'static str
     ensures { result.now ≡ variant_name (fault_of fault.now) }
 {
     match fault {

@@ -1,6 +1,6 @@
 //! The lines of a script that say partitions.
 
-use crate::entries::{Entries, plain_entry, read_name};
+use crate::entries::{Entries, read_name};
 use crate::error::{Fault, LayoutError, Place};
 use crate::script::extent::read_extent;
 use crate::script::token::next_token;
@@ -32,13 +32,23 @@ pub fn read_line(
     }
     let mut asked = Asked {
         type_guid: read_script_type("L").ok(),
+        attributes: Some(0),
+        name: Some(read_name(alloc, place, "")?),
         size: Some(Size::Rest),
-        ..plain_entry(number)
+        ..Asked::nothing(Some(number))
+    };
+    let mut line = Line {
+        alloc,
+        place,
+        asked: &mut asked,
     };
     if fields.contains('=') {
-        read_named(alloc, place, &mut asked, fields)?;
+        line.read_named(fields)?;
     } else {
-        read_ordered(alloc, place, &mut asked, fields)?;
+        line.read_ordered(fields)?;
+    }
+    if asked.start.is_none() && entries.has_start() {
+        return Err(place.fault("start", Fault::NoStart));
     }
     entries.add(place, number, asked)
 }
@@ -61,53 +71,79 @@ fn digits_behind(node: &str) -> &str {
     node.strip_prefix(stem).unwrap_or("")
 }
 
-// Reads parts that have names. Each takes at least one byte.
-fn read_named(
+// The parts of a line, as they are read.
+#[derive(Drop)]
+struct Line<'a> {
     alloc: Global,
     place: Place,
-    asked: &mut Asked,
-    fields: &str,
-) -> Result<(), LayoutError> {
-    let mut rest = fields.trim_start();
-    for _ in 0..fields.len() {
-        if rest.is_empty() {
-            break;
-        }
-        if rest.starts_with("bootable") {
-            return Err(place.fault("bootable", Fault::Bootable));
-        }
-        let Some((name, behind)) = rest.split_once('=') else {
-            return Err(unknown(alloc, place, rest));
-        };
-        let Some(key) = key_of(place, name.trim_end()) else {
-            return Err(unknown(alloc, place, name));
-        };
-        let (value, after) = token_of(place, key, behind)?;
-        read_field(alloc, place, asked, key, value)?;
-        rest = after;
-    }
-    Ok(())
+    asked: &'a mut Asked,
 }
 
-// Reads parts that have no names.
-fn read_ordered(
-    alloc: Global,
-    place: Place,
-    asked: &mut Asked,
-    fields: &str,
-) -> Result<(), LayoutError> {
-    let mut rest = fields.trim_start();
-    for key in ORDER {
-        let (value, after) = token_of(place, key, rest)?;
-        if value != "-" {
-            read_field(alloc, place, asked, key, value)?;
+impl Line<'_> {
+    // Reads parts that have names. Each takes at least one byte.
+    fn read_named(&mut self, fields: &str) -> Result<(), LayoutError> {
+        let mut rest = fields.trim_start();
+        for _ in 0..fields.len() {
+            if rest.is_empty() {
+                break;
+            }
+            if rest.starts_with("bootable") {
+                return Err(self.place.fault("bootable", Fault::Bootable));
+            }
+            let Some((name, behind)) = rest.split_once('=') else {
+                return Err(unknown(self.alloc, self.place, rest));
+            };
+            let Some(key) = key_of(self.place, name.trim_end()) else {
+                return Err(unknown(self.alloc, self.place, name));
+            };
+            let (value, after) = token_of(self.place, key, behind)?;
+            self.read_field(key, value)?;
+            rest = after;
         }
-        rest = after;
-    }
-    if rest.is_empty() {
         Ok(())
-    } else {
-        Err(unknown(alloc, place, rest))
+    }
+
+    // Reads parts that have no names.
+    fn read_ordered(&mut self, fields: &str) -> Result<(), LayoutError> {
+        let mut rest = fields.trim_start();
+        for key in ORDER {
+            let (value, after) = token_of(self.place, key, rest)?;
+            if value != "-" {
+                self.read_field(key, value)?;
+            }
+            rest = after;
+        }
+        if rest.is_empty() {
+            Ok(())
+        } else {
+            Err(unknown(self.alloc, self.place, rest))
+        }
+    }
+
+    // Reads the value of a part. One that is empty is not said.
+    fn read_field(&mut self, key: &'static str, value: &str) -> Result<(), LayoutError> {
+        if value.is_empty() {
+            return Ok(());
+        }
+        let place = self.place;
+        match key {
+            "start" => self.asked.start = extent_of(place, key, value)?,
+            "size" => {
+                self.asked.size = match extent_of(place, key, without_plus(value))? {
+                    Some(amount) => Some(Size::Exactly(amount)),
+                    None => Some(Size::Rest),
+                };
+            }
+            "type" => self.asked.type_guid = Some(word_of(place, key, read_script_type(value))?),
+            "uuid" => self.asked.unique_guid = Some(word_of(place, key, read_guid(value))?),
+            "attrs" => self.asked.attributes = Some(attributes_of(place, key, value)?),
+            "name" => {
+                let text = unescaped(self.alloc, place, value)?;
+                self.asked.name = Some(read_name(self.alloc, place, text.as_str())?);
+            }
+            _ => return Err(place.fault(key, Fault::Bootable)),
+        }
+        Ok(())
     }
 }
 
@@ -140,37 +176,6 @@ fn token_of<'a>(
         Ok(parts) => Ok(parts),
         Err(fault) => Err(place.fault(key, fault)),
     }
-}
-
-// Reads the value of a part. One that is empty is not said.
-fn read_field(
-    alloc: Global,
-    place: Place,
-    asked: &mut Asked,
-    key: &'static str,
-    value: &str,
-) -> Result<(), LayoutError> {
-    if value.is_empty() {
-        return Ok(());
-    }
-    match key {
-        "start" => asked.start = extent_of(place, key, value)?,
-        "size" => {
-            asked.size = match extent_of(place, key, without_plus(value))? {
-                Some(amount) => Some(Size::Exactly(amount)),
-                None => Some(Size::Rest),
-            };
-        }
-        "type" => asked.type_guid = Some(word_of(place, key, read_script_type(value))?),
-        "uuid" => asked.unique_guid = Some(word_of(place, key, read_guid(value))?),
-        "attrs" => asked.attributes = Some(attributes_of(place, key, value)?),
-        "name" => {
-            let text = unescaped(alloc, place, value)?;
-            asked.name = Some(read_name(alloc, place, text.as_str())?);
-        }
-        _ => return Err(place.fault(key, Fault::Bootable)),
-    }
-    Ok(())
 }
 
 // A size without the sign before its digits.

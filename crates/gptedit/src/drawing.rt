@@ -1,0 +1,50 @@
+//! Random GUIDs.
+
+ghost use Rattle.std.specs.Prelude.{◌≤◌, IfOk, length};
+ghost use Rattle.gptedit_core.specs.Planning.{has_random};
+
+use crate::failure::{Failure, refuse};
+use gptedit_core::{Job, Request};
+use gptguid_core::from_random;
+use std::random::RandomSource;
+
+/// A random GUID, of version 4.
+pub fn draw_guid<R: RandomSource + AllocGlobal>(rt: &R) -> Result<[u8; 16], Failure> {
+    let mut drawn = [0; 16];
+    match rt.fill_bytes(&mut drawn) {
+        Ok(()) => Ok(from_random(drawn)),
+        Err(error) => Err(refuse(rt.alloc(), "random bytes", &error)),
+    }
+}
+
+/// The request for this job, with a random GUID for each entry that is asked for.
+pub fn request_for<R: RandomSource + AllocGlobal>(
+    rt: &R,
+    job: Job,
+    is_dry: bool,
+) -> Result<Request, Failure>
+    ensures { IfOk result has_random }
+{
+    let count = match &job {
+        Job::Lay(layout) => layout.asked.len(),
+        Job::Sort => 0,
+        Job::Rewrite => 0,
+    };
+    let random = draw_guids(rt, count)?;
+    Ok(Request {
+        job,
+        random,
+        is_dry,
+    })
+}
+
+// So many random GUIDs.
+fn draw_guids<R: RandomSource + AllocGlobal>(rt: &R, count: usize) -> Result<Vec<[u8; 16]>, Failure>
+    ensures { IfOk result (λ guids. count ≤ length guids.items) }
+{
+    let mut guids = Vec::new(rt.alloc());
+    for _drawn in 0..count {
+        guids.push(draw_guid(rt)?)?;
+    }
+    Ok(guids)
+}

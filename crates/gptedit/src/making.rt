@@ -1,0 +1,206 @@
+//! A new table.
+
+ghost use Rattle.std.specs.Prelude.{◌<◌};
+
+use crate::changing::outcome_of;
+use crate::commands::How;
+use crate::drawing::draw_guid;
+use crate::failure::{Failure, refuse, refuse_error};
+use crate::image::Image;
+use crate::looking::{print_json, print_state_json};
+use crate::marks::find_content;
+use crate::mbr::{look_at_mbr, write_mbr};
+use gptedit_core::{Amount, Job, Layout, Mode, Outcome};
+use gptedit_report::{CopiesState, Mbr, RefusalText, show_table};
+use gptman::GPT;
+use std::alloc::Global;
+use std::fmt;
+use std::io::Write;
+use std::random::RandomSource;
+
+// The size of a sector in bytes, where nothing tells it.
+const USUAL_SIZE: u64 = 512;
+
+/// Writes an empty table and a protective MBR. Where a good copy of a table stands, the new one is written in
+/// that copy's form, so that a stop leaves one of the two. Answers whether something was written.
+///
+/// Where a table, partitions of an MBR or a file system stand it is refused, unless it is forced.
+pub fn new<R: RandomSource + AllocGlobal, W: Write>(
+    rt: &R,
+    out: &mut W,
+    image: &mut Image<'_>,
+    guid: Option<[u8; 16]>,
+    how: How,
+) -> Result<bool, Failure> {
+    let alloc = rt.alloc();
+    let sector_size = image.sector_size().unwrap_or(USUAL_SIZE).max(1);
+    let there = There::find(alloc, image, sector_size)?;
+    if !how.is_forced && there.is_something() {
+        return Err(refuse(alloc, image.name, &there));
+    }
+    let guid = match guid {
+        Some(guid) => guid,
+        None => draw_guid(rt)?,
+    };
+    let table = match &there.table {
+        Some(was) if was.sector_size == sector_size && was.has_layout(image.size) => {
+            replace(rt, image, was, guid, how.is_dry)?
+        }
+        _ => write_new(alloc, image, sector_size, guid, how.is_dry)?,
+    };
+    if !how.is_dry {
+        write_mbr(alloc, image, sector_size)?;
+    }
+    tell_new(alloc, out, image, &there, &table, how)?;
+    Ok(!how.is_dry)
+}
+
+// What stands on an image, and would be lost.
+#[derive(Drop)]
+struct There {
+    table: Option<GPT>,
+    mbr: Mbr,
+    content: Option<&'static str>,
+}
+
+impl There {
+    // What stands there, where sectors are to have so many bytes.
+    fn find(alloc: Global, image: &mut Image<'_>, sector_size: u64) -> Result<There, Failure> {
+        let table = match image.table_if_any(alloc, Some(sector_size.max(1)))? {
+            Some(table) => Some(table),
+            None => image.table_if_any(alloc, None)?,
+        };
+        let mbr = match look_at_mbr(alloc, &mut image.disk) {
+            Ok(mbr) => mbr,
+            Err(error) => return Err(refuse_error(alloc, image.name, &error)),
+        };
+        let content = match find_content(alloc, &mut image.disk) {
+            Ok(content) => content,
+            Err(error) => return Err(refuse_error(alloc, image.name, &error)),
+        };
+        Ok(There {
+            table,
+            mbr,
+            content,
+        })
+    }
+
+    // Whether anything would be lost.
+    fn is_something(&self) -> bool {
+        self.table.is_some() || self.mbr == Mbr::Other || self.content.is_some()
+    }
+
+    // What it is.
+    fn name(&self) -> &'static str {
+        match (&self.table, self.content, self.mbr) {
+            (Some(_table), _, _) => "a GUID partition table",
+            (None, Some(name), _) => name,
+            (None, None, Mbr::Other) => "an MBR with partitions",
+            _ => "nothing that is known",
+        }
+    }
+}
+
+// What is there, and what to do.
+impl fmt::Display for There {
+    fn fmt<W: fmt::Write>(&self, f: &mut fmt::Formatter<W>) -> fmt::Result {
+        write!(f, "there is {}", self.name())?;
+        if let Some(table) = &self.table {
+            let count = table.iter().filter(|(_, entry)| entry.is_used()).count();
+            write!(f, " of {count} partitions")?;
+        }
+        f.write_str(", which would be lost\n--force writes a new table all the same")
+    }
+}
+
+// Writes an empty table where this one stands.
+fn replace<R: RandomSource + AllocGlobal>(
+    rt: &R,
+    image: &mut Image<'_>,
+    was: &GPT,
+    guid: [u8; 16],
+    is_dry: bool,
+) -> Result<GPT, Failure> {
+    let alloc = rt.alloc();
+    let mut removed = Vec::new(alloc);
+    for (number, entry) in was.iter() {
+        if entry.is_used() {
+            removed.push(number)?;
+        }
+    }
+    let layout = Layout {
+        mode: Mode::Become { replace: true },
+        disk_guid: Some(guid),
+        align: Amount::Sectors(1),
+        removed,
+        asked: Vec::new(alloc),
+    };
+    match outcome_of(rt, image, Job::Lay(layout), is_dry)? {
+        Outcome::Changed { next, .. } => Ok(next),
+        Outcome::Unchanged { table } => Ok(table),
+        Outcome::Refused { table, refusal } => {
+            let text = RefusalText {
+                refusal: &refusal,
+                table: &table,
+                image: image.name,
+            };
+            Err(refuse(alloc, image.name, &text))
+        }
+    }
+}
+
+// Writes an empty table, where no table has that place.
+fn write_new(
+    alloc: Global,
+    image: &mut Image<'_>,
+    sector_size: u64,
+    guid: [u8; 16],
+    is_dry: bool,
+) -> Result<GPT, Failure>
+    requires { 0 < sector_size }
+{
+    let mut table = match GPT::new_from(alloc, &mut image.disk, sector_size, guid) {
+        Ok(table) => table,
+        Err(error) => return Err(refuse_error(alloc, image.name, &error)),
+    };
+    if is_dry {
+        return Ok(table);
+    }
+    match table.write_into(&mut image.disk) {
+        Ok(_other) => Ok(table),
+        Err(error) => Err(refuse_error(alloc, image.name, &error)),
+    }
+}
+
+// Tells of the new table.
+fn tell_new<W: Write>(
+    alloc: Global,
+    out: &mut W,
+    image: &mut Image<'_>,
+    there: &There,
+    table: &GPT,
+    how: How,
+) -> Result<(), Failure> {
+    if how.is_json && how.is_dry {
+        return print_state_json(out, alloc, image, table, &CopiesState::Good);
+    }
+    if how.is_json {
+        return print_json(out, alloc, image, table);
+    }
+    if how.is_dry {
+        writeln!(
+            out,
+            "a dry run, nothing is written; there is {}:",
+            there.name()
+        )?;
+    }
+    show_table(
+        out,
+        alloc,
+        image.name,
+        image.size,
+        table,
+        &CopiesState::Good,
+    )?;
+    Ok(())
+}

@@ -1,0 +1,297 @@
+"""`dump` and `apply`: layouts in TOML, scripts of sfdisk, and what is told of texts that are none."""
+import json
+import random
+import shutil
+import subprocess
+import uuid
+
+import table
+from commands import DISK, EFI, ESP, ESP_ENTRY, LINUX, MIB, ROOT, SWAP, holds_table, says, start
+from refusals import refused
+
+LAYOUTS = 200
+RANDOM = 4 * MIB
+# sfdisk writes no name with characters past U+FFFF.
+NAMES = ["", "root", "EFI System", "home-1", "Größe", "名前", "a'b", "tab\tbed", "x" * 36]
+BITS = {"required": 0, "no-block-io": 1, "legacy-boot": 2, "grow-file-system": 59, "read-only": 60,
+        "no-auto": 63}
+SPELLINGS = {0: "RequiredPartition", 1: "NoBlockIOProtocol", 2: "LegacyBIOSBootable"}
+
+# The layout of the guide, and the table that it gives an image of 128 MiB.
+LAYOUT = f"""[disk]
+guid = "{DISK}"   # else kept, or random
+align = "1MiB"
+[[partition]]
+number = 1                                      # else the next in order
+name = "ESP"
+type = "efi"
+size = "64MiB"
+guid = "{ESP}"
+attributes = ["required"]
+[[partition]]
+name = "root"
+type = "linux-root-x86-64"
+guid = "{ROOT}"
+size = "rest"                                   # one at most
+"""
+X86_ROOT = "4f68bce3-e8cd-4db1-96e7-fbcaf984b709"
+ROOT_ENTRY = table.Entry(X86_ROOT, ROOT, 133120, 260095, 0, "root")
+
+# Texts that are no layouts, and what is told of each.
+WRONG = [
+    ("[disk\n", "line 1, column 6: "),
+    ("x = 1\n", 'line 1: "x" is no key of the layout; the keys are disk, partition'),
+    ('[disk]\nsize = "1MiB"\n', 'line 2: "size" is no key of '),
+    ('[[partition]]\nsize = "1MiB"\nsize = "2MiB"\n', "line 3, "),
+    ('[[partition]]\n\nsize = "1MB"\n', "line 3: size of "),
+    ("[[partition]]\nsize = 7\n", "line 2: size of "),
+    ('[[partition]]\ntype = "linx"\n', "line 2: type of "),
+    ('[[partition]]\nguid = "12"\n', "line 2: guid of "),
+    ("[[partition]]\nnumber = 0\n", "line 2: number of "),
+    ("[[partition]]\nnumber = 99999999999999999999\n", "line 2, column 10: "),
+    ("[[partition]]\nnumber = 1\n[[partition]]\nnumber = 1\n", "a partition before it has the number 1"),
+    ('[[partition]]\nsize = "rest"\n[[partition]]\nsize = "rest"\n', "only one partition has the rest"),
+    ('[[partition]]\nname = "' + "x" * 37 + '"\n', "line 2: name of "),
+    ('[[partition]]\nname = "a\\u0000b"\n', "a name has no zero character"),
+    ('[[partition]]\nattributes = "required"\n', "line 2: attributes of "),
+    ('[[partition]]\nattributes = ["requird"]\n', "line 2: attributes of "),
+    ("partition = 3\n", "line 1: partition of "),
+    ("label: dos\n", "line 1: label of "),
+    ("label: gpt\nunit: cylinders\n", "line 2: unit of "),
+    ("label: gpt\nlabel-id: 7\n", "line 2: label-id of "),
+    ("label: gpt\nsecret: 7\n", 'line 2: "secret" is no key of '),
+    ("label: gpt\n\nstart=x\n", "line 3: start of "),
+    ("label: gpt\nstart=8MiB, size=1MiB\nsize=1MiB\n", "line 3: start of the partition: say where it begins"),
+    ("label: gpt\nsize=1MiB, colour=red\n", 'line 2: "colour" is no key of '),
+    ("label: gpt\nsector-size: 4096\n", "sector-size is 4096 here, and 512 in the table"),
+    ("label: gpt\nfirst-lba: 2048\n", "first-lba is 2048 here, and 34 in the table"),
+    ("label: gpt\nlast-lba: 7\n", "last-lba is 7 here, and 262110 in the table"),
+    ("label: gpt\ntable-length: 7\n", "table-length is 7 here, and 128 in the table"),
+    (b"\xff\xfe", "disk.toml: "),
+]
+
+
+def try_layout(tally, program):
+    """The layout of the guide, applied once and again, and to tables that have other partitions."""
+    start(program, False)
+    program.write("disk.toml", LAYOUT.encode())
+    both = {1: ESP_ENTRY, 2: ROOT_ENTRY}
+    lines = '+ 1 2048..133119 64 MiB efi "ESP"\n+ 2 133120..260095 62 MiB linux-root-x86-64 "root"\n'
+    says(tally, program, ["apply", "disk.img", "disk.toml", "-n"], "a dry run, nothing is written:\n" + lines)
+    says(tally, program, ["apply", "disk.img", "disk.toml"], lines)
+    holds_table(tally, program, "apply", both)
+    before = program.state("disk.img")
+    says(tally, program, ["apply", "disk.img", "disk.toml"], "unchanged\n")
+    says(tally, program, ["apply", "disk.img", "-"], "unchanged\n", text=LAYOUT)
+    tally.holds("what is as the layout says is not written", program.state("disk.img") == before)
+    program.run("set", "disk.img", "2", "--name", "other", "--attributes", "60")
+    says(tally, program, ["apply", "disk.img", "disk.toml"], '~ 2 name "other" -> "root"\n')
+    holds_table(tally, program, "apply", {1: ESP_ENTRY, 2: ROOT_ENTRY._replace(attributes=1 << 60)})
+    start(program, False)
+    program.run("add", "disk.img", "--type", "swap", "--size", "1MiB", "--number", "7", "--start", "200000s")
+    refused(tally, program, ["apply", "disk.img", "disk.toml"],
+            'partition 7 (200000..202047 1 MiB linux-swap "") is not in the layout\n--replace removes it')
+    program.run("apply", "disk.img", "disk.toml", "--replace")
+    holds_table(tally, program, "apply --replace", both)
+    program.write("moved.toml", LAYOUT.replace('size = "64MiB"', 'size = "32MiB"').encode())
+    refused(tally, program, ["apply", "disk.img", "moved.toml"], " would not stay where it is\n--replace gives")
+    program.run("apply", "disk.img", "moved.toml", "--replace")
+    found = table.read(program.file("disk.img")).entries[1]
+    tally.equals("apply --replace of another size", ESP_ENTRY._replace(last=67583), found)
+
+
+def try_kept(tally, program):
+    """What an entry has and the layout leaves out is kept."""
+    start(program)
+    program.write("disk.toml", b'[[partition]]\nname = "boot"\n')
+    says(tally, program, ["apply", "disk.img", "disk.toml"], '~ 1 name "ESP" -> "boot"\n')
+    holds_table(tally, program, "apply of a name", {1: ESP_ENTRY._replace(name="boot")})
+    program.write("disk.toml", b'[[partition]]\n[[partition]]\ntype = "swap"\nsize = "1MiB"\n')
+    program.run("apply", "disk.img", "disk.toml")
+    found = table.read(program.file("disk.img"))
+    tally.equals("a partition more", (DISK, [1, 2], SWAP, 133120),
+                 (found.guid, list(found.entries), found.entries[2].type, found.entries[2].first))
+    tally.equals("a GUID that is left out is a random one", "4", found.entries[2].guid[14])
+    program.write("disk.toml", b'[[partition]]\nnumber = 3\nsize = "1MiB"\n')
+    refused(tally, program, ["apply", "disk.img", "disk.toml", "--replace"], "partition 3 has no type")
+    program.write("disk.toml", b'[[partition]]\nnumber = 3\ntype = "swap"\n')
+    refused(tally, program, ["apply", "disk.img", "disk.toml", "--replace"], "partition 3 has no size")
+    program.write("disk.toml", b"")
+    refused(tally, program, ["apply", "disk.img", "disk.toml"], "is not in the layout")
+    program.run("apply", "disk.img", "disk.toml", "--replace")
+    holds_table(tally, program, "apply --replace of an empty layout", {})
+
+
+def try_wrong(tally, program):
+    """Texts that are no layouts."""
+    start(program)
+    for text, told in WRONG:
+        program.write("disk.toml", text if isinstance(text, bytes) else text.encode())
+        refused(tally, program, ["apply", "disk.img", "disk.toml"], told)
+
+
+def draw(random_, number, names=NAMES):
+    """A layout of random partitions, each behind the one before it: number -> entry."""
+    at, entries = 34, {}
+    for _ in range(number):
+        first = at + random_.choice([0, 0, 1, 7, random_.randrange(400)])
+        last = first + random_.choice([0, 1, 100, random_.randrange(900)])
+        if last > RANDOM // 512 - 34:
+            break
+        free = [n for n in range(1, 129) if n not in entries]
+        bits = sum(1 << b for b in random_.sample(sorted(SPELLINGS) + list(range(48, 64)), random_.randrange(4)))
+        guid = str(uuid.UUID(int=random_.getrandbits(128)))
+        kind = random_.choice([EFI, LINUX, SWAP, str(uuid.UUID(int=random_.getrandbits(128)))])
+        entries[random_.choice(free[:9])] = table.Entry(kind, guid, first, last, bits, random_.choice(names))
+        at = last + 1
+    return entries
+
+
+def quoted(text):
+    """A text as TOML and scripts have it."""
+    return json.dumps(text, ensure_ascii=False)
+
+
+def toml_of(guid, entries):
+    """The layout in TOML."""
+    lines = ["[disk]", f'guid = "{guid}"']
+    for number, entry in entries.items():
+        names = [quoted(name) if entry.attributes >> bit & 1 else "" for name, bit in BITS.items()]
+        others = [str(bit) for bit in range(64) if entry.attributes >> bit & 1 and bit not in BITS.values()]
+        lines += ["[[partition]]", f"number = {number}", f"name = {quoted(entry.name)}", f'type = "{entry.type}"',
+                  f'guid = "{entry.guid}"', f'start = "{entry.first}s"',
+                  f'size = "{entry.last - entry.first + 1}s"',
+                  "attributes = [" + ", ".join([n for n in names if n] + others) + "]"]
+    return "\n".join(lines) + "\n"
+
+
+def script_of(guid, entries):
+    """The layout as a script of sfdisk."""
+    lines = ["label: gpt", f"label-id: {guid}", "unit: sectors", "first-lba: 34", ""]
+    for number, entry in entries.items():
+        words = [word for bit, word in SPELLINGS.items() if entry.attributes >> bit & 1]
+        others = ",".join(str(bit) for bit in range(48, 64) if entry.attributes >> bit & 1)
+        attributes = " ".join(words + (["GUID:" + others] if others else []))
+        lines.append(f"disk.img{number} : start={entry.first}, size={entry.last - entry.first + 1}, "
+                     f'type={entry.type.upper()}, uuid={entry.guid.upper()}, name="{entry.name}", '
+                     f'attrs="{attributes}"')
+    return "\n".join(lines) + "\n"
+
+
+def try_random(tally, program):
+    """Random layouts, as TOML and as scripts, and what sfdisk makes of the same scripts."""
+    random_ = random.Random(1)
+    tool = shutil.which("sfdisk")
+    start(program, False, RANDOM)
+    for number in range(LAYOUTS):
+        entries, guid = draw(random_, random_.randrange(1, 30)), str(uuid.UUID(int=random_.getrandbits(128)))
+        text = (script_of if number % 2 else toml_of)(guid, entries)
+        ended = program.run("apply", "disk.img", "-", "--replace", text=text)
+        tally.equals(f"layout {number}", (0, ""), (ended[0], ended[2]))
+        found = table.read(program.file("disk.img"))
+        tally.equals(f"the table of layout {number}", (guid, entries), found and (found.guid, found.entries))
+        if tool:
+            program.make_image("theirs.img", RANDOM)
+            apply_theirs(tally, program, script_of(guid, entries), f"layout {number}", entries)
+    return f"{LAYOUTS} layouts" + (", each by sfdisk too" if tool else "")
+
+
+def apply_theirs(tally, program, script, what, entries):
+    """Has sfdisk apply a script, and compares its table, and what gptedit makes of the script it dumps."""
+    subprocess.run(["sfdisk", "-q", "theirs.img"], input=script.encode(), cwd=program.folder, check=False)
+    theirs = table.read(program.file("theirs.img"))
+    tally.equals(f"the table of {what} by sfdisk", entries, theirs and theirs.entries)
+    dumped = subprocess.run(["sfdisk", "--dump", "theirs.img"], stdout=subprocess.PIPE, cwd=program.folder,
+                            check=False).stdout.decode()
+    ended = program.run("apply", "theirs.img", "-", text=dumped)
+    tally.equals(f"what sfdisk dumps of {what}, applied", (0, "unchanged\n", ""), ended)
+
+
+def try_round(tally, program):
+    """What is dumped and applied gives the table."""
+    random_ = random.Random(2)
+    for number in range(20):
+        entries = draw(random_, 20, NAMES + ["data😀"])
+        start(program, False, RANDOM)
+        program.run("apply", "disk.img", "-", text=toml_of(DISK, entries))
+        program.write("dumped.toml", program.run("dump", "disk.img")[1].encode())
+        says(tally, program, ["apply", "disk.img", "dumped.toml"], "unchanged\n")
+        program.make_image("disk.img", RANDOM)
+        program.run("new", "disk.img")
+        program.run("apply", "disk.img", "dumped.toml")
+        found = table.read(program.file("disk.img"))
+        tally.equals(f"the table that was dumped, number {number}", (DISK, entries), (found.guid, found.entries))
+
+
+def try_defaults(tally, program):
+    """What scripts leave out is as sfdisk has it."""
+    scripts = ["size=1MiB, type=L\nsize=2MiB, type=S\n", ",4MiB,U\n,8MiB,L\n,,L\n", "size=+, name=all\n",
+               "size=3000, type=linux\nsize=1MiB, type=home\n", "size=1MiB\nstart=8MiB, size=1MiB, attrs=GUID:60\n"]
+    if not shutil.which("sfdisk"):
+        return "sfdisk is not installed: left out"
+    for script in scripts:
+        for name in ("disk.img", "theirs.img"):
+            program.make_image(name, 128 * MIB)
+        program.run("new", "disk.img")
+        ended = program.run("apply", "disk.img", "-", text="label: gpt\n" + script)
+        subprocess.run(["sfdisk", "-q", "theirs.img"], input=b"label: gpt\n" + script.encode(),
+                       cwd=program.folder, check=False)
+        ours, theirs = (table.read(program.file(name)) for name in ("disk.img", "theirs.img"))
+        tally.equals(f"the status of {script!r}", (0, ""), (ended[0], ended[2]))
+        tally.equals(f"the table of {script!r}", without_guids(theirs), without_guids(ours))
+    return None
+
+
+def without_guids(found):
+    """The entries of a table, but for their GUIDs, which are random."""
+    return {number: entry._replace(guid="") for number, entry in found.entries.items()}
+
+
+def try_readers(tally, program):
+    """Images of other tools, changed by gptedit, and read by all of them."""
+    makers = {
+        "sgdisk": ["sgdisk", "-n", "1:0:+8M", "-t", "1:ef00", "-c", "1:ESP", "theirs.img"],
+        "sfdisk": ["sh", "-c", "printf 'label: gpt\\nsize=8MiB, type=U, name=ESP\\n' | sfdisk -q theirs.img"],
+        "parted": ["parted", "-s", "theirs.img", "mklabel", "gpt", "mkpart", "ESP", "1MiB", "9MiB", "set", "1",
+                   "esp", "on"],
+        "cgpt": ["sh", "-c", "cgpt create theirs.img && cgpt boot -p theirs.img && "
+                 "cgpt add -i 1 -b 2048 -s 16384 -t efi -l ESP theirs.img"],
+    }
+    there = [name for name in makers if shutil.which(name)]
+    for name in there:
+        program.make_image("theirs.img", 128 * MIB)
+        subprocess.run(makers[name], cwd=program.folder, stdout=subprocess.DEVNULL, check=False)
+        before = table.read(program.file("theirs.img"))
+        tally.equals(f"check of an image of {name}", 0, program.run("check", "theirs.img")[0])
+        ended = program.run("add", "theirs.img", "--type", "linux", "--size", "rest", "--name", "root")
+        after = table.read(program.file("theirs.img"))
+        tally.equals(f"add to an image of {name}", (0, before.entries[1]), (ended[0], after.entries[1]))
+        tally.equals(f"the second partition beside one of {name}", (LINUX, "root"),
+                     (after.entries[2].type, after.entries[2].name))
+        for reader in there:
+            read_theirs(tally, program, reader, after.entries, f"an image of {name}")
+    return ", ".join(there)
+
+
+def read_theirs(tally, program, reader, entries, what):
+    """Counts whether another tool lists these entries."""
+    first, last = entries[2].first, entries[2].last
+    commands_of = {
+        "sgdisk": (["sgdisk", "-i", "2", "theirs.img"], [f"First sector: {first} ", f"Last sector: {last} "]),
+        "sfdisk": (["sfdisk", "--dump", "theirs.img"], [f"{first}, size={last - first + 1:12d}, type={LINUX.upper()}"]),
+        "parted": (["parted", "-s", "-m", "theirs.img", "unit", "s", "print"], [f"2:{first}s:{last}s:"]),
+        "cgpt": (["cgpt", "show", "-i", "2", "-b", "theirs.img"], [str(first)]),
+    }
+    words, wanted = commands_of[reader]
+    ended = subprocess.run(words, cwd=program.folder, stdout=subprocess.PIPE, stderr=subprocess.STDOUT,
+                           check=False)
+    printed = ended.stdout.decode()
+    tally.holds(f"{reader} reads {what}: {printed}", ended.returncode == 0 and
+                all(" ".join(text.split()) in " ".join(printed.split()) for text in wanted))
+    tally.holds(f"{reader} finds nothing wrong with {what}: {printed}",
+                not any(word in printed.lower() for word in ("corrupt", "mismatch", "invalid", "warning")))
+
+
+SUBJECTS = {"layouts": try_layout, "what layouts leave out": try_kept, "texts that are no layouts": try_wrong,
+            "random layouts": try_random, "dumps": try_round, "defaults of scripts": try_defaults,
+            "images of other tools": try_readers}

@@ -1,0 +1,111 @@
+"""Applies of twenty partitions that are killed at random moments, and in which each system call fails in turn:
+the old table or the new one, never between.
+"""
+import random
+import re
+import shutil
+import subprocess
+import time
+
+import table
+from commands import DISK
+from layouts import RANDOM, draw, toml_of
+
+KILLS = 150
+
+
+def start(program, entries):
+    """An image with a table of these entries."""
+    program.make_image("disk.img", RANDOM)
+    program.run("new", "disk.img", "--guid", DISK)
+    program.run("apply", "disk.img", "-", text=toml_of(DISK, entries))
+
+
+def draw_two():
+    """Two layouts of twenty partitions, of which no two have one GUID."""
+    random_ = random.Random(3)
+    return draw(random_, 20), draw(random_, 20)
+
+
+def is_whole(program, tables):
+    """Whether the image gives one of these tables, and each good copy does."""
+    copies = [copy and copy.entries for copy in table.read_copies(program.file("disk.img"))]
+    good = [copy for copy in copies if copy is not None]
+    return bool(good) and all(copy in tables for copy in good)
+
+
+def try_kills(tally, program):
+    """Kills at random moments."""
+    random_ = random.Random(4)
+    old, new = draw_two()
+    start(program, old)
+    program.write("a.toml", toml_of(DISK, old).encode())
+    program.write("b.toml", toml_of(DISK, new).encode())
+    began = time.monotonic()
+    program.run("apply", "disk.img", "b.toml", "--replace")
+    longest = (time.monotonic() - began) * 1.5
+    killed = 0
+    for number in range(KILLS):
+        file = ("a.toml", "b.toml")[number % 2]
+        with subprocess.Popen([program.path, "apply", "disk.img", file, "--replace"], cwd=program.folder,
+                              stdout=subprocess.DEVNULL) as process:
+            time.sleep(random_.random() * longest)
+            process.kill()
+            killed += process.wait() != 0
+        tally.holds(f"a whole table after kill {number}", is_whole(program, (old, new)))
+        if number % 10 == 9:
+            tally.equals(f"the status of repair after kill {number}", 0, program.run("repair", "disk.img")[0])
+            tally.holds(f"both copies are one after kill {number}", table.read(program.file("disk.img")))
+    tally.holds("a command is killed", killed)
+    return f"{killed} killed"
+
+
+def can_inject(program):
+    """Whether strace can make system calls fail here."""
+    words = ["strace", "-e", "inject=fsync:error=EIO", "-o", "calls", program.path, "types"]
+    return shutil.which("strace") and subprocess.run(words, cwd=program.folder, stdout=subprocess.DEVNULL,
+                                                     stderr=subprocess.DEVNULL, check=False).returncode == 0
+
+
+def try_failures(tally, program):
+    """Each system call of an apply fails in turn."""
+    if not can_inject(program):
+        return "strace is not installed or not allowed: left out"
+    old, new = draw_two()
+    start(program, old)
+    program.write("b.toml", toml_of(DISK, new).encode())
+    good = program.state("disk.img")
+    apply = [program.path, "apply", "disk.img", "b.toml", "--replace"]
+    for call in count_calls(program, apply, good):
+        name, number = call
+        program.restore("disk.img", good)
+        words = ["strace", "-o", "calls", "-e", f"inject={name}:error=EIO:when={number}", *apply]
+        ended = subprocess.run(words, cwd=program.folder, stdout=subprocess.PIPE, stderr=subprocess.PIPE,
+                               check=False)
+        entries = [copy and copy.entries for copy in table.read_copies(program.file("disk.img"))]
+        what = f"{name} {number} fails"
+        tally.holds(f"a whole table where {what}: {entries}", is_whole(program, (old, new)))
+        tally.holds(f"status 0 or 1 where {what}: {ended.returncode}", ended.returncode in (0, 1))
+        if ended.returncode == 0:
+            tally.equals(f"both copies after Ok where {what}", [new, new], entries)
+        elif name != "write" or b"standard output" not in ended.stderr:
+            tally.holds(f"a reason where {what}", ended.stderr.startswith(b"gptedit: ") or name == "write")
+    return None
+
+
+def count_calls(program, apply, good):
+    """Each call of an apply as its name and its number among those of that name."""
+    subprocess.run(["strace", "-o", "calls", *apply], cwd=program.folder, stdout=subprocess.DEVNULL, check=False)
+    program.restore("disk.img", good)
+    names = re.findall(r"^(\w+)\(", program.bytes_of("calls").decode(), re.M)
+    begin = next(i for i, name in enumerate(names) if name in ("fstat", "stat", "newfstatat", "statx")
+                 and i > len(names) - 200)
+    counts, calls = {}, []
+    for i, name in enumerate(names):
+        counts[name] = counts.get(name, 0) + 1
+        if i >= begin and name not in ("exit_group", "munmap", "brk", "mmap"):
+            calls.append((name, counts[name]))
+    return calls
+
+
+SUBJECTS = {"kills": try_kills, "system calls that fail": try_failures}
