@@ -1,5 +1,6 @@
 """`dump` and `apply`: layouts in TOML, scripts of sfdisk, and what is told of texts that are none."""
 import json
+import os
 import random
 import shutil
 import subprocess
@@ -256,11 +257,16 @@ def try_readers(tally, program):
                    "esp", "on"],
         "cgpt": ["sh", "-c", "cgpt create theirs.img && cgpt boot -p theirs.img && "
                  "cgpt add -i 1 -b 2048 -s 16384 -t efi -l ESP theirs.img"],
+        "systemd-repart": ["systemd-repart", "--definitions=" + program.file("definitions"), "--dry-run=no",
+                           "--empty=force", "theirs.img"],
     }
+    os.makedirs(program.file("definitions"), exist_ok=True)
+    program.write("definitions/10-esp.conf", b"[Partition]\nType=esp\nLabel=ESP\nSizeMinBytes=8M\nSizeMaxBytes=8M\n")
     there = [name for name in makers if shutil.which(name)]
     for name in there:
         program.make_image("theirs.img", 128 * MIB)
-        subprocess.run(makers[name], cwd=program.folder, stdout=subprocess.DEVNULL, check=False)
+        subprocess.run(makers[name], cwd=program.folder, stdout=subprocess.DEVNULL, stderr=subprocess.DEVNULL,
+                       check=False)
         before = table.read(program.file("theirs.img"))
         tally.equals(f"check of an image of {name}", 0, program.run("check", "theirs.img")[0])
         ended = program.run("add", "theirs.img", "--type", "linux", "--size", "rest", "--name", "root")
@@ -281,6 +287,8 @@ def read_theirs(tally, program, reader, entries, what):
         "sfdisk": (["sfdisk", "--dump", "theirs.img"], [f"{first}, size={last - first + 1:12d}, type={LINUX.upper()}"]),
         "parted": (["parted", "-s", "-m", "theirs.img", "unit", "s", "print"], [f"2:{first}s:{last}s:"]),
         "cgpt": (["cgpt", "show", "-i", "2", "-b", "theirs.img"], [str(first)]),
+        "systemd-repart": (["systemd-repart", "--definitions=" + program.file("definitions"), "--json=short",
+                            "theirs.img"], [f'"offset":{first * 512},"old_size":{(last - first + 1) * 512},']),
     }
     words, wanted = commands_of[reader]
     ended = subprocess.run(words, cwd=program.folder, stdout=subprocess.PIPE, stderr=subprocess.STDOUT,

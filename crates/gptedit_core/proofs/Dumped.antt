@@ -53,7 +53,7 @@ stays_at i there (From first) is = absurd (cc)
 stays_at i there (Free size choice) is = absurd (cc)
 stays_at i there Longest is = absurd (cc)
 
-place_stays : (a : Asked) (i ss : ℕ) (e : GPTPartitionEntry) (place : Place) → place_asked (Become false) a i (Some e) ss ≡ Ok place → place ≡ At e.starting_lba e.ending_lba
+pub place_stays : (a : Asked) (i ss : ℕ) (e : GPTPartitionEntry) (place : Place) → place_asked (Become false) a i (Some e) ss ≡ Ok place → place ≡ At e.starting_lba e.ending_lba
 place_stays a i ss e place is =
     let start = and_then_ok (start_asked a.start ss) _ place is in
     let room = and_then_ok (room_asked a.size i ss) _ place start.2 in
@@ -62,32 +62,34 @@ place_stays a i ss e place is =
     sym stay.1 ∙ stays_at i (e.starting_lba, e.ending_lba) at.0 stay.0
 
 -- The partition is the used entry of its number, where it stands.
-record IsOwn (g : GPT) (p : Partition) : Type 0 where
-  low : 1 ≤ p.number
-  e : GPTPartitionEntry
-  at : entry_at g p.number ≡ e
-  used : IsTrue (is_used e)
-  entry : p.entry ≡ e
-  place : p.place ≡ At e.starting_lba e.ending_lba
+pub record IsOwn (g : GPT) (p : Partition) : Type 0 where
+  pub low : 1 ≤ p.number
+  pub e : GPTPartitionEntry
+  pub at : entry_at g p.number ≡ e
+  pub used : IsTrue (is_used e)
+  pub entry : p.entry ≡ e
+  pub place : p.place ≡ At e.starting_lba e.ending_lba
 
-abbrev with_used : GPT → Asked → List ℕ → ℕ → Option GPTPartitionEntry → Result Partition Refusal
+abbrev pub with_used : GPT → Asked → List ℕ → ℕ → Option GPTPartitionEntry → Result Partition Refusal
 with_used g a random i used =
     let e = entry_asked a used random in
     and_then (unless (use_fault (Become false) i used) i) (λ _.
     and_then (place_asked (Become false) a i used g.sector_size) (λ place.
     if is_unused e then Err (NoType i) else Ok (record { number = i; entry = e; place = place })))
 
-own_part : (g : GPT) (i : ℕ) (e : GPTPartitionEntry) (random : List ℕ) (p : Partition) → 1 ≤ i → entry_at g i ≡ e → IsTrue (is_used e)
-    → with_used g (asked_of i e) random i (Some e) ≡ Ok p → (p.number ≡ i) × IsOwn g p
-own_part g i e random p low at used is =
-    let place = and_then_ok (place_asked (Become false) (asked_of i e) i (Some e) g.sector_size) _ p is in
-    let whole : Partition = record { number = i; entry = e; place = place.0 } in
-    let end = else_ok (is_unused e) (NoType i) whole p place.2 in (
+-- What is asked of a used entry that makes it what it is.
+pub own_part : (g : GPT) (a : Asked) (i : ℕ) (e : GPTPartitionEntry) (random : List ℕ) (p : Partition) → 1 ≤ i → entry_at g i ≡ e → IsTrue (is_used e)
+    → entry_asked a (Some e) random ≡ e → with_used g a random i (Some e) ≡ Ok p → (p.number ≡ i) × IsOwn g p
+own_part g a i e random p low at used same is =
+    let asked : GPTPartitionEntry = entry_asked a (Some e) random in
+    let place = and_then_ok (place_asked (Become false) a i (Some e) g.sector_size) _ p is in
+    let whole : Partition = record { number = i; entry = asked; place = place.0 } in
+    let end = else_ok (is_unused asked) (NoType i) whole p place.2 in (
       sym (ap (λ (q : Partition). q.number) end.1),
-      subst (IsOwn g) end.1 (record { low = low; e = e; at = at; used = used; entry = refl; place = place_stays (asked_of i e) i g.sector_size e place.0 place.1 }),
+      subst (IsOwn g) end.1 (record { low = low; e = e; at = at; used = used; entry = same; place = place_stays a i g.sector_size e place.0 place.1 }),
     )
 
-used_is : (g : GPT) (i : ℕ) (e : GPTPartitionEntry) → entry_of_number g i ≡ Some e → IsTrue (is_used e) → used_at g i ≡ Some e
+pub used_is : (g : GPT) (i : ℕ) (e : GPTPartitionEntry) → entry_of_number g i ≡ Some e → IsTrue (is_used e) → used_at g i ≡ Some e
 used_is g i e found used =
     subst (λ (o : Option GPTPartitionEntry). ◌≡◌ {A = Option GPTPartitionEntry} (elim o [ None ↦ None | Some x ↦ if is_used x then Some x else None ]) (Some e)) (sym found)
     (subst (λ (b : Bool). ◌≡◌ {A = Option GPTPartitionEntry} (if b then Some e else None) (Some e)) (sym used) refl)
@@ -102,15 +104,15 @@ own_one g i e random p low found at used is =
     let both : Ok i ≡ Ok number.0 = sym here ∙ number.1 in
     let same : number.0 ≡ i = cc in
     let part : partition_at g (Become false) a random i ≡ Ok p = subst (λ (n : ℕ). partition_at g (Become false) a random n ≡ Ok p) same number.2 in
-    own_part g i e random p low at used (subst (λ (u : Option GPTPartitionEntry). with_used g a random i u ≡ Ok p) (used_is g i e found used) part)
+    own_part g a i e random p low at used refl (subst (λ (u : Option GPTPartitionEntry). with_used g a random i u ≡ Ok p) (used_is g i e found used) part)
 
 -- ---- all of them
 
-abbrev OwnedBy : GPT → List Partition → Type 0
+abbrev pub OwnedBy : GPT → List Partition → Type 0
 OwnedBy g [] = Unit {0}
 OwnedBy g (p ∷ ps) = IsOwn g p × OwnedBy g ps
 
-abbrev HasNumber : ℕ → List Partition → Type 0
+abbrev pub HasNumber : ℕ → List Partition → Type 0
 HasNumber i [] = ⊥
 HasNumber i (p ∷ ps) = (p.number ≡ i) ⊎ HasNumber i ps
 
@@ -163,7 +165,7 @@ all_own g k (e ∷ es) randoms ps low has enough all =
 -- ---- what that leaves under each number
 
 -- What is there under the number of a partition that was the table's own is the entry that it had.
-own_there : (g next : GPT) (j : ℕ) (ps : List Partition) → OwnedBy g ps → AreThere ps next → HasNumber j ps → entry_at next j ≡ entry_at g j
+pub own_there : (g next : GPT) (j : ℕ) (ps : List Partition) → OwnedBy g ps → AreThere ps next → HasNumber j ps → entry_at next j ≡ entry_at g j
 own_there g next j [] own there has = absurd has
 own_there g next j (p ∷ ps) own there (inr has) = own_there g next j ps own.1 there.1 has
 own_there g next j (p ∷ ps) own there (inl same) =
@@ -226,6 +228,13 @@ used_below [] m used = absurd (cc)
 used_below (e ∷ es) zero used = omega arith
 used_below (e ∷ es) (suc m) used = let less = used_below es m used in omega (arith, less)
 
+-- Tables that have the same under each number have the same entries.
+pub equal_entries : (g next : GPT) → length (entries_in next) ≡ length (entries_in g) → ((m : ℕ) → entry_at next (suc m) ≡ entry_at g (suc m)) → entries_in next ≡ entries_in g
+equal_entries g next long each =
+    same_lists (entries_in next) (entries_in g) long (λ k d below.
+    get_or_default (entries_in next) k d empty_entry below ∙ (sym (at_number next k (suc k) (omega arith)) ∙ (each k
+    ∙ (at_number g k (suc k) (omega arith) ∙ get_or_default (entries_in g) k empty_entry d (omega (arith, below, long))))))
+
 -- ---- the whole table
 
 module _ (g next : GPT) (layout : Layout) (randoms : List (List ℕ)) (is : IsLayoutOf g layout) (enough : length layout.asked.items ≤ length randoms)
@@ -259,11 +268,7 @@ module _ (g next : GPT) (layout : Layout) (randoms : List (List ℕ)) (is : IsLa
   each_by m false unused = each_unused m unused
 
   same_entries : entries_in next ≡ entries_in g
-  same_entries =
-      let long = (done_keeps (Lay layout) randoms g next laid).long in
-      same_lists (entries_in next) (entries_in g) long (λ k d below.
-      get_or_default (entries_in next) k d empty_entry below ∙ (sym (at_number next k (suc k) (omega arith)) ∙ (each_by k (is_used (entry_at g (suc k))) refl
-      ∙ (at_number g k (suc k) (omega arith) ∙ get_or_default (entries_in g) k empty_entry d (omega (arith, below, long))))))
+  same_entries = equal_entries g next (done_keeps (Lay layout) randoms g next laid).long (λ k. each_by k (is_used (entry_at g (suc k))) refl)
 
   same_guid : next.header.disk_guid ≡ g.header.disk_guid
   same_guid =

@@ -1,3 +1,4 @@
+pub mod Again
 pub mod Checked
 pub mod Dumped
 pub mod Kept

@@ -1,5 +1,5 @@
 -- Which entries a layout names, and what becomes of these and of the others.
-use Rattle.std.specs.Prelude.{◌≡◌, ◌≢◌, ◌≤◌, ℕ, List, [], ◌∷◌, false, length, All, IsTrue}
+use Rattle.std.specs.Prelude.{◌≡◌, ◌≢◌, ◌≤◌, ℕ, List, [], ◌∷◌, Some, false, length, All, IsTrue}
 use Rattle.gptman.specs.Entry.{is_unused}
 use Rattle.gptman.specs.Number.{entry_at}
 use Rattle.gptman.specs.Table.{table_in}
@@ -8,6 +8,7 @@ use Rattle.gptman.specs.declared.table.GPT.{GPT}
 use Rattle.gptedit_core.specs.Dumping.{IsLayoutOf}
 use Rattle.gptedit_core.specs.Laying.{IsLaid}
 use Rattle.gptedit_core.specs.Placing.{IsSpan}
+use Rattle.gptedit_core.specs.declared.asked.Asked.{Asked}
 use Rattle.gptedit_core.specs.declared.asked.Layout.{Layout}
 use Rattle.gptedit_core.specs.declared.asked.Mode.{Mode}
 use Rattle.gptedit_core.specs.declared.asked.Mode.TheVariants.{Become}
@@ -48,3 +49,15 @@ LayoutsChangeNamed = (layout : Layout) (randoms : List (List ℕ)) (g next : GPT
 abbrev pub LayoutsGiveTable : Type 0
 LayoutsGiveTable = (g next : GPT) (layout : Layout) (randoms : List (List ℕ)) → IsLayoutOf g layout → length layout.asked.items ≤ length randoms → IsLaid layout randoms g next
     → table_in next ≡ table_in g
+
+-- each of them gives its number
+abbrev pub AreNumbered : List Asked → Type 0
+AreNumbered [] = Unit {0}
+AreNumbered (a ∷ asked) = ((i : ℕ) × (a.number ≡ Some i)) × AreNumbered asked
+
+-- A layout that was put into a table, in whatever mode, changes nothing where the table is to become it again and nothing may be replaced.
+abbrev pub LayoutsStay : Type 0
+LayoutsStay = (g next after : GPT) (layout again : Layout) (randoms others : List (List ℕ)) → AreNumbered layout.asked.items
+    → again.asked.items ≡ layout.asked.items → again.disk_guid ≡ layout.disk_guid → again.mode ≡ Become false → again.removed.items ≡ []
+    → length layout.asked.items ≤ length randoms → length layout.asked.items ≤ length others
+    → IsLaid layout randoms g next → IsLaid again others next after → table_in after ≡ table_in next

@@ -1,6 +1,6 @@
 //! Laws of what is asked for, over definitions alone. These calls do nothing.
 
-ghost use Rattle.gptedit_core.specs.Named.{LayoutsChangeNamed, LayoutsGiveTable};
+ghost use Rattle.gptedit_core.specs.Named.{LayoutsChangeNamed, LayoutsGiveTable, LayoutsStay};
 
 /// A layout that is put into a table changes the entries that it names or removes, and no other: each that
 /// it names is there with what was asked for, at a place that the table had for it, and each other stays.
@@ -12,4 +12,9 @@ pub fn layouts_change_what_they_name()
 /// The layout of a table (`layout_of`) gives that table where it is put into it.
 pub fn layouts_of_tables_give_them()
     ensures { LayoutsGiveTable }
+{}
+
+/// A layout that gives each entry its number, put into a table that it was put into before, leaves that table.
+pub fn layouts_again_change_nothing()
+    ensures { LayoutsStay }
 {}

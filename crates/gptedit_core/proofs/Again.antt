@@ -1,0 +1,228 @@
+-- A layout that was put into a table, put into it again.
+use Rattle.std.proofs.Common.{◌≡◌, ◌≢◌, ◌≤◌, ◌<◌, ◌⊎◌, inl, inr, ℕ, ◌-◌, List, [], ◌∷◌, refl, sym, ap, ◌∙◌, subst, arith, zero, suc, IsTrue, Bool, true, false, length}
+use Rattle.std.specs.Prelude.{Option, Some, None, Result, Ok, Err, All, nat_eq, nat_le, not, slice_get, unwrap_or, if◌then◌else◌}
+use Rattle.std.proofs.lemmas.Bool.{eqb-false, eqb-true, leb-true}
+use Rattle.std.proofs.lemmas.Option.{slice_get_within, slice_get-get_or}
+use Rattle.gptman.specs.Coding.{empty_entry}
+use Rattle.gptman.specs.Entry.{is_unused, is_used}
+use Rattle.gptman.specs.Number.{entry_at, entry_of_number, with_entry}
+use Rattle.gptman.specs.Table.{entries_in, table_in, table_of}
+use Rattle.gptman_copy.specs.declared.codec.entry.GPTPartitionEntry.{GPTPartitionEntry}
+use Rattle.gptman_copy.specs.declared.codec.header.GPTHeader.{GPTHeader}
+use Rattle.gptman.specs.declared.table.GPT.{GPT}
+use Rattle.gptedit_core.specs.Laying.{cleared, removed_all, ArePut, IsLaid}
+use Rattle.gptedit_core.specs.Named.{AreNumbered, AreThere, IsThere, IsUnnamed, LayoutsStay, StaysAs}
+use Rattle.gptedit_core.specs.Resolving.{and_then, entry_asked, entry_there, lowest_unused, number_asked, number_asked_or, partition_at, place_asked, resolved, resolved_all, unless, use_fault, used_at}
+use Rattle.gptedit_core.specs.declared.asked.Asked.{Asked}
+use Rattle.gptedit_core.specs.declared.asked.Layout.{Layout}
+use Rattle.gptedit_core.specs.declared.asked.Mode.{Mode}
+use Rattle.gptedit_core.specs.declared.asked.Mode.TheVariants.{Become}
+use Rattle.gptedit_core.specs.declared.place.Place.{Place}
+use Rattle.gptedit_core.specs.declared.refusal.Refusal.{Refusal}
+use Rattle.gptedit_core.specs.declared.refusal.Refusal.TheVariants.{NoEntry, NoType}
+use Rattle.gptedit_core.specs.declared.resolve.Partition.{Partition}
+use Rattle.gptedit_core.specs.declared.plan.Job.TheVariants.{Lay}
+use Rattle.gptedit_core.proofs.Dumped.{equal_entries, own_part, own_there, used_is, with_used, HasNumber, IsOwn, OwnedBy}
+use Rattle.gptedit_core.proofs.Kept.{done_keeps}
+use Rattle.gptedit_core.proofs.Laid.{change_named}
+use Rattle.gptedit_core.proofs.Steps.{and_then_ok, else_ok}
+
+-- ---- one entry
+
+twice : {A : Type 0} (o : Option A) (x : A) → unwrap_or o (unwrap_or o x) ≡ unwrap_or o x
+twice None x = refl
+twice (Some a) x = refl
+
+-- What was asked of an entry is what it has, wherever it came to be.
+asked_again : (a : Asked) (x : GPTPartitionEntry) (random : List ℕ) (first last : ℕ) →
+    let y : GPTPartitionEntry = record x {
+      partition_type_guid = unwrap_or a.type_guid x.partition_type_guid;
+      unique_partition_guid = unwrap_or a.unique_guid x.unique_partition_guid;
+      attribute_bits = unwrap_or a.attributes x.attribute_bits;
+      partition_name = unwrap_or a.name x.partition_name;
+      starting_lba = first;
+      ending_lba = last;
+    } in entry_asked a (Some y) random ≡ y
+asked_again a x random first last = λ i. record x {
+  partition_type_guid = twice a.type_guid x.partition_type_guid i;
+  unique_partition_guid = twice a.unique_guid x.unique_partition_guid i;
+  attribute_bits = twice a.attributes x.attribute_bits i;
+  partition_name = twice a.name x.partition_name i;
+  starting_lba = first;
+  ending_lba = last;
+}
+
+used_of : (b : Bool) → (¬ IsTrue b) → IsTrue (not b)
+used_of true unused = absurd (unused refl)
+used_of false unused = refl
+
+-- The number that is given is the one of an entry.
+given_at : (o : Option GPTPartitionEntry) (i n : ℕ) → ◌≡◌ {A = Result ℕ Refusal} (elim o [ None ↦ Err (NoEntry i) | Some e ↦ Ok i ]) (Ok n)
+    → (i ≡ n) × ((e : GPTPartitionEntry) × (o ≡ Some e))
+given_at None i n is = absurd (cc)
+given_at (Some e) i n is = let same : i ≡ n = cc in (same, (e, refl))
+
+given : (g : GPT) (a : Asked) (i n : ℕ) → a.number ≡ Some i → number_asked g a ≡ Ok n → (i ≡ n) × ((e : GPTPartitionEntry) × (entry_of_number g i ≡ Some e))
+given g a i n number is =
+    given_at (entry_of_number g i) i n (subst (λ (o : Option ℕ). number_asked_or g o (lowest_unused g) ≡ Ok n) number is)
+
+-- It is above zero, and the entry is there.
+of_by : (g : GPT) (i : ℕ) (e : GPTPartitionEntry) (b : Bool) → nat_le 1 i ≡ b
+    → ◌≡◌ {A = Option GPTPartitionEntry} (if b then slice_get (entries_in g) (i - 1) else None) (Some e) → (1 ≤ i) × (entry_at g i ≡ e)
+of_by g i e false low is = absurd (cc)
+of_by g i e true low is =
+    let below = slice_get_within (entries_in g) (i - 1) e is in
+    let found = sym (slice_get-get_or (entries_in g) (i - 1) empty_entry below) ∙ is in
+    let same : entry_at g i ≡ e = cc in
+    (leb-true 1 i low, same)
+
+-- What was put first, where its number was given.
+record IsFirst (a : Asked) (i : ℕ) (p : Partition) : Type 0 where
+  number : i ≡ p.number
+  x : GPTPartitionEntry
+  used : ¬ IsTrue (is_unused p.entry)
+  entry : p.entry ≡ record x {
+    partition_type_guid = unwrap_or a.type_guid x.partition_type_guid;
+    unique_partition_guid = unwrap_or a.unique_guid x.unique_partition_guid;
+    attribute_bits = unwrap_or a.attributes x.attribute_bits;
+    partition_name = unwrap_or a.name x.partition_name;
+  }
+
+is_first : (g : GPT) (mode : Mode) (a : Asked) (random : List ℕ) (i : ℕ) (p : Partition) → a.number ≡ Some i → resolved g mode a random ≡ Ok p → IsFirst a i p
+is_first g mode a random i p number_is is =
+    let number = and_then_ok (number_asked g a) (partition_at g mode a random) p is in
+    let n : ℕ = number.0 in
+    let used = used_at g n in
+    let e : GPTPartitionEntry = entry_asked a used random in
+    let last : Place → Result Partition Refusal = λ place. if is_unused e then Err (NoType n) else Ok (record { number = n; entry = e; place = place }) in
+    let use_of = and_then_ok (unless (use_fault mode n used) n) (λ (j : ℕ). and_then (place_asked mode a n used g.sector_size) last) p number.2 in
+    let place = and_then_ok (place_asked mode a n used g.sector_size) last p use_of.2 in
+    let end = else_ok (is_unused e) (NoType n) (record { number = n; entry = e; place = place.0 }) p place.2 in
+    let same : i ≡ n = (given g a i n number_is number.1).0 in
+    subst (IsFirst a i) end.1 (record { number = same; x = entry_there used random; used = end.0; entry = refl })
+
+-- Put again, it is the entry that is there.
+own_again : (g next : GPT) (mode : Mode) (a : Asked) (random other : List ℕ) (i : ℕ) (p q : Partition) → a.number ≡ Some i → resolved g mode a random ≡ Ok p → IsThere p next
+    → resolved next (Become false) a other ≡ Ok q → IsOwn next q
+own_again g next mode a random other i p q number_is is there again =
+    let first = is_first g mode a random i p number_is is in
+    let number = and_then_ok (number_asked next a) (partition_at next (Become false) a other) q again in
+    let here = given next a i number.0 number_is number.1 in
+    let at = of_by next i here.1.0 (nat_le 1 i) refl here.1.1 in
+    let y : GPTPartitionEntry = record first.x {
+      partition_type_guid = unwrap_or a.type_guid first.x.partition_type_guid;
+      unique_partition_guid = unwrap_or a.unique_guid first.x.unique_partition_guid;
+      attribute_bits = unwrap_or a.attributes first.x.attribute_bits;
+      partition_name = unwrap_or a.name first.x.partition_name;
+      starting_lba = there.first;
+      ending_lba = there.last;
+    } in
+    let put : entry_at next p.number ≡ y = there.entry ∙ (λ k. record (first.entry k) { starting_lba = there.first; ending_lba = there.last }) in
+    let stands : entry_at next i ≡ y = subst (λ (n : ℕ). entry_at next n ≡ y) (sym first.number) put in
+    let found : entry_of_number next i ≡ Some y = here.1.1 ∙ ap Some (sym at.1 ∙ stands) in
+    let type : ¬ IsTrue (is_unused y) = subst (λ (e : GPTPartitionEntry). ¬ IsTrue (is_unused e)) first.entry first.used in
+    let used : IsTrue (is_used y) = used_of (is_unused y) type in
+    let part : partition_at next (Become false) a other i ≡ Ok q = subst (λ (n : ℕ). partition_at next (Become false) a other n ≡ Ok q) (sym here.0) number.2 in
+    let with : with_used next a other i (Some y) ≡ Ok q = subst (λ (u : Option GPTPartitionEntry). with_used next a other i u ≡ Ok q) (used_is next i y found used) part in
+    (own_part next a i y other q at.0 stands used (asked_again a first.x other there.first there.last) with).1
+
+-- ---- all of them
+
+all_again : (g next : GPT) (mode : Mode) (asked : List Asked) (randoms others : List (List ℕ)) (ps qs : List Partition) → AreNumbered asked
+    → length asked ≤ length randoms → length asked ≤ length others → resolved_all g mode asked randoms ≡ Ok ps → AreThere ps next
+    → resolved_all next (Become false) asked others ≡ Ok qs → OwnedBy next qs
+all_again g next mode [] randoms others ps qs numbered long more all there again = let none : [] ≡ qs = cc in subst (OwnedBy next) none tt
+all_again g next mode (a ∷ asked) [] others ps qs numbered long more all there again = absurd (omega (arith, long))
+all_again g next mode (a ∷ asked) (random ∷ randoms) [] ps qs numbered long more all there again = absurd (omega (arith, more))
+all_again g next mode (a ∷ asked) (random ∷ randoms) (other ∷ others) ps qs numbered long more all there again =
+    let p = and_then_ok (resolved g mode a random) _ ps all in
+    let rest = and_then_ok (resolved_all g mode asked randoms) _ ps p.2 in
+    let whole : p.0 ∷ rest.0 ≡ ps = cc in
+    let both : AreThere (p.0 ∷ rest.0) next = subst (λ (xs : List Partition). AreThere xs next) (sym whole) there in
+    let q = and_then_ok (resolved next (Become false) a other) _ qs again in
+    let last = and_then_ok (resolved_all next (Become false) asked others) _ qs q.2 in
+    let same : q.0 ∷ last.0 ≡ qs = cc in
+    subst (OwnedBy next) same (
+      own_again g next mode a random other numbered.0.0 p.0 q.0 numbered.0.1 p.1 both.0 q.1,
+      all_again g next mode asked randoms others rest.0 last.0 numbered.1 (omega (arith, long)) (omega (arith, more)) rest.1 both.1 last.1,
+    )
+
+-- ---- what that leaves under each number
+
+unnamed_more : (j : ℕ) (p : Partition) (ps : List Partition) → p.number ≢ j → IsUnnamed j ps → IsUnnamed j (p ∷ ps)
+unnamed_more j p ps differ rest zero q below = differ
+unnamed_more j p ps differ rest (suc k) q below = rest k q (omega (arith, below))
+
+named_by : (j : ℕ) (p : Partition) (ps : List Partition) (b : Bool) → nat_eq p.number j ≡ b → (HasNumber j ps ⊎ IsUnnamed j ps) → HasNumber j (p ∷ ps) ⊎ IsUnnamed j (p ∷ ps)
+named_by j p ps true is rest = inl (inl (eqb-true p.number j is))
+named_by j p ps false is (inl has) = inl (inr has)
+named_by j p ps false is (inr unnamed) = inr (unnamed_more j p ps (eqb-false p.number j is) unnamed)
+
+named_or : (j : ℕ) (ps : List Partition) → HasNumber j ps ⊎ IsUnnamed j ps
+named_or j [] = inr (λ k d below. absurd (omega (arith, below)))
+named_or j (p ∷ ps) = named_by j p ps (nat_eq p.number j) refl (named_or j ps)
+
+-- ---- the GUID of the disk
+
+put_guid : (ps : List Partition) (g h : GPT) → ArePut ps g h → h.header.disk_guid ≡ g.header.disk_guid
+put_guid [] g h is = ap (λ (m : GPT). m.header.disk_guid) is
+put_guid (p ∷ ps) g h is = put_guid ps is.0 h is.2 ∙ ap (λ (m : GPT). m.header.disk_guid) is.1.next_is
+
+clear_one : (i : ℕ) (g h : GPT) (next : GPT → Result GPT Refusal) (found : Option GPTPartitionEntry)
+    → ◌≡◌ {A = Result GPT Refusal} (elim found [ None ↦ Err (NoEntry i) | Some e ↦ next (with_entry g i empty_entry) ]) (Ok h)
+    → ((m : GPT) → next m ≡ Ok h → h.header.disk_guid ≡ m.header.disk_guid) → h.header.disk_guid ≡ g.header.disk_guid
+clear_one i g h next None is rest = absurd (cc)
+clear_one i g h next (Some e) is rest = rest (with_entry g i empty_entry) is
+
+clear_guid : (ps : List Partition) (g h : GPT) → cleared ps g ≡ Ok h → h.header.disk_guid ≡ g.header.disk_guid
+clear_guid [] g h done = let same : g ≡ h = cc in ap (λ (m : GPT). m.header.disk_guid) (sym same)
+clear_guid (p ∷ ps) g h done = clear_one p.number g h (cleared ps) (entry_of_number g p.number) done (λ m is. clear_guid ps m h is)
+
+-- ---- the whole table
+
+module _ (g next after : GPT) (layout again : Layout) (randoms others : List (List ℕ)) (numbered : AreNumbered layout.asked.items)
+    (asked : again.asked.items ≡ layout.asked.items) (guid : again.disk_guid ≡ layout.disk_guid) (mode : again.mode ≡ Become false) (removed : again.removed.items ≡ [])
+    (long : length layout.asked.items ≤ length randoms) (more : length layout.asked.items ≤ length others)
+    (laid : IsLaid layout randoms g next) (laid_again : IsLaid again others next after) where
+  second : resolved_all next (Become false) layout.asked.items others ≡ Ok laid_again.partitions
+  second =
+      subst (λ (m : Mode). resolved_all next m layout.asked.items others ≡ Ok laid_again.partitions) mode
+      (subst (λ (items : List Asked). resolved_all next again.mode items others ≡ Ok laid_again.partitions) asked laid_again.asked)
+
+  owned : OwnedBy next laid_again.partitions
+  owned = all_again g next layout.mode layout.asked.items randoms others laid.partitions laid_again.partitions numbered long more laid.asked
+      (change_named layout randoms g next laid).named second
+
+  each_by : (m : ℕ) → (HasNumber (suc m) laid_again.partitions ⊎ IsUnnamed (suc m) laid_again.partitions) → entry_at after (suc m) ≡ entry_at next (suc m)
+  each_by m (inl has) = own_there next after (suc m) laid_again.partitions owned (change_named again others next after laid_again).named has
+  each_by m (inr unnamed) =
+      let kept : All (λ (j : ℕ). j ≢ suc m) again.removed.items = subst (λ (js : List ℕ). All (λ (j : ℕ). j ≢ suc m) js) (sym removed) (λ k d below. absurd (omega (arith, below))) in
+      let stays = (change_named again others next after laid_again).others (suc m) (omega arith) unnamed kept in
+      (subst (λ (mo : Mode). StaysAs mo (entry_at next (suc m)) (entry_at after (suc m))) mode stays).0
+
+  same_entries : entries_in after ≡ entries_in next
+  same_entries = equal_entries next after (done_keeps (Lay again) others next after laid_again).long (λ m. each_by m (named_or (suc m) laid_again.partitions))
+
+  last_guid : laid_again.last.header.disk_guid ≡ next.header.disk_guid
+  last_guid =
+      let none : ◌≡◌ {A = Result GPT Refusal} (Ok (record next { align = laid_again.align })) (Ok laid_again.rest) =
+      subst (λ (is : List ℕ). removed_all is (record next { align = laid_again.align }) ≡ Ok laid_again.rest) removed laid_again.removed in
+      let rest : record next { align = laid_again.align } ≡ laid_again.rest = cc in
+      put_guid laid_again.partitions laid_again.free laid_again.last laid_again.put
+      ∙ (clear_guid laid_again.partitions laid_again.rest laid_again.free laid_again.clear ∙ ap (λ (m : GPT). m.header.disk_guid) (sym rest))
+
+  same_guid : after.header.disk_guid ≡ next.header.disk_guid
+  same_guid =
+      let first : next.header.disk_guid ≡ unwrap_or layout.disk_guid laid.last.header.disk_guid = ap (λ (m : GPT). m.header.disk_guid) laid.next_is in
+      ap (λ (m : GPT). m.header.disk_guid) laid_again.next_is
+      ∙ (ap (λ (o : Option (List ℕ)). unwrap_or o laid_again.last.header.disk_guid) guid
+      ∙ (ap (unwrap_or layout.disk_guid) (last_guid ∙ first) ∙ (twice layout.disk_guid laid.last.header.disk_guid ∙ sym first)))
+
+  same_table : table_in after ≡ table_in next
+  same_table =
+      ap (λ (h : GPTHeader). table_of h (entries_in after)) (done_keeps (Lay again) others next after laid_again).header
+      ∙ (λ i. table_of (record next.header { disk_guid = same_guid i }) (same_entries i))
+
+pub layouts_stay : LayoutsStay
+layouts_stay g next after layout again randoms others numbered asked guid mode removed long more laid laid_again =
+    same_table g next after layout again randoms others numbered asked guid mode removed long more laid laid_again
