@@ -93,6 +93,27 @@ def try_failures(tally, program):
     return None
 
 
+def try_reads(tally, program):
+    """A disk that cannot be read from some moment on: nothing is written where a copy could not be read."""
+    if not can_inject(program):
+        return "strace is not installed or not allowed: left out"
+    start(program, draw_two()[0])
+    good, refused = program.state("disk.img"), 0
+    for number in range(1, 30):
+        words = ["strace", "-o", "calls", "-P", program.file("disk.img"), "-e",
+                 f"inject=read:error=EIO:when={number}+", program.path, "sort", "disk.img"]
+        ended = subprocess.run(words, cwd=program.folder, stdout=subprocess.PIPE, stderr=subprocess.PIPE,
+                               check=False)
+        if b"INJECTED" not in program.bytes_of("calls"):
+            break
+        refused += 1
+        tally.equals(f"the status where reads fail from number {number} on", 1, ended.returncode)
+        tally.holds(f"a reason where reads fail from number {number} on", b"the disk failed" in ended.stderr)
+        tally.holds(f"reads that fail from number {number} on leave the image", program.state("disk.img") == good)
+    tally.holds("some reads fail", refused > 3)
+    return f"{refused} reads"
+
+
 def count_calls(program, apply, good):
     """Each call of an apply as its name and its number among those of that name."""
     subprocess.run(["strace", "-o", "calls", *apply], cwd=program.folder, stdout=subprocess.DEVNULL, check=False)
@@ -108,4 +129,4 @@ def count_calls(program, apply, good):
     return calls
 
 
-SUBJECTS = {"kills": try_kills, "system calls that fail": try_failures}
+SUBJECTS = {"kills": try_kills, "system calls that fail": try_failures, "reads that fail": try_reads}

@@ -125,6 +125,9 @@ fn make<R, W: Write>(
 where
     R: Files<File = File> + RandomSource + Input + AllocGlobal,
 {
+    if !matches!(&change, Change::New { .. }) {
+        image.refuse_failed_reading(rt.alloc())?;
+    }
     let job = match change {
         Change::New { guid } => return making::new(rt, out, image, guid, how),
         Change::Grow => return changing::grow(rt.alloc(), out, image, how),

@@ -11,7 +11,9 @@ use gptman_change::read_table;
 use gptman_open::{Held, hold};
 use std::alloc::Global;
 use std::fs::File;
+use std::io::ErrorKind;
 use std::rt::Files;
+use std::{fmt, io};
 
 /// An image that is open.
 #[derive(Drop)]
@@ -105,11 +107,38 @@ impl<'a> Image<'a> {
         }
     }
 
+    /// Refuses an image of which a copy of the table could not be read as the disk failed. One that ends past
+    /// the disk is no such copy.
+    pub fn refuse_failed_reading(&mut self, alloc: Global) -> Result<(), Failure> {
+        let table = self.table(alloc)?;
+        let copies = self.copies(alloc, table.sector_size)?;
+        for copy in [copies.primary, copies.backup] {
+            match copy {
+                Err(Error::Io(error)) if error.kind() != ErrorKind::UnexpectedEof => {
+                    return Err(refuse(alloc, self.name, &FailedReading(error)));
+                }
+                _ => (),
+            }
+        }
+        Ok(())
+    }
+
     /// What both copies are, where sectors have so many bytes, at least 1.
     pub fn copies(&mut self, alloc: Global, sector_size: u64) -> Result<BothCopies, Failure> {
         match check(alloc, &mut self.disk, sector_size.max(1)) {
             Ok(copies) => Ok(copies),
             Err(error) => Err(refuse_error(alloc, self.name, &error)),
         }
+    }
+}
+
+// That the disk failed in the reading of a copy, and what to do.
+#[derive(Drop)]
+struct FailedReading(io::Error);
+
+impl fmt::Display for FailedReading {
+    fn fmt<W: fmt::Write>(&self, f: &mut fmt::Formatter<W>) -> fmt::Result {
+        writeln!(f, "the disk failed in the reading of a copy of the table: {}", self.0)?;
+        f.write_str("nothing is written to it; copy what is there to another disk first")
     }
 }
