@@ -1,7 +1,7 @@
 //! Block devices, as Linux tells of them.
 
 use crate::failure::{Failure, refuse};
-use std::alloc::{AllocError, Global};
+use std::alloc::AllocError;
 use std::io::ErrorKind;
 use std::os::unix::fs::{FileTypeExt, MetadataExt};
 use std::rt::Files;

@@ -138,7 +138,11 @@ struct FailedReading(io::Error);
 
 impl fmt::Display for FailedReading {
     fn fmt<W: fmt::Write>(&self, f: &mut fmt::Formatter<W>) -> fmt::Result {
-        writeln!(f, "the disk failed in the reading of a copy of the table: {}", self.0)?;
+        writeln!(
+            f,
+            "the disk failed in the reading of a copy of the table: {}",
+            self.0
+        )?;
         f.write_str("nothing is written to it; copy what is there to another disk first")
     }
 }
