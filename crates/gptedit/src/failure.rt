@@ -1,7 +1,8 @@
 //! Why a command is not done.
 
-use gptedit_report::ErrorText;
-use gptman::Error;
+use gptedit_core::Refusal;
+use gptedit_report::{ErrorText, RefusalText};
+use gptman::{Error, GPT};
 use std::alloc::{AllocError, AllocFailed, Global};
 use std::io::ErrorKind;
 use std::{fmt, io};
@@ -65,4 +66,14 @@ pub fn refuse_error(alloc: Global, image: &str, error: &Error) -> Failure {
         Error::OutOfMemory => Failure::OutOfMemory,
         error => refuse(alloc, image, &ErrorText { error, image }),
     }
+}
+
+/// A refusal of what was asked of a table on this image.
+pub fn refuse_asked(alloc: Global, image: &str, table: &GPT, refusal: &Refusal) -> Failure {
+    let text = RefusalText {
+        refusal,
+        table,
+        image,
+    };
+    refuse(alloc, image, &text)
 }

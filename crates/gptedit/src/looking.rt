@@ -1,12 +1,11 @@
 //! The commands that only look.
 
-use crate::failure::{Failure, refuse, refuse_error};
+use crate::failure::{Failure, refuse, refuse_asked, refuse_error};
 use crate::image::Image;
 use crate::mbr::look_at_mbr;
 use gptedit_core::{Amount, Refusal, layout_of};
 use gptedit_report::{
-    CopiesState, Look, RefusalText, free_json, print_check, print_check_json, print_free,
-    show_table, table_json,
+    CopiesState, Look, free_json, print_check, print_check_json, print_free, show_table, table_json,
 };
 use gptedit_text::dump::{DumpError, write_layout};
 use gptman::GPT;
@@ -135,15 +134,7 @@ fn align_in(alloc: Global, image: &str, table: &GPT, amount: Amount) -> Result<u
         Some(sectors) => return Ok(sectors),
         None => Refusal::NotWhole(amount),
     };
-    Err(refuse(
-        alloc,
-        image,
-        &RefusalText {
-            refusal: &refusal,
-            table,
-            image,
-        },
-    ))
+    Err(refuse_asked(alloc, image, table, &refusal))
 }
 
 /// Prints the table as a layout.

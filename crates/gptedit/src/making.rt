@@ -5,13 +5,13 @@ ghost use Rattle.std.specs.Prelude.{◌<◌};
 use crate::changing::outcome_of;
 use crate::commands::How;
 use crate::drawing::draw_guid;
-use crate::failure::{Failure, refuse, refuse_error};
+use crate::failure::{Failure, refuse, refuse_asked, refuse_error};
 use crate::image::Image;
 use crate::looking::{print_json, print_state_json};
 use crate::marks::find_content;
 use crate::mbr::{look_at_mbr, write_mbr};
 use gptedit_core::{Amount, Job, Layout, Mode, Outcome};
-use gptedit_report::{CopiesState, Mbr, RefusalText, show_table};
+use gptedit_report::{CopiesState, Mbr, show_table};
 use gptman::GPT;
 use std::alloc::Global;
 use std::fmt;
@@ -139,12 +139,7 @@ fn replace<R: RandomSource + AllocGlobal>(
         Outcome::Changed { next, .. } => Ok(next),
         Outcome::Unchanged { table } => Ok(table),
         Outcome::Refused { table, refusal } => {
-            let text = RefusalText {
-                refusal: &refusal,
-                table: &table,
-                image: image.name,
-            };
-            Err(refuse(alloc, image.name, &text))
+            Err(refuse_asked(alloc, image.name, &table, &refusal))
         }
     }
 }

@@ -1,11 +1,11 @@
 //! What became of a change.
 
 use crate::commands::How;
-use crate::failure::{Failure, refuse};
+use crate::failure::{Failure, refuse_asked};
 use crate::image::Image;
 use crate::looking::{print_json, print_state_json};
 use gptedit_core::Outcome;
-use gptedit_report::{CopiesState, RefusalText, print_changes};
+use gptedit_report::{CopiesState, print_changes};
 use gptman::GPT;
 use std::alloc::Global;
 use std::io::Write;
@@ -23,13 +23,7 @@ pub fn tell<W: Write>(
         Outcome::Changed { was, next } => tell_change(out, alloc, image, was, next, how),
         Outcome::Unchanged { table } => tell_same(out, alloc, image, table, how),
         Outcome::Refused { table, refusal } => {
-            let image = image.name;
-            let text = RefusalText {
-                refusal,
-                table,
-                image,
-            };
-            Err(refuse(alloc, image, &text))
+            Err(refuse_asked(alloc, image.name, table, refusal))
         }
     }
 }
