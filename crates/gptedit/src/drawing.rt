@@ -43,7 +43,7 @@ fn draw_guids<R: RandomSource + AllocGlobal>(rt: &R, count: usize) -> Result<Vec
     ensures { IfOk result (λ guids. count ≤ length guids.items) }
 {
     let mut guids = Vec::new(rt.alloc());
-    for _drawn in 0..count {
+    for drawn in 0..count {
         guids.push(draw_guid(rt)?)?;
     }
     Ok(guids)

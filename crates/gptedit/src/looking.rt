@@ -5,9 +5,11 @@ use crate::image::Image;
 use crate::mbr::look_at_mbr;
 use gptedit_core::{Amount, Refusal, layout_of};
 use gptedit_report::{
-    CopiesState, Look, free_json, print_check, print_check_json, print_free, show_table, table_json,
+    CopiesState, Look, Mbr, free_json, print_check, print_check_json, print_free, show_table,
+    table_json,
 };
 use gptedit_text::dump::{DumpError, write_layout};
+use gptimg_core::BothCopies;
 use gptman::GPT;
 use std::alloc::Global;
 use std::io::Write;
@@ -87,21 +89,31 @@ pub fn check<W: Write>(
         Ok(mbr) => mbr,
         Err(error) => return Err(refuse_error(alloc, image.name, &error)),
     };
-    let state = CopiesState::new(&copies.primary, &copies.backup, copies.are_same);
-    let table = table.as_ref();
-    let look = Look {
-        image: image.name,
-        size: image.size,
-        table,
-        state,
-        mbr,
-    };
+    let look = look_of(image.name, image.size, table.as_ref(), &copies, mbr);
     let is_good = if is_json {
         print_check_json(out, alloc, &look)?
     } else {
         print_check(out, alloc, &look)?
     };
     Ok(is_good)
+}
+
+// What a look at a disk found, from its parts.
+fn look_of<'a>(
+    image: &'a str,
+    size: u64,
+    table: Option<&'a GPT>,
+    copies: &'a BothCopies,
+    mbr: Mbr,
+) -> Look<'a> {
+    let state = CopiesState::new(&copies.primary, &copies.backup, copies.are_same);
+    Look {
+        image,
+        size,
+        table,
+        state,
+        mbr,
+    }
 }
 
 /// Prints the runs of free sectors, each from a multiple of so much.
