@@ -69,7 +69,7 @@ def try_lock(tally, program):
         return "flock is not installed: left out"
     start(program, False)
     path = program.file("disk.img")
-    with subprocess.Popen(["flock", path, "sleep", "1"]) as holder:
+    with subprocess.Popen(["flock", path, "sleep", "2"]) as holder:
         while subprocess.run(["flock", "-n", path, "true"], check=False).returncode == 0:
             pass
         tally.equals("show while the lock is held", 0, program.run("show", "disk.img")[0])
