@@ -115,16 +115,17 @@ def try_reads(tally, program):
 
 
 def count_calls(program, apply, good):
-    """Each call of an apply as its name and its number among those of that name."""
+    """Each call of an apply from its first look at the image on, as its name and its number among those of
+    that name."""
     subprocess.run(["strace", "-o", "calls", *apply], cwd=program.folder, stdout=subprocess.DEVNULL, check=False)
     program.restore("disk.img", good)
-    names = re.findall(r"^(\w+)\(", program.bytes_of("calls").decode(), re.M)
-    begin = next(i for i, name in enumerate(names) if name in ("fstat", "stat", "newfstatat", "statx")
-                 and i > len(names) - 200)
+    lines = program.bytes_of("calls").decode().splitlines()
+    names = [re.match(r"\w*", line)[0] for line in lines]
+    begin = next(i for i, line in enumerate(lines) if i and '"disk.img"' in line)
     counts, calls = {}, []
     for i, name in enumerate(names):
         counts[name] = counts.get(name, 0) + 1
-        if i >= begin and name not in ("exit_group", "munmap", "brk", "mmap"):
+        if i >= begin and name not in ("", "exit_group", "munmap", "brk", "mmap"):
             calls.append((name, counts[name]))
     return calls
 
