@@ -111,7 +111,7 @@ impl fmt::Display for User {
             User::Held { number, by } => write!(f, "device {number} is in use by {by}")?,
         }
         f.write_str(
-            "\n--force writes the table all the same; the kernel keeps the old one until then",
+            "\n--force writes the table all the same; the kernel keeps the old one until it is told",
         )
     }
 }
