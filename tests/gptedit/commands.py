@@ -194,6 +194,14 @@ def try_growth(tally, program):
              "a dry run, nothing is written:\nboth copies would be written anew\n")
         says(tally, program, ["repair", "disk.img"], "both copies are written anew\n")
         tally.holds(f"repair of the {place} copy gives the image", program.state("disk.img") == good)
+    empty = ["new", "disk.img", "--force", "--guid", DISK]
+    program.run(*empty)
+    for at in (512, 256 * MIB - 512):
+        program.put("disk.img", at, bytes(512))
+        tally.equals("the status of new over the same table", 0, program.run(*empty)[0])
+        tally.equals("new over the same table writes both copies", table.Table(DISK, 34, 524254, 128, {}),
+                     table.read(program.file("disk.img")))
+    program.restore("disk.img", good)
     program.put("disk.img", 446, bytes(66))
     says(tally, program, ["check", "disk.img"],
          "there is no protective MBR: `gptedit repair disk.img`\n", "", 1)

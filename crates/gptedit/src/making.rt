@@ -135,7 +135,18 @@ fn replace<R: RandomSource + AllocGlobal>(
         removed,
         asked: Vec::new(alloc),
     };
-    match outcome_of(rt, image, Job::Lay(layout), is_dry)? {
+    let outcome = outcome_of(rt, image, Job::Lay(layout), is_dry)?;
+    if matches!(&outcome, Outcome::Unchanged { .. }) {
+        // The table is the new one already, and may stand in one place alone.
+        let again = outcome_of(rt, image, Job::Rewrite, is_dry)?;
+        return table_of(alloc, image, again);
+    }
+    table_of(alloc, image, outcome)
+}
+
+// The table that stands after this, or why it was refused.
+fn table_of(alloc: Global, image: &Image<'_>, outcome: Outcome) -> Result<GPT, Failure> {
+    match outcome {
         Outcome::Changed { next, .. } => Ok(next),
         Outcome::Unchanged { table } => Ok(table),
         Outcome::Refused { table, refusal } => {
