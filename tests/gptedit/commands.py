@@ -210,6 +210,46 @@ def try_growth(tally, program):
     tally.holds("repair of the MBR gives the image", program.state("disk.img") == good)
 
 
+def try_entries(tally, program):
+    """`new --entries`: where its sectors are, as sgdisk has them too, and what becomes of the number."""
+    for count, first, last in [(1, 3, 131069), (4, 3, 131069), (5, 4, 131068), (56, 16, 131056), (128, 34, 131038),
+                               (129, 35, 131037), (1000, 252, 130820), (32768, 8194, 122878)]:
+        program.make_image("disk.img", 64 * MIB)
+        tally.equals(f"new --entries {count}", 0,
+                     program.run("new", "disk.img", "--guid", DISK, "--entries", str(count))[0])
+        tally.equals(f"the table of {count} entries", table.Table(DISK, first, last, count, {}),
+                     table.read(program.file("disk.img")))
+    for count in ["0", "32769", "-1", "x", ""]:
+        tally.equals(f"the status of --entries={count}", 2,
+                     program.run("new", "disk.img", "--force", "--entries=" + count)[0])
+    program.make_image("disk.img", 64 * MIB)
+    words = ["new", "disk.img", "--guid", DISK, "--entries"]
+    program.run(*words, "2")
+    for number in "1", "2", "3":
+        ended = program.run("add", "disk.img", "--type", "linux", "--size", "1MiB")
+        tally.equals(f"the status of add as partition {number} of two", int(number == "3"), ended[0])
+    tally.equals("the status of new where a table stands", 1, program.run(*words, "56")[0])
+    program.run("new", "disk.img", "--guid", DISK, "--force")
+    tally.equals("new --force keeps the number", table.Table(DISK, 3, 131069, 2, {}),
+                 table.read(program.file("disk.img")))
+    for at in (0, 512, 64 * MIB - 512):
+        for count, first, last in ("56", 16, 131056), ("2", 3, 131069):
+            program.put("disk.img", max(at, 512), b"EFI PART" if at == 0 else bytes(512))
+            tally.equals("the status of another number over a table", 0,
+                         program.run(*words, count, "--force")[0])
+            tally.equals("another number over a table", table.Table(DISK, first, last, int(count), {}),
+                         table.read(program.file("disk.img")))
+    before = program.state("disk.img")
+    says(tally, program, words + ["56", "--force", "-n"],
+         "a dry run, nothing is written; there is a GUID partition table:\n"
+         f"disk.img: 131072 sectors of 512 bytes (64 MiB), GUID {DISK}\n"
+         "usable sectors 16..131056, 56 entries; both copies good\n")
+    tally.holds("a dry run of new leaves the image", program.state("disk.img") == before)
+    program.make_image("small.img", 16 * 512)
+    tally.equals("the status of new without room for 128", 1, program.run("new", "small.img")[0])
+    tally.equals("the status of new with room for 4", 0, program.run("new", "small.img", "--entries", "4")[0])
+
+
 def try_sectors(tally, program):
     """Sectors of 4096 bytes."""
     program.make_image("disk.img", 128 * MIB)
@@ -273,11 +313,11 @@ def try_help(tally, program):
     says(tally, program, ["--version"], "gptedit 0.1.0\n")
     for words in [[], ["shw"], ["show"], ["show", "disk.img", "x"], ["add", "disk.img", "--size", "1s"],
                   ["set", "disk.img", "1"], ["remove", "disk.img", "0"], ["resize", "disk.img", "1"],
-                  ["new", "disk.img", "--entries", "9"], ["show", "disk.img", "--dry-run"]]:
+                  ["new", "disk.img", "--number", "9"], ["show", "disk.img", "--dry-run"]]:
         status, out, err = program.run(*words)
         tally.holds(f"{words} are no words", (status, out) == (2, "") and err)
 
 
 SUBJECTS = {"making": try_making, "sizes": try_sizes, "places": try_places, "editing": try_editing,
-            "attributes": try_attributes, "growth and repair": try_growth, "sectors of 4096 bytes": try_sectors,
+            "attributes": try_attributes, "growth and repair": try_growth, "numbers of entries": try_entries, "sectors of 4096 bytes": try_sectors,
             "JSON": try_json, "free sectors and types": try_free, "help": try_help}

@@ -1,5 +1,5 @@
-"""Applies of twenty partitions that are killed at random moments, and in which each system call fails in turn:
-the old table or the new one, never between.
+"""Applies of twenty partitions that are killed at random moments, and in which each system call fails in turn,
+and a new table of another number of entries: the old table or the new one, never between.
 """
 import random
 import re
@@ -93,6 +93,30 @@ def try_failures(tally, program):
     return None
 
 
+def try_new(tally, program):
+    """Each system call fails in turn of a new table of another number of entries, where both copies or one of
+    the old table are good."""
+    if not can_inject(program):
+        return "strace is not installed or not allowed: left out"
+    old = draw_two()[0]
+    start(program, old)
+    whole = program.state("disk.img")
+    new = [program.path, "new", "disk.img", "--force", "--entries", "56"]
+    for what, at in ("both copies", None), ("the backup copy", 512), ("the primary copy", RANDOM - 512):
+        program.restore("disk.img", whole)
+        if at is not None:
+            program.put("disk.img", at, bytes(512))
+        good = program.state("disk.img")
+        for name, number in count_calls(program, new, good):
+            program.restore("disk.img", good)
+            words = ["strace", "-o", "calls", "-e", f"inject={name}:error=EIO:when={number}", *new]
+            subprocess.run(words, cwd=program.folder, stdout=subprocess.DEVNULL, stderr=subprocess.DEVNULL,
+                           check=False)
+            tally.holds(f"a whole table where {name} {number} fails of new over {what}",
+                        is_whole(program, (old, {})))
+    return None
+
+
 def try_reads(tally, program):
     """A disk that cannot be read from some moment on: nothing is written where a copy could not be read."""
     if not can_inject(program):
@@ -130,4 +154,5 @@ def count_calls(program, apply, good):
     return calls
 
 
-SUBJECTS = {"kills": try_kills, "system calls that fail": try_failures, "reads that fail": try_reads}
+SUBJECTS = {"kills": try_kills, "system calls that fail": try_failures,
+            "system calls of new that fail": try_new, "reads that fail": try_reads}

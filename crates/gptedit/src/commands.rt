@@ -125,11 +125,11 @@ fn make<R, W: Write>(
 where
     R: Files<File = File> + RandomSource + Input + AllocGlobal,
 {
-    if !matches!(&change, Change::New { .. }) {
+    if !matches!(&change, Change::New(_)) {
         image.refuse_failed_reading(rt.alloc())?;
     }
     let job = match change {
-        Change::New { guid } => return making::new(rt, out, image, guid, how),
+        Change::New(asked) => return making::new(rt, out, image, asked, how),
         Change::Grow => return changing::grow(rt.alloc(), out, image, how),
         Change::Repair => return changing::repair(rt, out, image, how),
         Change::Sort => Job::Sort,

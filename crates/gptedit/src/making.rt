@@ -12,6 +12,7 @@ use crate::marks::find_content;
 use crate::mbr::{look_at_mbr, write_mbr};
 use gptedit_core::{Amount, Job, Layout, Mode, Outcome};
 use gptedit_report::{CopiesState, Mbr, show_table};
+use gptedit_words::NewTable;
 use gptman::GPT;
 use std::alloc::Global;
 use std::fmt;
@@ -21,6 +22,9 @@ use std::random::RandomSource;
 // The size of a sector in bytes, where nothing tells it.
 const USUAL_SIZE: u64 = 512;
 
+// How many entries a new table has, where nothing is said.
+const USUAL_COUNT: u32 = 128;
+
 /// Writes an empty table and a protective MBR. Where a good copy of a table stands, the new one is written in
 /// that copy's form, so that a stop leaves one of the two. Answers whether something was written.
 ///
@@ -29,7 +33,7 @@ pub fn new<R: RandomSource + AllocGlobal, W: Write>(
     rt: &R,
     out: &mut W,
     image: &mut Image<'_>,
-    guid: Option<[u8; 16]>,
+    asked: NewTable,
     how: How,
 ) -> Result<bool, Failure> {
     let alloc = rt.alloc();
@@ -38,15 +42,24 @@ pub fn new<R: RandomSource + AllocGlobal, W: Write>(
     if !how.is_forced && there.is_something() {
         return Err(refuse(alloc, image.name, &there));
     }
-    let guid = match guid {
+    let guid = match asked.guid {
         Some(guid) => guid,
         None => draw_guid(rt)?,
     };
     let table = match &there.table {
         Some(was) if was.sector_size == sector_size && was.has_layout(image.size) => {
-            replace(rt, image, was, guid, how.is_dry)?
+            let count = was.header.number_of_partition_entries;
+            match asked.entries {
+                Some(other) if other != count => {
+                    replace_by_other(rt, image, was, guid, other, how.is_dry)?
+                }
+                _ => replace(rt, image, was, guid, how.is_dry)?,
+            }
         }
-        _ => write_new(alloc, image, sector_size, guid, how.is_dry)?,
+        _ => {
+            let count = asked.entries.unwrap_or(USUAL_COUNT);
+            write_new(alloc, image, sector_size, guid, count, how.is_dry)?
+        }
     };
     if !how.is_dry {
         write_mbr(alloc, image, sector_size)?;
@@ -144,6 +157,26 @@ fn replace<R: RandomSource + AllocGlobal>(
     table_of(alloc, image, outcome)
 }
 
+// Writes an empty table of another number of entries where this one stands. The backup copy is written first,
+// so that the primary one has to be good before.
+fn replace_by_other<R: RandomSource + AllocGlobal>(
+    rt: &R,
+    image: &mut Image<'_>,
+    was: &GPT,
+    guid: [u8; 16],
+    count: u32,
+    is_dry: bool,
+) -> Result<GPT, Failure>
+    requires { 0 < was.now.sector_size }
+{
+    let alloc = rt.alloc();
+    if was.is_backup() {
+        let mended = outcome_of(rt, image, Job::Rewrite, is_dry)?;
+        table_of(alloc, image, mended)?;
+    }
+    write_new(alloc, image, was.sector_size, guid, count, is_dry)
+}
+
 // The table that stands after this, or why it was refused.
 fn table_of(alloc: Global, image: &Image<'_>, outcome: Outcome) -> Result<GPT, Failure> {
     match outcome {
@@ -155,17 +188,18 @@ fn table_of(alloc: Global, image: &Image<'_>, outcome: Outcome) -> Result<GPT, F
     }
 }
 
-// Writes an empty table, where no table has that place.
+// Writes an empty table of so many entries.
 fn write_new(
     alloc: Global,
     image: &mut Image<'_>,
     sector_size: u64,
     guid: [u8; 16],
+    count: u32,
     is_dry: bool,
 ) -> Result<GPT, Failure>
     requires { 0 < sector_size }
 {
-    let mut table = match GPT::new_from(alloc, &mut image.disk, sector_size, guid) {
+    let mut table = match GPT::with_entries(alloc, &mut image.disk, sector_size, guid, count) {
         Ok(table) => table,
         Err(error) => return Err(refuse_error(alloc, image.name, &error)),
     };

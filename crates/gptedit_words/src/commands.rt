@@ -44,6 +44,11 @@ pub(crate) static COMMANDS: [Definition; 15] = [
         arguments: &[
             IMAGE,
             Argument::Value("--guid", "GUID", "The GUID of the disk [default: random]"),
+            Argument::Number(
+                "--entries",
+                MOST_ENTRIES,
+                "How many entries it has [default: 128]",
+            ),
             DRY_RUN,
             FORCE,
             SECTOR,
@@ -67,6 +72,7 @@ pub(crate) static COMMANDS: [Definition; 15] = [
             ATTRIBUTES,
             Argument::Number(
                 "--number",
+                u32::MAX as u64,
                 "Its number [default: the lowest that is not used]",
             ),
             Argument::Value("--start", "POSITION", "Where it begins, as 1MiB or 2048s"),
@@ -184,6 +190,9 @@ pub(crate) static COMMANDS: [Definition; 15] = [
         ],
     },
 ];
+
+// Linux reads no table of more entries.
+const MOST_ENTRIES: u64 = 32768;
 
 const IMAGE: Argument = Argument::Place(
     "IMAGE",

@@ -27,8 +27,8 @@ pub(crate) enum Argument {
     Value(&'static str, &'static str, &'static str),
     /// An option with a value that has to be given.
     NeededValue(&'static str, &'static str, &'static str),
-    /// An option with a number from 1 to 2^32 - 1.
-    Number(&'static str, &'static str),
+    /// An option with a number from 1 to so many.
+    Number(&'static str, u64, &'static str),
     /// A word by its place that is not empty.
     Place(&'static str, &'static str),
     /// A number from 1 to 2^32 - 1 by its place.
@@ -70,7 +70,12 @@ fn arg_of<'a>(alloc: Global, argument: Argument) -> Arg<'a> {
         Argument::NeededValue(word, value, help) => option(alloc, word, help)
             .value_name(value)
             .required(true),
-        Argument::Number(word, help) => numbered(option(alloc, word, help).value_name("N")),
+        Argument::Number(word, most, help) => {
+            let parser = ValueParser::unsigned(1, most);
+            option(alloc, word, help)
+                .value_name("N")
+                .value_parser(parser)
+        }
         Argument::Place(name, help) => {
             place(alloc, name, help).value_parser(ValueParser::NonEmptyString)
         }
@@ -105,5 +110,5 @@ fn place<'a>(alloc: Global, name: &'a str, help: &'a str) -> Arg<'a> {
 
 // The argument with a number from 1 to 2^32 - 1 for its value.
 fn numbered(arg: Arg<'_>) -> Arg<'_> {
-    arg.value_parser(ValueParser::unsigned(1, 0xffff_ffff))
+    arg.value_parser(ValueParser::unsigned(1, u64::from(u32::MAX)))
 }

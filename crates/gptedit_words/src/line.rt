@@ -3,7 +3,7 @@
 use crate::definition::command;
 use crate::entries;
 use crate::error::WordsError;
-use crate::request::{Change, Command, ImageRequest, Request};
+use crate::request::{Change, Command, ImageRequest, NewTable, Request};
 use crate::values::{given, needed, sector_size};
 use clap::ArgMatches;
 use gptedit_text::values::{read_amount, read_guid};
@@ -72,9 +72,10 @@ fn read_change<'a>(
 
 // What the words of `new` ask for.
 fn read_new<'a>(words: &ArgMatches<'a>) -> Result<Change<'a>, WordsError<'a>> {
-    Ok(Change::New {
+    Ok(Change::New(NewTable {
         guid: given(words, "--guid", |text| read_guid(text))?,
-    })
+        entries: words.get_one("--entries"),
+    }))
 }
 
 // What the words of `apply` ask for.

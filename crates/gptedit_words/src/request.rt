@@ -52,14 +52,20 @@ pub enum Command<'a> {
     },
 }
 
+/// What a new table is to be.
+#[derive(Clone, Copy, Debug)]
+pub struct NewTable {
+    /// The GUID of the disk; else a random one.
+    pub guid: Option<[u8; 16]>,
+    /// How many entries it has, above 0.
+    pub entries: Option<u32>,
+}
+
 /// What a table becomes.
 #[derive(Drop, Debug)]
 pub enum Change<'a> {
     /// A new one, and the protective MBR.
-    New {
-        /// The GUID of the disk; else a random one.
-        guid: Option<[u8; 16]>,
-    },
+    New(NewTable),
     /// One with what is asked of its entries.
     Lay(Layout),
     /// One with its partitions numbered by their starts.

@@ -1,7 +1,7 @@
 -- What a table is, whichever of its two forms one looks at.
 use Rattle.std.specs.Prelude.{◌≡◌, ◌⊎◌, ◌+◌, ℕ, List, replicate, map, min, max}
 use Rattle.gptman_copy.specs.Coding.{empty_entry}
-use Rattle.gptman_copy.specs.Fit.{new_header, fit_header}
+use Rattle.gptman_copy.specs.Fit.{new_header_of, fit_header}
 use Rattle.gptman_copy.specs.Copy.{Copy}
 use Rattle.gptman.specs.Reading.{Side, primary, backup}
 use Rattle.gptman_copy.specs.declared.codec.header.GPTHeader.{GPTHeader}
@@ -78,14 +78,18 @@ pub record IsForm (side : Side) (t : Table) (copy : Copy) : Type 0 where
   pub table : table_of copy.header copy.entries ≡ t
   pub form : IsHeaderForm side copy.header
 
--- the value of a new table on a disk of that length: 128 unused entries
-abbrev pub new_table : List ℕ → ℕ → ℕ → GPT
-new_table guid ss len = record {
+-- the value of a new table on a disk of that length: so many unused entries
+abbrev pub new_table_of : ℕ → List ℕ → ℕ → ℕ → GPT
+new_table_of count guid ss len = record {
   sector_size = ss;
-  header = fit_header (new_header guid) ss len;
-  partitions = replicate 128 empty_entry;
+  header = fit_header (new_header_of count guid) ss len;
+  partitions = replicate count empty_entry;
   align = 2048;
 }
+
+-- one of 128
+abbrev pub new_table : List ℕ → ℕ → ℕ → GPT
+new_table guid ss len = new_table_of 128 guid ss len
 
 -- the value with its header fitted to a disk of len bytes
 abbrev pub grow_to : GPT → ℕ → GPT

@@ -1,6 +1,6 @@
 //! The table: a header with its entries, of which a disk holds two copies.
 
-ghost use Rattle.std.specs.Prelude.{◌≡◌, ◌↔◌, ◌<◌, ◌^◌, [], length, IsTrue, IsOk, IfOk, IfErr};
+ghost use Rattle.std.specs.Prelude.{◌≡◌, ◌↔◌, ◌<◌, ◌^◌, [], length, vec_len, IsTrue, IsOk, IfOk, IfErr};
 ghost use Rattle.std.specs.Borrow.{sem};
 ghost use Rattle.std.specs.List.{enumerate_from};
 ghost use Rattle.gptman_copy.specs.Fault.{fault_of, out_of_memory};
@@ -41,6 +41,30 @@ pub struct GPT {
 }
 
 impl GPT {
+    /// A table of these parts, none of which is tested: `is_coherent` tells whether the header says what
+    /// the list is, `check_write` whether the table may be written. It takes no memory.
+    ///
+    /// The caller sees to it that there are fewer than 2^32 entries.
+    pub fn from_parts(
+        sector_size: u64,
+        header: GPTHeader,
+        entries: Vec<GPTPartitionEntry>,
+        align: u64,
+    ) -> GPT
+        requires { vec_len entries < 2 ^ 32 }
+        ensures entries { entries_in result ≡ entries.items }
+        ensures header { result.header ≡ header }
+        ensures sector { result.sector_size ≡ sector_size }
+        ensures align { result.align ≡ align }
+    {
+        GPT {
+            sector_size,
+            header,
+            partitions: Entries::new(entries),
+            align,
+        }
+    }
+
     /// Whether the header says what the list is: its size is 92, it counts as many entries as there
     /// are, and their size is 128 or there are none.
     pub fn is_coherent(&self) -> bool

@@ -5,9 +5,9 @@ use Rattle.gptman_copy.specs.Fault.{Fault, overflow}
 use Rattle.gptman_copy.specs.Copy.{right_signature, right_revision}
 use Rattle.gptman_copy.specs.declared.codec.header.GPTHeader.{GPTHeader}
 
--- A header of 128 entries of 128 bytes in primary form, with no checksums and not fitted to a disk.
-abbrev pub new_header : List ℕ → GPTHeader
-new_header guid = record {
+-- A header of so many entries of 128 bytes in primary form, with no checksums and not fitted to a disk.
+abbrev pub new_header_of : ℕ → List ℕ → GPTHeader
+new_header_of count guid = record {
   signature = right_signature;
   revision = right_revision;
   header_size = 92;
@@ -19,10 +19,14 @@ new_header guid = record {
   last_usable_lba = 0;
   disk_guid = guid;
   partition_entry_lba = 2;
-  number_of_partition_entries = 128;
+  number_of_partition_entries = count;
   size_of_partition_entry = 128;
   partition_entry_array_crc32 = 0;
 }
+
+-- one of 128 entries
+abbrev pub new_header : List ℕ → GPTHeader
+new_header guid = new_header_of 128 guid
 
 -- the bytes of the entries that a header counts
 abbrev pub array_size : GPTHeader → ℕ

@@ -11,7 +11,7 @@ ghost use Rattle.gptman_copy.specs.Crc.{crc_of};
 ghost use Rattle.gptman_copy.specs.Copy.{header_crc, IsCoherent};
 ghost use Rattle.gptman_copy.specs.Fault.{fault_of, overflow};
 ghost use Rattle.gptman_copy.specs.Fit.{array_size, fit_fault, fit_header, fit_to_sectors, is_too_small};
-ghost use Rattle.gptman_copy.specs.Fit.{new_header};
+ghost use Rattle.gptman_copy.specs.Fit.{new_header, new_header_of};
 ghost use Rattle.gptman_copy.specs.Answers.{refusal_of, IsFailure, Refuses, Settles};
 
 use crate::cells::{note_bytes, put};
@@ -52,6 +52,32 @@ impl GPTHeader {
         ensures value { IfOk result (λ h. h ≡ fit_header (new_header disk_guid) sector_size
             (D.state disk.old).size) }
     {
+        GPTHeader::with_entries(disk, sector_size, disk_guid, 128)
+    }
+
+    /// A header in primary form for a new table of so many entries, fitted to the disk. The sector size
+    /// is in bytes, and above 0. Checksums and reserved bytes are zero.
+    ///
+    /// `Overflow` where the number is 0; then `Io` where the disk failed; then `Overflow` where it has too
+    /// few sectors for two copies.
+    pub fn with_entries<D: Disk>(
+        disk: &mut D,
+        sector_size: u64,
+        disk_guid: [u8; 16],
+        count: u32,
+    ) -> Result<GPTHeader>
+        requires { 0 < sector_size }
+        ensures reads { Reads (D.state disk.old) (D.state disk.new) }
+        ensures counts { CountsFailure result (D.state disk.old) (D.state disk.new) }
+        ensures once { HasFailedOnceAtMost (D.state disk.old) (D.state disk.new) }
+        ensures at_once { count ≡ 0 → Refuses result overflow }
+        ensures answer { Settles (fit_fault (new_header_of count disk_guid) sector_size
+            (D.state disk.old).size) result (D.state disk.old) (D.state disk.new) }
+        ensures refused { IfErr result (λ e. (fault_of e ≡ overflow)
+            ⊎ IsFailure (fault_of e) (D.state disk.old) (D.state disk.new)) }
+        ensures value { IfOk result (λ h. h ≡ fit_header (new_header_of count disk_guid) sector_size
+            (D.state disk.old).size) }
+    {
         let mut header = GPTHeader {
             signature: SIGNATURE,
             revision: REVISION,
@@ -64,7 +90,7 @@ impl GPTHeader {
             last_usable_lba: 0,
             disk_guid,
             partition_entry_lba: 2,
-            number_of_partition_entries: 128,
+            number_of_partition_entries: count,
             size_of_partition_entry: ENTRY_SIZE,
             partition_entry_array_crc32: 0,
         };

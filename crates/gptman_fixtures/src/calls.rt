@@ -15,6 +15,11 @@ pub fn new_on<D: Disk>(alloc: Global, disk: &mut D, sector_size: u64) -> Result<
     GPT::new_from(alloc, disk, sector_size, DISK_GUID)
 }
 
+/// A new table of so many entries for this disk, with sectors of 512 bytes.
+pub fn new_of<D: Disk>(alloc: Global, disk: &mut D, count: u32) -> Result<GPT> {
+    GPT::with_entries(alloc, disk, 512, DISK_GUID, count)
+}
+
 /// The table that the disk holds, and its sector size is found.
 pub fn find<D: Disk>(alloc: Global, disk: &mut D) -> Result<GPT> {
     GPT::find_from(alloc, disk)
@@ -140,6 +145,11 @@ pub fn are_equal_names(one: &PartitionName, other: &PartitionName) -> bool {
 /// The name of this text.
 pub fn name_of(alloc: Global, text: &str) -> Result<PartitionName> {
     PartitionName::new(alloc, text)
+}
+
+/// The name of these units.
+pub fn name_of_units(alloc: Global, units: &[u16; 36]) -> Result<PartitionName> {
+    PartitionName::from_units(alloc, *units)
 }
 
 /// A disk of these bytes.

@@ -4,7 +4,7 @@ use crate::held::Held;
 use crate::memory::Memory;
 use crate::verdict::{Verdict, of_reader};
 use gptman::{Error, GPT, Result};
-use gptman_fixtures::calls::{find, is_first, new_on, read_entry};
+use gptman_fixtures::calls::{find, is_first, new_of, new_on, read_entry};
 use gptman_fixtures::tables::{
     are_those_of, complement, have_same_entries, image_of, read, unsorted_table,
 };
@@ -13,9 +13,12 @@ use std::alloc::Global;
 /// Makes the call of this name. None where it is none of these.
 pub fn try_call(name: &str, memory: &mut Memory) -> Option<Result<Verdict>> {
     match name {
-        "entry_read" | "table_new" | "table_read" | "table_find" | "partitions_read" => {
-            Some(try_on_disk(name, memory, &[]))
-        }
+        "entry_read"
+        | "table_new"
+        | "table_with_entries"
+        | "table_read"
+        | "table_find"
+        | "partitions_read" => Some(try_on_disk(name, memory, &[])),
         "table_read_backup" | "table_find_backup" => {
             Some(try_on_disk(name, memory, &IN_HEADERS[..1]))
         }
@@ -44,7 +47,8 @@ fn try_on_disk(name: &str, memory: &mut Memory, damaged: &[usize]) -> Result<Ver
 fn is_right(name: &str, alloc: Global, held: &mut Held, table: &GPT) -> Result<bool> {
     match name {
         "entry_read" => is_first_read(alloc, held, table),
-        "table_new" => is_new(alloc, held),
+        "table_new" => Ok(is_new(&new_on(alloc, &mut held.disk, 512)?, (34, 66), 128)),
+        "table_with_entries" => Ok(is_new(&new_of(alloc, &mut held.disk, 56)?, (16, 84), 56)),
         "table_read" => Ok(is_read(&read(alloc, &mut held.disk, 512)?, 1, table)),
         "table_read_backup" => Ok(is_read(&read(alloc, &mut held.disk, 512)?, 99, table)),
         "table_read_neither" => is_neither_read(read(alloc, &mut held.disk, 512)),
@@ -59,16 +63,13 @@ fn is_first_read(alloc: Global, held: &mut Held, table: &GPT) -> Result<bool> {
     Ok(is_first(&entry, table))
 }
 
-// Whether a new table is one for 100 sectors of 512 bytes.
-fn is_new(alloc: Global, held: &mut Held) -> Result<bool> {
-    let table = new_on(alloc, &mut held.disk, 512)?;
+// Whether this is a new table for 100 sectors of 512 bytes, with these usable ones and so many entries.
+fn is_new(table: &GPT, usable: (u64, u64), count: usize) -> bool {
     let header = &table.header;
-    let bounds = (
-        header.first_usable_lba,
-        header.last_usable_lba,
-        header.backup_lba,
-    );
-    Ok(bounds == (34, 66, 99) && table.align == 2048 && table.iter().count() == 128)
+    (header.first_usable_lba, header.last_usable_lba) == usable
+        && header.backup_lba == 99
+        && table.align == 2048
+        && table.iter().count() == count
 }
 
 // Whether this table was read from the copy whose header is in this sector.

@@ -5,7 +5,7 @@ use crate::verdict::{Verdict, of_call};
 use gptman::{Edit, GPT, GPTPartitionEntry, PartitionName, Result};
 use gptman_fixtures::calls::{
     are_equal, are_equal_entries, are_equal_names, copy as copy_table, copy_entry, copy_name,
-    entry_of, name_of,
+    entry_of, name_of, name_of_units,
 };
 use gptman_fixtures::tables::{has_entry, partition, unsorted_table};
 use std::alloc::Global;
@@ -13,9 +13,8 @@ use std::alloc::Global;
 /// Makes the call of this name. None where it is none of these.
 pub fn try_call(name: &str, memory: &mut Memory) -> Option<Result<Verdict>> {
     match name {
-        "name_new" | "name_clone" | "entry_clone" | "entry_decode" | "table_clone" => {
-            Some(copy(name, memory))
-        }
+        "name_new" | "name_units" | "name_clone" | "entry_clone" | "entry_decode" | "table_clone" =>
+            Some(copy(name, memory)),
         "table_sort" | "table_apply_sort" | "table_apply_put" | "table_apply_all" => {
             Some(change(name, memory))
         }
@@ -36,6 +35,7 @@ fn copy(name: &str, memory: &mut Memory) -> Result<Verdict> {
 fn is_copied(name: &str, alloc: Global, entry: &GPTPartitionEntry, table: &GPT) -> Result<bool> {
     match name {
         "name_new" => is_name(name_of(alloc, "Foo"), entry),
+        "name_units" => is_name(name_of_units(alloc, entry.partition_name.units()), entry),
         "name_clone" => is_name(copy_name(&entry.partition_name), entry),
         "entry_clone" => is_entry(copy_entry(entry), entry),
         "entry_decode" => is_entry(entry_of(alloc, &entry.encode()), entry),

@@ -7,10 +7,10 @@ ghost use Rattle.gptman_copy.specs.Answers.{Settles};
 ghost use Rattle.gptman_copy.specs.Coding.{empty_entry};
 ghost use Rattle.gptman_copy.specs.Copy.{copy_at};
 ghost use Rattle.gptman_copy.specs.Disk.{HasFailedAsOften, HasFailedOnceAtMost, IsHonest, Reads, Rose};
-ghost use Rattle.gptman_copy.specs.Fault.{fault_of, io as io_fault, invalid_signature, out_of_memory};
-ghost use Rattle.gptman_copy.specs.Fit.{fit_fault, new_header};
+ghost use Rattle.gptman_copy.specs.Fault.{fault_of, io as io_fault, invalid_signature, out_of_memory, overflow};
+ghost use Rattle.gptman_copy.specs.Fit.{fit_fault, new_header, new_header_of};
 ghost use Rattle.gptman.specs.Reading.{both, copy_in, found_sector_size, primary, reading_of};
-ghost use Rattle.gptman.specs.Table.{new_table};
+ghost use Rattle.gptman.specs.Table.{new_table, new_table_of};
 ghost use Rattle.gptman.specs.TableReads.{copy_of, is_reading_fault, AnswersReading, CountsReading, FallsBack};
 ghost use Rattle.gptman.specs.TableReads.{IsAsRead, IsReadingFault, MayBeRead, ShowsNoSignature};
 
@@ -46,8 +46,35 @@ impl GPT {
             (D.state disk.old) (D.state disk.new) }
         ensures value { IfOk result (λ g. g ≡ new_table disk_guid sector_size (D.state disk.old).size) }
     {
-        let header = GPTHeader::new_from(disk, sector_size, disk_guid)?;
-        let partitions = empty_entries(alloc)?;
+        GPT::with_entries(alloc, disk, sector_size, disk_guid, 128)
+    }
+
+    /// A new table of so many unused entries, in primary form, fitted to the disk: `new_from` for another
+    /// number than 128. The sectors that its entries take are the fewest, so with fewer entries the first
+    /// usable sector comes earlier. Linux reads tables of at most 32768 entries.
+    ///
+    /// `Overflow` where the number is 0; then `Io` where the disk failed; then `Overflow` where it has too
+    /// few sectors for two copies, `OutOfMemory` where there is no memory for the entries.
+    pub fn with_entries<D: Disk>(
+        alloc: Global,
+        disk: &mut D,
+        sector_size: u64,
+        disk_guid: [u8; 16],
+        count: u32,
+    ) -> Result<GPT>
+        requires { 0 < sector_size }
+        ensures reads { Reads (D.state disk.old) (D.state disk.new) }
+        ensures counts { CountsFailure result (D.state disk.old) (D.state disk.new) }
+        ensures once { HasFailedOnceAtMost (D.state disk.old) (D.state disk.new) }
+        ensures at_once { count ≡ 0 → Refuses result overflow }
+        ensures answer { Refuses result out_of_memory
+            ⊎ Settles (fit_fault (new_header_of count disk_guid) sector_size (D.state disk.old).size) result
+            (D.state disk.old) (D.state disk.new) }
+        ensures value { IfOk result (λ g. g
+            ≡ new_table_of count disk_guid sector_size (D.state disk.old).size) }
+    {
+        let header = GPTHeader::with_entries(disk, sector_size, disk_guid, count)?;
+        let partitions = empty_entries(alloc, count)?;
         Ok(GPT {
             sector_size,
             header,
@@ -265,13 +292,13 @@ fn both(alloc: Global, primary: Error, backup: Error) -> Result<Error>
     Ok(Error::ReadError(primary, backup))
 }
 
-// 128 unused entries.
-fn empty_entries(alloc: Global) -> Result<Vec<GPTPartitionEntry>>
-    ensures entries { IfOk result (λ v. v.items ≡ replicate 128 empty_entry) }
+// So many unused entries.
+fn empty_entries(alloc: Global, count: u32) -> Result<Vec<GPTPartitionEntry>>
+    ensures entries { IfOk result (λ v. v.items ≡ replicate count empty_entry) }
     ensures refused { IfErr result (λ e. fault_of e ≡ out_of_memory) }
 {
-    let mut partitions = Vec::with_capacity(alloc, 128)?;
-    for _ in 0..128_u32 {
+    let mut partitions = Vec::with_capacity(alloc, count as usize)?;
+    for _ in 0..count {
         partitions.push(GPTPartitionEntry::empty(alloc))?;
     }
     Ok(partitions)

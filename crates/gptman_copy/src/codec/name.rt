@@ -68,9 +68,11 @@ impl PartitionName {
         }
     }
 
-    /// The name that is read from these units. Its text is what stands before the first zero, where
-    /// a surrogate that is in no pair gives U+FFFD. It takes no memory where that is nothing.
-    pub(crate) fn from_units(alloc: Global, units: [u16; 36]) -> Result<Self>
+    /// The name that is read from these units, which are kept as they are. Its text is what stands before
+    /// the first zero, where a surrogate that is in no pair gives U+FFFD.
+    ///
+    /// `OutOfMemory` where there is no memory for the text. An empty text takes none.
+    pub fn from_units(alloc: Global, units: [u16; 36]) -> Result<Self>
         ensures units { IfOk result (λ n. n.units ≡ units) }
         ensures text { IfOk result (λ n. n.text ≡ encode_utf8_all (text_of units)) }
         ensures refused { IfErr result (λ e. fault_of e ≡ out_of_memory) }
