@@ -1,5 +1,5 @@
 -- A layout that was put into a table, put into it again.
-use Rattle.std.proofs.Common.{◌≡◌, ◌≢◌, ◌≤◌, ◌<◌, ◌⊎◌, inl, inr, ℕ, ◌-◌, List, [], ◌∷◌, refl, sym, ap, ◌∙◌, subst, arith, zero, suc, IsTrue, Bool, true, false, length}
+use Rattle.std.proofs.Common.{◌≡◌, ◌≢◌, ◌≤◌, ◌⊎◌, inl, inr, ℕ, ◌-◌, List, [], ◌∷◌, refl, sym, ap, ◌∙◌, subst, arith, zero, suc, IsTrue, Bool, true, false, length}
 use Rattle.std.specs.Prelude.{Option, Some, None, Result, Ok, Err, All, nat_eq, nat_le, not, slice_get, unwrap_or, if◌then◌else◌}
 use Rattle.std.proofs.lemmas.Bool.{eqb-false, eqb-true, leb-true}
 use Rattle.std.proofs.lemmas.Option.{slice_get_within, slice_get-get_or}
@@ -149,7 +149,7 @@ all_again g next mode (a ∷ asked) (random ∷ randoms) (other ∷ others) ps q
 
 -- ---- what that leaves under each number
 
-unnamed_more : (j : ℕ) (p : Partition) (ps : List Partition) → p.number ≢ j → IsUnnamed j ps → IsUnnamed j (p ∷ ps)
+pub unnamed_more : (j : ℕ) (p : Partition) (ps : List Partition) → p.number ≢ j → IsUnnamed j ps → IsUnnamed j (p ∷ ps)
 unnamed_more j p ps differ rest zero q below = differ
 unnamed_more j p ps differ rest (suc k) q below = rest k q (omega (arith, below))
 
@@ -158,7 +158,7 @@ named_by j p ps true is rest = inl (inl (eqb-true p.number j is))
 named_by j p ps false is (inl has) = inl (inr has)
 named_by j p ps false is (inr unnamed) = inr (unnamed_more j p ps (eqb-false p.number j is) unnamed)
 
-named_or : (j : ℕ) (ps : List Partition) → HasNumber j ps ⊎ IsUnnamed j ps
+pub named_or : (j : ℕ) (ps : List Partition) → HasNumber j ps ⊎ IsUnnamed j ps
 named_or j [] = inr (λ k d below. absurd (omega (arith, below)))
 named_or j (p ∷ ps) = named_by j p ps (nat_eq p.number j) refl (named_or j ps)
 

@@ -117,12 +117,12 @@ HasNumber i [] = ⊥
 HasNumber i (p ∷ ps) = (p.number ≡ i) ⊎ HasNumber i ps
 
 -- the table has these entries from number k on
-abbrev HasFrom : GPT → ℕ → List GPTPartitionEntry → Type 0
+abbrev pub HasFrom : GPT → ℕ → List GPTPartitionEntry → Type 0
 HasFrom g k [] = Unit {0}
 HasFrom g k (e ∷ es) = (entry_of_number g k ≡ Some e) × (entry_at g k ≡ e) × HasFrom g (k + 1) es
 
 -- each used one of them is asked for
-abbrev CoversFrom : List Partition → ℕ → List GPTPartitionEntry → Type 0
+abbrev pub CoversFrom : List Partition → ℕ → List GPTPartitionEntry → Type 0
 CoversFrom ps k [] = Unit {0}
 CoversFrom ps k (e ∷ es) = (IsTrue (is_used e) → HasNumber k ps) × CoversFrom ps (k + 1) es
 
@@ -130,7 +130,7 @@ covers_more : (p : Partition) (ps : List Partition) (k : ℕ) (es : List GPTPart
 covers_more p ps k [] is = tt
 covers_more p ps k (e ∷ es) is = (λ used. inr (is.0 used), covers_more p ps (k + 1) es is.1)
 
-abbrev if_used : Bool → ℕ → GPTPartitionEntry → List Asked → List Asked
+abbrev pub if_used : Bool → ℕ → GPTPartitionEntry → List Asked → List Asked
 if_used b k e asked = if b then asked_of k e ∷ asked else asked
 
 own_more : (g : GPT) (b : Bool) (k : ℕ) (e : GPTPartitionEntry) (es : List GPTPartitionEntry) (randoms : List (List ℕ)) (ps : List Partition) → 1 ≤ k → is_used e ≡ b
@@ -154,7 +154,7 @@ own_more g true k e es (random ∷ randoms) ps low is found at enough all rest =
     subst (λ (qs : List Partition). OwnedBy g qs × CoversFrom qs k (e ∷ es)) same
     ((own.1, next.0), (λ used. inl own.0, covers_more first.0 others.0 (k + 1) es next.1))
 
-all_own : (g : GPT) (k : ℕ) (es : List GPTPartitionEntry) (randoms : List (List ℕ)) (ps : List Partition) → 1 ≤ k → HasFrom g k es
+pub all_own : (g : GPT) (k : ℕ) (es : List GPTPartitionEntry) (randoms : List (List ℕ)) (ps : List Partition) → 1 ≤ k → HasFrom g k es
     → length (asked_of_all (enumerate_from k es)) ≤ length randoms → resolved_all g (Become false) (asked_of_all (enumerate_from k es)) randoms ≡ Ok ps
     → OwnedBy g ps × CoversFrom ps k es
 all_own g k [] randoms ps low has enough all = let none : [] ≡ ps = cc in subst (λ (qs : List Partition). OwnedBy g qs × CoversFrom qs k []) none (tt, tt)
@@ -179,7 +179,7 @@ own_there g next j (p ∷ ps) own there (inl same) =
     subst (λ (n : ℕ). entry_at next n ≡ entry_at g n) same (there ∙ sym own.at)
 
 -- One that is not used is not named.
-own_unnamed : (g : GPT) (j : ℕ) (ps : List Partition) → OwnedBy g ps → is_used (entry_at g j) ≡ false → IsUnnamed j ps
+pub own_unnamed : (g : GPT) (j : ℕ) (ps : List Partition) → OwnedBy g ps → is_used (entry_at g j) ≡ false → IsUnnamed j ps
 own_unnamed g j [] own unused k p below = absurd (omega (arith, below))
 own_unnamed g j (p ∷ ps) own unused zero q below = λ same.
     let used : is_used (entry_at g j) ≡ true = ap (λ (n : ℕ). is_used (entry_at g n)) (sym same) ∙ (ap is_used own.0.at ∙ own.0.used) in
@@ -202,17 +202,17 @@ has_from g k (e ∷ es) at =
     )
 
 -- the entry of the number that is one above its index
-at_number : (g : GPT) (m n : ℕ) → n ≡ m + 1 → entry_at g n ≡ get_or (entries_in g) m empty_entry
+pub at_number : (g : GPT) (m n : ℕ) → n ≡ m + 1 → entry_at g n ≡ get_or (entries_in g) m empty_entry
 at_number g m n is = let index : n - 1 ≡ m = omega (arith, is) in ap (λ (k : ℕ). get_or (entries_in g) k empty_entry) index
 
-of_number : (g : GPT) (m n : ℕ) → n ≡ m + 1 → m < length (entries_in g) → entry_of_number g n ≡ Some (get_or (entries_in g) m empty_entry)
+pub of_number : (g : GPT) (m n : ℕ) → n ≡ m + 1 → m < length (entries_in g) → entry_of_number g n ≡ Some (get_or (entries_in g) m empty_entry)
 of_number g m n is below =
     let index : n - 1 ≡ m = omega (arith, is) in
     let above : nat_le 1 n ≡ true = le-leb 1 n (omega (arith, is)) in
     subst (λ (b : Bool). ◌≡◌ {A = Option GPTPartitionEntry} (if b then slice_get (entries_in g) (n - 1) else None) (Some (get_or (entries_in g) m empty_entry))) (sym above)
     (subst (λ (k : ℕ). slice_get (entries_in g) k ≡ Some (get_or (entries_in g) m empty_entry)) (sym index) (slice_get-get_or (entries_in g) m empty_entry below))
 
-has_all : (g : GPT) → HasFrom g 1 (entries_in g)
+pub has_all : (g : GPT) → HasFrom g 1 (entries_in g)
 has_all g = has_from g 1 (entries_in g) (λ m below. (of_number g m (1 + m) (omega arith) below, at_number g m (1 + m) (omega arith)))
 
 covers_at : (ps : List Partition) (k : ℕ) (es : List GPTPartitionEntry) (m : ℕ) → CoversFrom ps k es → m < length es → IsTrue (is_used (get_or es m empty_entry)) → HasNumber (k + m) ps
@@ -223,10 +223,19 @@ covers_at ps k (e ∷ es) (suc m) is below used =
     subst (λ (n : ℕ). HasNumber n ps) shift (covers_at ps (k + 1) es m is.1 (omega (arith, below)) used)
 
 -- An entry that is used is one of the list.
-used_below : (es : List GPTPartitionEntry) (m : ℕ) → IsTrue (is_used (get_or es m empty_entry)) → m < length es
+pub used_below : (es : List GPTPartitionEntry) (m : ℕ) → IsTrue (is_used (get_or es m empty_entry)) → m < length es
 used_below [] m used = absurd (cc)
 used_below (e ∷ es) zero used = omega arith
 used_below (e ∷ es) (suc m) used = let less = used_below es m used in omega (arith, less)
+
+-- The number of one is named where each used one is asked for.
+pub used_named : (g : GPT) (ps : List Partition) (m : ℕ) → CoversFrom ps 1 (entries_in g) → is_used (entry_at g (suc m)) ≡ true → HasNumber (suc m) ps
+used_named g ps m is used =
+    let at : entry_at g (suc m) ≡ get_or (entries_in g) m empty_entry = at_number g m (suc m) (omega arith) in
+    let here : IsTrue (is_used (get_or (entries_in g) m empty_entry)) = subst (λ (e : GPTPartitionEntry). IsTrue (is_used e)) at used in
+    let below = used_below (entries_in g) m here in
+    let shift : 1 + m ≡ suc m = omega arith in
+    subst (λ (n : ℕ). HasNumber n ps) shift (covers_at ps 1 (entries_in g) m is below here)
 
 -- Tables that have the same under each number have the same entries.
 pub equal_entries : (g next : GPT) → length (entries_in next) ≡ length (entries_in g) → ((m : ℕ) → entry_at next (suc m) ≡ entry_at g (suc m)) → entries_in next ≡ entries_in g
@@ -250,12 +259,7 @@ module _ (g next : GPT) (layout : Layout) (randoms : List (List ℕ)) (is : IsLa
 
   each_used : (m : ℕ) → is_used (entry_at g (suc m)) ≡ true → entry_at next (suc m) ≡ entry_at g (suc m)
   each_used m used =
-      let at : entry_at g (suc m) ≡ get_or (entries_in g) m empty_entry = at_number g m (suc m) (omega arith) in
-      let here : IsTrue (is_used (get_or (entries_in g) m empty_entry)) = subst (λ (e : GPTPartitionEntry). IsTrue (is_used e)) at used in
-      let below = used_below (entries_in g) m here in
-      let shift : 1 + m ≡ suc m = omega arith in
-      own_there g next (suc m) laid.partitions owned.0 (change_named layout randoms g next laid).named
-      (subst (λ (n : ℕ). HasNumber n laid.partitions) shift (covers_at laid.partitions 1 (entries_in g) m owned.1 below here))
+      own_there g next (suc m) laid.partitions owned.0 (change_named layout randoms g next laid).named (used_named g laid.partitions m owned.1 used)
 
   each_unused : (m : ℕ) → is_used (entry_at g (suc m)) ≡ false → entry_at next (suc m) ≡ entry_at g (suc m)
   each_unused m unused =
@@ -267,7 +271,7 @@ module _ (g next : GPT) (layout : Layout) (randoms : List (List ℕ)) (is : IsLa
   each_by m true used = each_used m used
   each_by m false unused = each_unused m unused
 
-  same_entries : entries_in next ≡ entries_in g
+  pub same_entries : entries_in next ≡ entries_in g
   same_entries = equal_entries g next (done_keeps (Lay layout) randoms g next laid).long (λ k. each_by k (is_used (entry_at g (suc k))) refl)
 
   same_guid : next.header.disk_guid ≡ g.header.disk_guid

@@ -51,7 +51,7 @@ cleared_keeps i g h next (Some e) is rest =
     let mid = with_entry g i empty_entry in
     keeps_both g mid h (put_keeps g i empty_entry) (rest mid is)
 
-all_cleared_keep : (ps : List Partition) (g h : GPT) → cleared ps g ≡ Ok h → KeepsRanges g h
+pub all_cleared_keep : (ps : List Partition) (g h : GPT) → cleared ps g ≡ Ok h → KeepsRanges g h
 all_cleared_keep [] g h done = let same : g ≡ h = cc in subst (KeepsRanges g) same (record { sector = refl; header = refl; long = refl })
 all_cleared_keep (p ∷ ps) g h done =
     cleared_keeps p.number g h (cleared ps) (entry_of_number g p.number) done (λ m is. all_cleared_keep ps m h is)

@@ -28,7 +28,7 @@ other_entry g i j e low_i low_j differ = get_or-set_other (entries_in g) (i - 1)
 pub this_entry : (g : GPT) (i : ℕ) (e : GPTPartitionEntry) → IsNumber g i → entry_at (with_entry g i e) i ≡ e
 this_entry g i e number = get_or-set_same (entries_in g) (i - 1) e empty_entry (omega (arith, number.0, number.1))
 
-put_other : (p : Partition) (g next : GPT) (j : ℕ) → IsPut p g next → 1 ≤ j → p.number ≢ j → entry_at next j ≡ entry_at g j
+pub put_other : (p : Partition) (g next : GPT) (j : ℕ) → IsPut p g next → 1 ≤ j → p.number ≢ j → entry_at next j ≡ entry_at g j
 put_other p g next j put low differ =
     subst (λ (m : GPT). entry_at m j ≡ entry_at g j) (sym put.next_is)
     (other_entry g p.number j (record p.entry { starting_lba = put.first; ending_lba = put.last }) put.number.0 low differ)

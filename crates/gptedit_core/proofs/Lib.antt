@@ -7,3 +7,4 @@ pub mod Planned
 pub mod Resolved
 pub mod Runs
 pub mod Steps
+pub mod Taken

@@ -1,17 +1,23 @@
 -- Which entries a layout names, and what becomes of these and of the others.
-use Rattle.std.specs.Prelude.{◌≡◌, ◌≢◌, ◌≤◌, ℕ, List, [], ◌∷◌, Some, false, length, All, IsTrue}
+use Rattle.std.specs.Prelude.{◌≡◌, ◌≢◌, ◌≤◌, ◌<◌, ℕ, List, [], ◌∷◌, Some, false, length, All, IsTrue}
 use Rattle.gptman.specs.Entry.{is_unused}
+use Rattle.gptman.specs.Layout.{HasLayout}
 use Rattle.gptman.specs.Number.{entry_at}
-use Rattle.gptman.specs.Table.{table_in}
+use Rattle.gptman.specs.Table.{entries_in, table_in}
+use Rattle.gptman.specs.Valid.{IsValid}
 use Rattle.gptman_copy.specs.declared.codec.entry.GPTPartitionEntry.{GPTPartitionEntry}
 use Rattle.gptman.specs.declared.table.GPT.{GPT}
 use Rattle.gptedit_core.specs.Dumping.{IsLayoutOf}
 use Rattle.gptedit_core.specs.Laying.{IsLaid}
 use Rattle.gptedit_core.specs.Placing.{IsSpan}
+use Rattle.gptedit_core.specs.Planning.{RefusesRequest}
 use Rattle.gptedit_core.specs.declared.asked.Asked.{Asked}
 use Rattle.gptedit_core.specs.declared.asked.Layout.{Layout}
 use Rattle.gptedit_core.specs.declared.asked.Mode.{Mode}
 use Rattle.gptedit_core.specs.declared.asked.Mode.TheVariants.{Become}
+use Rattle.gptedit_core.specs.declared.plan.Job.TheVariants.{Lay}
+use Rattle.gptedit_core.specs.declared.plan.Request.{Request}
+use Rattle.gptedit_core.specs.declared.refusal.Refusal.{Refusal}
 use Rattle.gptedit_core.specs.declared.resolve.Partition.{Partition}
 
 -- no partition has the number
@@ -49,6 +55,11 @@ LayoutsChangeNamed = (layout : Layout) (randoms : List (List ℕ)) (g next : GPT
 abbrev pub LayoutsGiveTable : Type 0
 LayoutsGiveTable = (g next : GPT) (layout : Layout) (randoms : List (List ℕ)) → IsLayoutOf g layout → length layout.asked.items ≤ length randoms → IsLaid layout randoms g next
     → table_in next ≡ table_in g
+
+-- A request that puts the layout of a table into it is not refused, where the table has the stated layout and is valid, its alignment is above 0, and there are random GUIDs enough.
+abbrev pub LayoutsAreTaken : Type 0
+LayoutsAreTaken = (g : GPT) (len : ℕ) (layout : Layout) (request : Request) (r : Refusal) → IsLayoutOf g layout → request.job ≡ Lay layout
+    → length layout.asked.items ≤ length request.random.items → 0 < g.align → HasLayout g len → IsValid g.header (entries_in g) → ¬ RefusesRequest request len g r
 
 -- each of them gives its number
 abbrev pub AreNumbered : List Asked → Type 0

@@ -12,7 +12,8 @@ use gptman::{GPT, GPTPartitionEntry, Result};
 use std::alloc::Global;
 
 /// The layout that the table is: the GUID of the disk, and each used entry with all that it has, under its
-/// number. Put into the table it came from, it changes nothing.
+/// number. Put into the table it came from, it changes nothing; and it is not refused there where that table
+/// has the stated layout and may be written, its alignment is above 0, and each entry has a random GUID.
 ///
 /// `OutOfMemory` where there is no memory for it.
 pub fn layout_of(alloc: Global, table: &GPT) -> Result<Layout>

@@ -1,6 +1,6 @@
 //! Laws of what is asked for, over definitions alone. These calls do nothing.
 
-ghost use Rattle.gptedit_core.specs.Named.{LayoutsChangeNamed, LayoutsGiveTable, LayoutsStay};
+ghost use Rattle.gptedit_core.specs.Named.{LayoutsAreTaken, LayoutsChangeNamed, LayoutsGiveTable, LayoutsStay};
 
 /// A layout that is put into a table changes the entries that it names or removes, and no other: each that
 /// it names is there with what was asked for, at a place that the table had for it, and each other stays.
@@ -12,6 +12,12 @@ pub fn layouts_change_what_they_name()
 /// The layout of a table (`layout_of`) gives that table where it is put into it.
 pub fn layouts_of_tables_give_them()
     ensures { LayoutsGiveTable }
+{}
+
+/// A request that puts the layout of a table into that table is not refused, where the table has the stated
+/// layout and may be written, its alignment is above 0, and each entry that is asked for has a random GUID.
+pub fn layouts_of_tables_are_taken()
+    ensures { LayoutsAreTaken }
 {}
 
 /// A layout that gives each entry its number, put into a table that it was put into before, leaves that table.
