@@ -27,7 +27,8 @@ copy_at-is : (b : List ℕ) (p ss : ℕ) → copy_at b p ss ≡ copy_from (lengt
 unfolding copy_at
 copy_at-is b p ss = refl
 
-copy_at-local : (b c : List ℕ) (p ss : ℕ) → length c ≡ length b → part c p 92 ≡ part b p 92 → entries_part c p ss ≡ entries_part b p ss → copy_at c p ss ≡ copy_at b p ss
+-- What agrees in length, in the header and in the entries that it says is one copy.
+pub copy_at-local : (b c : List ℕ) (p ss : ℕ) → length c ≡ length b → part c p 92 ≡ part b p 92 → entries_part c p ss ≡ entries_part b p ss → copy_at c p ss ≡ copy_at b p ss
 copy_at-local b c p ss long header entries =
     copy_at-is c p ss ∙ (λ i. copy_from (long i) p ss (header i) (entries i)) ∙ sym (copy_at-is b p ss)
 
