@@ -11,6 +11,7 @@ from commands import DISK, EFI, ESP, ESP_ENTRY, LINUX, MIB, ROOT, SWAP, holds_ta
 from refusals import refused
 
 LAYOUTS = 200
+SCRIPTS = 80
 RANDOM = 4 * MIB
 # sfdisk writes no name with characters past U+FFFF.
 NAMES = ["", "root", "EFI System", "home-1", "Größe", "名前", "a'b", "tab\tbed", "x" * 36]
@@ -62,13 +63,34 @@ WRONG = [
     ("label: gpt\nlabel-id: 7\n", "line 2: label-id of "),
     ("label: gpt\nsecret: 7\n", 'line 2: "secret" is no key of '),
     ("label: gpt\n\nstart=x\n", "line 3: start of "),
-    ("label: gpt\nstart=8MiB, size=1MiB\nsize=1MiB\n", "line 3: start of the partition: say where it begins"),
     ("label: gpt\nsize=1MiB, colour=red\n", 'line 2: "colour" is no key of '),
     ("label: gpt\nsector-size: 4096\n", "sector-size is 4096 here, and 512 in the table"),
     ("label: gpt\nfirst-lba: 2048\n", "first-lba is 2048 here, and 34 in the table"),
     ("label: gpt\nlast-lba: 7\n", "last-lba is 7 here, and 262110 in the table"),
     ("label: gpt\ntable-length: 7\n", "table-length is 7 here, and 128 in the table"),
     (b"\xff\xfe", "disk.toml: "),
+]
+
+
+# Lines of scripts, and where their partitions begin in an image of 128 MiB; None where there is no room.
+PLACED = [
+    (["start=8MiB, size=1MiB", "size=1MiB"], [16384, 18432]),
+    (["start=100MiB, size=1MiB", "size=1MiB"], [204800, 2048]),
+    # The run behind the partition is longer by one sector, and then just as long as the one before it.
+    (["start=122880, size=16384", "size=1MiB"], [122880, 139264]),
+    (["start=122880, size=16385", "size=1MiB"], [122880, 2048]),
+    (["start=40MiB, size=20MiB", "start=100MiB, size=4MiB", "size=10MiB", "size=10MiB", "size=25MiB"],
+     [81920, 204800, 122880, 2048, 143360]),
+    (["size=1MiB", "start=30MiB, size=1MiB", ",1MiB", "start=3MiB, size=1MiB", ",1MiB"],
+     [2048, 61440, 63488, 6144, 65536]),
+    # Where the longest run begins at no multiple, what is before the next one stays free; sfdisk does not
+    # align in a run as short as that of the last two.
+    (["start=4000, size=250000", "size=6111"], [4000, 256000]),
+    (["start=2100, size=256000", "size=2015"], [2100, 260096]),
+    (["start=2100, size=256000", "size=2016"], None),
+    # A shorter run has room, but not the longest one.
+    (["start=8192, size=8192", "start=23384, size=238616", "size=6144"], [8192, 23384, 2048]),
+    (["start=8192, size=8192", "start=23384, size=238616", "size=6145"], None),
 ]
 
 
@@ -243,6 +265,47 @@ def try_defaults(tally, program):
     return None
 
 
+def try_places(tally, program):
+    """Lines of scripts with and without starts."""
+    for lines, starts in PLACED:
+        start(program, False)
+        script = "label: gpt\nfirst-lba: 34\n" + "\n".join(lines) + "\n"
+        ended = program.run("apply", "disk.img", "-", text=script)
+        found = table.read(program.file("disk.img")).entries
+        tally.equals(f"the status of {lines}", int(starts is None), ended[0])
+        tally.equals(f"the starts of {lines}", starts or [], [found[number].first for number in sorted(found)])
+
+
+def draw_lines(random_, unit):
+    """Lines of a script, of which about half say where they begin, in multiples of so many sectors."""
+    lines = []
+    for _ in range(random_.randrange(2, 9)):
+        size = f"size={random_.randrange(1, 14 * 2048 // unit) * unit}"
+        first = random_.randrange(2048 // unit, 127 * 2048 // unit) * unit
+        lines.append(random_.choice([size, f"start={first}, {size}"]))
+    return lines
+
+
+def try_mixed(tally, program):
+    """Random scripts of lines with and without starts, by sfdisk too; what it refuses is refused."""
+    if not shutil.which("sfdisk"):
+        return "sfdisk is not installed: left out"
+    random_, laid = random.Random(3), 0
+    for number in range(SCRIPTS):
+        head, unit = [("label: gpt\n", 2048), ("label: gpt\nfirst-lba: 34\n", 1)][number % 2]
+        script = head + "\n".join(draw_lines(random_, unit)) + "\n"
+        start(program, False)
+        program.make_image("theirs.img", 128 * MIB)
+        ended = program.run("apply", "disk.img", "-", "--replace", text=script)
+        theirs = subprocess.run(["sfdisk", "-q", "theirs.img"], input=script.encode(), cwd=program.folder,
+                                stderr=subprocess.DEVNULL, check=False).returncode
+        wanted = {} if theirs else without_guids(table.read(program.file("theirs.img")))
+        tally.equals(f"the status of {script!r}", theirs, ended[0])
+        tally.equals(f"the table of {script!r}", wanted, without_guids(table.read(program.file("disk.img"))))
+        laid += not theirs
+    return f"{SCRIPTS} scripts, of which sfdisk takes {laid}"
+
+
 def without_guids(found):
     """The entries of a table, but for their GUIDs, which are random."""
     return {number: entry._replace(guid="") for number, entry in found.entries.items()}
@@ -302,4 +365,5 @@ def read_theirs(tally, program, reader, entries, what):
 
 SUBJECTS = {"layouts": try_layout, "what layouts leave out": try_kept, "texts that are no layouts": try_wrong,
             "random layouts": try_random, "dumps": try_round, "defaults of scripts": try_defaults,
+            "starts in scripts": try_places, "scripts with and without starts": try_mixed,
             "images of other tools": try_readers}

@@ -1,9 +1,9 @@
 -- Where a partition comes to be.
 use Rattle.std.specs.Prelude.{◌≡◌, ◌≤◌, ◌<◌, ◌⊎◌, ℕ, ◌+◌, ◌-◌, ◌%◌, ◌&&◌, max, nat_le, nat_lt, if◌then◌else◌, Option, MatchOption}
-use Rattle.gptman.specs.Place.{HasNoPlace, HasNoSlot, IsAlignedSlot, IsBestPlace, IsFirstPlace, IsFreeIn, IsLastPlace, IsMaximumSize}
+use Rattle.gptman.specs.Place.{HasNoPlace, HasNoSlot, IsAlignedSlot, IsBestPlace, IsFirstMultiple, IsFirstPlace, IsFreeIn, IsLastPlace, IsMaximumSize}
 use Rattle.gptman.specs.declared.table.GPT.{GPT}
 use Rattle.gptedit_core.specs.declared.asked.Choice.{Choice}
-use Rattle.gptedit_core.specs.declared.asked.Choice.TheVariants.{First, Last, Best}
+use Rattle.gptedit_core.specs.declared.asked.Choice.TheVariants.{First, Last, Best, Longest as InLongest}
 use Rattle.gptedit_core.specs.declared.place.Place.{Place}
 use Rattle.gptedit_core.specs.declared.place.Place.TheVariants.{At, From, Free, Longest}
 
@@ -13,11 +13,41 @@ trimmed align first last =
     let spare = last % align + 1 in
     if nat_lt spare align && nat_le (first + spare) last then last - spare else last
 
+-- The longest run of free sectors, and the first of equals, by its start and its length.
+pub record IsLongestRun (free : ℕ → Type 0) (start long : ℕ) : Type 0 where
+  pub run : IsAlignedSlot free 1 start long
+  pub longest : (t k : ℕ) → IsAlignedSlot free 1 t k → k ≤ long
+  pub leftmost : (t : ℕ) → IsAlignedSlot free 1 t long → start ≤ t
+
+-- s is the first multiple of align from the start of the longest run on, and the run ends before the sector end.
+pub record IsStartInLongest (free : ℕ → Type 0) (align s end : ℕ) : Type 0 where
+  pub start : ℕ
+  pub long : ℕ
+  pub longest : IsLongestRun free start long
+  pub first : IsFirstMultiple align start s
+  pub is : start + long ≡ end
+
+-- n sectors from s on, the first multiple of align in the longest run, are in it
+abbrev pub IsLongestPlace : (ℕ → Type 0) → ℕ → ℕ → ℕ → Type 0
+IsLongestPlace free align n s = (end : ℕ) × IsStartInLongest free align s end × (s + n ≤ end)
+
+-- there is no run, or fewer than n sectors are left in the longest one from its first multiple of align on
+abbrev pub HasNoLongestPlace : (ℕ → Type 0) → ℕ → ℕ → Type 0
+HasNoLongestPlace free align n = HasNoSlot free 1 ⊎ ((s end : ℕ) × IsStartInLongest free align s end × (end < s + n))
+
 -- s is the place that is chosen for n sectors
 abbrev pub IsChosen : Choice → (ℕ → Type 0) → ℕ → ℕ → ℕ → Type 0
 IsChosen First free align n s = IsFirstPlace free align n s
 IsChosen Last free align n s = IsLastPlace free align n s
 IsChosen Best free align n s = IsBestPlace free align n s
+IsChosen InLongest free align n s = IsLongestPlace free align n s
+
+-- there is no such place
+abbrev pub HasNoneChosen : Choice → (ℕ → Type 0) → ℕ → ℕ → Type 0
+HasNoneChosen First free align n = HasNoPlace free align n
+HasNoneChosen Last free align n = HasNoPlace free align n
+HasNoneChosen Best free align n = HasNoPlace free align n
+HasNoneChosen InLongest free align n = HasNoLongestPlace free align n
 
 -- the run, by its start and its length, has the sector
 abbrev pub HasSector : ℕ → ℕ × ℕ → Type 0
@@ -51,7 +81,7 @@ IsSpan Longest g span = (size : ℕ) × IsMaximumSize (IsFreeIn g) g.align size 
 abbrev pub HasNoRoom : Place → GPT → Type 0
 HasNoRoom (At first last) g = ⊥
 HasNoRoom (From first) g = HasNoRunWith (IsFreeIn g) first
-HasNoRoom (Free size choice) g = HasNoPlace (IsFreeIn g) g.align (max 1 size)
+HasNoRoom (Free size choice) g = HasNoneChosen choice (IsFreeIn g) g.align (max 1 size)
 HasNoRoom Longest g = HasNoSlot (IsFreeIn g) g.align
     ⊎ ((size : ℕ) × IsMaximumSize (IsFreeIn g) g.align size × ((size ≡ 0) ⊎ HasNoPlace (IsFreeIn g) g.align (max 1 size)))
 

@@ -15,6 +15,9 @@ pub enum Choice {
     Last,
     /// The start of the shortest slot that has room.
     Best,
+    /// The start of the longest run of free sectors, the first of equals, at the first multiple of the
+    /// alignment there.
+    Longest,
 }
 
 /// How large a partition is to be.

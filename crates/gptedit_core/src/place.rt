@@ -1,10 +1,11 @@
 //! Where a partition is to be, and where it comes to be.
 
-ghost use Rattle.std.specs.Prelude.{◌≡◌, ◌≤◌, ◌<◌, ◌+◌, ◌^◌, All, Contains, IfErr, IfOk, MatchOption};
+ghost use Rattle.std.specs.Prelude.{◌≡◌, ◌≤◌, ◌<◌, ◌+◌, ◌^◌, All, Contains, IfErr, IfOk, IfSome, MatchOption};
 ghost use Rattle.gptman.specs.Fault.{fault_of, out_of_memory};
-ghost use Rattle.gptman.specs.Place.{AreSlots, IsFreeIn};
+ghost use Rattle.gptman.specs.Place.{AreSlots, EndsIn64Bits, HasNoSlot, IsFirstMultiple, IsFreeIn};
 ghost use Rattle.gptman.specs.Table.{entries_in};
-ghost use Rattle.gptedit_core.specs.Placing.{trimmed, FindsSpan, HasSector};
+ghost use Rattle.gptedit_core.specs.Placing.{trimmed, FindsSpan, HasNoLongestPlace, HasSector, IsLongestPlace};
+ghost use Rattle.gptedit_core.specs.Placing.{IsLongestRun};
 ghost use Rattle.gptedit_core.specs.declared.place.Place.TheVariants.{Free, From, Longest};
 
 use crate::asked::Choice;
@@ -86,10 +87,61 @@ fn find_free(table: &GPT, size: u64, choice: Choice) -> Result<Option<(u64, u64)
         Choice::First => table.find_first_place(size),
         Choice::Last => table.find_last_place(size),
         Choice::Best => table.find_optimal_place(size),
+        Choice::Longest => find_in_longest(table, size),
     };
     match found? {
         Some(first) => Ok(Some((first, first + (size - 1)))),
         None => Ok(None),
+    }
+}
+
+// The first multiple of the alignment in the longest run of free sectors, where so many are left from there.
+fn find_in_longest(table: &GPT, size: u64) -> Result<Option<u64>>
+    requires aligned { 0 < table.now.align }
+    requires sized { 0 < size }
+    ensures refused { IfErr result (λ e. fault_of e ≡ out_of_memory) }
+    ensures value { IfOk result (λ found. MatchOption found (HasNoLongestPlace (IsFreeIn table.now) table.now.align size)
+        (IsLongestPlace (IsFreeIn table.now) table.now.align size)) }
+    ensures fits { IfOk result (EndsIn64Bits size) }
+{
+    let Some((start, long)) = find_longest_run(table)? else {
+        return Ok(None);
+    };
+    let skipped = skip(table.align, start);
+    if skipped <= long && size <= long - skipped {
+        Ok(Some(start + skipped))
+    } else {
+        Ok(None)
+    }
+}
+
+// The longest run of free sectors, and the first of equals, as its first sector and its length.
+fn find_longest_run(table: &GPT) -> Result<Option<(u64, u64)>>
+    ensures refused { IfErr result (λ e. fault_of e ≡ out_of_memory) }
+    ensures value { IfOk result (λ found. MatchOption found (HasNoSlot (IsFreeIn table.now) 1)
+        (λ r. IsLongestRun (IsFreeIn table.now) r.0 r.1)) }
+    ensures fits { IfOk result (λ found. IfSome found (λ r. r.0 + r.1 ≤ 2 ^ 64)) }
+{
+    let mut table = table.clone()?;
+    table.align = 1;
+    match table.get_maximum_partition_size() {
+        Ok(long) => match table.find_optimal_place(long)? {
+            Some(start) => Ok(Some((start, long))),
+            None => Ok(None),
+        },
+        Err(Error::NoSpaceLeft) => Ok(None),
+        Err(error) => Err(error),
+    }
+}
+
+// How many sectors stand from this one on before the next multiple of the alignment.
+fn skip(align: u64, sector: u64) -> u64
+    requires { 0 < align }
+    ensures { IsFirstMultiple align sector (sector + result) }
+{
+    match sector % align {
+        0 => 0,
+        over => align - over,
     }
 }
 

@@ -18,7 +18,6 @@ pub struct Entries {
     last: u32,
     lowest: u32,
     has_rest: bool,
-    has_start: bool,
 }
 
 impl Entries {
@@ -30,7 +29,6 @@ impl Entries {
             last: 0,
             lowest: 1,
             has_rest: false,
-            has_start: false,
         }
     }
 
@@ -49,11 +47,6 @@ impl Entries {
         self.lowest
     }
 
-    /// Whether one of them says where it begins.
-    pub fn has_start(&self) -> bool {
-        self.has_start
-    }
-
     /// One entry more, of this number, which stands at this place. A number that is taken and a second rest
     /// are refused.
     pub fn add(&mut self, place: Place, number: u32, asked: Asked) -> Result<(), LayoutError> {
@@ -66,7 +59,6 @@ impl Entries {
             }
             self.has_rest = true;
         }
-        self.has_start = self.has_start || asked.start.is_some();
         self.last = number;
         self.raise_lowest();
         self.asked.push(asked)?;

@@ -32,8 +32,8 @@ pub fn is_script(text: &str) -> bool {
 /// `last-lba`, `table-length`, `sector-size` and `grain`. Behind them each line is a partition:
 /// `NODE : start=.., size=.., type=.., uuid=.., name="..", attrs=".."`, where each part may be left out, or
 /// `START,SIZE,TYPE`. The number is the one that NODE ends with, else the lowest that no line before it has.
-/// A start that is left out is chosen, which a line behind one with a start may not; a size that is left out
-/// is the rest, such a type is `linux`, and there is no name and no attribute but those that are said.
+/// A start that is left out is that of the longest run of free sectors, a size that is left out is the rest,
+/// such a type is `linux`, and there is no name and no attribute but those that are said.
 /// Starts and sizes are sectors of the table, or bytes with a unit, from `KiB` to `EiB`.
 pub fn read_script(alloc: Global, text: &str) -> Result<(Layout, ScriptHeader), LayoutError> {
     let mut headers = Headers::new();

@@ -36,8 +36,6 @@ pub enum Fault {
     NotCount,
     /// It is no place or size as scripts have them.
     NotExtent,
-    /// It is left out, where a line before it says one.
-    NoStart,
     /// It is no list of attributes as scripts have them.
     NotScriptAttributes,
     /// It is bootable, which no partition of such a table is.
@@ -83,7 +81,6 @@ impl Fault {
             Fault::NotExtent => {
                 "it is a number of sectors, or of bytes with a unit, as 64MiB; + is the default"
             }
-            Fault::NoStart => "say where it begins, as a line before it does",
             Fault::NotScriptAttributes => {
                 "attributes are RequiredPartition, NoBlockIOProtocol, LegacyBIOSBootable and bits \
                  from 0 to 63, as GUID:60,63"

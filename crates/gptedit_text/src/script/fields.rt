@@ -6,7 +6,7 @@ use crate::script::extent::read_extent;
 use crate::script::token::next_token;
 use crate::script::words::{read_script_attributes, read_script_type, unescaped};
 use crate::values::{Wrong, read_guid};
-use gptedit_core::{Amount, Asked, Size};
+use gptedit_core::{Amount, Asked, Choice, Size};
 use std::alloc::Global;
 
 // The parts of a line without names, in their order.
@@ -35,6 +35,7 @@ pub fn read_line(
         attributes: Some(0),
         name: Some(read_name(alloc, place, "")?),
         size: Some(Size::Rest),
+        choice: Choice::Longest,
         ..Asked::nothing(Some(number))
     };
     let mut line = Line {
@@ -46,9 +47,6 @@ pub fn read_line(
         line.read_named(fields)?;
     } else {
         line.read_ordered(fields)?;
-    }
-    if asked.start.is_none() && entries.has_start() {
-        return Err(place.fault("start", Fault::NoStart));
     }
     entries.add(place, number, asked)
 }
