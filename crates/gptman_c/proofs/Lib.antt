@@ -1,0 +1,12 @@
+pub mod Acts
+pub mod Aligned
+pub mod AnyMiddle
+pub mod AnyPlan
+pub mod Known
+pub mod KnownSteps
+pub mod Middle
+pub mod Numbered
+pub mod Planned
+pub mod Rewriting
+pub mod Steps
+pub mod Told

@@ -1,0 +1,14 @@
+use Rattle.std.proofs.Common.{◌≡◌, ⊎_elim, inl, inr, refl, ap, ◌∙◌}
+use Rattle.gptman.specs.Fault.{fault_of}
+use Rattle.gptman_c.specs.Faults.{fault_number}
+use Rattle.gptman_c.proofs.Told.{fault_told}
+use Rattle.gptman_c.proofs.gptman_read.Goals as goal
+
+pub returns-in-Fault-clause-faults : goal.returns-in-Fault-clause-faults
+returns-in-Fault-clause-faults c = λ above below.
+    let number : c.number_of.result ≡ fault_number (fault_of c.in-Fault.fault) = c.number_of.ensures in
+    ⊎_elim
+    (λ none. inr (inr (number ∙ ap fault_number none)))
+    (λ told. ⊎_elim (λ two. inl (number ∙ two)) (λ seven. inr (inl (number ∙ seven)))
+    (fault_told c.args.head.now c.args.tail.now c.args.disk_size (c.if-not-are_apart.ensures.apart.0 refl) c.args.sector_size (fault_of c.in-Fault.fault) told))
+    c.in-Fault.ensures.reading

@@ -1,0 +1,31 @@
+use Rattle.std.proofs.Common.{arith}
+use Rattle.gptman.specs.Disk.{DiskState}
+use Rattle.gptman_c.proofs.Rewriting.{holds, others, stored}
+use Rattle.gptman_c.proofs.writing.rewrite.Goals as goal
+
+pub from_parts-next-requires : goal.from_parts-next-requires
+from_parts-next-requires g c = omega (arith, c.in_ok-entries.ensures.len, c.requires.count, c.iter-few.ensures.len, c.iter-few.ensures.few)
+
+pub returns-clause-holds : goal.returns-clause-holds
+returns-clause-holds g c = λ honest synced read laid.
+    let old : DiskState = g.D.Disk.state c.args.disk.now in
+    let new : DiskState = g.D.Disk.state c.write_into.new.disk in
+    let next = c.from_parts-next in
+    holds c.args.table.now next.result c.args.partitions.now c.in_ok-entries.entries.items next.ensures.entries next.ensures.header next.ensures.sector c.in_ok-entries.ensures.entries
+    old new honest synced read laid c.what_is_read_is_kept.ensures.kept c.write_into.ensures.one_good
+
+pub returns-clause-stored : goal.returns-clause-stored
+returns-clause-stored g c = λ honest synced read laid.
+    let old : DiskState = g.D.Disk.state c.args.disk.now in
+    let new : DiskState = g.D.Disk.state c.write_into.new.disk in
+    let next = c.from_parts-next in
+    stored c.args.table.now next.result c.args.partitions.now c.in_ok-entries.entries.items next.ensures.entries next.ensures.header next.ensures.sector c.in_ok-entries.ensures.entries
+    old new honest synced read laid c.in_ok-write_into.ensures.stored
+
+pub returns-clause-others : goal.returns-clause-others
+returns-clause-others g c = λ honest synced read laid.
+    let old : DiskState = g.D.Disk.state c.args.disk.now in
+    let new : DiskState = g.D.Disk.state c.write_into.new.disk in
+    let next = c.from_parts-next in
+    others c.args.table.now next.result c.args.partitions.now c.in_ok-entries.entries.items next.ensures.entries next.ensures.header next.ensures.sector c.in_ok-entries.ensures.entries
+    old new honest synced read laid c.write_into.ensures.outside

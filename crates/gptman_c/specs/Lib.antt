@@ -1,0 +1,6 @@
+pub mod Crossing
+pub mod Ends
+pub mod Faults
+pub mod Plan
+pub mod Planning
+pub mod Reading

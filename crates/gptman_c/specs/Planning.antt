@@ -1,0 +1,40 @@
+-- What the steps that are told do to a disk.
+use Rattle.std.specs.Prelude.{◌≡◌, ◌≢◌, ◌≤◌, ◌<◌, ℕ, List, [], ◌∷◌, length, map, Ok}
+use Rattle.gptman.specs.Copy.{Copy}
+use Rattle.gptman.specs.Disk.{AgreesOutside}
+use Rattle.gptman.specs.Layout.{Holds, IsLaidOut}
+use Rattle.gptman.specs.Reading.{primary, backup, reading_of, taken_from}
+use Rattle.gptman.specs.Stop.{HoldsOneOf}
+use Rattle.gptman.specs.Table.{Table, table_of, IsHeaderForm}
+use Rattle.gptman_c.specs.Crossing.{content_of, four_ranges}
+use Rattle.gptman_c.specs.Plan.{Act, LeftBy, pending_of, view_of}
+use Rattle.gptman_c.specs.Reading.{IsLack}
+use Rattle.gptman_c.specs.declared.planning.Refusal.{Refusal}
+use Rattle.gptman_c.specs.declared.planning.Refusal.TheVariants.{Answer, Lacks}
+use Rattle.gptman_c.specs.declared.records.Partition.{Partition}
+
+-- the table of the copy, with these for its entries
+abbrev pub rewritten : Copy → List Partition → Table
+rewritten copy partitions = record (table_of copy.header copy.entries) { entries = map content_of partitions }
+
+-- A stop among or within these acts leaves the old table or the next one at one place at least, and all bytes outside of the four ranges as they were. After all
+-- of them both places hold the next one, and nothing is pending.
+pub record IsSafePlan (start : List ℕ) (ss : ℕ) (was next : Table) (acts : List Act) : Type 0 where
+  pub stops : (x : List ℕ) → LeftBy start acts 0 x → HoldsOneOf x ss (was ∷ next ∷ [])
+  pub others : (x : List ℕ) → LeftBy start acts 0 x → AgreesOutside (four_ranges next ss (length start)) start x
+  pub synced : pending_of acts ≡ []
+  pub at_primary : Holds (view_of start acts) ss primary next
+  pub at_backup : Holds (view_of start acts) ss backup next
+
+-- The acts write the table that a disk of these bytes is read as, with these for its entries: safely, where the copy that is read is in the form of its place, and
+-- the table has the stated layout.
+pub record IsPlan (start : List ℕ) (ss : ℕ) (partitions : List Partition) (acts : List Act) : Type 0 where
+  pub copy : Copy
+  pub taken : reading_of start ss ≡ Ok copy
+  pub safe : IsHeaderForm (taken_from start ss) copy.header → IsLaidOut (rewritten copy partitions) ss (length start)
+      → IsSafePlan start ss (table_of copy.header copy.entries) (rewritten copy partitions) acts
+
+-- Why nothing is planned: a fault's number or that of a bad argument, or bytes of the disk that neither end has.
+abbrev pub IsRefusal : List ℕ → List ℕ → ℕ → Refusal → Type 0
+IsRefusal head tail size (Answer n) = (0 < n) × (n ≤ 19) × (n ≢ 17) × (n ≢ 18)
+IsRefusal head tail size (Lacks lack) = IsLack head tail size lack

@@ -1,0 +1,43 @@
+//! The numbers that calls answer.
+
+ghost use Rattle.std.specs.Prelude.{◌≡◌};
+ghost use Rattle.gptman.specs.Fault.{fault_of};
+ghost use Rattle.gptman_c.specs.Faults.{fault_number};
+
+use gptman::Error;
+
+/// The ends lack bytes of the disk that the call has to see.
+pub(crate) const LACKS_BYTES: u32 = 17;
+
+/// An array of the caller's is too short.
+pub(crate) const LACKS_ROOM: u32 = 18;
+
+/// An argument that no disk or table has.
+pub(crate) const BAD_ARGUMENT: u32 = 19;
+
+/// There is no memory.
+pub(crate) const OUT_OF_MEMORY: u32 = 15;
+
+/// The number of a fault, from 1 to 16.
+pub(crate) fn number_of(fault: &Error) -> u32
+    ensures { result ≡ fault_number (fault_of fault.now) }
+{
+    match fault {
+        Error::Io(_) => 1,
+        Error::InvalidSignature => 2,
+        Error::InvalidRevision => 3,
+        Error::InvalidHeaderSize => 4,
+        Error::InvalidChecksum(_, _) => 5,
+        Error::InvalidPartitionEntryArrayChecksum(_, _) => 6,
+        Error::ReadError(_, _) => 7,
+        Error::NoSpaceLeft => 8,
+        Error::ConflictPartitionGUID => 9,
+        Error::InvalidPartitionBoundaries => 10,
+        Error::InvalidPartitionNumber(_) => 11,
+        Error::UnusedPartition => 12,
+        Error::PartitionNotFound => 13,
+        Error::Overflow => 14,
+        Error::OutOfMemory => OUT_OF_MEMORY,
+        Error::InvalidPartitionEntrySize(_) => 16,
+    }
+}

@@ -1,0 +1,196 @@
+//! The library for C, and for what calls C. It touches no file: the caller reads the first and the last bytes
+//! of a disk, is told the table that they hold, and for a write the steps to make, one after the other.
+//!
+//! Nothing is kept between two calls. No argument makes a call read or write outside of what it was given.
+#![tactic(auto)]
+
+ghost use Rattle.std.specs.Prelude.{◌≡◌, ◌≢◌, ◌≤◌, ◌<◌, ◌⊎◌, ◌+◌, ℕ, List, length, take};
+ghost use Rattle.gptman.specs.Crc.{crc_of};
+ghost use Rattle.gptman.specs.Reading.{reading_of, taken_from};
+ghost use Rattle.gptman_c.specs.Crossing.{HasCount, IsRefused, IsTold};
+ghost use Rattle.gptman_c.specs.Ends.{HasEnds, IsKnown};
+ghost use Rattle.gptman_c.specs.Plan.{acts_of};
+ghost use Rattle.gptman_c.specs.Planning.{IsPlan};
+
+mod ends;
+mod faults;
+mod partitions;
+mod places;
+mod planning;
+mod reading;
+mod record;
+mod records;
+mod tell;
+mod writing;
+
+use crate::ends::are_apart;
+use crate::faults::{BAD_ARGUMENT, LACKS_BYTES, LACKS_ROOM, number_of};
+use crate::planning::{Refusal, plan};
+use crate::reading::{Reading, read};
+use crate::record::Record;
+use crate::tell::tell;
+use gptman::crc::crc32;
+pub use records::{Needed, Partition, Step, Table};
+use std::alloc::Global;
+
+/// Reads the table of a disk.
+///
+/// `head` has the first bytes of the disk and `tail` the last ones, as many as the caller likes; they do not
+/// overlap. `disk_size` and `sector_size` are in bytes. What is answered is so whatever the disk has between
+/// the two ends: where that decides, 17 is answered. Then read on, and call again with longer ends.
+///
+/// 0: `table` is what the disk holds, and its entries, the unused ones included, stand in the first
+/// `table.entry_count` places of `partitions`. What comes behind them means nothing.
+///
+/// 1 to 16: no copy of the table is without fault. Of these a reading knows 2, where neither copy shows a
+/// signature or the disk is shorter than a sector, and 7, where the copies have other faults; and 15, where
+/// there is no memory, which tells nothing of the disk.
+///
+/// 17: neither `head` nor `tail` has all of the `needed.length` bytes of the disk from byte `needed.from` on.
+///
+/// 18: `partitions` is too short for the entries of the table, which are `table.entry_count`.
+///
+/// 19: `sector_size` is 0, or the two ends together are longer than the disk.
+#[unsafe(no_mangle)]
+pub extern "C" fn gptman_read(
+    alloc: Global,
+    head: &[u8],
+    tail: &[u8],
+    disk_size: u64,
+    sector_size: u64,
+    table: &mut Table,
+    partitions: &mut [Partition],
+    needed: &mut Needed,
+) -> u32
+    ensures read { result ≡ 0 → (b : List ℕ) → HasEnds b head.now tail.now disk_size
+        → IsTold (reading_of b sector_size) (taken_from b sector_size) table.new partitions.new }
+    ensures refused { 0 < result → result ≤ 16 → result ≢ 15 → (b : List ℕ)
+        → HasEnds b head.now tail.now disk_size → IsRefused (reading_of b sector_size) result }
+    ensures faults { 0 < result → result ≤ 16 → (result ≡ 2) ⊎ ((result ≡ 7) ⊎ (result ≡ 15)) }
+    ensures lacks { result ≡ 17
+        → ¬ IsKnown (length head.now) (length tail.now) disk_size (needed.new.from, needed.new.length) }
+    ensures within { result ≡ 17 → needed.new.from + needed.new.length ≤ disk_size }
+    ensures room { result ≡ 18 → length partitions.old < table.new.entry_count }
+    ensures count { result ≡ 18 → (b : List ℕ) → HasEnds b head.now tail.now disk_size
+        → HasCount (reading_of b sector_size) table.new.entry_count }
+    ensures bad { result ≡ 19
+        → (sector_size ≡ 0) ⊎ (disk_size < length head.now + length tail.now) }
+    ensures most { result ≤ 19 }
+
+    // What is not told stays as it was.
+    ensures table { result ≢ 0 → result ≢ 18 → table.new ≡ table.old }
+    ensures partitions { result ≢ 0 → partitions.new ≡ partitions.old }
+    ensures needed { result ≢ 17 → needed.new ≡ needed.old }
+{
+    if sector_size == 0 || !are_apart(head, tail, disk_size) {
+        return BAD_ARGUMENT;
+    }
+    match read(alloc, head, tail, disk_size, sector_size) {
+        Reading::Table {
+            table: found,
+            is_backup,
+        } => tell(&found, is_backup, table, partitions),
+        Reading::Fault(fault) => number_of(&fault),
+        Reading::Lacks(lack) => {
+            needed.from = lack.from;
+            needed.length = lack.length;
+            LACKS_BYTES
+        }
+    }
+}
+
+/// Plans the write of the table that a disk holds, with other entries: the steps to make, one after the other.
+///
+/// `head`, `tail`, `disk_size` and `sector_size` are as for `gptman_read`. `partitions` has the entries as they
+/// are to be, the unused ones included, as many as the table has. The steps and the bytes that they write are
+/// laid into `steps` and `bytes`. Who makes them in their order, each after the one before it has succeeded,
+/// does to the disk what a write of the library does: the other copy is written and synced, and then the one
+/// that was read. So where that one stands in the form of its place, and the table has the stated layout, a stop
+/// among or within the steps leaves the old table or the new one at one place at least, whatever the other copy
+/// was, and no byte outside of the two copies is touched; after all of them both places hold the new one.
+///
+/// 0: `needed.steps` steps are in `steps`, and their bytes in `bytes`.
+///
+/// 1 to 16: the table cannot be read, as of `gptman_read`; or 9, two partitions would have one GUID; 10, one
+/// ends before it starts, two share a sector, or one lies outside of the usable sectors; 8 or 14, a copy would
+/// end past the disk; 15, there is no memory.
+///
+/// 17: neither `head` nor `tail` has all of the `needed.length` bytes of the disk from byte `needed.from` on,
+/// which have to be known for a plan.
+///
+/// 18: `steps` has no room for `needed.steps` steps, or `bytes` none for `needed.bytes` bytes.
+///
+/// 19: `sector_size` is 0, the two ends together are longer than the disk, `partitions` has not as many
+/// entries as the table, or the table has none.
+#[unsafe(no_mangle)]
+pub extern "C" fn gptman_write(
+    alloc: Global,
+    head: &[u8],
+    tail: &[u8],
+    disk_size: u64,
+    sector_size: u64,
+    partitions: &[Partition],
+    steps: &mut [Step],
+    bytes: &mut [u8],
+    needed: &mut Needed,
+) -> u32
+    ensures plan { result ≡ 0 → (b : List ℕ) → HasEnds b head.now tail.now disk_size
+        → IsPlan b sector_size partitions.now (acts_of bytes.new (take needed.new.steps steps.new)) }
+    ensures lacks { result ≡ 17
+        → ¬ IsKnown (length head.now) (length tail.now) disk_size (needed.new.from, needed.new.length) }
+    ensures room { result ≡ 18
+        → (length steps.old < needed.new.steps) ⊎ (length bytes.old < needed.new.bytes) }
+    ensures most { result ≤ 19 }
+
+    // What is not told stays as it was.
+    ensures steps { result ≢ 0 → steps.new ≡ steps.old }
+    ensures bytes { result ≢ 0 → bytes.new ≡ bytes.old }
+{
+    if sector_size == 0 || !are_apart(head, tail, disk_size) {
+        return BAD_ARGUMENT;
+    }
+    match plan(alloc, head, tail, disk_size, sector_size, partitions) {
+        Ok(plan) => give(&plan, steps, bytes, needed),
+        Err(Refusal::Answer(answer)) => answer,
+        Err(Refusal::Lacks(lack)) => {
+            needed.from = lack.from;
+            needed.length = lack.length;
+            LACKS_BYTES
+        }
+    }
+}
+
+// Lays the plan into the arrays of the caller, where these have room for it.
+fn give(plan: &Record, steps: &mut [Step], bytes: &mut [u8], needed: &mut Needed) -> u32
+    ensures given { result ≡ 0 → acts_of bytes.new (take needed.new.steps steps.new)
+        ≡ acts_of plan.now.bytes.items plan.now.steps.items }
+    ensures room { result ≡ 18
+        → (length steps.old < needed.new.steps) ⊎ (length bytes.old < needed.new.bytes) }
+    ensures either { (result ≡ 0) ⊎ (result ≡ 18) }
+    ensures steps { result ≢ 0 → steps.new ≡ steps.old }
+    ensures bytes { result ≢ 0 → bytes.new ≡ bytes.old }
+{
+    needed.steps = plan.steps.len() as u64;
+    needed.bytes = plan.bytes.len() as u64;
+    if plan.give(steps, bytes) {
+        0
+    } else {
+        LACKS_ROOM
+    }
+}
+
+/// The CRC-32 of these bytes, as the table has it of its headers and of its entries.
+#[unsafe(no_mangle)]
+pub extern "C" fn gptman_crc32(bytes: &[u8]) -> u32
+    ensures { result ≡ crc_of bytes.now }
+{
+    crc32(bytes)
+}
+
+/// The version of the library, MAJOR.MINOR.PATCH, as MAJOR * 65536 + MINOR * 256 + PATCH.
+#[unsafe(no_mangle)]
+pub extern "C" fn gptman_version() -> u32
+    ensures { result ≡ 256 }
+{
+    1 << 8
+}
