@@ -1,6 +1,6 @@
 # Needs `rt` of the Rattle kit on the PATH; README.md says what else.
 
-.PHONY: try gptimg gptguid gptedit install demo check test plants bench crash-states trials
+.PHONY: try gptimg gptguid gptedit lib static dist package install demo check test plants bench crash-states trials
 
 # Where `make install` puts the programs and their manual pages.
 PREFIX = /usr/local
@@ -21,8 +21,25 @@ gptguid:
 gptedit:
 	@scripts/build gptedit
 
-# Installs all three, and builds first what was not built yet.
+# Proves the library for C, and leaves it at ./lib: libgptman.a, libgptman.so.1 and gptman.pc. Needs cc and ar.
+lib:
+	@PREFIX="$(PREFIX)" scripts/build_library
+
+# Links the three programs whole, at ./static, so that each runs where nothing else is.
+static:
+	@scripts/static
+
+# A tarball of these, the library for C, manual pages and documents.
+dist:
+	@scripts/dist
+
+# The same as a Debian package.
+package:
+	@scripts/package
+
+# Installs the programs and the library for C, and builds first what was not built yet.
 install:
+	@test -f lib/libgptman.a || PREFIX="$(PREFIX)" scripts/build_library
 	@test -x gptimg || scripts/build
 	@test -x gptguid || scripts/build gptguid
 	@test -x gptedit || scripts/build gptedit
@@ -32,6 +49,13 @@ install:
 	install -D -m 644 docs/gptimg.1 "$(DESTDIR)$(PREFIX)/share/man/man1/gptimg.1"
 	install -D -m 644 docs/gptguid.1 "$(DESTDIR)$(PREFIX)/share/man/man1/gptguid.1"
 	install -D -m 644 docs/gptedit.1 "$(DESTDIR)$(PREFIX)/share/man/man1/gptedit.1"
+	install -D -m 644 lib/libgptman.a "$(DESTDIR)$(PREFIX)/lib/libgptman.a"
+	install -D -m 755 lib/libgptman.so.1 "$(DESTDIR)$(PREFIX)/lib/libgptman.so.1"
+	ln -sf libgptman.so.1 "$(DESTDIR)$(PREFIX)/lib/libgptman.so"
+	install -D -m 644 lib/gptman.pc "$(DESTDIR)$(PREFIX)/lib/pkgconfig/gptman.pc"
+	install -D -m 644 include/gptman.h "$(DESTDIR)$(PREFIX)/include/gptman.h"
+	install -D -m 644 include/gptman_fd.h "$(DESTDIR)$(PREFIX)/include/gptman_fd.h"
+	install -D -m 644 python/gptman.py "$(DESTDIR)$(PREFIX)/share/gptman/gptman.py"
 
 # Makes an empty disk image, writes a table to it and shows it.
 demo: gptimg

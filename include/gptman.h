@@ -1,0 +1,147 @@
+/* gptman.h: GUID partition tables, for C and what calls C.
+ *
+ * The library reads and writes no disk itself. You give it the first and the last bytes of a disk, the "ends",
+ * and it tells the table; for a write it tells the steps, and you make them. It keeps nothing between two
+ * calls, and no call touches memory outside of the arrays that it was given.
+ *
+ * Every pointer is to be that of an array of at least as many elements as the count behind it says, aligned as
+ * its type asks, and never null, also where the count is 0. Arrays that a call writes to are not to overlap
+ * others. The caller owns all of them. A call may be made by several threads at once.
+ *
+ * What the calls answer is proved: docs/PROMISES.md, "The library for C". That a caller makes the steps in
+ * their order is not.
+ */
+#ifndef GPTMAN_H
+#define GPTMAN_H
+
+#include <stddef.h>
+#include <stdint.h>
+
+#ifdef __cplusplus
+extern "C" {
+#endif
+
+/* A table, but for its partitions. */
+typedef struct gptman_table {
+    uint8_t disk_guid[16];     /* as its 16 bytes stand on the disk */
+    uint64_t first_usable_lba; /* the first sector that a partition may use */
+    uint64_t last_usable_lba;  /* the last one */
+    uint64_t align;            /* partitions begin at multiples of so many sectors */
+    uint32_t entry_count;      /* how many entries it has, the unused ones included */
+    uint32_t is_backup;        /* 1: the primary copy has a fault, this is the backup copy's; else 0 */
+} gptman_table;
+
+/* An entry of a table. It is unused where type_guid is all zeros. */
+typedef struct gptman_partition {
+    uint8_t type_guid[16];   /* as its 16 bytes stand on the disk */
+    uint8_t unique_guid[16]; /* the partition's own GUID, likewise */
+    uint64_t first_lba;      /* its first sector */
+    uint64_t last_lba;       /* its last sector */
+    uint64_t attributes;     /* bit by bit, as UEFI has them */
+    uint16_t name[36];       /* UTF-16, with zeros behind it */
+} gptman_partition;
+
+/* A step of a write. */
+typedef struct gptman_step {
+    uint64_t kind;   /* GPTMAN_WRITE or GPTMAN_SYNC */
+    uint64_t offset; /* the first byte of the disk that is written */
+    uint64_t length; /* how many bytes are written */
+    uint64_t start;  /* where they begin in the array of bytes */
+} gptman_step;
+
+enum { GPTMAN_WRITE = 1, GPTMAN_SYNC = 2 };
+
+/* What a call needs. */
+typedef struct gptman_needed {
+    uint64_t steps;  /* how many steps the plan has */
+    uint64_t bytes;  /* how many bytes they write */
+    uint64_t from;   /* the first byte of the disk that is lacking */
+    uint64_t length; /* how many bytes are lacking from there on */
+} gptman_needed;
+
+/* What calls answer. */
+enum {
+    GPTMAN_OK = 0,
+    GPTMAN_IO = 1,
+    GPTMAN_INVALID_SIGNATURE = 2,
+    GPTMAN_INVALID_REVISION = 3,
+    GPTMAN_INVALID_HEADER_SIZE = 4,
+    GPTMAN_INVALID_CHECKSUM = 5,
+    GPTMAN_INVALID_PARTITION_ENTRY_ARRAY_CHECKSUM = 6,
+    GPTMAN_READ_ERROR = 7, /* both copies have a fault */
+    GPTMAN_NO_SPACE_LEFT = 8,
+    GPTMAN_CONFLICT_PARTITION_GUID = 9,
+    GPTMAN_INVALID_PARTITION_BOUNDARIES = 10,
+    GPTMAN_INVALID_PARTITION_NUMBER = 11,
+    GPTMAN_UNUSED_PARTITION = 12,
+    GPTMAN_PARTITION_NOT_FOUND = 13,
+    GPTMAN_OVERFLOW = 14,
+    GPTMAN_OUT_OF_MEMORY = 15,
+    GPTMAN_INVALID_PARTITION_ENTRY_SIZE = 16,
+    GPTMAN_LACKS_BYTES = 17,  /* neither end has all of needed->length bytes from needed->from on */
+    GPTMAN_LACKS_ROOM = 18,   /* an array is too short */
+    GPTMAN_BAD_ARGUMENT = 19
+};
+
+/* Reads the table of a disk.
+ *
+ * `head` has the first bytes of the disk and `tail` the last ones, as many as you like; they do not overlap.
+ * 34 sectors and 33 are enough for most tables. `disk_size` and `sector_size` are in bytes. The answer holds
+ * whatever the disk has between the two ends.
+ *
+ * GPTMAN_OK: `table` is what the disk holds, and its entries stand in the first table->entry_count places of
+ *     `partitions`; entry number 1 in the first.
+ * GPTMAN_INVALID_SIGNATURE, GPTMAN_READ_ERROR: no copy of a table is without fault; the first where neither
+ *     shows a signature, or the disk is shorter than a sector.
+ * GPTMAN_OUT_OF_MEMORY: there is no memory. This says nothing of the disk.
+ * GPTMAN_LACKS_BYTES: make an end longer, so that it has the bytes that `needed` names, and call again.
+ * GPTMAN_LACKS_ROOM: `partitions` is shorter than table->entry_count, which is set.
+ * GPTMAN_BAD_ARGUMENT: `sector_size` is 0, or the ends are together longer than the disk.
+ *
+ * What is not told stays as it was. */
+uint32_t gptman_read(const uint8_t *head, size_t head_length, const uint8_t *tail, size_t tail_length,
+                     uint64_t disk_size, uint64_t sector_size, gptman_table *table,
+                     gptman_partition *partitions, size_t partition_count, gptman_needed *needed);
+
+/* Plans the write of the table that a disk holds, with other entries.
+ *
+ * The ends and sizes are as for gptman_read. `partitions` has all entries as they are to be, the unused ones
+ * included: as many as the table has. On GPTMAN_OK there are needed->steps steps in `steps`, and what they
+ * write is in `bytes`. Make them in their order, each only after the one before has succeeded: for
+ * GPTMAN_WRITE write `length` bytes from bytes + `start` on to byte `offset` of the disk, for GPTMAN_SYNC store
+ * all that was written, as fsync does. The copy that was not read is written and synced first, and then the
+ * other, so that where you stop, or the power fails, the disk holds the old table or the new one; this is so
+ * where the copy that was read stands in its place and the table has the layout that docs/FORMAT.md states.
+ * After a step that failed read the table anew.
+ *
+ * The other answers are those of gptman_read, and
+ * GPTMAN_CONFLICT_PARTITION_GUID: two partitions have one unique GUID;
+ * GPTMAN_INVALID_PARTITION_BOUNDARIES: an entry ends before it starts, two partitions share a sector, or one
+ *     lies outside of the usable sectors;
+ * GPTMAN_NO_SPACE_LEFT, GPTMAN_OVERFLOW: a copy would end past the disk, or past byte 2^64;
+ * GPTMAN_LACKS_ROOM: `steps` or `bytes` is shorter than needed->steps or needed->bytes, which are set: call
+ *     once with arrays of no room to know them;
+ * GPTMAN_BAD_ARGUMENT: also where `partition_count` is not that of the table, or the table has no entries. */
+uint32_t gptman_write(const uint8_t *head, size_t head_length, const uint8_t *tail, size_t tail_length,
+                      uint64_t disk_size, uint64_t sector_size, const gptman_partition *partitions,
+                      size_t partition_count, gptman_step *steps, size_t step_count, uint8_t *bytes,
+                      size_t byte_count, gptman_needed *needed);
+
+/* The CRC-32 of these bytes, as a table has it of its headers and of its entries. */
+uint32_t gptman_crc32(const uint8_t *bytes, size_t byte_count);
+
+/* The version of the library: MAJOR * 65536 + MINOR * 256 + PATCH. */
+uint32_t gptman_version(void);
+
+#if defined(__STDC_VERSION__) && __STDC_VERSION__ >= 201112L
+_Static_assert(sizeof(gptman_table) == 48, "the size of a table");
+_Static_assert(sizeof(gptman_partition) == 128, "the size of a partition");
+_Static_assert(sizeof(gptman_step) == 32, "the size of a step");
+_Static_assert(sizeof(gptman_needed) == 32, "the size of what is needed");
+#endif
+
+#ifdef __cplusplus
+}
+#endif
+
+#endif

@@ -1,0 +1,232 @@
+"""GUID partition tables by the library libgptman.so.1: see include/gptman.h.
+
+    with gptman.Disk("disk.img") as disk:
+        for number, partition in disk.partitions.items():
+            print(number, partition.first_lba, partition.last_lba, partition.name)
+
+The steps of a write are made here, over a file descriptor; that part is not proved.
+"""
+
+import ctypes
+import os
+import uuid
+from ctypes import POINTER, byref, c_char_p, c_size_t, c_uint8, c_uint16, c_uint32, c_uint64
+from dataclasses import dataclass, field
+
+__all__ = ["Disk", "Fault", "Partition", "crc32", "version"]
+
+# The names of the faults, from 1 on.
+FAULTS = ("Io InvalidSignature InvalidRevision InvalidHeaderSize InvalidChecksum "
+          "InvalidPartitionEntryArrayChecksum ReadError NoSpaceLeft ConflictPartitionGUID "
+          "InvalidPartitionBoundaries InvalidPartitionNumber UnusedPartition PartitionNotFound Overflow "
+          "OutOfMemory InvalidPartitionEntrySize LacksBytes LacksRoom BadArgument").split()
+OUT_OF_MEMORY, LACKS_BYTES, LACKS_ROOM = 15, 17, 18
+SYNC = 2
+MOST_ENTRIES = 1 << 20
+
+
+class Fault(Exception):
+    """What a call of the library was refused with: its number and its name."""
+
+    def __init__(self, number):
+        super().__init__(FAULTS[number - 1])
+        self.number = number
+        self.name = FAULTS[number - 1]
+
+
+@dataclass
+class Partition:
+    """A used entry of a table. Sectors count from 0, and both are the partition's own."""
+
+    type_guid: uuid.UUID
+    first_lba: int
+    last_lba: int
+    name: str = ""
+    attributes: int = 0
+    unique_guid: uuid.UUID = field(default_factory=uuid.uuid4)
+
+
+class _Table(ctypes.Structure):
+    _fields_ = [("disk_guid", c_uint8 * 16), ("first_usable_lba", c_uint64), ("last_usable_lba", c_uint64),
+                ("align", c_uint64), ("entry_count", c_uint32), ("is_backup", c_uint32)]
+
+
+class _Partition(ctypes.Structure):
+    _fields_ = [("type_guid", c_uint8 * 16), ("unique_guid", c_uint8 * 16), ("first_lba", c_uint64),
+                ("last_lba", c_uint64), ("attributes", c_uint64), ("name", c_uint16 * 36)]
+
+
+class _Step(ctypes.Structure):
+    _fields_ = [("kind", c_uint64), ("offset", c_uint64), ("length", c_uint64), ("start", c_uint64)]
+
+
+class _Needed(ctypes.Structure):
+    _fields_ = [("steps", c_uint64), ("bytes", c_uint64), ("from_", c_uint64), ("length", c_uint64)]
+
+
+def _load():
+    library = ctypes.CDLL(os.environ.get("GPTMAN_LIBRARY", "libgptman.so.1"))
+    ends = [c_char_p, c_size_t, c_char_p, c_size_t, c_uint64, c_uint64]
+    partitions = [POINTER(_Partition), c_size_t]
+    library.gptman_read.argtypes = ends + [POINTER(_Table)] + partitions + [POINTER(_Needed)]
+    library.gptman_write.argtypes = ends + partitions + [POINTER(_Step), c_size_t, POINTER(c_uint8), c_size_t,
+                                                         POINTER(_Needed)]
+    library.gptman_crc32.argtypes = [c_char_p, c_size_t]
+    library.gptman_version.argtypes = []
+    for call in (library.gptman_read, library.gptman_write, library.gptman_crc32, library.gptman_version):
+        call.restype = c_uint32
+    return library
+
+
+_library = _load()
+
+
+def crc32(data):
+    """The CRC-32 of bytes, as a table has it of its headers and of its entries."""
+    return _library.gptman_crc32(bytes(data), len(data))
+
+
+def version():
+    """The version of the library, as three numbers."""
+    number = _library.gptman_version()
+    return number >> 16, number >> 8 & 255, number & 255
+
+
+def _bytes_of(guid):
+    return (c_uint8 * 16)(*guid.bytes_le)
+
+
+def _guid_of(raw):
+    return uuid.UUID(bytes_le=bytes(raw))
+
+
+def _units_of(name):
+    """The units of a name, of which there are 36 at most."""
+    units = name.encode("utf-16-le", "surrogatepass")
+    if len(units) > 72:
+        raise ValueError(f"a name has at most 36 units of UTF-16, and this has {len(units) // 2}")
+    return (c_uint16 * 36).from_buffer_copy(units.ljust(72, b"\0"))
+
+
+def _entry_of(partition):
+    """The entry of a partition, or an unused one where it is None."""
+    if partition is None:
+        return _Partition()
+    return _Partition(_bytes_of(partition.type_guid), _bytes_of(partition.unique_guid), partition.first_lba,
+                      partition.last_lba, partition.attributes, _units_of(partition.name))
+
+
+def _partition_of(entry):
+    name = bytes(entry.name).decode("utf-16-le", "surrogatepass").split("\0")[0]
+    return Partition(_guid_of(entry.type_guid), entry.first_lba, entry.last_lba, name, entry.attributes,
+                     _guid_of(entry.unique_guid))
+
+
+class Disk:
+    """A disk image or block device, with the table that it holds.
+
+    `partitions` has the used entries by their numbers, from 1 on. Change it, and `write` writes the table. The
+    sector size is in bytes. A call that is refused raises `Fault`; one that the system refuses, `OSError`.
+    """
+
+    def __init__(self, path, sector_size=512, writable=False):
+        self.sector_size = sector_size
+        self._fd = os.open(path, os.O_RDWR if writable else os.O_RDONLY)
+        try:
+            self.size = os.lseek(self._fd, 0, os.SEEK_END)
+            self._lengths = 2 * sector_size + 16384, sector_size + 16384
+            self.read()
+        except BaseException:
+            self.close()
+            raise
+
+    def __enter__(self):
+        return self
+
+    def __exit__(self, *_):
+        self.close()
+
+    def close(self):
+        """Closes the file. Nothing is written."""
+        if self._fd >= 0:
+            os.close(self._fd)
+            self._fd = -1
+
+    def read(self):
+        """Reads the table anew."""
+        table, count, needed = _Table(), 128, _Needed()
+        while True:
+            entries = (_Partition * max(count, 1))()
+            answer = _library.gptman_read(*self._ends(), byref(table), entries, count, byref(needed))
+            if answer == LACKS_ROOM and table.entry_count <= MOST_ENTRIES:
+                count = table.entry_count
+            elif answer == LACKS_BYTES:
+                self._add(needed)
+            elif answer:
+                raise Fault(answer)
+            else:
+                break
+        self.disk_guid = _guid_of(table.disk_guid)
+        self.first_usable_lba, self.last_usable_lba = table.first_usable_lba, table.last_usable_lba
+        self.align, self.entry_count = table.align, table.entry_count
+        self.is_backup = bool(table.is_backup)
+        self.partitions = {number: _partition_of(entries[number - 1]) for number in range(1, table.entry_count + 1)
+                           if any(entries[number - 1].type_guid)}
+
+    def write(self):
+        """Writes the table with `partitions` for its used entries, in one write that a stop does not tear."""
+        wrong = [number for number in self.partitions if not 1 <= number <= self.entry_count]
+        if wrong:
+            raise ValueError(f"the table has {self.entry_count} entries, and none of number {wrong[0]}")
+        steps, data = self.plan()
+        for kind, offset, start, end in steps:
+            if kind == SYNC:
+                os.fsync(self._fd)
+            else:
+                self._write_all(data[start:end], offset)
+
+    def plan(self):
+        """The steps of `write`, each its kind (1 is a write, 2 a sync), its first byte on the disk, and where its
+        bytes begin and end in the bytes that come with them."""
+        entries = (_Partition * max(self.entry_count, 1))()
+        for number, partition in self.partitions.items():
+            entries[number - 1] = _entry_of(partition)
+        needed = _Needed()
+        while True:
+            steps, data = (_Step * max(needed.steps, 1))(), (c_uint8 * max(needed.bytes, 1))()
+            answer = _library.gptman_write(*self._ends(), entries, self.entry_count, steps, needed.steps, data,
+                                           needed.bytes, byref(needed))
+            if answer == LACKS_BYTES:
+                self._add(needed)
+            elif answer == 0:
+                made = steps[:needed.steps]
+                return [(step.kind, step.offset, step.start, step.start + step.length) for step in made], bytes(data)
+            elif answer != LACKS_ROOM:
+                raise Fault(answer)
+
+    def _ends(self):
+        """The two ends, as a call takes them."""
+        first = min(self._lengths[0], self.size)
+        last = min(self._lengths[1], self.size - first)
+        head, tail = self._read_all(first, 0), self._read_all(last, self.size - last)
+        return head, first, tail, last, self.size, self.sector_size
+
+    def _add(self, needed):
+        """Makes the end longer that is nearer to the bytes that are lacking."""
+        first, last = needed.from_ + needed.length, self.size - needed.from_
+        self._lengths = (first, self._lengths[1]) if first <= last else (self._lengths[0], last)
+
+    def _read_all(self, length, at):
+        pieces = []
+        while length:
+            piece = os.pread(self._fd, length, at)
+            if not piece:
+                raise OSError("the disk ends before its length")
+            pieces.append(piece)
+            length, at = length - len(piece), at + len(piece)
+        return b"".join(pieces)
+
+    def _write_all(self, data, at):
+        while data:
+            done = os.pwrite(self._fd, data, at)
+            data, at = data[done:], at + done

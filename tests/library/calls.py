@@ -1,0 +1,247 @@
+"""The calls, by the module for Python: damaged images, plans that stop, and what is refused."""
+import importlib
+import os
+import random
+import subprocess
+import sys
+import uuid
+
+import table
+from built import TOP
+
+LINUX = uuid.UUID("0fc63daf-8483-4772-8e79-3d69d8477de4")
+SECTORS = 512
+SIZE = 512 * SECTORS
+DAMAGED = 1500
+
+
+def module():
+    """The module for Python, over the library that is tried."""
+    sys.path.insert(1, os.path.join(TOP, "python"))
+    return importlib.import_module("gptman")
+
+
+def start(program, name="disk.img"):
+    """An image with a table of two partitions."""
+    program.make_image(name, SIZE)
+    program.run(name, "512", "new", "00112233445566778899aabbccddeeff")
+    program.run(name, "512", "add", "1", "af3dc60f838472478e793d69d8477de4", "10" * 16, "64", "first", "8", "one")
+    program.run(name, "512", "add", "3", "af3dc60f838472478e793d69d8477de4", "20" * 16, "32", "last", "8", "two")
+
+
+def damage(random_, data):
+    """The bytes of an image with something else in or near its copies."""
+    data = bytearray(data)
+    places = [512, 1024, SIZE - 512, SIZE - 33 * 512]
+    for _ in range(random_.choice([1, 1, 1, 2, 3])):
+        at = min(random_.choice(places) + random_.randrange(random_.choice([4, 92, 92, 600])), SIZE - 8)
+        kind = random_.randrange(4)
+        if kind == 0:
+            data[at] ^= 1 << random_.randrange(8)
+        elif kind == 1:
+            data[at:at + 8] = random_.randbytes(8)
+        elif kind == 2:
+            end = at + random_.randrange(1, 4096)
+            data[at:end] = bytes(len(data[at:end]))
+        else:
+            sum_header(random_, data)
+    return bytes(data[:SIZE])
+
+
+def sum_header(random_, data):
+    """Another field in a header, with its checksum made anew."""
+    at = random_.choice([512, SIZE - 512])
+    field = random_.choice([24, 32, 40, 48, 72, 80, 84])
+    width = 4 if field >= 80 else 8
+    data[at + field:at + field + width] = random_.choice([0, 1, 2, 34, 128, 1000, (1 << 8 * width) - 1,
+                                                         random_.randrange(600)]).to_bytes(width, "little")
+    data[at + 16:at + 20] = bytes(4)
+    data[at + 16:at + 20] = module().crc32(data[at:at + 92]).to_bytes(4, "little")
+
+
+def told(gptman, path):
+    """What the module tells of an image, as gptimg shows it, or the fault's name."""
+    try:
+        with gptman.Disk(path) as disk:
+            return shown(disk)
+    except gptman.Fault as fault:
+        return fault.name
+
+
+def shown(disk):
+    """The table as the lines of `gptimg IMAGE 512 show`."""
+    form = ("primary", "backup")[disk.is_backup]
+    lines = [f"sector 512 form {form} disk {disk.disk_guid.bytes_le.hex()} usable {disk.first_usable_lba}.."
+             f"{disk.last_usable_lba} entries {disk.entry_count} align {disk.align}"]
+    lines += [f"{number} {p.type_guid.bytes_le.hex()} {p.unique_guid.bytes_le.hex()} {p.first_lba}..{p.last_lba} "
+              f"{p.attributes:016x} {p.name}".rstrip() for number, p in disk.partitions.items()]
+    return "".join(f"{line}\n" for line in lines)
+
+
+def try_damaged(tally, library, program):
+    """What is read of damaged images is what gptimg reads. Its `form` is what the header says of itself, so the
+    copies of the image are its measure for that."""
+    gptman, random_ = module(), random.Random(5)
+    start(program)
+    good, refused, backups = program.bytes_of("disk.img"), 0, 0
+    for number in range(DAMAGED):
+        program.write("damaged.img", damage(random_, good))
+        ours = told(gptman, program.file("damaged.img"))
+        status, out, _ = program.run("damaged.img", "512", "show")
+        theirs = "".join(f"{line.rstrip()}\n" for line in out.splitlines()) if status == 0 else fault_in(out)
+        if status == 0:
+            ours, theirs = without_form(ours), without_form(theirs)
+        else:
+            refused += 1
+        backups += " form backup " in out
+        tally.equals(f"what is read of damaged image {number}", theirs, ours)
+    return f"{refused} refused, {backups} from the backup copy"
+
+
+def fault_in(line):
+    """The name in the line `fault: NAME` or `fault: NAME(..)`."""
+    return line.split()[1].split("(")[0]
+
+
+def without_form(lines):
+    """The lines without the form that the first one tells."""
+    words = lines.split(" ")
+    return " ".join(words[:3] + words[4:]) if len(words) > 4 else lines
+
+
+def try_stops(tally, library, program):
+    """A stop before, after and within each step leaves the old table or the new one, from both copies good and
+    from either one."""
+    gptman, random_ = module(), random.Random(6)
+    start(program)
+    whole, states = program.bytes_of("disk.img"), 0
+    for what, at in ("both copies", None), ("the primary copy", SIZE - 512), ("the backup copy", 512):
+        image = bytearray(whole)
+        if at is not None:
+            image[at:at + 512] = bytes(512)
+        program.write("disk.img", bytes(image))
+        old, new, steps, data = plan(gptman, program)
+        tally.equals(f"the syncs among the steps from {what}", [1, 1], syncs_in(steps))
+        for after in range(len(steps) + 1):
+            for torn in range(8):
+                program.write("left.img", bytes(left(random_, image, steps, data, after, torn)))
+                found = told(gptman, program.file("left.img"))
+                states += 1
+                tally.holds(f"the old table or the new one from {what}, stop {after}.{torn}: {found}",
+                            without_form(found) in (old, new))
+        program.write("left.img", bytes(left(random_, image, steps, data, len(steps), 0)))
+        copies = table.read_copies(program.file("left.img"))
+        tally.holds(f"both copies hold the new table at the end, from {what}", copies[0] and copies[0] == copies[1])
+    return f"{states} states"
+
+
+def syncs_in(steps):
+    """How many syncs there are, and how many at the end."""
+    kinds = [kind for kind, *_ in steps]
+    return [kinds[:-1].count(2), kinds[-1:].count(2)]
+
+
+def plan(gptman, program):
+    """The table of an image, another one, and the steps that write it."""
+    with gptman.Disk(program.file("disk.img"), writable=True) as disk:
+        old = without_form(shown(disk))
+        disk.partitions[2] = gptman.Partition(LINUX, 200, 300, "three", 1 << 63)
+        disk.partitions[1].name = "another"
+        return old, without_form(shown(disk_sorted(disk))), *disk.plan()
+
+
+def disk_sorted(disk):
+    """The disk with its partitions in the order of their numbers."""
+    disk.partitions = dict(sorted(disk.partitions.items()))
+    return disk
+
+
+def left(random_, image, steps, data, after, torn):
+    """What a stop leaves of an image after so many steps: of the writes since the last sync each byte or none,
+    some, or garbage; and of the next one too."""
+    made = bytearray(image)
+    synced = max([0] + [i + 1 for i in range(after) if steps[i][0] == 2])
+    for i, (kind, offset, begin, end) in enumerate(steps[:after + 1]):
+        if kind == 2:
+            continue
+        new = data[begin:end]
+        if i >= synced and torn:
+            old = made[offset:offset + len(new)]
+            cut = random_.randrange(len(new) + 1)
+            new = [new[:cut] + bytes(old[cut:]), bytes(old[:cut]) + new[cut:], random_.randbytes(len(new)),
+                   bytes(old)][torn % 4]
+        elif i == after:
+            continue
+        made[offset:offset + len(new)] = new
+    return made
+
+
+def try_refusals(tally, library, program):
+    """What is refused, and that nothing is written then."""
+    gptman = module()
+    start(program)
+    good = program.bytes_of("disk.img")
+    rows = [("ConflictPartitionGUID", lambda d: d.partitions.update({2: d.partitions[1]})),
+            ("InvalidPartitionBoundaries", lambda d: d.partitions.update({2: gptman.Partition(LINUX, 9, 5)})),
+            ("InvalidPartitionBoundaries", lambda d: d.partitions.update({2: gptman.Partition(LINUX, 40, 41)})),
+            ("InvalidPartitionBoundaries", lambda d: d.partitions.update({2: gptman.Partition(LINUX, 33, 33)})),
+            ("InvalidPartitionBoundaries", lambda d: d.partitions.update({2: gptman.Partition(LINUX, 200, 1 << 63)}))]
+    for name, change in rows:
+        with gptman.Disk(program.file("disk.img"), writable=True) as disk:
+            change(disk)
+            tally.equals(f"the refusal of {name}", name, refusal(gptman, disk.write))
+    tally.holds("refusals write nothing", program.bytes_of("disk.img") == good)
+    with gptman.Disk(program.file("disk.img"), writable=True) as disk:
+        tally.equals("no entry of that number", "ValueError", refusal(gptman, lambda: other_number(gptman, disk)))
+        disk.partitions.clear()
+        disk.write()
+    tally.equals("an empty list of partitions", {}, table.read(program.file("disk.img")).entries)
+    tally.equals("no table", "InvalidSignature", refusal(gptman, lambda: gptman.Disk("/dev/null")))
+    tally.equals("a sector size of 0", "BadArgument", refusal(gptman, lambda: gptman.Disk(program.file("disk.img"), 0)))
+    tally.equals("the version", (0, 1, 0), gptman.version())
+    tally.equals("a checksum", 0xCBF43926, gptman.crc32(b"123456789"))
+
+
+def other_number(gptman, disk):
+    disk.partitions[129] = gptman.Partition(LINUX, 200, 300)
+    try:
+        disk.write()
+    finally:
+        del disk.partitions[129]
+
+
+def refusal(gptman, call):
+    """The name of what a call is refused with."""
+    try:
+        call()
+    except gptman.Fault as fault:
+        return fault.name
+    except ValueError:
+        return "ValueError"
+    return None
+
+
+def try_long(tally, library, program):
+    """A table of many entries, whose arrays are longer than the first ends, and sectors of 4096 bytes."""
+    if not os.path.exists("/usr/sbin/sgdisk"):
+        return "sgdisk is not installed: left out"
+    gptman = module()
+    path = program.file("long.img")
+    program.make_image("long.img", 64 << 20)
+    subprocess.run(["sgdisk", "-S", "1000", "-n", "1000:4096:8191", path], check=True, stdout=subprocess.DEVNULL,
+                   stderr=subprocess.DEVNULL)
+    with gptman.Disk(path, writable=True) as disk:
+        tally.equals("the entries of a table of 1000", (1000, [1000]), (disk.entry_count, list(disk.partitions)))
+        disk.partitions[500] = gptman.Partition(LINUX, 10000, 10007, "middle")
+        disk.write()
+    tally.equals("both are there", [500, 1000], list(table.read(path).entries))
+    program.make_image("big.img", 64 << 20)
+    program.run("big.img", "4096", "new", "00112233445566778899aabbccddeeff")
+    with gptman.Disk(program.file("big.img"), 4096, writable=True) as disk:
+        disk.partitions[1] = gptman.Partition(LINUX, 256, 511, "x" * 36)
+        disk.write()
+    tally.equals("with sectors of 4096 bytes", "x" * 36, table.read(program.file("big.img"), 4096).entries[1].name)
+
+
+SUBJECTS = {"damaged images": try_damaged, "stops among the steps": try_stops, "refusals": try_refusals,
+            "long tables": try_long}

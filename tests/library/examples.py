@@ -1,0 +1,103 @@
+"""The examples, on images of other programs."""
+import os
+import subprocess
+import sys
+
+import table
+from built import TOP, is_there
+
+MIB = 1 << 20
+LINUX = "0fc63daf-8483-4772-8e79-3d69d8477de4"
+EFI = "c12a7328-f81f-11d2-ba4b-00a0c93ec93b"
+
+
+def by_gptimg(program, path):
+    program.run(path, "512", "new", "00112233445566778899aabbccddeeff")
+    program.run(path, "512", "add", "1", "28732ac11ff8d211ba4b00a0c93ec93b", "10" * 16, "16384", "first", "2048", "EFI")
+
+
+def by_words(*words):
+    """An image made by these words, of which one is the image's name."""
+    def make(_, path):
+        subprocess.run([path if word == "IMAGE" else word for word in words], check=True, stdout=subprocess.DEVNULL,
+                       stderr=subprocess.DEVNULL)
+    return make
+
+
+def by_sfdisk(_, path):
+    text = b"label: gpt\nstart=2048, size=16384, type=%s, name=EFI\n" % EFI.encode()
+    subprocess.run(["sfdisk", "-q", path], input=text, check=True, stderr=subprocess.DEVNULL)
+
+
+def by_cgpt(_, path):
+    for words in ["create"], ["add", "-i", "1", "-b", "2048", "-s", "16384", "-t", "efi", "-l", "EFI"]:
+        subprocess.run(["cgpt", *words, path], check=True, stdout=subprocess.DEVNULL, stderr=subprocess.DEVNULL)
+
+
+MAKERS = {
+    "gptimg": by_gptimg,
+    "sgdisk": by_words("sgdisk", "-n", "1:2048:18431", "-t", "1:ef00", "-c", "1:EFI", "IMAGE"),
+    "sfdisk": by_sfdisk,
+    "parted": by_words("parted", "-s", "IMAGE", "mklabel", "gpt", "mkpart", "EFI", "2048s", "18431s", "set", "1",
+                       "esp", "on"),
+    "cgpt": by_cgpt,
+}
+
+
+def listed(entries):
+    """What `list` prints of these entries."""
+    return "".join(f"{number} {entry.first} {entry.last} {entry.name}\n" for number, entry in sorted(entries.items()))
+
+
+def try_examples(tally, library, program):
+    """The examples in C list and add, and so does the one in Python; the programs that are there find no fault."""
+    show = library.compile(os.path.join(TOP, "examples", "list.c"), "list")
+    add = library.compile(os.path.join(TOP, "examples", "add.c"), "add")
+    left = [name for name in MAKERS if name != "gptimg" and not is_there(name)]
+    for name, make in MAKERS.items():
+        if name in left:
+            continue
+        path = program.file("disk.img")
+        program.make_image("disk.img", 64 * MIB)
+        make(program, path)
+        was = table.read(path)
+        tally.equals(f"the partitions of an image of {name}", [(1, 2048, 18431, EFI)],
+                     [(n, e.first, e.last, e.type) for n, e in was.entries.items()] if was else None)
+        tally.equals(f"list of it ({name})", listed(was.entries), run(show, path))
+        run(add, path, "40960", "61439", "data")
+        run(sys.executable, os.path.join(TOP, "examples", "add.py"), path, "81920", "81927", "naïve 🚀",
+            env=library.environment())
+        now = table.read(path)
+        tally.equals(f"what is added to it ({name})", {**was.entries, 2: (LINUX, 40960, 61439, 0, "data"),
+                                                       3: (LINUX, 81920, 81927, 0, "naïve 🚀")},
+                     {n: e if n == 1 else (e.type, e.first, e.last, e.attributes, e.name)
+                      for n, e in now.entries.items()} if now else None)
+        tally.equals(f"all else of it ({name})", was[:4], now and now[:4])
+        tally.equals(f"list of it after that ({name})", listed(now.entries) if now else None, run(show, path))
+        if is_there("sgdisk"):
+            found = run("sgdisk", "-v", path)
+            tally.holds(f"sgdisk finds nothing ({name}): {found}", "No problems found" in found)
+    return f"left out: {', '.join(left)}" if left else None
+
+
+def run(*words, **how):
+    """What a program prints, or its status where that is not 0."""
+    ended = subprocess.run(words, stdout=subprocess.PIPE, stderr=subprocess.PIPE, check=False, **how)
+    return ended.stdout.decode() if ended.returncode == 0 else ended.returncode
+
+
+def try_headers(tally, library, program):
+    """The headers are C99, C11 and C++ without a warning, and the shared library hands out its own names alone."""
+    for name in "both.c", "both.cc":
+        program.write(name, b'#include "gptman_fd.h"\nint main(void) { return (int)gptman_version() != 256; }\n')
+    for language in ["c99", "c11", "c17"] + (["c++11", "c++17"] if is_there("c++") else []):
+        source = program.file("both.cc" if "+" in language else "both.c")
+        tally.equals(f"a program in {language}", "", run(library.compile(source, "both", language=language)))
+    if is_there("nm"):
+        lines = run("nm", "-D", "--defined-only", program.file("libgptman.so.1")).split("\n")
+        names = {line.split()[-1] for line in lines if line}
+        tally.equals("the names of libgptman.so.1", {"gptman_read", "gptman_write", "gptman_crc32", "gptman_version"},
+                     {name for name in names if not name.startswith("_")})
+
+
+SUBJECTS = {"the examples": try_examples, "the headers": try_headers}

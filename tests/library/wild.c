@@ -1,0 +1,146 @@
+/* wild FILE: hands arguments at random to the calls, each array between two pages that no one may touch, and
+ * refuses each request for memory in turn. The last line is what was tried; a wrong access ends the program. */
+#define _DEFAULT_SOURCE
+#include <stdio.h>
+#include <stdlib.h>
+#include <string.h>
+#include <sys/mman.h>
+
+#include "gptman.h"
+
+enum { PAGE = 4096, MOST = 1 << 17 };
+
+static uint64_t seed = 1;
+static long left = -1, taken, given;
+
+void *__real_malloc(size_t n);
+void *__real_realloc(void *p, size_t n);
+void __real_free(void *p);
+
+/* So many more requests are served; with -1 all are. */
+static int is_served(void) { return left < 0 || left-- > 0; }
+
+void *__wrap_malloc(size_t n) {
+    void *p = is_served() ? __real_malloc(n) : NULL;
+    taken += p != NULL;
+    return p;
+}
+
+void *__wrap_realloc(void *p, size_t n) {
+    void *q = is_served() ? __real_realloc(p, n) : NULL;
+    taken += p == NULL && q != NULL;
+    return q;
+}
+
+void __wrap_free(void *p) {
+    given += p != NULL;
+    __real_free(p);
+}
+
+static uint64_t draw(uint64_t below) {
+    seed = seed * 6364136223846793005u + 1442695040888963407u;
+    return below == 0 ? 0 : (seed >> 33) % below;
+}
+
+/* A room of so many bytes that ends or begins at a page of no access. */
+typedef struct room {
+    uint8_t *pages, *at;
+} room;
+
+static room take(size_t size, size_t unit, int at_end) {
+    size_t pages = (size + PAGE - 1) / PAGE + 2;
+    room r;
+    r.pages = (uint8_t *)mmap(NULL, pages * PAGE, PROT_NONE, MAP_PRIVATE | MAP_ANONYMOUS, -1, 0);
+    if (r.pages == MAP_FAILED || mprotect(r.pages + PAGE, (pages - 2) * PAGE, PROT_READ | PROT_WRITE) != 0) exit(3);
+    r.at = at_end ? r.pages + (pages - 1) * PAGE - size : r.pages + PAGE;
+    if ((size_t)r.at % unit != 0) r.at -= (size_t)r.at % unit;
+    return r;
+}
+
+static void give(room r, size_t size) { munmap(r.pages, ((size + PAGE - 1) / PAGE + 2) * PAGE); }
+
+static uint8_t image[MOST];
+static size_t image_size;
+
+/* A length that is mostly small. */
+static uint64_t draw_length(void) {
+    static const uint64_t odd[] = {0, 1, 91, 92, 511, 512, 1024, 1u << 31, 1ull << 32, 1ull << 63, UINT64_MAX};
+    return draw(4) == 0 ? odd[draw(sizeof odd / sizeof *odd)] : draw(MOST);
+}
+
+/* One call of each kind with these ends. Answers what gptman_write answered. */
+static uint32_t call(room head, size_t first, room tail, size_t last, uint64_t size, uint64_t sector, size_t count,
+                     size_t steps, size_t bytes) {
+    room partitions = take(count * sizeof(gptman_partition), 8, 1);
+    room made = take(steps * sizeof(gptman_step), 8, 1), data = take(bytes, 1, 1);
+    gptman_table table;
+    gptman_needed needed;
+    memset(&table, 0, sizeof table), memset(&needed, 0, sizeof needed);
+    uint32_t read = gptman_read(head.at, first, tail.at, last, size, sector, &table,
+                                (gptman_partition *)partitions.at, count, &needed);
+    if (read > 19 || (read == 0 && table.entry_count > count)) exit(4);
+    if (read == 17 && needed.from + needed.length > size) exit(5);
+    uint32_t answer = gptman_write(head.at, first, tail.at, last, size, sector, (gptman_partition *)partitions.at,
+                                   count, (gptman_step *)made.at, steps, data.at, bytes, &needed);
+    if (answer > 19 || (answer == 0 && (needed.steps > steps || needed.bytes > bytes))) exit(6);
+    give(partitions, count * sizeof(gptman_partition));
+    give(made, steps * sizeof(gptman_step)), give(data, bytes);
+    return answer;
+}
+
+/* The ends of the image, some of its bytes changed. */
+static uint32_t call_at_random(void) {
+    uint64_t size = draw(3) == 0 ? draw_length() : image_size;
+    static const uint64_t sectors[] = {512, 512, 512, 512, 4096, 0, 1, 92, 1ull << 63, UINT64_MAX};
+    uint64_t sector = sectors[draw(10)];
+    size_t first = draw(2) ? 17408 : draw(40000), last = draw(2) ? 16896 : draw(40000);
+    room head = take(first, 1, draw(2)), tail = take(last, 1, draw(2));
+    memcpy(head.at, image, first < image_size ? first : image_size);
+    if (last <= image_size) memcpy(tail.at, image + image_size - last, last);
+    for (uint64_t k = draw(3); k > 0 && first > 0; k--) head.at[draw(first)] ^= (uint8_t)(1 << draw(8));
+    for (uint64_t k = draw(2); k > 0 && last > 0; k--) tail.at[draw(last)] ^= (uint8_t)(1 << draw(8));
+    uint32_t answer = call(head, first, tail, last, size, sector, draw(2) ? 128 : draw(200), draw(20), draw(40000));
+    give(head, first), give(tail, last);
+    return answer;
+}
+
+/* The good image, with each request for memory refused in turn. */
+static int refuse_in_turn(void) {
+    room head = take(17408, 1, 1), tail = take(16896, 1, 1);
+    memcpy(head.at, image, 17408), memcpy(tail.at, image + image_size - 16896, 16896);
+    int refused = 0;
+    for (long k = 0; k < 4000; k++) {
+        gptman_table table;
+        gptman_needed needed;
+        static gptman_partition partitions[128];
+        static gptman_step steps[64];
+        static uint8_t bytes[1 << 16];
+        memset(&table, 0, sizeof table), memset(&needed, 0, sizeof needed);
+        left = k;
+        uint32_t read = gptman_read(head.at, 17408, tail.at, 16896, image_size, 512, &table, partitions, 128, &needed);
+        long after_read = left;
+        if (read == 0) {
+            uint32_t answer = gptman_write(head.at, 17408, tail.at, 16896, image_size, 512, partitions, 128, steps, 64,
+                                           bytes, sizeof bytes, &needed);
+            if (answer == 0 && left >= 0) { left = -1; return refused; }
+            if (answer != 15 && answer != 0) exit(7);
+        } else if (read != 15 || after_read > 0) {
+            exit(8);
+        }
+        left = -1, refused++;
+        if (taken != given) exit(9);
+    }
+    exit(10);
+}
+
+int main(int argc, char **argv) {
+    FILE *file = argc == 3 ? fopen(argv[1], "rb") : NULL;
+    if (file == NULL) return 2;
+    image_size = fread(image, 1, MOST, file);
+    int refused = refuse_in_turn(), done = 0;
+    long runs = atol(argv[2]);
+    for (long k = 0; k < runs; k++) done += call_at_random() == 0;
+    if (taken != given) return 9;
+    printf("%d requests refused, %ld calls at random, %d of them done\n", refused, runs, done);
+    return 0;
+}

@@ -1,0 +1,26 @@
+"""Arguments at random, and requests for memory that are refused in turn, by the program wild.c."""
+import os
+import subprocess
+
+from built import TOP, is_there
+
+WRAPPED = ["-Wl,--wrap=malloc", "-Wl,--wrap=realloc", "-Wl,--wrap=free"]
+
+
+def try_wild(tally, library, program):
+    """No access is wrong, no answer is none of those that are named, and all memory is given back."""
+    program.make_image("disk.img", 1 << 17)
+    program.run("disk.img", "512", "new", "00112233445566778899aabbccddeeff")
+    path = library.compile(os.path.join(TOP, "tests", "library", "wild.c"), "wild", "-O1", *WRAPPED)
+    ended = subprocess.run([path, program.file("disk.img"), "20000"], stdout=subprocess.PIPE, check=False)
+    tally.equals("the status of wild", 0, ended.returncode)
+    note = ended.stdout.decode().strip()
+    tally.holds(f"some requests are refused, and some calls are done: {note}", " 0 " not in " " + note)
+    if is_there("valgrind"):
+        words = ["valgrind", "-q", "--error-exitcode=9", path, program.file("disk.img"), "60"]
+        ended = subprocess.run(words, stdout=subprocess.DEVNULL, stderr=subprocess.PIPE, check=False)
+        tally.equals(f"valgrind finds nothing: {ended.stderr.decode()[:400]}", 0, ended.returncode)
+    return note
+
+
+SUBJECTS = {"arguments at random": try_wild}
