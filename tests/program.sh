@@ -31,6 +31,7 @@ edit_program=$(realpath -m "${3:-$top/crates/gptedit/out/gptedit}") || exit
 . "$top/tests/program/rows.sh"
 . "$top/tests/program/shapes.sh"
 . "$top/tests/program/descriptors.sh"
+. "$top/tests/program/static.sh"
 . "$top/tests/program/output.sh"
 . "$top/tests/program/files.sh"
 . "$top/tests/program/memory.sh"
@@ -72,6 +73,7 @@ try "names" try_names
 try "commands" try_commands
 try "closed descriptors" try_closed_descriptors
 try "a system without /dev" try_without_devices
+try "the program linked whole" try_static_program
 try "openings" try_opens
 try "few descriptors" try_few_descriptors
 try "output that fails" try_failing_output
