@@ -127,6 +127,19 @@ uint32_t gptman_write(const uint8_t *head, size_t head_length, const uint8_t *ta
                       size_t partition_count, gptman_step *steps, size_t step_count, uint8_t *bytes,
                       size_t byte_count, gptman_needed *needed);
 
+/* Plans the write of a new table, of unused entries alone: of `table` disk_guid and entry_count are read.
+ *
+ * The ends, sizes and arrays are as for gptman_write, and so are the steps. The backup copy is written first. A
+ * table that stood in the primary place is there, or the new one, where you stop; this is so where both of its
+ * copies lie in the ends, and its primary copy is clear of the new backup copy. No protective MBR is written.
+ *
+ * GPTMAN_OVERFLOW, GPTMAN_INVALID_PARTITION_BOUNDARIES: the disk has too few sectors for two copies.
+ * GPTMAN_BAD_ARGUMENT: also where entry_count is 0, or the disk is shorter than a sector.
+ * The other answers are those of gptman_write, but that nothing is read. */
+uint32_t gptman_new(const uint8_t *head, size_t head_length, const uint8_t *tail, size_t tail_length,
+                    uint64_t disk_size, uint64_t sector_size, const gptman_table *table, gptman_step *steps,
+                    size_t step_count, uint8_t *bytes, size_t byte_count, gptman_needed *needed);
+
 /* The CRC-32 of these bytes, as a table has it of its headers and of its entries. */
 uint32_t gptman_crc32(const uint8_t *bytes, size_t byte_count);
 

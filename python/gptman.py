@@ -71,9 +71,12 @@ def _load():
     library.gptman_read.argtypes = ends + [POINTER(_Table)] + partitions + [POINTER(_Needed)]
     library.gptman_write.argtypes = ends + partitions + [POINTER(_Step), c_size_t, POINTER(c_uint8), c_size_t,
                                                          POINTER(_Needed)]
+    library.gptman_new.argtypes = ends + [POINTER(_Table), POINTER(_Step), c_size_t, POINTER(c_uint8), c_size_t,
+                                          POINTER(_Needed)]
     library.gptman_crc32.argtypes = [c_char_p, c_size_t]
     library.gptman_version.argtypes = []
-    for call in (library.gptman_read, library.gptman_write, library.gptman_crc32, library.gptman_version):
+    for call in (library.gptman_read, library.gptman_write, library.gptman_new, library.gptman_crc32,
+                 library.gptman_version):
         call.restype = c_uint32
     return library
 
@@ -129,16 +132,24 @@ class Disk:
     sector size is in bytes. A call that is refused raises `Fault`; one that the system refuses, `OSError`.
     """
 
-    def __init__(self, path, sector_size=512, writable=False):
+    def __init__(self, path, sector_size=512, writable=False, new=None):
         self.sector_size = sector_size
-        self._fd = os.open(path, os.O_RDWR if writable else os.O_RDONLY)
+        self._fd = os.open(path, os.O_RDWR if writable or new else os.O_RDONLY)
         try:
             self.size = os.lseek(self._fd, 0, os.SEEK_END)
             self._lengths = 2 * sector_size + 16384, sector_size + 16384
+            if new:
+                self._make(self._plan_new(*new))
             self.read()
         except BaseException:
             self.close()
             raise
+
+    @classmethod
+    def create(cls, path, sector_size=512, disk_guid=None, entry_count=128):
+        """Writes a new table of so many unused entries, over any that is there, and gives the disk. The GUID is a
+        random one where none is given. No protective MBR is written."""
+        return cls(path, sector_size, True, (disk_guid or uuid.uuid4(), entry_count))
 
     def __enter__(self):
         return self
@@ -178,12 +189,7 @@ class Disk:
         wrong = [number for number in self.partitions if not 1 <= number <= self.entry_count]
         if wrong:
             raise ValueError(f"the table has {self.entry_count} entries, and none of number {wrong[0]}")
-        steps, data = self.plan()
-        for kind, offset, start, end in steps:
-            if kind == SYNC:
-                os.fsync(self._fd)
-            else:
-                self._write_all(data[start:end], offset)
+        self._make(self.plan())
 
     def plan(self):
         """The steps of `write`, each its kind (1 is a write, 2 a sync), its first byte on the disk, and where its
@@ -191,11 +197,19 @@ class Disk:
         entries = (_Partition * max(self.entry_count, 1))()
         for number, partition in self.partitions.items():
             entries[number - 1] = _entry_of(partition)
+        return self._plan(_library.gptman_write, entries, self.entry_count)
+
+    def _plan_new(self, disk_guid, entry_count):
+        """The steps that write a new table."""
+        table = _Table(disk_guid=_bytes_of(disk_guid), entry_count=entry_count)
+        return self._plan(_library.gptman_new, byref(table))
+
+    def _plan(self, call, *what):
+        """The steps that a call tells, in arrays that have room for them."""
         needed = _Needed()
         while True:
             steps, data = (_Step * max(needed.steps, 1))(), (c_uint8 * max(needed.bytes, 1))()
-            answer = _library.gptman_write(*self._ends(), entries, self.entry_count, steps, needed.steps, data,
-                                           needed.bytes, byref(needed))
+            answer = call(*self._ends(), *what, steps, needed.steps, data, needed.bytes, byref(needed))
             if answer == LACKS_BYTES:
                 self._add(needed)
             elif answer == 0:
@@ -203,6 +217,15 @@ class Disk:
                 return [(step.kind, step.offset, step.start, step.start + step.length) for step in made], bytes(data)
             elif answer != LACKS_ROOM:
                 raise Fault(answer)
+
+    def _make(self, plan):
+        """Makes the steps of a plan in their order."""
+        steps, data = plan
+        for kind, offset, start, end in steps:
+            if kind == SYNC:
+                os.fsync(self._fd)
+            else:
+                self._write_all(data[start:end], offset)
 
     def _ends(self):
         """The two ends, as a call takes them."""

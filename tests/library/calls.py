@@ -176,6 +176,43 @@ def left(random_, image, steps, data, after, torn):
     return made
 
 
+def try_new(tally, library, program):
+    """New tables are those of gptimg and gptedit, byte for byte; one that is there is not lost."""
+    gptman, random_ = module(), random.Random(7)
+    guid = uuid.UUID(bytes_le=bytes.fromhex("00112233445566778899aabbccddeeff"))
+    for size, sector in (SIZE, 512), (1 << 20, 512), (51200, 512), (1 << 20, 4096), (1 << 20, 520):
+        program.make_image("theirs.img", size)
+        program.make_image("ours.img", size)
+        program.run("theirs.img", str(sector), "new", guid.bytes_le.hex())
+        gptman.Disk.create(program.file("ours.img"), sector, guid).close()
+        tally.holds(f"a new table on {size} bytes with sectors of {sector}",
+                    program.bytes_of("ours.img") == program.bytes_of("theirs.img"))
+    for count, first in (1, 3), (56, 16), (128, 34), (129, 35):
+        program.make_image("ours.img", SIZE)
+        with gptman.Disk.create(program.file("ours.img"), disk_guid=guid, entry_count=count) as disk:
+            tally.equals(f"a new table of {count} entries", (first, count), (disk.first_usable_lba, disk.entry_count))
+        tally.equals(f"both copies of it ({count})", count, table.read(program.file("ours.img")).count)
+    start(program)
+    image = program.bytes_of("disk.img")
+    with gptman.Disk(program.file("disk.img"), writable=True) as disk:
+        old = without_form(shown(disk))
+        steps, data = disk._plan_new(guid, 56)
+    program.write("left.img", image)
+    gptman.Disk.create(program.file("left.img"), disk_guid=guid, entry_count=56).close()
+    new = without_form(told(gptman, program.file("left.img")))
+    for after in range(len(steps) + 1):
+        for torn in range(8):
+            program.write("left.img", bytes(left(random_, image, steps, data, after, torn)))
+            found = without_form(told(gptman, program.file("left.img")))
+            tally.holds(f"the old table or the new one, stop {after}.{torn} of a new one", found in (old, new))
+    for name, size, count in ("Overflow", 512 * 33, 128), ("InvalidPartitionBoundaries", 512 * 34, 128), (
+            "BadArgument", SIZE, 0), ("BadArgument", 100, 128):
+        program.make_image("small.img", size)
+        tally.equals(f"a new table of {count} entries on {size} bytes", name, refusal(
+            gptman, lambda: gptman.Disk.create(program.file("small.img"), entry_count=count)))
+        tally.equals("its bytes", bytes(size), program.bytes_of("small.img"))
+
+
 def try_refusals(tally, library, program):
     """What is refused, and that nothing is written then."""
     gptman = module()
@@ -243,5 +280,6 @@ def try_long(tally, library, program):
     tally.equals("with sectors of 4096 bytes", "x" * 36, table.read(program.file("big.img"), 4096).entries[1].name)
 
 
-SUBJECTS = {"damaged images": try_damaged, "stops among the steps": try_stops, "refusals": try_refusals,
+SUBJECTS = {"damaged images": try_damaged, "stops among the steps": try_stops, "new tables": try_new,
+            "refusals": try_refusals,
             "long tables": try_long}

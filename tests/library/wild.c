@@ -83,6 +83,10 @@ static uint32_t call(room head, size_t first, room tail, size_t last, uint64_t s
     uint32_t answer = gptman_write(head.at, first, tail.at, last, size, sector, (gptman_partition *)partitions.at,
                                    count, (gptman_step *)made.at, steps, data.at, bytes, &needed);
     if (answer > 19 || (answer == 0 && (needed.steps > steps || needed.bytes > bytes))) exit(6);
+    table.entry_count = (uint32_t)(draw(2) ? 128 : draw_length());
+    uint32_t fresh = gptman_new(head.at, first, tail.at, last, size, sector, &table, (gptman_step *)made.at, steps,
+                                data.at, bytes, &needed);
+    if (fresh > 19 || (fresh == 0 && (needed.steps > steps || needed.bytes > bytes))) exit(11);
     give(partitions, count * sizeof(gptman_partition));
     give(made, steps * sizeof(gptman_step)), give(data, bytes);
     return answer;

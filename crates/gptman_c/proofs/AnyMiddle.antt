@@ -16,7 +16,7 @@ use Rattle.gptman_copy.proofs.Overlays.{length-overlay, overlay_below, overlay_a
 use Rattle.gptman_c.proofs.Middle.{middle_of, ends_zero, same_ends, agrees_known, length-view, view_both, known_take, cases_middle, still_middle, clear_pending}
 
 -- a side is held by all that agree outside of the middle, where its places are known
-holds_known : (first last size : ℕ) (a b : List ℕ) (ss : ℕ) (side : Side) (t : Table) → length a ≡ size → AgreesOutside (middle_of first last size) a b
+pub holds_known : (first last size : ℕ) (a b : List ℕ) (ss : ℕ) (side : Side) (t : Table) → length a ≡ size → AgreesOutside (middle_of first last size) a b
     → AreRangesKnown first last size (copy_ranges_at side t ss size) → Holds a ss side t → Holds b ss side t
 holds_known first last size a b ss side t long agrees places holds =
     holds_local a b ss side t holds (subst (λ (n : ℕ). AgreesInside (copy_ranges_at side t ss n) a b) (sym long) (agrees_known first last size (copy_ranges_at side t ss size) a b places agrees))

@@ -21,12 +21,12 @@ use Rattle.gptman_c.proofs.Known.{length-disk_bytes}
 use Rattle.gptman_c.proofs.Middle.{ends_zero}
 
 -- the two ranges at a side are known where all four are
-at_side : (first last size ss : ℕ) (t : Table) (side : Side) → AreRangesKnown first last size (four_ranges t ss size) → AreRangesKnown first last size (copy_ranges_at side t ss size)
+pub at_side : (first last size ss : ℕ) (t : Table) (side : Side) → AreRangesKnown first last size (four_ranges t ss size) → AreRangesKnown first last size (copy_ranges_at side t ss size)
 at_side first last size ss t primary known = (known.0, (known.1.0, tt))
 at_side first last size ss t backup known = (known.1.1.0, (known.1.1.1.0, tt))
 
 -- those of two tables, which have the same places
-both_places : (first last size ss : ℕ) (was next : Table) → AreRangesKnown first last size (four_ranges was ss size) → AreRangesKnown first last size (four_ranges next ss size)
+pub both_places : (first last size ss : ℕ) (was next : Table) → AreRangesKnown first last size (four_ranges was ss size) → AreRangesKnown first last size (four_ranges next ss size)
     → ArePlacesKnown first last size ss (was ∷ next ∷ [])
 both_places first last size ss was next one other t listed side = ⊎_elim
     (λ (is : was ≡ t). subst (λ (u : Table). AreRangesKnown first last size (copy_ranges_at side u ss size)) is (at_side first last size ss was side one))

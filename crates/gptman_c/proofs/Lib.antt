@@ -5,6 +5,7 @@ pub mod AnyPlan
 pub mod Known
 pub mod KnownSteps
 pub mod Middle
+pub mod New
 pub mod Numbered
 pub mod Planned
 pub mod Rewriting

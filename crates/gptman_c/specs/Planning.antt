@@ -2,10 +2,13 @@
 use Rattle.std.specs.Prelude.{◌≡◌, ◌≢◌, ◌≤◌, ◌<◌, ℕ, List, [], ◌∷◌, length, map, Ok}
 use Rattle.gptman.specs.Copy.{Copy}
 use Rattle.gptman.specs.Disk.{AgreesOutside}
-use Rattle.gptman.specs.Layout.{Holds, IsLaidOut}
+use Rattle.gptman.specs.Layout.{HasLayout, Holds, IsLaidOut, copy_ranges_at}
+use Rattle.gptman.specs.Ranges.{AreClear}
 use Rattle.gptman.specs.Reading.{primary, backup, reading_of, taken_from}
 use Rattle.gptman.specs.Stop.{HoldsOneOf}
-use Rattle.gptman.specs.Table.{Table, table_of, IsHeaderForm}
+use Rattle.gptman.specs.Table.{Table, table_in, table_of, IsHeaderForm}
+use Rattle.gptman.specs.declared.table.GPT.{GPT}
+use Rattle.gptman_c.specs.Ends.{AreRangesKnown}
 use Rattle.gptman_c.specs.Crossing.{content_of, four_ranges}
 use Rattle.gptman_c.specs.Plan.{Act, LeftBy, pending_of, view_of}
 use Rattle.gptman_c.specs.Reading.{IsLack}
@@ -38,3 +41,22 @@ pub record IsPlan (start : List ℕ) (ss : ℕ) (partitions : List Partition) (a
 abbrev pub IsRefusal : List ℕ → List ℕ → ℕ → Refusal → Type 0
 IsRefusal head tail size (Answer n) = (0 < n) × (n ≤ 19) × (n ≢ 17) × (n ≢ 18)
 IsRefusal head tail size (Lacks lack) = IsLack head tail size lack
+
+-- After all of these acts both places hold the table, and nothing is pending; a stop among or within them leaves all bytes outside of its four ranges as they were.
+pub record IsWrittenPlan (start : List ℕ) (ss : ℕ) (next : Table) (acts : List Act) : Type 0 where
+  pub others : (x : List ℕ) → LeftBy start acts 0 x → AgreesOutside (four_ranges next ss (length start)) start x
+  pub synced : pending_of acts ≡ []
+  pub at_primary : Holds (view_of start acts) ss primary next
+  pub at_backup : Holds (view_of start acts) ss backup next
+
+-- A table that the primary place holds, clear of the other copy of the new one, is not lost before that one is there.
+abbrev pub IsReplaced : List ℕ → ℕ → Table → Table → List Act → Type 0
+IsReplaced start ss was next acts = Holds start ss primary was → AreClear (copy_ranges_at primary was ss (length start)) (copy_ranges_at backup next ss (length start))
+    → (x : List ℕ) → LeftBy start acts 0 x → HoldsOneOf x ss (was ∷ next ∷ [])
+
+-- The acts write the table of this value, where it has the stated layout, to a disk of which the first and the last so many bytes are known; and a table that is
+-- replaced is not lost, where its places are among these.
+pub record IsNewPlan (first last : ℕ) (start : List ℕ) (g : GPT) (acts : List Act) : Type 0 where
+  pub written : HasLayout g (length start) → IsWrittenPlan start g.sector_size (table_in g) acts
+  pub replaced : HasLayout g (length start) → (was : Table) → AreRangesKnown first last (length start) (four_ranges was g.sector_size (length start))
+      → IsReplaced start g.sector_size was (table_in g) acts

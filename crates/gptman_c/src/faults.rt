@@ -1,6 +1,6 @@
 //! The numbers that calls answer.
 
-ghost use Rattle.std.specs.Prelude.{◌≡◌};
+ghost use Rattle.std.specs.Prelude.{◌≡◌, ◌≤◌, ◌<◌};
 ghost use Rattle.gptman.specs.Fault.{fault_of};
 ghost use Rattle.gptman_c.specs.Faults.{fault_number};
 
@@ -20,7 +20,9 @@ pub(crate) const OUT_OF_MEMORY: u32 = 15;
 
 /// The number of a fault, from 1 to 16.
 pub(crate) fn number_of(fault: &Error) -> u32
-    ensures { result ≡ fault_number (fault_of fault.now) }
+    ensures number { result ≡ fault_number (fault_of fault.now) }
+    ensures least { 0 < result }
+    ensures most { result ≤ 16 }
 {
     match fault {
         Error::Io(_) => 1,

@@ -7,13 +7,15 @@
 ghost use Rattle.std.specs.Prelude.{◌≡◌, ◌≢◌, ◌≤◌, ◌<◌, ◌⊎◌, ◌+◌, ℕ, List, length, take};
 ghost use Rattle.gptman.specs.Crc.{crc_of};
 ghost use Rattle.gptman.specs.Reading.{reading_of, taken_from};
+ghost use Rattle.gptman.specs.Table.{new_table_of};
 ghost use Rattle.gptman_c.specs.Crossing.{HasCount, IsRefused, IsTold};
 ghost use Rattle.gptman_c.specs.Ends.{HasEnds, IsKnown};
 ghost use Rattle.gptman_c.specs.Plan.{acts_of};
-ghost use Rattle.gptman_c.specs.Planning.{IsPlan};
+ghost use Rattle.gptman_c.specs.Planning.{IsNewPlan, IsPlan, IsRefusal};
 
 mod ends;
 mod faults;
+mod making;
 mod partitions;
 mod places;
 mod planning;
@@ -25,6 +27,7 @@ mod writing;
 
 use crate::ends::are_apart;
 use crate::faults::{BAD_ARGUMENT, LACKS_BYTES, LACKS_ROOM, number_of};
+use crate::making::plan_new;
 use crate::planning::{Refusal, plan};
 use crate::reading::{Reading, read};
 use crate::record::Record;
@@ -151,8 +154,75 @@ pub extern "C" fn gptman_write(
     }
     match plan(alloc, head, tail, disk_size, sector_size, partitions) {
         Ok(plan) => give(&plan, steps, bytes, needed),
-        Err(Refusal::Answer(answer)) => answer,
-        Err(Refusal::Lacks(lack)) => {
+        Err(refusal) => refuse(&refusal, needed),
+    }
+}
+
+/// Plans the write of a new table, of unused entries alone: of `table` the GUID of the disk and the number of
+/// entries are read.
+///
+/// `head`, `tail`, `disk_size` and `sector_size` are as for `gptman_read`, and the steps are told and to be made
+/// as those of `gptman_write`. Where the table has the stated layout, both places hold it after all of them, and
+/// no byte outside of the two copies is touched. The backup copy comes first. So of a table that stood in the
+/// primary place, and whose own copies lie in the ends, a stop among or within the steps leaves that one or the
+/// new one, where its primary copy lies clear of the new backup copy.
+///
+/// The answers are those of `gptman_write`, but that nothing is read; 14 and 10 are a disk of too few sectors for
+/// two copies, 19 also a table of no entries, and a disk shorter than a sector.
+#[unsafe(no_mangle)]
+pub extern "C" fn gptman_new(
+    alloc: Global,
+    head: &[u8],
+    tail: &[u8],
+    disk_size: u64,
+    sector_size: u64,
+    table: &Table,
+    steps: &mut [Step],
+    bytes: &mut [u8],
+    needed: &mut Needed,
+) -> u32
+    ensures plan { result ≡ 0 → (b : List ℕ) → HasEnds b head.now tail.now disk_size
+        → IsNewPlan (length head.now) (length tail.now) b
+        (new_table_of table.now.entry_count table.now.disk_guid sector_size disk_size)
+        (acts_of bytes.new (take needed.new.steps steps.new)) }
+    ensures lacks { result ≡ 17
+        → ¬ IsKnown (length head.now) (length tail.now) disk_size (needed.new.from, needed.new.length) }
+    ensures room { result ≡ 18
+        → (length steps.old < needed.new.steps) ⊎ (length bytes.old < needed.new.bytes) }
+    ensures most { result ≤ 19 }
+
+    // What is not told stays as it was.
+    ensures steps { result ≢ 0 → steps.new ≡ steps.old }
+    ensures bytes { result ≢ 0 → bytes.new ≡ bytes.old }
+{
+    if sector_size == 0 || !are_apart(head, tail, disk_size) {
+        return BAD_ARGUMENT;
+    }
+    let planned = plan_new(
+        alloc,
+        head,
+        tail,
+        disk_size,
+        sector_size,
+        table.disk_guid,
+        table.entry_count,
+    );
+    match planned {
+        Ok(plan) => give(&plan, steps, bytes, needed),
+        Err(refusal) => refuse(&refusal, needed),
+    }
+}
+
+// The answer of a call that plans nothing.
+fn refuse(refusal: &Refusal, needed: &mut Needed) -> u32
+    ensures lacks { (head tail : List ℕ) → (size : ℕ) → IsRefusal head tail size refusal.now → result ≡ 17
+        → ¬ IsKnown (length head) (length tail) size (needed.new.from, needed.new.length) }
+    ensures numbers { (head tail : List ℕ) → (size : ℕ) → IsRefusal head tail size refusal.now
+        → (0 < result) × (result ≤ 19) × (result ≢ 18) }
+{
+    match refusal {
+        Refusal::Answer(answer) => *answer,
+        Refusal::Lacks(lack) => {
             needed.from = lack.from;
             needed.length = lack.length;
             LACKS_BYTES

@@ -6,7 +6,7 @@ use Rattle.gptman_c.proofs.gptman_read.Goals as goal
 
 pub returns-in-Fault-clause-faults : goal.returns-in-Fault-clause-faults
 returns-in-Fault-clause-faults c = λ above below.
-    let number : c.number_of.result ≡ fault_number (fault_of c.in-Fault.fault) = c.number_of.ensures in
+    let number : c.number_of.result ≡ fault_number (fault_of c.in-Fault.fault) = c.number_of.ensures.number in
     ⊎_elim
     (λ none. inr (inr (number ∙ ap fault_number none)))
     (λ told. ⊎_elim (λ two. inl (number ∙ two)) (λ seven. inr (inl (number ∙ seven)))
