@@ -1,4 +1,7 @@
-"""add.py IMAGE FIRST LAST NAME: adds a partition for Linux from sector FIRST to LAST, under the lowest unused number."""
+"""add.py IMAGE FIRST LAST NAME: adds a partition for Linux from sector FIRST to LAST.
+
+Its number is the lowest that is not used.
+"""
 
 import sys
 import uuid

@@ -205,8 +205,9 @@ def try_new(tally, library, program):
             program.write("left.img", bytes(left(random_, image, steps, data, after, torn)))
             found = without_form(told(gptman, program.file("left.img")))
             tally.holds(f"the old table or the new one, stop {after}.{torn} of a new one", found in (old, new))
-    for name, size, count in ("Overflow", 512 * 33, 128), ("InvalidPartitionBoundaries", 512 * 34, 128), (
-            "BadArgument", SIZE, 0), ("BadArgument", 100, 128):
+    rows = [("Overflow", 512 * 33, 128), ("InvalidPartitionBoundaries", 512 * 34, 128), ("BadArgument", SIZE, 0),
+            ("BadArgument", 100, 128)]
+    for name, size, count in rows:
         program.make_image("small.img", size)
         tally.equals(f"a new table of {count} entries on {size} bytes", name, refusal(
             gptman, lambda: gptman.Disk.create(program.file("small.img"), entry_count=count)))
@@ -234,7 +235,8 @@ def try_refusals(tally, library, program):
         disk.write()
     tally.equals("an empty list of partitions", {}, table.read(program.file("disk.img")).entries)
     tally.equals("no table", "InvalidSignature", refusal(gptman, lambda: gptman.Disk("/dev/null")))
-    tally.equals("a sector size of 0", "BadArgument", refusal(gptman, lambda: gptman.Disk(program.file("disk.img"), 0)))
+    path = program.file("disk.img")
+    tally.equals("a sector size of 0", "BadArgument", refusal(gptman, lambda: gptman.Disk(path, 0)))
     tally.equals("the version", (0, 1, 0), gptman.version())
     tally.equals("a checksum", 0xCBF43926, gptman.crc32(b"123456789"))
 

@@ -13,7 +13,8 @@ EFI = "c12a7328-f81f-11d2-ba4b-00a0c93ec93b"
 
 def by_gptimg(program, path):
     program.run(path, "512", "new", "00112233445566778899aabbccddeeff")
-    program.run(path, "512", "add", "1", "28732ac11ff8d211ba4b00a0c93ec93b", "10" * 16, "16384", "first", "2048", "EFI")
+    words = ["28732ac11ff8d211ba4b00a0c93ec93b", "10" * 16, "16384", "first", "2048", "EFI"]
+    program.run(path, "512", "add", "1", *words)
 
 
 def by_words(*words):
