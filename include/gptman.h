@@ -140,6 +140,17 @@ uint32_t gptman_new(const uint8_t *head, size_t head_length, const uint8_t *tail
                     uint64_t disk_size, uint64_t sector_size, const gptman_table *table, gptman_step *steps,
                     size_t step_count, uint8_t *bytes, size_t byte_count, gptman_needed *needed);
 
+enum { GPTMAN_FIRST = 1, GPTMAN_LAST = 2, GPTMAN_BEST = 3 };
+
+/* Finds a place for a partition of `size` sectors (0 is taken as 1) among the sectors that a table with these
+ * partitions has free: the first place, the last, or one in the smallest run of free sectors that has room.
+ *
+ * GPTMAN_OK: `first_lba` is its first sector, a multiple of table->align; it is free until `partitions` change.
+ * GPTMAN_NO_SPACE_LEFT: there is none. GPTMAN_OUT_OF_MEMORY: there is no memory to find it.
+ * GPTMAN_BAD_ARGUMENT: table->align is 0, `choice` is none of these, or there are 2^32 partitions or more. */
+uint32_t gptman_place(const gptman_table *table, const gptman_partition *partitions, size_t partition_count,
+                      uint64_t size, uint32_t choice, uint64_t *first_lba);
+
 /* The CRC-32 of these bytes, as a table has it of its headers and of its entries. */
 uint32_t gptman_crc32(const uint8_t *bytes, size_t byte_count);
 

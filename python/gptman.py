@@ -20,7 +20,7 @@ FAULTS = ("Io InvalidSignature InvalidRevision InvalidHeaderSize InvalidChecksum
           "InvalidPartitionEntryArrayChecksum ReadError NoSpaceLeft ConflictPartitionGUID "
           "InvalidPartitionBoundaries InvalidPartitionNumber UnusedPartition PartitionNotFound Overflow "
           "OutOfMemory InvalidPartitionEntrySize LacksBytes LacksRoom BadArgument").split()
-OUT_OF_MEMORY, LACKS_BYTES, LACKS_ROOM = 15, 17, 18
+NO_SPACE_LEFT, LACKS_BYTES, LACKS_ROOM = 8, 17, 18
 SYNC = 2
 MOST_ENTRIES = 1 << 20
 
@@ -73,10 +73,11 @@ def _load():
                                                          POINTER(_Needed)]
     library.gptman_new.argtypes = ends + [POINTER(_Table), POINTER(_Step), c_size_t, POINTER(c_uint8), c_size_t,
                                           POINTER(_Needed)]
+    library.gptman_place.argtypes = [POINTER(_Table)] + partitions + [c_uint64, c_uint32, POINTER(c_uint64)]
     library.gptman_crc32.argtypes = [c_char_p, c_size_t]
     library.gptman_version.argtypes = []
-    for call in (library.gptman_read, library.gptman_write, library.gptman_new, library.gptman_crc32,
-                 library.gptman_version):
+    for call in (library.gptman_read, library.gptman_write, library.gptman_new, library.gptman_place,
+                 library.gptman_crc32, library.gptman_version):
         call.restype = c_uint32
     return library
 
@@ -194,10 +195,28 @@ class Disk:
     def plan(self):
         """The steps of `write`, each its kind (1 is a write, 2 a sync), its first byte on the disk, and where its
         bytes begin and end in the bytes that come with them."""
+        return self._plan(_library.gptman_write, self._entries(), self.entry_count)
+
+    def find_place(self, size, choice="first"):
+        """The first sector of a place for so many sectors, or None where there is none. A choice is the first
+        place, the last, or the best: one in the smallest run of free sectors that has room."""
+        table = _Table(first_usable_lba=self.first_usable_lba, last_usable_lba=self.last_usable_lba,
+                       align=self.align)
+        first = c_uint64()
+        answer = _library.gptman_place(byref(table), self._entries(), self.entry_count, size,
+                                       ("first", "last", "best").index(choice) + 1, byref(first))
+        if answer == NO_SPACE_LEFT:
+            return None
+        if answer:
+            raise Fault(answer)
+        return first.value
+
+    def _entries(self):
+        """All entries as they are to be."""
         entries = (_Partition * max(self.entry_count, 1))()
         for number, partition in self.partitions.items():
             entries[number - 1] = _entry_of(partition)
-        return self._plan(_library.gptman_write, entries, self.entry_count)
+        return entries
 
     def _plan_new(self, disk_guid, entry_count):
         """The steps that write a new table."""
@@ -214,7 +233,7 @@ class Disk:
                 self._add(needed)
             elif answer == 0:
                 made = steps[:needed.steps]
-                return [(step.kind, step.offset, step.start, step.start + step.length) for step in made], bytes(data)
+                return [(s.kind, s.offset, s.start, s.start + s.length) for s in made], bytes(data)
             elif answer != LACKS_ROOM:
                 raise Fault(answer)
 

@@ -214,6 +214,47 @@ def try_new(tally, library, program):
         tally.equals("its bytes", bytes(size), program.bytes_of("small.img"))
 
 
+def try_places(tally, library, program):
+    """Places are those of a slow search, in the words of the format alone."""
+    gptman, random_ = module(), random.Random(8)
+    start(program)
+    with gptman.Disk(program.file("disk.img")) as disk:
+        for _ in range(300):
+            disk.align = random_.choice([1, 2, 8, 64])
+            disk.partitions = {number: gptman.Partition(LINUX, first, first + random_.randrange(60)) for number, first
+                               in enumerate(random_.sample(range(34, 400), random_.randrange(6)), 1)}
+            size = random_.randrange(1, 120)
+            places = free_places(disk, size)
+            tally.equals("the first place", min(places, default=None), disk.find_place(size))
+            tally.equals("the last place", max(places, default=None), disk.find_place(size, "last"))
+            best = disk.find_place(size, "best")
+            tally.equals("the best place", min(places.values(), default=None), best and places.get(best))
+        disk.align = 0
+        tally.equals("no alignment", "BadArgument", refusal(gptman, lambda: disk.find_place(1)))
+        tally.equals("no such choice", "ValueError", refusal(gptman, lambda: disk.find_place(1, "next")))
+
+
+def free_places(disk, size):
+    """Each place for so many sectors, with how many are free from the first multiple of its run on."""
+    taken = {lba for p in disk.partitions.values() for lba in range(p.first_lba, p.last_lba + 1)}
+    free = [lba for lba in range(max(disk.first_usable_lba, 1), disk.last_usable_lba + 1) if lba not in taken]
+    places, known = {}, set(free)
+    for lba in free:
+        if lba % disk.align == 0 and all(lba + k in known for k in range(size)):
+            places[lba] = slot_of(known, lba, disk.align)
+    return places
+
+
+def slot_of(known, lba, align):
+    """How many sectors the run of this one has from its first multiple of the alignment on."""
+    first, last = lba, lba
+    while first - align in known and all(k in known for k in range(first - align, first)):
+        first -= align
+    while last + 1 in known:
+        last += 1
+    return last - first + 1
+
+
 def try_refusals(tally, library, program):
     """What is refused, and that nothing is written then."""
     gptman = module()
@@ -282,6 +323,6 @@ def try_long(tally, library, program):
     tally.equals("with sectors of 4096 bytes", "x" * 36, table.read(program.file("big.img"), 4096).entries[1].name)
 
 
-SUBJECTS = {"damaged images": try_damaged, "stops among the steps": try_stops, "new tables": try_new,
+SUBJECTS = {"damaged images": try_damaged, "stops among the steps": try_stops, "new tables": try_new, "places": try_places,
             "refusals": try_refusals,
             "long tables": try_long}

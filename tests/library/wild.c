@@ -87,6 +87,9 @@ static uint32_t call(room head, size_t first, room tail, size_t last, uint64_t s
     uint32_t fresh = gptman_new(head.at, first, tail.at, last, size, sector, &table, (gptman_step *)made.at, steps,
                                 data.at, bytes, &needed);
     if (fresh > 19 || (fresh == 0 && (needed.steps > steps || needed.bytes > bytes))) exit(11);
+    uint64_t lba = 7;
+    uint32_t place = gptman_place(&table, (gptman_partition *)partitions.at, count, draw_length(), (uint32_t)draw(5), &lba);
+    if (place != 0 && (lba != 7 || (place != 8 && place != 19))) exit(12);
     give(partitions, count * sizeof(gptman_partition));
     give(made, steps * sizeof(gptman_step)), give(data, bytes);
     return answer;

@@ -1,11 +1,12 @@
 -- What crosses to C, in the library's words.
-use Rattle.std.specs.Prelude.{◌≡◌, ◌++◌, ℕ, List, length, map, take, Result, Ok, Err}
+use Rattle.std.specs.Prelude.{◌≡◌, ◌++◌, ℕ, List, length, map, take, Option, Result, Ok, Err}
 use Rattle.gptman.specs.Alignment.{IsAlignment}
 use Rattle.gptman.specs.Copy.{Copy}
 use Rattle.gptman.specs.Fault.{Fault}
 use Rattle.gptman.specs.Layout.{copy_ranges_at}
+use Rattle.gptman.specs.Place.{FindsPlace, IsBestPlace, IsFirstPlace, IsLastPlace}
 use Rattle.gptman.specs.Reading.{Side, primary, backup}
-use Rattle.gptman.specs.Table.{Table as TheTable, TableEntry, table_in}
+use Rattle.gptman.specs.Table.{Table as TheTable, TableEntry, entries_in, table_in}
 use Rattle.gptman.specs.declared.table.GPT.{GPT}
 use Rattle.gptman_copy.specs.declared.codec.entry.GPTPartitionEntry.{GPTPartitionEntry}
 use Rattle.gptman_c.specs.Faults.{fault_number}
@@ -81,3 +82,14 @@ pub record IsRefused (taken : Result Copy Fault) (number : ℕ) : Type 0 where
   pub fault : Fault
   pub taken_is : taken ≡ Err fault
   pub number_is : fault_number fault ≡ number
+
+-- What is offered for so many sectors: the place that is chosen, if there is one, of the sectors within the bounds of the table that no partition has.
+pub record IsOffer (table : Table) (partitions : List Partition) (choice size : ℕ) (found : Option ℕ) : Type 0 where
+  pub held : GPT
+  pub low : held.header.first_usable_lba ≡ table.first_usable_lba
+  pub high : held.header.last_usable_lba ≡ table.last_usable_lba
+  pub align : held.align ≡ table.align
+  pub contents : map content_in (entries_in held) ≡ map content_of partitions
+  pub first : choice ≡ 1 → FindsPlace IsFirstPlace held size found
+  pub last : choice ≡ 2 → FindsPlace IsLastPlace held size found
+  pub best : choice ≡ 3 → FindsPlace IsBestPlace held size found

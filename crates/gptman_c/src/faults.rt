@@ -15,6 +15,9 @@ pub(crate) const LACKS_ROOM: u32 = 18;
 /// An argument that no disk or table has.
 pub(crate) const BAD_ARGUMENT: u32 = 19;
 
+/// There is no place for a partition.
+pub(crate) const NO_SPACE_LEFT: u32 = 8;
+
 /// There is no memory.
 pub(crate) const OUT_OF_MEMORY: u32 = 15;
 
@@ -32,7 +35,7 @@ pub(crate) fn number_of(fault: &Error) -> u32
         Error::InvalidChecksum(_, _) => 5,
         Error::InvalidPartitionEntryArrayChecksum(_, _) => 6,
         Error::ReadError(_, _) => 7,
-        Error::NoSpaceLeft => 8,
+        Error::NoSpaceLeft => NO_SPACE_LEFT,
         Error::ConflictPartitionGUID => 9,
         Error::InvalidPartitionBoundaries => 10,
         Error::InvalidPartitionNumber(_) => 11,

@@ -4,11 +4,11 @@
 //! Nothing is kept between two calls. No argument makes a call read or write outside of what it was given.
 #![tactic(auto)]
 
-ghost use Rattle.std.specs.Prelude.{◌≡◌, ◌≢◌, ◌≤◌, ◌<◌, ◌⊎◌, ◌+◌, ℕ, List, length, take};
+ghost use Rattle.std.specs.Prelude.{◌≡◌, ◌≢◌, ◌≤◌, ◌<◌, ◌⊎◌, ◌+◌, ℕ, List, None, Some, length, take};
 ghost use Rattle.gptman.specs.Crc.{crc_of};
 ghost use Rattle.gptman.specs.Reading.{reading_of, taken_from};
 ghost use Rattle.gptman.specs.Table.{new_table_of};
-ghost use Rattle.gptman_c.specs.Crossing.{HasCount, IsRefused, IsTold};
+ghost use Rattle.gptman_c.specs.Crossing.{HasCount, IsOffer, IsRefused, IsTold};
 ghost use Rattle.gptman_c.specs.Ends.{HasEnds, IsKnown};
 ghost use Rattle.gptman_c.specs.Plan.{acts_of};
 ghost use Rattle.gptman_c.specs.Planning.{IsNewPlan, IsPlan, IsRefusal};
@@ -16,6 +16,7 @@ ghost use Rattle.gptman_c.specs.Planning.{IsNewPlan, IsPlan, IsRefusal};
 mod ends;
 mod faults;
 mod making;
+mod offers;
 mod partitions;
 mod places;
 mod planning;
@@ -26,8 +27,11 @@ mod tell;
 mod writing;
 
 use crate::ends::are_apart;
-use crate::faults::{BAD_ARGUMENT, LACKS_BYTES, LACKS_ROOM, number_of};
+use crate::faults::{
+    BAD_ARGUMENT, LACKS_BYTES, LACKS_ROOM, NO_SPACE_LEFT, OUT_OF_MEMORY, number_of,
+};
 use crate::making::plan_new;
+use crate::offers::find_place;
 use crate::planning::{Refusal, plan};
 use crate::reading::{Reading, read};
 use crate::record::Record;
@@ -246,6 +250,42 @@ fn give(plan: &Record, steps: &mut [Step], bytes: &mut [u8], needed: &mut Needed
         0
     } else {
         LACKS_ROOM
+    }
+}
+
+/// Finds a place for a partition of `size` sectors, of which 0 is taken as 1, among the sectors that a table with
+/// these partitions has free. `choice` is 1 for the first place, 2 for the last, and 3 for one in the smallest run
+/// that has room. It is a multiple of `table.align`, and stays free until `partitions` change.
+///
+/// 0: `first_lba` is the first sector of the place. 8: there is none. 15: there is no memory. 19: `table.align` is 0,
+/// `choice` none of these, or `partition_count` above 2^32 - 1.
+#[unsafe(no_mangle)]
+pub extern "C" fn gptman_place(
+    alloc: Global,
+    table: &Table,
+    partitions: &[Partition],
+    size: u64,
+    choice: u32,
+    first_lba: &mut u64,
+) -> u32
+    ensures place { result ≡ 0 → IsOffer table.now partitions.now choice size (Some first_lba.new) }
+    ensures none { result ≡ 8 → IsOffer table.now partitions.now choice size None }
+    ensures bad { result ≡ 19
+        → (table.now.align ≡ 0) ⊎ ((choice ≡ 0) ⊎ ((3 < choice) ⊎ (4294967295 < length partitions.now))) }
+    ensures answers { (result ≡ 0) ⊎ ((result ≡ 8) ⊎ ((result ≡ 15) ⊎ (result ≡ 19))) }
+    ensures first_lba { result ≢ 0 → first_lba.new ≡ first_lba.old }
+{
+    let is_long = partitions.len() as u64 > u64::from(u32::MAX);
+    if table.align == 0 || choice == 0 || choice > 3 || is_long {
+        return BAD_ARGUMENT;
+    }
+    match find_place(alloc, table, partitions, size, choice) {
+        Ok(Some(first)) => {
+            *first_lba = first;
+            0
+        }
+        Ok(None) => NO_SPACE_LEFT,
+        Err(_) => OUT_OF_MEMORY,
     }
 }
 
