@@ -1,10 +1,9 @@
 """Tries the library for C: usage: tests/library LIBRARY GPTIMG, where LIBRARY is what rt made of gptman_c.
 
 Prints a line for each subject, and in full what does not hold. The last line is 'N passed, M failed', and the
-status is 1 where something failed. Without a compiler for C nothing is tried.
+status is 1 where something failed. Needs a compiler for C; tests/library.sh looks for one.
 """
 import os
-import shutil
 import sys
 import tempfile
 
@@ -23,15 +22,12 @@ def main():
     os.environ["PATH"] += ":/usr/sbin:/sbin"
     os.environ["LC_ALL"] = "C.UTF-8"
     tally = Tally()
-    if not shutil.which("cc"):
-        print("-- cc is not installed: the library for C is not tried")
-    else:
-        with tempfile.TemporaryDirectory() as folder:
-            library = build(os.path.realpath(sys.argv[1]), folder)
-            program = Program(os.path.realpath(sys.argv[2]), folder)
-            for module in (examples, calls, wild):
-                for name, run in module.SUBJECTS.items():
-                    tally.subject(name, run, library, program)
+    with tempfile.TemporaryDirectory() as folder:
+        library = build(os.path.realpath(sys.argv[1]), folder)
+        program = Program(os.path.realpath(sys.argv[2]), folder)
+        for module in (examples, calls, wild):
+            for name, run in module.SUBJECTS.items():
+                tally.subject(name, run, library, program)
     print(f"{tally.passed} passed, {tally.failed} failed")
     return 1 if tally.failed else 0
 
