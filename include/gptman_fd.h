@@ -10,6 +10,9 @@
 
 #include "gptman.h"
 
+/* An end is made no longer than this, as a table that asks for more is none that a system reads. */
+#define GPTMAN_MOST_BYTES (1u << 28)
+
 /* The ends of a disk. `size` and `sector_size` are in bytes. */
 typedef struct gptman_ends {
     int fd;
@@ -62,6 +65,7 @@ static inline uint32_t gptman_ends_open(gptman_ends *ends, int fd, uint64_t sect
 /* Makes the end longer that is nearer to the bytes that are lacking. */
 static inline uint32_t gptman_ends_add(gptman_ends *ends, const gptman_needed *needed) {
     uint64_t first = needed->from + needed->length, last = ends->size - needed->from;
+    if (first > GPTMAN_MOST_BYTES && last > GPTMAN_MOST_BYTES) return GPTMAN_LACKS_BYTES;
     return first <= last ? gptman_ends_take(ends, first, ends->tail_length)
                          : gptman_ends_take(ends, ends->head_length, last);
 }

@@ -22,7 +22,7 @@ FAULTS = ("Io InvalidSignature InvalidRevision InvalidHeaderSize InvalidChecksum
           "OutOfMemory InvalidPartitionEntrySize LacksBytes LacksRoom BadArgument").split()
 NO_SPACE_LEFT, LACKS_BYTES, LACKS_ROOM = 8, 17, 18
 SYNC = 2
-MOST_ENTRIES = 1 << 20
+MOST_ENTRIES, MOST_BYTES = 1 << 20, 1 << 28
 
 
 class Fault(Exception):
@@ -256,6 +256,8 @@ class Disk:
     def _add(self, needed):
         """Makes the end longer that is nearer to the bytes that are lacking."""
         first, last = needed.from_ + needed.length, self.size - needed.from_
+        if min(first, last) > MOST_BYTES:
+            raise Fault(LACKS_BYTES)
         self._lengths = (first, self._lengths[1]) if first <= last else (self._lengths[0], last)
 
     def _read_all(self, length, at):

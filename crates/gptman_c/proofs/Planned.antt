@@ -8,8 +8,11 @@ use Rattle.gptman.specs.Stop.{IsStored, StopsHold}
 use Rattle.gptman.specs.Table.{Table, table_in}
 use Rattle.gptman.specs.declared.table.GPT.{GPT}
 use Rattle.gptman_c.specs.Crossing.{four_ranges, with_partitions}
-use Rattle.gptman_c.specs.Plan.{Act, LeftBy, pending_of, plan_state, view_of}
+use Rattle.gptman_c.specs.Ends.{disk_bytes}
+use Rattle.gptman_c.specs.Plan.{Act, LeftBy, acts_of, pending_of, plan_state, view_of}
 use Rattle.gptman_c.specs.Planning.{IsSafePlan}
+use Rattle.gptman_c.specs.declared.ends.Ends.{Ends}
+use Rattle.gptman_c.specs.declared.record.Record.{Record}
 use Rattle.gptman_c.specs.declared.records.Partition.{Partition}
 
 -- the disk is one of these bytes after the acts
@@ -19,11 +22,26 @@ pub record IsAfter (start : List ℕ) (acts : List Act) (disk : DiskState) : Typ
   pub left : (t : ℕ) (b : List ℕ) → LeftBy start acts t b → disk.left_since t b
 
 -- a disk that was made with these bytes is
-pub is_after : (start start_too : List ℕ) (acts acts_too : List Act) (s p f : ℕ) → start_too ≡ start → acts ≡ acts_too → IsAfter start acts (plan_state start_too acts_too s p f)
+is_after : (start start_too : List ℕ) (acts acts_too : List Act) (s p f : ℕ) → start_too ≡ start → acts ≡ acts_too → IsAfter start acts (plan_state start_too acts_too s p f)
 is_after start start_too acts acts_too s p f same same_acts =
     let one : IsAfter start acts (plan_state start acts s p f) = record { view = refl; pending = refl; left = λ t b left. left } in
     subst (λ (x : List ℕ). IsAfter start acts (plan_state x acts_too s p f)) (sym same)
     (subst (λ (l : List Act). IsAfter start acts (plan_state start l s p f)) same_acts one)
+
+-- ---- the disk that records, before the first step and after the last
+
+abbrev state_of : Ends → DiskState
+state_of d = plan_state (disk_bytes d.head.now d.tail.now d.plan.size) (acts_of d.plan.bytes.items d.plan.steps.items) d.plan.size d.position d.failures
+
+pub begins_at : (d : Ends) (head tail : List ℕ) (size : ℕ) → d.head.now ≡ head → d.tail.now ≡ tail → d.plan.size ≡ size → acts_of d.plan.bytes.items d.plan.steps.items ≡ []
+    → d.position ≡ 0 → d.failures ≡ 0 → state_of d ≡ plan_state (disk_bytes head tail size) [] size 0 0
+begins_at d head tail size h t s acts position failures = λ i. plan_state (disk_bytes (h i) (t i) (s i)) (acts i) (s i) (position i) (failures i)
+
+pub ends_after : (e : Ends) (plan : Record) (head tail : List ℕ) (size : ℕ) → e.head.now ≡ head → e.tail.now ≡ tail → e.plan.size ≡ size → plan ≡ e.plan
+    → IsAfter (disk_bytes head tail size) (acts_of plan.bytes.items plan.steps.items) (state_of e)
+ends_after e plan head tail size h t s taken =
+    is_after (disk_bytes head tail size) (disk_bytes e.head.now e.tail.now e.plan.size) (acts_of plan.bytes.items plan.steps.items) (acts_of e.plan.bytes.items e.plan.steps.items)
+    e.plan.size e.position e.failures (λ i. disk_bytes (h i) (t i) (s i)) (λ i. acts_of (taken i).bytes.items (taken i).steps.items)
 
 module _ (start : List ℕ) (size : ℕ) (g : GPT) (partitions : List Partition) (acts : List Act) (old new : DiskState) (long : length start ≡ size) (begins : old ≡ plan_state start [] size 0 0)
     (after : IsAfter start acts new) where

@@ -1,25 +1,16 @@
-use Rattle.std.proofs.Common.{◌≡◌, [], ℕ, List, refl}
-use Rattle.gptman.specs.Disk.{DiskState}
+use Rattle.std.proofs.Common.{refl}
 use Rattle.gptman_c.specs.Ends.{disk_bytes}
-use Rattle.gptman_c.specs.Plan.{Act, acts_of, plan_state}
+use Rattle.gptman_c.specs.Plan.{acts_of}
 use Rattle.gptman_c.proofs.Known.{length-disk_bytes}
-use Rattle.gptman_c.proofs.Planned.{is_after, safe_zero}
+use Rattle.gptman_c.proofs.Planned.{begins_at, ends_after, safe_zero}
 use Rattle.gptman_c.proofs.planning.record_write.Goals as goal
 
 pub returns-in-Ok-clause-safe : goal.returns-in-Ok-clause-safe
 returns-in-Ok-clause-safe c =
     let a = c.args in
-    let d = c.new-disk.result in
-    let e = c.rewrite-written.new.disk in
     let made = c.new-disk.ensures in
+    let begins = begins_at c.new-disk.result a.head.now a.tail.now a.size made.head made.tail made.size made.acts made.position made.failures in
     let over = c.if-not-is_over.ensures in
-    let start : List ℕ = disk_bytes a.head.now a.tail.now a.size in
-    let acts : List Act = acts_of c.into_plan.result.bytes.items c.into_plan.result.steps.items in
-    let old : DiskState = plan_state (disk_bytes d.head.now d.tail.now d.plan.size) (acts_of d.plan.bytes.items d.plan.steps.items) d.plan.size d.position d.failures in
-    let new : DiskState = plan_state (disk_bytes e.head.now e.tail.now e.plan.size) (acts_of e.plan.bytes.items e.plan.steps.items) e.plan.size e.position e.failures in
-    let begins : old ≡ plan_state start [] a.size 0 0 = λ i. plan_state (disk_bytes (made.head i) (made.tail i) (made.size i)) (made.acts i) (made.size i) (made.position i) (made.failures i) in
-    let same : disk_bytes e.head.now e.tail.now e.plan.size ≡ start = λ i. disk_bytes (over.head refl i) (over.tail refl i) (over.size refl i) in
-    let taken : acts ≡ acts_of e.plan.bytes.items e.plan.steps.items = λ i. acts_of (c.into_plan.ensures i).bytes.items (c.into_plan.ensures i).steps.items in
-    safe_zero start a.size a.table.now a.partitions.now acts old new (length-disk_bytes a.head.now a.tail.now a.size c.requires.apart) begins
-    (is_after start (disk_bytes e.head.now e.tail.now e.plan.size) acts (acts_of e.plan.bytes.items e.plan.steps.items) e.plan.size e.position e.failures same taken)
-    c.in-Ok.ensures.holds c.in-Ok.ensures.others c.in-Ok.ensures.stored
+    let after = ends_after c.rewrite-written.new.disk c.into_plan.result a.head.now a.tail.now a.size (over.head refl) (over.tail refl) (over.size refl) c.into_plan.ensures in
+    safe_zero (disk_bytes a.head.now a.tail.now a.size) a.size a.table.now a.partitions.now (acts_of c.into_plan.result.bytes.items c.into_plan.result.steps.items) _ _
+    (length-disk_bytes a.head.now a.tail.now a.size c.requires.apart) begins after c.in-Ok.ensures.holds c.in-Ok.ensures.others c.in-Ok.ensures.stored
