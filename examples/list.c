@@ -44,6 +44,6 @@ int main(int argc, char **argv) {
     }
     free(partitions);
     gptman_ends_free(&ends);
-    if (answer != GPTMAN_OK) fprintf(stderr, "list: fault %u\n", answer);
+    if (answer != GPTMAN_OK) fprintf(stderr, "list: fault: %s\n", gptman_fault_name(answer));
     return answer != GPTMAN_OK;
 }

@@ -83,6 +83,17 @@ enum {
     GPTMAN_BAD_ARGUMENT = 19
 };
 
+/* The name of an answer, as docs/FAULTS.md has it; "Unknown" of a number that no call answers. */
+static inline const char *gptman_fault_name(uint32_t answer) {
+    static const char *const names[] = {
+        "Ok", "Io", "InvalidSignature", "InvalidRevision", "InvalidHeaderSize", "InvalidChecksum",
+        "InvalidPartitionEntryArrayChecksum", "ReadError", "NoSpaceLeft", "ConflictPartitionGUID",
+        "InvalidPartitionBoundaries", "InvalidPartitionNumber", "UnusedPartition", "PartitionNotFound", "Overflow",
+        "OutOfMemory", "InvalidPartitionEntrySize", "LacksBytes", "LacksRoom", "BadArgument",
+    };
+    return answer < sizeof names / sizeof *names ? names[answer] : "Unknown";
+}
+
 /* Reads the table of a disk.
  *
  * `head` has the first bytes of the disk and `tail` the last ones, as many as you like; they do not overlap.
