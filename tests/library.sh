@@ -1,9 +1,9 @@
 #!/usr/bin/env bash
-# Builds the library for C over the libraries that `rt` proved, and tries it: tests/library.sh [CRATES], where
-# CRATES is the folder of the crates, for the program gptimg too. The last line is 'N passed, M failed', and the
-# status is 1 where something failed. Without a compiler for C nothing is tried.
+# Proves and builds the library for C, and tries it: tests/library.sh [GPTIMG], where GPTIMG is the program, ./gptimg
+# at the top where it is left out. It is no part of the gate, which proves the library, but leaves nothing to link.
+# The last line is 'N passed, M failed', and the status is 1 where something failed.
 top=$(cd "$(dirname "$0")/.." && pwd) || exit
-crates=$(realpath "${1:-$top/crates}") || exit
+program=$(realpath "${1:-$top/gptimg}") || exit
 
 if ! command -v cc > /dev/null || ! command -v ar > /dev/null; then
     echo "-- cc or ar is not installed: the library for C is not tried"
@@ -12,9 +12,9 @@ if ! command -v cc > /dev/null || ! command -v ar > /dev/null; then
 fi
 log=$(mktemp) || exit
 trap 'rm -f "$log"' EXIT
-if ! (cd "$crates/gptman_c" && rt lib) > "$log" 2>&1; then
+if ! (cd "$top/crates/gptman_c" && rt lib) > "$log" 2>&1; then
     cat "$log"
     echo "0 passed, 1 failed"
     exit 1
 fi
-python3 -B "$top/tests/library" "$crates/gptman_c/out/libgptman_c.a" "$crates/gptimg/out/gptimg"
+python3 -B "$top/tests/library" "$top/crates/gptman_c/out/libgptman_c.a" "$program"
