@@ -88,11 +88,11 @@ crash-states: gptimg gptedit
 	@python3 -B trials/crash_states --json crash-states.json --chart docs/crash-states.svg
 
 # Has a firmware boot images that a stop left, cuts the power of a Linux kernel in the middle of commands,
-# has other programs, kernels and boot loaders read such images, and tries the library for C, where what these
-# need is installed.
+# has other programs, kernels and boot loaders read such images, and compares the library for C with others,
+# where what these need is installed.
 # They stand beside the gate.
 trials: gptimg
 	@tests/with_firmware.sh
 	@tests/with_power_cuts.sh
 	@tests/with_readers.sh
-	@tests/library.sh
+	@tests/with_libraries.sh

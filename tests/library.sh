@@ -1,8 +1,14 @@
 #!/usr/bin/env bash
-# Proves and builds the library for C, and tries it: tests/library.sh [GPTIMG], where GPTIMG is the program, ./gptimg
-# at the top where it is left out. It is no part of the gate, which proves the library, but leaves nothing to link.
+# Tries the library for C: tests/library.sh [--proved] [GPTIMG], where GPTIMG is the program, ./gptimg at the top
+# where it is left out. It proves and builds the library first; with --proved it takes it from what `rt ci` proved.
 # The last line is 'N passed, M failed', and the status is 1 where something failed.
 top=$(cd "$(dirname "$0")/.." && pwd) || exit
+archive=$top/crates/gptman_c/out/libgptman_c.a
+build=(rt lib)
+if [ "$1" = --proved ]; then
+    build=("$top/scripts/archive" "$archive")
+    shift
+fi
 program=$(realpath "${1:-$top/gptimg}") || exit
 
 if ! command -v cc > /dev/null || ! command -v ar > /dev/null; then
@@ -12,9 +18,9 @@ if ! command -v cc > /dev/null || ! command -v ar > /dev/null; then
 fi
 log=$(mktemp) || exit
 trap 'rm -f "$log"' EXIT
-if ! (cd "$top/crates/gptman_c" && rt lib) > "$log" 2>&1; then
+if ! (cd "$top/crates/gptman_c" && "${build[@]}") > "$log" 2>&1; then
     cat "$log"
     echo "0 passed, 1 failed"
     exit 1
 fi
-python3 -B "$top/tests/library" "$top/crates/gptman_c/out/libgptman_c.a" "$program"
+python3 -B "$top/tests/library" "$archive" "$program"

@@ -51,10 +51,12 @@ def listed(entries):
 
 
 def try_examples(tally, library, program):
-    """The examples in C list and add, and so does the one in Python; the programs that are there find no fault."""
+    """The examples in C list and add, that in Python adds, that in Rust lists; the programs find no fault."""
     show = library.compile(os.path.join(TOP, "examples", "list.c"), "list")
     add = library.compile(os.path.join(TOP, "examples", "add.c"), "add")
+    rust = in_rust(library)
     left = [name for name in MAKERS if name != "gptimg" and not is_there(name)]
+    left += [] if rust else ["cargo"]
     for name, make in MAKERS.items():
         if name in left:
             continue
@@ -75,10 +77,23 @@ def try_examples(tally, library, program):
                       for n, e in now.entries.items()} if now else None)
         tally.equals(f"all else of it ({name})", was[:4], now and now[:4])
         tally.equals(f"list of it after that ({name})", listed(now.entries) if now else None, run(show, path))
+        if rust:
+            tally.equals(f"list in Rust ({name})", listed(now.entries) if now else None, run(rust, path))
         if is_there("sgdisk"):
             found = run("sgdisk", "-v", path)
             tally.holds(f"sgdisk finds nothing ({name}): {found}", "No problems found" in found)
     return f"left out: {', '.join(left)}" if left else None
+
+
+def in_rust(library):
+    """The example in Rust, built, or None where cargo is not there."""
+    if not is_there("cargo"):
+        return None
+    folder = os.path.join(library.folder, "rust")
+    words = ["cargo", "build", "--quiet", "--locked", "--offline", "--target-dir", folder]
+    subprocess.run(words, cwd=os.path.join(TOP, "examples", "rust"), check=True,
+                   env={**os.environ, "GPTMAN_LIB": library.folder})
+    return os.path.join(folder, "debug", "list")
 
 
 def run(*words, **how):

@@ -7,11 +7,23 @@ from built import TOP, is_there
 WRAPPED = ["-Wl,--wrap=malloc", "-Wl,--wrap=realloc", "-Wl,--wrap=free"]
 
 
-def try_wild(tally, library, program):
-    """No access is wrong, no answer is none of those that are named, and all memory is given back."""
+SANITIZED = ["-g", "-fsanitize=address,undefined", "-fno-sanitize-recover=all"]
+
+
+def compile_wild(library, name, *words):
+    return library.compile(os.path.join(TOP, "tests", "library", "wild.c"), name, "-O1", *words, *WRAPPED)
+
+
+def start(program):
+    """The image from whose ends most calls are made."""
     program.make_image("disk.img", 1 << 17)
     program.run("disk.img", "512", "new", "00112233445566778899aabbccddeeff")
-    path = library.compile(os.path.join(TOP, "tests", "library", "wild.c"), "wild", "-O1", *WRAPPED)
+
+
+def try_wild(tally, library, program):
+    """No access is wrong, no answer is none of those that are named, and all memory is given back."""
+    start(program)
+    path = compile_wild(library, "wild")
     ended = subprocess.run([path, program.file("disk.img"), "20000"], stdout=subprocess.PIPE, check=False)
     tally.equals("the status of wild", 0, ended.returncode)
     note = ended.stdout.decode().strip()
@@ -23,4 +35,17 @@ def try_wild(tally, library, program):
     return note
 
 
-SUBJECTS = {"arguments at random": try_wild}
+def try_sanitizers(tally, library, program):
+    """Nor do the sanitizers of accesses and of undefined behaviour find anything, where the compiler has them."""
+    start(program)
+    try:
+        path = compile_wild(library, "wild-sanitized", *SANITIZED)
+    except subprocess.CalledProcessError:
+        return "left out: the compiler has no sanitizers"
+    ended = subprocess.run([path, program.file("disk.img"), "2000"], stdout=subprocess.PIPE, stderr=subprocess.PIPE,
+                           check=False)
+    tally.equals(f"the sanitizers find nothing: {ended.stderr.decode()[:400]}", 0, ended.returncode)
+    return ended.stdout.decode().strip()
+
+
+SUBJECTS = {"arguments at random": try_wild, "arguments at random, sanitized": try_sanitizers}

@@ -1,9 +1,10 @@
 """Tells how many of the states that a stop may leave lose the partition table.
 
-Each program adds the same partition to an image, and runs once under strace; and those that make several
-changes by one command do so. Their writes and syncs of the image are replayed. At each moment a stop may leave each write that is not yet synced old,
-new, garbage or torn; each such state is read, and counted as lost where neither the table before
-nor the one after is read from it (states.py and judging.py say how).
+Each program adds the same partition to an image, and runs once under strace; those that make several
+changes by one command do so; and so do small programs by a library each, with --libraries. Their
+writes and syncs of the image are replayed. At each moment a stop may leave each write that is not
+yet synced old, new, garbage or torn; each such state is read, and counted as lost where neither the
+table before nor the one after is read from it (states.py and judging.py say how).
 
 What it leaves out: writes through mapped memory and io_uring, and changes of length (a program that
 makes one is told, and not judged); caches of a disk that lie about a sync; sectors other than 512
@@ -19,7 +20,7 @@ import tempfile
 
 import report
 from judging import Trial, starts
-from programs import plans, programs
+from programs import libraries, plans, programs
 
 
 def options():
@@ -28,6 +29,8 @@ def options():
                                      formatter_class=argparse.RawDescriptionHelpFormatter)
     parser.add_argument("--gptimg", default="./gptimg", help="the program gptimg (./gptimg)")
     parser.add_argument("--gptedit", default="./gptedit", help="the program gptedit (./gptedit)")
+    parser.add_argument("--libraries", metavar="FOLDER",
+                        help="judge the programs of tests/with_libraries.sh in this folder, and no others")
     parser.add_argument("--mixtures", type=int, default=40,
                         help="mixtures by chance for each moment (40)")
     parser.add_argument("--json", help="write the results to this file")
@@ -77,6 +80,11 @@ def main():
         sys.exit("strace is not installed, and without it no run can be recorded")
     with tempfile.TemporaryDirectory() as folder:
         folder = os.path.realpath(folder)
+        if chosen.libraries:
+            found = judged(installed(libraries(os.path.realpath(chosen.libraries))), chosen.mixtures, folder)
+            print("One partition is added, by a library")
+            print("\n".join(report.lines(found)))
+            return
         one = judged(installed(programs(os.path.abspath(chosen.gptimg), folder)), chosen.mixtures, folder)
         several = judged(installed(plans(os.path.abspath(chosen.gptedit), folder)), chosen.mixtures, folder)
     print("One partition is added")

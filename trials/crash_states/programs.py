@@ -105,6 +105,17 @@ def plans(gptedit, folder):
     ]
 
 
+def libraries(folder):
+    """Small programs that add the partition by a library each, which tests/with_libraries.sh left in this folder."""
+    def program(name, **others):
+        add, show = (os.path.join(folder, word + name) for word in ("add_", "list_"))
+        return Program("lib" + name, [add, "IMAGE", str(FIRST), str(LAST), "foo"],
+                       lambda image: read_list(show, image), version=None, **others)
+
+    grow = {"after growth": [[os.path.join(folder, "grow_gptman"), "IMAGE"]]}
+    return [program("gptman", before=grow), program("fdisk"), program("parted")]
+
+
 # How each lists a table: number -> first sector, last sector, and the name where it tells it. None
 # where it lists none: by its status, or by words that it would make a new one.
 
@@ -114,6 +125,15 @@ def read_gptimg(gptimg, image):
     if ended.returncode:
         return None
     found = re.findall(r"^(\d+) \S+ \S+ (\d+)\.\.(\d+) \S+ (.*)$", ended.stdout, re.M)
+    return {int(n): (int(first), int(last), name) for n, first, last, name in found}
+
+
+def read_list(program, image):
+    """The listing of a program that tells the number, both sectors and the name of a partition in a line."""
+    ended = recording.run([program, image])
+    if ended.returncode:
+        return None
+    found = re.findall(r"^(\d+) (\d+) (\d+) (.*)$", ended.stdout, re.M)
     return {int(n): (int(first), int(last), name) for n, first, last, name in found}
 
 
