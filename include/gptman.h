@@ -8,8 +8,8 @@
  * its type asks, and never null, also where the count is 0. Arrays that a call writes to are not to overlap
  * others. The caller owns all of them. A call may be made by several threads at once.
  *
- * What the calls answer is proved, but for when a plan of gptman_write or gptman_new is refused: docs/PROMISES.md,
- * "The library for C". That a caller makes the steps in their order is not.
+ * What the calls answer is proved: docs/PROMISES.md, "The library for C". That a caller makes the steps in their
+ * order is not.
  */
 #ifndef GPTMAN_H
 #define GPTMAN_H

@@ -8,6 +8,7 @@ pub mod Middle
 pub mod New
 pub mod Numbered
 pub mod Planned
+pub mod Refused
 pub mod Rewriting
 pub mod Steps
 pub mod Told

@@ -30,7 +30,7 @@ is_after start start_too acts acts_too s p f same same_acts =
 
 -- ---- the disk that records, before the first step and after the last
 
-abbrev state_of : Ends → DiskState
+abbrev pub state_of : Ends → DiskState
 state_of d = plan_state (disk_bytes d.head.now d.tail.now d.plan.size) (acts_of d.plan.bytes.items d.plan.steps.items) d.plan.size d.position d.failures
 
 pub begins_at : (d : Ends) (head tail : List ℕ) (size : ℕ) → d.head.now ≡ head → d.tail.now ≡ tail → d.plan.size ≡ size → acts_of d.plan.bytes.items d.plan.steps.items ≡ []

@@ -4,14 +4,15 @@
 //! Nothing is kept between two calls. No argument makes a call read or write outside of what it was given.
 #![tactic(auto)]
 
-ghost use Rattle.std.specs.Prelude.{◌≡◌, ◌≢◌, ◌≤◌, ◌<◌, ◌⊎◌, ◌+◌, ℕ, List, None, Some, length, take};
+ghost use Rattle.std.specs.Prelude.{◌≡◌, ◌≢◌, ◌≤◌, ◌<◌, ◌⊎◌, ◌+◌, ℕ, List, None, Some, length, take, true};
 ghost use Rattle.gptman.specs.Crc.{crc_of};
 ghost use Rattle.gptman.specs.Reading.{reading_of, taken_from};
 ghost use Rattle.gptman.specs.Table.{new_table_of};
 ghost use Rattle.gptman_c.specs.Crossing.{HasCount, IsOffer, IsRefused, IsTold};
 ghost use Rattle.gptman_c.specs.Ends.{HasEnds, IsKnown};
-ghost use Rattle.gptman_c.specs.Plan.{acts_of};
-ghost use Rattle.gptman_c.specs.Planning.{IsNewPlan, IsPlan, IsRefusal};
+ghost use Rattle.gptman_c.specs.Plan.{acts_of, steps_fit};
+ghost use Rattle.gptman_c.specs.Planning.{AreNoEnds, IsMiscounted, IsNewPlan, IsNumberOf, IsPlan, RefusesNew, RefusesPlan};
+ghost use Rattle.gptman_c.specs.Planning.{needed_after, refusal_number};
 
 mod ends;
 mod faults;
@@ -143,15 +144,25 @@ pub extern "C" fn gptman_write(
 ) -> u32
     ensures plan { result ≡ 0 → (b : List ℕ) → HasEnds b head.now tail.now disk_size
         → IsPlan b sector_size partitions.now (acts_of bytes.new (take needed.new.steps steps.new)) }
+    ensures fits { result ≡ 0 → (needed.new.steps ≤ length steps.new) × (needed.new.bytes ≤ length bytes.new) }
+    ensures steps_fit { result ≡ 0
+        → steps_fit disk_size needed.new.bytes (take needed.new.steps steps.new) ≡ true }
+    ensures refused { 0 < result → result ≤ 16 → result ≢ 15 → (b : List ℕ)
+        → HasEnds b head.now tail.now disk_size
+        → IsNumberOf (RefusesPlan b sector_size partitions.now) result }
     ensures lacks { result ≡ 17
         → ¬ IsKnown (length head.now) (length tail.now) disk_size (needed.new.from, needed.new.length) }
+    ensures within { result ≡ 17 → needed.new.from + needed.new.length ≤ disk_size }
     ensures room { result ≡ 18
         → (length steps.old < needed.new.steps) ⊎ (length bytes.old < needed.new.bytes) }
+    ensures bad { result ≡ 19 → AreNoEnds head.now tail.now disk_size sector_size
+        ⊎ ((b : List ℕ) → HasEnds b head.now tail.now disk_size → IsMiscounted b sector_size partitions.now) }
     ensures most { result ≤ 19 }
 
     // What is not told stays as it was.
     ensures steps { result ≢ 0 → steps.new ≡ steps.old }
     ensures bytes { result ≢ 0 → bytes.new ≡ bytes.old }
+    ensures needed { result ≢ 0 → result ≢ 17 → result ≢ 18 → needed.new ≡ needed.old }
 {
     if sector_size == 0 || !are_apart(head, tail, disk_size) {
         return BAD_ARGUMENT;
@@ -189,15 +200,24 @@ pub extern "C" fn gptman_new(
         → IsNewPlan (length head.now) (length tail.now) b
         (new_table_of table.now.entry_count table.now.disk_guid sector_size disk_size)
         (acts_of bytes.new (take needed.new.steps steps.new)) }
+    ensures fits { result ≡ 0 → (needed.new.steps ≤ length steps.new) × (needed.new.bytes ≤ length bytes.new) }
+    ensures steps_fit { result ≡ 0
+        → steps_fit disk_size needed.new.bytes (take needed.new.steps steps.new) ≡ true }
+    ensures refused { 0 < result → result ≤ 16 → result ≢ 15
+        → IsNumberOf (RefusesNew table.now.entry_count table.now.disk_guid sector_size disk_size) result }
     ensures lacks { result ≡ 17
         → ¬ IsKnown (length head.now) (length tail.now) disk_size (needed.new.from, needed.new.length) }
+    ensures within { result ≡ 17 → needed.new.from + needed.new.length ≤ disk_size }
     ensures room { result ≡ 18
         → (length steps.old < needed.new.steps) ⊎ (length bytes.old < needed.new.bytes) }
+    ensures bad { result ≡ 19 → AreNoEnds head.now tail.now disk_size sector_size
+        ⊎ ((table.now.entry_count ≡ 0) ⊎ (disk_size < sector_size)) }
     ensures most { result ≤ 19 }
 
     // What is not told stays as it was.
     ensures steps { result ≢ 0 → steps.new ≡ steps.old }
     ensures bytes { result ≢ 0 → bytes.new ≡ bytes.old }
+    ensures needed { result ≢ 0 → result ≢ 17 → result ≢ 18 → needed.new ≡ needed.old }
 {
     if sector_size == 0 || !are_apart(head, tail, disk_size) {
         return BAD_ARGUMENT;
@@ -219,13 +239,12 @@ pub extern "C" fn gptman_new(
 
 // The answer of a call that plans nothing.
 fn refuse(refusal: &Refusal, needed: &mut Needed) -> u32
-    ensures lacks { (head tail : List ℕ) → (size : ℕ) → IsRefusal head tail size refusal.now → result ≡ 17
-        → ¬ IsKnown (length head) (length tail) size (needed.new.from, needed.new.length) }
-    ensures numbers { (head tail : List ℕ) → (size : ℕ) → IsRefusal head tail size refusal.now
-        → (0 < result) × (result ≤ 19) × (result ≢ 18) }
+    ensures answer { result ≡ refusal_number refusal.now }
+    ensures needed { needed.new ≡ needed_after refusal.now needed.old }
 {
     match refusal {
-        Refusal::Answer(answer) => *answer,
+        Refusal::BadArgument => BAD_ARGUMENT,
+        Refusal::Refused(fault) => number_of(fault),
         Refusal::Lacks(lack) => {
             needed.from = lack.from;
             needed.length = lack.length;
@@ -238,6 +257,9 @@ fn refuse(refusal: &Refusal, needed: &mut Needed) -> u32
 fn give(plan: &Record, steps: &mut [Step], bytes: &mut [u8], needed: &mut Needed) -> u32
     ensures given { result ≡ 0 → acts_of bytes.new (take needed.new.steps steps.new)
         ≡ acts_of plan.now.bytes.items plan.now.steps.items }
+    ensures fits { result ≡ 0 → (needed.new.steps ≤ length steps.new) × (needed.new.bytes ≤ length bytes.new) }
+    ensures steps_fit { result ≡ 0
+        → steps_fit plan.now.size needed.new.bytes (take needed.new.steps steps.new) ≡ true }
     ensures room { result ≡ 18
         → (length steps.old < needed.new.steps) ⊎ (length bytes.old < needed.new.bytes) }
     ensures either { (result ≡ 0) ⊎ (result ≡ 18) }

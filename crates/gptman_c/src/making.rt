@@ -7,14 +7,13 @@ ghost use Rattle.gptman.specs.Reading.{primary};
 ghost use Rattle.gptman.specs.Table.{entries_in, new_table_of, table_in, IsHeaderForm, Table};
 ghost use Rattle.gptman_c.specs.Ends.{disk_bytes, HasEnds};
 ghost use Rattle.gptman_c.specs.Plan.{acts_of};
-ghost use Rattle.gptman_c.specs.Planning.{IsNewPlan, IsRefusal, IsReplaced, IsWrittenPlan};
+ghost use Rattle.gptman_c.specs.Planning.{IsNewPlan, IsNewRefusal, IsReplaced, IsTableRefusal, IsWrittenPlan};
 
 use crate::ends::Ends;
-use crate::faults::{BAD_ARGUMENT, OUT_OF_MEMORY, number_of};
 use crate::places::{lack_of_places, lack_of_steps};
 use crate::planning::Refusal;
 use crate::record::Record;
-use gptman::GPT;
+use gptman::{Error, GPT};
 use std::alloc::Global;
 
 /// The steps that write a new table of so many unused entries to a disk with these ends.
@@ -32,10 +31,11 @@ pub(crate) fn plan_new(
     ensures plan { IfOk result (λ plan. (b : List ℕ) → HasEnds b head.now tail.now size
         → IsNewPlan (length head.now) (length tail.now) b (new_table_of count disk_guid sector_size size)
         (acts_of plan.bytes.items plan.steps.items)) }
-    ensures refused { IfErr result (IsRefusal head.now tail.now size) }
+    ensures size { IfOk result (λ plan. plan.size ≡ size) }
+    ensures refused { IfErr result (IsNewRefusal head.now tail.now size sector_size count disk_guid) }
 {
     if count == 0 || size < sector_size {
-        return Err(Refusal::Answer(BAD_ARGUMENT));
+        return Err(Refusal::BadArgument);
     }
     let table = make(alloc, head, tail, size, sector_size, disk_guid, count)?;
     match lack_of_places(head, tail, size, &table) {
@@ -62,12 +62,16 @@ fn make(
     requires sector { 0 < sector_size }
     requires apart { length head.now + length tail.now ≤ size }
     ensures value { IfOk result (λ g. g ≡ new_table_of count disk_guid sector_size size) }
-    ensures refused { IfErr result (IsRefusal head.now tail.now size) }
+    ensures refused { IfErr result (IsNewRefusal head.now tail.now size sector_size count disk_guid) }
 {
     let mut disk = Ends::new(alloc, head, tail, size);
-    match GPT::with_entries(alloc, &mut disk, sector_size, disk_guid, count) {
+    let table = GPT::with_entries(alloc, &mut disk, sector_size, disk_guid, count);
+    if disk.failures != 0 {
+        return Err(Refusal::Refused(Error::OutOfMemory));
+    }
+    match table {
         Ok(table) => Ok(table),
-        Err(fault) => Err(Refusal::Answer(number_of(&fault))),
+        Err(fault) => Err(Refusal::Refused(fault)),
     }
 }
 
@@ -84,7 +88,7 @@ fn record_new(
     requires form { IsHeaderForm primary table.header }
     requires apart { length head.now + length tail.now ≤ size }
     ensures size { IfOk result (λ plan. plan.size ≡ size) }
-    ensures refused { IfErr result (IsRefusal head.now tail.now size) }
+    ensures refused { IfErr result (IsTableRefusal head.now tail.now size table) }
     ensures written { IfOk result (λ plan. HasLayout table size
         → IsWrittenPlan (disk_bytes head.now tail.now size) table.sector_size (table_in table)
         (acts_of plan.bytes.items plan.steps.items)) }
@@ -95,10 +99,10 @@ fn record_new(
     let mut disk = Ends::new(alloc, head, tail, size);
     let written = table.write_into(&mut disk);
     if disk.failures != 0 || !disk.is_over(head, tail, size) {
-        return Err(Refusal::Answer(OUT_OF_MEMORY));
+        return Err(Refusal::Refused(Error::OutOfMemory));
     }
     match written {
         Ok(_header) => Ok(disk.into_plan()),
-        Err(fault) => Err(Refusal::Answer(number_of(&fault))),
+        Err(fault) => Err(Refusal::Refused(fault)),
     }
 }

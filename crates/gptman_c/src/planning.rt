@@ -8,22 +8,22 @@ ghost use Rattle.gptman.specs.Table.{entries_in, table_in};
 ghost use Rattle.gptman_c.specs.Crossing.{with_partitions};
 ghost use Rattle.gptman_c.specs.Ends.{disk_bytes, HasEnds};
 ghost use Rattle.gptman_c.specs.Plan.{acts_of};
-ghost use Rattle.gptman_c.specs.Planning.{IsPlan, IsRefusal, IsSafePlan};
+ghost use Rattle.gptman_c.specs.Planning.{IsPlan, IsPlanRefusal, IsRewriteRefusal, IsSafePlan};
 
 use crate::ends::Ends;
-use crate::faults::{BAD_ARGUMENT, OUT_OF_MEMORY, number_of};
 use crate::places::{lack_of_places, lack_of_steps};
 use crate::reading::{Lack, Reading, read};
 use crate::record::Record;
 use crate::records::Partition;
 use crate::writing::rewrite;
-use gptman::GPT;
+use gptman::{Error, GPT};
 use std::alloc::Global;
 
-/// Why nothing is planned: the answer of the call, or bytes that are lacking.
+/// Why nothing is planned.
 #[derive(Drop)]
 pub(crate) enum Refusal {
-    Answer(u32),
+    BadArgument,
+    Refused(Error),
     Lacks(Lack),
 }
 
@@ -40,16 +40,17 @@ pub(crate) fn plan(
     requires apart { length head.now + length tail.now ≤ size }
     ensures plan { IfOk result (λ plan. (b : List ℕ) → HasEnds b head.now tail.now size
         → IsPlan b sector_size partitions.now (acts_of plan.bytes.items plan.steps.items)) }
-    ensures refused { IfErr result (IsRefusal head.now tail.now size) }
+    ensures size { IfOk result (λ plan. plan.size ≡ size) }
+    ensures refused { IfErr result (IsPlanRefusal head.now tail.now size sector_size partitions.now) }
 {
     let table = match read(alloc, head, tail, size, sector_size) {
         Reading::Table { table, .. } => table,
-        Reading::Fault(fault) => return Err(Refusal::Answer(number_of(&fault))),
+        Reading::Fault(fault) => return Err(Refusal::Refused(fault)),
         Reading::Lacks(lack) => return Err(Refusal::Lacks(lack)),
     };
     let count = u64::from(table.header.number_of_partition_entries);
     if count == 0 || partitions.len() as u64 != count || size < sector_size {
-        return Err(Refusal::Answer(BAD_ARGUMENT));
+        return Err(Refusal::BadArgument);
     }
     match lack_of_places(head, tail, size, &table) {
         None => {}
@@ -76,7 +77,7 @@ fn record_write(
     requires count { length partitions.now ≡ length (entries_in table.now) }
     requires apart { length head.now + length tail.now ≤ size }
     ensures size { IfOk result (λ plan. plan.size ≡ size) }
-    ensures refused { IfErr result (IsRefusal head.now tail.now size) }
+    ensures refused { IfErr result (IsRewriteRefusal head.now tail.now size table.now partitions.now) }
     ensures safe { IfOk result (λ plan. IsReadInForm (disk_bytes head.now tail.now size) table.now
         → IsLaidOut (with_partitions table.now partitions.now) table.now.sector_size size
         → IsSafePlan (disk_bytes head.now tail.now size) table.now.sector_size (table_in table.now)
@@ -85,10 +86,10 @@ fn record_write(
     let mut disk = Ends::new(alloc, head, tail, size);
     let written = rewrite(alloc, &mut disk, table, partitions);
     if disk.failures != 0 || !disk.is_over(head, tail, size) {
-        return Err(Refusal::Answer(OUT_OF_MEMORY));
+        return Err(Refusal::Refused(Error::OutOfMemory));
     }
     match written {
         Ok(_next) => Ok(disk.into_plan()),
-        Err(fault) => Err(Refusal::Answer(number_of(&fault))),
+        Err(fault) => Err(Refusal::Refused(fault)),
     }
 }

@@ -74,6 +74,10 @@ impl Record {
     pub(crate) fn give(&self, steps: &mut [Step], bytes: &mut [u8]) -> bool
         ensures given { result ≡ true → acts_of bytes.new (take (length self.now.steps.items) steps.new)
             ≡ acts_of self.now.bytes.items self.now.steps.items }
+        ensures fits { result ≡ true → (length self.now.steps.items ≤ length steps.new)
+            × (length self.now.bytes.items ≤ length bytes.new) }
+        ensures steps_fit { result ≡ true → steps_fit self.now.size (length self.now.bytes.items)
+            (take (length self.now.steps.items) steps.new) ≡ true }
         ensures room { result ≡ false → (length steps.old < length self.now.steps.items)
             ⊎ (length bytes.old < length self.now.bytes.items) }
         ensures steps { result ≡ false → steps.new ≡ steps.old }

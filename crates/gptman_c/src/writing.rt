@@ -1,13 +1,15 @@
 //! The write of a table, on a disk that records it.
 
-ghost use Rattle.std.specs.Prelude.{◌≡◌, ◌<◌, [], ◌∷◌, length, IfErr, IfOk, OnOk};
+ghost use Rattle.std.specs.Prelude.{◌≡◌, ◌<◌, ◌⊎◌, [], ◌∷◌, length, IfErr, IfOk, OnOk};
 ghost use Rattle.gptman.specs.Copy.{IsCoherent};
 ghost use Rattle.gptman.specs.Crash.{IsReadInForm};
 ghost use Rattle.gptman.specs.Disk.{AgreesOutside, IsHonest, LeavesOnly};
+ghost use Rattle.gptman.specs.Fault.{fault_of, out_of_memory};
 ghost use Rattle.gptman.specs.Layout.{IsLaidOut};
 ghost use Rattle.gptman.specs.Stop.{IsStored, StopsHold};
 ghost use Rattle.gptman.specs.Table.{entries_in, table_in};
 ghost use Rattle.gptman_c.specs.Crossing.{four_ranges, with_partitions};
+ghost use Rattle.gptman_c.specs.Planning.{RefusesRewrite};
 
 use crate::partitions::entries_of;
 use crate::records::Partition;
@@ -30,6 +32,8 @@ pub(crate) fn rewrite<D: Disk>(
     requires count { length partitions.now ≡ length (entries_in table.now) }
     ensures table { IfOk result (λ next. table_in next ≡ with_partitions table.now partitions.now) }
     ensures sector { IfOk result (λ next. next.sector_size ≡ table.now.sector_size) }
+    ensures refused { IfErr result (λ e. (fault_of e ≡ out_of_memory)
+        ⊎ RefusesRewrite table.now partitions.now (fault_of e) (D.state disk.old) (D.state disk.new)) }
     ensures synced { IsHonest (D.state disk.old) → OnOk result ((D.state disk.new).pending ≡ []) }
 
     // From one good copy.

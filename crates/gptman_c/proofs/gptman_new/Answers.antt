@@ -1,14 +1,51 @@
-use Rattle.std.proofs.Common.{arith}
+use Rattle.std.proofs.Common.{◌≡◌, ◌<◌, ◌≤◌, ◌⊎◌, ◌+◌, length, inr, sym, ◌∙◌, subst, arith}
+use Rattle.gptman_c.proofs.Refused.{bad_of, fault_of_number, lacks_of, not_told, numbers}
+use Rattle.gptman_c.specs.Ends.{IsKnown}
+use Rattle.gptman_c.specs.declared.records.Needed.{Needed}
+use Rattle.gptman_c.specs.Planning.{RefusesNew}
 use Rattle.gptman_c.proofs.gptman_new.Goals as goal
 
 pub returns-in-Err-clause-plan : goal.returns-in-Err-clause-plan
-returns-in-Err-clause-plan c = λ zero b ends. absurd (omega (arith, zero, (c.refuse.ensures.numbers c.args.head.now c.args.tail.now c.args.disk_size c.in-Err.ensures.refused).0))
+returns-in-Err-clause-plan c = λ zero b ends. absurd (omega (arith, zero, c.refuse.ensures.answer, (numbers c.in-Err.refusal).0))
+
+pub returns-in-Err-clause-fits : goal.returns-in-Err-clause-fits
+returns-in-Err-clause-fits c = λ zero. absurd (omega (arith, zero, c.refuse.ensures.answer, (numbers c.in-Err.refusal).0))
+
+pub returns-in-Err-clause-steps_fit : goal.returns-in-Err-clause-steps_fit
+returns-in-Err-clause-steps_fit c = λ zero. absurd (omega (arith, zero, c.refuse.ensures.answer, (numbers c.in-Err.refusal).0))
+
+pub returns-in-Err-clause-refused : goal.returns-in-Err-clause-refused
+returns-in-Err-clause-refused c = λ above below other.
+    let a = c.args in
+    let told = fault_of_number ((a.table.now.entry_count ≡ 0) ⊎ (a.disk_size < a.sector_size)) (RefusesNew a.table.now.entry_count a.table.now.disk_guid a.sector_size a.disk_size)
+    a.head.now a.tail.now a.disk_size c.in-Err.refusal c.in-Err.ensures.refused (omega (arith, below, c.refuse.ensures.answer)) (λ is. other (c.refuse.ensures.answer ∙ is)) in
+    record { fault = told.fault; holds = told.holds; number_is = told.number_is ∙ sym c.refuse.ensures.answer }
+
+pub returns-in-Err-clause-bad : goal.returns-in-Err-clause-bad
+returns-in-Err-clause-bad c = λ nineteen.
+    let a = c.args in
+    inr (bad_of ((a.table.now.entry_count ≡ 0) ⊎ (a.disk_size < a.sector_size)) (RefusesNew a.table.now.entry_count a.table.now.disk_guid a.sector_size a.disk_size)
+    a.head.now a.tail.now a.disk_size c.in-Err.refusal c.in-Err.ensures.refused (sym c.refuse.ensures.answer ∙ nineteen))
 
 pub returns-in-Err-clause-lacks : goal.returns-in-Err-clause-lacks
-returns-in-Err-clause-lacks c = c.refuse.ensures.lacks c.args.head.now c.args.tail.now c.args.disk_size c.in-Err.ensures.refused
+returns-in-Err-clause-lacks c = λ seventeen.
+    let a = c.args in
+    let told = lacks_of ((a.table.now.entry_count ≡ 0) ⊎ (a.disk_size < a.sector_size)) (RefusesNew a.table.now.entry_count a.table.now.disk_guid a.sector_size a.disk_size)
+    a.head.now a.tail.now a.disk_size c.in-Err.refusal a.needed.now c.in-Err.ensures.refused (sym c.refuse.ensures.answer ∙ seventeen) in
+    subst (λ (n : Needed). ¬ IsKnown (length a.head.now) (length a.tail.now) a.disk_size (n.from, n.length)) (sym c.refuse.ensures.needed) told.0
+
+pub returns-in-Err-clause-within : goal.returns-in-Err-clause-within
+returns-in-Err-clause-within c = λ seventeen.
+    let a = c.args in
+    let told = lacks_of ((a.table.now.entry_count ≡ 0) ⊎ (a.disk_size < a.sector_size)) (RefusesNew a.table.now.entry_count a.table.now.disk_guid a.sector_size a.disk_size)
+    a.head.now a.tail.now a.disk_size c.in-Err.refusal a.needed.now c.in-Err.ensures.refused (sym c.refuse.ensures.answer ∙ seventeen) in
+    subst (λ (n : Needed). n.from + n.length ≤ a.disk_size) (sym c.refuse.ensures.needed) told.1
 
 pub returns-in-Err-clause-room : goal.returns-in-Err-clause-room
-returns-in-Err-clause-room c = λ is. absurd ((c.refuse.ensures.numbers c.args.head.now c.args.tail.now c.args.disk_size c.in-Err.ensures.refused).2 is)
+returns-in-Err-clause-room c = λ eighteen. absurd ((numbers c.in-Err.refusal).1 (sym c.refuse.ensures.answer ∙ eighteen))
 
 pub returns-in-Err-clause-most : goal.returns-in-Err-clause-most
-returns-in-Err-clause-most c = (c.refuse.ensures.numbers c.args.head.now c.args.tail.now c.args.disk_size c.in-Err.ensures.refused).1
+returns-in-Err-clause-most c = omega (arith, c.refuse.ensures.answer, (numbers c.in-Err.refusal).2)
+
+pub returns-in-Err-clause-needed : goal.returns-in-Err-clause-needed
+returns-in-Err-clause-needed c = λ zero seventeen eighteen. c.refuse.ensures.needed ∙ not_told c.in-Err.refusal c.args.needed.now (λ is. seventeen (c.refuse.ensures.answer ∙ is))

@@ -1,9 +1,11 @@
-use Rattle.std.proofs.Common.{refl, arith}
+use Rattle.std.proofs.Common.{inr, refl}
+use Rattle.gptman.specs.Fault.{fault_of}
 use Rattle.gptman_c.specs.Ends.{disk_bytes}
 use Rattle.gptman_c.specs.Plan.{acts_of}
 use Rattle.gptman_c.proofs.Known.{length-disk_bytes}
 use Rattle.gptman_c.proofs.New.{replaced_zero, written_zero}
 use Rattle.gptman_c.proofs.Planned.{begins_at, ends_after}
+use Rattle.gptman_c.proofs.Refused.{table_refused}
 use Rattle.gptman_c.proofs.making.record_new.Goals as goal
 
 pub returns-in-Ok-clause-written : goal.returns-in-Ok-clause-written
@@ -28,6 +30,5 @@ returns-in-Ok-clause-replaced c = λ layout was.
 
 pub returns-clause-refused : goal.returns-clause-refused
 returns-clause-refused c =
-    let low = c.number_of.ensures.least in
-    let high = c.number_of.ensures.most in
-    (low, omega (arith, high), λ is. absurd (omega (arith, high, is)), λ is. absurd (omega (arith, high, is)))
+    let a = c.args in
+    inr (table_refused a.table (fault_of c.in-Err.fault) _ _ a.size c.new-disk.ensures.size c.if-disk-ne0.false c.in-Err.ensures.refused)

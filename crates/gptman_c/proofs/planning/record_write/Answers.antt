@@ -1,8 +1,10 @@
 use Rattle.std.proofs.Common.{refl}
+use Rattle.gptman.specs.Fault.{fault_of}
 use Rattle.gptman_c.specs.Ends.{disk_bytes}
 use Rattle.gptman_c.specs.Plan.{acts_of}
 use Rattle.gptman_c.proofs.Known.{length-disk_bytes}
 use Rattle.gptman_c.proofs.Planned.{begins_at, ends_after, safe_zero}
+use Rattle.gptman_c.proofs.Refused.{unfit}
 use Rattle.gptman_c.proofs.planning.record_write.Goals as goal
 
 pub returns-in-Ok-clause-safe : goal.returns-in-Ok-clause-safe
@@ -14,3 +16,8 @@ returns-in-Ok-clause-safe c =
     let after = ends_after c.rewrite-written.new.disk c.into_plan.result a.head.now a.tail.now a.size (over.head refl) (over.tail refl) (over.size refl) c.into_plan.ensures in
     safe_zero (disk_bytes a.head.now a.tail.now a.size) a.size a.table.now a.partitions.now (acts_of c.into_plan.result.bytes.items c.into_plan.result.steps.items) _ _
     (length-disk_bytes a.head.now a.tail.now a.size c.requires.apart) begins after c.in-Ok.ensures.holds c.in-Ok.ensures.others c.in-Ok.ensures.stored
+
+pub returns-in-Err-clause-refused : goal.returns-in-Err-clause-refused
+returns-in-Err-clause-refused c =
+    let a = c.args in
+    unfit a.table.now a.partitions.now (fault_of c.in-Err.fault) _ _ a.size c.new-disk.ensures.size c.if-disk-ne0.false c.in-Err.ensures.refused
