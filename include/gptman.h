@@ -141,8 +141,8 @@ uint32_t gptman_write(const uint8_t *head, size_t head_length, const uint8_t *ta
 /* Plans the write of a new table, of unused entries alone: of `table` disk_guid and entry_count are read.
  *
  * The ends, sizes and arrays are as for gptman_write, and so are the steps. The backup copy is written first. A
- * table that stood in the primary place is there, or the new one, where you stop; this is so where both of its
- * copies lie in the ends, and its primary copy is clear of the new backup copy. No protective MBR is written.
+ * table that stood in the primary place is there, or the new one, where you stop; this is so where its primary
+ * copy is clear of the new backup copy. No protective MBR is written.
  *
  * GPTMAN_OVERFLOW, GPTMAN_INVALID_PARTITION_BOUNDARIES: the disk has too few sectors for two copies.
  * GPTMAN_BAD_ARGUMENT: also where entry_count is 0, or the disk is shorter than a sector.
@@ -150,6 +150,24 @@ uint32_t gptman_write(const uint8_t *head, size_t head_length, const uint8_t *ta
 uint32_t gptman_new(const uint8_t *head, size_t head_length, const uint8_t *tail, size_t tail_length,
                     uint64_t disk_size, uint64_t sector_size, const gptman_table *table, gptman_step *steps,
                     size_t step_count, uint8_t *bytes, size_t byte_count, gptman_needed *needed);
+
+/* Plans the write of the table that a disk holds, fitted to the length that the disk has now: it has become longer or
+ * shorter than the table was made for. The usable sectors and the place of the backup copy become those of that
+ * length; the partitions stay as they are.
+ *
+ * The ends, sizes and arrays are as for gptman_write, `disk_size` as it is now, and so are the steps. Where the primary
+ * copy is read, the backup copy is written first, at its new place, so that where you stop, or the power fails, the
+ * disk holds the old table or the fitted one, whatever else is on it; this is so where the primary copy stands in
+ * its place and the fitted table has the layout that docs/FORMAT.md states. No protective MBR is written.
+ *
+ * The other answers are those of gptman_read and gptman_write, and
+ * GPTMAN_INVALID_PARTITION_BOUNDARIES: also where a partition would end past the last usable sector of a disk that has
+ *     become shorter;
+ * GPTMAN_OVERFLOW: also where the disk has too few sectors for two copies, or the table has no entries;
+ * GPTMAN_BAD_ARGUMENT: `sector_size` is 0, or the ends are together longer than the disk. */
+uint32_t gptman_fit(const uint8_t *head, size_t head_length, const uint8_t *tail, size_t tail_length,
+                    uint64_t disk_size, uint64_t sector_size, gptman_step *steps, size_t step_count, uint8_t *bytes,
+                    size_t byte_count, gptman_needed *needed);
 
 enum { GPTMAN_FIRST = 1, GPTMAN_LAST = 2, GPTMAN_BEST = 3 };
 

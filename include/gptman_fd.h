@@ -106,29 +106,39 @@ static inline uint32_t gptman_make_steps(int fd, const gptman_step *steps, uint6
     return GPTMAN_OK;
 }
 
-/* Plans with arrays of so much room: a new table, or where that is NULL the one that the disk holds, with these
- * for its entries. */
-static inline uint32_t gptman_plan_fd(const gptman_ends *ends, const gptman_table *table,
-                                      const gptman_partition *partitions, size_t count, gptman_step *steps,
+/* What is to be written: a new table, or the one that the disk holds, fitted to its length or with these for its
+ * entries. */
+typedef struct gptman_wanted {
+    const gptman_table *table;
+    int fits;
+    const gptman_partition *partitions;
+    size_t count;
+} gptman_wanted;
+
+/* Plans it with arrays of so much room. */
+static inline uint32_t gptman_plan_fd(const gptman_ends *ends, const gptman_wanted *wanted, gptman_step *steps,
                                       size_t step_count, uint8_t *bytes, size_t byte_count, gptman_needed *needed) {
-    if (table != NULL) {
+    if (wanted->table != NULL) {
         return gptman_new(ends->head, ends->head_length, ends->tail, ends->tail_length, ends->size,
-                          ends->sector_size, table, steps, step_count, bytes, byte_count, needed);
+                          ends->sector_size, wanted->table, steps, step_count, bytes, byte_count, needed);
+    }
+    if (wanted->fits) {
+        return gptman_fit(ends->head, ends->head_length, ends->tail, ends->tail_length, ends->size,
+                          ends->sector_size, steps, step_count, bytes, byte_count, needed);
     }
     return gptman_write(ends->head, ends->head_length, ends->tail, ends->tail_length, ends->size, ends->sector_size,
-                        partitions, count, steps, step_count, bytes, byte_count, needed);
+                        wanted->partitions, wanted->count, steps, step_count, bytes, byte_count, needed);
 }
 
-/* Writes such a table, and reads the ends anew. */
-static inline uint32_t gptman_make_fd(gptman_ends *ends, const gptman_table *table,
-                                      const gptman_partition *partitions, size_t count) {
+/* Writes it, and reads the ends anew. */
+static inline uint32_t gptman_make_fd(gptman_ends *ends, const gptman_wanted *wanted) {
     gptman_needed needed = {0, 0, 0, 0};
     gptman_step *steps = (gptman_step *)malloc(sizeof *steps);
     uint8_t *bytes = (uint8_t *)malloc(1);
     size_t step_count = 0, byte_count = 0;
     uint32_t answer = GPTMAN_OUT_OF_MEMORY;
     while (steps != NULL && bytes != NULL) {
-        answer = gptman_plan_fd(ends, table, partitions, count, steps, step_count, bytes, byte_count, &needed);
+        answer = gptman_plan_fd(ends, wanted, steps, step_count, bytes, byte_count, &needed);
         if (answer == GPTMAN_LACKS_ROOM) {
             free(steps), free(bytes);
             steps = (gptman_step *)malloc((needed.steps + 1) * sizeof *steps);
@@ -149,15 +159,23 @@ static inline uint32_t gptman_make_fd(gptman_ends *ends, const gptman_table *tab
 
 /* Writes the table that the disk holds, with these for its entries. */
 static inline uint32_t gptman_write_fd(gptman_ends *ends, const gptman_partition *partitions, size_t count) {
-    return gptman_make_fd(ends, NULL, partitions, count);
+    gptman_wanted wanted = {NULL, 0, partitions, count};
+    return gptman_make_fd(ends, &wanted);
+}
+
+/* Writes the table that the disk holds, fitted to the length that it had when the ends were opened. */
+static inline uint32_t gptman_fit_fd(gptman_ends *ends) {
+    gptman_wanted wanted = {NULL, 1, NULL, 0};
+    return gptman_make_fd(ends, &wanted);
 }
 
 /* Writes a new table of so many unused entries. */
 static inline uint32_t gptman_new_fd(gptman_ends *ends, const uint8_t *disk_guid, uint32_t entry_count) {
     gptman_table table = {{0}, 0, 0, 0, 0, 0};
     for (int i = 0; i < 16; i++) table.disk_guid[i] = disk_guid[i];
+    gptman_wanted wanted = {&table, 0, NULL, 0};
     table.entry_count = entry_count;
-    return gptman_make_fd(ends, &table, NULL, 0);
+    return gptman_make_fd(ends, &wanted);
 }
 
 #endif

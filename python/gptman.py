@@ -73,11 +73,12 @@ def _load():
                                                          POINTER(_Needed)]
     library.gptman_new.argtypes = ends + [POINTER(_Table), POINTER(_Step), c_size_t, POINTER(c_uint8), c_size_t,
                                           POINTER(_Needed)]
+    library.gptman_fit.argtypes = ends + [POINTER(_Step), c_size_t, POINTER(c_uint8), c_size_t, POINTER(_Needed)]
     library.gptman_place.argtypes = [POINTER(_Table)] + partitions + [c_uint64, c_uint32, POINTER(c_uint64)]
     library.gptman_crc32.argtypes = [c_char_p, c_size_t]
     library.gptman_version.argtypes = []
-    for call in (library.gptman_read, library.gptman_write, library.gptman_new, library.gptman_place,
-                 library.gptman_crc32, library.gptman_version):
+    for call in (library.gptman_read, library.gptman_write, library.gptman_new, library.gptman_fit,
+                 library.gptman_place, library.gptman_crc32, library.gptman_version):
         call.restype = c_uint32
     return library
 
@@ -196,6 +197,17 @@ class Disk:
         """The steps of `write`, each its kind (1 is a write, 2 a sync), its first byte on the disk, and where its
         bytes begin and end in the bytes that come with them."""
         return self._plan(_library.gptman_write, self._entries(), self.entry_count)
+
+    def fit(self):
+        """Fits the table to the length that the file has now, which may have become longer or shorter, in one write
+        that a stop does not tear, and reads it anew. What was changed in `partitions` and not written is lost."""
+        self._make(self.plan_fit())
+        self.read()
+
+    def plan_fit(self):
+        """The steps of `fit`, as `plan` has those of `write`."""
+        self.size = os.lseek(self._fd, 0, os.SEEK_END)
+        return self._plan(_library.gptman_fit)
 
     def find_place(self, size, choice="first"):
         """The first sector of a place for so many sectors, or None where there is none. A choice is the first

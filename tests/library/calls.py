@@ -214,6 +214,60 @@ def try_new(tally, library, program):
         tally.equals("its bytes", bytes(size), program.bytes_of("small.img"))
 
 
+def try_fits(tally, library, program):
+    """A table on an image that has become longer or shorter: the steps leave the bytes that `grow` of gptimg leaves,
+    and a stop before, after and within each leaves the old table or the fitted one."""
+    gptman, random_ = module(), random.Random(9)
+    start(program)
+    whole, states = program.bytes_of("disk.img"), 0
+    for size in SIZE + 512, SIZE + 100, 2 * SIZE, 9 * SIZE + 511, SIZE, SIZE - 512, SIZE - 7 * 512:
+        image = whole[:size] + random_.randbytes(max(size - SIZE, 0))
+        for name in "disk.img", "theirs.img", "ours.img":
+            program.write(name, image)
+        tally.equals(f"the status of grow on {size} bytes", 0, program.run("theirs.img", "512", "grow")[0])
+        with gptman.Disk(program.file("disk.img"), writable=True) as disk:
+            old = without_form(shown(disk))
+            steps, data = disk.plan_fit()
+        with gptman.Disk(program.file("ours.img"), writable=True) as disk:
+            disk.fit()
+            new = without_form(shown(disk))
+        tally.holds(f"the bytes that grow leaves on {size}", program.bytes_of("ours.img") == program.bytes_of("theirs.img"))
+        tally.equals(f"the syncs among the steps on {size} bytes", [1, 1], syncs_in(steps))
+        tally.holds(f"the steps alone leave them on {size}",
+                    bytes(left(random_, image, steps, data, len(steps), 0)) == program.bytes_of("theirs.img"))
+        for after in range(len(steps) + 1):
+            for torn in range(8):
+                program.write("left.img", bytes(left(random_, image, steps, data, after, torn)))
+                found = told(gptman, program.file("left.img"))
+                states += 1
+                tally.holds(f"the old table or the fitted one on {size} bytes, stop {after}.{torn}: {found}",
+                            without_form(found) in (old, new))
+    return f"{states} states"
+
+
+def try_fit_refusals(tally, library, program):
+    """What is refused of fitting is what grow refuses, and nothing is written then."""
+    gptman = module()
+    start(program)
+    whole = program.bytes_of("disk.img")
+    rows = [(SIZE - 8 * 512, whole[:SIZE - 8 * 512]), (34 * 512, whole[:34 * 512]), (33 * 512, whole[:33 * 512]),
+            (SIZE, bytes(512) * 2 + whole[1024:]), (2 * SIZE, bytes(512) * 2 + whole[1024:] + bytes(SIZE))]
+    for size, image in rows:
+        program.write("disk.img", image)
+        program.write("theirs.img", image)
+        status, out, _ = program.run("theirs.img", "512", "grow")
+        theirs = None if status == 0 else fault_in(out)
+        tally.equals(f"what fitting is refused with on {size} bytes", theirs,
+                     refusal(gptman, lambda: fit(gptman, program.file("disk.img"))))
+        tally.holds(f"its bytes on {size}", program.bytes_of("disk.img") == program.bytes_of("theirs.img"))
+
+
+def fit(gptman, path):
+    """Fits the table of an image."""
+    with gptman.Disk(path, writable=True) as disk:
+        disk.fit()
+
+
 def try_places(tally, library, program):
     """Places are those of a slow search, in the words of the format alone."""
     gptman, random_ = module(), random.Random(8)
@@ -323,6 +377,7 @@ def try_long(tally, library, program):
     tally.equals("with sectors of 4096 bytes", "x" * 36, table.read(program.file("big.img"), 4096).entries[1].name)
 
 
-SUBJECTS = {"damaged images": try_damaged, "stops among the steps": try_stops, "new tables": try_new, "places": try_places,
+SUBJECTS = {"damaged images": try_damaged, "stops among the steps": try_stops, "new tables": try_new,
+            "tables that are fitted": try_fits, "refusals of fitting": try_fit_refusals, "places": try_places,
             "refusals": try_refusals,
             "long tables": try_long}

@@ -87,6 +87,9 @@ static uint32_t call(room head, size_t first, room tail, size_t last, uint64_t s
     uint32_t fresh = gptman_new(head.at, first, tail.at, last, size, sector, &table, (gptman_step *)made.at, steps,
                                 data.at, bytes, &needed);
     if (fresh > 19 || (fresh == 0 && (needed.steps > steps || needed.bytes > bytes))) exit(11);
+    uint32_t fitted = gptman_fit(head.at, first, tail.at, last, size, sector, (gptman_step *)made.at, steps, data.at,
+                                 bytes, &needed);
+    if (fitted > 19 || (fitted == 0 && (needed.steps > steps || needed.bytes > bytes))) exit(13);
     uint64_t lba = 7;
     uint32_t place = gptman_place(&table, (gptman_partition *)partitions.at, count, draw_length(), (uint32_t)draw(5), &lba);
     if (place != 0 && (lba != 7 || (place != 8 && place != 19))) exit(12);
@@ -129,6 +132,10 @@ static int refuse_in_turn(void) {
         if (read == 0) {
             uint32_t answer = gptman_write(head.at, 17408, tail.at, 16896, image_size, 512, partitions, 128, steps, 64,
                                            bytes, sizeof bytes, &needed);
+            if (answer == 0) {
+                answer = gptman_fit(head.at, 17408, tail.at, 16896, image_size, 512, steps, 64, bytes, sizeof bytes,
+                                    &needed);
+            }
             if (answer == 0 && left >= 0) { left = -1; return refused; }
             if (answer != 15 && answer != 0) exit(7);
         } else if (read != 15 || after_read > 0) {

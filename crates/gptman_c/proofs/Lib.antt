@@ -2,13 +2,15 @@ pub mod Acts
 pub mod Aligned
 pub mod AnyMiddle
 pub mod AnyPlan
+pub mod Fitted
+pub mod InTurns
 pub mod Known
 pub mod KnownSteps
 pub mod Middle
-pub mod New
 pub mod Numbered
 pub mod Planned
 pub mod Refused
 pub mod Rewriting
 pub mod Steps
+pub mod TablePlans
 pub mod Told

@@ -106,7 +106,7 @@ overlay_both rs a b at bytes fits agrees = record {
     fits_b = omega (arith, fits, agrees.long)
 
 module _ (first last size : ℕ) (apart : first + last ≤ size) where
-  fits_known : (r : ℕ × ℕ) → IsKnown first last size r → r.0 + r.1 ≤ size
+  pub fits_known : (r : ℕ × ℕ) → IsKnown first last size r → r.0 + r.1 ≤ size
   fits_known r (inl before) = omega (arith, before, apart)
   fits_known r (inr behind) = behind.1
 

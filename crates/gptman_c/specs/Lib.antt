@@ -4,3 +4,4 @@ pub mod Faults
 pub mod Plan
 pub mod Planning
 pub mod Reading
+pub mod Turns

@@ -3,16 +3,16 @@ use Rattle.std.specs.Prelude.{◌≡◌, ◌≢◌, ◌<◌, ◌⊎◌, ◌+◌,
 use Rattle.gptman.specs.Copy.{Copy}
 use Rattle.gptman.specs.Disk.{AgreesOutside, DiskState}
 use Rattle.gptman.specs.Fault.{Fault, fault_of, out_of_memory}
-use Rattle.gptman_copy.specs.Fit.{fit_fault, new_header_of}
+use Rattle.gptman_copy.specs.Fit.{fit_fault, fit_header, new_header_of}
 use Rattle.gptman.specs.Layout.{HasLayout, Holds, IsLaidOut, copy_ranges_at}
 use Rattle.gptman.specs.Ranges.{AreClear}
 use Rattle.gptman.specs.Reading.{primary, backup, reading_of, taken_from}
 use Rattle.gptman.specs.Stop.{HoldsOneOf}
-use Rattle.gptman.specs.Table.{Table, entries_in, new_table_of, table_in, table_of, IsHeaderForm}
+use Rattle.gptman.specs.Table.{Table, entries_in, new_table_of, table_in, table_of, IsHeaderForm, IsInForm}
 use Rattle.gptman.specs.TableWrites.{RefusesTable, RefusesWrite}
+use Rattle.gptman_copy.specs.declared.codec.entry.GPTPartitionEntry.{GPTPartitionEntry}
 use Rattle.gptman_copy.specs.declared.codec.header.GPTHeader.{GPTHeader}
 use Rattle.gptman.specs.declared.table.GPT.{GPT}
-use Rattle.gptman_c.specs.Ends.{AreRangesKnown}
 use Rattle.gptman_c.specs.Crossing.{content_in, content_of, four_ranges}
 use Rattle.gptman_c.specs.Faults.{fault_number}
 use Rattle.gptman_c.specs.Plan.{Act, LeftBy, pending_of, view_of}
@@ -129,9 +129,48 @@ abbrev pub IsReplaced : List ℕ → ℕ → Table → Table → List Act → Ty
 IsReplaced start ss was next acts = Holds start ss primary was → AreClear (copy_ranges_at primary was ss (length start)) (copy_ranges_at backup next ss (length start))
     → (x : List ℕ) → LeftBy start acts 0 x → HoldsOneOf x ss (was ∷ next ∷ [])
 
--- The acts write the table of this value, where it has the stated layout, to a disk of which the first and the last so many bytes are known; and a table that is
--- replaced is not lost, where its places are among these.
-pub record IsNewPlan (first last : ℕ) (start : List ℕ) (g : GPT) (acts : List Act) : Type 0 where
+-- The acts write the table of this value, where it has the stated layout; and a table that is replaced is not lost, where the value has a primary header.
+pub record IsTablePlan (start : List ℕ) (g : GPT) (acts : List Act) : Type 0 where
   pub written : HasLayout g (length start) → IsWrittenPlan start g.sector_size (table_in g) acts
-  pub replaced : HasLayout g (length start) → (was : Table) → AreRangesKnown first last (length start) (four_ranges was g.sector_size (length start))
-      → IsReplaced start g.sector_size was (table_in g) acts
+  pub replaced : IsHeaderForm primary g.header → IsLaidOut (table_in g) g.sector_size (length start) → (was : Table) → IsReplaced start g.sector_size was (table_in g) acts
+
+-- The same of a new table, whose header is a primary one.
+pub record IsNewPlan (start : List ℕ) (g : GPT) (acts : List Act) : Type 0 where
+  pub written : HasLayout g (length start) → IsWrittenPlan start g.sector_size (table_in g) acts
+  pub replaced : HasLayout g (length start) → (was : Table) → IsReplaced start g.sector_size was (table_in g) acts
+
+-- the table of the copy, with its header fitted to a disk of len bytes
+abbrev pub fitted : Copy → ℕ → ℕ → Table
+fitted copy ss len = table_of (fit_header copy.header ss len) copy.entries
+
+-- The acts write the table that a disk of these bytes is read as, fitted to its length, where the fitted header is in one of the two forms and the table has the
+-- stated layout. Where the primary copy is read, and is in the form of its place, a stop leaves the old table or the fitted one at one place at least.
+pub record IsFitPlan (start : List ℕ) (ss : ℕ) (acts : List Act) : Type 0 where
+  pub copy : Copy
+  pub taken : reading_of start ss ≡ Ok copy
+  pub written : IsInForm (fit_header copy.header ss (length start)) → IsLaidOut (fitted copy ss (length start)) ss (length start)
+      → IsWrittenPlan start ss (fitted copy ss (length start)) acts
+  pub stops : taken_from start ss ≡ primary → IsHeaderForm primary copy.header → IsLaidOut (fitted copy ss (length start)) ss (length start)
+      → (x : List ℕ) → LeftBy start acts 0 x → HoldsOneOf x ss (table_of copy.header copy.entries ∷ fitted copy ss (length start) ∷ [])
+
+-- The table with this header and these entries may not be written to a disk of len bytes, for this fault.
+pub record IsUnfitTable (header : GPTHeader) (ss : ℕ) (entries : List GPTPartitionEntry) (len : ℕ) (fault : Fault) : Type 0 where
+  pub value : GPT
+  pub header_is : value.header ≡ header
+  pub sector : value.sector_size ≡ ss
+  pub entries_are : entries_in value ≡ entries
+  pub why : RefusesTable value len fault
+
+-- Why the table of a disk of these bytes is not written fitted to its length: it is not read, or the disk has too few sectors for it, or it may not be written.
+pub data RefusesFit (b : List ℕ) (ss : ℕ) (fault : Fault) : Type 0 where
+  is_not_read_to_fit : reading_of b ss ≡ Err fault → RefusesFit b ss fault
+  does_not_fit : (copy : Copy) → reading_of b ss ≡ Ok copy → fit_fault copy.header ss (length b) ≡ Some fault → RefusesFit b ss fault
+  is_unfit_fitted : (copy : Copy) → reading_of b ss ≡ Ok copy → IsUnfitTable (fit_header copy.header ss (length b)) ss copy.entries (length b) fault → RefusesFit b ss fault
+
+-- of a table that is fitted to a disk of that size
+abbrev pub IsSizeRefusal : List ℕ → List ℕ → ℕ → GPT → Refusal → Type 0
+IsSizeRefusal head tail size g refusal = IsRefusal ⊥ (λ fault. fit_fault g.header g.sector_size size ≡ Some fault) head tail size refusal
+
+-- of one that is read and fitted
+abbrev pub IsFitRefusal : List ℕ → List ℕ → ℕ → ℕ → Refusal → Type 0
+IsFitRefusal head tail size ss refusal = IsRefusal ⊥ (λ fault. OfEvery head tail size (λ b. RefusesFit b ss fault)) head tail size refusal

@@ -11,11 +11,12 @@ ghost use Rattle.gptman.specs.Table.{new_table_of};
 ghost use Rattle.gptman_c.specs.Crossing.{HasCount, IsOffer, IsRefused, IsTold};
 ghost use Rattle.gptman_c.specs.Ends.{HasEnds, IsKnown};
 ghost use Rattle.gptman_c.specs.Plan.{acts_of, steps_fit};
-ghost use Rattle.gptman_c.specs.Planning.{AreNoEnds, IsMiscounted, IsNewPlan, IsNumberOf, IsPlan, RefusesNew, RefusesPlan};
-ghost use Rattle.gptman_c.specs.Planning.{needed_after, refusal_number};
+ghost use Rattle.gptman_c.specs.Planning.{AreNoEnds, IsFitPlan, IsMiscounted, IsNewPlan, IsNumberOf, IsPlan};
+ghost use Rattle.gptman_c.specs.Planning.{needed_after, refusal_number, RefusesFit, RefusesNew, RefusesPlan};
 
 mod ends;
 mod faults;
+mod fitting;
 mod making;
 mod offers;
 mod partitions;
@@ -24,13 +25,16 @@ mod planning;
 mod reading;
 mod record;
 mod records;
+mod tables;
 mod tell;
+mod turns;
 mod writing;
 
 use crate::ends::are_apart;
 use crate::faults::{
     BAD_ARGUMENT, LACKS_BYTES, LACKS_ROOM, NO_SPACE_LEFT, OUT_OF_MEMORY, number_of,
 };
+use crate::fitting::plan_fit;
 use crate::making::plan_new;
 use crate::offers::find_place;
 use crate::planning::{Refusal, plan};
@@ -179,8 +183,8 @@ pub extern "C" fn gptman_write(
 /// `head`, `tail`, `disk_size` and `sector_size` are as for `gptman_read`, and the steps are told and to be made
 /// as those of `gptman_write`. Where the table has the stated layout, both places hold it after all of them, and
 /// no byte outside of the two copies is touched. The backup copy comes first. So of a table that stood in the
-/// primary place, and whose own copies lie in the ends, a stop among or within the steps leaves that one or the
-/// new one, where its primary copy lies clear of the new backup copy.
+/// primary place a stop among or within the steps leaves that one or the new one, where its primary copy lies
+/// clear of the new backup copy.
 ///
 /// The answers are those of `gptman_write`, but that nothing is read; 14 and 10 are a disk of too few sectors for
 /// two copies, 19 also a table of no entries, and a disk shorter than a sector.
@@ -197,8 +201,7 @@ pub extern "C" fn gptman_new(
     needed: &mut Needed,
 ) -> u32
     ensures plan { result ≡ 0 → (b : List ℕ) → HasEnds b head.now tail.now disk_size
-        → IsNewPlan (length head.now) (length tail.now) b
-        (new_table_of table.now.entry_count table.now.disk_guid sector_size disk_size)
+        → IsNewPlan b (new_table_of table.now.entry_count table.now.disk_guid sector_size disk_size)
         (acts_of bytes.new (take needed.new.steps steps.new)) }
     ensures fits { result ≡ 0 → (needed.new.steps ≤ length steps.new) × (needed.new.bytes ≤ length bytes.new) }
     ensures steps_fit { result ≡ 0
@@ -232,6 +235,69 @@ pub extern "C" fn gptman_new(
         table.entry_count,
     );
     match planned {
+        Ok(plan) => give(&plan, steps, bytes, needed),
+        Err(refusal) => refuse(&refusal, needed),
+    }
+}
+
+/// Plans the write of the table that a disk holds, fitted to the length that the disk has now: it has become
+/// longer or shorter than the table was made for. The last usable sector and the place of the backup copy become
+/// those of the new length; the entries stay as they are.
+///
+/// `head`, `tail`, `disk_size` and `sector_size` are as for `gptman_read`, `disk_size` as it is now, and the steps
+/// are told and to be made as those of `gptman_write`. Where the fitted table has the stated layout, both places
+/// hold it after all of them, and no byte outside of its two copies is touched. Where the primary copy is read, and
+/// stands in the form of its place, the backup copy comes first, at its new place: a stop among or within the steps
+/// leaves the old table or the fitted one at one place at least, whatever else is on the disk.
+///
+/// 0: `needed.steps` steps are in `steps`, and their bytes in `bytes`.
+///
+/// 1 to 16: the table cannot be read, as of `gptman_read`; or 9, two partitions have one GUID; 10, one ends before
+/// it starts, two share a sector, or one lies outside of the usable sectors, as one behind the last of them does on
+/// a disk that has become too short; 8 or 14, the disk has too few sectors for two copies, or the table has no
+/// entries; 15, there is no memory.
+///
+/// 17: neither `head` nor `tail` has all of the `needed.length` bytes of the disk from byte `needed.from` on,
+/// which have to be known for a plan.
+///
+/// 18: `steps` has no room for `needed.steps` steps, or `bytes` none for `needed.bytes` bytes.
+///
+/// 19: `sector_size` is 0, or the two ends together are longer than the disk.
+#[unsafe(no_mangle)]
+pub extern "C" fn gptman_fit(
+    alloc: Global,
+    head: &[u8],
+    tail: &[u8],
+    disk_size: u64,
+    sector_size: u64,
+    steps: &mut [Step],
+    bytes: &mut [u8],
+    needed: &mut Needed,
+) -> u32
+    ensures plan { result ≡ 0 → (b : List ℕ) → HasEnds b head.now tail.now disk_size
+        → IsFitPlan b sector_size (acts_of bytes.new (take needed.new.steps steps.new)) }
+    ensures fits { result ≡ 0 → (needed.new.steps ≤ length steps.new) × (needed.new.bytes ≤ length bytes.new) }
+    ensures steps_fit { result ≡ 0
+        → steps_fit disk_size needed.new.bytes (take needed.new.steps steps.new) ≡ true }
+    ensures refused { 0 < result → result ≤ 16 → result ≢ 15 → (b : List ℕ)
+        → HasEnds b head.now tail.now disk_size → IsNumberOf (RefusesFit b sector_size) result }
+    ensures lacks { result ≡ 17
+        → ¬ IsKnown (length head.now) (length tail.now) disk_size (needed.new.from, needed.new.length) }
+    ensures within { result ≡ 17 → needed.new.from + needed.new.length ≤ disk_size }
+    ensures room { result ≡ 18
+        → (length steps.old < needed.new.steps) ⊎ (length bytes.old < needed.new.bytes) }
+    ensures bad { result ≡ 19 → AreNoEnds head.now tail.now disk_size sector_size }
+    ensures most { result ≤ 19 }
+
+    // What is not told stays as it was.
+    ensures steps { result ≢ 0 → steps.new ≡ steps.old }
+    ensures bytes { result ≢ 0 → bytes.new ≡ bytes.old }
+    ensures needed { result ≢ 0 → result ≢ 17 → result ≢ 18 → needed.new ≡ needed.old }
+{
+    if sector_size == 0 || !are_apart(head, tail, disk_size) {
+        return BAD_ARGUMENT;
+    }
+    match plan_fit(alloc, head, tail, disk_size, sector_size) {
         Ok(plan) => give(&plan, steps, bytes, needed),
         Err(refusal) => refuse(&refusal, needed),
     }

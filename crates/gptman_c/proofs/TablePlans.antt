@@ -1,27 +1,28 @@
--- The plan of a new table.
-use Rattle.std.proofs.Common.{◌≡◌, ◌≤◌, ℕ, ◌+◌, List, [], ◌∷◌, length, refl, sym, ap, ◌∙◌, subst}
-use Rattle.gptman.specs.Crash.{IsKeptFor, StartsFromOne, StartsLaidOut, StartsSynced, StopsKeepOthers}
+-- The plan of a table's write.
+use Rattle.std.proofs.Common.{◌≡◌, ◌≤◌, ℕ, ◌+◌, List, [], length, refl, sym, ap, ◌∙◌, subst}
+use Rattle.gptman.specs.Crash.{StartsLaidOut, StartsSynced, StopsKeepOthers}
 use Rattle.gptman.specs.Disk.{AgreesOutside, DiskState, IsHonest}
-use Rattle.gptman.specs.Layout.{HasLayout, Holds, copy_ranges_at}
-use Rattle.gptman.specs.Ranges.{AreClear, AreInside}
+use Rattle.gptman.specs.Layout.{HasLayout, Holds, IsLaidOut}
+use Rattle.gptman.specs.Ranges.{AreInside}
 use Rattle.gptman.specs.Reading.{primary, backup}
-use Rattle.gptman.specs.Stop.{IsStored, StopsHold}
+use Rattle.gptman.specs.Stop.{IsStored}
 use Rattle.gptman.specs.Table.{Table, table_in, IsHeaderForm}
 use Rattle.gptman.specs.declared.table.GPT.{GPT}
 use Rattle.gptman_c.specs.Crossing.{four_ranges}
 use Rattle.gptman_c.specs.Ends.{AreRangesKnown, HasEnds, disk_bytes}
 use Rattle.gptman_c.specs.Plan.{Act, AreKnown, LeftBy, plan_state}
-use Rattle.gptman_c.specs.Planning.{IsNewPlan, IsReplaced, IsWrittenPlan}
-use Rattle.gptman_c.proofs.AnyMiddle.{after_any, holds_known, others_any, stops_any}
-use Rattle.gptman_c.proofs.AnyPlan.{at_side, both_places}
+use Rattle.gptman_c.specs.Planning.{IsNewPlan, IsReplaced, IsTablePlan, IsWrittenPlan}
+use Rattle.gptman_c.specs.Turns.{AreInTurns, header_ranges}
+use Rattle.gptman_c.proofs.AnyMiddle.{after_any, others_any}
+use Rattle.gptman_c.proofs.AnyPlan.{at_side}
 use Rattle.gptman_c.proofs.Known.{length-disk_bytes}
-use Rattle.gptman_c.proofs.Middle.{ends_zero, same_ends}
 use Rattle.gptman_c.proofs.Planned.{IsAfter}
+use Rattle.gptman_c.proofs.InTurns.{replaced}
 
 -- ---- what the write of a value does to the disk that records it
 
 module _ (start : List ℕ) (size : ℕ) (g : GPT) (acts : List Act) (old new : DiskState) (long : length start ≡ size) (begins : old ≡ plan_state start [] size 0 0) (after : IsAfter start acts new)
-    (form : IsHeaderForm primary g.header) (layout : HasLayout g size) where
+    (layout : HasLayout g size) where
   honest : IsHonest old
   honest = subst (λ (d : DiskState). IsHonest d) (sym begins) refl
 
@@ -53,23 +54,13 @@ module _ (start : List ℕ) (size : ℕ) (g : GPT) (acts : List Act) (old new : 
         at_backup = subst (λ (v : List ℕ). Holds v g.sector_size backup (table_in g)) after.view done.at_backup;
       }
 
-  pub replaced_zero : (was : Table) → (StartsFromOne old g was → StopsHold old new g.sector_size (was ∷ table_in g ∷ [])) → IsReplaced start g.sector_size was (table_in g) acts
-  replaced_zero was one_good held clear x left_by =
-      let kept : IsKeptFor old g was = record {
-        synced = synced;
-        side = primary;
-        form = form;
-        held = subst (λ (b : List ℕ). Holds b g.sector_size primary was) (sym view) held;
-        clear = subst (λ (n : ℕ). AreClear (copy_ranges_at primary was g.sector_size n) (copy_ranges_at backup (table_in g) g.sector_size n)) (long ∙ sym sized) clear;
-      } in
-      one_good (record { start = laid; kept = kept }) x (left x left_by)
-
 -- ---- and to every disk with these ends
 
 module _ (head tail : List ℕ) (size : ℕ) (apart : length head + length tail ≤ size) (g : GPT) (acts : List Act) (known : AreKnown (length head) (length tail) size acts)
     (places : AreInside (four_ranges (table_in g) g.sector_size size) size → AreRangesKnown (length head) (length tail) size (four_ranges (table_in g) g.sector_size size))
     (written : HasLayout g size → IsWrittenPlan (disk_bytes head tail size) g.sector_size (table_in g) acts)
-    (replaced : HasLayout g size → (was : Table) → IsReplaced (disk_bytes head tail size) g.sector_size was (table_in g) acts) (b : List ℕ) (ends : HasEnds b head tail size) where
+    (turns : IsHeaderForm primary g.header → AreInTurns (header_ranges backup g.header g.sector_size size) (header_ranges primary g.header g.sector_size size) acts)
+    (b : List ℕ) (ends : HasEnds b head tail size) where
   abbrev zero : List ℕ
   zero = disk_bytes head tail size
 
@@ -96,18 +87,14 @@ module _ (head tail : List ℕ) (size : ℕ) (apart : length head + length tail 
         at_backup = after_any head tail b size apart ends acts known g.sector_size backup (table_in g) (at_side (length head) (length tail) size g.sector_size (table_in g) backup (four layout)) plan.at_backup;
       }
 
-  replaced_any : HasLayout g (length b) → (was : Table) → AreRangesKnown (length head) (length tail) size (four_ranges was g.sector_size size) → IsReplaced b g.sector_size was (table_in g) acts
-  replaced_any layout was theirs held clear x left =
-      let back = same_ends b zero head tail size ends (ends_zero head tail size apart) in
-      let old : Holds zero g.sector_size primary was =
-      holds_known (length head) (length tail) size b zero g.sector_size primary was ends.long back (at_side (length head) (length tail) size g.sector_size was primary theirs) held in
-      let apart_there : AreClear (copy_ranges_at primary was g.sector_size (length zero)) (copy_ranges_at backup (table_in g) g.sector_size (length zero)) =
-      subst (λ (n : ℕ). AreClear (copy_ranges_at primary was g.sector_size n) (copy_ranges_at backup (table_in g) g.sector_size n)) (ends.long ∙ sym all) clear in
-      stops_any head tail b size apart ends acts known g.sector_size (was ∷ table_in g ∷ []) (both_places (length head) (length tail) size g.sector_size was (table_in g) theirs (four layout))
-      (replaced (here layout) was old apart_there) x left
+  replaced_any : IsHeaderForm primary g.header → IsLaidOut (table_in g) g.sector_size (length b) → (was : Table) → IsReplaced b g.sector_size was (table_in g) acts
+  replaced_any form laid was = replaced b (length head) (length tail) size g.sector_size apart ends.long (table_in g) acts known
+      (subst (λ (n : ℕ). IsLaidOut (table_in g) g.sector_size n) ends.long laid) (turns form)
+      (written_any (record { table = laid; side = primary; form = form })).at_backup was
 
-  pub new_any : IsNewPlan (length head) (length tail) b g acts
-  new_any = record {
-    written = written_any;
-    replaced = λ layout was theirs. replaced_any layout was (subst (λ (n : ℕ). AreRangesKnown (length head) (length tail) n (four_ranges was g.sector_size n)) ends.long theirs);
-  }
+  pub table_any : IsTablePlan b g acts
+  table_any = record { written = written_any; replaced = replaced_any }
+
+-- a new table has a primary header
+pub new_plan : (b : List ℕ) (g : GPT) (acts : List Act) → IsHeaderForm primary g.header → IsTablePlan b g acts → IsNewPlan b g acts
+new_plan b g acts form plan = record { written = plan.written; replaced = λ layout. plan.replaced form layout.table }
