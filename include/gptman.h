@@ -59,6 +59,13 @@ typedef struct gptman_needed {
     uint64_t length; /* how many bytes are lacking from there on */
 } gptman_needed;
 
+/* What the two copies of a table are, each by itself. */
+typedef struct gptman_copies {
+    uint32_t primary_fault; /* the fault of the copy in sector 1, or GPTMAN_OK */
+    uint32_t backup_fault;  /* the same of the copy in the last whole sector */
+    uint32_t are_same;      /* 1: both places hold one table, each in the form of its place; else 0 */
+} gptman_copies;
+
 /* What calls answer. */
 enum {
     GPTMAN_OK = 0,
@@ -113,6 +120,20 @@ static inline const char *gptman_fault_name(uint32_t answer) {
 uint32_t gptman_read(const uint8_t *head, size_t head_length, const uint8_t *tail, size_t tail_length,
                      uint64_t disk_size, uint64_t sector_size, gptman_table *table,
                      gptman_partition *partitions, size_t partition_count, gptman_needed *needed);
+
+/* Tells of each copy of the table by itself what its fault is, and whether both places hold one table: what
+ * `gptimg check` prints. gptman_read tells a table also where one copy has a fault.
+ *
+ * The ends and sizes are as for gptman_read.
+ *
+ * GPTMAN_OK: `copies` tells of both. A disk shorter than a sector has no backup copy, and
+ *     GPTMAN_INVALID_SIGNATURE there. Two copies without a fault are not the same where they are of two tables, or
+ *     one is not in the form of its place.
+ * GPTMAN_OUT_OF_MEMORY, GPTMAN_LACKS_BYTES, GPTMAN_BAD_ARGUMENT: as for gptman_read.
+ *
+ * What is not told stays as it was. */
+uint32_t gptman_check(const uint8_t *head, size_t head_length, const uint8_t *tail, size_t tail_length,
+                      uint64_t disk_size, uint64_t sector_size, gptman_copies *copies, gptman_needed *needed);
 
 /* Plans the write of the table that a disk holds, with other entries.
  *
@@ -169,6 +190,20 @@ uint32_t gptman_fit(const uint8_t *head, size_t head_length, const uint8_t *tail
                     uint64_t disk_size, uint64_t sector_size, gptman_step *steps, size_t step_count, uint8_t *bytes,
                     size_t byte_count, gptman_needed *needed);
 
+/* Where the protective MBR stands on a disk, and how many bytes it has. */
+enum { GPTMAN_MBR_START = 446, GPTMAN_MBR_LENGTH = 66 };
+
+/* Lays the protective MBR of a disk of so many bytes into the first GPTMAN_MBR_LENGTH places of `bytes`: one
+ * partition over the whole disk, for programs that know no GUID partition tables. Write them from byte
+ * GPTMAN_MBR_START on; gptman_new does not. `bootable` is 1 where the partition is to be marked as bootable, else 0.
+ *
+ * GPTMAN_OVERFLOW: the disk is shorter than a sector. GPTMAN_NO_SPACE_LEFT: it is shorter than 512 bytes.
+ * GPTMAN_OUT_OF_MEMORY: there is no memory. GPTMAN_LACKS_ROOM: `byte_count` is below GPTMAN_MBR_LENGTH.
+ * GPTMAN_BAD_ARGUMENT: `sector_size` is 0, or `bootable` above 1.
+ *
+ * What stands behind these bytes stays as it was, and all of `bytes` where there is another answer. */
+uint32_t gptman_mbr(uint64_t disk_size, uint64_t sector_size, uint32_t bootable, uint8_t *bytes, size_t byte_count);
+
 enum { GPTMAN_FIRST = 1, GPTMAN_LAST = 2, GPTMAN_BEST = 3 };
 
 /* Finds a place for a partition of `size` sectors (0 is taken as 1) among the sectors that a table with these
@@ -191,6 +226,7 @@ _Static_assert(sizeof(gptman_table) == 48, "the size of a table");
 _Static_assert(sizeof(gptman_partition) == 128, "the size of a partition");
 _Static_assert(sizeof(gptman_step) == 32, "the size of a step");
 _Static_assert(sizeof(gptman_needed) == 32, "the size of what is needed");
+_Static_assert(sizeof(gptman_copies) == 12, "the size of what two copies are");
 #endif
 
 #ifdef __cplusplus

@@ -91,6 +91,17 @@ static inline uint32_t gptman_read_fd(gptman_ends *ends, gptman_table *table, gp
     }
 }
 
+/* Tells of both copies. */
+static inline uint32_t gptman_check_fd(gptman_ends *ends, gptman_copies *copies) {
+    gptman_needed needed = {0, 0, 0, 0};
+    for (;;) {
+        uint32_t answer = gptman_check(ends->head, ends->head_length, ends->tail, ends->tail_length, ends->size,
+                                       ends->sector_size, copies, &needed);
+        if (answer != GPTMAN_LACKS_BYTES) return answer;
+        if ((answer = gptman_ends_add(ends, &needed)) != GPTMAN_OK) return answer;
+    }
+}
+
 /* Makes the steps in their order, and stops at the first that fails. */
 static inline uint32_t gptman_make_steps(int fd, const gptman_step *steps, uint64_t count, const uint8_t *bytes) {
     for (const gptman_step *step = steps; step < steps + count; step++) {
@@ -176,6 +187,17 @@ static inline uint32_t gptman_new_fd(gptman_ends *ends, const uint8_t *disk_guid
     gptman_wanted wanted = {&table, 0, NULL, 0};
     table.entry_count = entry_count;
     return gptman_make_fd(ends, &wanted);
+}
+
+/* Writes a protective MBR and syncs it, and reads the ends anew. */
+static inline uint32_t gptman_mbr_fd(gptman_ends *ends, int bootable) {
+    static const gptman_step steps[] = {{GPTMAN_WRITE, GPTMAN_MBR_START, GPTMAN_MBR_LENGTH, 0},
+                                        {GPTMAN_SYNC, 0, 0, 0}};
+    uint8_t bytes[GPTMAN_MBR_LENGTH];
+    uint32_t answer = gptman_mbr(ends->size, ends->sector_size, bootable != 0, bytes, sizeof bytes);
+    if (answer == GPTMAN_OK) answer = gptman_make_steps(ends->fd, steps, 2, bytes);
+    if (answer == GPTMAN_OK) answer = gptman_ends_take(ends, ends->head_length, ends->tail_length);
+    return answer;
 }
 
 #endif

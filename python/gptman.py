@@ -12,8 +12,9 @@ import os
 import uuid
 from ctypes import POINTER, byref, c_char_p, c_size_t, c_uint8, c_uint16, c_uint32, c_uint64
 from dataclasses import dataclass, field
+from typing import NamedTuple, Optional
 
-__all__ = ["Disk", "Fault", "Partition", "crc32", "version"]
+__all__ = ["Copies", "Disk", "Fault", "Partition", "check", "crc32", "version"]
 
 # The names of the faults, from 1 on.
 FAULTS = ("Io InvalidSignature InvalidRevision InvalidHeaderSize InvalidChecksum "
@@ -22,6 +23,7 @@ FAULTS = ("Io InvalidSignature InvalidRevision InvalidHeaderSize InvalidChecksum
           "OutOfMemory InvalidPartitionEntrySize LacksBytes LacksRoom BadArgument").split()
 NO_SPACE_LEFT, LACKS_BYTES, LACKS_ROOM = 8, 17, 18
 SYNC = 2
+MBR_START, MBR_LENGTH = 446, 66
 MOST_ENTRIES, MOST_BYTES = 1 << 20, 1 << 28
 
 
@@ -46,6 +48,15 @@ class Partition:
     unique_guid: uuid.UUID = field(default_factory=uuid.uuid4)
 
 
+class Copies(NamedTuple):
+    """What the two copies of a table are, each by itself: the name of its fault, or None; and whether both places hold
+    one table, each in the form of its place."""
+
+    primary_fault: Optional[str]
+    backup_fault: Optional[str]
+    are_same: bool
+
+
 class _Table(ctypes.Structure):
     _fields_ = [("disk_guid", c_uint8 * 16), ("first_usable_lba", c_uint64), ("last_usable_lba", c_uint64),
                 ("align", c_uint64), ("entry_count", c_uint32), ("is_backup", c_uint32)]
@@ -64,6 +75,10 @@ class _Needed(ctypes.Structure):
     _fields_ = [("steps", c_uint64), ("bytes", c_uint64), ("from_", c_uint64), ("length", c_uint64)]
 
 
+class _Copies(ctypes.Structure):
+    _fields_ = [("primary_fault", c_uint32), ("backup_fault", c_uint32), ("are_same", c_uint32)]
+
+
 def _load():
     library = ctypes.CDLL(os.environ.get("GPTMAN_LIBRARY", "libgptman.so.1"))
     ends = [c_char_p, c_size_t, c_char_p, c_size_t, c_uint64, c_uint64]
@@ -74,11 +89,14 @@ def _load():
     library.gptman_new.argtypes = ends + [POINTER(_Table), POINTER(_Step), c_size_t, POINTER(c_uint8), c_size_t,
                                           POINTER(_Needed)]
     library.gptman_fit.argtypes = ends + [POINTER(_Step), c_size_t, POINTER(c_uint8), c_size_t, POINTER(_Needed)]
+    library.gptman_check.argtypes = ends + [POINTER(_Copies), POINTER(_Needed)]
+    library.gptman_mbr.argtypes = [c_uint64, c_uint64, c_uint32, POINTER(c_uint8), c_size_t]
     library.gptman_place.argtypes = [POINTER(_Table)] + partitions + [c_uint64, c_uint32, POINTER(c_uint64)]
     library.gptman_crc32.argtypes = [c_char_p, c_size_t]
     library.gptman_version.argtypes = []
     for call in (library.gptman_read, library.gptman_write, library.gptman_new, library.gptman_fit,
-                 library.gptman_place, library.gptman_crc32, library.gptman_version):
+                 library.gptman_check, library.gptman_mbr, library.gptman_place, library.gptman_crc32,
+                 library.gptman_version):
         call.restype = c_uint32
     return library
 
@@ -91,10 +109,21 @@ def crc32(data):
     return _library.gptman_crc32(bytes(data), len(data))
 
 
+def check(path, sector_size=512):
+    """What the two copies of the table on a disk image or block device are, also where no table can be read."""
+    with _File(path, sector_size, False) as file:
+        return file.check()
+
+
 def version():
     """The version of the library, as three numbers."""
     number = _library.gptman_version()
     return number >> 16, number >> 8 & 255, number & 255
+
+
+def _name_of(number):
+    """The name of a fault, or None where there is none."""
+    return FAULTS[number - 1] if number else None
 
 
 def _bytes_of(guid):
@@ -127,31 +156,18 @@ def _partition_of(entry):
                      _guid_of(entry.unique_guid))
 
 
-class Disk:
-    """A disk image or block device, with the table that it holds.
+class _File:
+    """A disk image or block device, of which the two ends are read."""
 
-    `partitions` has the used entries by their numbers, from 1 on. Change it, and `write` writes the table. The
-    sector size is in bytes. A call that is refused raises `Fault`; one that the system refuses, `OSError`.
-    """
-
-    def __init__(self, path, sector_size=512, writable=False, new=None):
+    def __init__(self, path, sector_size, writable):
         self.sector_size = sector_size
-        self._fd = os.open(path, os.O_RDWR if writable or new else os.O_RDONLY)
+        self._fd = os.open(path, os.O_RDWR if writable else os.O_RDONLY)
+        self._lengths = 2 * sector_size + 16384, sector_size + 16384
         try:
             self.size = os.lseek(self._fd, 0, os.SEEK_END)
-            self._lengths = 2 * sector_size + 16384, sector_size + 16384
-            if new:
-                self._make(self._plan_new(*new))
-            self.read()
-        except BaseException:
+        except OSError:
             self.close()
             raise
-
-    @classmethod
-    def create(cls, path, sector_size=512, disk_guid=None, entry_count=128):
-        """Writes a new table of so many unused entries, over any that is there, and gives the disk. The GUID is a
-        random one where none is given. No protective MBR is written."""
-        return cls(path, sector_size, True, (disk_guid or uuid.uuid4(), entry_count))
 
     def __enter__(self):
         return self
@@ -164,6 +180,90 @@ class Disk:
         if self._fd >= 0:
             os.close(self._fd)
             self._fd = -1
+
+    def check(self):
+        """What the two copies of the table are by now."""
+        copies, needed = _Copies(), _Needed()
+        while True:
+            answer = _library.gptman_check(*self._ends(), byref(copies), byref(needed))
+            if answer == LACKS_BYTES:
+                self._add(needed)
+            elif answer:
+                raise Fault(answer)
+            else:
+                return Copies(_name_of(copies.primary_fault), _name_of(copies.backup_fault), bool(copies.are_same))
+
+    def write_mbr(self, bootable=False):
+        """Writes a protective MBR, which shows the whole disk as one partition to programs that know no GUID partition
+        tables. The partition may be marked as bootable."""
+        data = (c_uint8 * MBR_LENGTH)()
+        answer = _library.gptman_mbr(self.size, self.sector_size, bool(bootable), data, MBR_LENGTH)
+        if answer:
+            raise Fault(answer)
+        self._write_all(bytes(data), MBR_START)
+        os.fsync(self._fd)
+
+    def _make(self, plan):
+        """Makes the steps of a plan in their order."""
+        steps, data = plan
+        for kind, offset, start, end in steps:
+            if kind == SYNC:
+                os.fsync(self._fd)
+            else:
+                self._write_all(data[start:end], offset)
+
+    def _ends(self):
+        """The two ends, as a call takes them."""
+        first = min(self._lengths[0], self.size)
+        last = min(self._lengths[1], self.size - first)
+        head, tail = self._read_all(first, 0), self._read_all(last, self.size - last)
+        return head, first, tail, last, self.size, self.sector_size
+
+    def _add(self, needed):
+        """Makes the end longer that is nearer to the bytes that are lacking."""
+        first, last = needed.from_ + needed.length, self.size - needed.from_
+        if min(first, last) > MOST_BYTES:
+            raise Fault(LACKS_BYTES)
+        self._lengths = (first, self._lengths[1]) if first <= last else (self._lengths[0], last)
+
+    def _read_all(self, length, at):
+        pieces = []
+        while length:
+            piece = os.pread(self._fd, length, at)
+            if not piece:
+                raise OSError("the disk ends before its length")
+            pieces.append(piece)
+            length, at = length - len(piece), at + len(piece)
+        return b"".join(pieces)
+
+    def _write_all(self, data, at):
+        while data:
+            done = os.pwrite(self._fd, data, at)
+            data, at = data[done:], at + done
+
+
+class Disk(_File):
+    """A disk image or block device, with the table that it holds.
+
+    `partitions` has the used entries by their numbers, from 1 on. Change it, and `write` writes the table. The
+    sector size is in bytes. A call that is refused raises `Fault`; one that the system refuses, `OSError`.
+    """
+
+    def __init__(self, path, sector_size=512, writable=False, new=None):
+        super().__init__(path, sector_size, writable or new)
+        try:
+            if new:
+                self._make(self._plan_new(*new))
+            self.read()
+        except BaseException:
+            self.close()
+            raise
+
+    @classmethod
+    def create(cls, path, sector_size=512, disk_guid=None, entry_count=128):
+        """Writes a new table of so many unused entries, over any that is there, and gives the disk. The GUID is a
+        random one where none is given. No protective MBR is written."""
+        return cls(path, sector_size, True, (disk_guid or uuid.uuid4(), entry_count))
 
     def read(self):
         """Reads the table anew."""
@@ -248,41 +348,3 @@ class Disk:
                 return [(s.kind, s.offset, s.start, s.start + s.length) for s in made], bytes(data)
             elif answer != LACKS_ROOM:
                 raise Fault(answer)
-
-    def _make(self, plan):
-        """Makes the steps of a plan in their order."""
-        steps, data = plan
-        for kind, offset, start, end in steps:
-            if kind == SYNC:
-                os.fsync(self._fd)
-            else:
-                self._write_all(data[start:end], offset)
-
-    def _ends(self):
-        """The two ends, as a call takes them."""
-        first = min(self._lengths[0], self.size)
-        last = min(self._lengths[1], self.size - first)
-        head, tail = self._read_all(first, 0), self._read_all(last, self.size - last)
-        return head, first, tail, last, self.size, self.sector_size
-
-    def _add(self, needed):
-        """Makes the end longer that is nearer to the bytes that are lacking."""
-        first, last = needed.from_ + needed.length, self.size - needed.from_
-        if min(first, last) > MOST_BYTES:
-            raise Fault(LACKS_BYTES)
-        self._lengths = (first, self._lengths[1]) if first <= last else (self._lengths[0], last)
-
-    def _read_all(self, length, at):
-        pieces = []
-        while length:
-            piece = os.pread(self._fd, length, at)
-            if not piece:
-                raise OSError("the disk ends before its length")
-            pieces.append(piece)
-            length, at = length - len(piece), at + len(piece)
-        return b"".join(pieces)
-
-    def _write_all(self, data, at):
-        while data:
-            done = os.pwrite(self._fd, data, at)
-            data, at = data[done:], at + done

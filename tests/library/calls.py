@@ -95,7 +95,105 @@ def try_damaged(tally, library, program):
             refused += 1
         backups += " form backup " in out
         tally.equals(f"what is read of damaged image {number}", theirs, ours)
+        tally.equals(f"what is told of both copies of damaged image {number}",
+                     program.run("damaged.img", "512", "check")[1], checked(gptman, program.file("damaged.img")))
     return f"{refused} refused, {backups} from the backup copy"
+
+
+def checked(gptman, path, sector=512):
+    """What the module tells of both copies of an image, as the lines of `gptimg IMAGE SECTOR check`."""
+    try:
+        copies = gptman.check(path, sector)
+    except gptman.Fault as fault:
+        return f"fault: {fault.name}\n"
+    lines = [f"{place} fault {name}" if name else f"{place} ok"
+             for place, name in (("primary", copies.primary_fault), ("backup", copies.backup_fault))]
+    return "".join(f"{line}\n" for line in lines + [f"same {('no', 'yes')[copies.are_same]}"])
+
+
+def try_copies(tally, library, program):
+    """What is told of both copies is what gptimg tells, also of copies that are not one table, of short images and of
+    other sectors."""
+    gptman, over_fd = module(), by_descriptor(library)
+    start(program)
+    good = program.bytes_of("disk.img")
+    program.run("disk.img", "512", "add", "2", "af3dc60f838472478e793d69d8477de4", "30" * 16, "8", "first", "8", "new")
+    other = program.bytes_of("disk.img")
+    images = {"good": good, "of two tables": good[:SIZE // 2] + other[SIZE // 2:], "longer": good + bytes(SIZE),
+              "empty": b"", "below a sector": bytes(100), "one sector": good[:512], "two sectors": good[:1024],
+              "turned": turned(good)}
+    path = program.file("other.img")
+    for what, data in images.items():
+        program.write("other.img", data)
+        for sector in 512, 520, 4096, 1 << 40:
+            wanted = program.run("other.img", str(sector), "check")[1]
+            what_of = f"both copies of an image that is {what}, with sectors of {sector}"
+            tally.equals(what_of, wanted, checked(gptman, path, sector))
+            tally.equals(f"{what_of}, over a file descriptor", wanted, printed(over_fd, path, str(sector), "check"))
+    with gptman.Disk(program.file("disk.img")) as disk:
+        tally.equals("the copies of an open disk", (None, None, True), disk.check())
+    tally.equals("a sector size of 0", "BadArgument", refusal(gptman, lambda: gptman.check(path, 0)))
+    if not os.path.exists("/usr/sbin/sgdisk"):
+        return "sgdisk is not installed: long tables are left out"
+    program.make_image("long.img", 64 << 20)
+    path = program.file("long.img")
+    subprocess.run(["sgdisk", "-S", "1000", path], check=True, stdout=subprocess.DEVNULL, stderr=subprocess.DEVNULL)
+    tally.equals("both copies of a table of 1000 entries", (None, None, True), gptman.check(path))
+    tally.equals("both copies of it, over a file descriptor", "primary ok\nbackup ok\nsame yes\n",
+                 printed(over_fd, path, "512", "check"))
+
+
+def turned(data):
+    """The image with its headers each in the place of the other."""
+    return data[:512] + data[-512:] + data[1024:-512] + data[512:1024]
+
+
+def by_descriptor(library):
+    """The program fd.c, which makes the calls of gptman_fd.h."""
+    return library.compile(os.path.join(TOP, "tests", "library", "fd.c"), "fd")
+
+
+def printed(*words):
+    """What a program prints."""
+    return subprocess.run(words, stdout=subprocess.PIPE, check=False).stdout.decode()
+
+
+def try_mbr(tally, library, program):
+    """A protective MBR is that of gptimg, byte for byte, and so is what is refused."""
+    gptman, over_fd = module(), by_descriptor(library)
+    sizes = [0, 100, 511, 512, 513, 1024, 4095, 4096, SIZE, 1 << 20, (1 << 41) - 512, (1 << 41) + 512, (1 << 41) + 1024]
+    for size in sizes:
+        for sector in 1, 91, 512, 520, 4096, 1 << 40:
+            for kind in "plain", "bootable":
+                what = f"an MBR ({kind}) on {size} bytes with sectors of {sector}"
+                wanted = with_mbr(program, size, lambda path: printed(program.path, path, str(sector), "mbr", kind))
+                tally.equals(what, wanted, with_mbr(
+                    program, size, lambda path: mbr_by_module(gptman, path, sector, kind)))
+                tally.equals(f"{what}, over a file descriptor", wanted, with_mbr(
+                    program, size, lambda path: printed(over_fd, path, str(sector), kind)))
+    start(program)
+    with gptman.Disk(program.file("disk.img"), writable=True) as disk:
+        disk.write_mbr(bootable=True)
+        disk.sector_size = 0
+        tally.equals("an MBR for sectors of no bytes", "BadArgument", refusal(gptman, disk.write_mbr))
+    tally.equals("byte 446 of a bootable disk", 0x80, program.bytes_of("disk.img")[446])
+
+
+def with_mbr(program, size, write):
+    """What is printed of the write of an MBR to a sparse image, and the image's first bytes and length then."""
+    path = program.file("mbr.img")
+    program.write("mbr.img", (b"\xa5" * 600)[:size])
+    os.truncate(path, size)
+    told_of_it = write(path)
+    with open(path, "rb") as image:
+        return told_of_it, image.read(4096), image.seek(0, os.SEEK_END)
+
+
+def mbr_by_module(gptman, path, sector, kind):
+    """Writes an MBR by the module. Gives the line that gptimg prints."""
+    with gptman._File(path, sector, True) as file:
+        fault = refusal(gptman, lambda: file.write_mbr(kind == "bootable"))
+    return f"fault: {fault}\n" if fault else "ok\n"
 
 
 def fault_in(line):
@@ -377,7 +475,7 @@ def try_long(tally, library, program):
     tally.equals("with sectors of 4096 bytes", "x" * 36, table.read(program.file("big.img"), 4096).entries[1].name)
 
 
-SUBJECTS = {"damaged images": try_damaged, "stops among the steps": try_stops, "new tables": try_new,
-            "tables that are fitted": try_fits, "refusals of fitting": try_fit_refusals, "places": try_places,
-            "refusals": try_refusals,
+SUBJECTS = {"damaged images": try_damaged, "both copies": try_copies, "protective MBRs": try_mbr,
+            "stops among the steps": try_stops, "new tables": try_new, "tables that are fitted": try_fits,
+            "refusals of fitting": try_fit_refusals, "places": try_places, "refusals": try_refusals,
             "long tables": try_long}

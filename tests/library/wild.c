@@ -68,6 +68,23 @@ static uint64_t draw_length(void) {
     return draw(4) == 0 ? odd[draw(sizeof odd / sizeof *odd)] : draw(MOST);
 }
 
+/* A look at both copies, and an MBR that ends where the array does. */
+static void call_others(room head, size_t first, room tail, size_t last, uint64_t size, uint64_t sector, room data,
+                        size_t bytes) {
+    gptman_copies copies = {77, 77, 77};
+    gptman_needed needed;
+    memset(&needed, 0, sizeof needed);
+    uint32_t looked = gptman_check(head.at, first, tail.at, last, size, sector, &copies, &needed);
+    if (looked != 0 && looked != 17 && looked != 19) exit(13);
+    if (looked != 0 && (copies.primary_fault != 77 || copies.backup_fault != 77 || copies.are_same != 77)) exit(20);
+    if (looked == 0 && (copies.primary_fault > 16 || copies.backup_fault > 16 || copies.are_same > 1)) exit(14);
+    if (looked == 17 && needed.from + needed.length > size) exit(15);
+    size_t count = draw(2) || bytes < 130 ? bytes : draw(130);
+    uint32_t mbr = gptman_mbr(size, sector, (uint32_t)draw(3), data.at + (bytes - count), count);
+    if (mbr != 0 && mbr != 8 && mbr != 14 && mbr != 18 && mbr != 19) exit(16);
+    if ((mbr == 0 && count < GPTMAN_MBR_LENGTH) || (mbr == 18 && count >= GPTMAN_MBR_LENGTH)) exit(17);
+}
+
 /* One call of each kind with these ends. Answers what gptman_write answered. */
 static uint32_t call(room head, size_t first, room tail, size_t last, uint64_t size, uint64_t sector, size_t count,
                      size_t steps, size_t bytes) {
@@ -90,6 +107,7 @@ static uint32_t call(room head, size_t first, room tail, size_t last, uint64_t s
     uint32_t fitted = gptman_fit(head.at, first, tail.at, last, size, sector, (gptman_step *)made.at, steps, data.at,
                                  bytes, &needed);
     if (fitted > 19 || (fitted == 0 && (needed.steps > steps || needed.bytes > bytes))) exit(13);
+    call_others(head, first, tail, last, size, sector, data, bytes);
     uint64_t lba = 7;
     uint32_t place = gptman_place(&table, (gptman_partition *)partitions.at, count, draw_length(), (uint32_t)draw(5), &lba);
     if (place != 0 && (lba != 7 || (place != 8 && place != 19))) exit(12);
@@ -147,11 +165,31 @@ static int refuse_in_turn(void) {
     exit(10);
 }
 
+/* The same of a look at both copies and of an MBR. */
+static int refuse_others_in_turn(void) {
+    room head = take(17408, 1, 1), tail = take(16896, 1, 1);
+    memcpy(head.at, image, 17408), memcpy(tail.at, image + image_size - 16896, 16896);
+    for (int k = 0; k < 4000; k++) {
+        gptman_copies copies = {77, 77, 77};
+        gptman_needed needed;
+        static uint8_t bytes[GPTMAN_MBR_LENGTH];
+        memset(&needed, 0, sizeof needed);
+        left = k;
+        uint32_t answer = gptman_check(head.at, 17408, tail.at, 16896, image_size, 512, &copies, &needed);
+        if (answer == 0) answer = gptman_mbr(image_size, 512, 0, bytes, sizeof bytes);
+        if (answer == 0 && left >= 0) { left = -1; return k; }
+        if (answer != 15 && answer != 0) exit(18);
+        left = -1;
+        if (taken != given) exit(9);
+    }
+    exit(19);
+}
+
 int main(int argc, char **argv) {
     FILE *file = argc == 3 ? fopen(argv[1], "rb") : NULL;
     if (file == NULL) return 2;
     image_size = fread(image, 1, MOST, file);
-    int refused = refuse_in_turn(), done = 0;
+    int refused = refuse_in_turn() + refuse_others_in_turn(), done = 0;
     long runs = atol(argv[2]);
     for (long k = 0; k < runs; k++) done += call_at_random() == 0;
     if (taken != given) return 9;

@@ -2,6 +2,7 @@ pub mod Acts
 pub mod Aligned
 pub mod AnyMiddle
 pub mod AnyPlan
+pub mod Checked
 pub mod Fitted
 pub mod InTurns
 pub mod Known
@@ -9,6 +10,7 @@ pub mod KnownSteps
 pub mod Middle
 pub mod Numbered
 pub mod Planned
+pub mod RecordedMbr
 pub mod Refused
 pub mod Rewriting
 pub mod Steps

@@ -81,7 +81,7 @@ module _ (bad : Type 0) (why : Fault → Type 0) (head tail : List ℕ) (size : 
 -- ---- a write that was tried
 
 -- the disk did not fail
-not_failed : (old new : DiskState) → new.failures ≡ 0 → Rose old new → ⊥
+pub not_failed : (old new : DiskState) → new.failures ≡ 0 → Rose old new → ⊥
 not_failed old new none rose = ⊎_elim (λ more. omega (arith, none, more)) (λ most. omega (arith, none, most)) rose
 
 pub table_refused : (g : GPT) (fault : Fault) (old new : DiskState) (size : ℕ) → old.size ≡ size → new.failures ≡ 0 → RefusesWrite g fault old new → RefusesTable g size fault

@@ -224,18 +224,31 @@ module _ (head tail : List ℕ) (size : ℕ) (apart : length head + length tail 
     unfolding copy_in
     backup_is b = refl
 
-    -- the disk is shorter than a sector
-    pub without_backup : IsCopyTold head tail size ss ss → is_ok (copy_at (disk_bytes head tail size) ss ss) ≡ false → size < ss → IsToldAt head tail size ss backup
-    without_backup told bad short = at_backup told bad (λ b ends. none b ends.long ∙ sym (none (disk_bytes head tail size) (length-disk_bytes head tail size apart)))
+    -- A copy that is told at the first byte of sector 1 is the primary one.
+    pub primary_told : IsCopyTold head tail size ss ss → OfEvery head tail size (λ b. copy_in primary b ss ≡ copy_in primary (disk_bytes head tail size) ss)
+    unfolding copy_in
+    primary_told told = told
+
+    -- A disk that is shorter than a sector has no backup copy.
+    pub no_backup_told : size < ss → OfEvery head tail size (λ b. copy_in backup b ss ≡ copy_in backup (disk_bytes head tail size) ss)
+    no_backup_told short = λ b ends. none b ends.long ∙ sym (none (disk_bytes head tail size) (length-disk_bytes head tail size apart))
       where
         none : (x : List ℕ) → length x ≡ size → copy_in backup x ss ≡ Err invalid_signature
         none x long =
             let yes : ltb (length x) ss ≡ true = le-leb (suc (length x)) ss (omega (arith, short, long)) in
             backup_is x ∙ ap (λ (t : Bool). elim t [ true ↦ Err invalid_signature | false ↦ copy_at x (copy_start backup (length x) ss) ss ]) yes
 
-    -- the backup copy is told
-    pub with_backup : IsCopyTold head tail size ss ss → is_ok (copy_at (disk_bytes head tail size) ss ss) ≡ false → IsCopyTold head tail size (copy_start backup size ss) ss → IsToldAt head tail size ss backup
-    with_backup told bad other = at_backup told bad (λ b ends. at_size b ends.long ∙ ap (backup_from size) (other b ends) ∙ sym (at_size (disk_bytes head tail size) (length-disk_bytes head tail size apart)))
+    -- One that is told at the first byte of the last whole sector is the backup one.
+    pub backup_told : IsCopyTold head tail size (copy_start backup size ss) ss → OfEvery head tail size (λ b. copy_in backup b ss ≡ copy_in backup (disk_bytes head tail size) ss)
+    backup_told other = λ b ends. at_size b ends.long ∙ ap (backup_from size) (other b ends) ∙ sym (at_size (disk_bytes head tail size) (length-disk_bytes head tail size apart))
       where
         at_size : (x : List ℕ) → length x ≡ size → copy_in backup x ss ≡ backup_from size (copy_at x (copy_start backup size ss) ss)
         at_size x long = backup_is x ∙ ap (λ (n : ℕ). backup_from n (copy_at x (copy_start backup n ss) ss)) long
+
+    -- the disk is shorter than a sector
+    pub without_backup : IsCopyTold head tail size ss ss → is_ok (copy_at (disk_bytes head tail size) ss ss) ≡ false → size < ss → IsToldAt head tail size ss backup
+    without_backup told bad short = at_backup told bad (no_backup_told short)
+
+    -- the backup copy is told
+    pub with_backup : IsCopyTold head tail size ss ss → is_ok (copy_at (disk_bytes head tail size) ss ss) ≡ false → IsCopyTold head tail size (copy_start backup size ss) ss → IsToldAt head tail size ss backup
+    with_backup told bad other = at_backup told bad (backup_told other)

@@ -1,3 +1,4 @@
+pub mod Checking
 pub mod Crossing
 pub mod Ends
 pub mod Faults

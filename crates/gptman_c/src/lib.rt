@@ -5,15 +5,19 @@
 #![tactic(auto)]
 
 ghost use Rattle.std.specs.Prelude.{◌≡◌, ◌≢◌, ◌≤◌, ◌<◌, ◌⊎◌, ◌+◌, ℕ, List, None, Some, length, take, true};
+ghost use Rattle.std.specs.Prelude.{drop, nat_eq};
 ghost use Rattle.gptman.specs.Crc.{crc_of};
+ghost use Rattle.gptman.specs.Mbr.{mbr_bytes, mbr_fault};
 ghost use Rattle.gptman.specs.Reading.{reading_of, taken_from};
 ghost use Rattle.gptman.specs.Table.{new_table_of};
+ghost use Rattle.gptman_c.specs.Checking.{IsCheckTold};
 ghost use Rattle.gptman_c.specs.Crossing.{HasCount, IsOffer, IsRefused, IsTold};
 ghost use Rattle.gptman_c.specs.Ends.{HasEnds, IsKnown};
 ghost use Rattle.gptman_c.specs.Plan.{acts_of, steps_fit};
 ghost use Rattle.gptman_c.specs.Planning.{AreNoEnds, IsFitPlan, IsMiscounted, IsNewPlan, IsNumberOf, IsPlan};
 ghost use Rattle.gptman_c.specs.Planning.{needed_after, refusal_number, RefusesFit, RefusesNew, RefusesPlan};
 
+mod checking;
 mod ends;
 mod faults;
 mod fitting;
@@ -22,6 +26,7 @@ mod offers;
 mod partitions;
 mod places;
 mod planning;
+mod protective;
 mod reading;
 mod record;
 mod records;
@@ -30,6 +35,7 @@ mod tell;
 mod turns;
 mod writing;
 
+use crate::checking::{Look, look_at_both};
 use crate::ends::are_apart;
 use crate::faults::{
     BAD_ARGUMENT, LACKS_BYTES, LACKS_ROOM, NO_SPACE_LEFT, OUT_OF_MEMORY, number_of,
@@ -38,11 +44,12 @@ use crate::fitting::plan_fit;
 use crate::making::plan_new;
 use crate::offers::find_place;
 use crate::planning::{Refusal, plan};
+use crate::protective::plan_mbr;
 use crate::reading::{Reading, read};
 use crate::record::Record;
 use crate::tell::tell;
 use gptman::crc::crc32;
-pub use records::{Needed, Partition, Step, Table};
+pub use records::{Check, Needed, Partition, Step, Table};
 use std::alloc::Global;
 
 /// Reads the table of a disk.
@@ -108,6 +115,60 @@ pub extern "C" fn gptman_read(
             needed.length = lack.length;
             LACKS_BYTES
         }
+    }
+}
+
+/// Tells of each copy of a table by itself what its fault is, and whether both places hold one table: what
+/// `gptimg check` prints.
+///
+/// `head`, `tail`, `disk_size` and `sector_size` are as for `gptman_read`. What is answered is so whatever the disk
+/// has between the two ends.
+///
+/// 0: `check` tells of both copies. A disk shorter than a sector has no backup copy, and fault 2 there. Two copies
+/// without a fault are not the same where they are of two tables, or one is not in the form of its place.
+///
+/// 15: there is no memory. This says nothing of the disk.
+///
+/// 17: neither `head` nor `tail` has all of the `needed.length` bytes of the disk from byte `needed.from` on.
+///
+/// 19: `sector_size` is 0, or the two ends together are longer than the disk.
+#[unsafe(no_mangle)]
+pub extern "C" fn gptman_check(
+    alloc: Global,
+    head: &[u8],
+    tail: &[u8],
+    disk_size: u64,
+    sector_size: u64,
+    check: &mut Check,
+    needed: &mut Needed,
+) -> u32
+    ensures check { result ≡ 0 → (b : List ℕ) → HasEnds b head.now tail.now disk_size
+        → IsCheckTold b sector_size check.new }
+    ensures lacks { result ≡ 17
+        → ¬ IsKnown (length head.now) (length tail.now) disk_size (needed.new.from, needed.new.length) }
+    ensures within { result ≡ 17 → needed.new.from + needed.new.length ≤ disk_size }
+    ensures bad { result ≡ 19
+        → (sector_size ≡ 0) ⊎ (disk_size < length head.now + length tail.now) }
+    ensures answers { (result ≡ 0) ⊎ ((result ≡ 15) ⊎ ((result ≡ 17) ⊎ (result ≡ 19))) }
+
+    // What is not told stays as it was.
+    ensures kept { result ≢ 0 → check.new ≡ check.old }
+    ensures needed { result ≢ 17 → needed.new ≡ needed.old }
+{
+    if sector_size == 0 || !are_apart(head, tail, disk_size) {
+        return BAD_ARGUMENT;
+    }
+    match look_at_both(alloc, head, tail, disk_size, sector_size) {
+        Ok(Look::Told(told)) => {
+            *check = told;
+            0
+        }
+        Ok(Look::Unknown(lack)) => {
+            needed.from = lack.from;
+            needed.length = lack.length;
+            LACKS_BYTES
+        }
+        Err(_) => OUT_OF_MEMORY,
     }
 }
 
@@ -338,6 +399,49 @@ fn give(plan: &Record, steps: &mut [Step], bytes: &mut [u8], needed: &mut Needed
         0
     } else {
         LACKS_ROOM
+    }
+}
+
+/// Lays the protective MBR of a disk of so many bytes into the first 66 places of `bytes`. They stand on the disk from
+/// byte 446 on, and show the whole disk as one partition to a program that knows no GUID partition tables. Where
+/// `bootable` is 1, that partition is marked as bootable; else it is 0.
+///
+/// 0: the 66 bytes are there, and those behind them as they were.
+///
+/// 8: the disk is shorter than 512 bytes. 14: it is shorter than a sector. 15: there is no memory.
+///
+/// 18: `bytes` is shorter than 66. 19: `sector_size` is 0, or `bootable` above 1.
+#[unsafe(no_mangle)]
+pub extern "C" fn gptman_mbr(
+    alloc: Global,
+    disk_size: u64,
+    sector_size: u64,
+    bootable: u32,
+    bytes: &mut [u8],
+) -> u32
+    ensures bytes { result ≡ 0 → take 66 bytes.new ≡ mbr_bytes (nat_eq bootable 1) sector_size disk_size }
+    ensures rest { drop 66 bytes.new ≡ drop 66 bytes.old }
+    ensures fits { result ≡ 0 → mbr_fault sector_size disk_size ≡ None }
+    ensures refused { 0 < result → result ≤ 14
+        → IsNumberOf (λ fault. mbr_fault sector_size disk_size ≡ Some fault) result }
+    ensures room { result ≡ 18 → length bytes.old < 66 }
+    ensures bad { result ≡ 19 → (sector_size ≡ 0) ⊎ (1 < bootable) }
+    ensures answers { (result ≡ 0) ⊎ ((result ≡ 8) ⊎ ((result ≡ 14)
+        ⊎ ((result ≡ 15) ⊎ ((result ≡ 18) ⊎ (result ≡ 19))))) }
+    ensures kept { result ≢ 0 → bytes.new ≡ bytes.old }
+{
+    if sector_size == 0 || bootable > 1 {
+        return BAD_ARGUMENT;
+    }
+    if bytes.len() < 66 {
+        return LACKS_ROOM;
+    }
+    match plan_mbr(alloc, disk_size, sector_size, bootable == 1) {
+        Ok(plan) => {
+            bytes[..66].copy_from_slice(&plan.bytes);
+            0
+        }
+        Err(fault) => number_of(&fault),
     }
 }
 

@@ -10,7 +10,7 @@ use crate::ends::Ends;
 use crate::planning::Refusal;
 use crate::record::Record;
 use crate::tables::plan_table;
-use gptman::GPT;
+use gptman::{Error, GPT};
 use std::alloc::Global;
 
 /// The steps that write a new table of so many unused entries to a disk with these ends.

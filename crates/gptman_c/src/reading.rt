@@ -120,8 +120,8 @@ fn has_primary(alloc: Global, head: &[u8], tail: &[u8], size: u64, sector_size: 
     }
 }
 
-// What the ends lack of the copy whose header is at this byte. There may be no memory.
-fn lack_of_copy(
+/// What the ends lack of the copy whose header is at this byte. There may be no memory.
+pub(crate) fn lack_of_copy(
     alloc: Global,
     head: &[u8],
     tail: &[u8],

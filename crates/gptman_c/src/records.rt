@@ -63,3 +63,15 @@ pub struct Needed {
     /// How many bytes are lacking from there.
     pub length: u64,
 }
+
+/// What the two copies of a table are, each by itself.
+#[repr(C)]
+#[derive(Clone, Copy)]
+pub struct Check {
+    /// The number of the fault of the copy in sector 1, or 0 where it has none.
+    pub primary_fault: u32,
+    /// The same of the copy in the last whole sector.
+    pub backup_fault: u32,
+    /// 1 where both places hold one table, each in the form of its place; else 0.
+    pub are_same: u32,
+}
