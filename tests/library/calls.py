@@ -125,7 +125,7 @@ def try_copies(tally, library, program):
     path = program.file("other.img")
     for what, data in images.items():
         program.write("other.img", data)
-        for sector in 512, 520, 4096, 1 << 40:
+        for sector in 512, 520, 4096, 1 << 20:
             wanted = program.run("other.img", str(sector), "check")[1]
             what_of = f"both copies of an image that is {what}, with sectors of {sector}"
             tally.equals(what_of, wanted, checked(gptman, path, sector))
@@ -163,7 +163,7 @@ def try_mbr(tally, library, program):
     gptman, over_fd = module(), by_descriptor(library)
     sizes = [0, 100, 511, 512, 513, 1024, 4095, 4096, SIZE, 1 << 20, (1 << 41) - 512, (1 << 41) + 512, (1 << 41) + 1024]
     for size in sizes:
-        for sector in 1, 91, 512, 520, 4096, 1 << 40:
+        for sector in 1, 91, 512, 520, 4096, 1 << 20:
             for kind in "plain", "bootable":
                 what = f"an MBR ({kind}) on {size} bytes with sectors of {sector}"
                 wanted = with_mbr(program, size, lambda path: printed(program.path, path, str(sector), "mbr", kind))

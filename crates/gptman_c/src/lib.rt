@@ -10,46 +10,28 @@ ghost use Rattle.gptman.specs.Crc.{crc_of};
 ghost use Rattle.gptman.specs.Mbr.{mbr_bytes, mbr_fault};
 ghost use Rattle.gptman.specs.Reading.{reading_of, taken_from};
 ghost use Rattle.gptman.specs.Table.{new_table_of};
-ghost use Rattle.gptman_c.specs.Checking.{IsCheckTold};
-ghost use Rattle.gptman_c.specs.Crossing.{HasCount, IsOffer, IsRefused, IsTold};
-ghost use Rattle.gptman_c.specs.Ends.{HasEnds, IsKnown};
-ghost use Rattle.gptman_c.specs.Plan.{acts_of, steps_fit};
-ghost use Rattle.gptman_c.specs.Planning.{AreNoEnds, IsFitPlan, IsMiscounted, IsNewPlan, IsNumberOf, IsPlan};
-ghost use Rattle.gptman_c.specs.Planning.{needed_after, refusal_number, RefusesFit, RefusesNew, RefusesPlan};
+ghost use Rattle.gptman_ends.specs.Checking.{IsCheckTold};
+ghost use Rattle.gptman_ends.specs.Crossing.{HasCount, IsOffer, IsRefused, IsTold};
+ghost use Rattle.gptman_ends.specs.Ends.{HasEnds, IsKnown};
+ghost use Rattle.gptman_ends.specs.Plan.{acts_of, steps_fit};
+ghost use Rattle.gptman_ends.specs.Planning.{AreNoEnds, IsFitPlan, IsMiscounted, IsNewPlan, IsNumberOf, IsPlan};
+ghost use Rattle.gptman_ends.specs.Planning.{needed_after, refusal_number, RefusesFit, RefusesNew, RefusesPlan};
 
-mod checking;
-mod ends;
-mod faults;
-mod fitting;
-mod making;
-mod offers;
-mod partitions;
-mod places;
-mod planning;
-mod protective;
-mod reading;
-mod record;
-mod records;
-mod tables;
-mod tell;
-mod turns;
-mod writing;
-
-use crate::checking::{Look, look_at_both};
-use crate::ends::are_apart;
-use crate::faults::{
+use gptman::crc::crc32;
+use gptman_ends::checking::{Look, look_at_both};
+use gptman_ends::ends::are_apart;
+use gptman_ends::faults::{
     BAD_ARGUMENT, LACKS_BYTES, LACKS_ROOM, NO_SPACE_LEFT, OUT_OF_MEMORY, number_of,
 };
-use crate::fitting::plan_fit;
-use crate::making::plan_new;
-use crate::offers::find_place;
-use crate::planning::{Refusal, plan};
-use crate::protective::plan_mbr;
-use crate::reading::{Reading, read};
-use crate::record::Record;
-use crate::tell::tell;
-use gptman::crc::crc32;
-pub use records::{Check, Needed, Partition, Step, Table};
+use gptman_ends::fitting::plan_fit;
+use gptman_ends::making::plan_new;
+use gptman_ends::offers::find_place;
+use gptman_ends::planning::{Refusal, plan};
+use gptman_ends::protective::plan_mbr;
+use gptman_ends::reading::{Reading, read};
+use gptman_ends::record::Record;
+pub use gptman_ends::records::{Check, Needed, Partition, Step, Table};
+use gptman_ends::tell::tell;
 use std::alloc::Global;
 
 /// Reads the table of a disk.

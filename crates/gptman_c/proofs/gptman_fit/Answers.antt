@@ -1,4 +1,4 @@
-use Rattle.gptman_c.proofs.Fitted.{fit_above, fit_kept, fit_lacks, fit_most, fit_not_18, fit_not_19, fit_number}
+use Rattle.gptman_ends.proofs.Fitted.{fit_above, fit_kept, fit_lacks, fit_most, fit_not_18, fit_not_19, fit_number}
 use Rattle.std.proofs.Common.{arith}
 use Rattle.gptman_c.proofs.gptman_fit.Goals as goal
 

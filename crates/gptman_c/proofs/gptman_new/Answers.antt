@@ -1,8 +1,8 @@
 use Rattle.std.proofs.Common.{◌≡◌, ◌<◌, ◌≤◌, ◌⊎◌, ◌+◌, length, inr, sym, ◌∙◌, subst, arith}
-use Rattle.gptman_c.proofs.Refused.{bad_of, fault_of_number, lacks_of, not_told, numbers}
-use Rattle.gptman_c.specs.Ends.{IsKnown}
-use Rattle.gptman_c.specs.declared.records.Needed.{Needed}
-use Rattle.gptman_c.specs.Planning.{RefusesNew}
+use Rattle.gptman_ends.proofs.Refused.{bad_of, fault_of_number, lacks_of, not_told, numbers}
+use Rattle.gptman_ends.specs.Ends.{IsKnown}
+use Rattle.gptman_ends.specs.declared.records.Needed.{Needed}
+use Rattle.gptman_ends.specs.Planning.{RefusesNew}
 use Rattle.gptman_c.proofs.gptman_new.Goals as goal
 
 pub returns-in-Err-clause-plan : goal.returns-in-Err-clause-plan

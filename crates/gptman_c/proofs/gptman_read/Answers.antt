@@ -1,7 +1,7 @@
 use Rattle.std.proofs.Common.{◌≡◌, ⊎_elim, inl, inr, refl, ap, ◌∙◌}
 use Rattle.gptman.specs.Fault.{fault_of}
-use Rattle.gptman_c.specs.Faults.{fault_number}
-use Rattle.gptman_c.proofs.Told.{fault_told}
+use Rattle.gptman_ends.specs.Faults.{fault_number}
+use Rattle.gptman_ends.proofs.Told.{fault_told}
 use Rattle.gptman_c.proofs.gptman_read.Goals as goal
 
 pub returns-in-Fault-clause-faults : goal.returns-in-Fault-clause-faults

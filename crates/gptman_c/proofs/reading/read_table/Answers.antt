@@ -1,5 +1,0 @@
-use Rattle.gptman_c.proofs.Aligned.{read_aligned}
-use Rattle.gptman_c.proofs.reading.read_table.Goals as goal
-
-pub returns-clause-align : goal.returns-clause-align
-returns-clause-align c = read_aligned c.read_from-table.result c.read_from-table.ensures.value

@@ -1,0 +1,76 @@
+-- The plan of a write is one on every disk with these ends.
+use Rattle.std.proofs.Common.{◌≡◌, ◌≤◌, ⊎_elim, ℕ, ◌+◌, List, [], ◌∷◌, Bool, length, sym, ◌∙◌, subst, arith}
+use Rattle.gptman.specs.Crash.{IsReadInForm}
+use Rattle.gptman.specs.Disk.{AgreesOutside}
+use Rattle.gptman.specs.Layout.{IsLaidOut, copy_ranges_at}
+use Rattle.gptman.specs.Ranges.{AreInside}
+use Rattle.gptman.specs.Reading.{Side, primary, backup, taken_from}
+use Rattle.gptman.specs.Table.{Table, table_in, IsHeaderForm}
+use Rattle.gptman.specs.TableReads.{copy_of}
+use Rattle.gptman.specs.declared.table.GPT.{GPT}
+use Rattle.gptman.proofs.ReadKept.{takes_in_form}
+use Rattle.gptman.proofs.SameTable.{contains_cases}
+use Rattle.gptman_ends.specs.Crossing.{four_ranges, with_partitions}
+use Rattle.gptman_ends.specs.Ends.{ArePlacesKnown, AreRangesKnown, HasEnds, disk_bytes}
+use Rattle.gptman_ends.specs.Plan.{Act, AreKnown}
+use Rattle.gptman_ends.specs.Planning.{IsPlan, IsSafePlan}
+use Rattle.gptman_ends.specs.Reading.{IsTable}
+use Rattle.gptman_ends.specs.declared.records.Partition.{Partition}
+use Rattle.gptman_ends.proofs.AnyMiddle.{after_any, others_any, stops_any}
+use Rattle.gptman_ends.proofs.Known.{length-disk_bytes}
+use Rattle.gptman_ends.proofs.Middle.{ends_zero}
+
+-- the two ranges at a side are known where all four are
+pub at_side : (first last size ss : ℕ) (t : Table) (side : Side) → AreRangesKnown first last size (four_ranges t ss size) → AreRangesKnown first last size (copy_ranges_at side t ss size)
+at_side first last size ss t primary known = (known.0, (known.1.0, tt))
+at_side first last size ss t backup known = (known.1.1.0, (known.1.1.1.0, tt))
+
+-- those of two tables, which have the same places
+pub both_places : (first last size ss : ℕ) (was next : Table) → AreRangesKnown first last size (four_ranges was ss size) → AreRangesKnown first last size (four_ranges next ss size)
+    → ArePlacesKnown first last size ss (was ∷ next ∷ [])
+both_places first last size ss was next one other t listed side = ⊎_elim
+    (λ (is : was ≡ t). subst (λ (u : Table). AreRangesKnown first last size (copy_ranges_at side u ss size)) is (at_side first last size ss was side one))
+    (λ more. ⊎_elim
+    (λ (is : next ≡ t). subst (λ (u : Table). AreRangesKnown first last size (copy_ranges_at side u ss size)) is (at_side first last size ss next side other))
+    (λ none. absurd (omega (arith, none.1)))
+    (contains_cases next t [] more))
+    (contains_cases was t (next ∷ []) listed)
+
+module _ (head tail : List ℕ) (size : ℕ) (apart : length head + length tail ≤ size) (g : GPT) (is_backup : Bool) (partitions : List Partition) (acts : List Act) where
+  abbrev zero : List ℕ
+  zero = disk_bytes head tail size
+
+  abbrev next : Table
+  next = with_partitions g partitions
+
+  module _ (told : IsTable head tail size g.sector_size g is_backup) (known : AreKnown (length head) (length tail) size acts)
+      (places : AreInside (four_ranges (table_in g) g.sector_size size) size → AreRangesKnown (length head) (length tail) size (four_ranges (table_in g) g.sector_size size))
+      (safe_zero : IsReadInForm zero g → IsLaidOut next g.sector_size size → IsSafePlan zero g.sector_size (table_in g) next acts) (b : List ℕ) (ends : HasEnds b head tail size) where
+    in_form : IsHeaderForm (taken_from b g.sector_size) g.header → IsReadInForm zero g
+    in_form form =
+        let same : taken_from b g.sector_size ≡ taken_from zero g.sector_size = told.from b ends ∙ sym (told.from zero (ends_zero head tail size apart)) in
+        takes_in_form zero g (told.reading zero (ends_zero head tail size apart)) (subst (λ (side : Side). IsHeaderForm side g.header) same form)
+
+    lift : AreRangesKnown (length head) (length tail) size (four_ranges (table_in g) g.sector_size size) → IsSafePlan zero g.sector_size (table_in g) next acts
+        → IsSafePlan b g.sector_size (table_in g) next acts
+    lift four plan =
+        let all : length zero ≡ size = length-disk_bytes head tail size apart in
+        let others : (y : List ℕ) → _ = λ y left. subst (λ (n : ℕ). AgreesOutside (four_ranges next g.sector_size n) zero y) all (plan.others y left) in
+        record {
+          stops = stops_any head tail b size apart ends acts known g.sector_size (table_in g ∷ next ∷ []) (both_places (length head) (length tail) size g.sector_size (table_in g) next four four) plan.stops;
+          others = λ x left.
+              subst (λ (n : ℕ). AgreesOutside (four_ranges next g.sector_size n) b x) (sym ends.long)
+              (others_any head tail b size apart ends acts known (four_ranges next g.sector_size size) others x left);
+          synced = plan.synced;
+          at_primary = after_any head tail b size apart ends acts known g.sector_size primary next (at_side (length head) (length tail) size g.sector_size next primary four) plan.at_primary;
+          at_backup = after_any head tail b size apart ends acts known g.sector_size backup next (at_side (length head) (length tail) size g.sector_size next backup four) plan.at_backup;
+        }
+
+    pub plan_any : IsPlan b g.sector_size partitions acts
+    plan_any = record {
+      copy = copy_of g;
+      taken = told.reading b ends;
+      safe = λ form laid.
+          let here : IsLaidOut next g.sector_size size = subst (λ (n : ℕ). IsLaidOut next g.sector_size n) ends.long laid in
+          lift (places here.inside) (safe_zero (in_form form) here);
+    }

@@ -1,0 +1,166 @@
+-- A table that is fitted to the disk's length.
+use Rattle.std.proofs.Common.{◌≡◌, ◌≢◌, ◌≤◌, ◌<◌, ◌/◌, ◌*◌, ◌||◌, ◌⊎◌, ⊎_elim, Bool, true, false, ℕ, ◌+◌, ◌-◌, List, [], ◌∷◌, length, refl, sym, ◌∙◌, ap, subst, arith}
+use Rattle.std.specs.Prelude.{if◌then◌else◌, nat_eq, Option, None, Some, Ok}
+use Rattle.std.proofs.Math.Nat.{mul-le-mul_left}
+use Rattle.std.proofs.lemmas.Bool.{eqb-false, ltb-false}
+use Rattle.gptman.specs.Copy.{IsCoherent}
+use Rattle.gptman.specs.Fault.{Fault, fault_of, io, overflow}
+use Rattle.gptman.specs.Fit.{array_sectors, array_size, fit_fault, fit_header, is_too_small}
+use Rattle.gptman.specs.Layout.{Holds, IsLaidOut}
+use Rattle.gptman.specs.Reading.{Side, primary, backup, reading_of, taken_from}
+use Rattle.gptman.specs.Stop.{HoldsOneOf}
+use Rattle.gptman.specs.Table.{entries_in, grow_to, table_in, IsHeaderForm, IsInForm}
+use Rattle.gptman.specs.TableReads.{copy_of}
+use Rattle.gptman.specs.TableWrites.{RefusesTable}
+use Rattle.gptman_copy.specs.declared.codec.entry.GPTPartitionEntry.{GPTPartitionEntry}
+use Rattle.gptman_copy.specs.declared.codec.header.GPTHeader.{GPTHeader}
+use Rattle.gptman_copy.specs.declared.error.Error.{Error}
+use Rattle.gptman.specs.declared.table.GPT.{GPT}
+use Rattle.gptman.proofs.FourRanges.{sides_clear}
+use Rattle.gptman.proofs.ReadingLaw.{holds_what_is_read}
+use Rattle.gptman_ends.specs.Ends.{IsKnown}
+use Rattle.gptman_ends.specs.Plan.{Act, LeftBy}
+use Rattle.gptman_ends.specs.Planning.{IsFitPlan, IsFitRefusal, IsNumberOf, IsSizeRefusal, IsTablePlan, IsTableRefusal, IsUnfitTable, IsWrittenPlan, RefusesFit, needed_after, refusal_number}
+use Rattle.gptman_ends.specs.Planning.RefusesFit.{does_not_fit, is_unfit_fitted}
+use Rattle.gptman_ends.specs.Reading.{OfEvery}
+use Rattle.gptman_ends.specs.declared.planning.Refusal.{Refusal}
+use Rattle.gptman_ends.specs.declared.records.Needed.{Needed}
+use Rattle.gptman_ends.proofs.Refused.{bad_of, fault_of_number, lacks_of, not_told, numbers, refused_as}
+
+-- ---- a header that fits
+
+fits_cases : (h : GPTHeader) (ss len : ℕ) (none small : Bool) → nat_eq (array_size h) 0 ≡ none → is_too_small (len / ss) (array_sectors h ss) ≡ small
+    → ◌≡◌ {A = Option Fault} (if none || small then Some overflow else None) None → (array_size h ≢ 0) × (2 ≤ len / ss)
+fits_cases h ss len true small is_none is_small fits = absurd (cc)
+fits_cases h ss len false true is_none is_small fits = absurd (cc)
+fits_cases h ss len false false is_none is_small fits =
+    (eqb-false (array_size h) 0 is_none, omega (arith, ltb-false (len / ss) (array_sectors h ss + 2) is_small))
+
+-- It counts entries, and the disk has a sector.
+pub fits_room : (h : GPTHeader) (ss len : ℕ) → 0 < ss → fit_fault h ss len ≡ None → (0 < h.number_of_partition_entries) × (ss ≤ len)
+fits_room h ss len above fits =
+    let two = fits_cases h ss len (nat_eq (array_size h) 0) (is_too_small (len / ss) (array_sectors h ss)) refl refl fits in
+    let some : h.number_of_partition_entries ≢ 0 = λ none. two.0 (omega (arith, ap (λ (n : ℕ). n * h.size_of_partition_entry) none)) in
+    (omega (arith, some), omega (arith, above, mul-le-mul_left ss two.1))
+
+-- It says of the entries what it said,
+pub coherent_fitted : (h : GPTHeader) (es : List GPTPartitionEntry) (ss len : ℕ) → IsCoherent h es → IsCoherent (fit_header h ss len) es
+coherent_fitted h es ss len coherent = record { header_size = coherent.header_size; count = coherent.count; entry_size = coherent.entry_size }
+
+-- so that its write can be planned,
+pub ready : (g next : GPT) (size : ℕ) → 0 < g.sector_size → IsCoherent g.header (entries_in g) → next ≡ grow_to g size → fit_fault g.header g.sector_size size ≡ None
+    → (0 < next.sector_size) × (next.sector_size ≤ size) × (0 < next.header.number_of_partition_entries) × IsCoherent next.header (entries_in next)
+ready g next size above coherent is fits =
+    let room = fits_room g.header g.sector_size size above fits in
+    subst (λ (t : GPT). (0 < t.sector_size) × (t.sector_size ≤ size) × (0 < t.header.number_of_partition_entries) × IsCoherent t.header (entries_in t)) (sym is)
+    (above, room.1, room.0, coherent_fitted g.header (entries_in g) g.sector_size size coherent)
+
+-- and is a primary header if it was.
+form_fitted : (h : GPTHeader) (ss len : ℕ) → IsHeaderForm primary h → IsHeaderForm primary (fit_header h ss len)
+form_fitted h ss len form = (
+  ap (λ (k : ℕ). if nat_eq k 1 then k else (len / ss - 1)) form.0,
+  ap (λ (k : ℕ). if nat_eq k 2 then k else (len / ss - array_sectors h ss - 2 + 1)) form.1,
+)
+
+-- ---- what is answered
+
+-- an answer of a disk that did not fail
+pub settled_err : (fault : Option Fault) (e : Error) (before after : ℕ) → after ≡ 0 → (Some (fault_of e) ≡ fault) ⊎ ((fault_of e ≡ io) × ((before < after) ⊎ (18446744073709551615 ≤ after)))
+    → fault ≡ Some (fault_of e)
+settled_err fault e before after none settles = ⊎_elim
+    (λ is. sym is)
+    (λ failed. absurd (⊎_elim (λ more. omega (arith, none, more)) (λ most. omega (arith, none, most)) failed.1))
+    settles
+
+-- ---- the plan
+
+module _ (b : List ℕ) (g : GPT) (acts : List Act) (taken : reading_of b g.sector_size ≡ Ok (copy_of g)) (plan : IsTablePlan b (grow_to g (length b)) acts) where
+  abbrev grown : GPT
+  grown = grow_to g (length b)
+
+  written : IsInForm grown.header → IsLaidOut (table_in grown) g.sector_size (length b) → IsWrittenPlan b g.sector_size (table_in grown) acts
+  written form laid = ⊎_elim
+      (λ at. plan.written (record { table = laid; side = primary; form = at }))
+      (λ at. plan.written (record { table = laid; side = backup; form = at }))
+      form
+
+  held : taken_from b g.sector_size ≡ primary → IsHeaderForm primary g.header → Holds b g.sector_size primary (table_in g)
+  held from form =
+      subst (λ (side : Side). Holds b g.sector_size side (table_in g)) from
+      (holds_what_is_read b g.sector_size (copy_of g) taken (subst (λ (side : Side). IsHeaderForm side g.header) (sym from) form))
+
+  -- the primary copy is in the same place, which the backup copy does not touch
+  stops : taken_from b g.sector_size ≡ primary → IsHeaderForm primary g.header → IsLaidOut (table_in grown) g.sector_size (length b)
+      → (x : List ℕ) → LeftBy b acts 0 x → HoldsOneOf x g.sector_size (table_in g ∷ table_in grown ∷ [])
+  stops from form laid x left =
+      plan.replaced (form_fitted g.header g.sector_size (length b) form) laid (table_in g) (held from form) (sides_clear backup (table_in grown) g.sector_size (length b) laid) x left
+
+  fit_here : IsFitPlan b g.sector_size acts
+  fit_here = record { copy = copy_of g; taken = taken; written = written; stops = stops }
+
+-- ---- of every disk with these ends
+
+module _ (head tail : List ℕ) (size ss : ℕ) (g : GPT) (sector : g.sector_size ≡ ss) (reading : OfEvery head tail size (λ b. reading_of b ss ≡ Ok (copy_of g))) where
+  read_so : (b : List ℕ) → reading_of b ss ≡ Ok (copy_of g) → reading_of b g.sector_size ≡ Ok (copy_of g)
+  read_so b is = subst (λ (n : ℕ). reading_of b n ≡ Ok (copy_of g)) (sym sector) is
+
+  pub fit_plan : (next : GPT) (acts : List Act) → next ≡ grow_to g size → OfEvery head tail size (λ b. IsTablePlan b next acts) → OfEvery head tail size (λ b. IsFitPlan b ss acts)
+  fit_plan next acts is plan b ends =
+      let here : IsTablePlan b (grow_to g (length b)) acts =
+      subst (λ (n : ℕ). IsTablePlan b (grow_to g n) acts) (sym ends.long) (subst (λ (t : GPT). IsTablePlan b t acts) is (plan b ends)) in
+      subst (λ (n : ℕ). IsFitPlan b n acts) sector (fit_here b g acts (read_so b (reading b ends)) here)
+
+  pub size_refused : (r : Refusal) → IsSizeRefusal head tail size g r → IsFitRefusal head tail size ss r
+  size_refused r refused = refused_as ⊥ ⊥ (λ fault. fit_fault g.header g.sector_size size ≡ Some fault) (λ fault. OfEvery head tail size (λ b. RefusesFit b ss fault)) head tail size
+      (λ none. none)
+      (λ fault is b ends. does_not_fit (copy_of g) (reading b ends)
+      (subst (λ (n : ℕ). fit_fault g.header n (length b) ≡ Some fault) sector (subst (λ (n : ℕ). fit_fault g.header g.sector_size n ≡ Some fault) (sym ends.long) is)))
+      r refused
+
+  unfit : (next : GPT) (fault : Fault) (len : ℕ) → next ≡ grow_to g len → RefusesTable next len fault → IsUnfitTable (fit_header g.header ss len) ss (entries_in g) len fault
+  unfit next fault len is why = record {
+    value = next;
+    header_is = subst (λ (n : ℕ). next.header ≡ fit_header g.header n len) sector (ap (λ (t : GPT). t.header) is);
+    sector = subst (λ (n : ℕ). next.sector_size ≡ n) sector (ap (λ (t : GPT). t.sector_size) is);
+    entries_are = ap (λ (t : GPT). entries_in t) is;
+    why = why;
+  }
+
+  pub table_refused : (next : GPT) → next ≡ grow_to g size → (r : Refusal) → IsTableRefusal head tail size next r → IsFitRefusal head tail size ss r
+  table_refused next is r refused = refused_as ⊥ ⊥ (RefusesTable next size) (λ fault. OfEvery head tail size (λ b. RefusesFit b ss fault)) head tail size
+      (λ none. none)
+      (λ fault why b ends. is_unfit_fitted (copy_of g) (reading b ends)
+      (subst (λ (n : ℕ). IsUnfitTable (fit_header g.header ss n) ss (entries_in g) n fault) (sym ends.long) (unfit next fault size is why)))
+      r refused
+
+-- ---- the number of a refusal
+
+module _ (head tail : List ℕ) (size ss : ℕ) (r : Refusal) (refused : IsFitRefusal head tail size ss r) (answer : ℕ) (is : answer ≡ refusal_number r) where
+  abbrev why : Fault → Type 0
+  why fault = OfEvery head tail size (λ b. RefusesFit b ss fault)
+
+  pub fit_above : 0 < answer
+  fit_above = omega (arith, is, (numbers r).0)
+
+  pub fit_most : answer ≤ 19
+  fit_most = omega (arith, is, (numbers r).2)
+
+  pub fit_not_18 : answer ≢ 18
+  fit_not_18 eighteen = (numbers r).1 (sym is ∙ eighteen)
+
+  pub fit_not_19 : answer ≢ 19
+  fit_not_19 nineteen = bad_of ⊥ why head tail size r refused (sym is ∙ nineteen)
+
+  pub fit_number : answer ≤ 16 → answer ≢ 15 → OfEvery head tail size (λ b. IsNumberOf (RefusesFit b ss) answer)
+  fit_number below other b ends =
+      let named : IsNumberOf why (refusal_number r) = fault_of_number ⊥ why head tail size r refused (omega (arith, is, below)) (λ fifteen. other (is ∙ fifteen)) in
+      record { fault = named.fault; holds = named.holds b ends; number_is = named.number_is ∙ sym is }
+
+  pub fit_lacks : (old new : Needed) → new ≡ needed_after r old → answer ≡ 17
+      → (¬ IsKnown (length head) (length tail) size (new.from, new.length)) × (new.from + new.length ≤ size)
+  fit_lacks old new told seventeen =
+      subst (λ (n : Needed). (¬ IsKnown (length head) (length tail) size (n.from, n.length)) × (n.from + n.length ≤ size)) (sym told)
+      (lacks_of ⊥ why head tail size r old refused (sym is ∙ seventeen))
+
+  pub fit_kept : (old new : Needed) → new ≡ needed_after r old → answer ≢ 17 → new ≡ old
+  fit_kept old new told other = told ∙ not_told r old (λ seventeen. other (is ∙ seventeen))

@@ -1,0 +1,100 @@
+-- The plan of a table's write.
+use Rattle.std.proofs.Common.{◌≡◌, ◌≤◌, ℕ, ◌+◌, List, [], length, refl, sym, ap, ◌∙◌, subst}
+use Rattle.gptman.specs.Crash.{StartsLaidOut, StartsSynced, StopsKeepOthers}
+use Rattle.gptman.specs.Disk.{AgreesOutside, DiskState, IsHonest}
+use Rattle.gptman.specs.Layout.{HasLayout, Holds, IsLaidOut}
+use Rattle.gptman.specs.Ranges.{AreInside}
+use Rattle.gptman.specs.Reading.{primary, backup}
+use Rattle.gptman.specs.Stop.{IsStored}
+use Rattle.gptman.specs.Table.{Table, table_in, IsHeaderForm}
+use Rattle.gptman.specs.declared.table.GPT.{GPT}
+use Rattle.gptman_ends.specs.Crossing.{four_ranges}
+use Rattle.gptman_ends.specs.Ends.{AreRangesKnown, HasEnds, disk_bytes}
+use Rattle.gptman_ends.specs.Plan.{Act, AreKnown, LeftBy, plan_state}
+use Rattle.gptman_ends.specs.Planning.{IsNewPlan, IsReplaced, IsTablePlan, IsWrittenPlan}
+use Rattle.gptman_ends.specs.Turns.{AreInTurns, header_ranges}
+use Rattle.gptman_ends.proofs.AnyMiddle.{after_any, others_any}
+use Rattle.gptman_ends.proofs.AnyPlan.{at_side}
+use Rattle.gptman_ends.proofs.Known.{length-disk_bytes}
+use Rattle.gptman_ends.proofs.Planned.{IsAfter}
+use Rattle.gptman_ends.proofs.InTurns.{replaced}
+
+-- ---- what the write of a value does to the disk that records it
+
+module _ (start : List ℕ) (size : ℕ) (g : GPT) (acts : List Act) (old new : DiskState) (long : length start ≡ size) (begins : old ≡ plan_state start [] size 0 0) (after : IsAfter start acts new)
+    (layout : HasLayout g size) where
+  honest : IsHonest old
+  honest = subst (λ (d : DiskState). IsHonest d) (sym begins) refl
+
+  synced : old.pending ≡ []
+  synced = ap (λ (d : DiskState). d.pending) begins
+
+  view : old.view ≡ start
+  view = ap (λ (d : DiskState). d.view) begins
+
+  sized : old.size ≡ size
+  sized = ap (λ (d : DiskState). d.size) begins
+
+  laid : StartsLaidOut old g
+  laid = record { honest = honest; layout = subst (λ (n : ℕ). HasLayout g n) (sym sized) layout }
+
+  left : (x : List ℕ) → LeftBy start acts 0 x → new.left_since old.clock x
+  left x was = subst (λ (t : ℕ). new.left_since t x) (sym (ap (λ (d : DiskState). d.clock) begins)) (after.left 0 x was)
+
+  pub written_zero : (StartsSynced old g → StopsKeepOthers old new g) → (StartsLaidOut old g → IsStored new g.sector_size (table_in g)) → IsWrittenPlan start g.sector_size (table_in g) acts
+  written_zero outside stored =
+      let done = stored laid in
+      record {
+        others = λ x was.
+            subst (λ (b : List ℕ). AgreesOutside (four_ranges (table_in g) g.sector_size (length start)) b x) view
+            (subst (λ (n : ℕ). AgreesOutside (four_ranges (table_in g) g.sector_size n) old.view x) (sized ∙ sym long)
+            (outside (record { start = laid; synced = synced }) x (left x was)));
+        synced = sym after.pending ∙ done.synced;
+        at_primary = subst (λ (v : List ℕ). Holds v g.sector_size primary (table_in g)) after.view done.at_primary;
+        at_backup = subst (λ (v : List ℕ). Holds v g.sector_size backup (table_in g)) after.view done.at_backup;
+      }
+
+-- ---- and to every disk with these ends
+
+module _ (head tail : List ℕ) (size : ℕ) (apart : length head + length tail ≤ size) (g : GPT) (acts : List Act) (known : AreKnown (length head) (length tail) size acts)
+    (places : AreInside (four_ranges (table_in g) g.sector_size size) size → AreRangesKnown (length head) (length tail) size (four_ranges (table_in g) g.sector_size size))
+    (written : HasLayout g size → IsWrittenPlan (disk_bytes head tail size) g.sector_size (table_in g) acts)
+    (turns : IsHeaderForm primary g.header → AreInTurns (header_ranges backup g.header g.sector_size size) (header_ranges primary g.header g.sector_size size) acts)
+    (b : List ℕ) (ends : HasEnds b head tail size) where
+  abbrev zero : List ℕ
+  zero = disk_bytes head tail size
+
+  all : length zero ≡ size
+  all = length-disk_bytes head tail size apart
+
+  here : HasLayout g (length b) → HasLayout g size
+  here layout = subst (λ (n : ℕ). HasLayout g n) ends.long layout
+
+  four : HasLayout g (length b) → AreRangesKnown (length head) (length tail) size (four_ranges (table_in g) g.sector_size size)
+  four layout = places (here layout).table.inside
+
+  written_any : HasLayout g (length b) → IsWrittenPlan b g.sector_size (table_in g) acts
+  written_any layout =
+      let plan = written (here layout) in
+      let others : (y : List ℕ) → LeftBy zero acts 0 y → AgreesOutside (four_ranges (table_in g) g.sector_size size) zero y =
+      λ y left. subst (λ (n : ℕ). AgreesOutside (four_ranges (table_in g) g.sector_size n) zero y) all (plan.others y left) in
+      record {
+        others = λ x left.
+            subst (λ (n : ℕ). AgreesOutside (four_ranges (table_in g) g.sector_size n) b x) (sym ends.long)
+            (others_any head tail b size apart ends acts known (four_ranges (table_in g) g.sector_size size) others x left);
+        synced = plan.synced;
+        at_primary = after_any head tail b size apart ends acts known g.sector_size primary (table_in g) (at_side (length head) (length tail) size g.sector_size (table_in g) primary (four layout)) plan.at_primary;
+        at_backup = after_any head tail b size apart ends acts known g.sector_size backup (table_in g) (at_side (length head) (length tail) size g.sector_size (table_in g) backup (four layout)) plan.at_backup;
+      }
+
+  replaced_any : IsHeaderForm primary g.header → IsLaidOut (table_in g) g.sector_size (length b) → (was : Table) → IsReplaced b g.sector_size was (table_in g) acts
+  replaced_any form laid was = replaced b (length head) (length tail) size g.sector_size apart ends.long (table_in g) acts known
+      (subst (λ (n : ℕ). IsLaidOut (table_in g) g.sector_size n) ends.long laid) (turns form)
+      (written_any (record { table = laid; side = primary; form = form })).at_backup was
+
+  pub table_any : IsTablePlan b g acts
+  table_any = record { written = written_any; replaced = replaced_any }
+
+-- a new table has a primary header
+pub new_plan : (b : List ℕ) (g : GPT) (acts : List Act) → IsHeaderForm primary g.header → IsTablePlan b g acts → IsNewPlan b g acts
+new_plan b g acts form plan = record { written = plan.written; replaced = λ layout. plan.replaced form layout.table }

@@ -1,0 +1,23 @@
+use Rattle.std.proofs.Common.{refl}
+use Rattle.gptman.specs.Fault.{fault_of}
+use Rattle.gptman_ends.specs.Ends.{disk_bytes}
+use Rattle.gptman_ends.specs.Plan.{acts_of}
+use Rattle.gptman_ends.proofs.Known.{length-disk_bytes}
+use Rattle.gptman_ends.proofs.Planned.{begins_at, ends_after, safe_zero}
+use Rattle.gptman_ends.proofs.Refused.{unfit}
+use Rattle.gptman_ends.proofs.planning.record_write.Goals as goal
+
+pub returns-in-Ok-clause-safe : goal.returns-in-Ok-clause-safe
+returns-in-Ok-clause-safe c =
+    let a = c.args in
+    let made = c.new-disk.ensures in
+    let begins = begins_at c.new-disk.result a.head.now a.tail.now a.size made.head made.tail made.size made.acts made.position made.failures in
+    let over = c.if-not-is_over.ensures in
+    let after = ends_after c.rewrite-written.new.disk c.into_plan.result a.head.now a.tail.now a.size (over.head refl) (over.tail refl) (over.size refl) c.into_plan.ensures in
+    safe_zero (disk_bytes a.head.now a.tail.now a.size) a.size a.table.now a.partitions.now (acts_of c.into_plan.result.bytes.items c.into_plan.result.steps.items) _ _
+    (length-disk_bytes a.head.now a.tail.now a.size c.requires.apart) begins after c.in-Ok.ensures.holds c.in-Ok.ensures.others c.in-Ok.ensures.stored
+
+pub returns-in-Err-clause-refused : goal.returns-in-Err-clause-refused
+returns-in-Err-clause-refused c =
+    let a = c.args in
+    unfit a.table.now a.partitions.now (fault_of c.in-Err.fault) _ _ a.size c.new-disk.ensures.size c.if-disk-ne0.false c.in-Err.ensures.refused

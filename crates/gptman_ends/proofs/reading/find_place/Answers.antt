@@ -1,0 +1,34 @@
+use Rattle.std.proofs.Common.{◌≡◌, ◌∙◌, ◌-◌, ◌*◌, ◌/◌, ℕ, sym, subst}
+use Rattle.gptman_ends.specs.Reading.{IsCopyTold, IsLack}
+use Rattle.gptman_ends.proofs.Told.{at_none, at_primary, with_backup, without_backup}
+use Rattle.gptman_ends.proofs.reading.find_place.Goals as goal
+
+pub returns-then-branch-clause-place : goal.returns-then-branch-clause-place
+returns-then-branch-clause-place c =
+    let head = c.args.head.now in
+    let tail = c.args.tail.now in
+    let size = c.args.size in
+    let ss = c.args.sector_size in
+    let told = at_none (IsCopyTold head tail size ss ss) (IsLack head tail size) c.in_ok-lack.field-0 c.in_default.is c.in_ok-lack.ensures.told in
+    at_primary head tail size c.requires.apart ss told (sym c.in_ok-has_primary.ensures.answer ∙ c.if-branch.true)
+
+pub returns-then-size-sector_size-clause-place : goal.returns-then-size-sector_size-clause-place
+returns-then-size-sector_size-clause-place c =
+    let head = c.args.head.now in
+    let tail = c.args.tail.now in
+    let size = c.args.size in
+    let ss = c.args.sector_size in
+    let told = at_none (IsCopyTold head tail size ss ss) (IsLack head tail size) c.in_ok-lack.field-0 c.in_default.is c.in_ok-lack.ensures.told in
+    without_backup head tail size c.requires.apart ss told (sym c.in_ok-has_primary.ensures.answer ∙ c.if-branch.false) c.if-size-sector_size.true
+
+pub returns-in-None-clause-place : goal.returns-in-None-clause-place
+returns-in-None-clause-place c =
+    let head = c.args.head.now in
+    let tail = c.args.tail.now in
+    let size = c.args.size in
+    let ss = c.args.sector_size in
+    let told = at_none (IsCopyTold head tail size ss ss) (IsLack head tail size) c.in_ok-lack.field-0 c.in_default.is c.in_ok-lack.ensures.told in
+    let at : c.last_sector-at.result ≡ (size / ss - 1) * ss = c.last_sector-at.ensures in
+    let other = at_none (IsCopyTold head tail size c.last_sector-at.result ss) (IsLack head tail size) c.in_ok-lack-2.field-0 c.in-None.is c.in_ok-lack-2.ensures.told in
+    with_backup head tail size c.requires.apart ss told (sym c.in_ok-has_primary.ensures.answer ∙ c.if-branch.false)
+    (subst (λ (n : ℕ). IsCopyTold head tail size n ss) at other)

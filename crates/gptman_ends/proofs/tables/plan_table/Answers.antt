@@ -1,0 +1,23 @@
+use Rattle.std.proofs.Common.{◌≡◌, ℕ, List, length, subst}
+use Rattle.gptman.specs.Ranges.{AreInside}
+use Rattle.gptman.specs.Reading.{primary, backup}
+use Rattle.gptman.specs.Table.{table_in, IsHeaderForm}
+use Rattle.gptman.specs.declared.table.GPT.{GPT}
+use Rattle.gptman_ends.specs.Crossing.{four_ranges}
+use Rattle.gptman_ends.specs.Ends.{AreRangesKnown}
+use Rattle.gptman_ends.specs.Plan.{Act, acts_of, AreKnown}
+use Rattle.gptman_ends.specs.Turns.{AreInTurns, header_ranges}
+use Rattle.gptman_ends.proofs.TablePlans.{table_any}
+use Rattle.gptman_ends.proofs.tables.plan_table.Goals as goal
+
+pub returns-in-None-lack_of_steps-clause-plan : goal.returns-in-None-lack_of_steps-clause-plan
+returns-in-None-lack_of_steps-clause-plan c = λ b ends.
+    let a = c.args in
+    let g : GPT = a.table in
+    let acts : List Act = acts_of c.in_ok-plan.plan.bytes.items c.in_ok-plan.plan.steps.items in
+    let sized : c.in_ok-plan.plan.size ≡ a.size = c.in_ok-plan.ensures.size in
+    let known : AreKnown (length a.head.now) (length a.tail.now) a.size acts = subst (λ (n : ℕ). AreKnown (length a.head.now) (length a.tail.now) n acts) sized c.in-None-lack_of_steps.ensures in
+    let places : AreInside (four_ranges (table_in g) g.sector_size a.size) a.size → AreRangesKnown (length a.head.now) (length a.tail.now) a.size (four_ranges (table_in g) g.sector_size a.size) = c.in-None.ensures in
+    let turns : IsHeaderForm primary g.header → AreInTurns (header_ranges backup g.header g.sector_size a.size) (header_ranges primary g.header g.sector_size a.size) acts =
+    λ form. subst (λ (n : ℕ). AreInTurns (header_ranges backup g.header g.sector_size n) (header_ranges primary g.header g.sector_size n) acts) sized (c.is_in_turns.ensures c.if-not-is_in_turns.false form) in
+    table_any a.head.now a.tail.now a.size c.requires.apart g acts known places c.in_ok-plan.ensures.written turns b ends

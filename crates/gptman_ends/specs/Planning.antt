@@ -1,0 +1,176 @@
+-- What the steps that are told do to a disk.
+use Rattle.std.specs.Prelude.{◌≡◌, ◌≢◌, ◌<◌, ◌⊎◌, ◌+◌, ℕ, List, [], ◌∷◌, length, map, Ok, Err, Some}
+use Rattle.gptman.specs.Copy.{Copy}
+use Rattle.gptman.specs.Disk.{AgreesOutside, DiskState}
+use Rattle.gptman.specs.Fault.{Fault, fault_of, out_of_memory}
+use Rattle.gptman_copy.specs.Fit.{fit_fault, fit_header, new_header_of}
+use Rattle.gptman.specs.Layout.{HasLayout, Holds, IsLaidOut, copy_ranges_at}
+use Rattle.gptman.specs.Ranges.{AreClear}
+use Rattle.gptman.specs.Reading.{primary, backup, reading_of, taken_from}
+use Rattle.gptman.specs.Stop.{HoldsOneOf}
+use Rattle.gptman.specs.Table.{Table, entries_in, new_table_of, table_in, table_of, IsHeaderForm, IsInForm}
+use Rattle.gptman.specs.TableWrites.{RefusesTable, RefusesWrite}
+use Rattle.gptman_copy.specs.declared.codec.entry.GPTPartitionEntry.{GPTPartitionEntry}
+use Rattle.gptman_copy.specs.declared.codec.header.GPTHeader.{GPTHeader}
+use Rattle.gptman.specs.declared.table.GPT.{GPT}
+use Rattle.gptman_ends.specs.Crossing.{content_in, content_of, four_ranges}
+use Rattle.gptman_ends.specs.Faults.{fault_number}
+use Rattle.gptman_ends.specs.Plan.{Act, LeftBy, pending_of, view_of}
+use Rattle.gptman_ends.specs.Reading.{IsLack, OfEvery}
+use Rattle.gptman_ends.specs.declared.planning.Refusal.{Refusal}
+use Rattle.gptman_ends.specs.declared.planning.Refusal.TheVariants.{BadArgument, Refused, Lacks}
+use Rattle.gptman_ends.specs.declared.records.Needed.{Needed}
+use Rattle.gptman_ends.specs.declared.records.Partition.{Partition}
+
+-- the table of the copy, with these for its entries
+abbrev pub rewritten : Copy → List Partition → Table
+rewritten copy partitions = record (table_of copy.header copy.entries) { entries = map content_of partitions }
+
+-- A stop among or within these acts leaves the old table or the next one at one place at least, and all bytes outside of the four ranges as they were. After all
+-- of them both places hold the next one, and nothing is pending.
+pub record IsSafePlan (start : List ℕ) (ss : ℕ) (was next : Table) (acts : List Act) : Type 0 where
+  pub stops : (x : List ℕ) → LeftBy start acts 0 x → HoldsOneOf x ss (was ∷ next ∷ [])
+  pub others : (x : List ℕ) → LeftBy start acts 0 x → AgreesOutside (four_ranges next ss (length start)) start x
+  pub synced : pending_of acts ≡ []
+  pub at_primary : Holds (view_of start acts) ss primary next
+  pub at_backup : Holds (view_of start acts) ss backup next
+
+-- The acts write the table that a disk of these bytes is read as, with these for its entries: safely, where the copy that is read is in the form of its place, and
+-- the table has the stated layout.
+pub record IsPlan (start : List ℕ) (ss : ℕ) (partitions : List Partition) (acts : List Act) : Type 0 where
+  pub copy : Copy
+  pub taken : reading_of start ss ≡ Ok copy
+  pub safe : IsHeaderForm (taken_from start ss) copy.header → IsLaidOut (rewritten copy partitions) ss (length start)
+      → IsSafePlan start ss (table_of copy.header copy.entries) (rewritten copy partitions) acts
+
+-- The table with this header and with these for its entries may not be written to a disk of len bytes, for this fault.
+pub record IsUnfit (header : GPTHeader) (ss : ℕ) (partitions : List Partition) (len : ℕ) (fault : Fault) : Type 0 where
+  pub value : GPT
+  pub header_is : value.header ≡ header
+  pub sector : value.sector_size ≡ ss
+  pub entries : map content_in (entries_in value) ≡ map content_of partitions
+  pub why : RefusesTable value len fault
+
+-- The same of a write that was tried: the table was refused, or the disk failed.
+pub record RefusesRewrite (g : GPT) (partitions : List Partition) (fault : Fault) (old new : DiskState) : Type 0 where
+  pub value : GPT
+  pub header_is : value.header ≡ g.header
+  pub sector : value.sector_size ≡ g.sector_size
+  pub entries : map content_in (entries_in value) ≡ map content_of partitions
+  pub why : RefusesWrite value fault old new
+
+-- Why the table of a disk of these bytes is not written with these for its entries: it is not read, or it may not be written.
+pub data RefusesPlan (b : List ℕ) (ss : ℕ) (partitions : List Partition) (fault : Fault) : Type 0 where
+  is_not_read : reading_of b ss ≡ Err fault → RefusesPlan b ss partitions fault
+  is_unfit : (copy : Copy) → reading_of b ss ≡ Ok copy → IsUnfit copy.header ss partitions (length b) fault → RefusesPlan b ss partitions fault
+
+-- Why a new table with so many entries is not written to a disk of size bytes: it has no room for two copies, or the table may not be written.
+abbrev pub RefusesNew : ℕ → List ℕ → ℕ → ℕ → Fault → Type 0
+RefusesNew count guid ss size fault = (fit_fault (new_header_of count guid) ss size ≡ Some fault) ⊎ RefusesTable (new_table_of count guid ss size) size fault
+
+-- The number is that of a fault of which this holds.
+pub record IsNumberOf (why : Fault → Type 0) (number : ℕ) : Type 0 where
+  pub fault : Fault
+  pub holds : why fault
+  pub number_is : fault_number fault ≡ number
+
+-- no disk has sectors of ss bytes and these ends
+abbrev pub AreNoEnds : List ℕ → List ℕ → ℕ → ℕ → Type 0
+AreNoEnds head tail size ss = (ss ≡ 0) ⊎ (size < length head + length tail)
+
+-- The table of a disk of these bytes has no entries, or not as many as these; or the disk is shorter than a sector.
+pub record IsMiscounted (b : List ℕ) (ss : ℕ) (partitions : List Partition) : Type 0 where
+  pub copy : Copy
+  pub taken : reading_of b ss ≡ Ok copy
+  pub count : (copy.header.number_of_partition_entries ≡ 0) ⊎ ((length partitions ≢ copy.header.number_of_partition_entries) ⊎ (length b < ss))
+
+-- Why nothing is planned: an argument is bad, a fault, of which this holds, or want of memory; or bytes of the disk that neither end has.
+abbrev pub IsRefusal : Type 0 → (Fault → Type 0) → List ℕ → List ℕ → ℕ → Refusal → Type 0
+IsRefusal bad why head tail size BadArgument = bad
+IsRefusal bad why head tail size (Refused e) = (fault_of e ≡ out_of_memory) ⊎ why (fault_of e)
+IsRefusal bad why head tail size (Lacks lack) = IsLack head tail size lack
+
+-- the number that a refusal has in C
+abbrev pub refusal_number : Refusal → ℕ
+refusal_number BadArgument = 19
+refusal_number (Refused e) = fault_number (fault_of e)
+refusal_number (Lacks lack) = 17
+
+-- what is told of it
+abbrev pub needed_after : Refusal → Needed → Needed
+needed_after BadArgument needed = needed
+needed_after (Refused e) needed = needed
+needed_after (Lacks lack) needed = record needed { from = lack.from; length = lack.length }
+
+-- of a write whose arguments are right
+abbrev pub IsRewriteRefusal : List ℕ → List ℕ → ℕ → GPT → List Partition → Refusal → Type 0
+IsRewriteRefusal head tail size g partitions refusal = IsRefusal ⊥ (IsUnfit g.header g.sector_size partitions size) head tail size refusal
+
+abbrev pub IsTableRefusal : List ℕ → List ℕ → ℕ → GPT → Refusal → Type 0
+IsTableRefusal head tail size g refusal = IsRefusal ⊥ (RefusesTable g size) head tail size refusal
+
+-- of a write, and of a new table
+abbrev pub IsPlanRefusal : List ℕ → List ℕ → ℕ → ℕ → List Partition → Refusal → Type 0
+IsPlanRefusal head tail size ss partitions refusal = IsRefusal (OfEvery head tail size (λ b. IsMiscounted b ss partitions))
+    (λ fault. OfEvery head tail size (λ b. RefusesPlan b ss partitions fault)) head tail size refusal
+
+abbrev pub IsNewRefusal : List ℕ → List ℕ → ℕ → ℕ → ℕ → List ℕ → Refusal → Type 0
+IsNewRefusal head tail size ss count guid refusal = IsRefusal ((count ≡ 0) ⊎ (size < ss)) (RefusesNew count guid ss size) head tail size refusal
+
+-- After all of these acts both places hold the table, and nothing is pending; a stop among or within them leaves all bytes outside of its four ranges as they were.
+pub record IsWrittenPlan (start : List ℕ) (ss : ℕ) (next : Table) (acts : List Act) : Type 0 where
+  pub others : (x : List ℕ) → LeftBy start acts 0 x → AgreesOutside (four_ranges next ss (length start)) start x
+  pub synced : pending_of acts ≡ []
+  pub at_primary : Holds (view_of start acts) ss primary next
+  pub at_backup : Holds (view_of start acts) ss backup next
+
+-- A table that the primary place holds, clear of the other copy of the new one, is not lost before that one is there.
+abbrev pub IsReplaced : List ℕ → ℕ → Table → Table → List Act → Type 0
+IsReplaced start ss was next acts = Holds start ss primary was → AreClear (copy_ranges_at primary was ss (length start)) (copy_ranges_at backup next ss (length start))
+    → (x : List ℕ) → LeftBy start acts 0 x → HoldsOneOf x ss (was ∷ next ∷ [])
+
+-- The acts write the table of this value, where it has the stated layout; and a table that is replaced is not lost, where the value has a primary header.
+pub record IsTablePlan (start : List ℕ) (g : GPT) (acts : List Act) : Type 0 where
+  pub written : HasLayout g (length start) → IsWrittenPlan start g.sector_size (table_in g) acts
+  pub replaced : IsHeaderForm primary g.header → IsLaidOut (table_in g) g.sector_size (length start) → (was : Table) → IsReplaced start g.sector_size was (table_in g) acts
+
+-- The same of a new table, whose header is a primary one.
+pub record IsNewPlan (start : List ℕ) (g : GPT) (acts : List Act) : Type 0 where
+  pub written : HasLayout g (length start) → IsWrittenPlan start g.sector_size (table_in g) acts
+  pub replaced : HasLayout g (length start) → (was : Table) → IsReplaced start g.sector_size was (table_in g) acts
+
+-- the table of the copy, with its header fitted to a disk of len bytes
+abbrev pub fitted : Copy → ℕ → ℕ → Table
+fitted copy ss len = table_of (fit_header copy.header ss len) copy.entries
+
+-- The acts write the table that a disk of these bytes is read as, fitted to its length, where the fitted header is in one of the two forms and the table has the
+-- stated layout. Where the primary copy is read, and is in the form of its place, a stop leaves the old table or the fitted one at one place at least.
+pub record IsFitPlan (start : List ℕ) (ss : ℕ) (acts : List Act) : Type 0 where
+  pub copy : Copy
+  pub taken : reading_of start ss ≡ Ok copy
+  pub written : IsInForm (fit_header copy.header ss (length start)) → IsLaidOut (fitted copy ss (length start)) ss (length start)
+      → IsWrittenPlan start ss (fitted copy ss (length start)) acts
+  pub stops : taken_from start ss ≡ primary → IsHeaderForm primary copy.header → IsLaidOut (fitted copy ss (length start)) ss (length start)
+      → (x : List ℕ) → LeftBy start acts 0 x → HoldsOneOf x ss (table_of copy.header copy.entries ∷ fitted copy ss (length start) ∷ [])
+
+-- The table with this header and these entries may not be written to a disk of len bytes, for this fault.
+pub record IsUnfitTable (header : GPTHeader) (ss : ℕ) (entries : List GPTPartitionEntry) (len : ℕ) (fault : Fault) : Type 0 where
+  pub value : GPT
+  pub header_is : value.header ≡ header
+  pub sector : value.sector_size ≡ ss
+  pub entries_are : entries_in value ≡ entries
+  pub why : RefusesTable value len fault
+
+-- Why the table of a disk of these bytes is not written fitted to its length: it is not read, or the disk has too few sectors for it, or it may not be written.
+pub data RefusesFit (b : List ℕ) (ss : ℕ) (fault : Fault) : Type 0 where
+  is_not_read_to_fit : reading_of b ss ≡ Err fault → RefusesFit b ss fault
+  does_not_fit : (copy : Copy) → reading_of b ss ≡ Ok copy → fit_fault copy.header ss (length b) ≡ Some fault → RefusesFit b ss fault
+  is_unfit_fitted : (copy : Copy) → reading_of b ss ≡ Ok copy → IsUnfitTable (fit_header copy.header ss (length b)) ss copy.entries (length b) fault → RefusesFit b ss fault
+
+-- of a table that is fitted to a disk of that size
+abbrev pub IsSizeRefusal : List ℕ → List ℕ → ℕ → GPT → Refusal → Type 0
+IsSizeRefusal head tail size g refusal = IsRefusal ⊥ (λ fault. fit_fault g.header g.sector_size size ≡ Some fault) head tail size refusal
+
+-- of one that is read and fitted
+abbrev pub IsFitRefusal : List ℕ → List ℕ → ℕ → ℕ → Refusal → Type 0
+IsFitRefusal head tail size ss refusal = IsRefusal ⊥ (λ fault. OfEvery head tail size (λ b. RefusesFit b ss fault)) head tail size refusal

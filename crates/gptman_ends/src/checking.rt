@@ -1,0 +1,121 @@
+//! A look at both copies of a table of which only the ends of the disk are known. What is told holds of every disk
+//! with these ends, as in a reading.
+
+ghost use Rattle.std.specs.Prelude.{◌≡◌, ◌≤◌, ◌<◌, ◌+◌, ◌↔◌, length, IfErr, IfOk, IsTrue, MatchOption};
+ghost use Rattle.gptman.specs.Answers.{answer_of};
+ghost use Rattle.gptman.specs.Copy.{copy_of_whole};
+ghost use Rattle.gptman.specs.Fault.{fault_of, out_of_memory};
+ghost use Rattle.gptman_ends.specs.Checking.{number_in, AreCopiesTold, AreFoundIn, IsLook};
+ghost use Rattle.gptman_ends.specs.Ends.{disk_bytes};
+ghost use Rattle.gptman_ends.specs.Reading.{IsLack};
+
+use crate::ends::Ends;
+use crate::faults::number_of;
+use crate::reading::{Lack, lack_of_copy};
+use crate::records::Check;
+use gptimg_core::BothCopies;
+use gptman::{Error, Result};
+use gptman_copy::copy::{WholeCopy, last_sector};
+use std::alloc::Global;
+
+/// What the ends tell of both copies.
+#[derive(Clone, Copy)]
+pub enum Look {
+    Told(Check),
+    Unknown(Lack),
+}
+
+/// What every disk of that size with these ends has at both places; or bytes that are lacking. There may be no
+/// memory.
+///
+/// The sector size is in bytes.
+pub fn look_at_both(
+    alloc: Global,
+    head: &[u8],
+    tail: &[u8],
+    size: u64,
+    sector_size: u64,
+) -> Result<Look>
+    requires sector { 0 < sector_size }
+    requires apart { length head.now + length tail.now ≤ size }
+    ensures look { IfOk result (IsLook head.now tail.now size sector_size) }
+    ensures refused { IfErr result (λ e. fault_of e ≡ out_of_memory) }
+{
+    if let Some(lack) = lack_of_copies(alloc, head, tail, size, sector_size)? {
+        return Ok(Look::Unknown(lack));
+    }
+    let copies = find_both(alloc, head, tail, size, sector_size)?;
+    Ok(Look::Told(check_of(&copies)))
+}
+
+// What the ends lack of the two copies. There may be no memory.
+fn lack_of_copies(
+    alloc: Global,
+    head: &[u8],
+    tail: &[u8],
+    size: u64,
+    sector_size: u64,
+) -> Result<Option<Lack>>
+    requires sector { 0 < sector_size }
+    requires apart { length head.now + length tail.now ≤ size }
+    ensures told { IfOk result (λ o. MatchOption o (AreCopiesTold head.now tail.now size sector_size)
+        (IsLack head.now tail.now size)) }
+    ensures refused { IfErr result (λ e. fault_of e ≡ out_of_memory) }
+{
+    if let Some(lack) = lack_of_copy(alloc, head, tail, size, sector_size, sector_size)? {
+        return Ok(Some(lack));
+    }
+    if size < sector_size {
+        return Ok(None);
+    }
+    let at = last_sector(size, sector_size);
+    match lack_of_copy(alloc, head, tail, size, at, sector_size)? {
+        Some(lack) => Ok(Some(lack)),
+        None => Ok(None),
+    }
+}
+
+// Both copies of the disk with zeros between the ends. There may be no memory.
+fn find_both(
+    alloc: Global,
+    head: &[u8],
+    tail: &[u8],
+    size: u64,
+    sector_size: u64,
+) -> Result<BothCopies>
+    requires sector { 0 < sector_size }
+    requires apart { length head.now + length tail.now ≤ size }
+    ensures found { IfOk result (AreFoundIn (disk_bytes head.now tail.now size) sector_size) }
+    ensures refused { IfErr result (λ e. fault_of e ≡ out_of_memory) }
+{
+    let mut disk = Ends::new(alloc, head, tail, size);
+    let copies = gptimg_core::check(alloc, &mut disk, sector_size);
+    if disk.failures != 0 {
+        return Err(Error::OutOfMemory);
+    }
+    copies
+}
+
+// What is told of them.
+fn check_of(copies: &BothCopies) -> Check
+    ensures primary { result.primary_fault ≡ number_in (answer_of copy_of_whole copies.now.primary) }
+    ensures backup { result.backup_fault ≡ number_in (answer_of copy_of_whole copies.now.backup) }
+    ensures same { IsTrue copies.now.are_same ↔ (result.are_same ≡ 1) }
+    ensures flag { result.are_same ≤ 1 }
+{
+    Check {
+        primary_fault: fault_in(&copies.primary),
+        backup_fault: fault_in(&copies.backup),
+        are_same: u32::from(copies.are_same),
+    }
+}
+
+// The number of the fault of a copy, or 0 where it has none.
+fn fault_in(copy: &Result<WholeCopy>) -> u32
+    ensures { result ≡ number_in (answer_of copy_of_whole copy.now) }
+{
+    match copy {
+        Ok(_) => 0,
+        Err(fault) => number_of(fault),
+    }
+}

@@ -1,0 +1,151 @@
+//! A disk of which the first and the last bytes are known. Between them it has zeros. It records what is to be
+//! written to it.
+
+ghost use Rattle.std.specs.Prelude.{◌≡◌, ◌≤◌, ◌<◌, ◌+◌, ◌^◌, ◌↔◌, [], length, get_or, IsTrue};
+ghost use Rattle.gptman.specs.Bytes.{part};
+ghost use Rattle.gptman_ends.specs.Ends.{disk_bytes};
+ghost use Rattle.gptman_ends.specs.Plan.{acts_of, plan_sound, plan_state, view_of};
+
+use crate::record::Record;
+use gptman::Disk;
+use gptman::disk::{count_failure, passes_end, past_end};
+use std::alloc::Global;
+use std::io;
+
+/// A disk of which the ends are known.
+#[derive(Drop)]
+pub struct Ends<'a> {
+    pub head: &'a [u8],
+    pub tail: &'a [u8],
+    pub plan: Record,
+    pub position: u64,
+    // How often there was no memory for a step.
+    pub failures: u64,
+    ghost long: { length (view_of (disk_bytes head.now tail.now plan.size)
+        (acts_of plan.bytes.items plan.steps.items)) ≡ plan.size },
+    ghost apart: { length head.now + length tail.now ≤ plan.size },
+    ghost small: { plan.size < 2 ^ 64 },
+}
+
+impl<'a> Ends<'a> {
+    /// A disk of so many bytes, with these ends, to which nothing was written.
+    pub fn new(alloc: Global, head: &'a [u8], tail: &'a [u8], size: u64) -> Self
+        requires { length head.now + length tail.now ≤ size }
+        ensures head { result.head.now ≡ head.now }
+        ensures tail { result.tail.now ≡ tail.now }
+        ensures size { result.plan.size ≡ size }
+        ensures acts { acts_of result.plan.bytes.items result.plan.steps.items ≡ [] }
+        ensures position { result.position ≡ 0 }
+        ensures failures { result.failures ≡ 0 }
+    {
+        Ends {
+            head,
+            tail,
+            plan: Record::new(alloc, size),
+            position: 0,
+            failures: 0,
+        }
+    }
+
+    /// Whether these are its ends and its length. They are, and no call changes them: this tells it to the proof.
+    pub fn is_over(&self, head: &[u8], tail: &[u8], size: u64) -> bool
+        ensures head { IsTrue result → self.now.head.now ≡ head.now }
+        ensures tail { IsTrue result → self.now.tail.now ≡ tail.now }
+        ensures size { IsTrue result → self.now.plan.size ≡ size }
+    {
+        self.head == head && self.tail == tail && self.plan.size == size
+    }
+
+    /// What was recorded.
+    pub fn into_plan(self) -> Record
+        ensures { result ≡ self.entry.plan }
+    {
+        self.plan
+    }
+
+    // The byte at this place, before anything was written.
+    fn byte_at(&self, at: u64) -> u8
+        requires { at < self.now.plan.size }
+        ensures { result ≡ get_or (disk_bytes self.now.head.now self.now.tail.now self.now.plan.size) at 0 }
+    {
+        let behind = self.plan.size - self.tail.len() as u64;
+        if at < self.head.len() as u64 {
+            self.head[at as usize]
+        } else if at < behind {
+            0
+        } else {
+            self.tail[(at - behind) as usize]
+        }
+    }
+
+    // Fills the buffer from the position on, with what was there before anything was written.
+    fn fill(&self, buf: &mut [u8])
+        requires { self.now.position + length buf.old ≤ self.now.plan.size }
+        ensures { buf.new ≡ part (disk_bytes self.now.head.now self.now.tail.now self.now.plan.size)
+            self.now.position (length buf.old) }
+    {
+        for i in 0..buf.len() {
+            buf[i] = self.byte_at(self.position + i as u64);
+        }
+    }
+}
+
+/// Whether a disk of so many bytes has room for both ends side by side.
+pub fn are_apart(head: &[u8], tail: &[u8], size: u64) -> bool
+    ensures apart { IsTrue result ↔ (length head.now + length tail.now ≤ size) }
+{
+    let head = head.len() as u64;
+    let tail = tail.len() as u64;
+    head <= size && tail <= size - head
+}
+
+impl<'a> Disk for Ends<'a> {
+    ghost state = { λ d. plan_state (disk_bytes d.head.now d.tail.now d.plan.size)
+        (acts_of d.plan.bytes.items d.plan.steps.items) d.plan.size d.position d.failures };
+
+    fn seek_start(&mut self, at: u64) -> io::Result<u64> {
+        self.position = at;
+        Ok(at)
+    }
+
+    fn seek_end(&mut self) -> io::Result<u64> {
+        self.position = self.plan.size;
+        Ok(self.plan.size)
+    }
+
+    fn read_exact(&mut self, buf: &mut [u8]) -> io::Result<()> {
+        if passes_end(self.plan.size, self.position, buf.len() as u64) {
+            return Err(past_end());
+        }
+        if !self.plan.steps.is_empty() {
+            count_failure(&mut self.failures);
+            return Err(io::Error::other("a read behind a write"));
+        }
+        self.fill(buf);
+        self.position += buf.len() as u64;
+        Ok(())
+    }
+
+    fn write_all(&mut self, buf: &[u8]) -> io::Result<()> {
+        if !self.plan.write(self.position, buf) {
+            count_failure(&mut self.failures);
+            return Err(io::Error::other("no memory for a step"));
+        }
+        self.position += buf.len() as u64;
+        Ok(())
+    }
+
+    fn sync(&mut self) -> io::Result<()> {
+        if !self.plan.sync() {
+            count_failure(&mut self.failures);
+            return Err(io::Error::other("no memory for a step"));
+        }
+        Ok(())
+    }
+
+    ghost bounded = { λ d. d.small };
+
+    ghost sound = { λ d honest.
+        plan_sound (disk_bytes d.head.now d.tail.now d.plan.size) (acts_of d.plan.bytes.items d.plan.steps.items) d.plan.size d.position
+        d.failures d.long };
+}

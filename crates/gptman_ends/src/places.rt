@@ -1,0 +1,114 @@
+//! What the ends have to show for a write.
+
+ghost use Rattle.std.specs.Prelude.{◌≡◌, ◌≤◌, ◌<◌, ◌⊎◌, ◌+◌, ◌++◌, length, MatchOption};
+ghost use Rattle.gptman.specs.Layout.{copy_ranges_at};
+ghost use Rattle.gptman.specs.Ranges.{AreInside};
+ghost use Rattle.gptman.specs.Reading.{primary, backup};
+ghost use Rattle.gptman.specs.Table.{table_in};
+ghost use Rattle.gptman_ends.specs.Crossing.{four_ranges};
+ghost use Rattle.gptman_ends.specs.Ends.{AreRangesKnown, IsKnown};
+ghost use Rattle.gptman_ends.specs.Plan.{acts_of, AreKnown};
+ghost use Rattle.gptman_ends.specs.Reading.{IsLack};
+
+use crate::reading::{Lack, lack_of};
+use crate::record::Record;
+use crate::records::Step;
+use gptman::GPT;
+use gptman::disk::passes_end;
+use gptman_copy::copy::last_sector;
+
+/// What the ends lack of the four ranges of the table, if these are all on the disk.
+pub fn lack_of_places(head: &[u8], tail: &[u8], size: u64, table: &GPT) -> Option<Lack>
+    requires sector { 0 < table.now.sector_size }
+    requires room { table.now.sector_size ≤ size }
+    requires count { 0 < table.now.header.number_of_partition_entries }
+    requires apart { length head.now + length tail.now ≤ size }
+    ensures { MatchOption result
+        (AreInside (four_ranges (table_in table.now) table.now.sector_size size) size
+        → AreRangesKnown (length head.now) (length tail.now) size
+        (four_ranges (table_in table.now) table.now.sector_size size))
+        (IsLack head.now tail.now size) }
+{
+    let sector_size = table.sector_size;
+    let array = 128 * u64::from(table.header.number_of_partition_entries);
+    let start = sector_size.checked_mul(2)?;
+    let lack = lack_of_both(head, tail, size, sector_size, start, array);
+    if lack.is_some() {
+        return lack;
+    }
+    let start = table
+        .header
+        .last_usable_lba
+        .checked_add(1)?
+        .checked_mul(sector_size)?;
+    let header = last_sector(size, sector_size);
+    lack_of_both(head, tail, size, header, start, array)
+}
+
+/// What the ends lack of the bytes that the steps write.
+#[tactic(auto, using(crate::proofs::KnownSteps::first_fits, crate::proofs::KnownSteps::known_more))]
+pub fn lack_of_steps(head: &[u8], tail: &[u8], plan: &Record) -> Option<Lack>
+    requires { length head.now + length tail.now ≤ plan.now.size }
+    ensures { MatchOption result
+        (AreKnown (length head.now) (length tail.now) plan.now.size
+        (acts_of plan.now.bytes.items plan.now.steps.items))
+        (IsLack head.now tail.now plan.now.size) }
+{
+    for step in &plan.steps {
+        let lack = lack_of_step(head, tail, plan.size, step);
+        if lack.is_some() {
+            return lack;
+        }
+    }
+    None
+}
+
+// What the ends lack of the bytes that the step writes.
+fn lack_of_step(head: &[u8], tail: &[u8], size: u64, step: &Step) -> Option<Lack>
+    requires apart { length head.now + length tail.now ≤ size }
+    requires inside { step.now.offset + step.now.length ≤ size }
+    ensures { MatchOption result
+        ((step.now.kind ≡ 2) ⊎ IsKnown (length head.now) (length tail.now) size
+        (step.now.offset, step.now.length))
+        (IsLack head.now tail.now size) }
+{
+    if step.kind == 2 {
+        return None;
+    }
+    lack_of(head, tail, size, step.offset, step.length)
+}
+
+// What the ends lack of a header and of an array of so many bytes, where these are on the disk.
+fn lack_of_both(
+    head: &[u8],
+    tail: &[u8],
+    size: u64,
+    header: u64,
+    start: u64,
+    array: u64,
+) -> Option<Lack>
+    requires { length head.now + length tail.now ≤ size }
+    ensures { MatchOption result
+        ((header + 92 ≤ size → IsKnown (length head.now) (length tail.now) size (header, 92))
+        × (start + array ≤ size → IsKnown (length head.now) (length tail.now) size (start, array)))
+        (IsLack head.now tail.now size) }
+{
+    let lack = lack_inside(head, tail, size, header, 92);
+    if lack.is_some() {
+        return lack;
+    }
+    lack_inside(head, tail, size, start, array)
+}
+
+// What the ends lack of so many bytes, where these are on the disk.
+fn lack_inside(head: &[u8], tail: &[u8], size: u64, from: u64, len: u64) -> Option<Lack>
+    requires { length head.now + length tail.now ≤ size }
+    ensures { MatchOption result
+        (from + len ≤ size → IsKnown (length head.now) (length tail.now) size (from, len))
+        (IsLack head.now tail.now size) }
+{
+    if passes_end(size, from, len) {
+        return None;
+    }
+    lack_of(head, tail, size, from, len)
+}

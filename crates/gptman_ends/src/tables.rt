@@ -1,0 +1,79 @@
+//! The plan of a table's write.
+
+ghost use Rattle.std.specs.Prelude.{◌≡◌, ◌≤◌, ◌<◌, ◌+◌, ℕ, List, length, IfErr, IfOk};
+ghost use Rattle.gptman.specs.Copy.{IsCoherent};
+ghost use Rattle.gptman.specs.Layout.{HasLayout};
+ghost use Rattle.gptman.specs.Table.{entries_in, table_in};
+ghost use Rattle.gptman_ends.specs.Ends.{disk_bytes, HasEnds};
+ghost use Rattle.gptman_ends.specs.Plan.{acts_of};
+ghost use Rattle.gptman_ends.specs.Planning.{IsTablePlan, IsTableRefusal, IsWrittenPlan};
+
+use crate::ends::Ends;
+use crate::places::{lack_of_places, lack_of_steps};
+use crate::planning::Refusal;
+use crate::record::Record;
+use crate::turns::is_in_turns;
+use gptman::{Error, GPT};
+use std::alloc::Global;
+
+/// The steps that write this table to a disk with these ends.
+pub fn plan_table(
+    alloc: Global,
+    head: &[u8],
+    tail: &[u8],
+    size: u64,
+    table: GPT,
+) -> Result<Record, Refusal>
+    requires sector { 0 < table.sector_size }
+    requires room { table.sector_size ≤ size }
+    requires count { 0 < table.header.number_of_partition_entries }
+    requires coherent { IsCoherent table.header (entries_in table) }
+    requires apart { length head.now + length tail.now ≤ size }
+    ensures plan { IfOk result (λ plan. (b : List ℕ) → HasEnds b head.now tail.now size
+        → IsTablePlan b table (acts_of plan.bytes.items plan.steps.items)) }
+    ensures size { IfOk result (λ plan. plan.size ≡ size) }
+    ensures refused { IfErr result (IsTableRefusal head.now tail.now size table) }
+{
+    match lack_of_places(head, tail, size, &table) {
+        None => {}
+        Some(lack) => return Err(Refusal::Lacks(lack)),
+    }
+    let sector_size = table.sector_size;
+    let header = table.header;
+    let plan = record_table(alloc, head, tail, size, table)?;
+    if !is_in_turns(&plan, &header, sector_size) {
+        return Err(Refusal::Refused(Error::OutOfMemory));
+    }
+    match lack_of_steps(head, tail, &plan) {
+        None => Ok(plan),
+        Some(lack) => Err(Refusal::Lacks(lack)),
+    }
+}
+
+// The steps that write this table to the disk with zeros between its ends.
+fn record_table(
+    alloc: Global,
+    head: &[u8],
+    tail: &[u8],
+    size: u64,
+    mut table: GPT,
+) -> Result<Record, Refusal>
+    requires sector { 0 < table.sector_size }
+    requires coherent { IsCoherent table.header (entries_in table) }
+    requires apart { length head.now + length tail.now ≤ size }
+    ensures size { IfOk result (λ plan. plan.size ≡ size) }
+    ensures refused { IfErr result (IsTableRefusal head.now tail.now size table) }
+    ensures written { IfOk result (λ plan. HasLayout table size
+        → IsWrittenPlan (disk_bytes head.now tail.now size) table.sector_size (table_in table)
+        (acts_of plan.bytes.items plan.steps.items)) }
+{
+    let mut disk = Ends::new(alloc, head, tail, size);
+    let written = table.write_into(&mut disk);
+    if disk.failures != 0 || !disk.is_over(head, tail, size) {
+        return Err(Refusal::Refused(Error::OutOfMemory));
+    }
+    match written {
+        Ok(_header) => Ok(disk.into_plan()),
+        Err(fault) => Err(Refusal::Refused(fault)),
+    }
+}
