@@ -132,64 +132,54 @@ static uint32_t call_at_random(void) {
     return answer;
 }
 
-/* The good image, with each request for memory refused in turn. */
+/* Each call once with the good image, until one is not done: what that one answers. */
+static uint32_t call_each(const uint8_t *head, const uint8_t *tail) {
+    static gptman_partition partitions[128];
+    static gptman_step steps[64];
+    static uint8_t bytes[1 << 16];
+    gptman_table table = {{0}, 0, 0, 0, 0, 0};
+    gptman_needed needed = {0, 0, 0, 0};
+    gptman_copies copies;
+    uint64_t lba;
+    uint32_t answer = gptman_read(head, 17408, tail, 16896, image_size, 512, &table, partitions, 128, &needed);
+    if (answer == 0) {
+        answer = gptman_write(head, 17408, tail, 16896, image_size, 512, partitions, 128, steps, 64, bytes,
+                              sizeof bytes, &needed);
+    }
+    if (answer == 0) {
+        answer = gptman_fit(head, 17408, tail, 16896, image_size, 512, steps, 64, bytes, sizeof bytes, &needed);
+    }
+    if (answer == 0) {
+        answer = gptman_new(head, 17408, tail, 16896, image_size, 512, &table, steps, 64, bytes, sizeof bytes, &needed);
+    }
+    if (answer == 0) answer = gptman_check(head, 17408, tail, 16896, image_size, 512, &copies, &needed);
+    if (answer == 0) answer = gptman_mbr(image_size, 512, 0, bytes, sizeof bytes);
+    table.align = 1;
+    if (answer == 0) answer = gptman_place(&table, partitions, 128, 1, GPTMAN_BEST, &lba);
+    return answer;
+}
+
+/* The same with each request for memory refused in turn. Answers how many there are. */
 static int refuse_in_turn(void) {
     room head = take(17408, 1, 1), tail = take(16896, 1, 1);
     memcpy(head.at, image, 17408), memcpy(tail.at, image + image_size - 16896, 16896);
-    int refused = 0;
-    for (long k = 0; k < 4000; k++) {
-        gptman_table table;
-        gptman_needed needed;
-        static gptman_partition partitions[128];
-        static gptman_step steps[64];
-        static uint8_t bytes[1 << 16];
-        memset(&table, 0, sizeof table), memset(&needed, 0, sizeof needed);
+    for (int k = 0; k < 4000; k++) {
         left = k;
-        uint32_t read = gptman_read(head.at, 17408, tail.at, 16896, image_size, 512, &table, partitions, 128, &needed);
-        long after_read = left;
-        if (read == 0) {
-            uint32_t answer = gptman_write(head.at, 17408, tail.at, 16896, image_size, 512, partitions, 128, steps, 64,
-                                           bytes, sizeof bytes, &needed);
-            if (answer == 0) {
-                answer = gptman_fit(head.at, 17408, tail.at, 16896, image_size, 512, steps, 64, bytes, sizeof bytes,
-                                    &needed);
-            }
-            if (answer == 0 && left >= 0) { left = -1; return refused; }
-            if (answer != 15 && answer != 0) exit(7);
-        } else if (read != 15 || after_read > 0) {
-            exit(8);
-        }
-        left = -1, refused++;
+        uint32_t answer = call_each(head.at, tail.at);
+        int was_refused = left < 0;
+        left = -1;
+        if (answer != (was_refused ? 15 : 0)) exit(7);
         if (taken != given) exit(9);
+        if (!was_refused) return k;
     }
     exit(10);
-}
-
-/* The same of a look at both copies and of an MBR. */
-static int refuse_others_in_turn(void) {
-    room head = take(17408, 1, 1), tail = take(16896, 1, 1);
-    memcpy(head.at, image, 17408), memcpy(tail.at, image + image_size - 16896, 16896);
-    for (int k = 0; k < 4000; k++) {
-        gptman_copies copies = {77, 77, 77};
-        gptman_needed needed;
-        static uint8_t bytes[GPTMAN_MBR_LENGTH];
-        memset(&needed, 0, sizeof needed);
-        left = k;
-        uint32_t answer = gptman_check(head.at, 17408, tail.at, 16896, image_size, 512, &copies, &needed);
-        if (answer == 0) answer = gptman_mbr(image_size, 512, 0, bytes, sizeof bytes);
-        if (answer == 0 && left >= 0) { left = -1; return k; }
-        if (answer != 15 && answer != 0) exit(18);
-        left = -1;
-        if (taken != given) exit(9);
-    }
-    exit(19);
 }
 
 int main(int argc, char **argv) {
     FILE *file = argc == 3 ? fopen(argv[1], "rb") : NULL;
     if (file == NULL) return 2;
     image_size = fread(image, 1, MOST, file);
-    int refused = refuse_in_turn() + refuse_others_in_turn(), done = 0;
+    int refused = refuse_in_turn(), done = 0;
     long runs = atol(argv[2]);
     for (long k = 0; k < runs; k++) done += call_at_random() == 0;
     if (taken != given) return 9;
