@@ -3,7 +3,7 @@ use Rattle.std.proofs.Common.{◌≡◌, ◌≢◌, ◌⊎◌, inl, inr, ⊎_eli
 use Rattle.std.specs.List.{fold}
 use Rattle.std.specs.Prelude.{get_or, nat_eq, if◌then◌else◌}
 use Rattle.std.proofs.lemmas.Bool.{cases_lt, and_parts, eq-eqb}
-use Rattle.std.proofs.lemmas.List.{drop_more, length-take-le, map-append, take_all, take-append-drop, take-append-le, take_more, take_rest}
+use Rattle.std.proofs.lemmas.List.{drop_all, drop_more, get_or_at, length-take-le, map-append, take_all, take-append-drop, take-append-le, take_more}
 use Rattle.std.proofs.lemmas.List.Folds.{list_all-append}
 use Rattle.std.proofs.lemmas.List.Sums.{fold-append}
 use Rattle.gptman.specs.Bytes.{part}
@@ -20,7 +20,7 @@ use Rattle.gptman_copy.proofs.Ranges.{Ranges, agrees_back, agrees_self, agrees_t
 use Rattle.gptman_ends.specs.Plan.{Act, AreKnown, IsActKnown, LeftBy, act_of, acts_of, pending_of, pending_step, step_fits, steps_fit, view_of, view_step}
 use Rattle.gptman_ends.specs.Plan.Act.{lay, store}
 use Rattle.gptman_ends.specs.Planning.{IsReplaced}
-use Rattle.gptman_ends.specs.Turns.{AreActsWithin, AreInTurns, AreStepsWithin, IsActWithin, IsInOneOf, IsStepWithin}
+use Rattle.gptman_ends.specs.Turns.{AreActsWithin, AreInTurns, AreStepsInTurns, AreStepsWithin, BeginsOutside, IsActWithin, IsInOneOf, IsRun, IsStepWithin}
 use Rattle.gptman_ends.specs.declared.records.Step.{Step}
 use Rattle.gptman_ends.proofs.KnownSteps.{first_fits}
 use Rattle.gptman_ends.proofs.Middle.{fits_known, known_take, length-view}
@@ -204,41 +204,120 @@ acts_within rs size bytes (s ∷ steps) fits within =
 act_is_store : (bytes : List ℕ) (s : Step) → s.kind ≡ 2 → act_of bytes s ≡ store
 act_is_store bytes s kind = λ i. if nat_eq (kind i) 2 then store else lay s.offset (part bytes s.start s.length)
 
--- A sync between steps within the first ranges and others within the others.
-joined_in_turns : (firsts others : Ranges) (size : ℕ) (bytes : List ℕ) (xs : List Step) (s : Step) (ys : List Step) → steps_fit size (length bytes) (xs ++ s ∷ ys) ≡ true → s.kind ≡ 2
-    → AreStepsWithin firsts xs → AreStepsWithin others ys → AreInTurns firsts others (acts_of bytes (xs ++ s ∷ ys))
-joined_in_turns firsts others size bytes xs s ys fits kind one other =
-    let two = and_parts (steps_fit size (length bytes) xs) (steps_fit size (length bytes) (s ∷ ys)) (sym (list_all-append (step_fits size (length bytes)) xs (s ∷ ys)) ∙ fits) in
+-- What the steps do is in turns where they are.
+pub acts_in_turns : (firsts others : Ranges) (size : ℕ) (bytes : List ℕ) (steps : List Step) → steps_fit size (length bytes) steps ≡ true → AreStepsInTurns firsts others steps
+    → AreInTurns firsts others (acts_of bytes steps)
+acts_in_turns firsts others size bytes steps fits turns =
+    let xs : List Step = turns.before in
+    let s : Step = turns.last in
+    let ys : List Step = turns.after in
+    let all : steps_fit size (length bytes) (xs ++ s ∷ ys) ≡ true = subst (λ (l : List Step). steps_fit size (length bytes) l ≡ true) turns.joined fits in
+    let two = and_parts (steps_fit size (length bytes) xs) (steps_fit size (length bytes) (s ∷ ys)) (sym (list_all-append (step_fits size (length bytes)) xs (s ∷ ys)) ∙ all) in
     record {
       before = acts_of bytes xs;
       after = acts_of bytes ys;
-      joined = map-append (act_of bytes) xs (s ∷ ys) ∙ (λ i. acts_of bytes xs ++ act_is_store bytes s kind i ∷ acts_of bytes ys);
-      in_firsts = acts_within firsts size bytes xs two.0 one;
-      in_others = acts_within others size bytes ys (first_fits size (length bytes) s ys two.1).2 other;
+      joined = ap (λ (l : List Step). acts_of bytes l) turns.joined ∙ map-append (act_of bytes) xs (s ∷ ys) ∙ (λ i. acts_of bytes xs ++ act_is_store bytes s turns.sync i ∷ acts_of bytes ys);
+      in_firsts = acts_within firsts size bytes xs two.0 turns.in_firsts;
+      in_others = acts_within others size bytes ys (first_fits size (length bytes) s ys two.1).2 turns.in_others;
     }
 
--- The first steps, of which the last is a sync, and the rest.
-pub steps_in_turns : (firsts others : Ranges) (size : ℕ) (bytes : List ℕ) (steps : List Step) (n : ℕ) (s : Step) → steps_fit size (length bytes) steps ≡ true → n < length steps
-    → get_or steps n s ≡ s → s.kind ≡ 2 → AreStepsWithin firsts (take (n + 1) steps) → AreStepsWithin others (drop (n + 1) steps) → AreInTurns firsts others (acts_of bytes steps)
-steps_in_turns firsts others size bytes steps n s fits few at kind one other =
-    let split : take n steps ++ s ∷ drop (n + 1) steps ≡ steps =
-    (λ i. take n steps ++ sym at i ∷ drop (n + 1) steps) ∙ ap (λ (l : List Step). take n steps ++ l) (sym (drop_more steps n s few)) ∙ take-append-drop n steps in
-    let fewer : AreStepsWithin firsts (take n steps) =
-    fewer_within firsts (take n steps) s (subst (λ (l : List Step). AreStepsWithin firsts l) (take_more steps n s few ∙ (λ i. take n steps ++ at i ∷ [])) one) in
-    subst (λ (l : List Step). AreInTurns firsts others (acts_of bytes l)) split
-    (joined_in_turns firsts others size bytes (take n steps) s (drop (n + 1) steps) (ap (λ (l : List Step). steps_fit size (length bytes) l) split ∙ fits) kind fewer other)
+-- ---- how many steps are within ranges
 
--- The same, by how many steps come first.
-pub counted_in_turns : (firsts others : Ranges) (size : ℕ) (bytes : List ℕ) (steps : List Step) (turn : ℕ) (s : Step) → steps_fit size (length bytes) steps ≡ true → turn ≢ 0 → turn ≤ length steps
-    → s ≡ get_or steps (turn - 1) s → s.kind ≡ 2 → AreStepsWithin firsts (take turn steps) → AreStepsWithin others (drop turn steps) → AreInTurns firsts others (acts_of bytes steps)
-counted_in_turns firsts others size bytes steps turn s fits some most at kind one other =
-    let next : turn ≡ turn - 1 + 1 = omega (arith, some) in
-    steps_in_turns firsts others size bytes steps (turn - 1) s fits (omega (arith, some, most)) (sym at) kind
-    (subst (λ (n : ℕ). AreStepsWithin firsts (take n steps)) next one) (subst (λ (n : ℕ). AreStepsWithin others (drop n steps)) next other)
+-- there is one such number
+pub one_run : (rs : Ranges) (steps : List Step) (n m : ℕ) → IsRun rs steps n → IsRun rs steps m → n ≡ m
+one_run rs [] zero zero one other = refl
+one_run rs [] zero (suc m) one other = absurd (omega (arith, other.most))
+one_run rs [] (suc n) m one other = absurd (omega (arith, one.most))
+one_run rs (s ∷ steps) zero zero one other = refl
+one_run rs (s ∷ steps) zero (suc m) one other = absurd (one.outside other.within.0)
+one_run rs (s ∷ steps) (suc n) zero one other = absurd (other.outside one.within.0)
+one_run rs (s ∷ steps) (suc n) (suc m) one other = ap suc (one_run rs steps n m
+    (record { within = one.within.1; outside = one.outside; most = omega (arith, one.most) })
+    (record { within = other.within.1; outside = other.outside; most = omega (arith, other.most) }))
 
--- The rest of the steps, all of which are counted.
-pub rest_within : (rs : Ranges) (steps : List Step) (turn count : ℕ) → count ≡ length (take (length steps - turn) (drop turn steps))
-    → AreStepsWithin rs (take count (take (length steps - turn) (drop turn steps))) → AreStepsWithin rs (drop turn steps)
-rest_within rs steps turn count all within =
-    let rest : List Step = take (length steps - turn) (drop turn steps) in
-    subst (λ (l : List Step). AreStepsWithin rs l) (take_rest steps turn) (subst (λ (l : List Step). AreStepsWithin rs l) (take_all count rest (omega (arith, all))) within)
+outside_none : (rs : Ranges) (steps : List Step) → steps ≡ [] → BeginsOutside rs steps
+outside_none rs steps none = subst (λ (l : List Step). BeginsOutside rs l) (sym none) tt
+
+-- All of them are.
+pub whole_run : (rs : Ranges) (steps : List Step) (n : ℕ) → n ≡ length steps → AreStepsWithin rs steps → IsRun rs steps n
+whole_run rs steps n all within = record {
+  within = subst (λ (l : List Step). AreStepsWithin rs l) (sym (take_all n steps (omega (arith, all)))) within;
+  outside = outside_none rs (drop n steps) (drop_all n steps (omega (arith, all)));
+  most = omega (arith, all);
+}
+
+pub run_whole : (rs : Ranges) (steps : List Step) (n : ℕ) → n ≡ length steps → IsRun rs steps n → AreStepsWithin rs steps
+run_whole rs steps n all run = subst (λ (l : List Step). AreStepsWithin rs l) (take_all n steps (omega (arith, all))) run.within
+
+-- Those up to a sync are, where the next one is not.
+run_joined : (rs : Ranges) (xs : List Step) (s : Step) (ys : List Step) → AreStepsWithin rs xs → s.kind ≡ 2 → BeginsOutside rs ys → IsRun rs (xs ++ s ∷ ys) (suc (length xs))
+run_joined rs [] s ys within sync outside = record { within = (inl sync, tt); outside = outside; most = omega arith }
+run_joined rs (x ∷ xs) s ys within sync outside =
+    let rest : IsRun rs (xs ++ s ∷ ys) (suc (length xs)) = run_joined rs xs s ys within.1 sync outside in
+    record { within = (within.0, rest.within); outside = rest.outside; most = omega (arith, rest.most) }
+
+drop_past : (xs : List Step) (s : Step) (ys : List Step) → drop (suc (length xs)) (xs ++ s ∷ ys) ≡ ys
+drop_past [] s ys = refl
+drop_past (x ∷ xs) s ys = drop_past xs s ys
+
+-- Steps in turns, as the code counts them: the last of the run is a sync, and the rest are within the others.
+pub turned : (firsts others : Ranges) (steps : List Step) (run : ℕ) (d : Step) → IsRun firsts steps run → AreStepsInTurns firsts others steps
+    → (run ≢ 0) × ((get_or steps (run - 1) d).kind ≡ 2) × AreStepsWithin others (drop run steps)
+turned firsts others steps run d is turns = (
+  λ none. absurd (omega (arith, same, none)),
+  subst (λ (s : Step). s.kind ≡ 2) (sym is_last) turns.sync,
+  subst (λ (l : List Step). AreStepsWithin others l) (sym dropped) turns.in_others,
+)
+  where
+    xs : List Step
+    xs = turns.before
+
+    same : run ≡ suc (length xs)
+    same = one_run firsts steps run (suc (length xs)) is
+        (subst (λ (l : List Step). IsRun firsts l (suc (length xs))) (sym turns.joined) (run_joined firsts xs turns.last turns.after turns.in_firsts turns.sync turns.outside))
+
+    is_last : get_or steps (run - 1) d ≡ turns.last
+    is_last = (λ i. get_or (turns.joined i) (run - 1) d) ∙ get_or_at xs turns.last turns.after d (run - 1) (omega (arith, same))
+
+    dropped : drop run steps ≡ turns.after
+    dropped = (λ i. drop (same i) (turns.joined i)) ∙ drop_past xs turns.last turns.after
+
+-- Such steps are in turns.
+pub in_turns_from : (firsts others : Ranges) (steps : List Step) (run : ℕ) (d : Step) → IsRun firsts steps run → run ≢ 0 → (get_or steps (run - 1) d).kind ≡ 2
+    → AreStepsWithin others (drop run steps) → AreStepsInTurns firsts others steps
+in_turns_from firsts others steps run d is some sync rest = record {
+  before = take n steps;
+  last = s;
+  after = drop run steps;
+  joined = sym split;
+  in_firsts = fewer_within firsts (take n steps) s (subst (λ (l : List Step). AreStepsWithin firsts l) all is.within);
+  sync = sync;
+  outside = is.outside;
+  in_others = rest;
+}
+  where
+    n : ℕ
+    n = run - 1
+
+    s : Step
+    s = get_or steps n d
+
+    next : run ≡ n + 1
+    next = omega (arith, some)
+
+    few : n < length steps
+    few = omega (arith, some, is.most)
+
+    split : take n steps ++ s ∷ drop run steps ≡ steps
+    split = (λ i. take n steps ++ s ∷ drop (next i) steps) ∙ ap (λ (l : List Step). take n steps ++ l) (sym (drop_more steps n d few)) ∙ take-append-drop n steps
+
+    all : take run steps ≡ take n steps ++ s ∷ []
+    all = ap (λ (k : ℕ). take k steps) next ∙ take_more steps n d few
+
+-- The same of equal ranges and steps.
+pub same_turns : {firsts firsts_too others others_too : Ranges} {steps steps_too : List Step} → firsts ≡ firsts_too → others ≡ others_too → steps ≡ steps_too
+    → AreStepsInTurns firsts others steps → AreStepsInTurns firsts_too others_too steps_too
+same_turns {firsts} {firsts_too} {others} {others_too} {steps} {steps_too} one other same turns =
+    subst (λ (rs : Ranges). AreStepsInTurns rs others_too steps_too) one
+    (subst (λ (rs : Ranges). AreStepsInTurns firsts rs steps_too) other
+    (subst (λ (l : List Step). AreStepsInTurns firsts others l) same turns))

@@ -1,7 +1,7 @@
 -- The order in which acts write the two copies of a table.
-use Rattle.std.specs.Prelude.{◌≡◌, ◌≤◌, ◌⊎◌, ◌+◌, ℕ, List, [], ◌∷◌, ◌++◌, length}
+use Rattle.std.specs.Prelude.{◌≡◌, ◌≤◌, ◌<◌, ◌⊎◌, ◌+◌, ◌*◌, ◌^◌, ℕ, List, [], ◌∷◌, ◌++◌, length, take, drop}
 use Rattle.gptman.specs.Layout.{copy_ranges_at}
-use Rattle.gptman.specs.Reading.{Side}
+use Rattle.gptman.specs.Reading.{Side, primary, backup}
 use Rattle.gptman.specs.Table.{table_of}
 use Rattle.gptman_copy.specs.declared.codec.header.GPTHeader.{GPTHeader}
 use Rattle.gptman_ends.specs.Plan.{Act}
@@ -33,6 +33,28 @@ abbrev pub AreStepsWithin : List (ℕ × ℕ) → List Step → Type 0
 AreStepsWithin ranges [] = Unit {0}
 AreStepsWithin ranges (step ∷ steps) = IsStepWithin ranges step × AreStepsWithin ranges steps
 
+-- the first of the steps is not within the ranges, if there is one
+abbrev pub BeginsOutside : List (ℕ × ℕ) → List Step → Type 0
+BeginsOutside ranges [] = Unit {0}
+BeginsOutside ranges (step ∷ steps) = ¬ IsStepWithin ranges step
+
+-- So many steps are within the ranges, and the next one is not.
+pub record IsRun (ranges : List (ℕ × ℕ)) (steps : List Step) (run : ℕ) : Type 0 where
+  pub within : AreStepsWithin ranges (take run steps)
+  pub outside : BeginsOutside ranges (drop run steps)
+  pub most : run ≤ length steps
+
+-- The steps within the first ranges end with a sync, and all that come behind it are within the others.
+pub record AreStepsInTurns (firsts others : List (ℕ × ℕ)) (steps : List Step) : Type 0 where
+  pub before : List Step
+  pub last : Step
+  pub after : List Step
+  pub joined : steps ≡ before ++ last ∷ after
+  pub in_firsts : AreStepsWithin firsts before
+  pub sync : last.kind ≡ 2
+  pub outside : BeginsOutside firsts after
+  pub in_others : AreStepsWithin others after
+
 -- The acts write in the first ranges alone, and sync, and then in the others alone.
 pub record AreInTurns (firsts others : List (ℕ × ℕ)) (acts : List Act) : Type 0 where
   pub before : List Act
@@ -48,3 +70,9 @@ ranges_of r = (r.header, 92) ∷ (r.entries, r.size) ∷ []
 -- those at a side of a table with this header, on a disk of len bytes
 abbrev pub header_ranges : Side → GPTHeader → ℕ → ℕ → List (ℕ × ℕ)
 header_ranges side h ss len = copy_ranges_at side (table_of h []) ss len
+
+-- Both copies of a table with this header begin below byte 2^64, and the steps write its backup copy and sync, and then its primary copy.
+pub record AreCopiesInTurns (h : GPTHeader) (ss len : ℕ) (steps : List Step) : Type 0 where
+  pub backup_fits : (h.last_usable_lba + 1) * ss < 2 ^ 64
+  pub primary_fits : 2 * ss < 2 ^ 64
+  pub turns : AreStepsInTurns (header_ranges backup h ss len) (header_ranges primary h ss len) steps

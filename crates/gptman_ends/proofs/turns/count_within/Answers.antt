@@ -9,5 +9,5 @@ loop-step-preserved c =
     let rs = ranges_of c.args.ranges.now in (
       omega arith,
       subst (AreStepsWithin rs) (sym (take_more c.args.steps.now c.loop-step.step-index _ c.loop-step-test.true))
-          (within_more rs _ _ c.loop-step.invariant.1 (c.if-not-is_within.ensures refl)),
+          (within_more rs _ _ c.loop-step.invariant.1 (c.if-not-is_within.ensures.0 refl)),
     )

@@ -1,13 +1,13 @@
-use Rattle.std.proofs.Common.{List, subst}
-use Rattle.gptman.specs.Reading.{primary}
-use Rattle.gptman_copy.proofs.Ranges.{Ranges}
-use Rattle.gptman_ends.specs.Plan.{Act, acts_of}
-use Rattle.gptman_ends.specs.Turns.{AreInTurns, header_ranges, ranges_of}
+use Rattle.std.proofs.Common.{sym}
+use Rattle.gptman_ends.proofs.InTurns.{same_turns}
 use Rattle.gptman_ends.proofs.turns.is_in_turns.Goals as goal
 
 pub returns : goal.returns
-returns c = λ yes form.
-    let p = c.args.plan.now in
-    let acts : List Act = acts_of p.bytes.items p.steps.items in
-    subst (λ (rs : Ranges). AreInTurns rs (header_ranges primary c.args.header.now c.args.sector_size p.size) acts) c.in-Some.ensures
-    (subst (λ (rs : Ranges). AreInTurns (ranges_of c.in-Some.first) rs acts) (c.in-Some-primary_ranges.ensures p.size) (c.are_in_turns.ensures yes))
+returns c =
+    let first = c.in-Some.ensures in
+    let other = c.in-Some-primary_ranges.ensures in
+    let len = c.args.plan.now.size in
+    let steps = c.deref.ensures.value in (
+      λ yes form. record { backup_fits = first.0; primary_fits = other.0; turns = same_turns first.1 (other.1 len) steps (c.are_in_turns.ensures.0 yes) },
+      λ copies. c.are_in_turns.ensures.1 (same_turns (sym first.1) (sym (other.1 len)) (sym steps) (copies (c.if-header-ne1.false, c.if-header-ne2.false)).turns),
+    )
