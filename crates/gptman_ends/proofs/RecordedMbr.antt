@@ -1,6 +1,6 @@
 -- The protective MBR that a disk recorded.
-use Rattle.std.proofs.Common.{◌≡◌, ◌≤◌, ℕ, Bool, true, false, leb, List, [], ◌∷◌, length, get_or, refl, sym, ◌∙◌, ap, arith}
-use Rattle.std.specs.Prelude.{nat_eq, if◌then◌else◌, None}
+use Rattle.std.proofs.Common.{◌≡◌, ◌≤◌, ℕ, Bool, true, false, leb, List, [], ◌∷◌, length, refl, sym, ◌∙◌, ap, arith}
+use Rattle.std.specs.Prelude.{None}
 use Rattle.std.proofs.lemmas.Bool.{leb-true}
 use Rattle.std.proofs.lemmas.List.{take_all}
 use Rattle.gptman_copy.specs.Bytes.{part}
@@ -10,25 +10,20 @@ use Rattle.gptman_copy.proofs.Overlays.{part-overlay}
 use Rattle.gptman.specs.Mbr.{mbr_bytes, mbr_fault, IsMbrLaid}
 use Rattle.gptman_ends.specs.Ends.{disk_bytes}
 use Rattle.gptman_ends.specs.Plan.{Act, acts_of, plan_state, view_of}
-use Rattle.gptman_ends.specs.Plan.Act.{lay, store}
+use Rattle.gptman_ends.specs.Plan.Act.{lay}
+use Rattle.gptman_ends.specs.Protective.{IsMbrPlan}
+use Rattle.gptman_ends.specs.declared.record.Record.{Record}
 use Rattle.gptman_ends.specs.declared.records.Step.{Step}
 use Rattle.gptman_ends.proofs.Known.{length-disk_bytes}
 use Rattle.gptman_ends.proofs.Planned.{IsAfter}
 
 -- ---- a plan of one write
 
-one_long : {T : Type 0} (xs : List T) (x : T) → length xs ≡ 1 → x ≡ get_or xs 0 x → xs ≡ x ∷ []
-one_long [] x long at = absurd (omega (arith, long))
-one_long (y ∷ []) x long at = λ i. sym at i ∷ []
-one_long (y ∷ z ∷ xs) x long at = absurd (omega (arith, long))
-
--- the first of one step writes all the bytes
-pub one_write : (bytes : List ℕ) (steps : List Step) (s : Step) (at : ℕ) → length steps ≡ 1 → s ≡ get_or steps 0 s → s.kind ≡ 1 → s.offset ≡ at → s.length ≡ length bytes → s.start ≡ 0
-    → acts_of bytes steps ≡ lay at bytes ∷ []
-one_write bytes steps s at long first kind offset all start =
-    ap (λ (l : List Step). acts_of bytes l) (one_long steps s long first)
-    ∙ (λ i. (if nat_eq (kind i) 2 then store else lay (offset i) (part bytes (start i) (all i))) ∷ [])
-    ∙ ap (λ (l : List ℕ). lay at l ∷ []) (take_all (length bytes) bytes (omega arith))
+-- its one step writes all the bytes
+pub mbr_acts : (plan : Record) → IsMbrPlan plan → acts_of plan.bytes.items plan.steps.items ≡ lay 446 plan.bytes.items ∷ []
+mbr_acts plan is =
+    ap (λ (l : List Step). acts_of plan.bytes.items l) is.0
+    ∙ ap (λ (l : List ℕ). lay 446 l ∷ []) (take_all 66 plan.bytes.items (omega (arith, is.1)))
 
 -- ---- the room
 

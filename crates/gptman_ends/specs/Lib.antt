@@ -4,5 +4,6 @@ pub mod Ends
 pub mod Faults
 pub mod Plan
 pub mod Planning
+pub mod Protective
 pub mod Reading
 pub mod Turns

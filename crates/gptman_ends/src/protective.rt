@@ -1,13 +1,13 @@
 //! The protective MBR of a disk of which only the length is known.
 
-ghost use Rattle.std.specs.Prelude.{◌≡◌, ◌<◌, ◌⊎◌, [], ◌∷◌, length, IfErr, IfOk, IsTrue, None, Some};
+ghost use Rattle.std.specs.Prelude.{◌≡◌, ◌<◌, ◌⊎◌, ◌↔◌, length, IfErr, IfOk, IsTrue, None, Some};
 ghost use Rattle.gptman.specs.Fault.{fault_of, out_of_memory};
 ghost use Rattle.gptman.specs.Mbr.{mbr_bytes, mbr_fault, AnswersMbr, LaysMbr};
-ghost use Rattle.gptman_ends.specs.Plan.{acts_of};
-ghost use Rattle.gptman_ends.specs.Plan.Act.{lay};
+ghost use Rattle.gptman_ends.specs.Protective.{IsMbrPlan};
 
 use crate::ends::Ends;
 use crate::record::Record;
+use crate::records::Step;
 use gptman::{Disk, Error, GPT, Result};
 use std::alloc::Global;
 
@@ -53,16 +53,16 @@ fn lay_mbr<D: Disk>(disk: &mut D, sector_size: u64, bootable: bool) -> Result<()
 // Whether the plan is one write of the 66 bytes of an MBR. It is, where there was memory for it: this tells it to the
 // proof.
 fn is_mbr(plan: &Record) -> bool
-    ensures acts { IsTrue result → acts_of plan.now.bytes.items plan.now.steps.items
-        ≡ lay 446 plan.now.bytes.items ∷ [] }
-    ensures len { IsTrue result → length plan.now.bytes.items ≡ 66 }
+    ensures { IsTrue result ↔ IsMbrPlan plan.now }
 {
-    if plan.steps.len() != 1 || plan.bytes.len() != 66 {
+    if plan.bytes.len() != 66 {
         return false;
     }
-    let step = &plan.steps[0];
-    if step.kind != 1 || step.offset != 446 || step.length != 66 || step.start != 0 {
-        return false;
-    }
-    true
+    let step = Step {
+        kind: 1,
+        offset: 446,
+        length: 66,
+        start: 0,
+    };
+    plan.steps.as_slice() == [step].as_slice()
 }

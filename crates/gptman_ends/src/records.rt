@@ -38,7 +38,7 @@ pub struct Partition {
 
 /// A step of a write: bytes to be written, or a sync.
 #[repr(C)]
-#[derive(Clone, Copy)]
+#[derive(Clone, Copy, PartialEq, Eq)]
 pub struct Step {
     /// 1 is a write, 2 a sync.
     pub kind: u64,

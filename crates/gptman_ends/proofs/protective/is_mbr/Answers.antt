@@ -1,8 +1,11 @@
-use Rattle.std.proofs.Common.{arith}
-use Rattle.gptman_ends.proofs.RecordedMbr.{one_write}
+use Rattle.std.proofs.Common.{◌≡◌, length, sym, ◌∙◌, rules, arith}
+use Rattle.std.proofs.lemmas.Slice.Eq.{slice_eq-Decides}
 use Rattle.gptman_ends.proofs.protective.is_mbr.Goals as goal
 
-pub returns-clause-acts : goal.returns-clause-acts
-returns-clause-acts c = λ _.
-    let plan = c.args.plan.now in
-    one_write plan.bytes.items plan.steps.items c.index-step.result.now 446 (omega arith) c.index-step.ensures c.if-step-ne1.false c.if-step-ne446.false (omega arith) c.if-step-ne0.false
+pub returns : goal.returns
+returns c =
+    let long : length c.args.plan.now.bytes.items ≡ 66 = omega arith in
+    let decides = slice_eq-Decides (λ x y. search rules) _ _ _ c.eq.ensures in (
+      λ yes. (sym c.as_slice.ensures.value ∙ decides.0 yes ∙ c.as_slice-2.ensures, long),
+      λ is. decides.1 (c.as_slice.ensures.value ∙ is.0 ∙ sym c.as_slice-2.ensures),
+    )
