@@ -197,7 +197,7 @@ enum { GPTMAN_MBR_START = 446, GPTMAN_MBR_LENGTH = 66 };
  * partition over the whole disk, for programs that know no GUID partition tables. Write them from byte
  * GPTMAN_MBR_START on; gptman_new does not. `bootable` is 1 where the partition is to be marked as bootable, else 0.
  *
- * GPTMAN_OVERFLOW: the disk is shorter than a sector. GPTMAN_NO_SPACE_LEFT: it is shorter than 512 bytes.
+ * GPTMAN_OVERFLOW: the disk is shorter than a sector. GPTMAN_NO_SPACE_LEFT: it is not, but shorter than 512 bytes.
  * GPTMAN_OUT_OF_MEMORY: there is no memory. GPTMAN_LACKS_ROOM: `byte_count` is below GPTMAN_MBR_LENGTH.
  * GPTMAN_BAD_ARGUMENT: `sector_size` is 0, or `bootable` above 1.
  *

@@ -317,12 +317,15 @@ def try_fits(tally, library, program):
     and a stop before, after and within each leaves the old table or the fitted one."""
     gptman, random_ = module(), random.Random(9)
     start(program)
+    grow = library.compile(os.path.join(TOP, "examples", "grow.c"), "grow")
     whole, states = program.bytes_of("disk.img"), 0
     for size in SIZE + 512, SIZE + 100, 2 * SIZE, 9 * SIZE + 511, SIZE, SIZE - 512, SIZE - 7 * 512:
         image = whole[:size] + random_.randbytes(max(size - SIZE, 0))
-        for name in "disk.img", "theirs.img", "ours.img":
+        for name in "disk.img", "theirs.img", "ours.img", "grown.img":
             program.write(name, image)
         tally.equals(f"the status of grow on {size} bytes", 0, program.run("theirs.img", "512", "grow")[0])
+        tally.equals(f"the status of the example on {size}", 0, subprocess.call([grow, program.file("grown.img")]))
+        tally.holds(f"what the example leaves on {size}", program.bytes_of("grown.img") == program.bytes_of("theirs.img"))
         with gptman.Disk(program.file("disk.img"), writable=True) as disk:
             old = without_form(shown(disk))
             steps, data = disk.plan_fit()

@@ -390,7 +390,7 @@ fn give(plan: &Record, steps: &mut [Step], bytes: &mut [u8], needed: &mut Needed
 ///
 /// 0: the 66 bytes are there, and those behind them as they were.
 ///
-/// 8: the disk is shorter than 512 bytes. 14: it is shorter than a sector. 15: there is no memory.
+/// 14: the disk is shorter than a sector. 8: it is not, but shorter than 512 bytes. 15: there is no memory.
 ///
 /// 18: `bytes` is shorter than 66. 19: `sector_size` is 0, or `bootable` above 1.
 #[unsafe(no_mangle)]
