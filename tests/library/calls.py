@@ -68,6 +68,15 @@ def told(gptman, path):
         return fault.name
 
 
+def read_left(tally, gptman, program):
+    """What the module tells of what a stop left, without its form; and that gptimg tells the same."""
+    found = without_form(told(gptman, program.file("left.img")))
+    status, out, _ = program.run("left.img", "512", "show")
+    theirs = "".join(f"{line.rstrip()}\n" for line in out.splitlines()) if status == 0 else fault_in(out)
+    tally.equals("what gptimg reads of it", without_form(theirs), found)
+    return found
+
+
 def shown(disk):
     """The table as the lines of `gptimg IMAGE 512 show`."""
     form = ("primary", "backup")[disk.is_backup]
@@ -223,10 +232,10 @@ def try_stops(tally, library, program):
         for after in range(len(steps) + 1):
             for torn in range(8):
                 program.write("left.img", bytes(left(random_, image, steps, data, after, torn)))
-                found = told(gptman, program.file("left.img"))
+                found = read_left(tally, gptman, program)
                 states += 1
                 tally.holds(f"the old table or the new one from {what}, stop {after}.{torn}: {found}",
-                            without_form(found) in (old, new))
+                            found in (old, new))
         program.write("left.img", bytes(left(random_, image, steps, data, len(steps), 0)))
         copies = table.read_copies(program.file("left.img"))
         tally.holds(f"both copies hold the new table at the end, from {what}", copies[0] and copies[0] == copies[1])
@@ -301,7 +310,7 @@ def try_new(tally, library, program):
     for after in range(len(steps) + 1):
         for torn in range(8):
             program.write("left.img", bytes(left(random_, image, steps, data, after, torn)))
-            found = without_form(told(gptman, program.file("left.img")))
+            found = read_left(tally, gptman, program)
             tally.holds(f"the old table or the new one, stop {after}.{torn} of a new one", found in (old, new))
     rows = [("Overflow", 512 * 33, 128), ("InvalidPartitionBoundaries", 512 * 34, 128), ("BadArgument", SIZE, 0),
             ("BadArgument", 100, 128)]
@@ -339,10 +348,10 @@ def try_fits(tally, library, program):
         for after in range(len(steps) + 1):
             for torn in range(8):
                 program.write("left.img", bytes(left(random_, image, steps, data, after, torn)))
-                found = told(gptman, program.file("left.img"))
+                found = read_left(tally, gptman, program)
                 states += 1
                 tally.holds(f"the old table or the fitted one on {size} bytes, stop {after}.{torn}: {found}",
-                            without_form(found) in (old, new))
+                            found in (old, new))
     return f"{states} states"
 
 
