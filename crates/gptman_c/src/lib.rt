@@ -13,6 +13,10 @@ ghost use Rattle.gptman.specs.Table.{new_table_of};
 ghost use Rattle.gptman_ends.specs.Checking.{IsCheckTold};
 ghost use Rattle.gptman_ends.specs.Crossing.{HasCount, IsOffer, IsRefused, IsTold};
 ghost use Rattle.gptman_ends.specs.Ends.{HasEnds, IsKnown};
+ghost use Rattle.gptman_copy.specs.Name.{units_of};
+ghost use Rattle.std.specs.Prelude.{◌∷◌, ◌++◌, IsUtf8};
+ghost use Rattle.std.specs.Str.{chars};
+ghost use Rattle.gptman_ends.specs.Naming.{name_text};
 ghost use Rattle.gptman_ends.specs.Plan.{acts_of, steps_fit};
 ghost use Rattle.gptman_ends.specs.Planning.{AreNoEnds, IsFitPlan, IsMiscounted, IsNewPlan, IsNumberOf, IsPlan};
 ghost use Rattle.gptman_ends.specs.Planning.{needed_after, refusal_number, RefusesFit, RefusesNew, RefusesPlan};
@@ -25,6 +29,7 @@ use gptman_ends::faults::{
 };
 use gptman_ends::fitting::plan_fit;
 use gptman_ends::making::plan_new;
+use gptman_ends::naming::{lay_text, name_of, units_for};
 use gptman_ends::offers::find_place;
 use gptman_ends::planning::{Refusal, plan};
 use gptman_ends::protective::plan_mbr;
@@ -459,6 +464,55 @@ pub extern "C" fn gptman_place(
             0
         }
         Ok(None) => NO_SPACE_LEFT,
+        Err(_) => OUT_OF_MEMORY,
+    }
+}
+
+/// Lays the name of a partition as UTF-8 into `text`, with a zero behind it. The name is what stands before its first
+/// unit of zero; a unit that is half of a pair gives U+FFFD.
+///
+/// 0: it is there, and what is behind the zero is as it was. 15: there is no memory. 18: `text` has no room for it
+/// and the zero; 109 bytes are enough for each name.
+#[unsafe(no_mangle)]
+pub extern "C" fn gptman_get_name(alloc: Global, partition: &Partition, text: &mut [u8]) -> u32
+    ensures text { result ≡ 0 → text.new ≡ name_text partition.now.name
+        ++ 0 ∷ drop (length (name_text partition.now.name) + 1) text.old }
+    ensures room { result ≡ 18 → length text.old ≤ length (name_text partition.now.name) }
+    ensures answers { (result ≡ 0) ⊎ ((result ≡ 15) ⊎ (result ≡ 18)) }
+    ensures kept { result ≢ 0 → text.new ≡ text.old }
+{
+    let Ok(name) = name_of(alloc, partition) else {
+        return OUT_OF_MEMORY;
+    };
+    if lay_text(name.as_str().as_bytes(), text) {
+        0
+    } else {
+        LACKS_ROOM
+    }
+}
+
+/// Gives a partition the name that these bytes of UTF-8 are, with zeros behind it.
+///
+/// 0: it is read as these bytes. 15: there is no memory. 19: the bytes are no UTF-8, have a zero, or take more than 36
+/// units of UTF-16.
+#[unsafe(no_mangle)]
+pub extern "C" fn gptman_set_name(alloc: Global, partition: &mut Partition, text: &[u8]) -> u32
+    ensures name { result ≡ 0
+        → partition.new ≡ record partition.old { name = units_of (chars text.now) } }
+    ensures back { result ≡ 0 → name_text partition.new.name ≡ text.now }
+    ensures bad { result ≡ 19 → IsUtf8 text.now → name_text (units_of (chars text.now)) ≢ text.now }
+    ensures answers { (result ≡ 0) ⊎ ((result ≡ 15) ⊎ (result ≡ 19)) }
+    ensures kept { result ≢ 0 → partition.new ≡ partition.old }
+{
+    let Ok(text) = str::from_utf8(text) else {
+        return BAD_ARGUMENT;
+    };
+    match units_for(alloc, text) {
+        Ok(Some(units)) => {
+            partition.name = units;
+            0
+        }
+        Ok(None) => BAD_ARGUMENT,
         Err(_) => OUT_OF_MEMORY,
     }
 }

@@ -2,6 +2,7 @@ pub mod Checking
 pub mod Crossing
 pub mod Ends
 pub mod Faults
+pub mod Naming
 pub mod Plan
 pub mod Planning
 pub mod Protective

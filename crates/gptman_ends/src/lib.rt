@@ -10,6 +10,7 @@ pub mod ends;
 pub mod faults;
 pub mod fitting;
 pub mod making;
+pub mod naming;
 pub mod offers;
 pub mod partitions;
 pub mod places;
