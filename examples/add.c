@@ -36,8 +36,9 @@ int main(int argc, char **argv) {
         memset(added, 0, sizeof *added);
         memcpy(added->type_guid, LINUX, 16);
         added->first_lba = strtoull(argv[2], NULL, 10), added->last_lba = strtoull(argv[3], NULL, 10);
-        for (int k = 0; k < 36 && argv[4][k] != 0; k++) added->name[k] = (uint8_t)argv[4][k]; /* ASCII */
-        answer = draw_guid(added->unique_guid) != 0 ? GPTMAN_IO : gptman_write_fd(&ends, partitions, table.entry_count);
+        answer = gptman_set_name(added, (const uint8_t *)argv[4], strlen(argv[4]));
+        if (answer == GPTMAN_OK && draw_guid(added->unique_guid) != 0) answer = GPTMAN_IO;
+        if (answer == GPTMAN_OK) answer = gptman_write_fd(&ends, partitions, table.entry_count);
     }
     free(partitions);
     gptman_ends_free(&ends);

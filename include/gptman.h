@@ -215,6 +215,21 @@ enum { GPTMAN_FIRST = 1, GPTMAN_LAST = 2, GPTMAN_BEST = 3 };
 uint32_t gptman_place(const gptman_table *table, const gptman_partition *partitions, size_t partition_count,
                       uint64_t size, uint32_t choice, uint64_t *first_lba);
 
+/* Room for each name as UTF-8, with the zero behind it. */
+enum { GPTMAN_NAME_SIZE = 109 };
+
+/* Lays the name of a partition as UTF-8 into `text`, with a zero behind it. The name is what stands before its first
+ * unit of zero; a unit that is half of a pair gives U+FFFD.
+ *
+ * GPTMAN_LACKS_ROOM: `text_size` is not above the length of the name. GPTMAN_OUT_OF_MEMORY: there is no memory. */
+uint32_t gptman_get_name(const gptman_partition *partition, uint8_t *text, size_t text_size);
+
+/* Gives a partition the name that these bytes of UTF-8 are, with zeros behind it.
+ *
+ * GPTMAN_BAD_ARGUMENT: they are no UTF-8, have a zero, or take more than 36 units of UTF-16.
+ * GPTMAN_OUT_OF_MEMORY: there is no memory. The partition is as it was then. */
+uint32_t gptman_set_name(gptman_partition *partition, const uint8_t *text, size_t text_length);
+
 /* The CRC-32 of these bytes, as a table has it of its headers and of its entries. */
 uint32_t gptman_crc32(const uint8_t *bytes, size_t byte_count);
 

@@ -1,4 +1,5 @@
 """The calls, by the module for Python: damaged images, plans that stop, and what is refused."""
+import ctypes
 import importlib
 import os
 import random
@@ -419,6 +420,49 @@ def slot_of(known, lba, align):
     return last - first + 1
 
 
+def text_of(units):
+    """The text of 36 units, as the format has it."""
+    units, text = units[:units.index(0)] if 0 in units else units, ""
+    while units:
+        pair = units[0] in range(0xD800, 0xDC00) and units[1:2] and units[1] in range(0xDC00, 0xE000)
+        if pair:
+            text += chr(0x10000 + ((units[0] - 0xD800) << 10) + units[1] - 0xDC00)
+        else:
+            text += "\ufffd" if units[0] in range(0xD800, 0xE000) else chr(units[0])
+        units = units[2 if pair else 1:]
+    return text
+
+
+def try_names(tally, library, program):
+    """Names as UTF-8, and what is no name."""
+    gptman, random_ = module(), random.Random(10)
+    calls, partition = ctypes.CDLL(os.environ["GPTMAN_LIBRARY"]), gptman._Partition()
+    for _ in range(400):
+        units = [random_.choice([random_.randrange(32, 127), random_.randrange(65536), random_.randrange(0xD800, 0xE000)])
+                 for _ in range(36)]
+        units[random_.randrange(40) % 36] = random_.choice([0, 1])
+        partition.name[:] = units
+        wanted = text_of(units).encode()
+        room = ctypes.create_string_buffer(b"x" * 120, 120)
+        size = random_.choice([len(wanted), len(wanted) + 1, 109])
+        answer = calls.gptman_get_name(ctypes.byref(partition), room, ctypes.c_size_t(size))
+        if size == len(wanted):
+            tally.equals("a name with no room for its zero", (18, b"x" * 120), (answer, room.raw))
+        else:
+            tally.equals("the text of a name", (0, wanted + b"\0" + b"x" * (119 - len(wanted))), (answer, room.raw))
+        text = "".join(random_.choice(["a", "ö", "中", "🚀"]) for _ in range(random_.randrange(40)))
+        before, units = bytes(partition), text.encode("utf-16-le")
+        answer = calls.gptman_set_name(ctypes.byref(partition), text.encode(), ctypes.c_size_t(len(text.encode())))
+        if len(units) <= 72:
+            tally.equals("the units of a text", (0, units.ljust(72, b"\0")), (answer, bytes(partition.name)))
+        else:
+            tally.equals("a name of more than 36 units", (19, before), (answer, bytes(partition)))
+    before = bytes(partition)
+    for raw in b"\xff", b"a\0", b"\xed\xa0\x80", b"\xc3", b"\0":
+        answer = calls.gptman_set_name(ctypes.byref(partition), raw, ctypes.c_size_t(len(raw)))
+        tally.equals(f"bytes that are no name: {raw}", (19, before), (answer, bytes(partition)))
+
+
 def try_refusals(tally, library, program):
     """What is refused, and that nothing is written then."""
     gptman = module()
@@ -489,5 +533,6 @@ def try_long(tally, library, program):
 
 SUBJECTS = {"damaged images": try_damaged, "both copies": try_copies, "protective MBRs": try_mbr,
             "stops among the steps": try_stops, "new tables": try_new, "tables that are fitted": try_fits,
-            "refusals of fitting": try_fit_refusals, "places": try_places, "refusals": try_refusals,
+            "refusals of fitting": try_fit_refusals, "places": try_places, "names": try_names,
+            "refusals": try_refusals,
             "long tables": try_long}

@@ -67,11 +67,11 @@ def try_examples(tally, library, program):
         tally.equals(f"the partitions of an image of {name}", [(1, 2048, 18431, EFI)],
                      [(n, e.first, e.last, e.type) for n, e in was.entries.items()] if was else None)
         tally.equals(f"list of it ({name})", listed(was.entries), run(show, path))
-        run(add, path, "40960", "61439", "data")
+        run(add, path, "40960", "61439", "Größe 💾")
         run(sys.executable, os.path.join(TOP, "examples", "add.py"), path, "81920", "81927", "naïve 🚀",
             env=library.environment())
         now = table.read(path)
-        tally.equals(f"what is added to it ({name})", {**was.entries, 2: (LINUX, 40960, 61439, 0, "data"),
+        tally.equals(f"what is added to it ({name})", {**was.entries, 2: (LINUX, 40960, 61439, 0, "Größe 💾"),
                                                        3: (LINUX, 81920, 81927, 0, "naïve 🚀")},
                      {n: e if n == 1 else (e.type, e.first, e.last, e.attributes, e.name)
                       for n, e in now.entries.items()} if now else None)
@@ -113,7 +113,8 @@ def try_headers(tally, library, program):
         lines = run("nm", "-D", "--defined-only", program.file("libgptman.so.1")).split("\n")
         names = {line.split()[-1] for line in lines if line}
         tally.equals("the names of libgptman.so.1", {"gptman_read", "gptman_write", "gptman_new", "gptman_fit",
-                                                     "gptman_check", "gptman_mbr", "gptman_place", "gptman_crc32",
+                                                     "gptman_check", "gptman_mbr", "gptman_place", "gptman_get_name",
+                                                     "gptman_set_name", "gptman_crc32",
                                                      "gptman_version"},
                      {name for name in names if not name.startswith("_")})
 

@@ -85,6 +85,19 @@ static void call_others(room head, size_t first, room tail, size_t last, uint64_
     if ((mbr == 0 && count < GPTMAN_MBR_LENGTH) || (mbr == 18 && count >= GPTMAN_MBR_LENGTH)) exit(17);
 }
 
+/* A name of random units, and one of random bytes, where there is a partition. */
+static void call_names(gptman_partition *partitions, size_t count, room data, size_t bytes) {
+    if (count == 0) return;
+    gptman_partition *last = &partitions[count - 1];
+    for (int i = 0; i < 36; i++) last->name[i] = (uint16_t)(draw(4) == 0 ? 0xd800 + draw(2048) : draw(65536));
+    uint32_t told = gptman_get_name(last, data.at, bytes);
+    if (told != 0 && told != 18) exit(21);
+    if (told == 0 && memchr(data.at, 0, bytes) == NULL) exit(22);
+    if (told == 18 && bytes >= GPTMAN_NAME_SIZE) exit(23);
+    uint32_t set = gptman_set_name(last, data.at, told == 0 ? strlen((const char *)data.at) : draw(bytes + 1));
+    if (set != 0 && set != 19) exit(24);
+}
+
 /* One call of each kind with these ends. Answers what gptman_write answered. */
 static uint32_t call(room head, size_t first, room tail, size_t last, uint64_t size, uint64_t sector, size_t count,
                      size_t steps, size_t bytes) {
@@ -111,6 +124,7 @@ static uint32_t call(room head, size_t first, room tail, size_t last, uint64_t s
     uint64_t lba = 7;
     uint32_t place = gptman_place(&table, (gptman_partition *)partitions.at, count, draw_length(), (uint32_t)draw(5), &lba);
     if (place != 0 && (lba != 7 || (place != 8 && place != 19))) exit(12);
+    call_names((gptman_partition *)partitions.at, count, data, bytes);
     give(partitions, count * sizeof(gptman_partition));
     give(made, steps * sizeof(gptman_step)), give(data, bytes);
     return answer;
@@ -156,6 +170,8 @@ static uint32_t call_each(const uint8_t *head, const uint8_t *tail) {
     if (answer == 0) answer = gptman_mbr(image_size, 512, 0, bytes, sizeof bytes);
     table.align = 1;
     if (answer == 0) answer = gptman_place(&table, partitions, 128, 1, GPTMAN_BEST, &lba);
+    if (answer == 0) answer = gptman_set_name(&partitions[0], (const uint8_t *)"name", 4);
+    if (answer == 0) answer = gptman_get_name(&partitions[0], bytes, sizeof bytes);
     return answer;
 }
 

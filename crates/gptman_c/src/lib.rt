@@ -13,7 +13,7 @@ ghost use Rattle.gptman.specs.Table.{new_table_of};
 ghost use Rattle.gptman_ends.specs.Checking.{IsCheckTold};
 ghost use Rattle.gptman_ends.specs.Crossing.{HasCount, IsOffer, IsRefused, IsTold};
 ghost use Rattle.gptman_ends.specs.Ends.{HasEnds, IsKnown};
-ghost use Rattle.gptman_copy.specs.Name.{units_of};
+ghost use Rattle.gptman.specs.Name.{units_of};
 ghost use Rattle.std.specs.Prelude.{◌∷◌, ◌++◌, IsUtf8};
 ghost use Rattle.std.specs.Str.{chars};
 ghost use Rattle.gptman_ends.specs.Naming.{name_text};
