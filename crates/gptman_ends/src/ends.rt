@@ -52,6 +52,8 @@ impl<'a> Ends<'a> {
         ensures head { IsTrue result → self.now.head.now ≡ head.now }
         ensures tail { IsTrue result → self.now.tail.now ≡ tail.now }
         ensures size { IsTrue result → self.now.plan.size ≡ size }
+        ensures over { self.now.head.now ≡ head.now → self.now.tail.now ≡ tail.now → self.now.plan.size ≡ size
+            → IsTrue result }
     {
         self.head == head && self.tail == tail && self.plan.size == size
     }
