@@ -6,12 +6,12 @@ use Rattle.std.proofs.lemmas.Option.{slice_get_within, slice_get-get_or}
 use Rattle.gptman.specs.Coding.{empty_entry}
 use Rattle.gptman.specs.Entry.{is_unused, is_used}
 use Rattle.gptman.specs.Number.{entry_at, entry_of_number, with_entry}
-use Rattle.gptman.specs.Table.{entries_in, table_in, table_of}
+use Rattle.gptman.specs.Table.{entries_in}
 use Rattle.gptman_copy.specs.declared.codec.entry.GPTPartitionEntry.{GPTPartitionEntry}
 use Rattle.gptman_copy.specs.declared.codec.header.GPTHeader.{GPTHeader}
 use Rattle.gptman.specs.declared.table.GPT.{GPT}
-use Rattle.gptedit_core.specs.Laying.{cleared, removed_all, ArePut, IsLaid}
-use Rattle.gptedit_core.specs.Named.{AreNumbered, AreThere, IsThere, IsUnnamed, LayoutsStay, StaysAs}
+use Rattle.gptedit_core.specs.Laying.{IsLaid}
+use Rattle.gptedit_core.specs.Named.{AreNumbered, AreThere, IsAgain, IsThere, IsUnnamed, LayoutsStay, StaysAs}
 use Rattle.gptedit_core.specs.Resolving.{and_then, entry_asked, entry_there, lowest_unused, number_asked, number_asked_or, partition_at, place_asked, resolved, resolved_all, unless, use_fault, used_at}
 use Rattle.gptedit_core.specs.declared.asked.Asked.{Asked}
 use Rattle.gptedit_core.specs.declared.asked.Layout.{Layout}
@@ -25,6 +25,7 @@ use Rattle.gptedit_core.specs.declared.plan.Job.TheVariants.{Lay}
 use Rattle.gptedit_core.proofs.Dumped.{equal_entries, own_part, own_there, used_is, with_used, HasNumber, IsOwn, OwnedBy}
 use Rattle.gptedit_core.proofs.Kept.{done_keeps}
 use Rattle.gptedit_core.proofs.Laid.{change_named}
+use Rattle.gptedit_core.proofs.Same.{cleared_same, put_same, removed_same}
 use Rattle.gptedit_core.proofs.Steps.{and_then_ok, else_ok}
 
 -- ---- one entry
@@ -34,7 +35,7 @@ twice None x = refl
 twice (Some a) x = refl
 
 -- What was asked of an entry is what it has, wherever it came to be.
-asked_again : (a : Asked) (x : GPTPartitionEntry) (random : List ℕ) (first last : ℕ) →
+pub asked_again : (a : Asked) (x : GPTPartitionEntry) (random : List ℕ) (first last : ℕ) →
     let y : GPTPartitionEntry = record x {
       partition_type_guid = unwrap_or a.type_guid x.partition_type_guid;
       unique_partition_guid = unwrap_or a.unique_guid x.unique_partition_guid;
@@ -52,7 +53,7 @@ asked_again a x random first last = λ i. record x {
   ending_lba = last;
 }
 
-used_of : (b : Bool) → (¬ IsTrue b) → IsTrue (not b)
+pub used_of : (b : Bool) → (¬ IsTrue b) → IsTrue (not b)
 used_of true unused = absurd (unused refl)
 used_of false unused = refl
 
@@ -62,12 +63,12 @@ given_at : (o : Option GPTPartitionEntry) (i n : ℕ) → ◌≡◌ {A = Result 
 given_at None i n is = absurd (cc)
 given_at (Some e) i n is = let same : i ≡ n = cc in (same, (e, refl))
 
-given : (g : GPT) (a : Asked) (i n : ℕ) → a.number ≡ Some i → number_asked g a ≡ Ok n → (i ≡ n) × ((e : GPTPartitionEntry) × (entry_of_number g i ≡ Some e))
+pub given : (g : GPT) (a : Asked) (i n : ℕ) → a.number ≡ Some i → number_asked g a ≡ Ok n → (i ≡ n) × ((e : GPTPartitionEntry) × (entry_of_number g i ≡ Some e))
 given g a i n number is =
     given_at (entry_of_number g i) i n (subst (λ (o : Option ℕ). number_asked_or g o (lowest_unused g) ≡ Ok n) number is)
 
 -- It is above zero, and the entry is there.
-of_by : (g : GPT) (i : ℕ) (e : GPTPartitionEntry) (b : Bool) → nat_le 1 i ≡ b
+pub of_by : (g : GPT) (i : ℕ) (e : GPTPartitionEntry) (b : Bool) → nat_le 1 i ≡ b
     → ◌≡◌ {A = Option GPTPartitionEntry} (if b then slice_get (entries_in g) (i - 1) else None) (Some e) → (1 ≤ i) × (entry_at g i ≡ e)
 of_by g i e false low is = absurd (cc)
 of_by g i e true low is =
@@ -77,18 +78,18 @@ of_by g i e true low is =
     (leb-true 1 i low, same)
 
 -- What was put first, where its number was given.
-record IsFirst (a : Asked) (i : ℕ) (p : Partition) : Type 0 where
-  number : i ≡ p.number
-  x : GPTPartitionEntry
-  used : ¬ IsTrue (is_unused p.entry)
-  entry : p.entry ≡ record x {
+pub record IsFirst (a : Asked) (i : ℕ) (p : Partition) : Type 0 where
+  pub number : i ≡ p.number
+  pub x : GPTPartitionEntry
+  pub used : ¬ IsTrue (is_unused p.entry)
+  pub entry : p.entry ≡ record x {
     partition_type_guid = unwrap_or a.type_guid x.partition_type_guid;
     unique_partition_guid = unwrap_or a.unique_guid x.unique_partition_guid;
     attribute_bits = unwrap_or a.attributes x.attribute_bits;
     partition_name = unwrap_or a.name x.partition_name;
   }
 
-is_first : (g : GPT) (mode : Mode) (a : Asked) (random : List ℕ) (i : ℕ) (p : Partition) → a.number ≡ Some i → resolved g mode a random ≡ Ok p → IsFirst a i p
+pub is_first : (g : GPT) (mode : Mode) (a : Asked) (random : List ℕ) (i : ℕ) (p : Partition) → a.number ≡ Some i → resolved g mode a random ≡ Ok p → IsFirst a i p
 is_first g mode a random i p number_is is =
     let number = and_then_ok (number_asked g a) (partition_at g mode a random) p is in
     let n : ℕ = number.0 in
@@ -102,9 +103,9 @@ is_first g mode a random i p number_is is =
     subst (IsFirst a i) end.1 (record { number = same; x = entry_there used random; used = end.0; entry = refl })
 
 -- Put again, it is the entry that is there.
-own_again : (g next : GPT) (mode : Mode) (a : Asked) (random other : List ℕ) (i : ℕ) (p q : Partition) → a.number ≡ Some i → resolved g mode a random ≡ Ok p → IsThere p next
+own_again : (g t next : GPT) (mode : Mode) (a : Asked) (random other : List ℕ) (i : ℕ) (p q : Partition) → a.number ≡ Some i → resolved g mode a random ≡ Ok p → IsThere p t next
     → resolved next (Become false) a other ≡ Ok q → IsOwn next q
-own_again g next mode a random other i p q number_is is there again =
+own_again g t next mode a random other i p q number_is is there again =
     let first = is_first g mode a random i p number_is is in
     let number = and_then_ok (number_asked next a) (partition_at next (Become false) a other) q again in
     let here = given next a i number.0 number_is number.1 in
@@ -128,23 +129,23 @@ own_again g next mode a random other i p q number_is is there again =
 
 -- ---- all of them
 
-all_again : (g next : GPT) (mode : Mode) (asked : List Asked) (randoms others : List (List ℕ)) (ps qs : List Partition) → AreNumbered asked
-    → length asked ≤ length randoms → length asked ≤ length others → resolved_all g mode asked randoms ≡ Ok ps → AreThere ps next
+pub all_again : (g t next : GPT) (mode : Mode) (asked : List Asked) (randoms others : List (List ℕ)) (ps qs : List Partition) → AreNumbered asked
+    → length asked ≤ length randoms → length asked ≤ length others → resolved_all g mode asked randoms ≡ Ok ps → AreThere ps t next
     → resolved_all next (Become false) asked others ≡ Ok qs → OwnedBy next qs
-all_again g next mode [] randoms others ps qs numbered long more all there again = let none : [] ≡ qs = cc in subst (OwnedBy next) none tt
-all_again g next mode (a ∷ asked) [] others ps qs numbered long more all there again = absurd (omega (arith, long))
-all_again g next mode (a ∷ asked) (random ∷ randoms) [] ps qs numbered long more all there again = absurd (omega (arith, more))
-all_again g next mode (a ∷ asked) (random ∷ randoms) (other ∷ others) ps qs numbered long more all there again =
+all_again g t next mode [] randoms others ps qs numbered long more all there again = let none : [] ≡ qs = cc in subst (OwnedBy next) none tt
+all_again g t next mode (a ∷ asked) [] others ps qs numbered long more all there again = absurd (omega (arith, long))
+all_again g t next mode (a ∷ asked) (random ∷ randoms) [] ps qs numbered long more all there again = absurd (omega (arith, more))
+all_again g t next mode (a ∷ asked) (random ∷ randoms) (other ∷ others) ps qs numbered long more all there again =
     let p = and_then_ok (resolved g mode a random) _ ps all in
     let rest = and_then_ok (resolved_all g mode asked randoms) _ ps p.2 in
     let whole : p.0 ∷ rest.0 ≡ ps = cc in
-    let both : AreThere (p.0 ∷ rest.0) next = subst (λ (xs : List Partition). AreThere xs next) (sym whole) there in
+    let both : AreThere (p.0 ∷ rest.0) t next = subst (λ (xs : List Partition). AreThere xs t next) (sym whole) there in
     let q = and_then_ok (resolved next (Become false) a other) _ qs again in
     let last = and_then_ok (resolved_all next (Become false) asked others) _ qs q.2 in
     let same : q.0 ∷ last.0 ≡ qs = cc in
     subst (OwnedBy next) same (
-      own_again g next mode a random other numbered.0.0 p.0 q.0 numbered.0.1 p.1 both.0 q.1,
-      all_again g next mode asked randoms others rest.0 last.0 numbered.1 (omega (arith, long)) (omega (arith, more)) rest.1 both.1 last.1,
+      own_again g t next mode a random other numbered.0.0 p.0 q.0 numbered.0.1 p.1 both.0 q.1,
+      all_again g (with_entry t p.0.number (entry_at next p.0.number)) next mode asked randoms others rest.0 last.0 numbered.1 (omega (arith, long)) (omega (arith, more)) rest.1 both.1 last.1,
     )
 
 -- ---- what that leaves under each number
@@ -162,67 +163,55 @@ pub named_or : (j : ℕ) (ps : List Partition) → HasNumber j ps ⊎ IsUnnamed 
 named_or j [] = inr (λ k d below. absurd (omega (arith, below)))
 named_or j (p ∷ ps) = named_by j p ps (nat_eq p.number j) refl (named_or j ps)
 
--- ---- the GUID of the disk
-
-put_guid : (ps : List Partition) (g h : GPT) → ArePut ps g h → h.header.disk_guid ≡ g.header.disk_guid
-put_guid [] g h is = ap (λ (m : GPT). m.header.disk_guid) is
-put_guid (p ∷ ps) g h is = put_guid ps is.0 h is.2 ∙ ap (λ (m : GPT). m.header.disk_guid) is.1.next_is
-
-clear_one : (i : ℕ) (g h : GPT) (next : GPT → Result GPT Refusal) (found : Option GPTPartitionEntry)
-    → ◌≡◌ {A = Result GPT Refusal} (elim found [ None ↦ Err (NoEntry i) | Some e ↦ next (with_entry g i empty_entry) ]) (Ok h)
-    → ((m : GPT) → next m ≡ Ok h → h.header.disk_guid ≡ m.header.disk_guid) → h.header.disk_guid ≡ g.header.disk_guid
-clear_one i g h next None is rest = absurd (cc)
-clear_one i g h next (Some e) is rest = rest (with_entry g i empty_entry) is
-
-clear_guid : (ps : List Partition) (g h : GPT) → cleared ps g ≡ Ok h → h.header.disk_guid ≡ g.header.disk_guid
-clear_guid [] g h done = let same : g ≡ h = cc in ap (λ (m : GPT). m.header.disk_guid) (sym same)
-clear_guid (p ∷ ps) g h done = clear_one p.number g h (cleared ps) (entry_of_number g p.number) done (λ m is. clear_guid ps m h is)
-
 -- ---- the whole table
 
-module _ (g next after : GPT) (layout again : Layout) (randoms others : List (List ℕ)) (numbered : AreNumbered layout.asked.items)
-    (asked : again.asked.items ≡ layout.asked.items) (guid : again.disk_guid ≡ layout.disk_guid) (mode : again.mode ≡ Become false) (removed : again.removed.items ≡ [])
+module _ (g next after : GPT) (layout again : Layout) (randoms others : List (List ℕ)) (numbered : AreNumbered layout.asked.items) (is_again : IsAgain layout again)
     (long : length layout.asked.items ≤ length randoms) (more : length layout.asked.items ≤ length others)
     (laid : IsLaid layout randoms g next) (laid_again : IsLaid again others next after) where
   second : resolved_all next (Become false) layout.asked.items others ≡ Ok laid_again.partitions
   second =
-      subst (λ (m : Mode). resolved_all next m layout.asked.items others ≡ Ok laid_again.partitions) mode
-      (subst (λ (items : List Asked). resolved_all next again.mode items others ≡ Ok laid_again.partitions) asked laid_again.asked)
+      subst (λ (m : Mode). resolved_all next m layout.asked.items others ≡ Ok laid_again.partitions) is_again.mode
+      (subst (λ (items : List Asked). resolved_all next again.mode items others ≡ Ok laid_again.partitions) is_again.asked laid_again.asked)
 
   owned : OwnedBy next laid_again.partitions
-  owned = all_again g next layout.mode layout.asked.items randoms others laid.partitions laid_again.partitions numbered long more laid.asked
+  owned = all_again g laid.free next layout.mode layout.asked.items randoms others laid.partitions laid_again.partitions numbered long more laid.asked
       (change_named layout randoms g next laid).named second
 
   each_by : (m : ℕ) → (HasNumber (suc m) laid_again.partitions ⊎ IsUnnamed (suc m) laid_again.partitions) → entry_at after (suc m) ≡ entry_at next (suc m)
-  each_by m (inl has) = own_there next after (suc m) laid_again.partitions owned (change_named again others next after laid_again).named has
+  each_by m (inl has) = own_there next laid_again.free after (suc m) laid_again.partitions owned (change_named again others next after laid_again).named has
   each_by m (inr unnamed) =
-      let kept : All (λ (j : ℕ). j ≢ suc m) again.removed.items = subst (λ (js : List ℕ). All (λ (j : ℕ). j ≢ suc m) js) (sym removed) (λ k d below. absurd (omega (arith, below))) in
+      let kept : All (λ (j : ℕ). j ≢ suc m) again.removed.items = subst (λ (js : List ℕ). All (λ (j : ℕ). j ≢ suc m) js) (sym is_again.removed) (λ k d below. absurd (omega (arith, below))) in
       let stays = (change_named again others next after laid_again).others (suc m) (omega arith) unnamed kept in
-      (subst (λ (mo : Mode). StaysAs mo (entry_at next (suc m)) (entry_at after (suc m))) mode stays).0
+      (subst (λ (mo : Mode). StaysAs mo (entry_at next (suc m)) (entry_at after (suc m))) is_again.mode stays).0
 
   same_entries : entries_in after ≡ entries_in next
   same_entries = equal_entries next after (done_keeps (Lay again) others next after laid_again).long (λ m. each_by m (named_or (suc m) laid_again.partitions))
 
-  last_guid : laid_again.last.header.disk_guid ≡ next.header.disk_guid
-  last_guid =
-      let none : ◌≡◌ {A = Result GPT Refusal} (Ok (record next { align = laid_again.align })) (Ok laid_again.rest) =
-      subst (λ (is : List ℕ). removed_all is (record next { align = laid_again.align }) ≡ Ok laid_again.rest) removed laid_again.removed in
-      let rest : record next { align = laid_again.align } ≡ laid_again.rest = cc in
-      put_guid laid_again.partitions laid_again.free laid_again.last laid_again.put
-      ∙ (clear_guid laid_again.partitions laid_again.rest laid_again.free laid_again.clear ∙ ap (λ (m : GPT). m.header.disk_guid) (sym rest))
+  last_header : laid_again.last.header ≡ next.header
+  last_header =
+      put_same (λ (m : GPT). m.header) (λ m i e. refl) laid_again.partitions laid_again.free laid_again.last laid_again.put
+      ∙ (cleared_same (λ (m : GPT). m.header) (λ m i e. refl) laid_again.partitions laid_again.rest laid_again.free laid_again.clear
+      ∙ removed_same (λ (m : GPT). m.header) (λ m i e. refl) again.removed.items (record next { align = laid_again.align }) laid_again.rest laid_again.removed)
 
   same_guid : after.header.disk_guid ≡ next.header.disk_guid
   same_guid =
       let first : next.header.disk_guid ≡ unwrap_or layout.disk_guid laid.last.header.disk_guid = ap (λ (m : GPT). m.header.disk_guid) laid.next_is in
       ap (λ (m : GPT). m.header.disk_guid) laid_again.next_is
-      ∙ (ap (λ (o : Option (List ℕ)). unwrap_or o laid_again.last.header.disk_guid) guid
-      ∙ (ap (unwrap_or layout.disk_guid) (last_guid ∙ first) ∙ (twice layout.disk_guid laid.last.header.disk_guid ∙ sym first)))
+      ∙ (ap (λ (o : Option (List ℕ)). unwrap_or o laid_again.last.header.disk_guid) is_again.disk_guid
+      ∙ (ap (unwrap_or layout.disk_guid) (ap (λ (h : GPTHeader). h.disk_guid) last_header ∙ first) ∙ (twice layout.disk_guid laid.last.header.disk_guid ∙ sym first)))
 
-  same_table : table_in after ≡ table_in next
-  same_table =
-      ap (λ (h : GPTHeader). table_of h (entries_in after)) (done_keeps (Lay again) others next after laid_again).header
-      ∙ (λ i. table_of (record next.header { disk_guid = same_guid i }) (same_entries i))
+  same_header : after.header ≡ next.header
+  same_header =
+      let is : after.header ≡ record laid_again.last.header { disk_guid = after.header.disk_guid } =
+      ap (λ (m : GPT). m.header) laid_again.next_is ∙ ap (λ (guid : List ℕ). record laid_again.last.header { disk_guid = guid }) (sym (ap (λ (m : GPT). m.header.disk_guid) laid_again.next_is)) in
+      is ∙ (λ i. record (last_header i) { disk_guid = same_guid i })
+
+  same_value : after ≡ next
+  same_value =
+      let sector : after.sector_size ≡ next.sector_size = (done_keeps (Lay again) others next after laid_again).sector in
+      let align : after.align ≡ next.align = ap (λ (m : GPT). m.align) laid_again.next_is in
+      λ i. record { sector_size = sector i; header = same_header i; partitions = same_entries i; align = align i }
 
 pub layouts_stay : LayoutsStay
-layouts_stay g next after layout again randoms others numbered asked guid mode removed long more laid laid_again =
-    same_table g next after layout again randoms others numbered asked guid mode removed long more laid laid_again
+layouts_stay g next after layout again randoms others numbered is_again long more laid laid_again =
+    same_value g next after layout again randoms others numbered is_again long more laid laid_again

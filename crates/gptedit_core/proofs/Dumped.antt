@@ -7,7 +7,7 @@ use Rattle.std.proofs.lemmas.List.{get_or_default, same_lists}
 use Rattle.std.proofs.lemmas.Option.{slice_get-get_or}
 use Rattle.gptman.specs.Coding.{empty_entry}
 use Rattle.gptman.specs.Entry.{is_unused, is_used}
-use Rattle.gptman.specs.Number.{entry_at, entry_of_number}
+use Rattle.gptman.specs.Number.{entry_at, entry_of_number, with_entry}
 use Rattle.gptman.specs.Table.{entries_in, table_in, table_of}
 use Rattle.gptman_copy.specs.declared.codec.entry.GPTPartitionEntry.{GPTPartitionEntry}
 use Rattle.gptman_copy.specs.declared.codec.header.GPTHeader.{GPTHeader}
@@ -16,13 +16,13 @@ use Rattle.gptedit_core.specs.Dumping.{asked_of, asked_of_all, IsLayoutOf}
 use Rattle.gptedit_core.specs.Laying.{IsLaid}
 use Rattle.gptedit_core.specs.Named.{AreThere, IsUnnamed, LayoutsGiveTable, StaysAs}
 use Rattle.gptedit_core.specs.Placing.{IsSpan}
-use Rattle.gptedit_core.specs.Resolving.{and_then, entry_asked, number_asked, partition_at, place_asked, place_in, resolved, resolved_all, room_asked, start_asked, stay_fault, there_of, unless, use_fault, used_at}
+use Rattle.gptedit_core.specs.Resolving.{and_then, entry_asked, number_asked, partition_at, place_asked, place_of, resolved, resolved_all, room_asked, start_asked, stay_fault, there_of, unless, use_fault, used_at}
 use Rattle.gptedit_core.specs.declared.asked.Asked.{Asked}
 use Rattle.gptedit_core.specs.declared.asked.Layout.{Layout}
 use Rattle.gptedit_core.specs.declared.asked.Mode.{Mode}
 use Rattle.gptedit_core.specs.declared.asked.Mode.TheVariants.{Become}
 use Rattle.gptedit_core.specs.declared.place.Place.{Place}
-use Rattle.gptedit_core.specs.declared.place.Place.TheVariants.{At, From, Free, Longest}
+use Rattle.gptedit_core.specs.declared.place.Place.TheVariants.{At, From, Longer, Free, Longest}
 use Rattle.gptedit_core.specs.declared.refusal.Refusal.{Refusal}
 use Rattle.gptedit_core.specs.declared.refusal.Refusal.TheVariants.{NoEntry, NoType, WouldMove}
 use Rattle.gptedit_core.specs.declared.resolve.Partition.{Partition}
@@ -33,7 +33,7 @@ use Rattle.gptedit_core.proofs.Steps.{and_then_ok, else_ok}
 
 -- ---- one entry that is asked for as it is
 
-unless_ok : {A : Type 0} (o : Option Refusal) (a b : A) → unless o a ≡ Ok b → (o ≡ None) × (a ≡ b)
+pub unless_ok : {A : Type 0} (o : Option Refusal) (a b : A) → unless o a ≡ Ok b → (o ≡ None) × (a ≡ b)
 unless_ok None a b is = let same : a ≡ b = cc in (refl, same)
 unless_ok (Some r) a b is = absurd (cc)
 
@@ -50,6 +50,7 @@ stays_at i there (At first last) is =
     let both = both_true (nat_eq first there.0) (nat_eq last there.1) (when_none (nat_eq first there.0 && nat_eq last there.1) (WouldMove i) is) in
     ap (λ n. At n last) (eqb-true first there.0 both.0) ∙ ap (λ n. At there.0 n) (eqb-true last there.1 both.1)
 stays_at i there (From first) is = absurd (cc)
+stays_at i there (Longer first last) is = absurd (cc)
 stays_at i there (Free size choice) is = absurd (cc)
 stays_at i there Longest is = absurd (cc)
 
@@ -57,7 +58,7 @@ pub place_stays : (a : Asked) (i ss : ℕ) (e : GPTPartitionEntry) (place : Plac
 place_stays a i ss e place is =
     let start = and_then_ok (start_asked a.start ss) _ place is in
     let room = and_then_ok (room_asked a.size i ss) _ place start.2 in
-    let at = and_then_ok (place_in (Become false) i room.0 start.0 (there_of (Some e)) a.choice) _ place room.2 in
+    let at = and_then_ok (place_of (Become false) i room.0 start.0 (there_of (Some e)) a.choice) _ place room.2 in
     let stay = unless_ok (stay_fault (Become false) i (there_of (Some e)) at.0) at.0 place at.2 in
     sym stay.1 ∙ stays_at i (e.starting_lba, e.ending_lba) at.0 stay.0
 
@@ -165,13 +166,13 @@ all_own g k (e ∷ es) randoms ps low has enough all =
 -- ---- what that leaves under each number
 
 -- What is there under the number of a partition that was the table's own is the entry that it had.
-pub own_there : (g next : GPT) (j : ℕ) (ps : List Partition) → OwnedBy g ps → AreThere ps next → HasNumber j ps → entry_at next j ≡ entry_at g j
-own_there g next j [] own there has = absurd has
-own_there g next j (p ∷ ps) own there (inr has) = own_there g next j ps own.1 there.1 has
-own_there g next j (p ∷ ps) own there (inl same) =
+pub own_there : (g t next : GPT) (j : ℕ) (ps : List Partition) → OwnedBy g ps → AreThere ps t next → HasNumber j ps → entry_at next j ≡ entry_at g j
+own_there g t next j [] own there has = absurd has
+own_there g t next j (p ∷ ps) own there (inr has) = own_there g (with_entry t p.number (entry_at next p.number)) next j ps own.1 there.1 has
+own_there g t next j (p ∷ ps) own there (inl same) =
     let own = own.0 in
     let put = there.0 in
-    let span : (put.first, put.last) ≡ (own.e.starting_lba, own.e.ending_lba) = subst (λ (place : Place). IsSpan place put.table (put.first, put.last)) own.place put.span in
+    let span : (put.first, put.last) ≡ (own.e.starting_lba, own.e.ending_lba) = subst (λ (place : Place). IsSpan place t (put.first, put.last)) own.place put.span in
     let first : put.first ≡ own.e.starting_lba = ap (λ (s : ℕ × ℕ). s.0) span in
     let last : put.last ≡ own.e.ending_lba = ap (λ (s : ℕ × ℕ). s.1) span in
     let there : entry_at next p.number ≡ own.e =
@@ -259,7 +260,7 @@ module _ (g next : GPT) (layout : Layout) (randoms : List (List ℕ)) (is : IsLa
 
   each_used : (m : ℕ) → is_used (entry_at g (suc m)) ≡ true → entry_at next (suc m) ≡ entry_at g (suc m)
   each_used m used =
-      own_there g next (suc m) laid.partitions owned.0 (change_named layout randoms g next laid).named (used_named g laid.partitions m owned.1 used)
+      own_there g laid.free next (suc m) laid.partitions owned.0 (change_named layout randoms g next laid).named (used_named g laid.partitions m owned.1 used)
 
   each_unused : (m : ℕ) → is_used (entry_at g (suc m)) ≡ false → entry_at next (suc m) ≡ entry_at g (suc m)
   each_unused m unused =

@@ -34,7 +34,7 @@ put_other p g next j put low differ =
     (other_entry g p.number j (record p.entry { starting_lba = put.first; ending_lba = put.last }) put.number.0 low differ)
 
 -- An entry that is used stays, as nothing is put in its stead;
-put_stays : (p : Partition) (g next : GPT) (j : ℕ) → IsPut p g next → 1 ≤ j → ¬ IsTrue (is_unused (entry_at g j)) → entry_at next j ≡ entry_at g j
+pub put_stays : (p : Partition) (g next : GPT) (j : ℕ) → IsPut p g next → 1 ≤ j → ¬ IsTrue (is_unused (entry_at g j)) → entry_at next j ≡ entry_at g j
 put_stays p g next j put low used =
     put_other p g next j put low (λ same. used (subst (λ (i : ℕ). IsTrue (is_unused (entry_at g i))) same put.unused))
 
@@ -52,14 +52,16 @@ keep (p ∷ ps) g next j is low unnamed =
     ∙ put_other p g is.0 j is.1 low (unnamed 0 p (omega arith))
 
 -- What was put is there at the end.
-pub there : (ps : List Partition) (g next : GPT) → ArePut ps g next → AreUsed ps → AreThere ps next
-there [] g next is used = tt
-there (p ∷ ps) g next is used =
+pub there : (ps : List Partition) (g last next : GPT) → ((i : ℕ) → entry_at next i ≡ entry_at last i) → ArePut ps g last → AreUsed ps → AreThere ps g next
+there [] g last next same is used = tt
+there (p ∷ ps) g last next same is used =
     let put = is.1 in
     let entry : GPTPartitionEntry = record p.entry { starting_lba = put.first; ending_lba = put.last } in
     let here : entry_at is.0 p.number ≡ entry = subst (λ (m : GPT). entry_at m p.number ≡ entry) (sym put.next_is) (this_entry g p.number entry put.number) in
-    let still = stay ps is.0 next p.number is.2 put.number.0 (λ unused. used.0 (subst (λ (e : GPTPartitionEntry). IsTrue (is_unused e)) here unused)) in
-    (record { first = put.first; last = put.last; table = g; span = put.span; entry = still ∙ here }, there ps is.0 next is.2 used.1)
+    let still = stay ps is.0 last p.number is.2 put.number.0 (λ unused. used.0 (subst (λ (e : GPTPartitionEntry). IsTrue (is_unused e)) here unused)) in
+    let end : entry_at next p.number ≡ entry = same p.number ∙ (still ∙ here) in
+    let mid : is.0 ≡ with_entry g p.number (entry_at next p.number) = put.next_is ∙ ap (with_entry g p.number) (sym end) in
+    (record { first = put.first; last = put.last; span = put.span; entry = end }, subst (λ (m : GPT). AreThere ps m next) mid (there ps is.0 last next same is.2 used.1))
 
 -- ---- what is cleared and removed before
 
@@ -109,7 +111,7 @@ none_used i [] k is = refl
 none_used i (e ∷ es) zero is = unused_of (is_unused e) (if_none (is_used e) i (first_numbered is_used (enumerate_from (i + 1) es)) is).0
 none_used i (e ∷ es) (suc k) is = none_used (i + 1) es k (if_none (is_used e) i (first_numbered is_used (enumerate_from (i + 1) es)) is).1
 
-others_unused : (h : GPT) (j : ℕ) (found : Option ℕ) → lowest_used h ≡ found → others_fault_of (Become false) found ≡ None → IsTrue (is_unused (entry_at h j))
+pub others_unused : (h : GPT) (j : ℕ) (found : Option ℕ) → lowest_used h ≡ found → others_fault_of (Become false) found ≡ None → IsTrue (is_unused (entry_at h j))
 others_unused h j None found is = none_used 1 (entries_in h) (j - 1) found
 others_unused h j (Some i) found is = absurd (cc)
 
@@ -123,11 +125,6 @@ stays_as (Become false) e h j after before same none =
 
 -- ---- the whole layout
 
-there_same : (ps : List Partition) (last next : GPT) → ((i : ℕ) → entry_at next i ≡ entry_at last i) → AreThere ps last → AreThere ps next
-there_same [] last next same are = tt
-there_same (p ∷ ps) last next same are =
-    (record { first = are.0.first; last = are.0.last; table = are.0.table; span = are.0.span; entry = same p.number ∙ are.0.entry }, there_same ps last next same are.1)
-
 pub change_named : LayoutsChangeNamed
 change_named layout randoms g next is =
     let same : (i : ℕ) → entry_at next i ≡ entry_at is.last i = λ i. ap (λ (m : GPT). entry_at m i) is.next_is in
@@ -136,5 +133,5 @@ change_named layout randoms g next is =
           let before = cleared_keep is.partitions is.rest is.free i is.clear low unnamed ∙ removed_keep layout.removed.items (record g { align = is.align }) is.rest i is.removed low kept in
           let after = same i ∙ keep is.partitions is.free is.last i is.put low unnamed in
           stays_as layout.mode (entry_at g i) is.free i (entry_at next i) before (after ∙ before) is.others;
-      named = there_same is.partitions is.last next same (there is.partitions is.free is.last is.put (used_all g layout.mode layout.asked.items randoms is.partitions is.asked));
+      named = there is.partitions is.free is.last next same is.put (used_all g layout.mode layout.asked.items randoms is.partitions is.asked);
     }

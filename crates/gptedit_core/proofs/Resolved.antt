@@ -19,7 +19,7 @@ AreUsed [] = Unit {0}
 AreUsed (p ∷ ps) = (¬ IsTrue (is_unused p.entry)) × AreUsed ps
 
 -- What is asked of an entry has a type.
-resolved_used : (g : GPT) (mode : Mode) (a : Asked) (random : List ℕ) (p : Partition) → resolved g mode a random ≡ Ok p → ¬ IsTrue (is_unused p.entry)
+pub resolved_used : (g : GPT) (mode : Mode) (a : Asked) (random : List ℕ) (p : Partition) → resolved g mode a random ≡ Ok p → ¬ IsTrue (is_unused p.entry)
 resolved_used g mode a random p is =
     let number = and_then_ok (number_asked g a) (partition_at g mode a random) p is in
     let i : ℕ = number.0 in

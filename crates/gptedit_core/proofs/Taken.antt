@@ -22,7 +22,7 @@ use Rattle.gptedit_core.specs.Placing.{HasNoRoom}
 use Rattle.gptedit_core.specs.Planning.{IsDone, RefusesCheck, RefusesJob}
 use Rattle.gptedit_core.specs.Planning.RefusesCheck.{boundaries, shared}
 use Rattle.gptedit_core.specs.Planning.RefusesRequest.{not_done, not_laid_out, not_written}
-use Rattle.gptedit_core.specs.Resolving.{and_then, first_numbered, number_asked, partition_at, place_asked, place_in, resolved, resolved_all, room_asked, span_from, stay_fault, unless}
+use Rattle.gptedit_core.specs.Resolving.{and_then, first_numbered, number_asked, partition_at, place_asked, place_of, resolved, resolved_all, room_asked, span_from, stay_fault, unless}
 use Rattle.gptedit_core.specs.declared.amount.Amount.{Amount}
 use Rattle.gptedit_core.specs.declared.amount.Amount.TheVariants.{Sectors}
 use Rattle.gptedit_core.specs.declared.asked.Asked.{Asked}
@@ -49,11 +49,11 @@ use Rattle.gptedit_core.proofs.Resolved.{resolved_more}
 -- ---- one entry that is asked for as it is
 
 -- An entry that is used has a first and a last sector, in this order and within 64 bits.
-abbrev IsPlaced : GPTPartitionEntry → Type 0
+abbrev pub IsPlaced : GPTPartitionEntry → Type 0
 IsPlaced e = IsTrue (is_used e) → (e.starting_lba ≤ e.ending_lba) × (e.ending_lba + 1 < 2 ^ 64)
 
 -- the partition that it is, where it stands
-abbrev own_partition : ℕ → GPTPartitionEntry → Partition
+abbrev pub own_partition : ℕ → GPTPartitionEntry → Partition
 own_partition i e = record { number = i; entry = e; place = At e.starting_lba e.ending_lba }
 
 -- So many sectors are asked for,
@@ -70,14 +70,14 @@ room_own i ss first last low high =
     ap (λ (n : ℕ). room_asked (Some (Exactly (Sectors n))) i ss) (more_is first last low high) ∙ room_of i (last - first + 1) (λ none. omega (arith, none))
 
 -- which end where it ends,
-span_to : (i first more last : ℕ) → first + more ≡ last → last < 2 ^ 64 → span_from i first more ≡ Ok (At first last)
+pub span_to : (i first more last : ℕ) → first + more ≡ last → last < 2 ^ 64 → span_from i first more ≡ Ok (At first last)
 span_to i first more last whole high =
     subst (λ (n : ℕ). span_from i first more ≡ Ok (At first n)) whole
     (subst (λ (b : Bool). ◌≡◌ {A = Result Place Refusal} (if b then Ok (At first (first + more)) else Err (TooLarge i)) (Ok (At first (first + more))))
     (sym (lt-ltb (first + more) (2 ^ 64) (omega (arith, whole, high)))) refl)
 
 -- so that it stays there.
-stays : (i first last : ℕ) → stay_fault (Become false) i (Some (first, last)) (At first last) ≡ None
+pub stays : (i first last : ℕ) → stay_fault (Become false) i (Some (first, last)) (At first last) ≡ None
 stays i first last = rw (eq-eqb first first refl, eq-eqb last last refl) refl
 
 place_own : (i ss : ℕ) (e : GPTPartitionEntry) → e.starting_lba ≤ e.ending_lba → e.ending_lba + 1 < 2 ^ 64
@@ -86,13 +86,13 @@ place_own i ss e low high =
     let first : ℕ = e.starting_lba in
     let last : ℕ = e.ending_lba in
     let stay : Place → Result Place Refusal = λ place. unless (stay_fault (Become false) i (Some (first, last)) place) place in
-    let at : Option Room → Result Place Refusal = λ room. and_then (place_in (Become false) i room (Some first) (Some (first, last)) First) stay in
+    let at : Option Room → Result Place Refusal = λ room. and_then (place_of (Become false) i room (Some first) (Some (first, last)) First) stay in
     ap (λ (room : Result (Option Room) Refusal). and_then room at) (room_own i ss first last low high)
     ∙ (ap (λ (place : Result Place Refusal). and_then place stay) (span_to i first (last - first + 1 - 1) last (omega (arith, low)) (omega (arith, high)))
     ∙ ap (λ (o : Option Refusal). unless o (At first last)) (stays i first last))
 
 -- It has a type, so what is asked of it is the partition that it is.
-has_type : (b : Bool) (i : ℕ) (p : Partition) → IsTrue (not b) → ◌≡◌ {A = Result Partition Refusal} (if b then Err (NoType i) else Ok p) (Ok p)
+pub has_type : (b : Bool) (i : ℕ) (p : Partition) → IsTrue (not b) → ◌≡◌ {A = Result Partition Refusal} (if b then Err (NoType i) else Ok p) (Ok p)
 has_type true i p used = absurd (cc)
 has_type false i p used = refl
 
@@ -140,7 +140,7 @@ resolves_all g k (e ∷ es) has placed =
     (resolves_all g (k + 1) es has.2 (λ m d below. placed (suc m) d (omega (arith, below))))
 
 -- No two have one number.
-abbrev DifferInNumber : List Partition → Type 0
+abbrev pub DifferInNumber : List Partition → Type 0
 DifferInNumber [] = Unit {0}
 DifferInNumber (p ∷ ps) = IsUnnamed p.number ps × DifferInNumber ps
 
@@ -304,6 +304,40 @@ module _ (g : GPT) (ps : List Partition) (owned : OwnedBy g ps) (covers : Covers
         free_all qs own.1 (λ j named. among j (inr named)),
       )
 
+-- It is not refused where each used entry is asked for as it is, each one once.
+module _ (g : GPT) (layout : Layout) (randoms : List (List ℕ)) (own : List Partition) (n : ℕ) (all_asked : resolved_all g layout.mode layout.asked.items randoms ≡ Ok own)
+    (owned : OwnedBy g own) (covers : CoversFrom own 1 (entries_in g)) (once : DifferInNumber own) (mode : layout.mode ≡ Become false) (none : layout.removed.items ≡ [])
+    (align_is : align_asked layout.align g.sector_size ≡ Ok n) where
+  none_removed : (h : GPT) → removed_all layout.removed.items h ≡ Ok h
+  none_removed h = ap (λ (numbers : List ℕ). removed_all numbers h) none
+
+  -- What the steps before a refused one came to is what they come to here.
+  as_own : (ps : List Partition) → resolved_all g layout.mode layout.asked.items randoms ≡ Ok ps → own ≡ ps
+  as_own ps all = let both : Ok own ≡ Ok ps = sym all_asked ∙ all in cc
+
+  own_cleared : (ps : List Partition) (align : ℕ) (rest : GPT) (result : Result GPT Refusal) → resolved_all g layout.mode layout.asked.items randoms ≡ Ok ps
+      → removed_all layout.removed.items (record g { align = align }) ≡ Ok rest → cleared ps rest ≡ result → cleared own (record g { align = align }) ≡ result
+  own_cleared ps align rest result all removed done =
+      let both : Ok (record g { align = align }) ≡ Ok rest = sym (none_removed (record g { align = align })) ∙ removed in
+      let same : record g { align = align } ≡ rest = cc in
+      ap (λ (m : GPT). cleared own m) same ∙ (ap (λ (qs : List Partition). cleared qs rest) (as_own ps all) ∙ done)
+
+  -- No step is refused.
+  pub not_refused_where : (r : Refusal) → ¬ RefusesAsked layout randoms g r
+  not_refused_where r (not_asked refused) = let both : Ok own ≡ Err r = sym all_asked ∙ refused in cc
+  not_refused_where r (no_align ps all refused) = let both : Ok n ≡ Err r = sym align_is ∙ refused in cc
+  not_refused_where r (not_removed ps align all is_align refused) =
+      let both : Ok (record g { align = align }) ≡ Err r = sym (none_removed (record g { align = align })) ∙ refused in cc
+  not_refused_where r (not_cleared ps align rest all is_align removed refused) =
+      clears own (record g { align = align }) r (own_numbers g own owned) (own_cleared ps align rest (Err r) all removed refused)
+  not_refused_where r (others_there ps align rest free all is_align removed done refused) =
+      let none = none_other g own owned covers align free (own_cleared ps align rest (Ok free) all removed done) in
+      let some : others_fault (Become false) free ≡ Some r = subst (λ (mode : Mode). others_fault mode free ≡ Some r) mode refused in
+      let both : ◌≡◌ {A = Option Refusal} None (Some r) = sym none ∙ some in cc
+  not_refused_where r (not_put ps align rest free all is_align removed done others refused) =
+      let may = free_all g own owned covers align free (own_cleared ps align rest (Ok free) all removed done) own owned (λ j named. named) in
+      puts free own r once may (subst (λ (qs : List Partition). RefusesPutting qs free r) (sym (as_own ps all)) refused)
+
 module _ (g : GPT) (layout : Layout) (randoms : List (List ℕ)) (is : IsLayoutOf g layout) (enough : length layout.asked.items ≤ length randoms)
     (placed : All IsPlaced (entries_in g)) (aligned : 0 < g.align) where
   abbrev asked : List Asked
@@ -331,34 +365,8 @@ module _ (g : GPT) (layout : Layout) (randoms : List (List ℕ)) (is : IsLayoutO
       ap (λ (amount : Amount). align_asked amount g.sector_size) is.align
       ∙ subst (λ (b : Bool). ◌≡◌ {A = Result ℕ Refusal} (if b then Err NoAlignment else Ok g.align) (Ok g.align)) (sym (ne_eqb g.align 0 (λ none. omega (arith, none, aligned)))) refl
 
-  none_removed : (h : GPT) → removed_all layout.removed.items h ≡ Ok h
-  none_removed h = ap (λ (numbers : List ℕ). removed_all numbers h) is.removed
-
-  -- What the steps before a refused one came to is what they come to here.
-  as_own : (ps : List Partition) → resolved_all g layout.mode layout.asked.items randoms ≡ Ok ps → own ≡ ps
-  as_own ps all = let both : Ok own ≡ Ok ps = sym all_asked ∙ all in cc
-
-  own_cleared : (ps : List Partition) (align : ℕ) (rest : GPT) (result : Result GPT Refusal) → resolved_all g layout.mode layout.asked.items randoms ≡ Ok ps
-      → removed_all layout.removed.items (record g { align = align }) ≡ Ok rest → cleared ps rest ≡ result → cleared own (record g { align = align }) ≡ result
-  own_cleared ps align rest result all removed done =
-      let both : Ok (record g { align = align }) ≡ Ok rest = sym (none_removed (record g { align = align })) ∙ removed in
-      let same : record g { align = align } ≡ rest = cc in
-      ap (λ (m : GPT). cleared own m) same ∙ (ap (λ (qs : List Partition). cleared qs rest) (as_own ps all) ∙ done)
-
-  -- No step is refused.
   taken : (r : Refusal) → ¬ RefusesAsked layout randoms g r
-  taken r (not_asked refused) = let both : Ok own ≡ Err r = sym all_asked ∙ refused in cc
-  taken r (no_align ps all refused) = let both : Ok g.align ≡ Err r = sym align_is ∙ refused in cc
-  taken r (not_removed ps align all is_align refused) = let both : Ok (record g { align = align }) ≡ Err r = sym (none_removed (record g { align = align })) ∙ refused in cc
-  taken r (not_cleared ps align rest all is_align removed refused) =
-      clears own (record g { align = align }) r (own_numbers g own owned.0) (own_cleared ps align rest (Err r) all removed refused)
-  taken r (others_there ps align rest free all is_align removed done refused) =
-      let none = none_other g own owned.0 owned.1 align free (own_cleared ps align rest (Ok free) all removed done) in
-      let some : others_fault (Become false) free ≡ Some r = subst (λ (mode : Mode). others_fault mode free ≡ Some r) is.mode refused in
-      let both : ◌≡◌ {A = Option Refusal} None (Some r) = sym none ∙ some in cc
-  taken r (not_put ps align rest free all is_align removed done others refused) =
-      let may = free_all g own owned.0 owned.1 align free (own_cleared ps align rest (Ok free) all removed done) own owned.0 (λ j named. named) in
-      puts free own r (differ 1 (entries_in g)) may (subst (λ (qs : List Partition). RefusesPutting qs free r) (sym (as_own ps all)) refused)
+  taken = not_refused_where g layout randoms own g.align all_asked owned.0 owned.1 (differ 1 (entries_in g)) is.mode is.removed align_is
 
 -- What comes of it may be written, as the table may be.
 module _ (g next : GPT) (layout : Layout) (randoms : List (List ℕ)) (is : IsLayoutOf g layout) (enough : length layout.asked.items ≤ length randoms)
@@ -380,7 +388,7 @@ module _ (g next : GPT) (layout : Layout) (randoms : List (List ℕ)) (is : IsLa
   written r (shared clash told) = clash (subst HasOwnGuids same valid.own_guids)
   written r (boundaries guids bad told) = bad good_still
 
-all_placed : (g : GPT) (len : ℕ) → HasLayout g len → IsValid g.header (entries_in g) → All IsPlaced (entries_in g)
+pub all_placed : (g : GPT) (len : ℕ) → HasLayout g len → IsValid g.header (entries_in g) → All IsPlaced (entries_in g)
 all_placed g len has valid = λ k d below used.
     let high = valid.boundaries.within k d below used in
     let fits = has.table.fits in

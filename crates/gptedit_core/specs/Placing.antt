@@ -1,11 +1,12 @@
 -- Where a partition comes to be.
+use Prim.Native.Nat.{◌∣◌}
 use Rattle.std.specs.Prelude.{◌≡◌, ◌≤◌, ◌<◌, ◌⊎◌, ℕ, ◌+◌, ◌-◌, ◌%◌, ◌&&◌, max, nat_le, nat_lt, if◌then◌else◌, Option, MatchOption}
 use Rattle.gptman.specs.Place.{HasNoPlace, HasNoSlot, IsAlignedSlot, IsBestPlace, IsFirstMultiple, IsFirstPlace, IsFreeIn, IsLastPlace, IsMaximumSize}
 use Rattle.gptman.specs.declared.table.GPT.{GPT}
 use Rattle.gptedit_core.specs.declared.asked.Choice.{Choice}
 use Rattle.gptedit_core.specs.declared.asked.Choice.TheVariants.{First, Last, Best, Longest as InLongest}
 use Rattle.gptedit_core.specs.declared.place.Place.{Place}
-use Rattle.gptedit_core.specs.declared.place.Place.TheVariants.{At, From, Free, Longest}
+use Rattle.gptedit_core.specs.declared.place.Place.TheVariants.{At, From, Longer, Free, Longest}
 
 -- the last sector without those from the last multiple of align on, unless the first is among them or they end before a multiple
 abbrev pub trimmed : ℕ → ℕ → ℕ → ℕ
@@ -66,6 +67,30 @@ pub record IsRunWith (free : ℕ → Type 0) (s last : ℕ) : Type 0 where
 abbrev pub HasNoRunWith : (ℕ → Type 0) → ℕ → Type 0
 HasNoRunWith free s = (start long : ℕ) → IsAlignedSlot free 1 start long → ¬ HasSector s (start, long)
 
+-- e is the last sector up to far that ends before a multiple of align
+pub record IsLastEnd (align far e : ℕ) : Type 0 where
+  pub low : e ≤ far
+  pub multiple : align ∣ e + 1
+  pub greatest : (t : ℕ) → align ∣ t + 1 → t ≤ far → t ≤ e
+
+-- no sector up to far does
+abbrev pub HasNoEnd : ℕ → ℕ → Type 0
+HasNoEnd align far = (t : ℕ) → align ∣ t + 1 → ¬ (t ≤ far)
+
+-- the sectors behind last and up to end are free
+abbrev pub AreFreeBehind : (ℕ → Type 0) → ℕ → ℕ → Type 0
+AreFreeBehind free last end = (x : ℕ) → last < x → x ≤ end → free x
+
+-- a sector behind last and up to end is not free
+abbrev pub IsBlocked : (ℕ → Type 0) → ℕ → ℕ → Type 0
+IsBlocked free last end = (x : ℕ) × (last < x) × (x ≤ end) × (¬ free x)
+
+-- A partition from first to last that gets what is free behind it ends there: where it ended, or behind free sectors and before a multiple of align; and it could end at no later such sector. One that ends before it begins stays.
+pub record IsFurthestEnd (free : ℕ → Type 0) (align first last end : ℕ) : Type 0 where
+  pub kept : last ≤ end
+  pub reached : (end ≡ last) ⊎ ((first ≤ last) × (align ∣ end + 1) × AreFreeBehind free last end)
+  pub furthest : first ≤ last → (e : ℕ) → align ∣ e + 1 → end < e → IsBlocked free last e
+
 -- the span is that of n sectors at the place that is chosen for them
 abbrev pub IsFreeSpan : Choice → ℕ → GPT → ℕ × ℕ → Type 0
 IsFreeSpan choice n g span = IsChosen choice (IsFreeIn g) g.align (max 1 n) span.0 × (span.1 ≡ span.0 + (max 1 n - 1))
@@ -74,6 +99,7 @@ IsFreeSpan choice n g span = IsChosen choice (IsFreeIn g) g.align (max 1 n) span
 abbrev pub IsSpan : Place → GPT → ℕ × ℕ → Type 0
 IsSpan (At first last) g span = span ≡ (first, last)
 IsSpan (From first) g span = (last : ℕ) × IsRunWith (IsFreeIn g) first last × (span ≡ (first, trimmed g.align first last))
+IsSpan (Longer first last) g span = (span.0 ≡ first) × IsFurthestEnd (IsFreeIn g) g.align first last span.1
 IsSpan (Free size choice) g span = IsFreeSpan choice size g span
 IsSpan Longest g span = (size : ℕ) × IsMaximumSize (IsFreeIn g) g.align size × (0 < size) × IsFreeSpan Best size g span
 
@@ -81,6 +107,7 @@ IsSpan Longest g span = (size : ℕ) × IsMaximumSize (IsFreeIn g) g.align size 
 abbrev pub HasNoRoom : Place → GPT → Type 0
 HasNoRoom (At first last) g = ⊥
 HasNoRoom (From first) g = HasNoRunWith (IsFreeIn g) first
+HasNoRoom (Longer first last) g = ⊥
 HasNoRoom (Free size choice) g = HasNoneChosen choice (IsFreeIn g) g.align (max 1 size)
 HasNoRoom Longest g = HasNoSlot (IsFreeIn g) g.align
     ⊎ ((size : ℕ) × IsMaximumSize (IsFreeIn g) g.align size × ((size ≡ 0) ⊎ HasNoPlace (IsFreeIn g) g.align (max 1 size)))

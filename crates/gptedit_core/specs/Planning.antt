@@ -1,7 +1,6 @@
 -- What a request makes of a table.
-use Rattle.std.specs.Prelude.{◌≡◌, ◌≢◌, ◌≤◌, ◌⊎◌, ℕ, Bool, true, false, List, length, Some, None}
-use Rattle.gptman.specs.Fault.{Fault, out_of_memory, overflow}
-use Rattle.gptman.specs.Fit.{fit_fault, fit_header}
+use Rattle.std.specs.Prelude.{◌≡◌, ◌≢◌, ◌≤◌, ◌⊎◌, ℕ, Bool, true, false, List, length}
+use Rattle.gptman.specs.Fault.{Fault, out_of_memory}
 use Rattle.gptman.specs.Layout.{HasLayout}
 use Rattle.gptman.specs.Number.{with_entries}
 use Rattle.gptman.specs.Order.{by_rank, rank}
@@ -12,14 +11,13 @@ use Rattle.gptman.specs.declared.table.GPT.{GPT}
 use Rattle.gptman_change.specs.declared.Planned.{Planned}
 use Rattle.gptman_change.specs.declared.Planned.TheVariants.{Write, Leave}
 use Rattle.gptedit_core.specs.Laying.{IsLaid, RefusesAsked}
-use Rattle.gptedit_core.specs.declared.growth.Growth.{Growth}
 use Rattle.gptedit_core.specs.declared.plan.Job.{Job}
 use Rattle.gptedit_core.specs.declared.plan.Job.TheVariants.{Lay, Sort, Rewrite}
 use Rattle.gptedit_core.specs.declared.plan.Outcome.{Outcome}
 use Rattle.gptedit_core.specs.declared.plan.Outcome.TheVariants.{Changed, Unchanged, Refused}
 use Rattle.gptedit_core.specs.declared.plan.Request.{Request}
 use Rattle.gptedit_core.specs.declared.refusal.Refusal.{Refusal}
-use Rattle.gptedit_core.specs.declared.refusal.Refusal.TheVariants.{BadBoundaries, NotLaidOut, SharedGuid, TooSmall}
+use Rattle.gptedit_core.specs.declared.refusal.Refusal.TheVariants.{BadBoundaries, NotLaidOut, SharedGuid}
 
 -- so many random GUIDs are enough for the job
 abbrev pub asks_random : Job → ℕ → Type 0
@@ -88,37 +86,9 @@ IsWritten request len = IsWrittenAs (IsPlanned request len) (IsNeeded request.jo
 abbrev pub IsLeft : Request → ℕ → GPT → Outcome → Type 0
 IsLeft request len = IsLeftAs (IsPlanned request len) (IsNeeded request.job) (RefusesRequest request len) request.is_dry
 
--- the table fitted to a disk of len bytes
-abbrev pub grown_to : ℕ → GPT → GPT
-grown_to len g = record g { header = fit_header g.header g.sector_size len }
-
--- A table is grown to a disk of len bytes: it has the stated layout there, and may be written.
-pub record IsGrown (len : ℕ) (g next : GPT) : Type 0 where
-  pub fits : fit_fault g.header g.sector_size len ≡ None
-  pub next_is : next ≡ grown_to len g
-  pub layout : HasLayout next len
-  pub may : MayBeWritten next len
-
--- Why a table that was fitted to a disk of len bytes is not written: it has not the stated layout, or it may not be.
-pub data RefusesGrown (next : GPT) (len : ℕ) (r : Refusal) : Type 0 where
-  grown_not_laid_out : ¬ HasLayout next len → r ≡ NotLaidOut → RefusesGrown next len r
-  grown_not_written : HasLayout next len → RefusesCheck next r → RefusesGrown next len r
-
--- Why a table is not grown, by the first of these that is so.
-pub data RefusesGrowth (len : ℕ) (g : GPT) (r : Refusal) : Type 0 where
-  too_small : fit_fault g.header g.sector_size len ≡ Some overflow → r ≡ TooSmall → RefusesGrowth len g r
-  not_grown : fit_fault g.header g.sector_size len ≡ None → RefusesGrown (grown_to len g) len r → RefusesGrowth len g r
-
 -- what is written is another table
 abbrev pub Differs : GPT → GPT → Type 0
 Differs g next = g ≢ next
-
--- so of a growth
-abbrev pub IsWrittenGrown : Growth → ℕ → GPT → GPT → Outcome → Type 0
-IsWrittenGrown growth len = IsWrittenAs (IsGrown len) Differs growth.is_dry
-
-abbrev pub IsLeftGrown : Growth → ℕ → GPT → Outcome → Type 0
-IsLeftGrown growth len = IsLeftAs (IsGrown len) Differs (RefusesGrowth len) growth.is_dry
 
 -- a plan ends with no other error of its own, and asks the disk for its length
 abbrev pub IsMemoryFault : {P : Type 0} → P → ℕ → GPT → Fault → Type 0

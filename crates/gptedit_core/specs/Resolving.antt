@@ -18,7 +18,7 @@ use Rattle.gptedit_core.specs.declared.asked.Mode.TheVariants.{Add, Change, Beco
 use Rattle.gptedit_core.specs.declared.asked.Size.{Size}
 use Rattle.gptedit_core.specs.declared.asked.Size.TheVariants.{Exactly, Rest}
 use Rattle.gptedit_core.specs.declared.place.Place.{Place}
-use Rattle.gptedit_core.specs.declared.place.Place.TheVariants.{At, From, Free, Longest}
+use Rattle.gptedit_core.specs.declared.place.Place.TheVariants.{At, From, Longer, Free, Longest}
 use Rattle.gptedit_core.specs.declared.refusal.Refusal.{Refusal}
 use Rattle.gptedit_core.specs.declared.refusal.Refusal.TheVariants.{NoUnusedEntry, NoEntry, IsUsed, IsUnused, NoType, NoSize, NotWhole, TooLarge, WouldMove}
 use Rattle.gptedit_core.specs.declared.refusal.Stop.{Stop}
@@ -82,26 +82,31 @@ room_asked (Some (Exactly amount)) i ss =
 abbrev pub span_from : ℕ → ℕ → ℕ → Result Place Refusal
 span_from i first more = if nat_lt (first + more) (2 ^ 64) then Ok (At first (first + more)) else Err (TooLarge i)
 
+-- where a partition is to be that was there and has the rest: what a table becomes leaves it where it is, and a change may lengthen it
+abbrev pub rest_there : Mode → ℕ × ℕ → Place
+rest_there (Become replace) there = At there.0 there.1
+rest_there mode there = Longer there.0 there.1
+
+-- the same of one that begins here and was there, as far as that is known
+abbrev pub rest_of : Mode → Option ℕ → Option (ℕ × ℕ) → Place
+rest_of mode None None = Longest
+rest_of mode (Some first) None = From first
+rest_of mode None (Some there) = rest_there mode there
+rest_of mode (Some first) (Some there) = if nat_eq first there.0 then rest_there mode there else From first
+
 -- where a partition is to be that has so much room, begins here, and was there, as far as that is known
-abbrev pub place_of : ℕ → Option Room → Option ℕ → Option (ℕ × ℕ) → Choice → Result Place Refusal
-place_of i (Some (RoomSectors n)) (Some first) there choice = span_from i first (n - 1)
-place_of i (Some (RoomSectors n)) None (Some there) choice = span_from i there.0 (n - 1)
-place_of i (Some (RoomSectors n)) None None choice = Ok (Free n choice)
-place_of i (Some RoomRest) (Some first) there choice = Ok (From first)
-place_of i (Some RoomRest) None (Some there) choice = Ok (From there.0)
-place_of i (Some RoomRest) None None choice = Ok Longest
-place_of i None None (Some there) choice = Ok (At there.0 there.1)
-place_of i None (Some start) (Some there) choice = if nat_le there.0 there.1 then span_from i start (there.1 - there.0) else Err (NoSize i)
-place_of i None start None choice = Err (NoSize i)
+abbrev pub place_of : Mode → ℕ → Option Room → Option ℕ → Option (ℕ × ℕ) → Choice → Result Place Refusal
+place_of mode i (Some (RoomSectors n)) (Some first) there choice = span_from i first (n - 1)
+place_of mode i (Some (RoomSectors n)) None (Some there) choice = span_from i there.0 (n - 1)
+place_of mode i (Some (RoomSectors n)) None None choice = Ok (Free n choice)
+place_of mode i (Some RoomRest) start there choice = Ok (rest_of mode start there)
+place_of mode i None None (Some there) choice = Ok (At there.0 there.1)
+place_of mode i None (Some start) (Some there) choice = if nat_le there.0 there.1 then span_from i start (there.1 - there.0) else Err (NoSize i)
+place_of mode i None start None choice = Err (NoSize i)
 
 -- where an entry stands
 abbrev pub there_of : Option GPTPartitionEntry → Option (ℕ × ℕ)
 there_of used = option_map (λ e. (e.starting_lba, e.ending_lba)) used
-
--- the same, but that what a table becomes leaves the rest where it is in an entry that is used
-abbrev pub place_in : Mode → ℕ → Option Room → Option ℕ → Option (ℕ × ℕ) → Choice → Result Place Refusal
-place_in (Become replace) i (Some RoomRest) None (Some there) choice = Ok (At there.0 there.1)
-place_in mode i room start there choice = place_of i room start there choice
 
 -- what is refused of a place where a partition stays or may not move
 abbrev pub stay_fault : Mode → ℕ → Option (ℕ × ℕ) → Place → Option Refusal
@@ -124,7 +129,7 @@ abbrev pub place_asked : Mode → Asked → ℕ → Option GPTPartitionEntry →
 place_asked mode a i used ss =
     and_then (start_asked a.start ss) (λ start.
     and_then (room_asked a.size i ss) (λ room.
-    and_then (place_in mode i room start (there_of used) a.choice) (λ place.
+    and_then (place_of mode i room start (there_of used) a.choice) (λ place.
     unless (stay_fault mode i (there_of used) place) place)))
 
 -- the entry that is there where it is used, or one that is not with a random GUID

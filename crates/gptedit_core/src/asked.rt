@@ -26,7 +26,8 @@ pub enum Size {
     /// So large.
     Exactly(Amount),
     /// As large as there is room: from its first sector to the end of the free sectors there, or where it
-    /// has no first sector yet, the longest run of free sectors.
+    /// has no first sector yet, the longest run of free sectors. An entry that is used and begins there is
+    /// never shortened: a change lengthens it where it can, and what a table becomes leaves it as it is.
     Rest,
 }
 

@@ -8,8 +8,8 @@ ghost use Rattle.gptman.specs.Table.{Table};
 ghost use Rattle.gptman_change.specs.Changes.{AnswersChange, IsSafe, LeavesChange, RefusesChange};
 ghost use Rattle.gptman_change.specs.Changes.{StartsGoodFor};
 ghost use Rattle.gptman_change.specs.Reads.{size_for};
-ghost use Rattle.gptedit_core.specs.Planning.{has_random, IsLeft, IsLeftGrown, IsMemoryFault, IsWritten};
-ghost use Rattle.gptedit_core.specs.Planning.{IsWrittenGrown, MayAsk};
+ghost use Rattle.gptedit_core.specs.Growing.{IsLeftGrown, IsWrittenGrown, StartsPrimaryFor};
+ghost use Rattle.gptedit_core.specs.Planning.{has_random, IsLeft, IsMemoryFault, IsWritten, MayAsk};
 
 use crate::growth::Growth;
 use crate::plan::{Outcome, Request};
@@ -63,8 +63,8 @@ pub fn edit<D: Disk>(
 }
 
 /// Reads the table on the disk, with sectors of so many bytes or of a size that is found, and fits it to the
-/// disk's length: in both places and in one write, unless it is only to be told, is refused or has that
-/// length.
+/// disk's length, or gives it the usual bounds there: in both places and in one write, unless it is only to
+/// be told, is refused or is so already.
 ///
 /// The errors are those of `edit`.
 pub fn grow<D: Disk>(
@@ -88,11 +88,15 @@ pub fn grow<D: Disk>(
     ensures dry { IsHonest (D.state disk.old) → growth.now.is_dry ≡ true
         → OnlyRead (D.state disk.old) (D.state disk.new) }
 
-    // From one good copy of a table for the grown one, a stop at any moment leaves one of the two. The law
-    // `growing_is_safe` of gptman says when the copy in the primary place is such a one.
+    // From one good copy of a table for the grown one, a stop at any moment leaves one of the two. The copy
+    // in the primary place is such a one (`growths_keep_the_primary_copy`), so where it is the only one, a
+    // stop or a fault leaves the table that was or the grown one.
     ensures leaves { IsHonest (D.state disk.old) → LeavesChange
         (IsWrittenGrown growth.now (D.state disk.old).size) sector_size
         (D.state disk.old) (D.state disk.new) }
+    ensures safe { (was : Table) → StartsPrimaryFor (D.state disk.old) sector_size was
+        → IsSafe (IsWrittenGrown growth.now (D.state disk.old).size)
+        (size_for (D.state disk.old).view sector_size) was (D.state disk.old) (D.state disk.new) }
 {
     change_table(alloc, disk, sector_size, growth)
 }

@@ -1,16 +1,20 @@
-//! A table is fitted to a disk that has another length, as a plan.
+//! A table is fitted to the length of its disk, or gets its usual bounds, as a plan.
 
-ghost use Rattle.std.specs.Prelude.{◌≡◌, ◌⊎◌, ◌<◌, None, Some, IfErr, IfOk, OnOk};
+ghost use Rattle.std.specs.Prelude.{◌≡◌, ◌↔◌, ◌⊎◌, ◌<◌, None, Some, IfErr, IfOk, IsTrue, OnOk};
 ghost use Rattle.gptman.specs.Answers.{CountsFailure, HasCause, IsFailure};
 ghost use Rattle.gptman.specs.Disk.{HasFailedOnceAtMost, Reads};
 ghost use Rattle.gptman.specs.Fault.{fault_of, out_of_memory, overflow};
 ghost use Rattle.gptman.specs.Fit.{fit_fault};
 ghost use Rattle.gptman.specs.Layout.{HasLayout};
+ghost use Rattle.gptman.specs.Table.{grow_to};
 ghost use Rattle.gptman.specs.TableWrites.{MayBeWritten};
+ghost use Rattle.gptedit_core.specs.Growing.{with_first, EndsAt, IsFitted, IsGrown, IsKeptFirst};
+ghost use Rattle.gptedit_core.specs.Growing.{IsLeftGrown, IsWrittenGrown, RefusesGrowth, RefusesGrown};
 ghost use Rattle.gptedit_core.specs.Laying.{IsStopOf};
-ghost use Rattle.gptedit_core.specs.Planning.{grown_to, IsLeftGrown, IsMemoryFault, IsWrittenGrown, MayAsk};
-ghost use Rattle.gptedit_core.specs.Planning.{RefusesGrown};
+ghost use Rattle.gptedit_core.specs.Planning.{IsMemoryFault, MayAsk};
+ghost use Rattle.gptedit_core.specs.declared.growth.Bounds.TheVariants.{Usual};
 ghost use Rattle.gptedit_core.specs.declared.plan.Outcome.TheVariants.{Refused};
+ghost use Rattle.gptedit_core.specs.declared.refusal.Refusal.TheVariants.{NotLaidOut};
 ghost use Rattle.gptman_change.specs.declared.Planned.TheVariants.{Leave};
 
 use crate::plan::{Outcome, check, is_same, tell};
@@ -19,14 +23,27 @@ use gptman::{Disk, Error, GPT};
 use gptman_change::{Plan, Planned};
 use std::alloc::Global;
 
-/// The table gets the length of the disk: its usable sectors, and the places of its backup copy.
+/// Which sectors a table counts as usable.
+#[derive(Clone, Copy, PartialEq, Eq, Debug)]
+pub enum Bounds {
+    /// The last one follows the end of a disk that has another length. The first one stays where it
+    /// may, and both stay on a disk that has the length of the table.
+    Kept,
+    /// All sectors between the two copies. The disk has the length of the table.
+    Usual,
+}
+
+/// The table gets the length of the disk, or its usual bounds there.
 #[derive(Clone, Copy, PartialEq, Eq, Debug)]
 pub struct Growth {
+    /// Which sectors are usable then.
+    pub bounds: Bounds,
     /// That nothing is written.
     pub is_dry: bool,
 }
 
-/// A growth is a plan. It refuses a table that has not the stated layout then.
+/// A growth is a plan. It refuses a table that has not the stated layout then, and the usual bounds where
+/// the table does not end at the disk's last whole sector.
 impl Plan for Growth {
     type Answer = Outcome;
 
@@ -51,7 +68,7 @@ impl Plan for Growth {
             Err(Error::Overflow) => return refuse(table, Refusal::TooSmall),
             Err(error) => return Err(error),
         };
-        match check_grown(&next, size) {
+        match settle(self.bounds, table, size, &mut next) {
             Ok(()) => {
                 let is_needed = !is_same(table, &next);
                 tell(table, next, is_needed, self.is_dry)
@@ -74,12 +91,65 @@ fn fit<D: Disk>(disk: &mut D, table: &mut GPT) -> gptman::Result<u64>
     ensures cause { HasCause result (D.state disk.old) (D.state disk.new) }
     ensures size { IfOk result (λ size. size ≡ (D.state disk.old).size) }
     ensures fits { OnOk result (fit_fault table.old.header table.old.sector_size (D.state disk.old).size ≡ None) }
-    ensures value { OnOk result (table.new ≡ grown_to (D.state disk.old).size table.old) }
+    ensures value { OnOk result (table.new ≡ grow_to table.old (D.state disk.old).size) }
 {
     let size = disk.seek_end()?;
     let sector_size = table.sector_size;
     table.header.update_from(disk, sector_size)?;
     Ok(size)
+}
+
+// Gives the bounds that are asked for to a table that was fitted to a disk of so many bytes, and refuses it
+// where it may not be written.
+fn settle(bounds: Bounds, was: &GPT, size: u64, table: &mut GPT) -> Result<(), Stop>
+    requires sector { 0 < was.now.sector_size }
+    requires fits { fit_fault was.now.header was.now.sector_size size ≡ None }
+    requires fitted { table.old ≡ grow_to was.now size }
+    ensures grown { OnOk result (IsGrown bounds size was.now table.new) }
+    ensures refused { IfErr result (IsStopOf (RefusesGrowth bounds size was.now)) }
+{
+    set_bounds(bounds, was, size, table)?;
+    check_grown(table, size)
+}
+
+// Gives it these bounds.
+fn set_bounds(bounds: Bounds, was: &GPT, size: u64, table: &mut GPT) -> Result<(), Refusal>
+    requires sector { 0 < was.now.sector_size }
+    requires fitted { table.old ≡ grow_to was.now size }
+    ensures value { OnOk result (IsFitted bounds size was.now table.new) }
+    ensures refused { IfErr result (λ r. (r ≡ NotLaidOut) × (bounds ≡ Usual) × ¬ EndsAt size was.now) }
+{
+    let ends = ends_at(was, size);
+    match bounds {
+        Bounds::Kept if ends => table.header = was.header,
+        Bounds::Kept => keep_first(table, was.header.first_usable_lba),
+        Bounds::Usual if ends => {}
+        Bounds::Usual => return Err(Refusal::NotLaidOut),
+    }
+    Ok(())
+}
+
+// Keeps the first usable sector that was, where it may stay.
+fn keep_first(table: &mut GPT, was: u64)
+    ensures kept { IsKeptFirst was table.old.header.first_usable_lba table.old.header.last_usable_lba
+        table.new.header.first_usable_lba }
+    ensures rest { table.new ≡ with_first table.new.header.first_usable_lba table.old }
+{
+    let header = &mut table.header;
+    if header.first_usable_lba <= was && was <= header.last_usable_lba {
+        header.first_usable_lba = was;
+    }
+}
+
+// Whether the table ends where a disk of so many bytes does.
+fn ends_at(table: &GPT, size: u64) -> bool
+    requires { 0 < table.now.sector_size }
+    ensures { IsTrue result ↔ EndsAt size table.now }
+{
+    let header = &table.header;
+    let last = (size / table.sector_size).saturating_sub(1);
+    header.primary_lba.min(header.backup_lba) == last.min(1)
+        && header.primary_lba.max(header.backup_lba) == last.max(1)
 }
 
 // Refuses a table that has not the stated layout on a disk of so many bytes, or may not be written to it.

@@ -1,15 +1,17 @@
 //! Where a partition is to be, and where it comes to be.
 
-ghost use Rattle.std.specs.Prelude.{◌≡◌, ◌≤◌, ◌<◌, ◌+◌, ◌^◌, All, Contains, IfErr, IfOk, IfSome, MatchOption};
+ghost use Rattle.std.specs.Prelude.{◌≡◌, ◌≢◌, ◌≤◌, ◌<◌, ℕ, ◌+◌, ◌^◌, All, Contains, IfErr, IfOk, IfSome};
+ghost use Rattle.std.specs.Prelude.{IsTrue, MatchOption};
+ghost use Rattle.gptman.specs.Entry.{covers};
 ghost use Rattle.gptman.specs.Fault.{fault_of, out_of_memory};
 ghost use Rattle.gptman.specs.Place.{AreSlots, EndsIn64Bits, HasNoSlot, IsFirstMultiple, IsFreeIn};
 ghost use Rattle.gptman.specs.Table.{entries_in};
-ghost use Rattle.gptedit_core.specs.Placing.{trimmed, FindsSpan, HasNoLongestPlace, HasSector, IsLongestPlace};
-ghost use Rattle.gptedit_core.specs.Placing.{IsLongestRun};
+ghost use Rattle.gptedit_core.specs.Placing.{trimmed, AreFreeBehind, FindsSpan, HasNoEnd, HasNoLongestPlace};
+ghost use Rattle.gptedit_core.specs.Placing.{HasSector, IsFurthestEnd, IsLastEnd, IsLongestPlace, IsLongestRun};
 ghost use Rattle.gptedit_core.specs.declared.place.Place.TheVariants.{Free, From, Longest};
 
 use crate::asked::Choice;
-use gptman::{Error, GPT, Result};
+use gptman::{Error, GPT, GPTPartitionEntry, Result};
 
 /// Where a partition is to be, in sectors.
 #[derive(Clone, Copy, PartialEq, Eq, Debug)]
@@ -18,6 +20,9 @@ pub enum Place {
     At { first: u64, last: u64 },
     /// From this sector to the end of the free sectors there.
     From { first: u64 },
+    /// From this sector to that, and on to the last of the free sectors behind it that ends before a multiple
+    /// of the alignment, if one does.
+    Longer { first: u64, last: u64 },
     /// So many sectors, at least one, at a place that is chosen.
     Free { size: u64, choice: Choice },
     /// As many sectors as the longest slot has room for, of multiples of the alignment.
@@ -37,6 +42,7 @@ impl Place {
         match self {
             Place::At { first, last } => Ok(Some((first, last))),
             Place::From { first } => find_rest(table, first),
+            Place::Longer { first, last } => Ok(Some((first, find_end(table, first, last)))),
             Place::Free { size, choice } => find_free(table, size.max(1), choice),
             Place::Longest => find_longest(table),
         }
@@ -55,6 +61,69 @@ fn find_rest(table: &GPT, first: u64) -> Result<Option<(u64, u64)>>
         Some((start, long)) => Ok(Some((first, trim(table.align, first, start + (long - 1))))),
         None => Ok(None),
     }
+}
+
+// Where a partition ends that has these sectors, and gets the free ones behind it: before a multiple of the
+// alignment, or where it ended.
+fn find_end(table: &GPT, first: u64, last: u64) -> u64
+    requires aligned { 0 < table.now.align }
+    ensures { IsFurthestEnd (IsFreeIn table.now) table.now.align first last result }
+{
+    if first > last {
+        return last;
+    }
+    match last_end(table.align, find_far(table, last)) {
+        Some(end) => end.max(last),
+        None => last,
+    }
+}
+
+// The last of the free sectors that follow this one; this one, where none does.
+fn find_far(table: &GPT, last: u64) -> u64
+    ensures kept { last ≤ result }
+    ensures free { AreFreeBehind (IsFreeIn table.now) last result }
+    ensures ends { ¬ IsFreeIn table.now (result + 1) }
+{
+    let mut far = last;
+    if table.header.first_usable_lba.saturating_sub(1) <= last {
+        far = last.max(table.header.last_usable_lba);
+    }
+    for (_, entry) in table.iter() {
+        far = far_before(entry, last, far);
+    }
+    far
+}
+
+// The last sector from this one up to that which the entry leaves.
+fn far_before(entry: &GPTPartitionEntry, last: u64, far: u64) -> u64
+    requires { last ≤ far }
+    ensures low { last ≤ result }
+    ensures high { result ≤ far }
+    ensures free { (x : ℕ) → last < x → x ≤ result → ¬ IsTrue (covers x entry.now) }
+    ensures ends { result ≢ far → IsTrue (covers (result + 1) entry.now) }
+{
+    let (start, end) = (entry.starting_lba, entry.ending_lba);
+    if entry.is_used() && start <= end && start <= far && last < end {
+        last.max(start.saturating_sub(1))
+    } else {
+        far
+    }
+}
+
+// The last sector up to this one that ends before a multiple of the alignment, if there is one.
+#[tactic(auto, using(crate::proofs::Ends::last_here, crate::proofs::Ends::last_before, crate::proofs::Ends::none_before))]
+fn last_end(align: u64, far: u64) -> Option<u64>
+    requires { 0 < align }
+    ensures { MatchOption result (HasNoEnd align far) (IsLastEnd align far) }
+{
+    let over = far % align + 1;
+    if over == align {
+        return Some(far);
+    }
+    if far < over {
+        return None;
+    }
+    Some(far - over)
 }
 
 // The runs of free sectors, each as its first sector and its length.

@@ -45,6 +45,13 @@ pub enum Refusal {
     SharedGuid,
     /// Partitions would overlap, or lie outside of the usable sectors.
     BadBoundaries,
+    /// The disk has no room for two copies of a table of so many entries, or that is none.
+    TooSmallFor(u32),
+    /// The usable sectors that are asked for end before they begin, or are not all among these, the first and
+    /// the last that both copies leave.
+    OutOfBounds(u64, u64),
+    /// The new table would be written over the only good copy of the old one before a copy of it is there.
+    NoSafeOrder,
 }
 
 /// Why a plan was not made.

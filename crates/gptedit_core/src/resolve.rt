@@ -3,8 +3,8 @@
 ghost use Rattle.std.specs.Prelude.{◌≡◌, ◌<◌, ◌≤◌, None, IfErr, IfOk, length, option_map};
 ghost use Rattle.gptman.specs.Fault.{fault_of, out_of_memory};
 ghost use Rattle.gptedit_core.specs.Resolving.{entry_asked, lowest_unused, number_asked};
-ghost use Rattle.gptedit_core.specs.Resolving.{place_asked, place_of, refusal_in, resolved, room_asked};
-ghost use Rattle.gptedit_core.specs.Resolving.{span_from, start_asked, stay_fault, there_of, use_fault, used_at};
+ghost use Rattle.gptedit_core.specs.Resolving.{place_asked, place_of, refusal_in, resolved, rest_of, rest_there};
+ghost use Rattle.gptedit_core.specs.Resolving.{room_asked, span_from, start_asked, stay_fault, there_of, use_fault, used_at};
 ghost use Rattle.gptedit_core.specs.Resolving.{IsStopFor};
 
 use crate::amount::Amount;
@@ -149,12 +149,7 @@ fn find_place(
         Some(entry) => Some((entry.starting_lba, entry.ending_lba)),
         None => None,
     };
-    let place = match (mode, room, start, there) {
-        (Mode::Become { .. }, Some(Room::Rest), None, Some((first, last))) => {
-            Place::At { first, last }
-        }
-        _ => place_of(number, room, start, there, asked.choice)?,
-    };
+    let place = place_of(mode, number, room, start, there, asked.choice)?;
     check_stay(mode, number, there, place)?;
     Ok(place)
 }
@@ -190,13 +185,14 @@ fn find_room(size: Option<Size>, number: u32, sector_size: u64) -> Result<Option
 
 // Where a partition is to be that has so much room, begins here, and was there, as far as that is known.
 fn place_of(
+    mode: Mode,
     number: u32,
     room: Option<Room>,
     start: Option<u64>,
     there: Option<(u64, u64)>,
     choice: Choice,
 ) -> Result<Place, Refusal>
-    ensures { result ≡ place_of number room start there choice }
+    ensures { result ≡ place_of mode number room start there choice }
 {
     match (room, start, there) {
         (Some(Room::Sectors(size)), Some(first), _) => {
@@ -206,14 +202,36 @@ fn place_of(
             span_from(number, first, size.saturating_sub(1))
         }
         (Some(Room::Sectors(size)), None, None) => Ok(Place::Free { size, choice }),
-        (Some(Room::Rest), Some(first), _) => Ok(Place::From { first }),
-        (Some(Room::Rest), None, Some((first, _))) => Ok(Place::From { first }),
-        (Some(Room::Rest), None, None) => Ok(Place::Longest),
+        (Some(Room::Rest), start, there) => Ok(rest_of(mode, start, there)),
         (None, None, Some((first, last))) => Ok(Place::At { first, last }),
         (None, Some(start), Some((first, last))) if first <= last => {
             span_from(number, start, last - first)
         }
         (None, _, _) => Err(Refusal::NoSize(number)),
+    }
+}
+
+// Where a partition is to be that has the rest, begins here, and was there, as far as that is known.
+fn rest_of(mode: Mode, start: Option<u64>, there: Option<(u64, u64)>) -> Place
+    ensures { result ≡ rest_of mode start there }
+{
+    match (start, there) {
+        (None, None) => Place::Longest,
+        (Some(first), None) => Place::From { first },
+        (None, Some(there)) => rest_there(mode, there),
+        (Some(first), Some(there)) if first == there.0 => rest_there(mode, there),
+        (Some(first), Some(_)) => Place::From { first },
+    }
+}
+
+// Where a partition is to be that was there and has the rest: there, or longer where it is changed.
+fn rest_there(mode: Mode, there: (u64, u64)) -> Place
+    ensures { result ≡ rest_there mode there }
+{
+    let (first, last) = there;
+    match mode {
+        Mode::Become { .. } => Place::At { first, last },
+        _ => Place::Longer { first, last },
     }
 }
 

@@ -1,0 +1,130 @@
+-- A new table over an old one leaves one of the two.
+use Rattle.std.proofs.Common.{◌≡◌, ◌≢◌, ◌⊎◌, ◌↔◌, IsTrue, inl, inr, refl, sym, ap, ◌∙◌, subst, ℕ, ◌+◌, ◌-◌, ◌*◌, ◌/◌, ◌≤◌, Bool, true, false, List, [], Ok, Option, min, max, arith}
+use Rattle.std.proofs.Math.Nat.{one-mul}
+use Rattle.gptman.specs.Copy.{IsCoherent}
+use Rattle.gptman.specs.Crash.{other_side, IsKeptFor, IsReadInForm}
+use Rattle.gptman.specs.Disk.{DiskState}
+use Rattle.gptman.specs.Layout.{HasLayout, Holds, copy_ranges_at}
+use Rattle.gptman.specs.Ranges.{AreClear}
+use Rattle.gptman.specs.Reading.{Side, primary, backup, copy_in}
+use Rattle.gptman.specs.Table.{Table, entries_in, table_in, IsHeaderForm}
+use Rattle.gptman.specs.TableReads.{copy_of, MayBeRead}
+use Rattle.gptman.specs.declared.table.GPT.{GPT}
+use Rattle.gptman_change.specs.Changes.{begun, unwritten, written, IsSafe, LeavesChange, StartsGood, StartsGoodFor, StopsLeaveEither}
+use Rattle.gptman_change.specs.Reads.{size_for}
+use Rattle.gptman_change.proofs.Safe.{unwritten_safe}
+use Rattle.gptedit_core.specs.Making.{put_at, side_of, HasOrder, IsRemade, IsSafeOrder, IsWrittenAnew, SafeOrdersKeepACopy}
+use Rattle.gptedit_core.specs.declared.making.Creation.{Creation}
+use Rattle.gptedit_core.proofs.Bounded.{new_coherent, new_sector}
+use Rattle.gptedit_core.proofs.Ordered.{side_first, side_second}
+
+-- ---- the place of a header
+
+last_is : (p b last : ℕ) → p ≡ 1 → b ≡ 1 → min p b ≡ min 1 last → max p b ≡ max 1 last → last ≡ 1
+last_is p b last first second low high = omega (arith, first, second, low, high)
+
+-- two headers in one sector are not apart
+never_apart : (a b : ℕ) → b ≡ a → ◌≡◌ {A = ℕ} 92 0 ⊎ (◌≡◌ {A = ℕ} 92 0 ⊎ ((a + 92 ≤ b) ⊎ (b + 92 ≤ a))) → ⊥
+never_apart a b same (inl none) = omega (arith, none)
+never_apart a b same (inr (inl none)) = omega (arith, none)
+never_apart a b same (inr (inr (inl low))) = omega (arith, low, same)
+never_apart a b same (inr (inr (inr high))) = omega (arith, high, same)
+
+-- A header is not that of both places.
+not_both : (g : GPT) (len : ℕ) → HasLayout g len → g.header.backup_lba ≡ 1 → g.header.primary_lba ≢ 1
+not_both g len layout second first =
+    let t = layout.table in
+    let last : len / g.sector_size - 1 ≡ 1 = last_is g.header.primary_lba g.header.backup_lba (len / g.sector_size - 1) first second t.low_sector t.high_sector in
+    let same : (len / g.sector_size - 1) * g.sector_size ≡ g.sector_size = ap (λ (n : ℕ). n * g.sector_size) last ∙ one-mul g.sector_size in
+    never_apart g.sector_size ((len / g.sector_size - 1) * g.sector_size) same t.apart.0.1.0
+
+-- On the stated layout a header's form is that of its place.
+form_there : (side : Side) (g : GPT) (len : ℕ) → HasLayout g len → IsHeaderForm side g.header → side_of g.header ≡ side
+form_there primary g len layout form = side_first g.header form.0
+form_there backup g len layout form = side_second g.header (not_both g len layout form.0)
+
+pub form_at : (g : GPT) (len : ℕ) → HasLayout g len → IsHeaderForm (side_of g.header) g.header
+form_at g len layout = subst (λ (side : Side). IsHeaderForm side g.header) (sym (form_there layout.side g len layout layout.form)) layout.form
+
+-- ---- what a safe order keeps
+
+module _ (disk : DiskState) (g next : GPT) (synced : disk.pending ≡ []) (read : IsReadInForm disk.view g) (order : IsSafeOrder g next disk.size) where
+  there : side_of g.header ≡ read.side
+  there = form_there read.side g disk.size order.layout read.form
+
+  next_form : IsHeaderForm (side_of g.header) next.header
+  next_form = subst (λ (side : Side). IsHeaderForm side next.header) order.place.side (form_at next disk.size order.next_layout)
+
+  held : Holds disk.view g.sector_size read.side (table_in g)
+  held = record { copy = copy_of g; accepted = read.accepted; form = record { table = refl; form = read.form } }
+
+  kept : IsKeptFor disk next (table_in g)
+  kept = record {
+    synced = synced;
+    side = side_of g.header;
+    form = next_form;
+    held = subst (λ (n : ℕ). Holds disk.view n (side_of g.header) (table_in g)) (sym order.place.sector)
+        (subst (λ (side : Side). Holds disk.view g.sector_size side (table_in g)) (sym there) held);
+    clear = subst (λ (n : ℕ). AreClear (copy_ranges_at (side_of g.header) (table_in g) n disk.size) (copy_ranges_at (other_side (side_of g.header)) (table_in next) next.sector_size disk.size))
+        (sym order.place.sector) order.clear;
+  }
+
+pub kept_in_order : (disk : DiskState) → SafeOrdersKeepACopy disk
+kept_in_order disk g next synced read order = kept disk g next synced read order
+
+-- ---- what is left
+
+-- A value that is read where each accepted copy is this table is it, in the form of its place.
+record IsOfTable (view : List ℕ) (g : GPT) (was : Table) : Type 0 where
+  same : table_in g ≡ was
+  read : IsReadInForm view g
+
+of_place : (disk : DiskState) (ss : ℕ) (g : GPT) (was : Table) (place : Side) → StartsGood disk ss was → g.sector_size ≡ ss → copy_in place disk.view g.sector_size ≡ Ok (copy_of g)
+    → IsOfTable disk.view g was
+of_place disk ss g was place good sector accepted =
+    let form = good.only place (copy_of g) (subst (λ (n : ℕ). copy_in place disk.view n ≡ Ok (copy_of g)) sector accepted) in
+    record { same = form.table; read = record { side = place; accepted = accepted; form = form.form } }
+
+of_table : (old mid : DiskState) (ss : ℕ) (g : GPT) (was : Table) → StartsGood old ss was → g.sector_size ≡ ss → MayBeRead old mid g.sector_size (copy_of g) → IsOfTable old.view g was
+of_table old mid ss g was good sector (inl first) = of_place old ss g was primary good sector first
+of_table old mid ss g was good sector (inr second) = of_place old ss g was backup good sector second.0
+
+in_order : (creation : Creation) (g next : GPT) (len : ℕ) → creation.may_lose ≡ false → HasOrder creation g next len → IsSafeOrder g next len
+in_order creation g next len keeps (inl lose) = absurd (cc)
+in_order creation g next len keeps (inr order) = order
+
+pub order_else : (creation : Creation) (g next : GPT) (len : ℕ) (b : Bool) → creation.may_lose ≡ false → IsTrue b ↔ IsSafeOrder g next len → IsTrue b ↔ HasOrder creation g next len
+order_else creation g next len b keeps is = (λ yes. inr (is.0 yes), λ order. is.1 (in_order creation g next len keeps order))
+
+pub refuted : {P : Type 0} (b : Bool) → b ≡ false → IsTrue b ↔ P → P → ⊥
+refuted b lacks is p = let holds : b ≡ true = is.1 p in absurd (cc)
+
+-- Where it may not lose both, a stop leaves the table that was or the new one.
+pub safe_anew : (creation : Creation) (size : Option ℕ) (was : Table) (old new : DiskState) → creation.may_lose ≡ false → StartsGoodFor old size was
+    → LeavesChange (IsWrittenAnew creation old.size) size old new → IsSafe (IsWrittenAnew creation old.size) (size_for old.view size) was old new
+safe_anew creation size was old new keeps good (unwritten only) = unwritten_safe _ (size_for old.view size) was old new good only
+safe_anew creation size was old new keeps good (written table next answer read made wrote leaves) =
+    let ss : ℕ = size_for old.view size in
+    let order = in_order creation table next old.size keeps made.planned.order in
+    let of = of_table old new ss table was good read.sector read.accepted in
+    let one = subst (IsKeptFor old next) of.same (kept_in_order old table next good.synced of.read order) in
+    begun table next answer of.same made
+    (subst (λ (n : ℕ). StopsLeaveEither was (table_in next) n old new) (order.place.sector ∙ read.sector) (leaves was order.next_layout one))
+
+-- ---- the new table in the form of the old one
+
+put_sector : (side : Side) (g : GPT) → (put_at side g).sector_size ≡ g.sector_size
+put_sector primary g = refl
+put_sector backup g = refl
+
+put_coherent : (side : Side) (g : GPT) → IsCoherent g.header (entries_in g) → IsCoherent (put_at side g).header (entries_in (put_at side g))
+put_coherent primary g is = is
+put_coherent backup g is = record { header_size = is.header_size; count = is.count; entry_size = is.entry_size }
+
+pub remade_sector : (creation : Creation) (len : ℕ) (g next : GPT) → IsRemade creation len g next → next.sector_size ≡ g.sector_size
+remade_sector creation len g next is =
+    ap (λ (m : GPT). m.sector_size) is.next_is ∙ put_sector (side_of g.header) is.made ∙ new_sector creation g.sector_size len is.made is.is_new
+
+pub remade_coherent : (creation : Creation) (len : ℕ) (g next : GPT) → IsRemade creation len g next → IsCoherent next.header (entries_in next)
+remade_coherent creation len g next is =
+    subst (λ (m : GPT). IsCoherent m.header (entries_in m)) (sym is.next_is) (put_coherent (side_of g.header) is.made (new_coherent creation g.sector_size len is.made is.is_new))

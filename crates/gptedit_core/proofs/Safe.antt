@@ -1,0 +1,89 @@
+-- From the primary copy a growth leaves the table that was or the grown one.
+use Rattle.std.proofs.Common.{◌≡◌, ◌*◌, ◌∙◌, ℕ, List, [], ◌∷◌, inl, inr, refl, sym, subst, ap, Option}
+use Rattle.gptman.specs.Crash.{IsKeptFor}
+use Rattle.gptman.specs.Disk.{AgreesOutside, DiskState, OnlyRead}
+use Rattle.gptman.specs.Layout.{HasLayout, Holds, copy_ranges_at}
+use Rattle.gptman.specs.Ranges.{AreClear}
+use Rattle.gptman.specs.Reading.{backup, primary}
+use Rattle.gptman.specs.Stop.{HoldsOneOf}
+use Rattle.gptman.specs.Table.{Table, table_in, IsForm, IsHeaderForm}
+use Rattle.gptman.specs.TableReads.{copy_of, MayBeRead}
+use Rattle.gptman.specs.declared.table.GPT.{GPT}
+use Rattle.gptman.proofs.Apart.{clear_if_apart}
+use Rattle.gptman.proofs.Held.{holds_local}
+use Rattle.gptman.proofs.ReadingLaw.{reads_one_of}
+use Rattle.gptman_copy.proofs.Ranges.{Ranges, contains_first}
+use Rattle.gptman_change.specs.Changes.{begun, nothing_written, unwritten, written, IsSafe, LeavesChange, StopsLeaveEither}
+use Rattle.gptman_change.specs.Reads.{size_for, IsReadFrom}
+use Rattle.gptedit_core.specs.Growing.{GrowthsKeepPrimary, IsFitted, IsGrown, IsWrittenGrown, StartsPrimary, StartsPrimaryFor}
+use Rattle.gptedit_core.specs.Growing.IsFitted.{follows, is_usual, stays}
+use Rattle.gptedit_core.specs.declared.growth.Bounds.{Bounds}
+use Rattle.gptedit_core.specs.declared.growth.Growth.{Growth}
+use Rattle.gptedit_core.proofs.Growing.{fitted_sector}
+
+-- A growth keeps the primary form, and the number of entries.
+fitted_form : (bounds : Bounds) (len : ℕ) (g next : GPT) → IsFitted bounds len g next → IsHeaderForm primary g.header → IsHeaderForm primary next.header
+fitted_form bounds len g next (stays kept ends is) form = subst (λ (m : GPT). IsHeaderForm primary m.header) (sym is) form
+fitted_form bounds len g next (follows kept ends first may is) form = subst (λ (m : GPT). IsHeaderForm primary m.header) (sym is) (rw (form.0, form.1) (refl, refl))
+fitted_form bounds len g next (is_usual usual ends is) form = subst (λ (m : GPT). IsHeaderForm primary m.header) (sym is) (rw (form.0, form.1) (refl, refl))
+
+fitted_count : (bounds : Bounds) (len : ℕ) (g next : GPT) → IsFitted bounds len g next → next.header.number_of_partition_entries ≡ g.header.number_of_partition_entries
+fitted_count bounds len g next (stays kept ends is) = ap (λ (m : GPT). m.header.number_of_partition_entries) is
+fitted_count bounds len g next (follows kept ends first may is) = ap (λ (m : GPT). m.header.number_of_partition_entries) is
+fitted_count bounds len g next (is_usual usual ends is) = ap (λ (m : GPT). m.header.number_of_partition_entries) is
+
+-- The primary ranges are those of the grown table, which are apart from its backup ranges.
+clear_of : (was : Table) (next : GPT) (len : ℕ) → next.header.number_of_partition_entries ≡ was.count → HasLayout next len
+    → AreClear (copy_ranges_at primary was next.sector_size len) (copy_ranges_at backup (table_in next) next.sector_size len)
+clear_of was next len count layout =
+    let ss : ℕ = next.sector_size in
+    let others : Ranges = copy_ranges_at backup (table_in next) ss len in
+    subst (λ (n : ℕ). AreClear ((ss, 92) ∷ (2 * ss, 128 * n) ∷ []) others) count (clear_if_apart (copy_ranges_at primary (table_in next) ss len) others layout.table.apart)
+
+pub growths_keep_primary : (disk : DiskState) → GrowthsKeepPrimary disk
+growths_keep_primary disk bounds was g next synced held form count is = record {
+  synced = synced;
+  side = primary;
+  form = fitted_form bounds disk.size g next is.fitted form;
+  held = subst (λ (n : ℕ). Holds disk.view n primary was) (sym (fitted_sector bounds disk.size g next is.fitted)) held;
+  clear = clear_of was next disk.size (fitted_count bounds disk.size g next is.fitted ∙ count) is.layout;
+}
+
+-- What is read is the table that the primary place holds.
+read_primary : (old new : DiskState) (ss : ℕ) (was : Table) (g : GPT) → StartsPrimary old ss was → MayBeRead old new ss (copy_of g) → IsForm primary was (copy_of g)
+read_primary old new ss was g good (inl first) =
+    let same : good.held.copy ≡ copy_of g = cc (good.held.accepted, first) in
+    subst (IsForm primary was) same good.held.form
+read_primary old new ss was g good (inr second) = absurd (good.alone (copy_of g) second.0)
+
+-- Where nothing is written a stop leaves it.
+still_held : (old new : DiskState) (ss : ℕ) (was : Table) → StartsPrimary old ss was → OnlyRead old new → (b : List ℕ) → AgreesOutside [] old.view b → HoldsOneOf b ss (was ∷ [])
+still_held old new ss was good only b agrees = record {
+  side = primary;
+  table = was;
+  listed = contains_first was [];
+  holds = holds_local old.view b ss primary was good.held (record { long = agrees.long; same = λ k inside. agrees.same k tt });
+}
+
+module _ (growth : Growth) (size : Option ℕ) (was : Table) (old new : DiskState) (good : StartsPrimaryFor old size was) where
+  safe_written : (table next : GPT) → IsReadFrom size old new table → IsGrown growth.bounds old.size table next
+      → ((held : Table) → HasLayout next old.size → IsKeptFor old next held → StopsLeaveEither held (table_in next) next.sector_size old new)
+      → (table_in table ≡ was) × StopsLeaveEither was (table_in next) (size_for old.view size) old new
+  safe_written table next read grown law =
+      let ss : ℕ = size_for old.view size in
+      let form = read_primary old new ss was table good (subst (λ (n : ℕ). MayBeRead old new n (copy_of table)) read.sector read.accepted) in
+      let held : Holds old.view table.sector_size primary was = subst (λ (n : ℕ). Holds old.view n primary was) (sym read.sector) good.held in
+      let kept = growths_keep_primary old growth.bounds was table next good.synced held form.form (ap (λ (t : Table). t.count) form.table) grown in (
+        form.table,
+        subst (λ (n : ℕ). StopsLeaveEither was (table_in next) n old new) (fitted_sector growth.bounds old.size table next grown.fitted ∙ read.sector)
+            (law was grown.layout kept),
+      )
+
+  pub safe_growth : LeavesChange (IsWrittenGrown growth old.size) size old new → IsSafe (IsWrittenGrown growth old.size) (size_for old.view size) was old new
+  safe_growth (unwritten only) =
+      nothing_written (λ b left known. reads_one_of b (size_for old.view size) (was ∷ [])
+      (still_held old new (size_for old.view size) was good only b
+      (subst (λ (ranges : Ranges). AgreesOutside ranges old.view b) good.synced (only.wrote.crash b left))) known)
+  safe_growth (written table next answer read made wrote law) =
+      let is = safe_written table next read made.planned law in
+      begun table next answer is.0 made is.1
