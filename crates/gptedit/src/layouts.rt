@@ -3,17 +3,17 @@
 use crate::failure::{Failure, refuse};
 use crate::image::Image;
 use gptedit_core::{Layout, Mode};
-use gptedit_text::{LayoutError, ScriptHeader, is_script, read_layout, read_script};
+use gptedit_text::{LayoutError, Parsed, is_script, read_layout, read_script};
 use gptman::GPT;
 use std::alloc::Global;
 use std::collections::BTreeSet;
 use std::fs::File;
 use std::io::ErrorKind;
 use std::rt::Files;
-use std::{fmt, fs, io};
+use std::{fs, io};
 
-/// The layout that a file says, for the table of the image. `-` is standard input. A script of `sfdisk` is
-/// refused where it says another thing of the table than is so.
+/// Reads the layout in a file, for the table of the image. `-` is standard input. A layout whose header differs
+/// from the one of the table is refused.
 ///
 /// Where it is to replace the table, the partitions that it leaves out are removed.
 pub fn read_asked<R: Files<File = File> + Input + AllocGlobal>(
@@ -24,11 +24,12 @@ pub fn read_asked<R: Files<File = File> + Input + AllocGlobal>(
 ) -> Result<Layout, Failure> {
     let alloc = rt.alloc();
     let text = read_text(rt, file)?;
-    let (mut layout, header) = parse(alloc, file, text.as_str())?;
+    let parsed = parse(alloc, file, text.as_str())?;
     let table = image.table(alloc)?;
-    if let Some(header) = &header {
-        refuse_other_table(alloc, file, header, &table)?;
+    if let Err(other) = parsed.header.check(parsed.form, &table) {
+        return Err(refuse(alloc, file, &other));
     }
+    let mut layout = parsed.layout;
     if is_replacing {
         layout.mode = Mode::Become { replace: true };
         layout.removed = find_left_out(alloc, &table, &layout)?;
@@ -58,16 +59,15 @@ fn not_read(alloc: Global, file: &str, error: io::Error) -> Failure {
     }
 }
 
-// The layout that a text says, and what a script says of its table.
-fn parse(alloc: Global, file: &str, text: &str) -> Result<(Layout, Option<ScriptHeader>), Failure> {
-    if is_script(text) {
-        return match read_script(alloc, text) {
-            Ok((layout, header)) => Ok((layout, Some(header))),
-            Err(error) => Err(not_a_layout(alloc, file, error)),
-        };
-    }
-    match read_layout(alloc, text) {
-        Ok(layout) => Ok((layout, None)),
+// What a text says.
+fn parse(alloc: Global, file: &str, text: &str) -> Result<Parsed, Failure> {
+    let parsed = if is_script(text) {
+        read_script(alloc, text)
+    } else {
+        read_layout(alloc, text)
+    };
+    match parsed {
+        Ok(parsed) => Ok(parsed),
         Err(error) => Err(not_a_layout(alloc, file, error)),
     }
 }
@@ -77,47 +77,6 @@ fn not_a_layout(alloc: Global, file: &str, error: LayoutError) -> Failure {
     match error {
         LayoutError::OutOfMemory => Failure::OutOfMemory,
         error => refuse(alloc, file, &error),
-    }
-}
-
-// Refuses a script that says another thing of the table than is so.
-fn refuse_other_table(
-    alloc: Global,
-    file: &str,
-    header: &ScriptHeader,
-    table: &GPT,
-) -> Result<(), Failure> {
-    let count = u64::from(table.header.number_of_partition_entries);
-    let lines = [
-        ("sector-size", header.sector_size, table.sector_size),
-        ("first-lba", header.first_lba, table.header.first_usable_lba),
-        ("last-lba", header.last_lba, table.header.last_usable_lba),
-        ("table-length", header.table_length, count),
-    ];
-    for (name, said, is) in lines {
-        match said {
-            Some(said) if said != is => {
-                return Err(refuse(alloc, file, &OtherTable { name, said, is }));
-            }
-            _ => (),
-        }
-    }
-    Ok(())
-}
-
-// That a script says another thing of a table than is so.
-#[derive(Clone, Copy)]
-struct OtherTable {
-    name: &'static str,
-    said: u64,
-    is: u64,
-}
-
-impl fmt::Display for OtherTable {
-    fn fmt<W: fmt::Write>(&self, f: &mut fmt::Formatter<W>) -> fmt::Result {
-        let OtherTable { name, said, is } = *self;
-        writeln!(f, "{name} is {said} here, and {is} in the table")?;
-        f.write_str("without that line the partitions are put into the table as it is")
     }
 }
 

@@ -3,10 +3,15 @@
 use crate::copies::CopiesState;
 use crate::members::Members;
 use crate::sfdisk::{Attributes, separator_of};
+use gptedit_text::values::is_hidden;
 use gptimg_core::name_of;
 use gptman::{Error, GPT, GPTPartitionEntry};
 use serde_json::Value;
 use std::alloc::{AllocError, Global};
+use std::fmt;
+
+// The code points of one UTF-16 unit are below this one.
+const PAIRS: u32 = 0x1_0000;
 
 // How many entries a table has of which sfdisk does not tell the number.
 const USUAL_COUNT: u32 = 128;
@@ -25,7 +30,7 @@ pub fn table_json(
     let mut members = Members::new(alloc);
     members.put("partitiontable", standard_value(alloc, image, table)?)?;
     members.put("gptman", own_value(alloc, size, table, state, free)?)?;
-    members.into_value().to_string_pretty(alloc)
+    print_json(alloc, &members.into_value())
 }
 
 // What sfdisk tells of a table.
@@ -133,4 +138,39 @@ fn run_value(alloc: Global, start: u64, length: u64) -> Result<Value, AllocError
     members.put_number("start", start)?;
     members.put_number("size", length)?;
     Ok(members.into_value())
+}
+
+/// Prints a value on several lines. Hidden characters of its texts are escaped, so that a terminal shows them,
+/// and any reader of JSON reads the same texts.
+pub fn print_json(alloc: Global, value: &Value) -> Result<String, AllocError> {
+    let text = value.to_string_pretty(alloc)?;
+    format!(in alloc; "{}", EscapedJson(text.as_str()))
+}
+
+// A text of JSON in which the hidden characters are escaped that its writer leaves as they are: those from
+// U+007F on. They are in texts only.
+#[derive(Clone, Copy)]
+struct EscapedJson<'a>(&'a str);
+
+impl fmt::Display for EscapedJson<'_> {
+    fn fmt<W: fmt::Write>(&self, f: &mut fmt::Formatter<W>) -> fmt::Result {
+        for c in self.0.chars() {
+            if c >= '\u{7f}' && is_hidden(c) {
+                write_json_escape(f, u32::from(c))?;
+            } else {
+                f.write_char(c)?;
+            }
+        }
+        Ok(())
+    }
+}
+
+// Writes a code point as JSON has it: by its UTF-16 units.
+fn write_json_escape<W: fmt::Write>(f: &mut fmt::Formatter<W>, code: u32) -> fmt::Result {
+    if code < PAIRS {
+        return write!(f, "\\u{code:04x}");
+    }
+    let above = code - PAIRS;
+    let (high, low) = (0xd800 + (above >> 10), 0xdc00 + (above & 0x3ff));
+    write!(f, "\\u{high:04x}\\u{low:04x}")
 }

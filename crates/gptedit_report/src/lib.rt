@@ -25,7 +25,7 @@ pub use check::{Look, Mbr, print_check, print_check_json};
 pub use copies::CopiesState;
 pub use fault::ErrorText;
 pub use free::{free_json, print_free};
-pub use json::table_json;
+pub use json::{print_json, table_json};
 pub use refusal::{RefusalText, write_bad_boundaries, write_not_laid_out, write_shared_guid};
 pub use show::show_table;
 pub use types::{print_types, types_json};

@@ -3,7 +3,7 @@
 use crate::columns::{Column, print_columns, push_cell};
 use crate::copies::CopiesState;
 use crate::texts::{GuidText, NameText, SizeText, TypeText};
-use gptedit_text::values::{AttributeNames, ByteCount};
+use gptedit_text::values::{AttributeNames, ByteCount, Escaped};
 use gptman::{GPT, GPTPartitionEntry};
 use std::alloc::{AllocError, Global};
 use std::io;
@@ -48,6 +48,7 @@ pub fn show_table<W: Write>(
 fn print_disk<W: Write>(out: &mut W, image: &str, size: u64, table: &GPT) -> io::Result<()> {
     let sector_size = table.sector_size;
     let sectors = size.checked_div(sector_size).unwrap_or(0);
+    let image = Escaped(image);
     write!(out, "{image}: {sectors} sectors of {sector_size} bytes")?;
     writeln!(
         out,

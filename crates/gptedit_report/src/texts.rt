@@ -1,13 +1,13 @@
 //! Parts of a table as texts for people.
 
-use gptedit_text::values::ByteCount;
+use gptedit_text::values::{ByteCount, EscapedChar, EscapedCode};
 use gptguid_core::{name_of, text_of};
 use gptman::{GPTPartitionEntry, PartitionName};
 use std::char::decode_utf16;
 use std::fmt;
 
-/// A name as it stands on the disk. Characters that could change what a terminal shows, and surrogates
-/// that are in no pair, are written as `\u{..}`.
+/// A name as it stands on the disk. Hidden characters, and surrogates that are not part of a pair, are written
+/// as `\u{..}`.
 #[derive(Clone, Copy)]
 pub(crate) struct NameText<'a>(pub(crate) &'a PartitionName);
 
@@ -16,36 +16,37 @@ impl fmt::Display for NameText<'_> {
         for read in decode_utf16(self.0.units().iter().copied()) {
             match read {
                 Ok('\0') => return Ok(()),
-                Ok(c) if is_hidden(c) => write_escaped(f, u32::from(c))?,
-                Ok(c) => f.write_char(c)?,
-                Err(error) => write_escaped(f, u32::from(error.unpaired_surrogate()))?,
+                Ok(c) => write!(f, "{}", EscapedChar(c))?,
+                Err(error) => write_surrogate(f, error.unpaired_surrogate())?,
             }
         }
         Ok(())
     }
 }
 
-// Whether a terminal may take the character as a command, a line's end or a change of direction.
-fn is_hidden(c: char) -> bool {
-    c.is_control()
-        || matches!(c, '\u{61c}' | '\u{200e}' | '\u{200f}' | '\u{2028}'..='\u{202e}' | '\u{2066}'..='\u{2069}')
-}
-
-// The character of this number, as an escape.
-fn write_escaped<W: fmt::Write>(f: &mut fmt::Formatter<W>, number: u32) -> fmt::Result {
-    f.write_str("\\u{")?;
-    write!(f, "{number:x}")?;
-    f.write_str("}")
-}
-
-/// A name in quotes, else as `NameText`.
+/// A name in quotes, as `NameText` writes it; a quote in it and a backslash have a backslash before them.
 #[derive(Clone, Copy)]
 pub(crate) struct QuotedName<'a>(pub(crate) &'a PartitionName);
 
 impl fmt::Display for QuotedName<'_> {
     fn fmt<W: fmt::Write>(&self, f: &mut fmt::Formatter<W>) -> fmt::Result {
-        write!(f, "\"{}\"", NameText(self.0))
+        f.write_char('"')?;
+        for read in decode_utf16(self.0.units().iter().copied()) {
+            match read {
+                Ok('\0') => break,
+                Ok('"') => f.write_str("\\\"")?,
+                Ok('\\') => f.write_str("\\\\")?,
+                Ok(c) => write!(f, "{}", EscapedChar(c))?,
+                Err(error) => write_surrogate(f, error.unpaired_surrogate())?,
+            }
+        }
+        f.write_char('"')
     }
+}
+
+// Writes a surrogate that is not part of a pair.
+fn write_surrogate<W: fmt::Write>(f: &mut fmt::Formatter<W>, unit: u16) -> fmt::Result {
+    write!(f, "{}", EscapedCode(u32::from(unit)))
 }
 
 /// The text of a GUID, in lower case.

@@ -1,172 +1,153 @@
 //! Layouts written as TOML.
 
-use crate::values::{AmountText, AttributeName, SizeText};
+use crate::table_header::Header;
+use crate::values::{AmountText, AttributeName, SizeText, TomlText, UnitsText};
 use gptedit_core::{Asked, Layout};
 use gptman::PartitionName;
-use serde::Serialize;
-use std::alloc::{AllocError, AllocFailed, Global};
+use std::alloc::{AllocError, Global};
 use std::fmt;
-use toml::ser::WriteError;
 
-/// Why a layout is not written.
-#[derive(Clone, Copy, PartialEq, Eq, Debug)]
-pub enum DumpError {
-    /// TOML has no text for it.
-    Toml(WriteError),
-    /// There is no memory.
-    OutOfMemory,
-}
-
-// A layout as it is written.
-#[derive(Drop, Serialize)]
-struct LayoutText {
-    disk: DiskText,
-    partition: Option<Vec<PartitionText>>,
-}
-
-// `[disk]` as it is written.
-#[derive(Drop, Serialize)]
-struct DiskText {
-    guid: Option<String>,
-    align: String,
-}
-
-// A `[[partition]]` as it is written.
-#[derive(Drop, Serialize)]
-struct PartitionText {
-    number: Option<u32>,
-    name: Option<String>,
-    #[serde(rename = "type")]
-    kind: Option<String>,
-    start: Option<String>,
-    size: Option<String>,
-    guid: Option<String>,
-    attributes: Option<Vec<String>>,
-}
-
-/// The text in TOML of a layout, which `read_layout` reads as that layout again. A type is written by its
-/// name, where it has one.
+/// Writes a layout and its header as TOML, which `read_layout` reads as the same layout and header. A type is
+/// written by its name, if it has one.
 ///
-/// A name whose units are not those of its text, as where no text stands on a disk, is left out, so that an
-/// entry that has it keeps it. One of more than 36 units, which no disk has, is not read again.
-pub fn write_layout(alloc: Global, layout: &Layout) -> Result<String, DumpError> {
-    let mut partition = Vec::new(alloc);
-    for asked in layout.asked.iter() {
-        partition.push(partition_text(alloc, asked)?)?;
-    }
-    let guid = match layout.disk_guid {
-        Some(guid) => Some(guid_text(alloc, &guid)?),
-        None => None,
-    };
-    let align = AmountText(layout.align).to_string(alloc)?;
-    let disk = DiskText { guid, align };
-    let partition = if partition.is_empty() {
-        None
-    } else {
-        Some(partition)
-    };
-    let text = toml::to_string(alloc, &LayoutText { disk, partition })?;
-    Ok(text)
+/// A name whose text does not give its 36 UTF-16 units, as half a surrogate pair or units after a zero, is
+/// written as these units. Hidden characters of a name are escaped.
+pub fn write_layout(alloc: Global, layout: &Layout, header: &Header) -> Result<String, AllocError> {
+    format!(in alloc; "{}", LayoutText { layout, header })
 }
 
-// What is asked of an entry.
-fn partition_text(alloc: Global, asked: &Asked) -> Result<PartitionText, DumpError> {
-    Ok(PartitionText {
-        number: asked.number,
-        name: match &asked.name {
-            Some(name) => name_text(alloc, name)?,
-            None => None,
-        },
-        kind: match &asked.type_guid {
-            Some(guid) => Some(type_text(alloc, guid)?),
-            None => None,
-        },
-        start: match asked.start {
-            Some(start) => Some(AmountText(start).to_string(alloc)?),
-            None => None,
-        },
-        size: match asked.size {
-            Some(size) => Some(SizeText(size).to_string(alloc)?),
-            None => None,
-        },
-        guid: match &asked.unique_guid {
-            Some(guid) => Some(guid_text(alloc, guid)?),
-            None => None,
-        },
-        attributes: match asked.attributes {
-            Some(bits) => Some(attribute_texts(alloc, bits)?),
-            None => None,
-        },
-    })
+// A layout and its header, as TOML.
+#[derive(Clone, Copy)]
+struct LayoutText<'a> {
+    layout: &'a Layout,
+    header: &'a Header,
 }
 
-// The text of a name, where its units are those of the text.
-fn name_text(alloc: Global, name: &PartitionName) -> Result<Option<String>, DumpError> {
-    let Ok(again) = PartitionName::new(alloc, name.as_str()) else {
-        return Err(DumpError::OutOfMemory);
-    };
-    if again == *name {
-        Ok(Some(String::from_str(alloc, name.as_str())?))
-    } else {
-        Ok(None)
+impl fmt::Display for LayoutText<'_> {
+    fn fmt<W: fmt::Write>(&self, f: &mut fmt::Formatter<W>) -> fmt::Result {
+        f.write_str("[disk]\n")?;
+        if let Some(guid) = &self.layout.disk_guid {
+            write_text(f, "guid", &GuidText(guid))?;
+        }
+        write_text(f, "align", &AmountText(self.layout.align))?;
+        write_header(f, self.header)?;
+        for asked in self.layout.asked.iter() {
+            write_partition(f, asked)?;
+        }
+        Ok(())
     }
+}
+
+// Writes the keys of a header.
+fn write_header<W: fmt::Write>(f: &mut fmt::Formatter<W>, header: &Header) -> fmt::Result {
+    if let Some(size) = header.sector_size {
+        writeln!(f, "sector-size = \"{size}B\"")?;
+    }
+    if let Some(count) = header.entries {
+        writeln!(f, "entries = {count}")?;
+    }
+    if let Some(sector) = header.first_usable {
+        writeln!(f, "first-usable = \"{sector}s\"")?;
+    }
+    if let Some(sector) = header.last_usable {
+        writeln!(f, "last-usable = \"{sector}s\"")?;
+    }
+    Ok(())
+}
+
+// Writes what is asked of an entry.
+fn write_partition<W: fmt::Write>(f: &mut fmt::Formatter<W>, asked: &Asked) -> fmt::Result {
+    f.write_str("\n[[partition]]\n")?;
+    if let Some(number) = asked.number {
+        writeln!(f, "number = {number}")?;
+    }
+    if let Some(name) = &asked.name {
+        write_name(f, name)?;
+    }
+    if let Some(guid) = &asked.type_guid {
+        write_text(f, "type", &TypeText(guid))?;
+    }
+    if let Some(start) = asked.start {
+        write_text(f, "start", &AmountText(start))?;
+    }
+    if let Some(size) = asked.size {
+        write_text(f, "size", &SizeText(size))?;
+    }
+    if let Some(guid) = &asked.unique_guid {
+        write_text(f, "guid", &GuidText(guid))?;
+    }
+    match asked.attributes {
+        Some(bits) => write_attributes(f, bits),
+        None => Ok(()),
+    }
+}
+
+// Writes a key and its text, which has no character that would have to be escaped.
+fn write_text<W: fmt::Write, D: fmt::Display>(
+    f: &mut fmt::Formatter<W>,
+    key: &str,
+    text: &D,
+) -> fmt::Result {
+    writeln!(f, "{key} = \"{text}\"")
+}
+
+// Writes a name by its text, or by its units if the text does not give them.
+fn write_name<W: fmt::Write>(f: &mut fmt::Formatter<W>, name: &PartitionName) -> fmt::Result {
+    if is_given_by_text(name) {
+        writeln!(f, "name = {}", TomlText(name.as_str()))
+    } else {
+        write_text(f, "name-utf16", &UnitsText(name.units()))
+    }
+}
+
+// Whether the text of a name gives its 36 units.
+fn is_given_by_text(name: &PartitionName) -> bool {
+    let mut units = name.units().iter();
+    for unit in name.as_str().encode_utf16() {
+        if unit == 0 || units.next() != Some(&unit) {
+            return false;
+        }
+    }
+    units.all(|unit| *unit == 0)
+}
+
+// Writes each attribute, by its name or the number of its bit.
+fn write_attributes<W: fmt::Write>(f: &mut fmt::Formatter<W>, bits: u64) -> fmt::Result {
+    f.write_str("attributes = [")?;
+    let mut comma = "";
+    for bit in 0..64 {
+        if bits >> bit & 1 == 1 {
+            let name = AttributeName(bit);
+            write!(f, "{comma}\"{name}\"")?;
+            comma = ", ";
+        }
+    }
+    f.write_str("]\n")
 }
 
 // The name of a type, or its GUID.
-fn type_text(alloc: Global, guid: &[u8; 16]) -> Result<String, DumpError> {
-    match gptguid_core::name_of(guid) {
-        Some(name) => Ok(String::from_str(alloc, name)?),
-        None => guid_text(alloc, guid),
+#[derive(Clone, Copy)]
+struct TypeText<'a>(&'a [u8; 16]);
+
+impl fmt::Display for TypeText<'_> {
+    fn fmt<W: fmt::Write>(&self, f: &mut fmt::Formatter<W>) -> fmt::Result {
+        match gptguid_core::name_of(self.0) {
+            Some(name) => f.write_str(name),
+            None => GuidText(self.0).fmt(f),
+        }
     }
 }
 
 // The text of a GUID, in lower case.
-fn guid_text(alloc: Global, guid: &[u8; 16]) -> Result<String, DumpError> {
-    let mut buffer = [0; 36];
-    let text = gptguid_core::text_of(guid, &mut buffer).to_ascii_lowercase(alloc)?;
-    Ok(text)
-}
+#[derive(Clone, Copy)]
+struct GuidText<'a>(&'a [u8; 16]);
 
-// Each attribute, by its name or the number of its bit.
-fn attribute_texts(alloc: Global, bits: u64) -> Result<Vec<String>, DumpError> {
-    let mut texts = Vec::new(alloc);
-    for bit in 0..64 {
-        if bits >> bit & 1 == 1 {
-            texts.push(AttributeName(bit).to_string(alloc)?)?;
-        }
-    }
-    Ok(texts)
-}
-
-impl fmt::Display for DumpError {
+impl fmt::Display for GuidText<'_> {
     fn fmt<W: fmt::Write>(&self, f: &mut fmt::Formatter<W>) -> fmt::Result {
-        match self {
-            DumpError::Toml(error) => write!(f, "{error}"),
-            DumpError::OutOfMemory => f.write_str("no memory"),
+        let mut buffer = [0; 36];
+        for c in gptguid_core::text_of(self.0, &mut buffer).chars() {
+            f.write_char(c.to_ascii_lowercase())?;
         }
-    }
-}
-
-impl std::error::Error for DumpError {}
-
-impl From<WriteError> for DumpError {
-    fn from(error: WriteError) -> DumpError {
-        if error.is_memory() {
-            DumpError::OutOfMemory
-        } else {
-            DumpError::Toml(error)
-        }
-    }
-}
-
-impl From<AllocError> for DumpError {
-    fn from(_error: AllocError) -> DumpError {
-        DumpError::OutOfMemory
-    }
-}
-
-impl<T: Drop> From<AllocFailed<T>> for DumpError {
-    fn from(_error: AllocFailed<T>) -> DumpError {
-        DumpError::OutOfMemory
+        Ok(())
     }
 }

@@ -47,21 +47,26 @@ impl Entries {
         self.lowest
     }
 
-    /// One entry more, of this number, which stands at this place. A number that is taken and a second rest
-    /// are refused.
+    /// Adds an entry of this number, which is at this place. A number that is taken is refused.
     pub fn add(&mut self, place: Place, number: u32, asked: Asked) -> Result<(), LayoutError> {
         if !self.numbers.insert(number)? {
             return Err(place.fault("number", Fault::Taken(number)));
         }
-        if asked.size == Some(Size::Rest) {
-            if self.has_rest {
-                return Err(place.fault("size", Fault::SecondRest));
-            }
-            self.has_rest = true;
-        }
         self.last = number;
         self.raise_lowest();
         self.asked.push(asked)?;
+        Ok(())
+    }
+
+    /// Refuses a second partition that has the rest, at this place.
+    pub fn check_rest(&mut self, place: Place, asked: &Asked) -> Result<(), LayoutError> {
+        if asked.size != Some(Size::Rest) {
+            return Ok(());
+        }
+        if self.has_rest {
+            return Err(place.fault("size", Fault::SecondRest));
+        }
+        self.has_rest = true;
         Ok(())
     }
 

@@ -3,6 +3,7 @@
 mod fault;
 mod section;
 
+use crate::values::Escaped;
 pub use fault::Fault;
 pub use section::Section;
 use std::alloc::{AllocError, AllocFailed};
@@ -17,6 +18,8 @@ pub enum LayoutError {
         column: usize,
         error: toml::de::Error,
     },
+    /// It has no key and no header.
+    Empty,
     /// There is no such key.
     Unknown {
         place: Place,
@@ -49,7 +52,14 @@ impl fmt::Display for LayoutError {
                 line,
                 column,
                 error,
-            } => { write!(f, "line {line}, column {column}: {}", error.message()) }
+            } => {
+                let message = Escaped(error.message());
+                write!(f, "line {line}, column {column}: {message}")
+            }
+            LayoutError::Empty => f.write_str(
+                "the layout is empty: it has no key and no header\n\
+                 a layout without partitions says so by [disk], or as a script by label: gpt",
+            ),
             LayoutError::Unknown { place, key } => write_unknown(f, *place, key.as_str()),
             LayoutError::Fault { place, key, fault } => {
                 write_line(f, *place)?;
@@ -73,7 +83,11 @@ fn write_line<W: fmt::Write>(f: &mut fmt::Formatter<W>, place: Place) -> fmt::Re
 fn write_unknown<W: fmt::Write>(f: &mut fmt::Formatter<W>, place: Place, key: &str) -> fmt::Result {
     write_line(f, place)?;
     let section = place.section;
-    write!(f, "{key:?} is no key of {section}; the keys are ")?;
+    write!(
+        f,
+        "\"{}\" is no key of {section}; the keys are ",
+        Escaped(key)
+    )?;
     let mut comma = "";
     for known in section.keys() {
         write!(f, "{comma}{known}")?;

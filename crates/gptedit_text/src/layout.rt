@@ -2,21 +2,28 @@
 
 mod keyed;
 
+use crate::Parsed;
 use crate::entries::{ALIGN, Entries, read_name};
 use crate::error::{Fault, LayoutError, Section};
 use crate::layout::keyed::Keyed;
 use crate::lines::{position_of, with_line};
-use crate::values::{read_amount, read_guid, read_size, read_type};
-use gptedit_core::{Amount, Asked, Layout};
+use crate::table_header::{Form, Header};
+use crate::values::{read_amount, read_guid, read_sector, read_size, read_type, read_units};
+use gptedit_core::{Amount, Asked};
+use gptman::PartitionName;
 use std::alloc::Global;
 use toml::{Table, Value};
 
-/// The layout that a text in TOML says:
+/// Reads a layout in TOML, and what it says of the header of its table, which the caller has to compare:
 ///
 /// ```toml
 /// [disk]
 /// guid = "33221100-5544-7766-8899-aabbccddeeff"
 /// align = "1MiB"
+/// sector-size = "512B"
+/// entries = 128
+/// first-usable = "34s"
+/// last-usable = "262110s"
 /// [[partition]]
 /// number = 1
 /// name = "ESP"
@@ -29,14 +36,20 @@ use toml::{Table, Value};
 ///
 /// Each key may be left out. Without `number` a partition has the number behind the one before it, and the
 /// first 1; without `align` places are chosen at multiples of 1 MiB. One partition may have the size
-/// `rest`. A table becomes the layout, and its other entries stay.
-pub fn read_layout(alloc: Global, text: &str) -> Result<Layout, LayoutError> {
+/// `rest`. In place of `name` there may be `name-utf16 = "0041 d800"`, the UTF-16 units of the name. A table
+/// becomes the layout, and its other entries stay.
+///
+/// A text without any key is refused with `Empty`. `[disk]` alone is a layout without partitions.
+pub fn read_layout(alloc: Global, text: &str) -> Result<Parsed, LayoutError> {
     let table = match toml::table_from_str(alloc, text) {
         Ok(table) => table,
         Err(error) => return Err(syntax_error(text, error)),
     };
-    match layout_of(alloc, &table) {
-        Ok(layout) => Ok(layout),
+    if table.is_empty() {
+        return Err(LayoutError::Empty);
+    }
+    match parsed_of(alloc, &table) {
+        Ok(parsed) => Ok(parsed),
         Err(error) => Err(with_line(error, text)),
     }
 }
@@ -56,28 +69,65 @@ fn syntax_error(text: &str, error: toml::de::Error) -> LayoutError {
     }
 }
 
-// The layout of a table.
-fn layout_of(alloc: Global, table: &Table) -> Result<Layout, LayoutError> {
+// The layout of a table, and its header.
+fn parsed_of(alloc: Global, table: &Table) -> Result<Parsed, LayoutError> {
     let file = Keyed::new(table, Section::File);
     file.check_keys(alloc)?;
-    let (disk_guid, align) = read_disk(alloc, &file)?;
+    let disk = read_disk(alloc, &file)?;
     let entries = read_entries(alloc, &file)?;
-    Ok(entries.into_layout(alloc, disk_guid, align))
+    Ok(Parsed {
+        layout: entries.into_layout(alloc, disk.guid, disk.align),
+        header: disk.header,
+        form: Form::Toml,
+    })
 }
 
-// The GUID of the disk, if it is said, and the alignment.
-fn read_disk(alloc: Global, file: &Keyed<'_>) -> Result<(Option<[u8; 16]>, Amount), LayoutError> {
+// What is said of the disk.
+#[derive(Clone, Copy)]
+struct Disk {
+    guid: Option<[u8; 16]>,
+    align: Amount,
+    header: Header,
+}
+
+// What is said of the disk.
+fn read_disk(alloc: Global, file: &Keyed<'_>) -> Result<Disk, LayoutError> {
     let Some(value) = file.get("disk") else {
-        return Ok((None, ALIGN));
+        return Ok(Disk {
+            guid: None,
+            align: ALIGN,
+            header: Header::nothing(),
+        });
     };
     let Some(table) = value.as_table() else {
         return Err(file.fault("disk", Fault::NotTable));
     };
     let disk = Keyed::new(table, Section::Disk);
     disk.check_keys(alloc)?;
-    let guid = disk.word("guid", read_guid)?;
-    let align = disk.word("align", read_amount)?;
-    Ok((guid, align.unwrap_or(ALIGN)))
+    Ok(Disk {
+        guid: disk.word("guid", read_guid)?,
+        align: disk.word("align", read_amount)?.unwrap_or(ALIGN),
+        header: read_header(&disk)?,
+    })
+}
+
+// What is said of the header of the table.
+fn read_header(disk: &Keyed<'_>) -> Result<Header, LayoutError> {
+    Ok(Header {
+        sector_size: read_sector_size(disk)?,
+        entries: disk.count("entries")?,
+        first_usable: disk.word("first-usable", read_sector)?,
+        last_usable: disk.word("last-usable", read_sector)?,
+    })
+}
+
+// The bytes of a sector.
+fn read_sector_size(disk: &Keyed<'_>) -> Result<Option<u64>, LayoutError> {
+    match disk.word("sector-size", read_amount)? {
+        None => Ok(None),
+        Some(Amount::Bytes(bytes)) => Ok(Some(bytes)),
+        Some(Amount::Sectors(_)) => Err(disk.fault("sector-size", Fault::NotSectorSize)),
+    }
 }
 
 // The entries of the partitions.
@@ -114,6 +164,7 @@ fn add_entry(
         return Err(partition.fault("number", Fault::NotNumber));
     };
     let asked = read_entry(alloc, partition, number)?;
+    entries.check_rest(partition.place(), &asked)?;
     entries.add(partition.place(), number, asked)
 }
 
@@ -127,17 +178,34 @@ fn read_number(value: &Value) -> Option<u32> {
 
 // What is asked of the entry of this number.
 fn read_entry(alloc: Global, partition: &Keyed<'_>, number: u32) -> Result<Asked, LayoutError> {
-    let name = match partition.text("name")? {
-        Some(text) => Some(read_name(alloc, partition.place(), text)?),
-        None => None,
-    };
     Ok(Asked {
         type_guid: partition.word("type", read_type)?,
         unique_guid: partition.word("guid", read_guid)?,
         attributes: partition.attributes("attributes")?,
-        name,
+        name: read_some_name(alloc, partition)?,
         start: partition.word("start", read_amount)?,
         size: partition.word("size", read_size)?,
         ..Asked::nothing(Some(number))
     })
+}
+
+// The name of a partition, by its text or by its units.
+fn read_some_name(
+    alloc: Global,
+    partition: &Keyed<'_>,
+) -> Result<Option<PartitionName>, LayoutError> {
+    match (partition.text("name")?, partition.text("name-utf16")?) {
+        (None, None) => Ok(None),
+        (Some(text), None) => Ok(Some(read_name(alloc, partition.place(), text)?)),
+        (None, Some(text)) => {
+            let Some(units) = read_units(text) else {
+                return Err(partition.fault("name-utf16", Fault::NotUnits));
+            };
+            match PartitionName::from_units(alloc, units) {
+                Ok(name) => Ok(Some(name)),
+                Err(_) => Err(LayoutError::OutOfMemory),
+            }
+        }
+        (Some(_), Some(_)) => Err(partition.fault("name-utf16", Fault::TwoNames)),
+    }
 }

@@ -10,9 +10,26 @@ pub mod error;
 pub mod layout;
 mod lines;
 pub mod script;
+pub mod table_header;
 pub mod values;
 
 pub use dump::write_layout;
 pub use error::LayoutError;
+use gptedit_core::Layout;
 pub use layout::read_layout;
-pub use script::{ScriptHeader, is_script, read_script};
+pub use script::{is_script, read_script};
+pub use table_header::{Form, Header, OtherValue};
+
+/// The most bytes that the text of a layout may have.
+pub const MAX_LAYOUT_BYTES: u64 = 64 << 20;
+
+/// What a text says: a layout, and the header of its table.
+#[derive(Drop, Debug)]
+pub struct Parsed {
+    /// The layout.
+    pub layout: Layout,
+    /// What is said of the header of its table.
+    pub header: Header,
+    /// The form of the text.
+    pub form: Form,
+}

@@ -2,16 +2,16 @@
 
 mod extent;
 mod fields;
-mod header;
+mod header_lines;
 mod token;
 mod words;
 
+use crate::Parsed;
 use crate::entries::Entries;
 use crate::error::{LayoutError, Place, Section};
 use crate::script::fields::read_line;
-use crate::script::header::{Headers, header_of};
-use gptedit_core::Layout;
-pub use header::ScriptHeader;
+use crate::script::header_lines::{HeaderLines, header_of};
+use crate::table_header::Form;
 use std::alloc::Global;
 
 /// Whether the text is a script: its first line that is not empty or a comment begins with `label:`.
@@ -26,7 +26,7 @@ pub fn is_script(text: &str) -> bool {
     }
 }
 
-/// The layout that a script says, and what its headers say of the table, which is for the caller to compare.
+/// Reads a script: its layout, and what its headers say of the table, which the caller has to compare.
 ///
 /// Its headers are `label: gpt`, `label-id`, `device` (which is passed over), `unit: sectors`, `first-lba`,
 /// `last-lba`, `table-length`, `sector-size` and `grain`. Behind them each line is a partition:
@@ -35,8 +35,8 @@ pub fn is_script(text: &str) -> bool {
 /// A start that is left out is that of the longest run of free sectors, a size that is left out is the rest,
 /// such a type is `linux`, and there is no name and no attribute but those that are said.
 /// Starts and sizes are sectors of the table, or bytes with a unit, from `KiB` to `EiB`.
-pub fn read_script(alloc: Global, text: &str) -> Result<(Layout, ScriptHeader), LayoutError> {
-    let mut headers = Headers::new();
+pub fn read_script(alloc: Global, text: &str) -> Result<Parsed, LayoutError> {
+    let mut headers = HeaderLines::new();
     let mut entries = Entries::new(alloc);
     for (index, line) in text.lines().enumerate() {
         let line = line.trim();
@@ -49,8 +49,12 @@ pub fn read_script(alloc: Global, text: &str) -> Result<(Layout, ScriptHeader), 
             _ => read_line(alloc, &mut entries, place_in(Section::Line, number), line)?,
         }
     }
-    let (disk_guid, align, header) = headers.finish()?;
-    Ok((entries.into_layout(alloc, disk_guid, align), header))
+    let headers = headers.finish()?;
+    Ok(Parsed {
+        layout: entries.into_layout(alloc, headers.disk_guid, headers.align),
+        header: headers.header,
+        form: Form::Script,
+    })
 }
 
 // Whether the line is not empty and no comment.

@@ -3,13 +3,15 @@
 mod amount;
 mod attributes;
 mod byte_count;
+mod escapes;
 mod kinds;
 mod names;
 mod wrong;
 
-pub use amount::{AmountText, SizeText, read_amount, read_size};
+pub use amount::{AmountText, SizeText, read_amount, read_sector, read_size};
 pub use attributes::{AttributeName, AttributeNames, read_attribute, read_attributes};
 pub use byte_count::ByteCount;
+pub use escapes::{Escaped, EscapedChar, EscapedCode, TomlText, is_hidden};
 pub use kinds::{read_choice, read_guid, read_type};
-pub use names::is_long_name;
+pub use names::{UnitsText, is_long_name, read_units};
 pub use wrong::Wrong;

@@ -28,6 +28,16 @@ pub enum Fault {
     LongName,
     /// The name has a zero character.
     ZeroInName,
+    /// They are not the units of a name.
+    NotUnits,
+    /// The name is given twice, as text and as units.
+    TwoNames,
+    /// It is no number of entries.
+    NotEntries,
+    /// It is no size of a sector.
+    NotSectorSize,
+    /// It is no text of a sector.
+    NotSector,
     /// The label is another one.
     NotGpt,
     /// The unit is another one.
@@ -75,6 +85,13 @@ impl Fault {
             Fault::SecondRest => "only one partition has the rest; give the others a size",
             Fault::LongName => "a name has at most 36 units of UTF-16",
             Fault::ZeroInName => "a name has no zero character",
+            Fault::NotUnits => {
+                "it is at most 36 units of UTF-16, of four hexadecimal digits each, as \"0041 d800\""
+            }
+            Fault::TwoNames => "the partition has a name too; give only one of the two",
+            Fault::NotEntries => "it is a whole number from 0 to 4294967295, as 128",
+            Fault::NotSectorSize => "it is a number of bytes with a unit, as \"512B\" or \"4KiB\"",
+            Fault::NotSector => "it is a text with s for the unit, as \"34s\"",
             Fault::NotGpt => "the label is gpt",
             Fault::NotInSectors => "the unit is sectors",
             Fault::NotCount => "it is a whole number below 2^64",

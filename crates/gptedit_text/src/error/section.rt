@@ -22,11 +22,21 @@ impl Section {
     pub fn keys(self) -> &'static [&'static str] {
         match self {
             Section::File => &["disk", "partition"],
-            Section::Disk => &["guid", "align"],
+            Section::Disk => {
+                &[
+                    "guid",
+                    "align",
+                    "sector-size",
+                    "entries",
+                    "first-usable",
+                    "last-usable",
+                ]
+            }
             Section::Partition(_) => {
                 &[
                     "number",
                     "name",
+                    "name-utf16",
                     "type",
                     "start",
                     "size",

@@ -61,6 +61,8 @@ impl<'a> Keyed<'a> {
             Some(Value::String(text)) => Ok(Some(text.as_str())),
             Some(_) => match key {
                 "start" | "size" | "align" => Err(self.fault(key, Fault::NotSize)),
+                "sector-size" => Err(self.fault(key, Fault::NotSectorSize)),
+                "first-usable" | "last-usable" => Err(self.fault(key, Fault::NotSector)),
                 _ => Err(self.fault(key, Fault::NotText)),
             },
         }
@@ -80,6 +82,19 @@ impl<'a> Keyed<'a> {
         match read(text) {
             Ok(value) => Ok(Some(value)),
             Err(wrong) => Err(self.fault(key, Fault::Value(wrong))),
+        }
+    }
+
+    /// The number of entries under this key.
+    pub fn count(&self, key: &'static str) -> Result<Option<u32>, LayoutError> {
+        let count = match self.get(key) {
+            None => return Ok(None),
+            Some(Value::Integer(count)) => u32::try_from(*count).ok(),
+            Some(_) => None,
+        };
+        match count {
+            Some(count) => Ok(Some(count)),
+            None => Err(self.fault(key, Fault::NotEntries)),
         }
     }
 

@@ -52,6 +52,21 @@ fn split_unit(text: &str) -> Option<(&str, u64)>
     None
 }
 
+/// The sector that a word says: a number with `s`, as `34s`.
+pub fn read_sector(text: &str) -> Result<u64, Wrong>
+    ensures said { IfOk result (λ sector. SaysAmount text.now (Sectors sector)) }
+    ensures read { (number : List ℕ) → text.now ≡ number ++ codes "s" → IsNumeral 10 number
+        → digits_value 10 number < 2 ^ 64 → result ≡ Ok (digits_value 10 number) }
+{
+    let Some(number) = text.strip_suffix("s") else {
+        return Err(Wrong::NoSector);
+    };
+    match read_number(number) {
+        Err(Wrong::NoAmount) => Err(Wrong::NoSector),
+        read => read,
+    }
+}
+
 /// The size that a word says: an amount, or `rest`.
 pub fn read_size(text: &str) -> Result<Size, Wrong>
     ensures { IfOk result (SaysSize text.now) }

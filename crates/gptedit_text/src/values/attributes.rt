@@ -27,6 +27,11 @@ pub fn read_attributes(text: &str) -> Result<u64, Wrong> {
     if let Some(digits) = text.strip_prefix("0x") {
         return read_digits(digits);
     }
+    read_list(text)
+}
+
+// The attributes of all the words with commas between them.
+fn read_list(text: &str) -> Result<u64, Wrong> {
     let mut bits = 0;
     for word in text.split(',') {
         bits |= read_attribute(word)?;
@@ -35,7 +40,9 @@ pub fn read_attributes(text: &str) -> Result<u64, Wrong> {
 }
 
 // All bits, as hexadecimal digits.
-fn read_digits(digits: &str) -> Result<u64, Wrong> {
+fn read_digits(digits: &str) -> Result<u64, Wrong>
+    ensures { IfOk result (λ bits. IsNumeral 16 digits.now × (digits_value 16 digits.now ≡ bits)) }
+{
     if digits.starts_with('+') {
         return Err(Wrong::NoAttribute);
     }

@@ -1,9 +1,57 @@
 //! Names of partitions.
 
-// How many units of UTF-16 a name has at most.
+use std::fmt;
+
+// The most UTF-16 units that a name has.
 const NAME_UNITS: usize = 36;
 
 /// Whether a text is longer than the name of a partition may be, 36 units of UTF-16.
 pub fn is_long_name(text: &str) -> bool {
     text.encode_utf16().count() > NAME_UNITS
+}
+
+/// Reads the units of a name: at most 36 numbers of four hexadecimal digits each, with a space between, as
+/// `0041 d800`. The units after them are zero.
+pub fn read_units(text: &str) -> Option<[u16; 36]> {
+    let mut units = [0; NAME_UNITS];
+    if text.is_empty() {
+        return Some(units);
+    }
+    let mut rest = units.iter_mut();
+    for word in text.split(' ') {
+        *rest.next()? = read_unit(word)?;
+    }
+    Some(units)
+}
+
+// The unit of four hexadecimal digits.
+fn read_unit(word: &str) -> Option<u16> {
+    if word.len() != 4 || word.starts_with('+') {
+        return None;
+    }
+    u16::from_str_radix(word, 16).ok()
+}
+
+/// The units of a name as `read_units` reads them, without the zeros at the end.
+#[derive(Clone, Copy, PartialEq, Eq, Debug)]
+pub struct UnitsText<'a>(pub &'a [u16; 36]);
+
+impl fmt::Display for UnitsText<'_> {
+    fn fmt<W: fmt::Write>(&self, f: &mut fmt::Formatter<W>) -> fmt::Result {
+        let units = self.0;
+        let mut space = "";
+        for unit in units.iter().take(used_units(units)) {
+            write!(f, "{space}{unit:04x}")?;
+            space = " ";
+        }
+        Ok(())
+    }
+}
+
+// How many units there are before the zeros at the end.
+fn used_units(units: &[u16; 36]) -> usize {
+    match units.iter().rposition(|unit| *unit != 0) {
+        Some(last) => last.saturating_add(1),
+        None => 0,
+    }
 }

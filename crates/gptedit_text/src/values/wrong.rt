@@ -9,6 +9,8 @@ pub enum Wrong {
     NoUnit,
     /// It is no whole number with a unit.
     NoAmount,
+    /// It is no number of a sector.
+    NoSector,
     /// It is no whole number with a unit, nor `rest`.
     NoSize,
     /// The amount is past 64 bits.
@@ -29,6 +31,7 @@ impl fmt::Display for Wrong {
         f.write_str(match self {
             Wrong::NoUnit => "a size has a unit, as 2048s (sectors) or 64MiB",
             Wrong::NoAmount => "a size is a whole number with a unit, as 2048s (sectors) or 64MiB",
+            Wrong::NoSector => "a sector is a whole number with s, as 34s",
             Wrong::NoSize => {
                 "a size is a whole number with a unit, as 2048s (sectors) or 64MiB, or rest"
             }

@@ -3,30 +3,21 @@
 use crate::entries::ALIGN;
 use crate::error::{Fault, LayoutError, Place, Section};
 use crate::script::extent::{read_extent, read_number};
+use crate::table_header::Header;
 use crate::values::read_guid;
 use gptedit_core::Amount;
 use std::alloc::Global;
 
-/// What the headers of a script say of the table that it was printed of.
-#[derive(Clone, Copy, PartialEq, Eq, Debug)]
-pub struct ScriptHeader {
-    /// The bytes of a sector.
-    pub sector_size: Option<u64>,
-    /// The first sector that partitions may use.
-    pub first_lba: Option<u64>,
-    /// The last sector that partitions may use.
-    pub last_lba: Option<u64>,
-    /// How many entries the table has.
-    pub table_length: Option<u64>,
-}
-
 /// The headers that were read.
 #[derive(Clone, Copy)]
-pub struct Headers {
+pub struct HeaderLines {
     has_label: bool,
-    disk_guid: Option<[u8; 16]>,
-    align: Amount,
-    header: ScriptHeader,
+    /// The GUID of the disk.
+    pub disk_guid: Option<[u8; 16]>,
+    /// The alignment.
+    pub align: Amount,
+    /// What is said of the table.
+    pub header: Header,
 }
 
 /// The name and the value of a line that is a header.
@@ -41,19 +32,14 @@ pub fn header_of(line: &str) -> Option<(&str, &str)> {
     Some((name.trim_end(), value.trim_start()))
 }
 
-impl Headers {
+impl HeaderLines {
     /// None.
-    pub fn new() -> Headers {
-        Headers {
+    pub fn new() -> HeaderLines {
+        HeaderLines {
             has_label: false,
             disk_guid: None,
             align: ALIGN,
-            header: ScriptHeader {
-                sector_size: None,
-                first_lba: None,
-                last_lba: None,
-                table_length: None,
-            },
+            header: Header::nothing(),
         }
     }
 
@@ -95,9 +81,9 @@ impl Headers {
         let header = &mut self.header;
         match name {
             "sector-size" => header.sector_size = Some(count_in(place, "sector-size", value)?),
-            "first-lba" => header.first_lba = Some(count_in(place, "first-lba", value)?),
-            "last-lba" => header.last_lba = Some(count_in(place, "last-lba", value)?),
-            "table-length" => header.table_length = Some(count_in(place, "table-length", value)?),
+            "first-lba" => header.first_usable = Some(count_in(place, "first-lba", value)?),
+            "last-lba" => header.last_usable = Some(count_in(place, "last-lba", value)?),
+            "table-length" => header.entries = Some(entries_in(place, value)?),
             _ => {
                 let key = String::from_str(alloc, name)?;
                 return Err(LayoutError::Unknown { place, key });
@@ -106,9 +92,8 @@ impl Headers {
         Ok(())
     }
 
-    /// The GUID of the disk, the alignment and what is said of the table. A script without a label is
-    /// refused.
-    pub fn finish(self) -> Result<(Option<[u8; 16]>, Amount, ScriptHeader), LayoutError> {
+    /// Returns the headers of the whole script. A script without a label is refused.
+    pub fn finish(self) -> Result<HeaderLines, LayoutError> {
         if !self.has_label {
             let place = Place {
                 line: None,
@@ -116,7 +101,7 @@ impl Headers {
             };
             return Err(place.fault("label", Fault::NotGpt));
         }
-        Ok((self.disk_guid, self.align, self.header))
+        Ok(self)
     }
 }
 
@@ -138,6 +123,12 @@ fn expect(
 // A number.
 fn count_in(place: Place, key: &'static str, value: &str) -> Result<u64, LayoutError> {
     read_number(value).ok_or(place.fault(key, Fault::NotCount))
+}
+
+// A number of entries.
+fn entries_in(place: Place, value: &str) -> Result<u32, LayoutError> {
+    let count = count_in(place, "table-length", value)?;
+    u32::try_from(count).map_err(|_| place.fault("table-length", Fault::NotEntries))
 }
 
 // The GUID of the disk.

@@ -1,0 +1,10 @@
+use denote.Text.{Utf8}
+use denote.Shadow.{shadow}
+use Rattle.gptedit_text.proofs.values.names.UnitsTextDisplay.fmt.Given as goal
+
+-- says that each `&str` the loop changes is text: keep it, and add clauses with ×
+abbrev pub invariant-loop-unit : goal.invariant-loop-unit
+invariant-loop-unit g l =
+    (goal.iterator-loop-unit g).can_next l.unit-iterator ×
+    (goal.iterator-loop-unit g).is_finite l.unit-iterator ×
+    shadow (Utf8 l.space)

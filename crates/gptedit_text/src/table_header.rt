@@ -1,0 +1,101 @@
+//! What a layout says of the header of its table.
+
+use gptman::GPT;
+use std::fmt;
+
+/// What a layout says of the header of its table; `None` for what it does not say.
+#[derive(Clone, Copy, PartialEq, Eq, Debug)]
+pub struct Header {
+    /// The bytes of a sector.
+    pub sector_size: Option<u64>,
+    /// The number of entries.
+    pub entries: Option<u32>,
+    /// The first sector that partitions may use.
+    pub first_usable: Option<u64>,
+    /// The last sector that partitions may use.
+    pub last_usable: Option<u64>,
+}
+
+/// The text in which a layout is written.
+#[derive(Clone, Copy, PartialEq, Eq, Debug)]
+pub enum Form {
+    /// TOML.
+    Toml,
+    /// A script of `sfdisk`.
+    Script,
+}
+
+/// A value of a header that differs from the one of a table.
+#[derive(Clone, Copy, PartialEq, Eq, Debug)]
+pub struct OtherValue {
+    /// The key of the value.
+    pub key: &'static str,
+    /// The value in the layout.
+    pub said: u64,
+    /// The value in the table.
+    pub is: u64,
+}
+
+impl Header {
+    /// Returns the header that says nothing.
+    pub fn nothing() -> Header {
+        Header {
+            sector_size: None,
+            entries: None,
+            first_usable: None,
+            last_usable: None,
+        }
+    }
+
+    /// Returns the header that says all of the table.
+    pub fn of(table: &GPT) -> Header {
+        Header {
+            sector_size: Some(table.sector_size),
+            entries: Some(table.header.number_of_partition_entries),
+            first_usable: Some(table.header.first_usable_lba),
+            last_usable: Some(table.header.last_usable_lba),
+        }
+    }
+
+    /// Refuses a table that has another value than this header says. The value is named as texts of this form
+    /// name it.
+    pub fn check(&self, form: Form, table: &GPT) -> Result<(), OtherValue> {
+        let [sector_size, entries, first_usable, last_usable] = form.keys();
+        let header = &table.header;
+        expect(sector_size, self.sector_size, table.sector_size)?;
+        expect(first_usable, self.first_usable, header.first_usable_lba)?;
+        expect(last_usable, self.last_usable, header.last_usable_lba)?;
+        let said = self.entries.map(|count| u64::from(count));
+        expect(entries, said, u64::from(header.number_of_partition_entries))
+    }
+}
+
+// Refuses a value that is said and is another one.
+fn expect(key: &'static str, said: Option<u64>, is: u64) -> Result<(), OtherValue> {
+    match said {
+        Some(said) if said != is => Err(OtherValue { key, said, is }),
+        _ => Ok(()),
+    }
+}
+
+impl Form {
+    // The keys of the size of a sector, the number of entries, and the first and the last usable sector.
+    fn keys(self) -> [&'static str; 4] {
+        match self {
+            Form::Toml => ["sector-size", "entries", "first-usable", "last-usable"],
+            Form::Script => ["sector-size", "table-length", "first-lba", "last-lba"],
+        }
+    }
+}
+
+/// Both values, and what to do.
+impl fmt::Display for OtherValue {
+    fn fmt<W: fmt::Write>(&self, f: &mut fmt::Formatter<W>) -> fmt::Result {
+        let OtherValue { key, said, is } = *self;
+        writeln!(f, "{key} is {said} here, and {is} in the table")?;
+        write!(
+            f,
+            "without {key} the partitions are put into the table as it is"
+        )
+    }
+}
