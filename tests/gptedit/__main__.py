@@ -8,13 +8,15 @@ import sys
 import tempfile
 
 import commands
+import guards
 import layouts
 import refusals
 import stops
 import streams
+import texts
 from runs import Program, Tally
 
-MODULES = [commands, refusals, layouts, stops, streams]
+MODULES = [commands, refusals, layouts, texts, guards, stops, streams]
 
 
 def main():

@@ -91,6 +91,10 @@ PLACED = [
     # A shorter run has room, but not the longest one.
     (["start=8192, size=8192", "start=23384, size=238616", "size=6144"], [8192, 23384, 2048]),
     (["start=8192, size=8192", "start=23384, size=238616", "size=6145"], None),
+    # Sizes that are left out are the rest, more than once too.
+    (["start=8MiB, size=1MiB", "start=2048", "start=18432, size=+"], [16384, 2048, 18432]),
+    (["start=100MiB, size=1MiB", "size=+", "size=+"], [204800, 2048, 206848]),
+    (["size=1MiB", "size=+", "size=+"], None),
 ]
 
 
@@ -139,10 +143,10 @@ def try_kept(tally, program):
     refused(tally, program, ["apply", "disk.img", "disk.toml", "--replace"], "partition 3 has no type")
     program.write("disk.toml", b'[[partition]]\nnumber = 3\ntype = "swap"\n')
     refused(tally, program, ["apply", "disk.img", "disk.toml", "--replace"], "partition 3 has no size")
-    program.write("disk.toml", b"")
+    program.write("disk.toml", b"[disk]\n")
     refused(tally, program, ["apply", "disk.img", "disk.toml"], "is not in the layout")
     program.run("apply", "disk.img", "disk.toml", "--replace")
-    holds_table(tally, program, "apply --replace of an empty layout", {})
+    holds_table(tally, program, "apply --replace of a layout without partitions", {})
 
 
 def try_wrong(tally, program):

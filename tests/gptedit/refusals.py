@@ -100,7 +100,7 @@ def try_tables(tally, program):
             refused(tally, program, words, "")
     program.make_image("disk.img", 4 * MIB)
     for words in (["show", "disk.img"], ADD + ["--size", "1s"], ["dump", "disk.img"], ["sort", "disk.img"]):
-        refused(tally, program, words, "`gptedit new disk.img` makes a table")
+        refused(tally, program, words, "copy the disk before anything is written to it")
     start(program)
     with open(program.file("disk.img"), "r+b") as file:
         file.truncate(64 * MIB)

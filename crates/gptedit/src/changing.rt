@@ -6,7 +6,7 @@ use crate::failure::{Failure, refuse_error};
 use crate::image::Image;
 use crate::mbr::{look_at_mbr, write_mbr};
 use crate::telling::{tell, tell_line};
-use gptedit_core::{Amount, Asked, Growth, Job, Layout, Mode, Outcome};
+use gptedit_core::{Amount, Asked, Bounds, Growth, Job, Layout, Mode, Outcome};
 use gptedit_report::Mbr;
 use std::alloc::Global;
 use std::io::Write;
@@ -53,7 +53,10 @@ pub fn grow<W: Write>(
     image: &mut Image<'_>,
     how: How,
 ) -> Result<bool, Failure> {
-    let growth = Growth { is_dry: how.is_dry };
+    let growth = Growth {
+        bounds: Bounds::Kept,
+        is_dry: how.is_dry,
+    };
     let sector_size = image.sector_size();
     let outcome = match gptedit_core::grow(alloc, &mut image.disk, sector_size, &growth) {
         Ok(outcome) => outcome,
@@ -106,7 +109,7 @@ fn mend_mbr<W: Write>(
     let is_needed = match look_at_mbr(alloc, &mut image.disk) {
         Ok(Mbr::None) => true,
         Ok(Mbr::Protective) => may_replace,
-        Ok(Mbr::Other) => false,
+        Ok(Mbr::Hybrid | Mbr::Dos) => false,
         Err(error) => return Err(refuse_error(alloc, image.name, &error)),
     };
     if !is_needed {

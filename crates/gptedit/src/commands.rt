@@ -3,6 +3,8 @@
 use crate::failure::Failure;
 use crate::image::Image;
 use crate::layouts::read_asked;
+use crate::marks::refuse_footer;
+use crate::mbr::refuse_dos;
 use crate::{changing, looking, making};
 use gptedit_core::Job;
 use gptedit_report::types_json;
@@ -127,10 +129,18 @@ where
 {
     if !matches!(&change, Change::New(_)) {
         image.refuse_failed_reading(rt.alloc())?;
+        if !how.is_forced {
+            refuse_dos(rt.alloc(), image)?;
+        }
     }
     let job = match change {
         Change::New(asked) => return making::new(rt, out, image, asked, how),
-        Change::Grow => return changing::grow(rt.alloc(), out, image, how),
+        Change::Grow => {
+            if !how.is_forced {
+                refuse_footer(rt.alloc(), image.name, &mut image.disk)?;
+            }
+            return changing::grow(rt.alloc(), out, image, how);
+        }
         Change::Repair => return changing::repair(rt, out, image, how),
         Change::Sort => Job::Sort,
         Change::Lay(layout) => Job::Lay(layout),

@@ -2,6 +2,7 @@
 
 use gptedit_core::Refusal;
 use gptedit_report::{ErrorText, RefusalText};
+use gptedit_text::values::Escaped;
 use gptman::{Error, GPT};
 use std::alloc::{AllocError, AllocFailed, Global};
 use std::io::ErrorKind;
@@ -54,7 +55,7 @@ impl<T: Drop> From<AllocFailed<T>> for Failure {
 
 /// A refusal for what the text says of this, as of an image or a file.
 pub fn refuse<D: fmt::Display>(alloc: Global, of: &str, text: &D) -> Failure {
-    match format!(in alloc; "{of}: {text}") {
+    match format!(in alloc; "{}: {text}", Escaped(of)) {
         Ok(text) => Failure::Refused(text),
         Err(_) => Failure::OutOfMemory,
     }

@@ -1,14 +1,15 @@
 //! The commands that only look.
 
-use crate::failure::{Failure, refuse, refuse_asked, refuse_error};
+use crate::failure::{Failure, refuse_asked, refuse_error};
 use crate::image::Image;
+use crate::marks::has_footer;
 use crate::mbr::look_at_mbr;
 use gptedit_core::{Amount, Refusal, layout_of};
 use gptedit_report::{
     CopiesState, Look, Mbr, free_json, print_check, print_check_json, print_free, show_table,
     table_json,
 };
-use gptedit_text::dump::{DumpError, write_layout};
+use gptedit_text::{Header, write_layout};
 use gptimg_core::BothCopies;
 use gptman::GPT;
 use std::alloc::Global;
@@ -89,7 +90,18 @@ pub fn check<W: Write>(
         Ok(mbr) => mbr,
         Err(error) => return Err(refuse_error(alloc, image.name, &error)),
     };
-    let look = look_of(image.name, image.size, table.as_ref(), &copies, mbr);
+    let has_footer = match has_footer(&mut image.disk) {
+        Ok(has_footer) => has_footer,
+        Err(error) => return Err(refuse_error(alloc, image.name, &error)),
+    };
+    let look = look_of(
+        image.name,
+        image.size,
+        table.as_ref(),
+        &copies,
+        mbr,
+        has_footer,
+    );
     let is_good = if is_json {
         print_check_json(out, alloc, &look)?
     } else {
@@ -105,6 +117,7 @@ fn look_of<'a>(
     table: Option<&'a GPT>,
     copies: &'a BothCopies,
     mbr: Mbr,
+    has_footer: bool,
 ) -> Look<'a> {
     let state = CopiesState::new(&copies.primary, &copies.backup, copies.are_same);
     Look {
@@ -113,6 +126,7 @@ fn look_of<'a>(
         table,
         state,
         mbr,
+        has_footer,
     }
 }
 
@@ -164,12 +178,7 @@ pub fn dump<W: Write>(
         Ok(layout) => layout,
         Err(error) => return Err(refuse_error(alloc, image.name, &error)),
     };
-    match write_layout(alloc, &layout) {
-        Ok(text) => {
-            out.write_all(text.as_bytes())?;
-            Ok(())
-        }
-        Err(DumpError::OutOfMemory) => Err(Failure::OutOfMemory),
-        Err(error) => Err(refuse(alloc, image.name, &error)),
-    }
+    let text = write_layout(alloc, &layout, &Header::of(&table))?;
+    out.write_all(text.as_bytes())?;
+    Ok(())
 }

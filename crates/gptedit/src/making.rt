@@ -8,7 +8,7 @@ use crate::drawing::draw_guid;
 use crate::failure::{Failure, refuse, refuse_asked, refuse_error};
 use crate::image::Image;
 use crate::looking::{print_json, print_state_json};
-use crate::marks::find_content;
+use crate::marks::{find_content, has_header};
 use crate::mbr::{look_at_mbr, write_mbr};
 use gptedit_core::{Amount, Job, Layout, Mode, Outcome};
 use gptedit_report::{CopiesState, Mbr, show_table};
@@ -74,6 +74,7 @@ struct There {
     table: Option<GPT>,
     mbr: Mbr,
     content: Option<&'static str>,
+    has_header: bool,
 }
 
 impl There {
@@ -91,25 +92,32 @@ impl There {
             Ok(content) => content,
             Err(error) => return Err(refuse_error(alloc, image.name, &error)),
         };
+        let has_header = match has_header(&mut image.disk) {
+            Ok(has_header) => has_header,
+            Err(error) => return Err(refuse_error(alloc, image.name, &error)),
+        };
         Ok(There {
             table,
             mbr,
             content,
+            has_header,
         })
     }
 
     // Whether anything would be lost.
     fn is_something(&self) -> bool {
-        self.table.is_some() || self.mbr == Mbr::Other || self.content.is_some()
+        self.table.is_some() || self.has_header || self.mbr != Mbr::None || self.content.is_some()
     }
 
     // What it is.
     fn name(&self) -> &'static str {
         match (&self.table, self.content, self.mbr) {
             (Some(_table), _, _) => "a GUID partition table",
+            (None, _, _) if self.has_header => "the header of a GUID partition table",
             (None, Some(name), _) => name,
-            (None, None, Mbr::Other) => "an MBR with partitions",
-            _ => "nothing that is known",
+            (None, None, Mbr::Dos | Mbr::Hybrid) => "an MBR with partitions",
+            (None, None, Mbr::Protective) => "a protective MBR",
+            (None, None, Mbr::None) => "nothing that is known",
         }
     }
 }

@@ -71,6 +71,67 @@ pub fn find_content<D: Disk>(alloc: Global, disk: &mut D) -> gptman::Result<Opti
     find(alloc, disk, &CONTENTS)
 }
 
+// The sizes of a sector at which a header is looked for.
+const SECTOR_SIZES: [u64; 4] = [512, 1024, 2048, 4096];
+
+/// Whether the header of a table begins in sector 1 or in the last whole sector, at any size of a sector from 512
+/// to 4096 bytes.
+pub fn has_header<D: Disk>(disk: &mut D) -> gptman::Result<bool> {
+    let size = disk.seek_end()?;
+    for sector_size in SECTOR_SIZES {
+        let last = (size / sector_size)
+            .saturating_sub(1)
+            .saturating_mul(sector_size);
+        if begins(disk, size, sector_size, *b"EFI PART")? {
+            return Ok(true);
+        }
+        if begins(disk, size, last, *b"EFI PART")? {
+            return Ok(true);
+        }
+    }
+    Ok(false)
+}
+
+/// Whether the disk ends with the footer of a fixed VHD.
+pub fn has_footer<D: Disk>(disk: &mut D) -> gptman::Result<bool> {
+    let size = disk.seek_end()?;
+    begins(disk, size, size.saturating_sub(FOOTER), *b"conectix")
+}
+
+// The bytes of a footer.
+const FOOTER: u64 = 512;
+
+// Whether these bytes stand there on a disk of `size` bytes.
+fn begins<D: Disk>(disk: &mut D, size: u64, at: u64, mark: [u8; 8]) -> gptman::Result<bool> {
+    if size < 8 || size - 8 < at {
+        return Ok(false);
+    }
+    let mut there = [0; 8];
+    disk.seek_start(at)?;
+    disk.read_exact(&mut there)?;
+    Ok(there == mark)
+}
+
+/// Refuses an image that ends with a footer, which a table of its whole length would overwrite.
+pub fn refuse_footer<D: Disk>(alloc: Global, image: &str, disk: &mut D) -> Result<(), Failure> {
+    match has_footer(disk) {
+        Ok(false) => Ok(()),
+        Ok(true) => Err(refuse(alloc, image, &Footer)),
+        Err(error) => Err(refuse_error(alloc, image, &error)),
+    }
+}
+
+// That an image ends with a footer, and what lifts the refusal.
+#[derive(Clone, Copy)]
+struct Footer;
+
+impl fmt::Display for Footer {
+    fn fmt<W: fmt::Write>(&self, f: &mut fmt::Formatter<W>) -> fmt::Result {
+        f.write_str("the image ends with the footer of a fixed VHD, which would be overwritten\n")?;
+        f.write_str("--force writes the table all the same")
+    }
+}
+
 // The name of the first mark that the disk has.
 fn find<D: Disk>(
     alloc: Global,
@@ -108,7 +169,7 @@ impl fmt::Display for OtherFormat<'_> {
         writeln!(f, "this is no raw image, but one in the format {name}")?;
         write!(
             f,
-            "`qemu-img convert -O raw {image} disk.img` makes one, or qemu-nbd gives it as a device"
+            "`qemu-img convert -O raw {image} {image}.raw` makes one, or qemu-nbd gives it as a device"
         )
     }
 }

@@ -6,6 +6,7 @@ use crate::marks::read_start;
 use gptedit_report::Mbr;
 use gptman::{Disk, GPT};
 use std::alloc::Global;
+use std::fmt;
 
 // The length of a master boot record in bytes.
 const LENGTH: u64 = 512;
@@ -39,7 +40,30 @@ fn kind_of(start: &[u8]) -> Mbr {
     match (protective, others) {
         (0, 0) => Mbr::None,
         (_, 0) => Mbr::Protective,
-        _ => Mbr::Other,
+        (0, _) => Mbr::Dos,
+        _ => Mbr::Hybrid,
+    }
+}
+
+/// Refuses a disk with a DOS partition table: a boot loader may be in the place of a copy of the table.
+pub fn refuse_dos(alloc: Global, image: &mut Image<'_>) -> Result<(), Failure> {
+    match look_at_mbr(alloc, &mut image.disk) {
+        Ok(Mbr::Dos) => Err(refuse(alloc, image.name, &DosDisk)),
+        Ok(_) => Ok(()),
+        Err(error) => Err(refuse_error(alloc, image.name, &error)),
+    }
+}
+
+// That a disk has a DOS partition table, and what lifts the refusal.
+#[derive(Clone, Copy)]
+struct DosDisk;
+
+impl fmt::Display for DosDisk {
+    fn fmt<W: fmt::Write>(&self, f: &mut fmt::Formatter<W>) -> fmt::Result {
+        f.write_str(
+            "the disk has a DOS partition table, and its boot loader may be in sectors 1..33\n",
+        )?;
+        f.write_str("--force writes the GUID partition table all the same")
     }
 }
 

@@ -17,8 +17,10 @@ pub enum Mbr {
     Protective,
     /// No MBR.
     None,
-    /// An MBR with partitions of its own.
-    Other,
+    /// A protective partition and others.
+    Hybrid,
+    /// Partitions, and no protective one.
+    Dos,
 }
 
 /// What a look at a disk found.
@@ -34,6 +36,8 @@ pub struct Look<'a> {
     pub state: CopiesState<'a>,
     /// What stands in the first sector.
     pub mbr: Mbr,
+    /// Whether the disk ends with the footer of an image format.
+    pub has_footer: bool,
 }
 
 /// Prints a line for each thing that is wrong, with the command that mends it, or that nothing is. Answers

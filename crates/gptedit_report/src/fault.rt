@@ -36,6 +36,10 @@ impl fmt::Display for ErrorText<'_> {
 fn advice_for(error: &Error) -> &'static str {
     match error {
         Error::Overflow => "make the disk longer",
+        Error::InvalidSignature | Error::ReadError(_, _) => {
+            "if a table was there, copy the disk before anything is written to it; \
+             use --sector if its sectors have another size"
+        }
         _ => "run it again where there is more",
     }
 }
@@ -45,10 +49,7 @@ fn command_for(error: &Error) -> Option<(&'static str, &'static str)> {
     match error {
         Error::OutOfMemory | Error::Overflow => None,
         Error::Io(_) => Some(("check", "tells what is there now")),
-        Error::InvalidSignature | Error::ReadError(_, _) => Some((
-            "new",
-            "makes a table; where sectors have another size, say --sector",
-        )),
+        Error::InvalidSignature | Error::ReadError(_, _) => None,
         Error::NoSpaceLeft => Some(("free", "lists what is free")),
         Error::ConflictPartitionGUID => {
             Some(("randomize", "gives each partition a GUID of its own"))

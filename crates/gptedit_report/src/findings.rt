@@ -32,7 +32,7 @@ pub(crate) enum Wrong<'a> {
     SharedGuid,
     BadBoundaries,
     NoMbr,
-    OtherMbr,
+    DosMbr,
 }
 
 /// What mends it.
@@ -42,7 +42,7 @@ pub(crate) enum Mend {
     Grow,
     SetGuid,
     Remove,
-    New,
+    Save,
     Lengthen,
     OtherTool,
 }
@@ -54,7 +54,11 @@ pub(crate) fn find_all<'a>(alloc: Global, look: &Look<'a>) -> Result<Vec<Finding
         Some(table) => Some(Standing::of(table, look.size)),
         None => None,
     };
-    let mend = mend_of(standing);
+    let mend = if look.mbr == Mbr::Dos {
+        Mend::OtherTool
+    } else {
+        mend_of(standing, look.has_footer)
+    };
     add_copies(&mut findings, look.state, mend)?;
     if let Some(standing) = standing {
         add_standing(&mut findings, standing, mend)?;
@@ -69,10 +73,11 @@ pub(crate) fn find_all<'a>(alloc: Global, look: &Look<'a>) -> Result<Vec<Finding
 }
 
 // What mends copies of a table that stands so.
-fn mend_of(standing: Option<Standing>) -> Mend {
+fn mend_of(standing: Option<Standing>, has_footer: bool) -> Mend {
     match standing {
-        None => Mend::New,
+        None => Mend::Save,
         Some(Standing::Right) => Mend::Repair,
+        Some(Standing::Grown(_)) if has_footer => Mend::OtherTool,
         Some(Standing::Grown(_)) => Mend::Grow,
         Some(Standing::Cut(_)) => Mend::Lengthen,
         Some(Standing::Other) => Mend::OtherTool,
@@ -141,13 +146,13 @@ fn add_entries(findings: &mut Vec<Finding<'_>>, table: &GPT, size: u64) -> Resul
 // What is wrong with the first sector.
 fn wrong_mbr<'a>(mbr: Mbr, mend: Mend) -> Option<Finding<'a>> {
     match mbr {
-        Mbr::Protective => None,
+        Mbr::Protective | Mbr::Hybrid => None,
         Mbr::None => Some(Finding {
             wrong: Wrong::NoMbr,
             mend,
         }),
-        Mbr::Other => Some(Finding {
-            wrong: Wrong::OtherMbr,
+        Mbr::Dos => Some(Finding {
+            wrong: Wrong::DosMbr,
             mend: Mend::OtherTool,
         }),
     }
@@ -194,7 +199,7 @@ impl Wrong<'_> {
                 "partitions share sectors, end before they start, or lie outside of the usable sectors"
             }
             Wrong::NoMbr => "there is no protective MBR",
-            Wrong::OtherMbr => "the MBR has partitions of its own",
+            Wrong::DosMbr => "the disk has a DOS partition table",
             _ => "a copy is bad",
         }
     }
@@ -215,12 +220,7 @@ impl fmt::Display for WayOut<'_> {
             Mend::Grow => write!(f, "`gptedit grow {image}`"),
             Mend::SetGuid => write!(f, "`gptedit set {image} N --guid GUID` of one of them"),
             Mend::Remove => write!(f, "`gptedit remove {image} N` of one of them"),
-            Mend::New => {
-                write!(
-                    f,
-                    "`gptedit new {image}`, or --sector where sectors have another size"
-                )
-            }
+            Mend::Save => f.write_str("copy the disk before anything is written to it"),
             Mend::Lengthen => f.write_str("make the disk as long as it was"),
             Mend::OtherTool => f.write_str("the tool that made it"),
         }
@@ -235,7 +235,7 @@ impl Mend {
             Mend::Grow => Some("grow"),
             Mend::SetGuid => Some("set"),
             Mend::Remove => Some("remove"),
-            Mend::New => Some("new"),
+            Mend::Save => None,
             Mend::Lengthen => None,
             Mend::OtherTool => None,
         }

@@ -40,6 +40,9 @@ impl fmt::Display for RefusalText<'_> {
             Refusal::TooSmall => write_too_small(f),
             Refusal::SharedGuid => write_shared_guid(f, self.image),
             Refusal::BadBoundaries => write_bad_boundaries(f, self.image, self.table),
+            Refusal::TooSmallFor(count) => write_too_small_for(f, *count),
+            Refusal::OutOfBounds(first, last) => write_out_of_bounds(f, *first, *last),
+            Refusal::NoSafeOrder => write_no_safe_order(f),
         }
     }
 }
@@ -184,6 +187,32 @@ fn write_too_small<W: fmt::Write>(f: &mut fmt::Formatter<W>) -> fmt::Result {
     f.write_str(
         "the disk is too small for the table, or the table has no entries: make the disk longer",
     )
+}
+
+fn write_too_small_for<W: fmt::Write>(f: &mut fmt::Formatter<W>, count: u32) -> fmt::Result {
+    if count == 0 {
+        return f.write_str("a table has at least one entry: say --entries 128");
+    }
+    write!(
+        f,
+        "the disk is too small for two copies of a table of {count} entries: say fewer, or make it longer"
+    )
+}
+
+fn write_out_of_bounds<W: fmt::Write>(
+    f: &mut fmt::Formatter<W>,
+    first: u64,
+    last: u64,
+) -> fmt::Result {
+    write!(
+        f,
+        "the usable sectors cannot end before they begin, or reach out of {first}..{last}: say others"
+    )
+}
+
+fn write_no_safe_order<W: fmt::Write>(f: &mut fmt::Formatter<W>) -> fmt::Result {
+    f.write_str("the new table would be written over the only good copy of the old one\n")?;
+    f.write_str("--overwrite writes it all the same: a stop meanwhile may leave neither")
 }
 
 /// That two partitions would have one GUID, and what to do.

@@ -204,7 +204,7 @@ const NUMBER: Argument = Argument::NumberPlace("N", "The number of the partition
 const SECTOR: Argument = Argument::Value(
     "--sector",
     "BYTES|auto",
-    "The size of a sector: 512, 4096, .. [default: auto]",
+    "The size of a sector: 512, 1024, 2048, 4096 [default: auto]",
 );
 
 const JSON: Argument = Argument::Flag("--json", "Answers as JSON");

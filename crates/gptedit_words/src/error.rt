@@ -60,7 +60,7 @@ impl fmt::Display for WordsError<'_> {
             WordsError::Usage(error) => write!(f, "{error}"),
             WordsError::Value { word, text, wrong } => write_value(f, word, text, wrong),
             WordsError::Sector(text) => {
-                write_value(f, "--sector", text, "a number of bytes above 0, or auto")
+                write_value(f, "--sector", text, "512, 1024, 2048, 4096, or auto")
             }
             WordsError::LongName(text) => {
                 write_value(f, "--name", text, "a name has at most 36 units of UTF-16")

@@ -6,6 +6,9 @@ use gptedit_text::values::{Wrong, is_long_name};
 use gptman::PartitionName;
 use std::alloc::Global;
 
+// The sizes that a sector of a disk with a table may have.
+const SECTOR_SIZES: [u64; 4] = [512, 1024, 2048, 4096];
+
 /// The text of a word that is needed.
 pub(crate) fn needed<'a>(
     words: &ArgMatches<'a>,
@@ -78,7 +81,7 @@ pub(crate) fn sector_size<'a>(words: &ArgMatches<'a>) -> Result<Option<u64>, Wor
         None => Ok(None),
         Some("auto") => Ok(None),
         Some(text) => match words.get_one::<u64>("--sector") {
-            Some(bytes) if bytes > 0 => Ok(Some(bytes)),
+            Some(bytes) if SECTOR_SIZES.contains(&bytes) => Ok(Some(bytes)),
             _ => Err(WordsError::Sector(text)),
         },
     }
