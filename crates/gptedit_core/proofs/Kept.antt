@@ -3,7 +3,6 @@ use Rattle.std.proofs.Common.{◌≡◌, ℕ, List, [], ◌∷◌, refl, sym, su
 use Rattle.std.specs.Prelude.{Option, Some, None, Result, Ok, Err, unwrap_or}
 use Rattle.gptman.specs.Coding.{empty_entry}
 use Rattle.gptman.specs.Copy.{IsCoherent}
-use Rattle.gptman.specs.Entry.{is_unused}
 use Rattle.gptman.specs.Layout.{HasLayout}
 use Rattle.gptman.specs.Number.{entry_of_number, with_entry}
 use Rattle.gptman.specs.Table.{entries_in}
@@ -13,7 +12,7 @@ use Rattle.gptman.specs.declared.table.GPT.{GPT}
 use Rattle.gptman.proofs.Commits.{coherent_still, edited_keeps, keeps_both, layout_still, KeepsRanges}
 use Rattle.gptman.proofs.ReadKept.{has_places}
 use Rattle.gptman_change.specs.Planning.{KeepsPlaces}
-use Rattle.gptedit_core.specs.Laying.{cleared, removed_all, removed_one, without_entry, ArePut}
+use Rattle.gptedit_core.specs.Laying.{cleared, removed_all, removed_one, without_entry, is_blank, ArePut}
 use Rattle.gptedit_core.specs.Planning.{IsDone}
 use Rattle.gptedit_core.specs.declared.plan.Job.{Job}
 use Rattle.gptedit_core.specs.declared.plan.Job.TheVariants.{Lay, Sort, Rewrite}
@@ -34,7 +33,7 @@ align_keeps g align = record { sector = refl; header = refl; long = refl }
 removed_keeps : (i : ℕ) (g h : GPT) (found : Option GPTPartitionEntry) → without_entry i g found ≡ Ok h → KeepsRanges g h
 removed_keeps i g h None is = absurd (cc)
 removed_keeps i g h (Some e) is =
-    subst (KeepsRanges g) (else_ok (is_unused e) (IsUnused i) (with_entry g i empty_entry) h is).1 (put_keeps g i empty_entry)
+    subst (KeepsRanges g) (else_ok (is_blank e) (IsUnused i) (with_entry g i empty_entry) h is).1 (put_keeps g i empty_entry)
 
 all_removed_keep : (is : List ℕ) (g h : GPT) → removed_all is g ≡ Ok h → KeepsRanges g h
 all_removed_keep [] g h done = let same : g ≡ h = cc in subst (KeepsRanges g) same (record { sector = refl; header = refl; long = refl })

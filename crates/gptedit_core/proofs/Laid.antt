@@ -8,7 +8,7 @@ use Rattle.gptman.specs.Number.{entry_at, entry_of_number, with_entry, IsNumber}
 use Rattle.gptman.specs.Table.{entries_in}
 use Rattle.gptman_copy.specs.declared.codec.entry.GPTPartitionEntry.{GPTPartitionEntry}
 use Rattle.gptman.specs.declared.table.GPT.{GPT}
-use Rattle.gptedit_core.specs.Laying.{cleared, lowest_used, others_fault, others_fault_of, removed_all, removed_one, without_entry, ArePut, IsPut}
+use Rattle.gptedit_core.specs.Laying.{cleared, lowest_used, others_fault, others_fault_of, removed_all, removed_one, without_entry, is_blank, ArePut, IsPut}
 use Rattle.gptedit_core.specs.Named.{AreThere, IsUnnamed, LayoutsChangeNamed, StaysAs}
 use Rattle.gptedit_core.specs.Resolving.{first_numbered}
 use Rattle.std.specs.List.{enumerate_from}
@@ -87,7 +87,7 @@ removed_step : (i j : ℕ) (g r : GPT) (found : Option GPTPartitionEntry) → en
     → entry_at r j ≡ entry_at g j
 removed_step i j g r None found is low differ = absurd (cc)
 removed_step i j g r (Some e) found is low differ =
-    let end = else_ok (is_unused e) (IsUnused i) (with_entry g i empty_entry) r is in
+    let end = else_ok (is_blank e) (IsUnused i) (with_entry g i empty_entry) r is in
     subst (λ (m : GPT). entry_at m j ≡ entry_at g j) end.1 (other_entry g i j empty_entry (low_number g i e found) low differ)
 
 pub removed_keep : (is : List ℕ) (g r : GPT) (j : ℕ) → removed_all is g ≡ Ok r → 1 ≤ j → All (λ i. i ≢ j) is → entry_at r j ≡ entry_at g j

@@ -1,5 +1,5 @@
 -- A layout that was put into a table is not refused a second time.
-use Rattle.std.proofs.Common.{◌≡◌, ◌≢◌, ◌≤◌, ◌<◌, ◌⊎◌, inl, inr, ℕ, ◌+◌, ◌-◌, ◌^◌, List, [], ◌∷◌, refl, sym, ap, ◌∙◌, subst, arith, zero, suc, IsTrue, Bool, true, false, length}
+use Rattle.std.proofs.Common.{◌≡◌, ◌≤◌, ◌<◌, ◌⊎◌, inl, inr, ℕ, ◌+◌, ◌-◌, ◌^◌, List, [], ◌∷◌, refl, sym, ap, ◌∙◌, subst, arith, zero, suc, IsTrue, Bool, true, false, length}
 use Rattle.std.specs.Prelude.{Option, Some, None, Result, Ok, Err, All, Contains, get_or, max, nat_eq, nat_le, nat_lt, not, slice_get, unwrap_or, if◌then◌else◌}
 use Rattle.std.proofs.lemmas.Bool.{eq-eqb, eqb-false, eqb-true, le-leb, leb-true}
 use Rattle.std.proofs.lemmas.List.{length-set}
@@ -11,7 +11,7 @@ use Rattle.gptman.specs.Table.{entries_in}
 use Rattle.gptman.specs.TableWrites.{MayBeWritten}
 use Rattle.gptman_copy.specs.declared.codec.entry.GPTPartitionEntry.{GPTPartitionEntry}
 use Rattle.gptman.specs.declared.table.GPT.{GPT}
-use Rattle.gptedit_core.specs.Laying.{align_asked, lowest_used, others_fault, removed_all, removed_one, without_entry, ArePut, IsLaid, RefusesAsked}
+use Rattle.gptedit_core.specs.Laying.{align_asked, lowest_used, others_fault, removed_all, removed_one, without_entry, is_blank, ArePut, IsLaid, RefusesAsked}
 use Rattle.gptedit_core.specs.Named.{AreNumbered, AreThere, Asks, IsAgain, IsThere, IsUnnamed, IsWhole, LayoutsAreTakenAgain}
 use Rattle.gptedit_core.specs.Placing.{IsSpan}
 use Rattle.gptedit_core.specs.Planning.{asks_random, IsDone, RefusesCheck, RefusesJob}
@@ -302,13 +302,13 @@ removed_one_unused : (i j : ℕ) (g r : GPT) (found : Option GPTPartitionEntry) 
     → ((i ≡ j) ⊎ IsTrue (is_unused (entry_at g j))) → IsTrue (is_unused (entry_at r j))
 removed_one_unused i j g r None found is low which = absurd (cc)
 removed_one_unused i j g r (Some e) found is low (inl same) =
-    let end = else_ok (is_unused e) (IsUnused i) (with_entry g i empty_entry) r is in
+    let end = else_ok (is_blank e) (IsUnused i) (with_entry g i empty_entry) r is in
     let number = number_by g i e _ refl found in
     subst (λ (m : GPT). IsTrue (is_unused (entry_at m j))) end.1
     (subst (λ (n : ℕ). IsTrue (is_unused (entry_at (with_entry g i empty_entry) n))) same
     (subst (λ (x : GPTPartitionEntry). IsTrue (is_unused x)) (sym (this_entry g i empty_entry number)) refl))
 removed_one_unused i j g r (Some e) found is low (inr unused) =
-    let end = else_ok (is_unused e) (IsUnused i) (with_entry g i empty_entry) r is in
+    let end = else_ok (is_blank e) (IsUnused i) (with_entry g i empty_entry) r is in
     subst (λ (m : GPT). IsTrue (is_unused (entry_at m j))) end.1 (emptied_by g i j (nat_eq i j) refl (number_by g i e _ refl found) low unused)
 
 -- One that is not used stays so,

@@ -2,11 +2,10 @@
 use Rattle.std.proofs.Common.{◌≡◌, ℕ, List, [], ◌∷◌, sym, ap, ◌∙◌}
 use Rattle.std.specs.Prelude.{Option, Some, None, Result, Ok, Err}
 use Rattle.gptman.specs.Coding.{empty_entry}
-use Rattle.gptman.specs.Entry.{is_unused}
 use Rattle.gptman.specs.Number.{entry_of_number, with_entry}
 use Rattle.gptman_copy.specs.declared.codec.entry.GPTPartitionEntry.{GPTPartitionEntry}
 use Rattle.gptman.specs.declared.table.GPT.{GPT}
-use Rattle.gptedit_core.specs.Laying.{cleared, removed_all, removed_one, without_entry, ArePut}
+use Rattle.gptedit_core.specs.Laying.{cleared, removed_all, removed_one, without_entry, is_blank, ArePut}
 use Rattle.gptedit_core.specs.declared.refusal.Refusal.{Refusal}
 use Rattle.gptedit_core.specs.declared.refusal.Refusal.TheVariants.{IsUnused, NoEntry}
 use Rattle.gptedit_core.specs.declared.resolve.Partition.{Partition}
@@ -15,7 +14,7 @@ use Rattle.gptedit_core.proofs.Steps.{and_then_ok, else_ok}
 module _ {X : Type 0} (f : GPT → X) (stays : (g : GPT) (i : ℕ) (e : GPTPartitionEntry) → f (with_entry g i e) ≡ f g) where
   one_removed : (i : ℕ) (g h : GPT) (found : Option GPTPartitionEntry) → without_entry i g found ≡ Ok h → f h ≡ f g
   one_removed i g h None is = absurd (cc)
-  one_removed i g h (Some e) is = ap f (sym (else_ok (is_unused e) (IsUnused i) (with_entry g i empty_entry) h is).1) ∙ stays g i empty_entry
+  one_removed i g h (Some e) is = ap f (sym (else_ok (is_blank e) (IsUnused i) (with_entry g i empty_entry) h is).1) ∙ stays g i empty_entry
 
   pub removed_same : (is : List ℕ) (g h : GPT) → removed_all is g ≡ Ok h → f h ≡ f g
   removed_same [] g h done = let same : g ≡ h = cc in ap f (sym same)

@@ -1,7 +1,7 @@
 -- What is asked for, put into a table.
-use Rattle.std.specs.Prelude.{◌≡◌, ◌⊎◌, ◌∷◌, [], ℕ, false, nat_eq, if◌then◌else◌, List, IsTrue, Option, None, Some, Result, Ok, Err, unwrap_or}
-use Rattle.std.specs.List.{enumerate_from}
-use Rattle.gptman.specs.Coding.{empty_entry}
+use Rattle.std.specs.Prelude.{◌≡◌, ◌⊎◌, ◌∷◌, [], ℕ, Bool, false, nat_eq, if◌then◌else◌, List, IsTrue, Option, None, Some, Result, Ok, Err, unwrap_or}
+use Rattle.std.specs.List.{enumerate_from, list_all}
+use Rattle.gptman.specs.Coding.{empty_entry, entry_bytes}
 use Rattle.gptman.specs.Entry.{is_unused, is_used}
 use Rattle.gptman.specs.Fault.{fault_of, out_of_memory}
 use Rattle.gptman.specs.Number.{entry_at, entry_of_number, with_entry, IsNumber}
@@ -24,12 +24,16 @@ use Rattle.gptedit_core.specs.declared.resolve.Partition.{Partition}
 abbrev pub align_asked : Amount → ℕ → Result ℕ Refusal
 align_asked amount ss = elim (sectors_in amount ss) [ None ↦ Err (NotWhole amount) | Some n ↦ if nat_eq n 0 then Err NoAlignment else Ok n ]
 
--- the table without an entry that is used, where it is there
+-- no byte of an entry is set
+abbrev pub is_blank : GPTPartitionEntry → Bool
+is_blank e = list_all (λ x. nat_eq x 0) (entry_bytes e)
+
+-- the table without an entry that has a byte, where it is there
 abbrev pub without_entry : ℕ → GPT → Option GPTPartitionEntry → Result GPT Refusal
 without_entry i g None = Err (NoEntry i)
-without_entry i g (Some e) = if is_unused e then Err (IsUnused i) else Ok (with_entry g i empty_entry)
+without_entry i g (Some e) = if is_blank e then Err (IsUnused i) else Ok (with_entry g i empty_entry)
 
--- the table without the entry of that number, which is used
+-- the table without the entry of that number, used or not, unless it has no byte
 abbrev pub removed_one : ℕ → GPT → Result GPT Refusal
 removed_one i g = without_entry i g (entry_of_number g i)
 

@@ -1,7 +1,7 @@
 //! What is asked for is put into a table, in memory.
 
 ghost use Rattle.std.specs.Prelude.{◌≡◌, ◌<◌, ◌≤◌, Ok, Err, IfErr, IfOk, OnOk, length};
-ghost use Rattle.gptedit_core.specs.Laying.{align_asked, cleared, lowest_used, others_fault};
+ghost use Rattle.gptedit_core.specs.Laying.{align_asked, cleared, is_blank, lowest_used, others_fault};
 ghost use Rattle.gptedit_core.specs.Laying.{removed_all, removed_one};
 ghost use Rattle.gptedit_core.specs.Laying.{ArePut, IsLaid, IsPut, IsStopOf, RefusesLaying, RefusesPut};
 ghost use Rattle.gptedit_core.specs.Laying.{RefusesPutting};
@@ -79,7 +79,7 @@ fn remove_all(alloc: Global, table: &mut GPT, numbers: &[u32]) -> Result<(), Ref
     Ok(())
 }
 
-// Removes an entry that is used.
+// Removes an entry, also one that is not used and has bytes yet.
 fn remove(alloc: Global, table: &mut GPT, number: u32) -> Result<(), Refusal>
     ensures ok { OnOk result (removed_one number table.old ≡ Ok table.new) }
     ensures refused { IfErr result (λ r. removed_one number table.old ≡ Err r) }
@@ -88,11 +88,18 @@ fn remove(alloc: Global, table: &mut GPT, number: u32) -> Result<(), Refusal>
     let Some(entry) = table.get(number) else {
         return Err(Refusal::NoEntry(number));
     };
-    if entry.is_unused() {
+    if is_blank(entry) {
         return Err(Refusal::IsUnused(number));
     }
     table[number] = GPTPartitionEntry::empty(alloc);
     Ok(())
+}
+
+// Whether no byte of the entry is set.
+fn is_blank(entry: &GPTPartitionEntry) -> bool
+    ensures { result ≡ is_blank entry.now }
+{
+    entry.encode().iter().all(|byte| *byte == 0)
 }
 
 // Makes the entries of the partitions' numbers unused.

@@ -1,12 +1,13 @@
 -- What a write leaves that comes after calls that only read.
-use Rattle.std.proofs.Common.{sym, subst, ◌∙◌, ℕ, List, [], ◌∷◌, Option}
+use Rattle.std.proofs.Common.{◌≡◌, sym, subst, ◌∙◌, ℕ, List, [], ◌∷◌, Option}
 use Rattle.gptman.specs.Crash.{IsKeptFor, other_side, StartsFromOne, StartsLaidOut}
 use Rattle.gptman.specs.Disk.{OnlyRead, DiskState, AgreesOutside, IsHonest, Keeps, LeavesOnly, Reads, Writes, Wrote}
 use Rattle.gptman.specs.Layout.{HasLayout, Holds, copy_ranges_at}
 use Rattle.gptman.specs.Ranges.{AreClear}
 use Rattle.gptman.specs.Stop.{HoldsOneOf, StopsHold}
 use Rattle.gptman.specs.Table.{Table, table_in}
-use Rattle.gptman.specs.TableWrites.{table_ranges}
+use Rattle.gptman.specs.TableWrites.{other_with_checksums, table_ranges, value_with_checksums, HasBothCopies}
+use Rattle.gptman_copy.specs.declared.codec.header.GPTHeader.{GPTHeader}
 use Rattle.gptman.specs.declared.table.GPT.{GPT}
 use Rattle.gptman.proofs.Held.{holds_local}
 use Rattle.gptman.proofs.ReadingLaw.{reads_one_of}
@@ -65,6 +66,12 @@ laid_since next old mid read keeps layout = record {
   honest = read.wrote.honest;
   layout = subst (λ (n : ℕ). HasLayout next n) (sym keeps.size) layout;
 }
+
+-- What a write laid of the value and the header that it left, it laid of those with their checksums.
+pub both_laid : (view : List ℕ) (next left : GPT) (other : GPTHeader) → left ≡ value_with_checksums next → other ≡ other_with_checksums next
+    → HasBothCopies view left other → HasBothCopies view (value_with_checksums next) (other_with_checksums next)
+both_laid view next left other value header laid = subst (λ (g : GPT). HasBothCopies view g (other_with_checksums next)) value
+    (subst (λ (h : GPTHeader). HasBothCopies view left h) header laid)
 
 -- A changed table was written, after calls that only read.
 pub change_written : {A : Type 0} (planned : ℕ → Makes A) (size : Option ℕ) (table next : GPT) (answer : A) (old mid last new : DiskState) → IsHonest old → Reads old mid → Reads mid last

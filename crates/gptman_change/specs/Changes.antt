@@ -5,11 +5,12 @@ use Rattle.gptman.specs.Crash.{AreReadAlone, IsKeptFor}
 use Rattle.gptman.specs.Disk.{DiskState, IsHonest, OnlyRead, Wrote}
 use Rattle.gptman.specs.Fault.{Fault}
 use Rattle.gptman.specs.Layout.{HasLayout, Holds, IsLaidOut}
+use Rattle.gptman.specs.Ranges.{AreApart}
 use Rattle.gptman.specs.Reading.{Side, copy_in}
 use Rattle.gptman.specs.Stop.{IsStored, StopsAreReadAs, StopsHold}
 use Rattle.gptman.specs.Table.{Table, table_in, IsForm}
 use Rattle.gptman.specs.TableReads.{CountsReading}
-use Rattle.gptman.specs.TableWrites.{table_ranges, RefusesWrite}
+use Rattle.gptman.specs.TableWrites.{other_with_checksums, table_ranges, value_with_checksums, HasBothCopies, RefusesWrite}
 use Rattle.gptman.specs.declared.table.GPT.{GPT}
 use Rattle.gptman_change.specs.Planning.{KeepsPlaces, Leaves, Makes, RefusesPlan}
 use Rattle.gptman_change.specs.Reads.{size_for, IsReadFrom, RefusesReading}
@@ -33,8 +34,8 @@ pub record StartsGood (disk : DiskState) (ss : ℕ) (was : Table) : Type 0 where
 abbrev pub StartsGoodFor : DiskState → Option ℕ → Table → Type 0
 StartsGoodFor disk size was = StartsGood disk (size_for disk.view size) was
 
--- A table was read from the disk, changed as planned and written: no byte outside of its four ranges is another, and where it has the layout both places hold it,
--- and each copy alone is read as it. The disk failed nowhere, or once, and then the backup copy was read. From one good copy and no other the table that was read is
+-- A table was read from the disk, changed as planned and written: no byte outside of its four ranges is another, nothing is pending, and the ranges have the bytes
+-- of both copies, where no two of them share a byte. Where it has the layout both places hold it, and each copy alone is read as it. The disk failed nowhere, or once, and then the backup copy was read. From one good copy and no other the table that was read is
 -- the one that it held, and the planned one has the layout where it keeps its places.
 pub record MakesChange {A : Type 0} (planned : Makes A) (size : Option ℕ) (answer : A) (old new : DiskState) : Type 0 where
   pub table : GPT
@@ -43,6 +44,8 @@ pub record MakesChange {A : Type 0} (planned : Makes A) (size : Option ℕ) (ans
   pub counts : CountsReading old new table
   pub made : planned table next answer
   pub wrote : Wrote (table_ranges next) old new
+  pub synced : new.pending ≡ []
+  pub laid : AreApart (table_ranges next) → HasBothCopies new.view (value_with_checksums next) (other_with_checksums next)
   pub stored : HasLayout next old.size → IsStored new next.sector_size (table_in next)
   pub alone : HasLayout next old.size → AreReadAlone new.view next
   pub good : (was : Table) → StartsGood old table.sector_size was → KeepsPlaces table next → (table_in table ≡ was) × HasLayout next old.size
