@@ -1,0 +1,202 @@
+//! The uses of a disk and of its partitions.
+
+use crate::device::{Device, KnownPart};
+use crate::kernel::{is_there, list};
+use crate::loops::{Loop, find_loops};
+use crate::mounts::Mounts;
+use crate::opening::Opened;
+use crate::target::Target;
+use crate::uses::{How, Part, Use, Users};
+use std::alloc::AllocError;
+use std::rt::Files;
+
+// What the kernel reports of uses.
+#[derive(Drop)]
+struct Reports {
+    mounts: Mounts,
+    loops: Vec<Loop>,
+    btrfs: Vec<Target>,
+}
+
+/// Returns all uses of the disk and of its partitions that can be seen. A loop device that is only attached is
+/// no use.
+///
+/// # Errors
+/// `AllocError` if there was no memory.
+pub fn find_users<R>(rt: &R, _name: &str, opened: &Opened) -> Result<Users, AllocError>
+where
+    R: Files + AllocGlobal + Clone + Drop,
+{
+    let mut uses = Vec::new(rt.alloc());
+    let reports = Reports {
+        mounts: Mounts::read(rt)?,
+        loops: find_loops(rt)?,
+        btrfs: find_btrfs(rt)?,
+    };
+    if let Some(device) = &opened.device {
+        if let Some(file) = missing_in(rt, &reports) {
+            uses.push(Use {
+                part: Part::Whole,
+                how: How::Unknown(file),
+            })?;
+        }
+        put_uses(rt, &reports, device, &mut uses)?;
+    }
+    put_loops(rt, &reports, opened.target, Part::Whole, &mut uses)?;
+    Ok(Users { uses })
+}
+
+// The file that is needed to see the uses of a device, and cannot be read.
+fn missing_in<R: Files>(rt: &R, reports: &Reports) -> Option<&'static str> {
+    if !is_there(rt, "/sys/class/block") {
+        return Some("/sys/class/block");
+    }
+    reports.mounts.missing()
+}
+
+// Puts the uses of a device and of its partitions into the list.
+fn put_uses<R>(
+    rt: &R,
+    reports: &Reports,
+    device: &Device,
+    uses: &mut Vec<Use>,
+) -> Result<(), AllocError>
+where
+    R: Files + AllocGlobal + Clone + Drop,
+{
+    for known in device.find_parts(rt)?.iter() {
+        match known.number {
+            None => put_use(rt, reports, known, Part::Whole, uses)?,
+            Some(number) => {
+                let part = Part::Partition(number);
+                put_use(rt, reports, known, part, uses)?;
+                put_loops(rt, reports, known.target, part, uses)?;
+            }
+        }
+    }
+    Ok(())
+}
+
+// How a part of a device is used, other than by a loop device.
+fn find_use<R>(rt: &R, reports: &Reports, known: &KnownPart) -> Result<Option<How>, AllocError>
+where
+    R: Files + AllocGlobal + Clone + Drop,
+{
+    let alloc = rt.alloc();
+    if let Some(at) = reports.mounts.find(rt, known.target) {
+        return Ok(Some(How::Mounted(String::from_str(alloc, at)?)));
+    }
+    if reports.mounts.is_swap(rt, known.target) {
+        return Ok(Some(How::Swap));
+    }
+    if reports.btrfs.iter().any(|found| *found == known.target) {
+        return Ok(Some(How::Btrfs));
+    }
+    let folder = format!(in alloc; "{}/holders", known.folder)?;
+    match list(rt, folder.as_str())?.first() {
+        Some(holder) => Ok(Some(How::Held(String::from_str(alloc, holder.as_str())?))),
+        None => Ok(None),
+    }
+}
+
+// Puts the uses of loop devices over the target into the list, also of those over their partitions. What a
+// loop device shows from the first byte of a whole disk on are the partitions of that; else it is a use of the
+// part.
+fn put_loops<R>(
+    rt: &R,
+    reports: &Reports,
+    target: Target,
+    part: Part,
+    uses: &mut Vec<Use>,
+) -> Result<(), AllocError>
+where
+    R: Files + AllocGlobal + Clone + Drop,
+{
+    for over in reports.loops.iter() {
+        if over.backing != Some(target) {
+            continue;
+        }
+        for known in parts_of(rt, over)?.iter() {
+            let part = part_in(part, over, known);
+            put_use(rt, reports, known, part, uses)?;
+            for above in reports.loops.iter() {
+                if above.backing == Some(known.target) {
+                    put_all(rt, reports, above, part, uses)?;
+                }
+            }
+        }
+    }
+    Ok(())
+}
+
+// Puts the uses of a loop device and of its partitions into the list, as those of this part.
+fn put_all<R>(
+    rt: &R,
+    reports: &Reports,
+    above: &Loop,
+    part: Part,
+    uses: &mut Vec<Use>,
+) -> Result<(), AllocError>
+where
+    R: Files + AllocGlobal + Clone + Drop,
+{
+    for known in parts_of(rt, above)?.iter() {
+        put_use(rt, reports, known, part, uses)?;
+    }
+    Ok(())
+}
+
+// Puts the use of a part of a device into the list, if there is one.
+fn put_use<R>(
+    rt: &R,
+    reports: &Reports,
+    known: &KnownPart,
+    part: Part,
+    uses: &mut Vec<Use>,
+) -> Result<(), AllocError>
+where
+    R: Files + AllocGlobal + Clone + Drop,
+{
+    if let Some(how) = find_use(rt, reports, known)? {
+        uses.push(Use { part, how })?;
+    }
+    Ok(())
+}
+
+// The parts of a loop device.
+fn parts_of<R>(rt: &R, over: &Loop) -> Result<Vec<KnownPart>, AllocError>
+where
+    R: Files + AllocGlobal + Clone + Drop,
+{
+    match Device::of(rt, over.target)? {
+        Some(device) => device.find_parts(rt),
+        None => Ok(Vec::new(rt.alloc())),
+    }
+}
+
+// The part of the disk that a part of a loop device over this part of it is.
+fn part_in(part: Part, over: &Loop, known: &KnownPart) -> Part {
+    match (part, known.number) {
+        (Part::Whole, Some(number)) if over.is_whole => Part::Partition(number),
+        (part, _) => part,
+    }
+}
+
+// The devices of mounted Btrfs file systems.
+fn find_btrfs<R>(rt: &R) -> Result<Vec<Target>, AllocError>
+where
+    R: Files + AllocGlobal + Clone + Drop,
+{
+    let alloc = rt.alloc();
+    let mut devices = Vec::new(alloc);
+    for system in list(rt, "/sys/fs/btrfs")?.iter() {
+        let folder = format!(in alloc; "/sys/fs/btrfs/{system}/devices")?;
+        for name in list(rt, folder.as_str())?.iter() {
+            let path = format!(in alloc; "{folder}/{name}/dev")?;
+            if let Some(device) = Target::named_in(rt, path.as_str())? {
+                devices.push(device)?;
+            }
+        }
+    }
+    Ok(devices)
+}

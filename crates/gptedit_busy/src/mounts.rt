@@ -1,0 +1,132 @@
+//! What is mounted, in each mount namespace, and what is swap space.
+
+use crate::kernel::{list, read_text};
+use crate::target::Target;
+use std::alloc::AllocError;
+use std::collections::BTreeSet;
+use std::fs;
+use std::rt::Files;
+
+/// The texts of the kernel that list mounts and swap spaces.
+#[derive(Drop)]
+pub(crate) struct Mounts {
+    // A list of mounts of each namespace.
+    namespaces: Vec<String>,
+    // The list of swap spaces.
+    swaps: Option<String>,
+    // Whether the mounts of this process can be read.
+    has_own: bool,
+}
+
+impl Mounts {
+    /// Reads the lists. A process that ended or may not be read is skipped.
+    pub(crate) fn read<R>(rt: &R) -> Result<Mounts, AllocError>
+    where
+        R: Files + AllocGlobal + Clone + Drop,
+    {
+        let alloc = rt.alloc();
+        let mut seen = BTreeSet::new(alloc);
+        let mut namespaces = Vec::new(alloc);
+        let has_own = put_namespace(rt, &mut seen, &mut namespaces, "self")?;
+        for name in list(rt, "/proc")?.iter() {
+            if is_number(name.as_str()) {
+                put_namespace(rt, &mut seen, &mut namespaces, name.as_str())?;
+            }
+        }
+        let swaps = read_text(rt, "/proc/swaps")?;
+        Ok(Mounts {
+            namespaces,
+            swaps,
+            has_own,
+        })
+    }
+
+    /// Returns the file that is needed and cannot be read, if there is one.
+    pub(crate) fn missing(&self) -> Option<&'static str> {
+        if !self.has_own {
+            return Some("/proc/self/mountinfo");
+        }
+        match self.swaps {
+            None => Some("/proc/swaps"),
+            Some(_) => None,
+        }
+    }
+
+    /// Returns where the target is mounted, as the kernel spells it.
+    pub(crate) fn find<R: Files>(&self, rt: &R, target: Target) -> Option<&str> {
+        for mounts in self.namespaces.iter() {
+            for line in mounts.as_str().lines() {
+                if is_mount_of(rt, line, target) {
+                    return line.split(' ').nth(4);
+                }
+            }
+        }
+        None
+    }
+
+    /// Whether the target is swap space.
+    pub(crate) fn is_swap<R: Files>(&self, rt: &R, target: Target) -> bool {
+        let Some(swaps) = &self.swaps else {
+            return false;
+        };
+        for line in swaps.as_str().lines() {
+            if is_path_of(rt, line.split(' ').next().unwrap_or(""), target) {
+                return true;
+            }
+        }
+        false
+    }
+}
+
+// Whether all of it are digits.
+fn is_number(name: &str) -> bool {
+    !name.is_empty() && name.bytes().all(|byte| byte.is_ascii_digit())
+}
+
+// Puts the mounts of a process into the list, if its namespace is not there yet. Returns whether they can be
+// read.
+fn put_namespace<R: Files + AllocGlobal>(
+    rt: &R,
+    seen: &mut BTreeSet<String>,
+    namespaces: &mut Vec<String>,
+    process: &str,
+) -> Result<bool, AllocError> {
+    let alloc = rt.alloc();
+    let path = format!(in alloc; "/proc/{process}/ns/mnt")?;
+    let name = match fs::read_link(rt, path.as_str()) {
+        Ok(link) => format!(in alloc; "{}", link.as_path().display())?,
+        Err(_unreadable) => String::from_str(alloc, process)?,
+    };
+    if seen.contains(&name) {
+        return Ok(true);
+    }
+    let path = format!(in alloc; "/proc/{process}/mountinfo")?;
+    let Some(mounts) = read_text(rt, path.as_str())? else {
+        return Ok(false);
+    };
+    seen.insert(name)?;
+    namespaces.push(mounts)?;
+    Ok(true)
+}
+
+// Whether a line of `mountinfo` is that of the target: by its number, or by its source, as of a file system
+// over several devices.
+fn is_mount_of<R: Files>(rt: &R, line: &str, target: Target) -> bool {
+    if line
+        .split(' ')
+        .nth(2)
+        .and_then(|number| Target::read(number))
+        == Some(target)
+    {
+        return true;
+    }
+    match line.split_once(" - ") {
+        Some((_, rest)) => is_path_of(rt, rest.split(' ').nth(1).unwrap_or(""), target),
+        None => false,
+    }
+}
+
+// Whether the path leads to the target.
+fn is_path_of<R: Files>(rt: &R, path: &str, target: Target) -> bool {
+    path.starts_with('/') && Target::at(rt, path) == Some(target)
+}

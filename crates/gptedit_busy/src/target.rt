@@ -1,0 +1,72 @@
+//! What an image is to the system: a block device or a file.
+
+use crate::kernel::read_line;
+use std::alloc::AllocError;
+use std::fs;
+use std::fs::Metadata;
+use std::os::unix::fs::{FileTypeExt, MetadataExt};
+use std::rt::Files;
+
+/// What a path leads to.
+#[derive(Clone, Copy, PartialEq, Eq, Debug)]
+pub(crate) enum Target {
+    /// The block device of this number.
+    Device { major: u64, minor: u64 },
+    /// The file with this inode of the file system with this number.
+    File { major: u64, minor: u64, inode: u64 },
+}
+
+impl Target {
+    /// Returns what the metadata is of; nothing if it is no file and no block device.
+    pub(crate) fn of(metadata: &Metadata) -> Option<Target> {
+        let kind = metadata.file_type();
+        if kind.is_block_device() {
+            let (major, minor) = split(metadata.rdev());
+            return Some(Target::Device { major, minor });
+        }
+        if kind.is_file() {
+            let (major, minor) = split(metadata.dev());
+            let inode = metadata.ino();
+            return Some(Target::File {
+                major,
+                minor,
+                inode,
+            });
+        }
+        None
+    }
+
+    /// Returns what the path leads to.
+    pub(crate) fn at<R: Files>(rt: &R, path: &str) -> Option<Target> {
+        match fs::metadata(rt, path) {
+            Ok(metadata) => Target::of(&metadata),
+            Err(_missing) => None,
+        }
+    }
+
+    /// Returns the block device whose number a file of `/sys` has, as `8:1`.
+    pub(crate) fn named_in<R: Files + AllocGlobal>(
+        rt: &R,
+        path: &str,
+    ) -> Result<Option<Target>, AllocError> {
+        match read_line(rt, path)? {
+            Some(line) => Ok(Target::read(line.as_str())),
+            None => Ok(None),
+        }
+    }
+
+    /// Reads the number of a block device, as `8:1`.
+    pub(crate) fn read(text: &str) -> Option<Target> {
+        let (major, minor) = text.split_once(":")?;
+        let major = major.parse::<u64>().ok()?;
+        let minor = minor.parse::<u64>().ok()?;
+        Some(Target::Device { major, minor })
+    }
+}
+
+/// Returns the major and the minor number in the number of a device, as the C library packs them.
+pub(crate) fn split(number: u64) -> (u64, u64) {
+    let major = number >> 32 & 0xffff_f000 | number >> 8 & 0xfff;
+    let minor = number >> 12 & 0xffff_ff00 | number & 0xff;
+    (major, minor)
+}

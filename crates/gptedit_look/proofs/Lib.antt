@@ -1,0 +1,3 @@
+pub mod Products
+pub mod Pieces
+pub mod Writing

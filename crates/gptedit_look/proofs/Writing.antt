@@ -1,0 +1,13 @@
+-- Runs of calls that read and write.
+use Rattle.std.proofs.Common.{◌≡◌, ◌≤◌, ◌+◌, ℕ, List, [], ◌∷◌, arith}
+use Rattle.gptman_copy.specs.Disk.{DiskState, IsHonest, Reads, Within, Writes}
+use Rattle.gptman_copy.proofs.Ranges.{within_none, within_range}
+use Rattle.gptman_copy.proofs.Runs.{wrote_then, wrote_wider}
+
+-- one after another
+pub writes_then : {a b c : DiskState} (outer inner : List (ℕ × ℕ)) → Within inner outer → Writes outer a b → Writes inner b c → Writes outer a c
+writes_then outer inner within first second honest = let ab = first honest in wrote_then within ab (second ab.honest)
+
+-- what only reads
+pub writes_read : {a b : DiskState} (ranges : List (ℕ × ℕ)) → Reads a b → Writes ranges a b
+writes_read ranges reads honest = wrote_wider within_none (reads.only honest).wrote

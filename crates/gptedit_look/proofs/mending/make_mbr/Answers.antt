@@ -1,0 +1,8 @@
+use Rattle.gptman_copy.proofs.Ranges.{within_none}
+use Rattle.gptman_copy.proofs.Runs.{wrote_then}
+use Rattle.gptedit_look.proofs.mending.make_mbr.Goals as goal
+
+pub returns-in_err-sync-clause-wrote : goal.returns-in_err-sync-clause-wrote
+returns-in_err-sync-clause-wrote g c = λ honest.
+    let first = c.write_protective_mbr_into.ensures.wrote honest in
+    wrote_then within_none first (c.sync.ensures.wrote first.honest)

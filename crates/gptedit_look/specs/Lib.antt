@@ -1,0 +1,3 @@
+pub mod Guard
+pub mod Touched
+pub mod Guarded

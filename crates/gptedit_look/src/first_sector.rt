@@ -1,0 +1,231 @@
+//! What the first 512 bytes of a disk hold: an MBR, and of which kind.
+
+use crate::blocks::{has_at, read_block, u16_at, u32_at};
+use gptman::{Disk, Result};
+use std::alloc::{AllocError, Global};
+
+/// The length of a master boot record in bytes.
+pub const MBR_LENGTH: u64 = 512;
+
+// The first byte of each of its four entries.
+const ENTRIES: [usize; 4] = [446, 462, 478, 494];
+
+// The type of an entry that protects a disk.
+const PROTECTIVE: u8 = 0xee;
+
+/// What an MBR is.
+#[derive(Debug, Clone, Copy, PartialEq, Eq)]
+pub enum MbrKind {
+    /// There is no 55 AA, or there are no entries.
+    None,
+    /// One protective entry or more, and no other.
+    Protective,
+    /// A protective entry and others.
+    Hybrid,
+    /// Entries, and no protective one.
+    Dos,
+}
+
+/// An entry of an MBR that is not protective.
+#[derive(Debug, Clone, Copy, PartialEq, Eq)]
+pub struct Listed {
+    /// Its number, from 1 to 4.
+    pub number: u8,
+    /// Its type.
+    pub kind: u8,
+    /// Its first sector.
+    pub first: u64,
+    /// Its length in sectors.
+    pub sectors: u64,
+}
+
+/// The MBR of a disk.
+#[derive(Debug, Drop)]
+pub struct FirstSector {
+    /// Its kind.
+    pub kind: MbrKind,
+    /// Whether the first protective entry covers the disk, as it should: from sector 1 to the end, or with the
+    /// greatest length that an entry can have.
+    pub is_length_right: bool,
+    /// The number of protective entries.
+    pub protective_count: u8,
+    /// Whether an entry is marked as bootable.
+    pub is_bootable: bool,
+    /// The other entries.
+    pub listed: Vec<Listed>,
+}
+
+// An entry as it is on the disk.
+#[derive(Clone, Copy)]
+struct Entry {
+    number: u8,
+    mark: u8,
+    kind: u8,
+    first: u32,
+    sectors: u32,
+}
+
+impl Entry {
+    // The entry at this byte of a sector.
+    fn decode(bytes: &[u8], number: u8, at: usize) -> Entry {
+        Entry {
+            number,
+            mark: bytes.get(at).copied().unwrap_or(0),
+            kind: bytes.get(at.saturating_add(4)).copied().unwrap_or(0),
+            first: u32_at(bytes, at.saturating_add(8)),
+            sectors: u32_at(bytes, at.saturating_add(12)),
+        }
+    }
+
+    // Whether its boot mark is one of the two that there are.
+    fn has_mark(self) -> bool {
+        self.mark == 0 || self.mark == 0x80
+    }
+
+    fn is_protective(self) -> bool {
+        self.kind == PROTECTIVE
+    }
+
+    // Whether it lists a partition.
+    fn is_used(self) -> bool {
+        self.kind != 0 && self.sectors != 0
+    }
+
+    // Whether it covers a disk of so many sectors.
+    fn covers(self, sectors: u64) -> bool {
+        let length = u64::from(self.sectors);
+        let all = u64::from(u32::MAX);
+        self.first == 1 && (length == sectors.saturating_sub(1).min(all) || length == all)
+    }
+}
+
+/// Reads the MBR of a disk, whose sectors have `sector_size` bytes.
+///
+/// # Errors
+/// `Io` if the disk failed, `OutOfMemory` if there was no memory.
+pub fn read_first_sector<D: Disk>(
+    alloc: Global,
+    disk: &mut D,
+    sector_size: u64,
+) -> Result<FirstSector> {
+    let size = disk.seek_end()?;
+    let bytes = read_block(alloc, disk, 0, MBR_LENGTH)?;
+    let sectors = size.checked_div(sector_size).unwrap_or(0);
+    Ok(decode(alloc, &bytes, sectors)?)
+}
+
+/// Returns what the first 512 bytes of a disk with `sectors` sectors are.
+pub fn decode(
+    alloc: Global,
+    bytes: &[u8],
+    sectors: u64,
+) -> std::result::Result<FirstSector, AllocError> {
+    let entries = decode_entries(bytes);
+    let mut listed = Vec::new(alloc);
+    let kind = kind_of(bytes, &entries);
+    let mut protective_count = 0u8;
+    if kind != MbrKind::None {
+        for entry in entries {
+            if entry.is_protective() {
+                protective_count = protective_count.saturating_add(1);
+            } else if entry.is_used() {
+                listed.push(listed_of(entry))?;
+            }
+        }
+    }
+    Ok(FirstSector {
+        kind,
+        is_length_right: is_length_right(&entries, sectors),
+        protective_count,
+        is_bootable: kind != MbrKind::None && entries.iter().any(|entry| entry.mark == 0x80),
+        listed,
+    })
+}
+
+// The four entries.
+fn decode_entries(bytes: &[u8]) -> [Entry; 4] {
+    let [a, b, c, d] = ENTRIES;
+    [
+        Entry::decode(bytes, 1, a),
+        Entry::decode(bytes, 2, b),
+        Entry::decode(bytes, 3, c),
+        Entry::decode(bytes, 4, d),
+    ]
+}
+
+fn listed_of(entry: Entry) -> Listed {
+    Listed {
+        number: entry.number,
+        kind: entry.kind,
+        first: u64::from(entry.first),
+        sectors: u64::from(entry.sectors),
+    }
+}
+
+// What an MBR with these entries is.
+fn kind_of(bytes: &[u8], entries: &[Entry; 4]) -> MbrKind {
+    if !has_at(bytes, 510, &[0x55, 0xaa]) {
+        return MbrKind::None;
+    }
+    let has_protective = entries.iter().any(|entry| entry.is_protective());
+    let has_others = entries
+        .iter()
+        .any(|entry| entry.is_used() && !entry.is_protective());
+    match (has_protective, has_others) {
+        (true, false) => MbrKind::Protective,
+        (true, true) => MbrKind::Hybrid,
+        (false, true) if is_partitioned(bytes, entries) => MbrKind::Dos,
+        _ => MbrKind::None,
+    }
+}
+
+// Whether the four entries are entries, and not the code of a boot sector.
+fn is_partitioned(bytes: &[u8], entries: &[Entry; 4]) -> bool {
+    entries.iter().all(|entry| entry.has_mark()) && !is_boot_sector(bytes)
+}
+
+// Whether the first protective entry is as it should be on a disk with so many sectors.
+fn is_length_right(entries: &[Entry; 4], sectors: u64) -> bool {
+    match entries.iter().find(|entry| entry.is_protective()) {
+        Some(entry) => entry.covers(sectors),
+        None => false,
+    }
+}
+
+/// Reports whether these are the first bytes of a FAT, exFAT or NTFS file system.
+pub fn is_boot_sector(bytes: &[u8]) -> bool {
+    is_ntfs_or_exfat(bytes) || is_fat(bytes)
+}
+
+fn is_ntfs_or_exfat(bytes: &[u8]) -> bool {
+    has_jump(bytes) && (has_at(bytes, 3, b"NTFS    ") || has_at(bytes, 3, b"EXFAT   "))
+}
+
+// Whether it begins with a jump, and the parameters of a FAT file system follow.
+fn is_fat(bytes: &[u8]) -> bool {
+    has_jump(bytes) && (has_fat_text(bytes) || has_fat_parameters(bytes))
+}
+
+fn has_jump(bytes: &[u8]) -> bool {
+    has_at(bytes, 0, &[0xe9]) || has_at(bytes, 0, &[0xeb])
+}
+
+fn has_fat_text(bytes: &[u8]) -> bool {
+    has_at(bytes, 54, b"FAT12   ")
+        || has_at(bytes, 54, b"FAT16   ")
+        || has_at(bytes, 54, b"FAT     ")
+        || has_at(bytes, 82, b"FAT32   ")
+}
+
+// Whether the numbers after the jump are those of a FAT file system.
+fn has_fat_parameters(bytes: &[u8]) -> bool {
+    let sector_size = u16_at(bytes, 11);
+    let cluster = bytes.get(13).copied().unwrap_or(0);
+    let tables = bytes.get(16).copied().unwrap_or(0);
+    let media = bytes.get(21).copied().unwrap_or(0);
+    matches!(sector_size, 512 | 1024 | 2048 | 4096)
+        && matches!(cluster, 1 | 2 | 4 | 8 | 16 | 32 | 64 | 128)
+        && u16_at(bytes, 14) != 0
+        && (tables == 1 || tables == 2)
+        && (media == 0xf0 || media >= 0xf8)
+}

@@ -1,0 +1,29 @@
+//! The one look at a disk before anything is written to it: both copies of the table, their raw headers, the
+//! MBR, and what is recognised. From it `find_obstacle` decides what a write may overwrite.
+//!
+//! Everything here only reads, except `mend_mbr`, `clear_signatures` and `wipe`.
+#![tactic(auto)]
+
+pub mod blocks;
+pub mod bytes;
+pub mod clearing;
+pub mod first_sector;
+pub mod grounds;
+pub mod guard;
+pub mod mending;
+pub mod raw;
+pub mod seeing;
+pub mod seen;
+pub mod signatures;
+pub mod touched;
+pub mod what;
+pub mod zeros;
+
+pub use clearing::{clear_signatures, wipe};
+pub use first_sector::{FirstSector, Listed, MbrKind};
+pub use guard::find_obstacle;
+pub use mending::{MbrChange, mend_mbr};
+pub use raw::RawHeader;
+pub use seeing::look;
+pub use seen::{Look, Looked, Obstacle, Purpose, What};
+pub use signatures::{Place, Signature};

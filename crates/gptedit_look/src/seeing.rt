@@ -1,0 +1,191 @@
+//! The look at a disk.
+
+ghost use Rattle.std.specs.Prelude.{◌<◌};
+
+use crate::first_sector::{FirstSector, read_first_sector};
+use crate::raw::{RawHeader, read_raw_header, read_raw_header_at};
+use crate::seen::{Look, Looked};
+use crate::signatures::{Place, Signature, find_signatures};
+use gptedit_marks::{Content, find_contents, find_footer};
+use gptimg_core::{BothCopies, check};
+use gptman::{Disk, Error, GPT, Result};
+use gptman_change::read_table;
+use std::alloc::Global;
+
+// The greatest number of entries that is read.
+const MOST_ENTRIES: u32 = 32768;
+
+// The sector size of a disk without a table, if none is given.
+const DEFAULT_SECTOR_SIZE: u64 = 512;
+
+/// Looks at a disk, whose sectors have this size, or one that is found: 512, or 4096 if there is no signature
+/// with 512. Nothing is written.
+///
+/// A header that counts more than 32,768 entries ends the look before its entries are read.
+///
+/// # Errors
+/// `Io` if the disk failed, `OutOfMemory` if there was no memory.
+pub fn look<D: Disk>(alloc: Global, disk: &mut D, sector_size: Option<u64>) -> Result<Looked> {
+    if let Some(count) = find_too_many(alloc, disk, sector_size)? {
+        return Ok(Looked::TooMany(count));
+    }
+    let table = read_good(alloc, disk, sector_size)?;
+    let sector_size = size_of(table.as_ref(), sector_size);
+    Ok(Looked::Seen(see(alloc, disk, sector_size, table)?))
+}
+
+// The greatest number of entries that a header counts, if it is too great.
+fn find_too_many<D: Disk>(
+    alloc: Global,
+    disk: &mut D,
+    sector_size: Option<u64>,
+) -> Result<Option<u32>> {
+    let sizes = match sector_size {
+        Some(size) => [size, size],
+        None => [512, 4096],
+    };
+    for size in sizes {
+        for place in [Place::Start, Place::End] {
+            if let Some(header) = read_raw_header(alloc, disk, size, place)? {
+                if header.count > MOST_ENTRIES {
+                    return Ok(Some(header.count));
+                }
+            }
+        }
+    }
+    Ok(None)
+}
+
+// The table, or that no copy is good.
+fn read_good<D: Disk>(
+    alloc: Global,
+    disk: &mut D,
+    sector_size: Option<u64>,
+) -> Result<Option<GPT>> {
+    let sector_size = match sector_size {
+        Some(size) if size > 0 => Some(size),
+        _ => None,
+    };
+    match read_table(alloc, disk, sector_size) {
+        Ok(table) => Ok(Some(table)),
+        Err(Error::Io(error)) => Err(Error::Io(error)),
+        Err(Error::OutOfMemory) => Err(Error::OutOfMemory),
+        Err(_) => Ok(None),
+    }
+}
+
+// The sector size of the table, or the one that was given, or 512. It is above 0.
+fn size_of(table: Option<&GPT>, given: Option<u64>) -> u64
+    ensures { 0 < result }
+{
+    let size = match (table, given) {
+        (Some(table), _) => table.sector_size,
+        (None, Some(size)) if size > 0 => size,
+        (None, _) => DEFAULT_SECTOR_SIZE,
+    };
+    size.max(1)
+}
+
+// Looks at all else.
+fn see<D: Disk>(alloc: Global, disk: &mut D, sector_size: u64, table: Option<GPT>) -> Result<Look>
+    requires { 0 < sector_size }
+{
+    let size = disk.seek_end()?;
+    let copies = check(alloc, disk, sector_size)?;
+    let moved = read_moved(alloc, disk, sector_size, size, &copies)?;
+    let headers = read_headers(alloc, disk, sector_size, moved)?;
+    let known = find_known(alloc, disk, sector_size, size)?;
+    Ok(assemble(sector_size, table, copies, headers, known))
+}
+
+// What begins with `EFI PART`, where headers are.
+#[derive(Clone, Copy)]
+struct Headers {
+    primary: Option<RawHeader>,
+    backup: Option<RawHeader>,
+    moved: Option<RawHeader>,
+}
+
+// What is recognised on the disk, and its length.
+#[derive(Drop)]
+struct Known {
+    size: u64,
+    first_sector: FirstSector,
+    signatures: Vec<Signature>,
+    contents: Vec<Content>,
+    footer: Option<Content>,
+}
+
+// The raw headers, beside the one that moved.
+fn read_headers<D: Disk>(
+    alloc: Global,
+    disk: &mut D,
+    sector_size: u64,
+    moved: Option<RawHeader>,
+) -> Result<Headers> {
+    let primary = read_raw_header(alloc, disk, sector_size, Place::Start)?;
+    let backup = read_raw_header(alloc, disk, sector_size, Place::End)?;
+    Ok(Headers {
+        primary,
+        backup,
+        moved,
+    })
+}
+
+// What is recognised on a disk of this length.
+fn find_known<D: Disk>(alloc: Global, disk: &mut D, sector_size: u64, size: u64) -> Result<Known> {
+    Ok(Known {
+        size,
+        first_sector: read_first_sector(alloc, disk, sector_size)?,
+        signatures: find_signatures(alloc, disk)?,
+        contents: find_contents(alloc, disk, 0, size)?,
+        footer: find_footer(alloc, disk)?,
+    })
+}
+
+// The look with these parts.
+fn assemble(
+    sector_size: u64,
+    table: Option<GPT>,
+    copies: BothCopies,
+    headers: Headers,
+    known: Known,
+) -> Look
+    requires { 0 < sector_size }
+{
+    Look {
+        size: known.size,
+        sector_size,
+        table,
+        copies,
+        primary_header: headers.primary,
+        backup_header: headers.backup,
+        moved_header: headers.moved,
+        first_sector: known.first_sector,
+        signatures: known.signatures,
+        contents: known.contents,
+        footer: known.footer,
+    }
+}
+
+// The header where a good primary header says that the other one is, if that is not the last sector.
+fn read_moved<D: Disk>(
+    alloc: Global,
+    disk: &mut D,
+    sector_size: u64,
+    size: u64,
+    copies: &BothCopies,
+) -> Result<Option<RawHeader>> {
+    let Ok(primary) = &copies.primary else {
+        return Ok(None);
+    };
+    let sector = primary.header.backup_lba;
+    let sectors = size.checked_div(sector_size).unwrap_or(0);
+    let Some(at) = sector.checked_mul(sector_size) else {
+        return Ok(None);
+    };
+    if sector < 2 || sector >= sectors.saturating_sub(1) {
+        return Ok(None);
+    }
+    read_raw_header_at(alloc, disk, at)
+}

@@ -1,0 +1,79 @@
+//! Where `EFI PART` is: in sector 1 or in the last sector, for each sector size.
+
+use crate::blocks::{has_at, read_block};
+use gptman::{Disk, Result};
+use std::alloc::Global;
+
+/// The bytes of a signature.
+pub const SIGNATURE: [u8; 8] = *b"EFI PART";
+
+/// The sector sizes for which a signature is looked for.
+pub const SECTOR_SIZES: [u64; 4] = [512, 1024, 2048, 4096];
+
+/// One of the two places of a header.
+#[derive(Debug, Clone, Copy, PartialEq, Eq)]
+pub enum Place {
+    /// Sector 1.
+    Start,
+    /// The last whole sector.
+    End,
+}
+
+/// `EFI PART`, where a header begins.
+#[derive(Debug, Clone, Copy, PartialEq, Eq)]
+pub struct Signature {
+    /// The sector size for which a header begins there.
+    pub sector_size: u64,
+    /// In which of the two places it is.
+    pub place: Place,
+    /// Its first byte.
+    pub at: u64,
+}
+
+/// Returns the byte at which the header at this place begins, on a disk of `size` bytes, if there is room for it.
+pub fn place_at(place: Place, sector_size: u64, size: u64) -> Option<u64> {
+    let sectors = size.checked_div(sector_size)?;
+    match place {
+        Place::Start if sectors > 1 => Some(sector_size),
+        Place::End if sectors > 1 => (sectors - 1).checked_mul(sector_size),
+        _ => None,
+    }
+}
+
+/// Returns the signatures that are on the disk.
+///
+/// # Errors
+/// `Io` if the disk failed, `OutOfMemory` if there was no memory.
+pub fn find_signatures<D: Disk>(alloc: Global, disk: &mut D) -> Result<Vec<Signature>> {
+    let mut signatures = Vec::new(alloc);
+    for sector_size in SECTOR_SIZES {
+        for place in [Place::Start, Place::End] {
+            if let Some(signature) = find_signature(alloc, disk, sector_size, place)? {
+                signatures.push(signature)?;
+            }
+        }
+    }
+    Ok(signatures)
+}
+
+// The signature at this place.
+fn find_signature<D: Disk>(
+    alloc: Global,
+    disk: &mut D,
+    sector_size: u64,
+    place: Place,
+) -> Result<Option<Signature>> {
+    let size = disk.seek_end()?;
+    let Some(at) = place_at(place, sector_size, size) else {
+        return Ok(None);
+    };
+    let bytes = read_block(alloc, disk, at, 8)?;
+    if !has_at(&bytes, 0, &SIGNATURE) {
+        return Ok(None);
+    }
+    Ok(Some(Signature {
+        sector_size,
+        place,
+        at,
+    }))
+}

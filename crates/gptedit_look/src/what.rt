@@ -1,0 +1,123 @@
+//! The names of what is in the way of a write.
+
+ghost use Rattle.std.specs.Prelude.{◌≡◌, ◌/◌};
+
+use crate::first_sector::MbrKind;
+use crate::grounds::{
+    are_entries_elsewhere, is_in_content, is_in_footer, is_of_broken, is_of_low_entries,
+};
+use crate::seen::{Look, Obstacle, What};
+use crate::signatures::Signature;
+use gptedit_marks::Content;
+use gptman::GPT;
+
+/// Returns what a new table would destroy, wherever it is: a table, what is left of one, a protective MBR, a
+/// footer, or contents.
+pub fn known_beside(look: &Look) -> Option<Obstacle> {
+    if let Some(signature) = signature_of(look) {
+        return Some(signature);
+    }
+    if look.first_sector.kind != MbrKind::None {
+        return Some(spanning(look, 0, 512, What::ProtectiveMbr));
+    }
+    if let Some(footer) = &look.footer {
+        return Some(covering(look, footer, What::Footer(footer.name)));
+    }
+    match look.contents.first() {
+        Some(content) => Some(covering(look, content, What::Content(content.name))),
+        None => None,
+    }
+}
+
+// What begins with `EFI PART`: a table, or what is left of one.
+fn signature_of(look: &Look) -> Option<Obstacle> {
+    let own = look
+        .signatures
+        .iter()
+        .find(|signature| signature.sector_size == look.sector_size);
+    let other = look.signatures.first();
+    match (own, other) {
+        (Some(own), _) if look.table.is_some() => Some(header(look, own, What::Table)),
+        (Some(own), _) => Some(header(look, own, What::Header)),
+        (None, Some(other)) => {
+            Some(header(look, other, What::OtherSectorSize(other.sector_size)))
+        }
+        (None, None) => None,
+    }
+}
+
+// The header that begins with this signature.
+fn header(look: &Look, signature: &Signature, what: What) -> Obstacle {
+    spanning(look, signature.at, signature.at.saturating_add(92), what)
+}
+
+// All of a content, or its first sector.
+fn covering(look: &Look, content: &Content, what: What) -> Obstacle {
+    let end = match content.end {
+        Some(end) => end,
+        None => content.start.saturating_add(1),
+    };
+    spanning(look, content.start, end, what)
+}
+
+// The sectors of these bytes.
+fn spanning(look: &Look, start: u64, end: u64, what: What) -> Obstacle
+    ensures { result.first ≡ start / look.now.sector_size }
+{
+    let last = end.saturating_sub(1).max(start);
+    Obstacle {
+        first: start / look.sector_size,
+        last: last / look.sector_size,
+        what,
+    }
+}
+
+/// Returns what is at the first of these bytes, which a write may not overwrite.
+pub fn name_of(look: &Look, next: &GPT, at: u64, end: u64) -> Obstacle
+    ensures { result.first ≡ at / look.now.sector_size }
+{
+    spanning(look, at, end, what_is_at(look, next, at))
+}
+
+// What is at this byte.
+fn what_is_at(look: &Look, next: &GPT, at: u64) -> What {
+    if let Some(footer) = &look.footer {
+        if is_in_footer(look, at) {
+            return What::Footer(footer.name);
+        }
+    }
+    if let Some(content) = look
+        .contents
+        .iter()
+        .find(|content| is_in_content(look, at, content))
+    {
+        return What::Content(content.name);
+    }
+    if let Some(signature) = look
+        .signatures
+        .iter()
+        .find(|signature| is_foreign(look, signature, at))
+    {
+        return What::OtherSectorSize(signature.sector_size);
+    }
+    place_of(look, next, at)
+}
+
+// Whether this byte is one of a header for another sector size.
+fn is_foreign(look: &Look, signature: &Signature, at: u64) -> bool {
+    signature.sector_size != look.sector_size && signature.at <= at && at - signature.at < 92
+}
+
+// In which place of the table this byte is.
+fn place_of(look: &Look, next: &GPT, at: u64) -> What {
+    if is_of_broken(look, at) {
+        return What::BoardCode;
+    }
+    if is_of_low_entries(next, at) {
+        return What::AfterLastUsable;
+    }
+    if are_entries_elsewhere(look, next, at) {
+        return What::ElsewhereEntries;
+    }
+    What::Unknown
+}

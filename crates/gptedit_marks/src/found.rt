@@ -1,0 +1,66 @@
+//! What was found in a range.
+
+/// Something that was found: its name, and where it begins, counted from the start of the range, and its
+/// length, if it tells that.
+#[derive(Clone, Copy)]
+pub struct Found {
+    pub name: &'static str,
+    pub at: u64,
+    pub length: Option<u64>,
+}
+
+impl Found {
+    /// Returns what takes the whole range.
+    pub fn whole(name: &'static str) -> Found {
+        Found {
+            name,
+            at: 0,
+            length: None,
+        }
+    }
+
+    /// Returns what takes the range from its start on, for this length.
+    pub fn long(name: &'static str, length: Option<u64>) -> Found {
+        Found {
+            name,
+            at: 0,
+            length,
+        }
+    }
+
+    /// Returns what begins at this byte of the range.
+    pub fn at(name: &'static str, at: u64, length: Option<u64>) -> Found {
+        Found { name, at, length }
+    }
+}
+
+/// Returns a product, where it fits.
+pub fn product(count: Option<u64>, size: Option<u64>) -> Option<u64> {
+    count?.checked_mul(size?)
+}
+
+/// Returns a power of two, where it fits.
+pub fn power(exponent: Option<u64>) -> Option<u64> {
+    let exponent = exponent?;
+    if exponent < 64 {
+        Some(1 << exponent)
+    } else {
+        None
+    }
+}
+
+/// Reports whether this is a power of two from `least` to `most`.
+pub fn is_size(number: Option<u64>, least: u64, most: u64) -> bool {
+    match number {
+        Some(number) => number.is_power_of_two() && least <= number && number <= most,
+        None => false,
+    }
+}
+
+/// Reports whether there is a number, and it is above 0.
+pub fn is_some_number(number: Option<u64>) -> bool {
+    match number {
+        Some(number) => number != 0,
+        None => false,
+    }
+}

@@ -1,0 +1,345 @@
+//! Arrays of entries, where a header says that they are, and where they usually are.
+
+ghost use Rattle.gptman.specs.Disk.{Reads};
+
+use crate::MAX_ENTRIES;
+use crate::fault::Fault;
+use crate::found::{FoundEntry, Spot};
+use crate::mend::find_wrong_byte;
+use crate::reading::read_range;
+use gptman::crc::crc32;
+use gptman::{Disk, Error, GPTHeader, GPTPartitionEntry};
+use std::alloc::{AllocError, Global};
+
+// The size of an entry in bytes, and the usual number of entries.
+const USUAL: u32 = 128;
+
+// The most bytes of an array that are read.
+const MAX_BYTES: u64 = 16 << 20;
+
+/// An array of entries: its first sector, the number of entries, and the size of each in bytes.
+#[derive(Clone, Copy, PartialEq, Eq)]
+pub struct Span {
+    pub lba: u64,
+    pub count: u32,
+    pub entry_size: u32,
+}
+
+impl Span {
+    /// Returns the array of 128 entries at the usual place of a copy.
+    pub fn usual(spot: Spot) -> Span {
+        Span {
+            lba: 0,
+            count: USUAL,
+            entry_size: USUAL,
+        }
+        .at_usual_place(spot)
+    }
+
+    // The array that a header says. Numbers that no array has are the usual ones.
+    fn said_by(header: &GPTHeader) -> Span {
+        let (count, entry_size) = (
+            header.number_of_partition_entries,
+            header.size_of_partition_entry,
+        );
+        Span {
+            lba: header.partition_entry_lba,
+            count: if count == 0 || count > MAX_ENTRIES {
+                USUAL
+            } else {
+                count
+            },
+            entry_size: if is_entry_size(entry_size) {
+                entry_size
+            } else {
+                USUAL
+            },
+        }
+    }
+
+    // The same array at the usual place of a copy: after the header in sector 1, else before the header.
+    fn at_usual_place(self, spot: Spot) -> Span {
+        let sectors = self.len().div_ceil(spot.sector_size.max(1));
+        Span {
+            lba: if spot.lba <= 1 {
+                2
+            } else {
+                spot.lba.saturating_sub(sectors)
+            },
+            ..self
+        }
+    }
+
+    // The same array, with the usual number of entries.
+    fn of_usual_size(self) -> Span {
+        Span {
+            count: USUAL,
+            entry_size: USUAL,
+            ..self
+        }
+    }
+
+    /// Returns the length in bytes.
+    pub fn len(self) -> u64 {
+        u64::from(self.count) * u64::from(self.entry_size)
+    }
+}
+
+// Whether entries of this size are read: a multiple of 128 bytes up to a sector of 4096.
+fn is_entry_size(size: u32) -> bool {
+    size != 0 && size % USUAL == 0 && size <= 4096
+}
+
+/// What was read of an array.
+#[derive(Drop)]
+pub struct Array {
+    /// The array.
+    pub span: Span,
+    /// Its bytes that were read.
+    pub bytes: Vec<u8>,
+    /// Their checksum.
+    pub checksum: u32,
+    /// The entries that have a type.
+    pub entries: Vec<FoundEntry>,
+}
+
+impl Array {
+    // The number of bytes that were read.
+    fn len(&self) -> u64 {
+        self.bytes.len() as u64
+    }
+
+    /// Reports whether all of it was read.
+    pub fn is_whole(&self) -> bool {
+        self.len() == self.span.len()
+    }
+
+    // The number of entries whose sectors are in order and on the disk.
+    fn count_sensible(&self, sectors: u64) -> usize {
+        self.entries
+            .iter()
+            .filter(|found| is_sensible(&found.entry, sectors))
+            .count()
+    }
+}
+
+// Whether the sectors of an entry are in order and on the disk.
+fn is_sensible(entry: &GPTPartitionEntry, sectors: u64) -> bool {
+    entry.starting_lba <= entry.ending_lba && entry.ending_lba < sectors
+}
+
+/// Reports whether most of the entries of an array without a header look like those of partitions.
+pub fn is_likely(array: &Array, sectors: u64) -> bool {
+    let likely = array
+        .entries
+        .iter()
+        .filter(|found| is_likely_entry(&found.entry, sectors))
+        .count();
+    likely > array.entries.len() / 2
+}
+
+// Whether an entry looks like that of a partition: it makes sense, is after the primary header, and has a GUID.
+fn is_likely_entry(entry: &GPTPartitionEntry, sectors: u64) -> bool {
+    is_sensible(entry, sectors) && entry.starting_lba > 1 && entry.unique_partition_guid != [0; 16]
+}
+
+/// Reads the array of a header: where it says, or where arrays usually are if the entries there have not the
+/// stored checksum.
+#[tactic(auto, using(gptman_copy::proofs::Readers::both_read))]
+pub fn find_array<D: Disk>(
+    alloc: Global,
+    disk: &mut D,
+    spot: Spot,
+    header: &GPTHeader,
+) -> Result<Array, AllocError>
+    ensures reads { Reads (D.state disk.old) (D.state disk.new) }
+{
+    let said = Span::said_by(header);
+    let mut best = read_array(alloc, disk, spot, said)?;
+    let others = [
+        said.at_usual_place(spot),
+        said.of_usual_size(),
+        Span::usual(spot),
+    ];
+    for span in others {
+        if is_sure(&best, header) {
+            break;
+        }
+        if span == best.span {
+            continue;
+        }
+        let array = read_array(alloc, disk, spot, span)?;
+        if is_better(&array, &best, header, spot.sectors) {
+            best = array;
+        }
+    }
+    Ok(best)
+}
+
+// Whether the entries have the checksum that the header stores.
+fn is_sure(array: &Array, header: &GPTHeader) -> bool {
+    array.is_whole() && array.checksum == header.partition_entry_array_crc32
+}
+
+// Whether an array is more likely that of the header than another one.
+fn is_better(array: &Array, other: &Array, header: &GPTHeader, sectors: u64) -> bool {
+    is_sure(array, header) || array.count_sensible(sectors) > other.count_sensible(sectors)
+}
+
+/// Reads an array, as far as the disk has it.
+#[tactic(auto, using(gptman_copy::proofs::Readers::both_read))]
+pub fn read_array<D: Disk>(
+    alloc: Global,
+    disk: &mut D,
+    spot: Spot,
+    span: Span,
+) -> Result<Array, AllocError>
+    ensures reads { Reads (D.state disk.old) (D.state disk.new) }
+{
+    let start = span.lba.saturating_mul(spot.sector_size);
+    let end = spot.sectors.saturating_mul(spot.sector_size);
+    let len = span.len().min(MAX_BYTES).min(end.saturating_sub(start));
+    let bytes = read_range(alloc, disk, start, len)?;
+    let entries = decode_all(alloc, &bytes, span.entry_size)?;
+    Ok(Array {
+        span,
+        checksum: crc32(&bytes),
+        bytes,
+        entries,
+    })
+}
+
+// The entries that have a type, each in the first bytes of so many.
+fn decode_all(alloc: Global, bytes: &[u8], entry_size: u32) -> Result<Vec<FoundEntry>, AllocError> {
+    let mut entries = Vec::new(alloc);
+    let mut rest = bytes;
+    for number in 1..=MAX_ENTRIES {
+        let Some(first) = rest.first_chunk::<128>() else {
+            break;
+        };
+        if let Some(entry) = decode(alloc, first)? {
+            entries.push(FoundEntry {
+                number,
+                entry,
+                faults: Vec::new(alloc),
+            })?;
+        }
+        rest = rest.get(entry_size as usize..).unwrap_or(&[]);
+    }
+    Ok(entries)
+}
+
+// The entry, if it has a type.
+fn decode(alloc: Global, bytes: &[u8; 128]) -> Result<Option<GPTPartitionEntry>, AllocError> {
+    if bytes.iter().take(16).all(|byte| *byte == 0) {
+        return Ok(None);
+    }
+    match GPTPartitionEntry::decode(alloc, bytes) {
+        Ok(entry) => Ok(Some(entry)),
+        Err(Error::OutOfMemory) => Err(AllocError),
+        Err(_) => Ok(None),
+    }
+}
+
+/// Notes what is wrong with the array of a header. One wrong byte of an entry that has a type is mended.
+pub fn note_array(
+    alloc: Global,
+    faults: &mut Vec<Fault>,
+    header: &GPTHeader,
+    array: &mut Array,
+    spot: Spot,
+) -> Result<(), AllocError> {
+    note_numbers(faults, header, array.span)?;
+    if header.partition_entry_lba != array.span.lba {
+        faults.push(Fault::MovedEntries {
+            said: header.partition_entry_lba,
+            found: array.span.lba,
+        })?;
+    }
+    note_length(faults, array, spot)?;
+    let (stored, computed) = (header.partition_entry_array_crc32, array.checksum);
+    if !array.is_whole() || stored == computed {
+        return Ok(());
+    }
+    match mend(alloc, array, stored)? {
+        Some(fault) => faults.push(fault)?,
+        None => faults.push(Fault::EntriesChecksum { stored, computed })?,
+    }
+    Ok(())
+}
+
+// Changes the one byte of an entry with a type that makes the checksum of the array this one, if there is one.
+fn mend(alloc: Global, array: &mut Array, stored: u32) -> Result<Option<Fault>, AllocError> {
+    let entry_size = array.span.entry_size as usize;
+    let bytes = array.bytes.as_slice();
+    let is_allowed = |index: usize| is_in_entry(bytes, entry_size, index);
+    let Some(wrong) = find_wrong_byte(bytes.len(), stored, array.checksum, is_allowed) else {
+        return Ok(None);
+    };
+    let Some(byte) = array.bytes.get_mut(wrong.index) else {
+        return Ok(None);
+    };
+    let was = *byte;
+    let is = was ^ wrong.bits;
+    *byte = is;
+    array.checksum = stored;
+    array.entries = decode_all(alloc, &array.bytes, array.span.entry_size)?;
+    let number = wrong.index.checked_div(entry_size).unwrap_or(0);
+    Ok(Some(Fault::EntryByte {
+        number: u32::try_from(number).unwrap_or(0).saturating_add(1),
+        index: wrong.index.checked_rem(entry_size).unwrap_or(0),
+        was,
+        is,
+    }))
+}
+
+// Whether the byte is one of the first 128 of an entry that has a type.
+fn is_in_entry(bytes: &[u8], entry_size: usize, index: usize) -> bool {
+    let Some(place) = index.checked_rem(entry_size) else {
+        return false;
+    };
+    let kind = bytes
+        .get(index.saturating_sub(place)..)
+        .and_then(|entry| entry.first_chunk::<16>());
+    match kind {
+        Some(kind) => place < 128 && kind.iter().any(|byte| *byte != 0),
+        None => false,
+    }
+}
+
+// Notes numbers of a header that are not those of the array.
+fn note_numbers(faults: &mut Vec<Fault>, header: &GPTHeader, span: Span) -> Result<(), AllocError> {
+    let count = header.number_of_partition_entries;
+    if count == 0 {
+        faults.push(Fault::NoEntries)?;
+    } else if count > MAX_ENTRIES {
+        faults.push(Fault::TooMany(count))?;
+    } else if count != span.count {
+        faults.push(Fault::OtherCount {
+            said: count,
+            read: span.count,
+        })?;
+    }
+    let size = header.size_of_partition_entry;
+    if size != span.entry_size {
+        faults.push(Fault::EntrySize(size))?;
+    } else if size != USUAL {
+        faults.push(Fault::LargeEntries(size))?;
+    }
+    Ok(())
+}
+
+/// Notes that an array could not be read to its end.
+pub fn note_length(faults: &mut Vec<Fault>, array: &Array, spot: Spot) -> Result<(), AllocError> {
+    let start = array.span.lba.saturating_mul(spot.sector_size);
+    let end = spot.sectors.saturating_mul(spot.sector_size);
+    let lba = array.span.lba;
+    if start.saturating_add(array.span.len()) > end {
+        faults.push(Fault::EntriesPastEnd { lba })?;
+    } else if array.len() < array.span.len().min(MAX_BYTES) {
+        let sectors = array.len() / spot.sector_size.max(1);
+        let lba = lba.saturating_add(sectors);
+        faults.push(Fault::Unreadable { lba })?;
+    }
+    Ok(())
+}

@@ -1,0 +1,181 @@
+//! Headers as they are stored, and what is wrong with them.
+
+ghost use Rattle.gptman.specs.Disk.{Reads};
+
+use crate::fault::Fault;
+use crate::found::{Place, Spot};
+use crate::mend::{WrongByte, find_wrong_byte};
+use crate::reading::read_at;
+use gptman::crc::crc32;
+use gptman::{Disk, GPTHeader};
+use std::alloc::{AllocError, Global};
+
+// The bytes of a header that are read.
+const LEAST_SIZE: u32 = 92;
+
+// "EFI PART".
+const SIGNATURE: [u8; 8] = *b"EFI PART";
+
+// Revision 1.0.
+const REVISION: [u8; 4] = [0, 0, 1, 0];
+
+/// What is in the sector of a header.
+#[derive(Drop)]
+pub enum Seen {
+    /// Nothing like a header.
+    Nothing,
+    /// The device failed.
+    Failure,
+    /// A header, and what is wrong with it.
+    Header(GPTHeader, Vec<Fault>),
+}
+
+/// Reads what is in the sector of a header.
+#[tactic(auto, using(gptman_copy::proofs::Readers::both_read))]
+pub fn read_header<D: Disk>(alloc: Global, disk: &mut D, spot: Spot) -> Result<Seen, AllocError>
+    ensures reads { Reads (D.state disk.old) (D.state disk.new) }
+{
+    if spot.lba >= spot.sectors {
+        return Ok(Seen::Nothing);
+    }
+    let mut bytes = [0; 4096];
+    let sector = &mut bytes[..spot.sector_size.min(4096) as usize];
+    if !read_at(disk, spot.lba.saturating_mul(spot.sector_size), sector) {
+        return Ok(Seen::Failure);
+    }
+    see_header(alloc, sector, spot)
+}
+
+// The header that a sector begins with. One wrong byte is mended.
+fn see_header(alloc: Global, sector: &mut [u8], spot: Spot) -> Result<Seen, AllocError> {
+    let Some(first) = sector.first_chunk::<92>() else {
+        return Ok(Seen::Nothing);
+    };
+    let stored = GPTHeader::decode(first);
+    if !is_like_header(&stored) {
+        return Ok(Seen::Nothing);
+    }
+    let mut faults = Vec::new(alloc);
+    note_form(&mut faults, &stored, sector.len())?;
+    let header = check_sum(&mut faults, stored, sector)?;
+    note_places(&mut faults, &header, spot)?;
+    Ok(Seen::Header(header, faults))
+}
+
+// Whether it begins as a header, or nearly so and has what follows there.
+fn is_like_header(header: &GPTHeader) -> bool {
+    if header.signature == SIGNATURE {
+        return true;
+    }
+    let same = header
+        .signature
+        .iter()
+        .zip(SIGNATURE.iter())
+        .filter(|(byte, right)| *byte == *right)
+        .count();
+    same >= 7 && header.revision == REVISION && header.header_size == LEAST_SIZE
+}
+
+// Notes what is wrong with the form of a header in a sector of this length.
+fn note_form(faults: &mut Vec<Fault>, header: &GPTHeader, len: usize) -> Result<(), AllocError> {
+    if header.signature != SIGNATURE {
+        faults.push(Fault::Signature)?;
+    }
+    if header.revision != REVISION {
+        faults.push(Fault::Revision(header.revision))?;
+    }
+    let size = header.header_size;
+    if size < LEAST_SIZE || size as usize > len {
+        faults.push(Fault::HeaderSize(size))?;
+    } else if size > LEAST_SIZE {
+        faults.push(Fault::LongHeader(size))?;
+    }
+    Ok(())
+}
+
+// Notes a wrong checksum of a header, or the one byte that makes it right. Returns the header with it.
+fn check_sum(
+    faults: &mut Vec<Fault>,
+    header: GPTHeader,
+    sector: &mut [u8],
+) -> Result<GPTHeader, AllocError> {
+    let stored = header.crc32_checksum;
+    let size = header.header_size;
+    let least = checksum_of(sector, LEAST_SIZE);
+    let computed = if size > LEAST_SIZE && size as usize <= sector.len() {
+        checksum_of(sector, size)
+    } else {
+        least
+    };
+    if stored == computed {
+        return Ok(header);
+    }
+    if let Some(wrong) = find_wrong_byte(LEAST_SIZE as usize, stored, least, is_summed) {
+        if let Some(mended) = mend(header, sector, wrong) {
+            faults.push(mended.1)?;
+            return Ok(mended.0);
+        }
+    }
+    faults.push(Fault::HeaderChecksum { stored, computed })?;
+    Ok(header)
+}
+
+// Whether the byte counts for the checksum of a header.
+fn is_summed(index: usize) -> bool {
+    index < 16 || index >= 20
+}
+
+// The header with a byte changed, and what that was.
+fn mend(header: GPTHeader, sector: &[u8], wrong: WrongByte) -> Option<(GPTHeader, Fault)> {
+    let mut bytes = *sector.first_chunk::<92>()?;
+    let index = wrong.index;
+    if index >= 92 {
+        return None;
+    }
+    let was = bytes[index];
+    let is = was ^ wrong.bits;
+    bytes[index] = is;
+    let fault = Fault::HeaderByte { index, was, is };
+    let mended = GPTHeader {
+        crc32_checksum: header.crc32_checksum,
+        ..GPTHeader::decode(&bytes)
+    };
+    Some((mended, fault))
+}
+
+// The checksum of the header of this size, whose own bytes count as zero. They are zero afterwards.
+fn checksum_of(sector: &mut [u8], size: u32) -> u32 {
+    for byte in sector.iter_mut().skip(16).take(4) {
+        *byte = 0;
+    }
+    match sector.get(..size as usize) {
+        Some(bytes) => crc32(bytes),
+        None => 0,
+    }
+}
+
+// Notes what a header says of places that is not so, or not usual.
+fn note_places(faults: &mut Vec<Fault>, header: &GPTHeader, spot: Spot) -> Result<(), AllocError> {
+    if header.primary_lba != spot.lba {
+        let said = header.primary_lba;
+        faults.push(Fault::OtherSector { said })?;
+    }
+    let (said, sectors) = (header.backup_lba, spot.sectors);
+    let usual = match spot.place {
+        Place::Primary => sectors.saturating_sub(1),
+        Place::Backup => 1,
+        Place::Other => said,
+    };
+    if said != usual {
+        faults.push(Fault::OtherCopy {
+            said,
+            usual,
+            sectors,
+        })?;
+    }
+    let (first, last) = (header.first_usable_lba, header.last_usable_lba);
+    if first > last || last >= sectors {
+        faults.push(Fault::Bounds { first, last })?;
+    }
+    Ok(())
+}

@@ -1,0 +1,202 @@
+//! What was found, as a layout in TOML with comments.
+
+use crate::SECTOR_SIZES;
+use crate::found::{FoundCopy, FoundEntry, Salvaged};
+use crate::layouts::{Frame, layout_of, layout_of_one};
+use crate::texts::{HeaderText, Partitions, SpotText};
+use gptedit_text::values::Escaped;
+use gptedit_text::{Header, write_layout};
+use std::alloc::Global;
+use std::io;
+use std::io::Write;
+
+/// Prints the best copy as a layout in TOML, after comments that say what is wrong with it. What the layout
+/// cannot have, and what is there of the other copies, follows as comments. If nothing was found, one comment
+/// says what was looked for.
+///
+/// # Errors
+///
+/// An error of `out`, or an allocation failure.
+pub fn print<W: Write>(
+    out: &mut W,
+    alloc: Global,
+    image: &str,
+    salvaged: &Salvaged,
+) -> io::Result<()> {
+    match salvaged.best_copy() {
+        None => print_nothing(out, image, salvaged),
+        Some(best) => {
+            let frame = Frame::of(best);
+            print_best(out, alloc, image, best, &frame)?;
+            for (index, copy) in salvaged.copies.iter().enumerate() {
+                if salvaged.best != Some(index) {
+                    print_other(out, alloc, copy, best, &frame)?;
+                }
+            }
+            Ok(())
+        }
+    }
+}
+
+// Prints that nothing was found, and what was looked for.
+fn print_nothing<W: Write>(out: &mut W, image: &str, salvaged: &Salvaged) -> io::Result<()> {
+    let image = Escaped(image);
+    write!(
+        out,
+        "# {image}: nothing of a GUID partition table was found: "
+    )?;
+    write!(
+        out,
+        "no header in sector 1 or the last sector, no entries next to them, "
+    )?;
+    write!(out, "with sectors of ")?;
+    match salvaged.asked {
+        Some(size) => write!(out, "{size}")?,
+        None => print_sizes(out)?,
+    }
+    writeln!(out, " bytes")?;
+    for copy in salvaged.copies.iter() {
+        print_faults(out, copy)?;
+    }
+    Ok(())
+}
+
+// Prints the sector sizes that are tried.
+fn print_sizes<W: Write>(out: &mut W) -> io::Result<()> {
+    let mut comma = "";
+    for size in SECTOR_SIZES {
+        write!(out, "{comma}{size}")?;
+        comma = ", ";
+    }
+    Ok(())
+}
+
+// Prints the best copy: what is wrong with it, its layout, and the entries that are left out.
+fn print_best<W: Write>(
+    out: &mut W,
+    alloc: Global,
+    image: &str,
+    best: &FoundCopy,
+    frame: &Frame,
+) -> io::Result<()> {
+    let (image, spot) = (Escaped(image), SpotText(best.spot));
+    let sectors = best.spot.sectors;
+    writeln!(
+        out,
+        "# {image}: salvaged from {spot}; the disk has {sectors} sectors"
+    )?;
+    print_faults(out, best)?;
+    for found in best.entries.iter() {
+        print_entry_faults(out, found, frame)?;
+    }
+    if best.header.is_none() {
+        writeln!(out, "#   the GUID of the disk is not known")?;
+    }
+    writeln!(
+        out,
+        "# gptedit apply --create --overwrite IMAGE FILE writes this layout"
+    )?;
+    let layout = layout_of(alloc, best, frame)?;
+    let text = write_layout(alloc, &layout, &frame.header)?;
+    out.write_all(text.as_bytes())?;
+    for found in best.entries.iter() {
+        if !frame.takes(found) {
+            let number = found.number;
+            writeln!(out, "\n# partition {number} is left out:")?;
+            print_as_comment(out, alloc, found)?;
+        }
+    }
+    Ok(())
+}
+
+// Prints what is wrong with a copy.
+fn print_faults<W: Write>(out: &mut W, copy: &FoundCopy) -> io::Result<()> {
+    for fault in copy.faults.iter() {
+        writeln!(out, "#   {fault}")?;
+    }
+    Ok(())
+}
+
+// Prints what is wrong with an entry.
+fn print_entry_faults<W: Write>(out: &mut W, found: &FoundEntry, frame: &Frame) -> io::Result<()> {
+    let number = found.number;
+    for fault in found.faults.iter() {
+        writeln!(out, "#   partition {number}: {fault}")?;
+    }
+    if found.is_sensible() && !frame.has_room_for(found) {
+        let (first, last) = (frame.first, frame.last);
+        write!(
+            out,
+            "#   partition {number}: it is not all in {first}..{last}, "
+        )?;
+        writeln!(out, "the sectors between the copies of a table here")?;
+    }
+    Ok(())
+}
+
+// Prints an entry as a commented section of a layout.
+fn print_as_comment<W: Write>(out: &mut W, alloc: Global, found: &FoundEntry) -> io::Result<()> {
+    let layout = layout_of_one(alloc, found)?;
+    let text = write_layout(alloc, &layout, &Header::nothing())?;
+    let mut is_section = false;
+    for line in text.lines() {
+        is_section = is_section || line == "[[partition]]";
+        if is_section {
+            writeln!(out, "# {line}")?;
+        }
+    }
+    Ok(())
+}
+
+// Prints another copy as comments: its header, what is wrong with it, and the entries that the layout has not.
+fn print_other<W: Write>(
+    out: &mut W,
+    alloc: Global,
+    copy: &FoundCopy,
+    best: &FoundCopy,
+    frame: &Frame,
+) -> io::Result<()> {
+    writeln!(out, "\n# {}", SpotText(copy.spot))?;
+    if let Some(header) = &copy.header {
+        write!(out, "{}", HeaderText(header))?;
+    }
+    print_faults(out, copy)?;
+    let count = copy.entries.len();
+    let missing = count_missing(copy, best, frame);
+    writeln!(
+        out,
+        "#   {}, {missing} not in the layout",
+        Partitions(count)
+    )?;
+    for found in copy.entries.iter() {
+        if !is_in_layout(found, best, frame) {
+            for fault in found.faults.iter() {
+                writeln!(out, "#   partition {}: {fault}", found.number)?;
+            }
+            print_as_comment(out, alloc, found)?;
+        }
+    }
+    Ok(())
+}
+
+// How many entries of a copy the layout has not.
+fn count_missing(copy: &FoundCopy, best: &FoundCopy, frame: &Frame) -> usize {
+    copy.entries
+        .iter()
+        .filter(|found| !is_in_layout(found, best, frame))
+        .count()
+}
+
+// Whether the layout has the entry, under the same number.
+fn is_in_layout(found: &FoundEntry, best: &FoundCopy, frame: &Frame) -> bool {
+    let Ok(index) = best
+        .entries
+        .binary_search_by_key(&found.number, |other| other.number)
+    else {
+        return false;
+    };
+    match best.entries.get(index) {
+        Some(other) => other.entry == found.entry && frame.takes(other),
+        None => false,
+    }
+}

@@ -1,0 +1,61 @@
+//! Reading a disk in bounded pieces.
+
+ghost use Rattle.gptman.specs.Disk.{Reads};
+
+use gptman::Disk;
+use std::alloc::{AllocError, Global};
+
+// The bytes of one piece.
+const PIECE: u64 = 4096;
+
+/// Fills the buffer with the bytes from `at` on. Reports whether it could.
+#[tactic(auto, using(gptman_copy::proofs::Readers::both_read))]
+pub fn read_at<D: Disk>(disk: &mut D, at: u64, bytes: &mut [u8]) -> bool
+    ensures reads { Reads (D.state disk.old) (D.state disk.new) }
+{
+    match disk.seek_start(at) {
+        Ok(_) => disk.read_exact(bytes).is_ok(),
+        Err(_) => false,
+    }
+}
+
+/// Returns `len` bytes from `start` on, or those before the first piece that cannot be read. No memory is
+/// allocated before the bytes for it are there.
+#[tactic(auto, using(gptman_copy::proofs::Readers::both_read))]
+pub fn read_range<D: Disk>(
+    alloc: Global,
+    disk: &mut D,
+    start: u64,
+    len: u64,
+) -> Result<Vec<u8>, AllocError>
+    ensures reads { Reads (D.state disk.old) (D.state disk.new) }
+{
+    let mut bytes = Vec::new(alloc);
+    for piece in 0..len.div_ceil(PIECE) {
+        let done = piece.saturating_mul(PIECE);
+        let at = start.saturating_add(done);
+        if !read_piece(disk, at, len.saturating_sub(done), &mut bytes)? {
+            break;
+        }
+    }
+    Ok(bytes)
+}
+
+// Adds `len` bytes from `at` on, but one piece at most. Reports whether they could be read.
+#[tactic(auto, using(gptman_copy::proofs::Readers::both_read))]
+fn read_piece<D: Disk>(
+    disk: &mut D,
+    at: u64,
+    len: u64,
+    bytes: &mut Vec<u8>,
+) -> Result<bool, AllocError>
+    ensures reads { Reads (D.state disk.old) (D.state disk.new) }
+{
+    let mut piece = [0; 4096];
+    let piece = &mut piece[..len.min(PIECE) as usize];
+    let is_read = read_at(disk, at, piece);
+    if is_read {
+        bytes.extend_from_slice(piece)?;
+    }
+    Ok(is_read)
+}
