@@ -87,12 +87,16 @@ crash-states: gptimg gptedit
 	@python3 -B -m unittest discover -q trials/crash_states
 	@python3 -B trials/crash_states --json crash-states.json --chart docs/crash-states.svg
 
-# Has a firmware boot images that a stop left, cuts the power of a Linux kernel in the middle of commands,
-# has other programs, kernels and boot loaders read such images, and compares the library for C with others,
-# where what these need is installed.
+# Reads what a crash in each command of gptedit may leave, has a firmware boot images that a crash left, cuts
+# the power of a Linux kernel in the middle of commands, has other programs, kernels and boot loaders read such
+# images, compares the library for C with others, and has tests/gptedit try wrong programs, each of which must
+# fail; each where what it needs is installed.
 # They stand beside the gate.
-trials: gptimg
+trials: gptimg gptedit
+	@python3 -B trials/crash_states/changes.py ./gptedit
 	@tests/with_firmware.sh
 	@tests/with_power_cuts.sh
 	@tests/with_readers.sh
 	@tests/with_libraries.sh
+	@python3 -B tests/gptedit ./gptedit uses model
+	@python3 -B trials/planted

@@ -1,22 +1,15 @@
-"""Tries gptedit as a process: usage: tests/gptedit GPTEDIT.
+"""Tries gptedit as a process: usage: tests/gptedit GPTEDIT [MODULE..].
 
 Prints a line for each subject, and in full what does not hold. The last line is 'N passed, M failed', and the
-status is 1 where something failed. What needs sfdisk, sgdisk, parted, cgpt or strace is tried where they are.
+status is 1 where something failed. What needs sfdisk, sgdisk, parted, cgpt or strace is tried where they are, and
+what needs loop devices where this user may make them; a line says what is left out.
 """
+import importlib
 import os
 import sys
 import tempfile
 
-import commands
-import guards
-import layouts
-import refusals
-import stops
-import streams
-import texts
-from runs import Program, Tally
-
-MODULES = [commands, refusals, layouts, texts, guards, stops, streams]
+from runs import GATE, Program, Tally
 
 
 def main():
@@ -25,12 +18,14 @@ def main():
     os.environ["LC_ALL"] = "C.UTF-8"
     tally = Tally()
     with tempfile.TemporaryDirectory() as folder:
-        program = Program(os.path.realpath(sys.argv[1]), folder)
-        for module in MODULES:
-            for name, run in module.SUBJECTS.items():
-                tally.subject(name, run, program)
+        program = Program(os.path.realpath(sys.argv[1]), folder, tally)
+        for name in sys.argv[2:] or GATE:
+            module = importlib.import_module(name)
+            for subject, run in module.SUBJECTS.items():
+                tally.subject(subject, run, program)
     print(f"{tally.passed} passed, {tally.failed} failed")
     return 1 if tally.failed else 0
 
 
-sys.exit(main())
+if __name__ == "__main__":
+    sys.exit(main())

@@ -2,6 +2,7 @@
 import json
 
 import table
+from runs import BOOT_CODE
 
 MIB = 1 << 20
 DISK = "33221100-5544-7766-8899-aabbccddeeff"
@@ -50,13 +51,13 @@ def try_making(tally, program):
     """`new`, `show`, `add`."""
     program.make_image("disk.img", 128 * MIB)
     before = program.state("disk.img")
-    dry = "a dry run, nothing is written; there is nothing that is known:\n" + HEAD
+    dry = "a dry run, nothing is written:\n" + HEAD
     says(tally, program, ["new", "disk.img", "--guid", DISK, "-n"], dry)
     tally.holds("a dry run of new leaves the image", program.state("disk.img") == before)
     says(tally, program, ["new", "disk.img", "--guid", DISK], HEAD)
     image = program.state("disk.img")
     mbr = bytes([0, 0, 2, 0, 0xee, 255, 255, 255, 1, 0, 0, 0, 255, 255, 3, 0]) + bytes(48) + b"\x55\xaa"
-    tally.equals("the MBR after new", bytes(446) + mbr, image[1][0][1][:512])
+    tally.equals("the first sector after new", BOOT_CODE + mbr, image[1][0][1][:512])
     tally.equals("the table after new", table.Table(DISK, 34, 262110, 128, {}),
                  table.read(program.file("disk.img")))
     added = '+ 1 2048..133119 64 MiB efi "ESP"\n'
@@ -178,9 +179,9 @@ def try_growth(tally, program):
     grown = "usable sectors 34..262110 -> 34..524254\n"
     before = program.state("disk.img")
     says(tally, program, ["grow", "disk.img", "-n"],
-         "a dry run, nothing is written:\n" + grown + "a protective MBR would be written\n")
+         "a dry run, nothing is written:\n" + grown + "the protective MBR gets the length of the disk\n")
     tally.holds("a dry run of grow leaves the image", program.state("disk.img") == before)
-    says(tally, program, ["grow", "disk.img"], grown + "a protective MBR is written\n")
+    says(tally, program, ["grow", "disk.img"], grown + "the protective MBR gets the length of the disk\n")
     tally.equals("the table after grow", table.Table(DISK, 34, 524254, 128, {1: ESP_ENTRY}),
                  table.read(program.file("disk.img")))
     says(tally, program, ["grow", "disk.img"], "unchanged\n")
@@ -191,7 +192,7 @@ def try_growth(tally, program):
         tally.equals(f"check of a bad {place} copy", (1, f"the {place} copy is bad (InvalidSignature: no header "
                      "of a table stands there): `gptedit repair disk.img`\n", ""), ended)
         says(tally, program, ["repair", "disk.img", "-n"],
-             "a dry run, nothing is written:\nboth copies would be written anew\n")
+             "a dry run, nothing is written:\nboth copies are written anew\n")
         says(tally, program, ["repair", "disk.img"], "both copies are written anew\n")
         tally.holds(f"repair of the {place} copy gives the image", program.state("disk.img") == good)
     empty = ["new", "disk.img", "--force", "--guid", DISK]
@@ -241,7 +242,7 @@ def try_entries(tally, program):
                          table.read(program.file("disk.img")))
     before = program.state("disk.img")
     says(tally, program, words + ["56", "--force", "-n"],
-         "a dry run, nothing is written; there is a GUID partition table:\n"
+         "a dry run, nothing is written:\n"
          f"disk.img: 131072 sectors of 512 bytes (64 MiB), GUID {DISK}\n"
          "usable sectors 16..131056, 56 entries; both copies good\n")
     tally.holds("a dry run of new leaves the image", program.state("disk.img") == before)
@@ -259,7 +260,7 @@ def try_sectors(tally, program):
     ended = program.run("add", "disk.img", "--type", "linux", "--size", "1MiB", "--guid", ROOT)
     tally.equals("add with sectors of 4096 bytes", (0, '+ 1 256..511 1 MiB linux ""\n', ""), ended)
     holds_table(tally, program, "add", {1: table.Entry(LINUX, ROOT, 256, 511, 0, "")}, sector=4096)
-    tally.equals("show --sector 512", 1, program.run("show", "disk.img", "--sector", "512")[0])
+    tally.equals("show --sector 512", 3, program.run("show", "disk.img", "--sector", "512")[0])
     for word in ["0", "-1", "x", ""]:
         tally.equals(f"the status of --sector={word}", 2, program.run("show", "disk.img", "--sector=" + word)[0])
 
@@ -281,7 +282,7 @@ def try_json(tally, program):
     types = json.loads(program.run("types", "--json")[1])
     tally.holds("types --json has efi", {"name": "efi", "guid": EFI.upper()} in types)
     tally.equals("check --json", {"device": "disk.img", "good": True, "primary": "good", "backup": "good",
-                                  "same": True, "findings": []},
+                                  "same": True, "findings": [], "notes": []},
                  json.loads(program.run("check", "disk.img", "--json")[1]))
     for words in [["dump"], ["sort"], ["repair"], ["grow"], ["set", "1", "--name", "x"], ["resize", "1", "1MiB"],
                   ["remove", "1"], ["randomize"], ["new", "--force"], ["add", "--type", "efi", "--size", "1MiB"]]:

@@ -13,13 +13,13 @@ CHANGES = [ADD, ["set", "disk.img", "1", "--name", "x"], ["resize", "disk.img", 
            ["randomize", "disk.img"]]
 
 
-def leaves(tally, program, words, text):
-    """Counts whether these words are refused with this text, and every byte stays; a dry run too."""
+def leaves(tally, program, words, text, wanted=1):
+    """Counts whether these words are refused with this status and text, and every byte stays; a dry run too."""
     before = program.state("disk.img")
     for more in [], ["--dry-run"]:
         status, out, err = program.run(*words, *more)
         what = "gptedit " + " ".join(words + more)
-        tally.equals(f"the status of {what}", (1, ""), (status, out))
+        tally.equals(f"the status of {what}", (wanted, ""), (status, out))
         tally.holds(f"{what} says {text!r}, and not {err!r}", text in err)
         tally.holds(f"{what} leaves the image", program.state("disk.img") == before)
 
@@ -113,8 +113,8 @@ def try_dos(tally, program):
     mbr = bytes(446) + bytes([0x80, 0, 1, 0, 0x83, 0, 0, 0]) + struct.pack("<II", 63, 30000) + bytes(48) + b"\x55\xaa"
     program.put("disk.img", 0, mbr + b"CORE OF A LOADER" * (61 * 32))
     for words in CHANGES:
-        leaves(tally, program, words, "DOS partition table")
-    leaves(tally, program, ["new", "disk.img"], "which would be lost")
+        leaves(tally, program, words, "DOS partition table", 3)
+    leaves(tally, program, ["new", "disk.img"], "which would be lost", 3)
     status, out, _ = program.run("check", "disk.img")
     tally.holds("check reports the DOS disk", status == 1 and "the disk has a DOS partition table" in out)
     tally.holds("check names no command", "gptedit" not in out)
@@ -128,7 +128,8 @@ def try_headers(tally, program):
         for at in sector, 4 * MIB - sector:
             program.make_image("disk.img", 4 * MIB)
             program.put("disk.img", at, b"EFI PART")
-            leaves(tally, program, ["new", "disk.img"], "the header of a GUID partition table")
+            leaves(tally, program, ["new", "disk.img"], "the header of a GUID partition table" if sector == 512 else
+                   f"a GUID partition table with sectors of {sector} bytes")
     start(program, False, 4 * MIB)
     add_at(program, 2048, 4095)
     for at in 1024 + 60, 4 * MIB - 33 * 512 + 60:
@@ -136,7 +137,7 @@ def try_headers(tally, program):
     leaves(tally, program, ["new", "disk.img"], "the header of a GUID partition table")
     for words in ["show"], ["check"], ["add", "--type", "linux", "--size", "1MiB"], ["repair"]:
         ended = program.run(words[0], "disk.img", *words[1:])
-        tally.holds(f"{words} of two broken copies does not name new", ended[0] == 1 and
+        tally.holds(f"{words} of two broken copies does not name new: {ended}", ended[0] in ((1, 3) if words[0] == "check" else (3,)) and
                     "gptedit new" not in ended[1] + ended[2])
     for at in 512, 4 * MIB - 512:
         program.put("disk.img", at, bytes(512))

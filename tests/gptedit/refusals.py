@@ -1,19 +1,27 @@
 """What is refused, with what would be right, and that the image stays byte for byte."""
+import struct
+
 import commands
 import table
 from commands import DISK, ESP, MIB, ROOT, start
 
 # What a disk may begin with that `new` is not to lose: its name, where its bytes stand, and the bytes.
 CONTENTS = [
-    ("an ext2, ext3 or ext4 file system", 0x438, b"\x53\xef"), ("an XFS file system", 0, b"XFSB"),
+    ("an ext2, ext3 or ext4 file system", 0x400, struct.pack("<7I", 16, 64, 0, 32, 5, 1, 0) + struct.pack("<I", 8192) +
+     struct.pack("<I", 8192) + bytes(20) + b"\x53\xef"),
+    ("an XFS file system", 0, b"XFSB"),
     ("a Btrfs file system", 0x10040, b"_BHRfS_M"), ("an F2FS file system", 0x400, b"\x10\x20\xf5\xf2"),
     ("an NTFS file system", 3, b"NTFS    "), ("an exFAT file system", 3, b"EXFAT   "),
     ("a FAT file system", 54, b"FAT16   "), ("a FAT file system", 82, b"FAT32   "),
     ("a SquashFS file system", 0, b"hsqs"), ("an EROFS file system", 0x400, b"\xe2\xe1\xf5\xe0"),
     ("an ISO 9660 file system", 0x8001, b"CD001"), ("swap space", 4086, b"SWAPSPACE2"),
-    ("an encrypted LUKS volume", 0, b"LUKS\xba\xbe"), ("a physical volume of LVM", 512, b"LABELONE"),
-    ("a member of a RAID array", 4096, b"\xfc\x4e\x2b\xa9"),
-    ("an MBR with partitions", 450, b"\x83" + bytes(59) + b"\x55\xaa")]
+    ("a volume encrypted with LUKS1", 0, b"LUKS\xba\xbe\0\x01"),
+    ("a volume encrypted with LUKS2", 0, b"LUKS\xba\xbe\0\x02"),
+    ("a physical volume of LVM", 512, b"LABELONE" + bytes(16) + b"LVM2 001"),
+    ("a member of a RAID array", 4096, b"\xfc\x4e\x2b\xa9\x01\0\0\0")]
+
+# A DOS partition table: an entry of a type, a start and a length, and the signature.
+DOS = bytes(4) + b"\x83" + bytes(3) + struct.pack("<II", 63, 4096) + bytes(48) + b"\x55\xaa"
 
 # Formats that are not a disk byte for byte.
 FORMATS = [("qcow2", 0, b"QFI\xfb"), ("VMDK", 0, b"KDMV"), ("VMDK", 0, b"COWD"),
@@ -28,7 +36,7 @@ ROWS = [
     (ADD + ["--size", "1MiB", "--number", "1"], 'partition 1 (2048..133119 64 MiB efi "ESP") is there already'),
     (ADD + ["--size", "1MiB", "--number", "129"], "there is no entry 129: the table has 128"),
     (ADD + ["--size", "0s"], "partition 2 has no size"),
-    (ADD + ["--size", "1MiB", "--align", "0s"], "partitions cannot begin at multiples of nothing"),
+    (ADD + ["--size", "1MiB", "--align", "0s"], "the alignment must not be zero; use for example --align 1MiB"),
     (ADD + ["--size", "1MiB", "--align", "100B"], "100B is no whole number of sectors of 512 bytes"),
     (ADD + ["--size", "1MiB", "--start", "3B"], "3B is no whole number of sectors of 512 bytes"),
     (ADD + ["--size", "1MiB", "--start", "2048s"], "partitions would share sectors"),
@@ -46,19 +54,19 @@ ROWS = [
     (["remove", "disk.img", "2"], "entry 2 is not used"),
     (["remove", "disk.img", "1", "1"], "entry 1 is not used"),
     (["remove", "disk.img", "4294967295"], "there is no entry 4294967295: the table has 128"),
-    (["free", "disk.img", "--align", "0s"], "partitions cannot begin at multiples of nothing"),
+    (["free", "disk.img", "--align", "0s"], "the alignment must not be zero; use for example --align 1MiB"),
     (["new", "disk.img"], "there is a GUID partition table of 1 partitions, which would be lost"),
     (["show", "none.img"], "No such file or directory"), (["new", "."], ""), (["new", "/dev/null"], ""),
     (["apply", "disk.img", "none.toml"], "No such file or directory"), (["apply", "disk.img", "."], ""),
 ]
 
 
-def refused(tally, program, words, text, name="disk.img"):
-    """Counts whether these words are refused with status 1 and this text, and the image stays."""
+def refused(tally, program, words, text, name="disk.img", wanted=1):
+    """Counts whether these words are refused with this status and text, and the image stays."""
     before = program.state(name)
     status, out, err = program.run(*words)
     what = "gptedit " + " ".join(words)
-    tally.equals(f"the status of {what}", (1, ""), (status, out))
+    tally.equals(f"the status of {what}", (wanted, ""), (status, out))
     tally.holds(f"{what} says {text!r}, and not {err!r}", err.startswith("gptedit: ") and text in err)
     tally.holds(f"{what} leaves the image", program.state(name) == before)
 
@@ -75,12 +83,17 @@ def try_words(tally, program):
 def try_contents(tally, program):
     """What `new` is not to lose, and that it is lost where it is forced."""
     for name, at, mark in CONTENTS:
-        program.make_image("disk.img", 4 * MIB)
+        program.make_zeros("disk.img", 4 * MIB)
         program.put("disk.img", at, mark)
         refused(tally, program, ["new", "disk.img"], f"there is {name}, which would be lost")
         refused(tally, program, ["new", "disk.img", "--dry-run"], f"there is {name}, which would be lost")
         tally.equals(f"new --force over {name}", 0, program.run("new", "disk.img", "--force")[0])
         tally.holds(f"a table stands after new --force over {name}", table.read(program.file("disk.img")))
+    program.make_zeros("disk.img", 4 * MIB)
+    program.put("disk.img", 446, DOS)
+    for words in ["new", "disk.img"], ["new", "disk.img", "--dry-run"]:
+        refused(tally, program, words, "there is an MBR with partitions, which would be lost", wanted=3)
+    tally.equals("new --force over a DOS partition table", 0, program.run("new", "disk.img", "--force")[0])
 
 
 def try_formats(tally, program):
@@ -97,10 +110,10 @@ def try_tables(tally, program):
     for size in (0, 1, 511, 512, 4096, 34303):
         program.make_image("disk.img", size)
         for words in (["new", "disk.img"], ["show", "disk.img"], ["repair", "disk.img"], ["grow", "disk.img"]):
-            refused(tally, program, words, "")
+            refused(tally, program, words, "", wanted=1 if words[0] == "new" else 3)
     program.make_image("disk.img", 4 * MIB)
     for words in (["show", "disk.img"], ADD + ["--size", "1s"], ["dump", "disk.img"], ["sort", "disk.img"]):
-        refused(tally, program, words, "copy the disk before anything is written to it")
+        refused(tally, program, words, "copy the disk before anything is written to it", wanted=3)
     start(program)
     with open(program.file("disk.img"), "r+b") as file:
         file.truncate(64 * MIB)

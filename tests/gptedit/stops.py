@@ -1,6 +1,7 @@
 """Applies of twenty partitions that are killed at random moments, and in which each system call fails in turn,
 and a new table of another number of entries: the old table or the new one, never between.
 """
+import os
 import random
 import re
 import shutil
@@ -8,7 +9,11 @@ import subprocess
 import time
 
 import table
-from commands import DISK
+from commands import DISK, MIB, ROOT
+from makers import IMAGE, TWO, flip, lengthen, make
+from traces import can_trace, recording
+import gpt
+from states import Enumeration
 from layouts import RANDOM, draw, toml_of
 
 KILLS = 150
@@ -85,7 +90,7 @@ def try_failures(tally, program):
         entries = [copy and copy.entries for copy in table.read_copies(program.file("disk.img"))]
         what = f"{name} {number} fails"
         tally.holds(f"a whole table where {what}: {entries}", is_whole(program, (old, new)))
-        tally.holds(f"status 0 or 1 where {what}: {ended.returncode}", ended.returncode in (0, 1))
+        tally.holds(f"status 0, 1 or 5 where {what}: {ended.returncode}", ended.returncode in (0, 1, 5))
         if ended.returncode == 0:
             tally.equals(f"both copies after Ok where {what}", [new, new], entries)
         elif name != "write" or b"standard output" not in ended.stderr:
@@ -131,7 +136,7 @@ def try_reads(tally, program):
         if b"INJECTED" not in program.bytes_of("calls"):
             break
         refused += 1
-        tally.equals(f"the status where reads fail from number {number} on", 1, ended.returncode)
+        tally.equals(f"the status where reads fail from number {number} on", 5, ended.returncode)
         tally.holds(f"a reason where reads fail from number {number} on", b"the disk failed" in ended.stderr)
         tally.holds(f"reads that fail from number {number} on leave the image", program.state("disk.img") == good)
     tally.holds("some reads fail", refused > 3)
@@ -154,5 +159,70 @@ def count_calls(program, apply, good):
     return calls
 
 
-SUBJECTS = {"kills": try_kills, "system calls that fail": try_failures,
+def starts(program):
+    """Images with a table: both copies good, one broken in its header or in its entries, and grown."""
+    size = 16 * MIB
+    made = {"both copies good": [], "the primary header": [528], "the primary entries": [1084],
+            "the backup header": [size - 496], "the backup entries": [size - 33 * 512 + 60]}
+    for name, broken in made.items():
+        make(program, TWO)
+        for at in broken:
+            flip(program, at)
+        yield name, program.bytes_of(IMAGE), size
+    make(program, TWO)
+    lengthen(program, size + 2 * MIB)
+    yield "growth", program.bytes_of(IMAGE), size + 2 * MIB
+
+
+def commands_of(name):
+    """The commands that are stopped from a start."""
+    if name == "growth":
+        return [["grow", IMAGE]]
+    return [["new", IMAGE, "--overwrite", "--guid", ROOT], ["resize", IMAGE, "2", "max"], ["repair", IMAGE],
+            ["apply", IMAGE, "stops.toml", "--replace"], ["new", IMAGE, "--overwrite", "--entries", "56"],
+            ["wipe", IMAGE, "--overwrite"]]
+
+
+def entries_of(read):
+    """The used entries of a table that the trial reads, or None."""
+    return None if read is None else (read[0], read[1].rstrip(bytes(1)))
+
+
+def try_stops(tally, program):
+    """Each command is stopped after each system call, and with what was not synced old, new or torn: what is
+    left is the old table or the new one; of `wipe` the old one or none."""
+    if not can_trace(program):
+        return "strace is not installed or not allowed: left out"
+    program.write("stops.toml", b'[[partition]]\nnumber = 2\nname = "renamed"\n[[partition]]\nnumber = 4\n'
+                  b'type = "linux"\nsize = "1MiB"\n')
+    count = 0
+    for name, image, _ in starts(program):
+        old = entries_of(gpt.read(gpt.Image(image)))
+        for words in commands_of(name):
+            program.write(IMAGE, image)
+            count += stop_each(tally, program, f"{' '.join(words)} from {name}", words, (image, old))
+    return f"{count} states"
+
+
+def stop_each(tally, program, what, words, start):
+    """Counts whether each state that a stop of a command may leave gives the old table or the new one."""
+    image, old = start
+    path = os.path.realpath(program.file(IMAGE))
+    status, out, events = recording.record([program.path, *[program.file(word) if word in (IMAGE, "stops.toml")
+                                                             else word for word in words]], "", path,
+                                           program.file("trace"))
+    tally.equals(f"the status of {what}: {out}", 0, status)
+    tally.holds(f"{what} writes something", events)
+    new = entries_of(gpt.read(gpt.Image(program.bytes_of(IMAGE))))
+    tally.holds(f"{what} leaves a table, or none after wipe", (new is None) == (words[0] == "wipe"))
+    count, lost = 0, []
+    for _, text, state in Enumeration(image, events, mixtures=1).states():
+        count += 1
+        if entries_of(gpt.read(state)) not in (old, new):
+            lost.append(text)
+    tally.equals(f"states of {what} that lose the table, of {count}", [], lost[:3])
+    return count
+
+
+SUBJECTS = {"stops": try_stops, "kills": try_kills, "system calls that fail": try_failures,
             "system calls of new that fail": try_new, "reads that fail": try_reads}

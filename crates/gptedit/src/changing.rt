@@ -1,153 +1,133 @@
-//! The commands that change a table.
+//! A change is made: planned, guarded, written and told.
 
+use crate::backup::{refuse_backup, write_backup};
 use crate::commands::How;
-use crate::drawing::{draw_guid, request_for};
-use crate::failure::{Failure, refuse_error};
+use crate::failure::{Failure, refuse_asked, refuse_device, refuse_error};
 use crate::image::Image;
-use crate::mbr::{look_at_mbr, write_mbr};
-use crate::telling::{tell, tell_line};
-use gptedit_core::{Amount, Asked, Bounds, Growth, Job, Layout, Mode, Outcome};
-use gptedit_report::Mbr;
+use crate::planning::{Plan, make_plan};
+use crate::task::{Became, Task, Work};
+use crate::telling::{Done, tell};
+use gptedit_look::{Look, MbrChange, MbrKind, Purpose, clear_signatures, mend_mbr};
+use gptedit_words::Options;
+use gptman::{Disk, GPT};
 use std::alloc::Global;
+use std::fs::File;
 use std::io::Write;
-use std::random::RandomSource;
+use std::rt::Files;
 
-/// Does a job on the table, and tells what became of it. Answers whether something was written.
-pub fn edit<R: RandomSource + AllocGlobal, W: Write>(
+/// Makes a change, or tells what it would do. All refusals come before the first write. Reports whether something
+/// was written.
+pub fn change<R, W: Write>(
     rt: &R,
     out: &mut W,
     image: &mut Image<'_>,
-    job: Job,
+    look: &Look,
+    task: &mut Task,
+    options: &Options<'_>,
     how: How,
-) -> Result<bool, Failure> {
-    let outcome = outcome_of(rt, image, job, how.is_dry)?;
-    tell(out, rt.alloc(), image, &outcome, how)?;
-    Ok(is_written(&outcome, how))
-}
-
-/// What becomes of the table by a job.
-pub fn outcome_of<R: RandomSource + AllocGlobal>(
-    rt: &R,
-    image: &mut Image<'_>,
-    job: Job,
-    is_dry: bool,
-) -> Result<Outcome, Failure> {
-    let request = request_for(rt, job, is_dry)?;
-    let sector_size = image.sector_size();
-    match gptedit_core::edit(rt.alloc(), &mut image.disk, sector_size, &request) {
-        Ok(outcome) => Ok(outcome),
-        Err(error) => Err(refuse_error(rt.alloc(), image.name, &error)),
-    }
-}
-
-// Whether something was written.
-fn is_written(outcome: &Outcome, how: How) -> bool {
-    matches!(outcome, Outcome::Changed { .. }) && !how.is_dry
-}
-
-/// Fits the table to the image's length, and the protective MBR with it. Answers whether something was
-/// written.
-pub fn grow<W: Write>(
-    alloc: Global,
-    out: &mut W,
-    image: &mut Image<'_>,
-    how: How,
-) -> Result<bool, Failure> {
-    let growth = Growth {
-        bounds: Bounds::Kept,
-        is_dry: how.is_dry,
-    };
-    let sector_size = image.sector_size();
-    let outcome = match gptedit_core::grow(alloc, &mut image.disk, sector_size, &growth) {
-        Ok(outcome) => outcome,
-        Err(error) => return Err(refuse_error(alloc, image.name, &error)),
-    };
-    tell(out, alloc, image, &outcome, how)?;
-    let has_grown = matches!(&outcome, Outcome::Changed { .. });
-    let has_mbr = mend_mbr(out, alloc, image, &outcome, has_grown, how)?;
-    Ok(is_written(&outcome, how) || has_mbr)
-}
-
-/// Writes both copies anew from the good one, and a protective MBR where there is none. Answers whether
-/// something was written.
-pub fn repair<R: RandomSource + AllocGlobal, W: Write>(
-    rt: &R,
-    out: &mut W,
-    image: &mut Image<'_>,
-    how: How,
-) -> Result<bool, Failure> {
+) -> Result<bool, Failure>
+where
+    R: Files<File = File> + AllocGlobal + Clone + Drop,
+{
     let alloc = rt.alloc();
-    let outcome = outcome_of(rt, image, Job::Rewrite, how.is_dry)?;
-    if how.is_json || matches!(&outcome, Outcome::Refused { .. }) {
-        tell(out, alloc, image, &outcome, how)?;
-    }
-    tell_line(
-        out,
-        how,
-        "both copies are written anew",
-        "a dry run, nothing is written:\nboth copies would be written anew",
-    )?;
-    let has_mbr = mend_mbr(out, alloc, image, &outcome, false, how)?;
-    Ok(is_written(&outcome, how) || has_mbr)
-}
-
-// Writes a protective MBR where there is none, or where the one that is there may be replaced. Answers
-// whether it was written.
-fn mend_mbr<W: Write>(
-    out: &mut W,
-    alloc: Global,
-    image: &mut Image<'_>,
-    outcome: &Outcome,
-    may_replace: bool,
-    how: How,
-) -> Result<bool, Failure> {
-    let sector_size = match outcome {
-        Outcome::Changed { next, .. } => next.sector_size,
-        Outcome::Unchanged { table } => table.sector_size,
-        Outcome::Refused { table, .. } => table.sector_size,
-    };
-    let is_needed = match look_at_mbr(alloc, &mut image.disk) {
-        Ok(Mbr::None) => true,
-        Ok(Mbr::Protective) => may_replace,
-        Ok(Mbr::Hybrid | Mbr::Dos) => false,
-        Err(error) => return Err(refuse_error(alloc, image.name, &error)),
-    };
-    if !is_needed {
-        return Ok(false);
-    }
-    if !how.is_dry {
-        write_mbr(alloc, image, sector_size)?;
-    }
-    tell_line(
-        out,
-        how,
-        "a protective MBR is written",
-        "a protective MBR would be written",
-    )?;
-    Ok(!how.is_dry)
-}
-
-/// The layout that gives the disk and each partition of its table a random GUID.
-pub fn randomized<R: RandomSource + AllocGlobal>(
-    rt: &R,
-    image: &mut Image<'_>,
-) -> Result<Layout, Failure> {
-    let alloc = rt.alloc();
-    let table = image.table(alloc)?;
-    let mut asked = Vec::new(alloc);
-    for (number, entry) in table.iter() {
-        if entry.is_used() {
-            asked.push(Asked {
-                unique_guid: Some(draw_guid(rt)?),
-                ..Asked::nothing(Some(number))
-            })?;
+    let plan = make_plan(rt, image, look, task, options)?;
+    let mbr = change_mbr(alloc, image, look, task, &plan, true)?;
+    let is_needed = plan.is_changed || mbr != MbrChange::Left;
+    if let (Some(file), true) = (options.backup, is_needed) {
+        refuse_backup(rt, image.name, file, plan.was.as_ref())?;
+        if let (Some(was), false) = (&plan.was, how.is_dry) {
+            write_backup(rt, image.name, file, was)?;
         }
     }
-    Ok(Layout {
-        mode: Mode::Change,
-        disk_guid: Some(draw_guid(rt)?),
-        align: Amount::Sectors(1),
-        removed: Vec::new(alloc),
-        asked,
-    })
+    if !how.is_dry && is_needed {
+        write(alloc, image, look, task, &plan)?;
+    }
+    let done = Done {
+        task,
+        plan: &plan,
+        mbr,
+        may_lose: may_lose(look, task),
+    };
+    tell(out, alloc, image, look, &done, how)?;
+    Ok(!how.is_dry && is_needed)
+}
+
+// Whether a crash while it is written may leave neither table: also where the old one has another sector size.
+fn may_lose(look: &Look, task: &Task) -> bool {
+    match &task.work {
+        Work::Make(_) => look
+            .signatures
+            .iter()
+            .any(|signature| signature.sector_size != look.sector_size),
+        _ => task.may_lose(),
+    }
+}
+
+// Writes the table, then the MBR, and clears the signatures of other sector sizes last.
+fn write(
+    alloc: Global,
+    image: &mut Image<'_>,
+    look: &Look,
+    task: &mut Task,
+    plan: &Plan,
+) -> Result<(), Failure> {
+    let sector_size = look.sector_size.max(1);
+    if plan.is_changed {
+        if let Became::Refused { table, refusal } = task.run(alloc, image, sector_size, false)? {
+            return Err(refuse_asked(alloc, image.name, table.as_ref(), sector_size, &refusal));
+        }
+    }
+    change_mbr(alloc, image, look, task, plan, false)?;
+    if task.purpose == Purpose::New {
+        if let Err(error) = clear_signatures(&mut image.opened.disk, look, sector_size) {
+            return Err(refuse_error(alloc, image.name, &error));
+        }
+    }
+    Ok(())
+}
+
+// Mends the protective MBR, or makes one, or only tells what would become of it.
+fn change_mbr(
+    alloc: Global,
+    image: &mut Image<'_>,
+    look: &Look,
+    task: &Task,
+    plan: &Plan,
+    is_dry: bool,
+) -> Result<MbrChange, Failure> {
+    let first = &look.first_sector;
+    let is_own = first.kind == MbrKind::Protective && first.protective_count == 1;
+    let may_make = match (task.purpose, first.kind) {
+        (Purpose::New, _) if !is_own => return make_mbr(alloc, image, look, is_dry),
+        (Purpose::New, _) => true,
+        (_, MbrKind::Dos | MbrKind::Hybrid) => return Ok(MbrChange::Left),
+        (Purpose::Edit, _) if !plan.is_changed => return Ok(MbrChange::Left),
+        (Purpose::Edit, _) => false,
+        (Purpose::Repair | Purpose::Fit, _) => true,
+    };
+    let sector_size = look.sector_size.max(1);
+    match mend_mbr(alloc, &mut image.opened.disk, sector_size, may_make, is_dry) {
+        Ok(change) => Ok(change),
+        Err(error) => Err(refuse_error(alloc, image.name, &error)),
+    }
+}
+
+// Writes a protective MBR over whatever is in its 66 bytes.
+fn make_mbr(
+    alloc: Global,
+    image: &mut Image<'_>,
+    look: &Look,
+    is_dry: bool,
+) -> Result<MbrChange, Failure> {
+    if is_dry {
+        return Ok(MbrChange::Made);
+    }
+    let disk = &mut image.opened.disk;
+    if let Err(error) = GPT::write_protective_mbr_into(disk, look.sector_size.max(1)) {
+        return Err(refuse_error(alloc, image.name, &error));
+    }
+    match disk.sync() {
+        Ok(()) => Ok(MbrChange::Made),
+        Err(error) => Err(refuse_device(alloc, image.name, &error)),
+    }
 }

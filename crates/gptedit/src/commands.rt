@@ -1,29 +1,32 @@
 //! The commands.
 
+use crate::changing::change;
+use crate::checking::check;
 use crate::failure::Failure;
-use crate::image::Image;
-use crate::layouts::read_asked;
-use crate::marks::refuse_footer;
-use crate::mbr::refuse_dos;
-use crate::{changing, looking, making};
+use crate::image::{Image, Opening};
+use crate::layouts::{layout_for, read_asked};
+use crate::task::Task;
+use crate::wiping::clear;
+use crate::{looking, making, tasks};
 use gptedit_core::Job;
+use gptedit_look::Look;
 use gptedit_report::types_json;
-use gptedit_words::{Change, Command, ImageRequest};
+use gptedit_text::Parsed;
+use gptedit_text::values::Escaped;
+use gptedit_words::{Change, Command, ImageRequest, Lock, Options};
 use std::alloc::Global;
 use std::fs::File;
 use std::io::Write;
 use std::random::RandomSource;
 use std::rt::Files;
 
-/// How a change is made and told.
+/// How a change is told.
 #[derive(Clone, Copy)]
 pub struct How {
     /// That it is told as JSON.
     pub is_json: bool,
     /// That nothing is written.
     pub is_dry: bool,
-    /// That it is made where it would be refused for what may be lost.
-    pub is_forced: bool,
 }
 
 /// Prints the types that have names.
@@ -37,7 +40,7 @@ pub fn print_types<W: Write>(alloc: Global, out: &mut W, is_json: bool) -> Resul
     Ok(0)
 }
 
-/// Does what is asked of an image, and answers the status to end with.
+/// Does what is asked of an image, and returns the status to end with.
 pub fn perform<R, W: Write>(rt: &R, out: &mut W, asked: ImageRequest<'_>) -> Result<u8, Failure>
 where
     R: Files<File = File> + RandomSource + Input + Eprint + AllocGlobal + Clone + Drop,
@@ -49,108 +52,209 @@ where
         command,
     } = asked;
     match command {
-        Command::Write {
-            change,
-            is_dry,
-            is_forced,
-        } => {
-            let how = How {
+        Command::Write { change, options } => {
+            let asked = Asked {
+                image,
+                sector_size,
                 is_json,
-                is_dry,
-                is_forced,
+                options,
             };
-            let mut image = Image::open(rt, image, sector_size, !is_dry)?;
-            write(rt, out, &mut image, change, how)?;
+            write(rt, out, asked, change)?;
             Ok(0)
         }
         reading => {
-            let mut image = Image::open(rt, image, sector_size, false)?;
-            look(rt.alloc(), out, &mut image, &reading, is_json)
+            let opening = Opening {
+                sector_size,
+                lock: gptedit_busy::Lock::None,
+                writes: false,
+            };
+            let mut image = Image::open(rt, image, &opening)?;
+            read(rt, out, &mut image, &reading, is_json)
         }
     }
 }
 
-// Does what only looks, and answers the status to end with.
-fn look<W: Write>(
-    alloc: Global,
+// Does what only looks, and returns the status to end with.
+fn read<R, W: Write>(
+    rt: &R,
     out: &mut W,
     image: &mut Image<'_>,
     command: &Command<'_>,
     is_json: bool,
-) -> Result<u8, Failure> {
+) -> Result<u8, Failure>
+where
+    R: Files<File = File> + RandomSource + Eprint + AllocGlobal + Clone + Drop,
+{
+    let alloc = rt.alloc();
+    if matches!(command, Command::Salvage) {
+        looking::look_for_dos(rt, image)?;
+        return looking::print_salvage(out, alloc, image, is_json);
+    }
+    let look = image.look(alloc, None)?;
+    if look.table.is_some() && !matches!(command, Command::Check) {
+        looking::warn_of_dos(rt, image, &look.first_sector);
+    }
     match command {
-        Command::Show => looking::show(out, alloc, image, is_json)?,
-        Command::Free { align } => looking::free(out, alloc, image, *align, is_json)?,
-        Command::Dump => looking::dump(out, alloc, image, is_json)?,
-        _ => {
-            let is_good = looking::check(out, alloc, image, is_json)?;
-            return Ok(if is_good { 0 } else { 1 });
-        }
+        Command::Show => looking::show(out, alloc, image, &look, is_json)?,
+        Command::Free { align } => looking::free(out, alloc, image, &look, *align, is_json)?,
+        Command::Dump => looking::dump(out, alloc, image, &look, is_json)?,
+        _ => return check(rt, out, image, &look, is_json),
     }
     Ok(0)
 }
 
-// Makes a change, and says how the kernel is told of it.
+// What is asked of a change beside what it is.
+#[derive(Clone, Copy)]
+struct Asked<'a> {
+    image: &'a str,
+    sector_size: Option<u64>,
+    is_json: bool,
+    options: Options<'a>,
+}
+
+impl Asked<'_> {
+    // How the image is opened.
+    fn opening(&self) -> Opening {
+        Opening {
+            sector_size: self.sector_size,
+            lock: match self.options.lock {
+                Lock::Wait => gptedit_busy::Lock::Wait,
+                Lock::Fail => gptedit_busy::Lock::Fail,
+                Lock::None => gptedit_busy::Lock::None,
+            },
+            writes: !self.options.is_dry,
+        }
+    }
+}
+
+// Makes a change, and says how the kernel is told of it. A layout is read first.
 fn write<R, W: Write>(
     rt: &R,
     out: &mut W,
-    image: &mut Image<'_>,
+    asked: Asked<'_>,
     change: Change<'_>,
-    how: How,
 ) -> Result<(), Failure>
 where
     R: Files<File = File> + RandomSource + Input + Eprint + AllocGlobal + Clone + Drop,
 {
-    if let Some(device) = &image.device {
-        if !how.is_dry && !how.is_forced {
-            device.refuse_in_use(rt, image.name)?;
+    let parsed = match &change {
+        Change::Apply { file, .. } => Some(read_asked(rt, *file)?),
+        _ => None,
+    };
+    let mut image = Image::open(rt, asked.image, &asked.opening())?;
+    let usual = usual_size(&change, parsed.as_ref());
+    let look = image.look(rt.alloc(), usual)?;
+    let is_written = make(rt, out, &mut image, look, change, parsed, &asked)?;
+    if is_written {
+        if let Some(device) = &image.opened.device {
+            let (command, name) = (device.command(), Escaped(image.name));
+            let _ = eprintln!(rt; "`{command} {name}` tells the kernel");
         }
-    }
-    let is_written = make(rt, out, image, change, how)?;
-    if is_written && image.device.is_some() {
-        let name = image.name;
-        let _ = eprintln!(rt;
-            "`blockdev --rereadpt {name}` or `partprobe {name}` tells the kernel"
-        );
     }
     Ok(())
 }
 
-// Makes a change. Answers whether something was written.
+// The sector size in bytes that a file has for this change, if nothing else tells it. For others it is found.
+fn usual_size(change: &Change<'_>, parsed: Option<&Parsed>) -> Option<u64> {
+    match (change, parsed) {
+        (Change::New(_), _) => Some(making::USUAL_SIZE),
+        (Change::Apply { is_creating, .. }, Some(parsed)) if *is_creating => {
+            making::size_in(&parsed.header)
+        }
+        _ => None,
+    }
+}
+
+// Makes a change. Reports whether something was written.
 fn make<R, W: Write>(
     rt: &R,
     out: &mut W,
     image: &mut Image<'_>,
-    change: Change<'_>,
-    how: How,
+    look: Look,
+    wanted: Change<'_>,
+    parsed: Option<Parsed>,
+    asked: &Asked<'_>,
 ) -> Result<bool, Failure>
 where
-    R: Files<File = File> + RandomSource + Input + AllocGlobal,
+    R: Files<File = File> + RandomSource + AllocGlobal + Clone + Drop,
 {
-    if !matches!(&change, Change::New(_)) {
-        image.refuse_failed_reading(rt.alloc())?;
-        if !how.is_forced {
-            refuse_dos(rt.alloc(), image)?;
-        }
+    let options = &asked.options;
+    let how = How {
+        is_json: asked.is_json,
+        is_dry: options.is_dry,
+    };
+    if matches!(&wanted, Change::Wipe) {
+        return clear(rt, out, image, look, options, how);
     }
-    let job = match change {
-        Change::New(asked) => return making::new(rt, out, image, asked, how),
-        Change::Grow => {
-            if !how.is_forced {
-                refuse_footer(rt.alloc(), image.name, &mut image.disk)?;
-            }
-            return changing::grow(rt.alloc(), out, image, how);
-        }
-        Change::Repair => return changing::repair(rt, out, image, how),
-        Change::Sort => Job::Sort,
-        Change::Lay(layout) => Job::Lay(layout),
-        Change::Randomize => Job::Lay(changing::randomized(rt, image)?),
-        Change::Apply { file, is_replacing } => Job::Lay(read_asked(
-            rt,
-            image,
+    let mut task = task_of(rt, image, &look, wanted, parsed)?;
+    change(rt, out, image, &look, &mut task, options, how)
+}
+
+// The task of a change.
+fn task_of<R>(
+    rt: &R,
+    image: &mut Image<'_>,
+    look: &Look,
+    wanted: Change<'_>,
+    parsed: Option<Parsed>,
+) -> Result<Task, Failure>
+where
+    R: RandomSource + AllocGlobal,
+{
+    let alloc = rt.alloc();
+    if let Change::New(asked) = &wanted {
+        return making::new(rt, image, look, *asked);
+    }
+    let Some(table) = &look.table else {
+        return task_without(rt, image, look, &wanted, parsed);
+    };
+    match wanted {
+        Change::Lay(layout) => tasks::edit(rt, Job::Lay(layout)),
+        Change::Sort => tasks::edit(rt, Job::Sort),
+        Change::Grow => Ok(tasks::grow()),
+        Change::Repair { has_usual_bounds } => tasks::repair(rt, image, look, has_usual_bounds),
+        Change::Randomize => tasks::randomize(rt, table),
+        Change::Apply {
             file,
             is_replacing,
-        )?),
-    };
-    changing::edit(rt, out, image, job, how)
+            ..
+        } => match parsed {
+            Some(parsed) => {
+                let layout = layout_for(alloc, file, parsed, table, is_replacing)?;
+                tasks::edit(rt, Job::Lay(layout))
+            }
+            None => Err(image.no_table(alloc, look)),
+        },
+        Change::New(asked) => making::new(rt, image, look, asked),
+        Change::Wipe => Err(image.no_table(alloc, look)),
+    }
+}
+
+// The task of a change where no table is read: `apply --create` makes one.
+fn task_without<R>(
+    rt: &R,
+    image: &mut Image<'_>,
+    look: &Look,
+    wanted: &Change<'_>,
+    parsed: Option<Parsed>,
+) -> Result<Task, Failure>
+where
+    R: RandomSource + AllocGlobal,
+{
+    match (wanted, parsed) {
+        (
+            Change::Apply {
+                file,
+                is_creating,
+                ..
+            },
+            Some(parsed),
+        ) => {
+            if *is_creating {
+                return making::create(rt, look, *file, parsed);
+            }
+            Err(image.no_table_to_apply(rt.alloc(), look))
+        }
+        _ => Err(image.no_table(rt.alloc(), look)),
+    }
 }

@@ -8,7 +8,7 @@ use gptedit_core::{Job, Request};
 use gptguid_core::from_random;
 use std::random::RandomSource;
 
-/// A random GUID, of version 4.
+/// Returns a random GUID, of version 4.
 pub fn draw_guid<R: RandomSource + AllocGlobal>(rt: &R) -> Result<[u8; 16], Failure> {
     let mut drawn = [0; 16];
     match rt.fill_bytes(&mut drawn) {
@@ -17,12 +17,8 @@ pub fn draw_guid<R: RandomSource + AllocGlobal>(rt: &R) -> Result<[u8; 16], Fail
     }
 }
 
-/// The request for this job, with a random GUID for each entry that is asked for.
-pub fn request_for<R: RandomSource + AllocGlobal>(
-    rt: &R,
-    job: Job,
-    is_dry: bool,
-) -> Result<Request, Failure>
+/// Returns the request for this job, with a random GUID for each entry that is asked for.
+pub fn request_for<R: RandomSource + AllocGlobal>(rt: &R, job: Job) -> Result<Request, Failure>
     ensures { IfOk result has_random }
 {
     let count = match &job {
@@ -34,12 +30,15 @@ pub fn request_for<R: RandomSource + AllocGlobal>(
     Ok(Request {
         job,
         random,
-        is_dry,
+        is_dry: true,
     })
 }
 
-// So many random GUIDs.
-fn draw_guids<R: RandomSource + AllocGlobal>(rt: &R, count: usize) -> Result<Vec<[u8; 16]>, Failure>
+/// Returns so many random GUIDs.
+pub fn draw_guids<R: RandomSource + AllocGlobal>(
+    rt: &R,
+    count: usize,
+) -> Result<Vec<[u8; 16]>, Failure>
     ensures { IfOk result (λ guids. count ≤ length guids.items) }
 {
     let mut guids = Vec::new(rt.alloc());

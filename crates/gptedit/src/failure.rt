@@ -11,19 +11,40 @@ use std::{fmt, io};
 /// Why a command is not done.
 #[derive(Drop, Debug)]
 pub enum Failure {
-    /// It was refused, or the disk failed: the text says why, and what to do.
+    /// It was refused: the text says why, and what to do.
     Refused(String),
+    /// No table can be read, or a DOS disk was to be changed.
+    NoTable(String),
+    /// The image is in use or locked.
+    Busy(String),
+    /// The disk failed.
+    Device(String),
     /// Standard output failed.
     Output(io::Error),
     /// There was no memory.
     OutOfMemory,
 }
 
+impl Failure {
+    /// Returns the status to end with.
+    pub fn status(&self) -> u8 {
+        match self {
+            Failure::Refused(_) | Failure::Output(_) | Failure::OutOfMemory => 1,
+            Failure::NoTable(_) => 3,
+            Failure::Busy(_) => 4,
+            Failure::Device(_) => 5,
+        }
+    }
+}
+
 /// What the user is told, without the last newline.
 impl fmt::Display for Failure {
     fn fmt<W: fmt::Write>(&self, f: &mut fmt::Formatter<W>) -> fmt::Result {
         match self {
-            Failure::Refused(text) => f.write_str(text.as_str()),
+            Failure::Refused(text)
+            | Failure::NoTable(text)
+            | Failure::Busy(text)
+            | Failure::Device(text) => f.write_str(text.as_str()),
             Failure::Output(error) => write!(f, "standard output failed: {error}"),
             Failure::OutOfMemory => f.write_str("out of memory"),
         }
@@ -53,27 +74,66 @@ impl<T: Drop> From<AllocFailed<T>> for Failure {
     }
 }
 
-/// A refusal for what the text says of this, as of an image or a file.
+/// Returns what the user is told of this, as of an image or a file.
+pub fn text_of<D: fmt::Display>(alloc: Global, of: &str, text: &D) -> Result<String, AllocError> {
+    format!(in alloc; "{}: {text}", Escaped(of))
+}
+
+/// Returns a refusal for what the text says of this, as of an image or a file.
 pub fn refuse<D: fmt::Display>(alloc: Global, of: &str, text: &D) -> Failure {
-    match format!(in alloc; "{}: {text}", Escaped(of)) {
+    match text_of(alloc, of, text) {
         Ok(text) => Failure::Refused(text),
         Err(_) => Failure::OutOfMemory,
     }
 }
 
-/// A refusal for an error of the library on this image.
-pub fn refuse_error(alloc: Global, image: &str, error: &Error) -> Failure {
-    match error {
-        Error::OutOfMemory => Failure::OutOfMemory,
-        error => refuse(alloc, image, &ErrorText { error, image }),
+/// Returns the failure that no table can be read.
+pub fn refuse_no_table<D: fmt::Display>(alloc: Global, of: &str, text: &D) -> Failure {
+    match text_of(alloc, of, text) {
+        Ok(text) => Failure::NoTable(text),
+        Err(_) => Failure::OutOfMemory,
     }
 }
 
-/// A refusal of what was asked of a table on this image.
-pub fn refuse_asked(alloc: Global, image: &str, table: &GPT, refusal: &Refusal) -> Failure {
+/// Returns the failure that the image is in use or locked.
+pub fn refuse_busy<D: fmt::Display>(alloc: Global, of: &str, text: &D) -> Failure {
+    match text_of(alloc, of, text) {
+        Ok(text) => Failure::Busy(text),
+        Err(_) => Failure::OutOfMemory,
+    }
+}
+
+/// Returns the failure of the disk.
+pub fn refuse_device<D: fmt::Display>(alloc: Global, of: &str, text: &D) -> Failure {
+    match text_of(alloc, of, text) {
+        Ok(text) => Failure::Device(text),
+        Err(_) => Failure::OutOfMemory,
+    }
+}
+
+/// Returns the failure for an error of the library on this image.
+pub fn refuse_error(alloc: Global, image: &str, error: &Error) -> Failure {
+    let text = ErrorText { error, image };
+    match error {
+        Error::OutOfMemory => Failure::OutOfMemory,
+        Error::Io(_) => refuse_device(alloc, image, &text),
+        Error::InvalidSignature | Error::ReadError(_, _) => refuse_no_table(alloc, image, &text),
+        _ => refuse(alloc, image, &text),
+    }
+}
+
+/// Returns the refusal of what was asked of a table on this image.
+pub fn refuse_asked(
+    alloc: Global,
+    image: &str,
+    table: Option<&GPT>,
+    sector_size: u64,
+    refusal: &Refusal,
+) -> Failure {
     let text = RefusalText {
         refusal,
         table,
+        sector_size,
         image,
     };
     refuse(alloc, image, &text)

@@ -1,14 +1,13 @@
-//! An image that is open, and what stands on it.
+//! An image that is open, and the look at it.
 
-ghost use Rattle.std.specs.Prelude.{◌<◌, IfSome};
-
-use crate::devices::Device;
-use crate::failure::{Failure, refuse, refuse_error};
-use crate::marks::refuse_other_formats;
-use gptimg_core::{BothCopies, check};
-use gptman::{Disk, Error, FileDisk, GPT};
-use gptman_change::read_table;
-use gptman_open::{Held, hold};
+use crate::failure::{Failure, refuse, refuse_busy, refuse_device, refuse_error, refuse_no_table};
+use gptedit_busy::{Lock, OpenError, Opened};
+use gptedit_look::{Look, Looked, look};
+use gptedit_marks::find_format;
+use gptedit_report::NoTableText;
+use gptedit_salvage::salvage;
+use gptedit_text::values::Escaped;
+use gptman::{Error, FileDisk};
 use std::alloc::Global;
 use std::fs::File;
 use std::io::ErrorKind;
@@ -20,123 +19,180 @@ use std::{fmt, io};
 pub struct Image<'a> {
     /// The image or device, as it was named.
     pub name: &'a str,
-    /// The disk that it is.
-    pub disk: FileDisk,
-    /// Its length in bytes.
-    pub size: u64,
-    /// The block device that it is, if it is one.
-    pub device: Option<Device>,
-    // The size of a sector in bytes, where it is known beforehand.
+    /// The disk and the device that it is.
+    pub opened: Opened,
+    // The sector size in bytes, if it is known before the table is read.
     known_size: Option<u64>,
-    // What keeps the lock, and the places of closed standard streams.
-    held: Held,
+}
+
+/// How an image is opened.
+#[derive(Clone, Copy)]
+pub struct Opening {
+    /// The sector size in bytes that was asked for.
+    pub sector_size: Option<u64>,
+    /// What is done where another program has the lock.
+    pub lock: Lock,
+    /// Whether it is opened for writing.
+    pub writes: bool,
 }
 
 impl<'a> Image<'a> {
-    /// Opens an image, for reading alone where nothing is to be written. The size of a sector is the one that
-    /// is asked for, else that of the block device.
-    ///
-    /// What is no file and no block device is refused, and so is an image that holds a disk in another format.
-    pub fn open<R: Files<File = File> + AllocGlobal>(
+    /// Opens an image. What is no file and no block device is refused, and so is an image that holds a disk in
+    /// another format.
+    pub fn open<R: Files<File = File> + AllocGlobal + Eprint + Clone + Drop>(
         rt: &R,
         name: &'a str,
-        sector_size: Option<u64>,
-        writes: bool,
+        opening: &Opening,
     ) -> Result<Image<'a>, Failure> {
         let alloc = rt.alloc();
-        let held = match hold(rt, alloc, name) {
-            Ok(held) => held,
-            Err(error) => return Err(refuse(alloc, name, &error)),
+        let mut opened = match gptedit_busy::open(rt, name, opening.lock, opening.writes) {
+            Ok(opened) => opened,
+            Err(error) => return Err(not_opened(alloc, name, &error)),
         };
-        let mut disk = match gptman_open::open(rt, name, &held, writes) {
-            Ok(disk) => disk,
-            Err(error) => return Err(refuse_error(alloc, name, &error)),
-        };
-        refuse_other_formats(alloc, name, &mut disk)?;
-        let size = match disk.seek_end() {
-            Ok(size) => size,
-            Err(error) => return Err(refuse(alloc, name, &error)),
-        };
-        let device = Device::of(rt, name)?;
-        let known_size = match (sector_size, &device) {
+        refuse_other_formats(alloc, name, &mut opened.disk)?;
+        let known_size = match (opening.sector_size, &opened.device) {
             (None, Some(device)) => device.sector_size(rt)?,
             (size, _) => size,
         };
         Ok(Image {
             name,
-            disk,
-            size,
-            device,
+            opened,
             known_size,
-            held,
         })
     }
 
-    /// The size of a sector in bytes, where it is known before the table is read.
-    pub fn sector_size(&self) -> Option<u64>
-        ensures { IfSome result (λ size. 0 < size) }
-    {
-        match self.known_size {
-            Some(0) => None,
-            size => size,
-        }
-    }
-
-    /// The table, from the copies that are good.
-    pub fn table(&mut self, alloc: Global) -> Result<GPT, Failure> {
-        let sector_size = self.sector_size();
-        match read_table(alloc, &mut self.disk, sector_size) {
-            Ok(table) => Ok(table),
+    /// Looks at the disk. The sector size is the one that is known, else the usual one, else it is found.
+    pub fn look(&mut self, alloc: Global, usual_size: Option<u64>) -> Result<Look, Failure> {
+        let sector_size = self.known_size.or(usual_size);
+        match look(alloc, &mut self.opened.disk, sector_size) {
+            Ok(Looked::Seen(look)) => Ok(look),
+            Ok(Looked::TooMany(count)) => Err(refuse_no_table(alloc, self.name, &TooMany(count))),
             Err(error) => Err(refuse_error(alloc, self.name, &error)),
         }
     }
 
-    /// The table where a copy is good, with sectors of so many bytes or of a size that is found.
-    pub fn table_if_any(
-        &mut self,
-        alloc: Global,
-        sector_size: Option<u64>,
-    ) -> Result<Option<GPT>, Failure>
-        requires { IfSome sector_size (λ size. 0 < size) }
-    {
-        match read_table(alloc, &mut self.disk, sector_size) {
-            Ok(table) => Ok(Some(table)),
-            Err(Error::OutOfMemory) => Err(Failure::OutOfMemory),
-            Err(Error::Io(error)) => Err(refuse_error(alloc, self.name, &Error::Io(error))),
-            Err(_other) => Ok(None),
+    /// Returns the sector size in bytes, if it is known before the table is read.
+    pub fn known_size(&self) -> Option<u64> {
+        self.known_size
+    }
+
+    /// Returns the failure that no copy of the table is good: what is wrong with each, and what can be read.
+    pub fn no_table(&mut self, alloc: Global, look: &Look) -> Failure {
+        self.without_table(alloc, look, "")
+    }
+
+    /// Returns the same failure of `apply`, which may make a table.
+    pub fn no_table_to_apply(&mut self, alloc: Global, look: &Look) -> Failure {
+        self.without_table(alloc, look, "\nif no table was there, --create makes one")
+    }
+
+    // That no copy of the table is good, and what else is to be said.
+    fn without_table(&mut self, alloc: Global, look: &Look, more: &str) -> Failure {
+        let salvaged = match salvage(alloc, &mut self.opened.disk, self.known_size) {
+            Ok(salvaged) => salvaged,
+            Err(error) => return refuse_error(alloc, self.name, &error),
+        };
+        let text = NoTableText {
+            look,
+            salvaged: &salvaged,
+            image: self.name,
+        };
+        match format!(in alloc; "{text}{more}") {
+            Ok(text) => refuse_no_table(alloc, self.name, &text),
+            Err(_) => Failure::OutOfMemory,
         }
     }
 
-    /// Refuses an image of which a copy of the table could not be read as the disk failed. One that ends past
-    /// the disk is no such copy.
-    pub fn refuse_failed_reading(&mut self, alloc: Global) -> Result<(), Failure> {
-        let table = self.table(alloc)?;
-        let copies = self.copies(alloc, table.sector_size)?;
-        for copy in [copies.primary, copies.backup] {
+    /// Refuses a change of a device whose sector size cannot be read, and of an image of which a copy of the
+    /// table could not be read as the disk failed. A copy that ends after the disk is no such copy.
+    pub fn refuse_unknown(&self, alloc: Global, look: &Look) -> Result<(), Failure> {
+        if self.opened.device.is_some() && self.known_size.is_none() {
+            return Err(refuse(alloc, self.name, &NoSectorSize));
+        }
+        let copies = &look.copies;
+        for copy in [&copies.primary, &copies.backup] {
             match copy {
                 Err(Error::Io(error)) if error.kind() != ErrorKind::UnexpectedEof => {
-                    return Err(refuse(alloc, self.name, &FailedReading(error)));
+                    return Err(refuse_device(alloc, self.name, &FailedReading(error)));
                 }
                 _ => (),
             }
         }
         Ok(())
     }
+}
 
-    /// What both copies are, where sectors have so many bytes, at least 1.
-    pub fn copies(&mut self, alloc: Global, sector_size: u64) -> Result<BothCopies, Failure> {
-        match check(alloc, &mut self.disk, sector_size.max(1)) {
-            Ok(copies) => Ok(copies),
-            Err(error) => Err(refuse_error(alloc, self.name, &error)),
-        }
+// The failure that an image cannot be opened.
+fn not_opened(alloc: Global, name: &str, error: &OpenError) -> Failure {
+    match error {
+        OpenError::OutOfMemory => Failure::OutOfMemory,
+        OpenError::Locked { .. } => refuse_busy(alloc, name, error),
+        _ => refuse(alloc, name, error),
+    }
+}
+
+// Refuses an image that is not a disk byte for byte.
+fn refuse_other_formats(alloc: Global, image: &str, disk: &mut FileDisk) -> Result<(), Failure> {
+    match find_format(alloc, disk) {
+        Ok(None) => Ok(()),
+        Ok(Some(format)) => Err(refuse(alloc, image, &OtherFormat { format, image })),
+        Err(error) => Err(refuse_error(alloc, image, &error)),
+    }
+}
+
+// That an image is a disk in another format, and what to do.
+#[derive(Clone, Copy)]
+struct OtherFormat<'a> {
+    format: &'static str,
+    image: &'a str,
+}
+
+impl fmt::Display for OtherFormat<'_> {
+    fn fmt<W: fmt::Write>(&self, f: &mut fmt::Formatter<W>) -> fmt::Result {
+        let image = Escaped(self.image);
+        writeln!(
+            f,
+            "this is no raw image, but one in the format {}",
+            self.format
+        )?;
+        write!(
+            f,
+            "`qemu-img convert -O raw {image} {image}.raw` makes one, or qemu-nbd gives it as a device"
+        )
+    }
+}
+
+// That a header counts too many entries.
+#[derive(Clone, Copy)]
+struct TooMany(u32);
+
+impl fmt::Display for TooMany {
+    fn fmt<W: fmt::Write>(&self, f: &mut fmt::Formatter<W>) -> fmt::Result {
+        write!(
+            f,
+            "a header of the table counts {} entries, and gptedit reads 32768 at most\n\
+             if a table was there, copy the disk before anything is written to it",
+            self.0
+        )
+    }
+}
+
+// That the sector size of a device cannot be read, and what to do.
+#[derive(Clone, Copy)]
+struct NoSectorSize;
+
+impl fmt::Display for NoSectorSize {
+    fn fmt<W: fmt::Write>(&self, f: &mut fmt::Formatter<W>) -> fmt::Result {
+        f.write_str("the sector size of the device cannot be read\n")?;
+        f.write_str("give it, as with --sector 512")
     }
 }
 
 // That the disk failed in the reading of a copy, and what to do.
-#[derive(Drop)]
-struct FailedReading(io::Error);
+#[derive(Clone, Copy)]
+struct FailedReading<'a>(&'a io::Error);
 
-impl fmt::Display for FailedReading {
+impl fmt::Display for FailedReading<'_> {
     fn fmt<W: fmt::Write>(&self, f: &mut fmt::Formatter<W>) -> fmt::Result {
         writeln!(
             f,

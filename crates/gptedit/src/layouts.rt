@@ -1,54 +1,84 @@
 //! Layouts, read from files.
 
 use crate::failure::{Failure, refuse};
-use crate::image::Image;
 use gptedit_core::{Layout, Mode};
-use gptedit_text::{LayoutError, Parsed, is_script, read_layout, read_script};
+use gptedit_text::{LayoutError, MAX_LAYOUT_BYTES, Parsed, is_script, read_layout, read_script};
 use gptman::GPT;
 use std::alloc::Global;
 use std::collections::BTreeSet;
 use std::fs::File;
-use std::io::ErrorKind;
+use std::io;
+use std::io::{ErrorKind, Read};
 use std::rt::Files;
-use std::{fs, io};
 
-/// Reads the layout in a file, for the table of the image. `-` is standard input. A layout whose header differs
-/// from the one of the table is refused.
-///
-/// Where it is to replace the table, the partitions that it leaves out are removed.
+/// Reads a layout from a file; `-` is standard input. It is read before the image is opened, so that the image is
+/// not locked meanwhile, and is not taken for a standard input that is closed.
 pub fn read_asked<R: Files<File = File> + Input + AllocGlobal>(
     rt: &R,
-    image: &mut Image<'_>,
     file: &str,
-    is_replacing: bool,
-) -> Result<Layout, Failure> {
+) -> Result<Parsed, Failure> {
     let alloc = rt.alloc();
     let text = read_text(rt, file)?;
-    let parsed = parse(alloc, file, text.as_str())?;
-    let table = image.table(alloc)?;
-    if let Err(other) = parsed.header.check(parsed.form, &table) {
-        return Err(refuse(alloc, file, &other));
+    let parsed = if is_script(text.as_str()) {
+        read_script(alloc, text.as_str())
+    } else {
+        read_layout(alloc, text.as_str())
+    };
+    match parsed {
+        Ok(parsed) => Ok(parsed),
+        Err(error) => Err(not_a_layout(alloc, file, error)),
     }
-    let mut layout = parsed.layout;
-    if is_replacing {
-        layout.mode = Mode::Become { replace: true };
-        layout.removed = find_left_out(alloc, &table, &layout)?;
-    }
-    Ok(layout)
 }
 
 // The text of a file, or of standard input.
-fn read_text<R: Files + Input + AllocGlobal>(rt: &R, file: &str) -> Result<String, Failure> {
+fn read_text<R: Files<File = File> + Input + AllocGlobal>(
+    rt: &R,
+    file: &str,
+) -> Result<String, Failure> {
     let alloc = rt.alloc();
     let read = if file == "-" {
-        io::read_to_string(alloc, rt.reader())
+        read_bytes(alloc, &mut rt.reader())
     } else {
-        fs::read_to_string(rt, file)
+        match File::open(rt, file) {
+            Ok(mut opened) => read_bytes(alloc, &mut opened),
+            Err(error) => Err(error),
+        }
     };
-    match read {
-        Ok(text) => Ok(text),
-        Err(error) => Err(not_read(alloc, file, error)),
+    let bytes = match read {
+        Ok(bytes) => bytes,
+        Err(error) => return Err(not_read(alloc, file, error)),
+    };
+    if bytes.len() as u64 > MAX_LAYOUT_BYTES {
+        return Err(refuse(alloc, file, &"a layout has at most 64 MiB"));
     }
+    match String::from_utf8(bytes) {
+        Ok(text) => Ok(text),
+        Err(_) => Err(refuse(alloc, file, &"a layout is a text in UTF-8")),
+    }
+}
+
+// How many bytes are read at once.
+const PIECE: usize = 65536;
+
+// The bytes that a reader gives: all, or the first ones, more than a layout has at most.
+fn read_bytes<R: Read>(alloc: Global, reader: &mut R) -> io::Result<Vec<u8>> {
+    let mut bytes = Vec::new(alloc);
+    let mut piece = vec![in alloc; 0; PIECE]?;
+    for _ in 0..u64::MAX {
+        let count = match reader.read(&mut piece) {
+            Ok(count) => count,
+            Err(error) if error.kind() == ErrorKind::Interrupted => continue,
+            Err(error) => return Err(error),
+        };
+        let Some(read) = piece.get(..count) else {
+            return Ok(bytes);
+        };
+        bytes.extend_from_slice(read)?;
+        if count == 0 || bytes.len() as u64 > MAX_LAYOUT_BYTES {
+            return Ok(bytes);
+        }
+    }
+    Ok(bytes)
 }
 
 // That a file cannot be read.
@@ -59,25 +89,33 @@ fn not_read(alloc: Global, file: &str, error: io::Error) -> Failure {
     }
 }
 
-// What a text says.
-fn parse(alloc: Global, file: &str, text: &str) -> Result<Parsed, Failure> {
-    let parsed = if is_script(text) {
-        read_script(alloc, text)
-    } else {
-        read_layout(alloc, text)
-    };
-    match parsed {
-        Ok(parsed) => Ok(parsed),
-        Err(error) => Err(not_a_layout(alloc, file, error)),
-    }
-}
-
 // That a text says no layout.
 fn not_a_layout(alloc: Global, file: &str, error: LayoutError) -> Failure {
     match error {
         LayoutError::OutOfMemory => Failure::OutOfMemory,
         error => refuse(alloc, file, &error),
     }
+}
+
+/// Returns what a layout asks of a table. A layout whose header differs from the one of the table is refused.
+///
+/// Where it is to replace the table, the partitions that it leaves out are removed.
+pub fn layout_for(
+    alloc: Global,
+    file: &str,
+    parsed: Parsed,
+    table: &GPT,
+    is_replacing: bool,
+) -> Result<Layout, Failure> {
+    if let Err(other) = parsed.header.check(parsed.form, table) {
+        return Err(refuse(alloc, file, &other));
+    }
+    let mut layout = parsed.layout;
+    if is_replacing {
+        layout.mode = Mode::Become { replace: true };
+        layout.removed = find_left_out(alloc, table, &layout)?;
+    }
+    Ok(layout)
 }
 
 // The numbers of the partitions that the layout leaves out.

@@ -2,49 +2,62 @@
 
 use crate::failure::{Failure, refuse_asked, refuse_error};
 use crate::image::Image;
-use crate::marks::has_footer;
-use crate::mbr::look_at_mbr;
+use crate::making::USUAL_SIZE;
 use gptedit_core::{Amount, Refusal, layout_of};
-use gptedit_report::{
-    CopiesState, Look, Mbr, free_json, print_check, print_check_json, print_free, show_table,
-    table_json,
-};
+use gptedit_look::first_sector::read_first_sector;
+use gptedit_look::{FirstSector, Look, MbrKind};
+use gptedit_report::{CopiesState, Edges, free_json, print_free, show_table, table_json};
+use gptedit_salvage::salvage;
+use gptedit_text::values::Escaped;
 use gptedit_text::{Header, write_layout};
-use gptimg_core::BothCopies;
 use gptman::GPT;
 use std::alloc::Global;
 use std::io::Write;
 
-// The size of a sector in bytes, where nothing tells it.
-const USUAL_SIZE: u64 = 512;
+/// Says on standard error that the disk has a DOS partition table, if that is what its first sector is.
+pub fn warn_of_dos<R: Eprint>(rt: &R, image: &Image<'_>, first_sector: &FirstSector) {
+    if first_sector.kind == MbrKind::Dos {
+        let name = Escaped(image.name);
+        let _ = eprintln!(rt;
+            "gptedit: {name}: the disk has a DOS partition table; a GUID partition table there may be an old one"
+        );
+    }
+}
+
+/// Says it of an image at which nothing else was looked.
+pub fn look_for_dos<R: Eprint + AllocGlobal>(rt: &R, image: &mut Image<'_>) -> Result<(), Failure> {
+    match read_first_sector(rt.alloc(), &mut image.opened.disk, USUAL_SIZE) {
+        Ok(first_sector) => {
+            warn_of_dos(rt, image, &first_sector);
+            Ok(())
+        }
+        Err(error) => Err(refuse_error(rt.alloc(), image.name, &error)),
+    }
+}
 
 /// Prints the table.
 pub fn show<W: Write>(
     out: &mut W,
     alloc: Global,
     image: &mut Image<'_>,
+    look: &Look,
     is_json: bool,
 ) -> Result<(), Failure> {
-    let table = image.table(alloc)?;
+    let Some(table) = &look.table else {
+        return Err(image.no_table(alloc, look));
+    };
+    let state = state_of(look);
     if is_json {
-        return print_json(out, alloc, image, &table);
+        return print_state_json(out, alloc, image, look, table, &state, false);
     }
-    let copies = image.copies(alloc, table.sector_size)?;
-    let state = CopiesState::new(&copies.primary, &copies.backup, copies.are_same);
-    show_table(out, alloc, image.name, image.size, &table, &state)?;
+    show_table(out, alloc, image.name, look.size, table, &state)?;
     Ok(())
 }
 
-/// Prints the table as JSON, with what both copies on the disk are.
-pub fn print_json<W: Write>(
-    out: &mut W,
-    alloc: Global,
-    image: &mut Image<'_>,
-    table: &GPT,
-) -> Result<(), Failure> {
-    let copies = image.copies(alloc, table.sector_size)?;
-    let state = CopiesState::new(&copies.primary, &copies.backup, copies.are_same);
-    print_state_json(out, alloc, image, table, &state)
+/// Returns what both copies are.
+pub fn state_of(look: &Look) -> CopiesState<'_> {
+    let copies = &look.copies;
+    CopiesState::new(&copies.primary, &copies.backup, copies.are_same)
 }
 
 /// Prints the table as JSON, where both copies are so.
@@ -52,81 +65,41 @@ pub fn print_state_json<W: Write>(
     out: &mut W,
     alloc: Global,
     image: &Image<'_>,
+    look: &Look,
     table: &GPT,
     state: &CopiesState<'_>,
+    is_dry: bool,
 ) -> Result<(), Failure> {
-    let free = free_in(alloc, image.name, table)?;
-    let text = table_json(alloc, image.name, image.size, table, state, &free)?;
+    let size = look.size;
+    let free = free_in(alloc, image, look, table, table.align)?;
+    let text = table_json(alloc, image.name, size, table, state, &free, is_dry)?;
     writeln!(out, "{text}")?;
     Ok(())
 }
 
-// The runs of free sectors. A table that is read or made aligns to one sector at least.
-fn free_in(alloc: Global, image: &str, table: &GPT) -> Result<Vec<(u64, u64)>, Failure> {
-    if table.align == 0 {
+// The runs of free sectors that are not the table's own, each from a multiple of so many sectors.
+fn free_in(
+    alloc: Global,
+    image: &Image<'_>,
+    look: &Look,
+    table: &GPT,
+    align: u64,
+) -> Result<Vec<(u64, u64)>, Failure> {
+    let mut table = match table.clone() {
+        Ok(table) => table,
+        Err(_) => return Err(Failure::OutOfMemory),
+    };
+    let edges = Edges::of(&table, look.size);
+    let header = &mut table.header;
+    header.first_usable_lba = header.first_usable_lba.max(edges.least);
+    header.last_usable_lba = header.last_usable_lba.min(edges.most);
+    table.align = align;
+    if align == 0 || table.header.last_usable_lba < table.header.first_usable_lba {
         return Ok(Vec::new(alloc));
     }
     match table.find_free_sectors() {
         Ok(free) => Ok(free),
-        Err(error) => Err(refuse_error(alloc, image, &error)),
-    }
-}
-
-/// Prints what is wrong with the table. Answers whether nothing is.
-pub fn check<W: Write>(
-    out: &mut W,
-    alloc: Global,
-    image: &mut Image<'_>,
-    is_json: bool,
-) -> Result<bool, Failure> {
-    let sector_size = image.sector_size();
-    let table = image.table_if_any(alloc, sector_size)?;
-    let sector_size = match &table {
-        Some(table) => table.sector_size,
-        None => sector_size.unwrap_or(USUAL_SIZE),
-    };
-    let copies = image.copies(alloc, sector_size)?;
-    let mbr = match look_at_mbr(alloc, &mut image.disk) {
-        Ok(mbr) => mbr,
-        Err(error) => return Err(refuse_error(alloc, image.name, &error)),
-    };
-    let has_footer = match has_footer(&mut image.disk) {
-        Ok(has_footer) => has_footer,
-        Err(error) => return Err(refuse_error(alloc, image.name, &error)),
-    };
-    let look = look_of(
-        image.name,
-        image.size,
-        table.as_ref(),
-        &copies,
-        mbr,
-        has_footer,
-    );
-    let is_good = if is_json {
-        print_check_json(out, alloc, &look)?
-    } else {
-        print_check(out, alloc, &look)?
-    };
-    Ok(is_good)
-}
-
-// What a look at a disk found, from its parts.
-fn look_of<'a>(
-    image: &'a str,
-    size: u64,
-    table: Option<&'a GPT>,
-    copies: &'a BothCopies,
-    mbr: Mbr,
-    has_footer: bool,
-) -> Look<'a> {
-    let state = CopiesState::new(&copies.primary, &copies.backup, copies.are_same);
-    Look {
-        image,
-        size,
-        table,
-        state,
-        mbr,
-        has_footer,
+        Err(error) => Err(refuse_error(alloc, image.name, &error)),
     }
 }
 
@@ -135,15 +108,18 @@ pub fn free<W: Write>(
     out: &mut W,
     alloc: Global,
     image: &mut Image<'_>,
+    look: &Look,
     align: Option<Amount>,
     is_json: bool,
 ) -> Result<(), Failure> {
-    let mut table = image.table(alloc)?;
-    table.align = match align {
-        None => 1,
-        Some(amount) => align_in(alloc, image.name, &table, amount)?,
+    let Some(table) = &look.table else {
+        return Err(image.no_table(alloc, look));
     };
-    let free = free_in(alloc, image.name, &table)?;
+    let align = match align {
+        None => 1,
+        Some(amount) => align_in(alloc, image.name, table, amount)?,
+    };
+    let free = free_in(alloc, image, look, table, align)?;
     if is_json {
         let text = free_json(alloc, &free)?;
         writeln!(out, "{text}")?;
@@ -155,12 +131,13 @@ pub fn free<W: Write>(
 
 // The alignment in sectors.
 fn align_in(alloc: Global, image: &str, table: &GPT, amount: Amount) -> Result<u64, Failure> {
-    let refusal = match amount.sectors(table.sector_size.max(1)) {
+    let sector_size = table.sector_size.max(1);
+    let refusal = match amount.sectors(sector_size) {
         Some(0) => Refusal::NoAlignment,
         Some(sectors) => return Ok(sectors),
         None => Refusal::NotWhole(amount),
     };
-    Err(refuse_asked(alloc, image, table, &refusal))
+    Err(refuse_asked(alloc, image, Some(table), sector_size, &refusal))
 }
 
 /// Prints the table as a layout.
@@ -168,17 +145,50 @@ pub fn dump<W: Write>(
     out: &mut W,
     alloc: Global,
     image: &mut Image<'_>,
+    look: &Look,
     is_json: bool,
 ) -> Result<(), Failure> {
-    let table = image.table(alloc)?;
-    if is_json {
-        return print_json(out, alloc, image, &table);
-    }
-    let layout = match layout_of(alloc, &table) {
-        Ok(layout) => layout,
-        Err(error) => return Err(refuse_error(alloc, image.name, &error)),
+    let Some(table) = &look.table else {
+        return Err(image.no_table(alloc, look));
     };
-    let text = write_layout(alloc, &layout, &Header::of(&table))?;
+    if is_json {
+        return print_state_json(out, alloc, image, look, table, &state_of(look), false);
+    }
+    let text = layout_text(alloc, image.name, table)?;
     out.write_all(text.as_bytes())?;
     Ok(())
+}
+
+/// Returns the table as the text of a layout.
+pub fn layout_text(alloc: Global, image: &str, table: &GPT) -> Result<String, Failure> {
+    let layout = match layout_of(alloc, table) {
+        Ok(layout) => layout,
+        Err(error) => return Err(refuse_error(alloc, image, &error)),
+    };
+    Ok(write_layout(alloc, &layout, &Header::of(table))?)
+}
+
+/// Prints what can be read of each copy of a table, good or not. Returns the status to end with.
+pub fn print_salvage<W: Write>(
+    out: &mut W,
+    alloc: Global,
+    image: &mut Image<'_>,
+    is_json: bool,
+) -> Result<u8, Failure> {
+    let asked = image.known_size();
+    let salvaged = match salvage(alloc, &mut image.opened.disk, asked) {
+        Ok(salvaged) => salvaged,
+        Err(error) => return Err(refuse_error(alloc, image.name, &error)),
+    };
+    if is_json {
+        let text = gptedit_salvage::json(alloc, image.name, &salvaged)?;
+        writeln!(out, "{text}")?;
+    } else {
+        gptedit_salvage::print(out, alloc, image.name, &salvaged)?;
+    }
+    Ok(match (salvaged.has_failed(), salvaged.is_empty()) {
+        (true, _) => 5,
+        (false, true) => 3,
+        (false, false) => 0,
+    })
 }

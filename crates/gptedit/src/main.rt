@@ -1,28 +1,32 @@
 //! The program `gptedit COMMAND IMAGE ..`: shows and edits the GUID partition table of a disk image or a
 //! block device.
 //!
-//! Words, texts and reports are those of the libraries `gptedit_words`, `gptedit_text` and `gptedit_report`,
-//! and `gptedit_core` makes one change of a table. Here the image is opened, what stands around the table is
-//! looked at, and what there is to tell goes out.
+//! Words, texts and reports are those of the libraries `gptedit_words`, `gptedit_text` and `gptedit_report`.
+//! `gptedit_busy` opens the image, `gptedit_look` looks at it, and `gptedit_core` makes one change of a table.
+//! Here a change is planned as a dry run, refused if it would cost something that nobody named, made, and told.
 #![tactic(auto)]
 
+mod backup;
 mod changing;
+mod checking;
 mod commands;
-mod devices;
 mod drawing;
 mod failure;
 mod image;
 mod layouts;
 mod looking;
 mod making;
-mod marks;
-mod mbr;
+mod own;
+mod planning;
+mod task;
+mod tasks;
 mod telling;
+mod wiping;
 
 use crate::failure::Failure;
 use gptedit_words::{Request, read_words};
 use std::fs::File;
-use std::io::{BufWriter, Write};
+use std::io::{BufWriter, ErrorKind, Write};
 use std::process::ExitCode;
 use std::random::RandomSource;
 use std::rt::{Env, Files};
@@ -36,13 +40,13 @@ fn main(rt: HostRuntime) -> ExitCode {
         Ok(status) => ExitCode::from(status),
         Err(failure) => {
             let _ = eprintln!(rt; "gptedit: {failure}");
-            ExitCode::FAILURE
+            ExitCode::from(failure.status())
         }
     }
 }
 
-// Does what the words ask for, and answers the status to end with: 0 where it is done, and of `check` where
-// nothing is wrong; 2 where the words ask for nothing.
+// Does what the words ask for, and returns the status to end with: 0 if it is done, and of `check` if nothing is
+// wrong; 2 if the words ask for nothing; else that of the failure.
 fn run<R>(rt: &R) -> Result<u8, Failure>
 where
     R: Env
@@ -56,7 +60,14 @@ where
         + Drop,
 {
     let alloc = rt.alloc();
-    let words: Vec<String> = env::args(rt)?.collect(alloc)?;
+    let words: Vec<String> = match env::args(rt) {
+        Ok(words) => words.collect(alloc)?,
+        Err(error) if error.kind() == ErrorKind::InvalidData => {
+            eprint_not_utf8(rt);
+            return Ok(2);
+        }
+        Err(error) => return Err(Failure::from(error)),
+    };
     let request = match read_words(alloc, words.as_slice()) {
         Ok(request) => request,
         Err(error) => {
@@ -71,4 +82,10 @@ where
     };
     out.flush()?;
     Ok(status)
+}
+
+// Says how an image is named whose path is not UTF-8.
+fn eprint_not_utf8<R: Eprint>(rt: &R) {
+    let _ = eprintln!(rt; "gptedit: a word is not UTF-8");
+    let _ = eprintln!(rt; "let the shell open such a path: `gptedit show /dev/fd/3 3<>PATH`");
 }

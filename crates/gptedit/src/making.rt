@@ -1,254 +1,114 @@
 //! A new table.
 
-ghost use Rattle.std.specs.Prelude.{◌<◌};
-
-use crate::changing::outcome_of;
-use crate::commands::How;
-use crate::drawing::draw_guid;
-use crate::failure::{Failure, refuse, refuse_asked, refuse_error};
+use crate::drawing::{draw_guid, draw_guids};
+use crate::failure::{Failure, refuse, refuse_error};
 use crate::image::Image;
-use crate::looking::{print_json, print_state_json};
-use crate::marks::{find_content, has_header};
-use crate::mbr::{look_at_mbr, write_mbr};
-use gptedit_core::{Amount, Job, Layout, Mode, Outcome};
-use gptedit_report::{CopiesState, Mbr, show_table};
+use crate::task::{Anew, Became, Task, Work};
+use gptedit_core::{Creation, Refusal};
+use gptedit_look::{Look, Purpose};
+use gptedit_text::{Header, OtherValue, Parsed};
 use gptedit_words::NewTable;
-use gptman::GPT;
 use std::alloc::Global;
-use std::fmt;
-use std::io::Write;
 use std::random::RandomSource;
 
-// The size of a sector in bytes, where nothing tells it.
-const USUAL_SIZE: u64 = 512;
+/// The sector size in bytes of a file, if nothing tells it.
+pub const USUAL_SIZE: u64 = 512;
 
-// How many entries a new table has, where nothing is said.
+// How many entries a new table has, if nothing is said.
 const USUAL_COUNT: u32 = 128;
 
-/// Writes an empty table and a protective MBR. Where a good copy of a table stands, the new one is written in
-/// that copy's form, so that a stop leaves one of the two. Answers whether something was written.
-///
-/// Where a table, partitions of an MBR or a file system stand it is refused, unless it is forced.
-pub fn new<R: RandomSource + AllocGlobal, W: Write>(
+/// Returns the task of `new`. Where a table is read, the new one is written over it; a crash leaves one of the
+/// two, unless there is no order of writing that does.
+pub fn new<R: RandomSource + AllocGlobal>(
     rt: &R,
-    out: &mut W,
     image: &mut Image<'_>,
+    look: &Look,
     asked: NewTable,
-    how: How,
-) -> Result<bool, Failure> {
-    let alloc = rt.alloc();
-    let sector_size = image.sector_size().unwrap_or(USUAL_SIZE).max(1);
-    let there = There::find(alloc, image, sector_size)?;
-    if !how.is_forced && there.is_something() {
-        return Err(refuse(alloc, image.name, &there));
-    }
+) -> Result<Task, Failure> {
     let guid = match asked.guid {
         Some(guid) => guid,
         None => draw_guid(rt)?,
     };
-    let table = match &there.table {
-        Some(was) if was.sector_size == sector_size && was.has_layout(image.size) => {
-            let count = was.header.number_of_partition_entries;
-            match asked.entries {
-                Some(other) if other != count => {
-                    replace_by_other(rt, image, was, guid, other, how.is_dry)?
-                }
-                _ => replace(rt, image, was, guid, how.is_dry)?,
-            }
-        }
-        _ => {
-            let count = asked.entries.unwrap_or(USUAL_COUNT);
-            write_new(alloc, image, sector_size, guid, count, how.is_dry)?
-        }
+    let usual = match &look.table {
+        Some(table) => table.header.number_of_partition_entries,
+        None => USUAL_COUNT,
     };
-    if !how.is_dry {
-        write_mbr(alloc, image, sector_size)?;
-    }
-    tell_new(alloc, out, image, &there, &table, how)?;
-    Ok(!how.is_dry)
-}
-
-// What stands on an image, and would be lost.
-#[derive(Drop)]
-struct There {
-    table: Option<GPT>,
-    mbr: Mbr,
-    content: Option<&'static str>,
-    has_header: bool,
-}
-
-impl There {
-    // What stands there, where sectors are to have so many bytes.
-    fn find(alloc: Global, image: &mut Image<'_>, sector_size: u64) -> Result<There, Failure> {
-        let table = match image.table_if_any(alloc, Some(sector_size.max(1)))? {
-            Some(table) => Some(table),
-            None => image.table_if_any(alloc, None)?,
-        };
-        let mbr = match look_at_mbr(alloc, &mut image.disk) {
-            Ok(mbr) => mbr,
-            Err(error) => return Err(refuse_error(alloc, image.name, &error)),
-        };
-        let content = match find_content(alloc, &mut image.disk) {
-            Ok(content) => content,
-            Err(error) => return Err(refuse_error(alloc, image.name, &error)),
-        };
-        let has_header = match has_header(&mut image.disk) {
-            Ok(has_header) => has_header,
-            Err(error) => return Err(refuse_error(alloc, image.name, &error)),
-        };
-        Ok(There {
-            table,
-            mbr,
-            content,
-            has_header,
-        })
-    }
-
-    // Whether anything would be lost.
-    fn is_something(&self) -> bool {
-        self.table.is_some() || self.has_header || self.mbr != Mbr::None || self.content.is_some()
-    }
-
-    // What it is.
-    fn name(&self) -> &'static str {
-        match (&self.table, self.content, self.mbr) {
-            (Some(_table), _, _) => "a GUID partition table",
-            (None, _, _) if self.has_header => "the header of a GUID partition table",
-            (None, Some(name), _) => name,
-            (None, None, Mbr::Dos | Mbr::Hybrid) => "an MBR with partitions",
-            (None, None, Mbr::Protective) => "a protective MBR",
-            (None, None, Mbr::None) => "nothing that is known",
-        }
-    }
-}
-
-// What is there, and what to do.
-impl fmt::Display for There {
-    fn fmt<W: fmt::Write>(&self, f: &mut fmt::Formatter<W>) -> fmt::Result {
-        write!(f, "there is {}", self.name())?;
-        if let Some(table) = &self.table {
-            let count = table.iter().filter(|(_, entry)| entry.is_used()).count();
-            write!(f, " of {count} partitions")?;
-        }
-        f.write_str(", which would be lost\n--force writes a new table all the same")
-    }
-}
-
-// Writes an empty table where this one stands.
-fn replace<R: RandomSource + AllocGlobal>(
-    rt: &R,
-    image: &mut Image<'_>,
-    was: &GPT,
-    guid: [u8; 16],
-    is_dry: bool,
-) -> Result<GPT, Failure> {
-    let alloc = rt.alloc();
-    let mut removed = Vec::new(alloc);
-    for (number, entry) in was.iter() {
-        if entry.is_used() {
-            removed.push(number)?;
-        }
-    }
-    let layout = Layout {
-        mode: Mode::Become { replace: true },
-        disk_guid: Some(guid),
-        align: Amount::Sectors(1),
-        removed,
-        asked: Vec::new(alloc),
+    let creation = Creation {
+        guid,
+        entries: asked.entries.unwrap_or(usual),
+        first_usable: None,
+        last_usable: None,
+        layout: None,
+        random: Vec::new(rt.alloc()),
+        may_lose: false,
+        is_dry: true,
     };
-    let outcome = outcome_of(rt, image, Job::Lay(layout), is_dry)?;
-    if matches!(&outcome, Outcome::Unchanged { .. }) {
-        // The table is the new one already, and may stand in one place alone.
-        let again = outcome_of(rt, image, Job::Rewrite, is_dry)?;
-        return table_of(alloc, image, again);
+    let mut anew = Anew::new(creation);
+    if look.table.is_none() {
+        return Ok(task_of(Work::Make(anew)));
     }
-    table_of(alloc, image, outcome)
+    if is_unsafe(rt.alloc(), image, look, &mut anew)? {
+        anew.let_lose();
+    }
+    Ok(task_of(Work::Remake(anew)))
 }
 
-// Writes an empty table of another number of entries where this one stands. The backup copy is written first,
-// so that the primary one has to be good before.
-fn replace_by_other<R: RandomSource + AllocGlobal>(
-    rt: &R,
-    image: &mut Image<'_>,
-    was: &GPT,
-    guid: [u8; 16],
-    count: u32,
-    is_dry: bool,
-) -> Result<GPT, Failure>
-    requires { 0 < was.now.sector_size }
-{
-    let alloc = rt.alloc();
-    if was.is_backup() {
-        let mended = outcome_of(rt, image, Job::Rewrite, is_dry)?;
-        table_of(alloc, image, mended)?;
-    }
-    write_new(alloc, image, was.sector_size, guid, count, is_dry)
-}
-
-// The table that stands after this, or why it was refused.
-fn table_of(alloc: Global, image: &Image<'_>, outcome: Outcome) -> Result<GPT, Failure> {
-    match outcome {
-        Outcome::Changed { next, .. } => Ok(next),
-        Outcome::Unchanged { table } => Ok(table),
-        Outcome::Refused { table, refusal } => {
-            Err(refuse_asked(alloc, image.name, &table, &refusal))
-        }
+// The task that writes a new table.
+fn task_of(work: Work) -> Task {
+    Task {
+        work,
+        purpose: Purpose::New,
+        only_removes: false,
     }
 }
 
-// Writes an empty table of so many entries.
-fn write_new(
+// Whether no order of writing keeps a copy of the old table or of the new one.
+fn is_unsafe(
     alloc: Global,
     image: &mut Image<'_>,
-    sector_size: u64,
-    guid: [u8; 16],
-    count: u32,
-    is_dry: bool,
-) -> Result<GPT, Failure>
-    requires { 0 < sector_size }
-{
-    let mut table = match GPT::with_entries(alloc, &mut image.disk, sector_size, guid, count) {
-        Ok(table) => table,
-        Err(error) => return Err(refuse_error(alloc, image.name, &error)),
-    };
-    if is_dry {
-        return Ok(table);
-    }
-    match table.write_into(&mut image.disk) {
-        Ok(_other) => Ok(table),
+    look: &Look,
+    anew: &mut Anew,
+) -> Result<bool, Failure> {
+    match anew.remake(alloc, image, look.sector_size.max(1), true) {
+        Ok(Became::Refused { refusal, .. }) => Ok(matches!(
+            refusal,
+            Refusal::NoSafeOrder | Refusal::NotLaidOut
+        )),
+        Ok(_) => Ok(false),
         Err(error) => Err(refuse_error(alloc, image.name, &error)),
     }
 }
 
-// Tells of the new table.
-fn tell_new<W: Write>(
-    alloc: Global,
-    out: &mut W,
-    image: &mut Image<'_>,
-    there: &There,
-    table: &GPT,
-    how: How,
-) -> Result<(), Failure> {
-    if how.is_json && how.is_dry {
-        return print_state_json(out, alloc, image, table, &CopiesState::Good);
+/// Returns the task of `apply --create` where no table is read: a new table with what the layout asks for.
+pub fn create<R: RandomSource + AllocGlobal>(
+    rt: &R,
+    look: &Look,
+    file: &str,
+    parsed: Parsed,
+) -> Result<Task, Failure> {
+    if let Some(said) = parsed.header.sector_size {
+        let is = look.sector_size;
+        if said != is {
+            let key = "sector-size";
+            return Err(refuse(rt.alloc(), file, &OtherValue { key, said, is }));
+        }
     }
-    if how.is_json {
-        return print_json(out, alloc, image, table);
+    let guid = match parsed.layout.disk_guid {
+        Some(guid) => guid,
+        None => draw_guid(rt)?,
+    };
+    let random = draw_guids(rt, parsed.layout.asked.len())?;
+    let creation = parsed.into_creation(guid, random);
+    Ok(task_of(Work::Make(Anew::new(creation))))
+}
+
+/// Returns the sector size in bytes that a layout says, if that is one.
+pub fn size_in(header: &Header) -> Option<u64> {
+    match header.sector_size {
+        Some(512) => Some(512),
+        Some(1024) => Some(1024),
+        Some(2048) => Some(2048),
+        Some(4096) => Some(4096),
+        _ => None,
     }
-    if how.is_dry {
-        writeln!(
-            out,
-            "a dry run, nothing is written; there is {}:",
-            there.name()
-        )?;
-    }
-    show_table(
-        out,
-        alloc,
-        image.name,
-        image.size,
-        table,
-        &CopiesState::Good,
-    )?;
-    Ok(())
 }

@@ -1,76 +1,143 @@
 //! What became of a change.
 
 use crate::commands::How;
-use crate::failure::{Failure, refuse_asked};
+use crate::failure::{Failure, refuse_error};
 use crate::image::Image;
-use crate::looking::{print_json, print_state_json};
-use gptedit_core::Outcome;
-use gptedit_report::{CopiesState, print_changes};
-use gptman::GPT;
+use crate::looking::print_state_json;
+use crate::planning::Plan;
+use crate::task::{Task, Work};
+use gptedit_look::{Look, MbrChange, MbrKind, Purpose};
+use gptedit_report::{
+    CopiesState, UnlistedText, WhatText, find_unlisted, print_changes, show_table,
+};
+use gptimg_core::check;
 use std::alloc::Global;
 use std::io::Write;
 
-/// Tells what became of a table: how it changed, or why it was refused. A change that is only told is told as
-/// it would be.
+/// The line before all that a dry run tells.
+pub const DRY: &[u8] = b"a dry run, nothing is written:\n";
+
+/// What was done, or would be.
+#[derive(Clone, Copy)]
+pub struct Done<'a> {
+    /// The task.
+    pub task: &'a Task,
+    /// What it makes of the table.
+    pub plan: &'a Plan,
+    /// What becomes of the MBR.
+    pub mbr: MbrChange,
+    /// Whether a crash can leave neither the old table nor the new one.
+    pub may_lose: bool,
+}
+
+/// Tells what became of the table: how it changed, or would.
 pub fn tell<W: Write>(
     out: &mut W,
     alloc: Global,
     image: &mut Image<'_>,
-    outcome: &Outcome,
+    look: &Look,
+    done: &Done<'_>,
     how: How,
 ) -> Result<(), Failure> {
-    match outcome {
-        Outcome::Changed { was, next } => tell_change(out, alloc, image, was, next, how),
-        Outcome::Unchanged { table } => tell_same(out, alloc, image, table, how),
-        Outcome::Refused { table, refusal } => {
-            Err(refuse_asked(alloc, image.name, table, refusal))
+    let Done {
+        task,
+        plan,
+        mbr,
+        may_lose,
+    } = *done;
+    if how.is_json {
+        return tell_json(out, alloc, image, look, plan, how);
+    }
+    if how.is_dry && (plan.is_changed || mbr != MbrChange::Left) {
+        out.write_all(DRY)?;
+    }
+    if may_lose {
+        out.write_all(b"a stop may leave neither table\n")?;
+    }
+    if let Some(replaced) = &plan.replaced {
+        let (first, last) = (replaced.first, replaced.last);
+        let what = WhatText(replaced.what);
+        writeln!(
+            out,
+            "sectors {first}..{last} are replaced, where there is {what}"
+        )?;
+    }
+    tell_table(out, alloc, image, look, task, plan)?;
+    tell_mbr(out, task.purpose, mbr)?;
+    tell_hybrid(out, alloc, look, plan)
+}
+
+// Tells of the table as JSON, with what both copies on the disk are, or would be.
+fn tell_json<W: Write>(
+    out: &mut W,
+    alloc: Global,
+    image: &mut Image<'_>,
+    look: &Look,
+    plan: &Plan,
+    how: How,
+) -> Result<(), Failure> {
+    let table = &plan.next;
+    if how.is_dry && plan.is_changed {
+        let state = CopiesState::Good;
+        return print_state_json(out, alloc, image, look, table, &state, true);
+    }
+    let sector_size = table.sector_size.max(1);
+    let copies = match check(alloc, &mut image.opened.disk, sector_size) {
+        Ok(copies) => copies,
+        Err(error) => return Err(refuse_error(alloc, image.name, &error)),
+    };
+    let state = CopiesState::new(&copies.primary, &copies.backup, copies.are_same);
+    print_state_json(out, alloc, image, look, table, &state, how.is_dry)
+}
+
+// Tells how the table changes.
+fn tell_table<W: Write>(
+    out: &mut W,
+    alloc: Global,
+    image: &Image<'_>,
+    look: &Look,
+    task: &Task,
+    plan: &Plan,
+) -> Result<(), Failure> {
+    let next = &plan.next;
+    match (&task.work, &plan.was) {
+        _ if !plan.is_changed => out.write_all(b"unchanged\n")?,
+        (Work::Edit(_), _) if task.purpose == Purpose::Repair => {
+            out.write_all(b"both copies are written anew\n")?
+        }
+        (Work::Edit(_) | Work::Grow(_), Some(was)) => print_changes(out, alloc, was, next)?,
+        _ => show_table(out, alloc, image.name, look.size, next, &CopiesState::Good)?,
+    }
+    Ok(())
+}
+
+// Tells what becomes of the MBR. A new table always has a protective one.
+fn tell_mbr<W: Write>(out: &mut W, purpose: Purpose, mbr: MbrChange) -> Result<(), Failure> {
+    match (mbr, purpose) {
+        (MbrChange::Left, _) | (_, Purpose::New) => (),
+        (MbrChange::Made, _) => out.write_all(b"a protective MBR is written\n")?,
+        (MbrChange::Mended, _) => {
+            out.write_all(b"the protective MBR gets the length of the disk\n")?
         }
     }
-}
-
-// Tells how a table changed.
-fn tell_change<W: Write>(
-    out: &mut W,
-    alloc: Global,
-    image: &mut Image<'_>,
-    was: &GPT,
-    next: &GPT,
-    how: How,
-) -> Result<(), Failure> {
-    if how.is_json && how.is_dry {
-        return print_state_json(out, alloc, image, next, &CopiesState::Good);
-    }
-    if how.is_json {
-        return print_json(out, alloc, image, next);
-    }
-    print_changes(out, alloc, was, next, how.is_dry)?;
     Ok(())
 }
 
-// Tells that a table is as it was.
-fn tell_same<W: Write>(
+// Tells which entries of a hybrid MBR are no partitions now.
+fn tell_hybrid<W: Write>(
     out: &mut W,
     alloc: Global,
-    image: &mut Image<'_>,
-    table: &GPT,
-    how: How,
+    look: &Look,
+    plan: &Plan,
 ) -> Result<(), Failure> {
-    if how.is_json {
-        return print_json(out, alloc, image, table);
-    }
-    out.write_all(b"unchanged\n")?;
-    Ok(())
-}
-
-/// Prints a line, which begins with what it is where nothing is written. There is none in JSON.
-pub fn tell_line<W: Write>(out: &mut W, how: How, done: &str, would: &str) -> Result<(), Failure> {
-    if how.is_json {
+    let Some(was) = &plan.was else {
+        return Ok(());
+    };
+    if look.first_sector.kind != MbrKind::Hybrid {
         return Ok(());
     }
-    if how.is_dry {
-        writeln!(out, "{would}")?;
-    } else {
-        writeln!(out, "{done}")?;
+    for listed in find_unlisted(alloc, &look.first_sector, was, &plan.next)?.iter() {
+        writeln!(out, "{}", UnlistedText(*listed))?;
     }
     Ok(())
 }

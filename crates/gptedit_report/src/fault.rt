@@ -1,5 +1,6 @@
 //! What the library's errors mean, and what to do.
 
+use gptedit_text::values::Escaped;
 use gptman::Error;
 use std::fmt;
 
@@ -24,7 +25,7 @@ impl fmt::Display for ErrorText<'_> {
             }
             error => writeln!(f, "{}", Meaning(error))?,
         }
-        let image = self.image;
+        let image = Escaped(self.image);
         match command_for(self.error) {
             Some((command, does)) => write!(f, "`gptedit {command} {image}` {does}"),
             None => f.write_str(advice_for(self.error)),

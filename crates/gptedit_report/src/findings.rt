@@ -1,162 +1,270 @@
-//! What may be wrong with the table of a disk, and what mends it.
+//! What may be wrong with the table of a disk, and which commands may mend it.
 
-use crate::check::{Look, Mbr};
+use crate::bounds::Edges;
 use crate::copies::CopiesState;
+use crate::entries::{EntryFault, Removal, find_entry_faults};
 use crate::fault::Meaning;
 use crate::layout::Standing;
+use crate::way::{Otherwise, Way};
+use gptedit_look::{Look, MbrKind, Place, Signature};
 use gptimg_core::name_of;
 use gptman::{Error, GPT};
 use std::alloc::{AllocError, Global};
 use std::fmt;
 
-/// Something that is wrong, and what mends it.
-#[derive(Clone, Copy)]
-pub(crate) struct Finding<'a> {
-    pub(crate) wrong: Wrong<'a>,
-    pub(crate) mend: Mend,
+/// Something that is found at a disk.
+#[derive(Drop)]
+pub struct Finding<'a> {
+    /// What it is.
+    pub wrong: Wrong<'a>,
+    /// The commands that may mend it, the best one first. The caller keeps the one to name.
+    pub ways: Vec<Way>,
+    /// What is said if no command mends it.
+    pub otherwise: Otherwise,
 }
 
-/// What is wrong.
+/// What is found.
 #[derive(Clone, Copy)]
-pub(crate) enum Wrong<'a> {
+pub enum Wrong<'a> {
+    /// The primary copy has this fault.
     PrimaryBad(&'a Error),
+    /// The backup copy has this fault.
     BackupBad(&'a Error),
+    /// The primary copy says that it is elsewhere.
     PrimaryElsewhere,
+    /// The backup copy says that it is elsewhere.
     BackupElsewhere,
+    /// The two copies are two tables.
     TwoTables,
-    /// The disk is longer than the table says, which ends at this sector.
+    /// The disk is longer than the table, which ends at this sector.
     Grown(u64),
     /// The disk ends before this sector, where the table ends.
     Cut(u64),
+    /// The table is not where gptedit writes one.
     NoLayout,
-    SharedGuid,
-    BadBoundaries,
+    /// A usable sector is one of a copy's, or the last one is lower than it may be.
+    Bounds(Edges),
+    /// Something is wrong with entries.
+    Entry(EntryFault),
+    /// There is no MBR.
     NoMbr,
+    /// The MBR is one of a DOS disk.
     DosMbr,
+    /// The protective MBR has the length of another disk.
+    MbrLength,
+    /// The MBR has so many protective entries.
+    Protective(u8),
+    /// The MBR lists partitions beside the protective entry.
+    Hybrid,
+    /// The header of a table with another sector size is here.
+    Signature(Signature),
+    /// The disk ends with this footer.
+    Footer(&'static str),
 }
 
-/// What mends it.
-#[derive(Clone, Copy)]
-pub(crate) enum Mend {
-    Repair,
-    Grow,
-    SetGuid,
-    Remove,
-    Save,
-    Lengthen,
-    OtherTool,
-}
-
-/// All that is wrong.
-pub(crate) fn find_all<'a>(alloc: Global, look: &Look<'a>) -> Result<Vec<Finding<'a>>, AllocError> {
-    let mut findings = Vec::new(alloc);
-    let standing = match look.table {
-        Some(table) => Some(Standing::of(table, look.size)),
-        None => None,
-    };
-    let mend = if look.mbr == Mbr::Dos {
-        Mend::OtherTool
-    } else {
-        mend_of(standing, look.has_footer)
-    };
-    add_copies(&mut findings, look.state, mend)?;
-    if let Some(standing) = standing {
-        add_standing(&mut findings, standing, mend)?;
-    }
-    if let Some(table) = look.table {
-        add_entries(&mut findings, table, look.size)?;
-    }
-    if let Some(finding) = wrong_mbr(look.mbr, mend) {
-        findings.push(finding)?;
-    }
-    Ok(findings)
-}
-
-// What mends copies of a table that stands so.
-fn mend_of(standing: Option<Standing>, has_footer: bool) -> Mend {
-    match standing {
-        None => Mend::Save,
-        Some(Standing::Right) => Mend::Repair,
-        Some(Standing::Grown(_)) if has_footer => Mend::OtherTool,
-        Some(Standing::Grown(_)) => Mend::Grow,
-        Some(Standing::Cut(_)) => Mend::Lengthen,
-        Some(Standing::Other) => Mend::OtherTool,
+impl Wrong<'_> {
+    /// Reports whether this is only worth knowing, and not wrong.
+    pub fn is_note(&self) -> bool {
+        matches!(self, Wrong::Hybrid | Wrong::Footer(_))
     }
 }
 
-// Adds what is wrong with the copies.
-fn add_copies<'a>(
-    findings: &mut Vec<Finding<'a>>,
-    state: CopiesState<'a>,
-    mend: Mend,
-) -> Result<(), AllocError> {
-    let wrong = match state {
-        CopiesState::Good => return Ok(()),
-        CopiesState::PrimaryBad(fault) => Wrong::PrimaryBad(fault),
-        CopiesState::BackupBad(fault) => Wrong::BackupBad(fault),
-        CopiesState::BothBad(primary, backup) => {
-            findings.push(Finding {
-                wrong: Wrong::PrimaryBad(primary),
-                mend,
-            })?;
-            Wrong::BackupBad(backup)
+/// Returns all that is found, in the order in which it is printed.
+pub fn find_all<'a>(alloc: Global, look: &'a Look) -> Result<Vec<Finding<'a>>, AllocError> {
+    let mut findings = Findings::new(alloc, look)?;
+    findings.add_copies()?;
+    findings.add_standing()?;
+    findings.add_bounds()?;
+    findings.add_entries()?;
+    findings.add_mbr()?;
+    findings.add_others()?;
+    let Findings { list, .. } = findings;
+    Ok(list)
+}
+
+// What is found so far, and of which disk.
+#[derive(Drop)]
+struct Findings<'a> {
+    alloc: Global,
+    look: &'a Look,
+    standing: Option<Standing>,
+    faults: Vec<EntryFault>,
+    removal: Removal,
+    list: Vec<Finding<'a>>,
+}
+
+impl<'a> Findings<'a> {
+    fn new(alloc: Global, look: &'a Look) -> Result<Findings<'a>, AllocError> {
+        let faults = match &look.table {
+            Some(table) => find_entry_faults(alloc, table)?,
+            None => Vec::new(alloc),
+        };
+        let standing = look
+            .table
+            .as_ref()
+            .map(|table| Standing::of(table, look.size));
+        Ok(Findings {
+            alloc,
+            look,
+            standing,
+            removal: Removal::of(alloc, &faults)?,
+            faults,
+            list: Vec::new(alloc),
+        })
+    }
+
+    // Adds a finding that the commands for the table as a whole may mend.
+    fn add(&mut self, wrong: Wrong<'a>) -> Result<(), AllocError> {
+        let mut ways = Vec::new(self.alloc);
+        match self.standing {
+            None | Some(Standing::Cut(_)) => (),
+            Some(Standing::Right) => ways.push(Way::Repair)?,
+            Some(Standing::Grown(_)) => ways.push(Way::Grow)?,
+            Some(Standing::Other) if self.are_bounds_over() => ways.push(Way::RepairBounds)?,
+            Some(Standing::Other) => (),
         }
-        CopiesState::PrimaryElsewhere => Wrong::PrimaryElsewhere,
-        CopiesState::BackupElsewhere => Wrong::BackupElsewhere,
-        CopiesState::TwoTables => Wrong::TwoTables,
-    };
-    findings.push(Finding { wrong, mend })?;
-    Ok(())
-}
+        if let Some(way) = self.removal.way(self.alloc)? {
+            ways.push(way)?;
+        }
+        let otherwise = match self.standing {
+            None => Otherwise::Save,
+            Some(Standing::Cut(_)) => Otherwise::Lengthen,
+            _ => Otherwise::OtherTool,
+        };
+        self.push(wrong, ways, otherwise)
+    }
 
-// Adds what is wrong with a table that stands so.
-fn add_standing(
-    findings: &mut Vec<Finding<'_>>,
-    standing: Standing,
-    mend: Mend,
-) -> Result<(), AllocError> {
-    let wrong = match standing {
-        Standing::Right => return Ok(()),
-        Standing::Grown(last) => Wrong::Grown(last),
-        Standing::Cut(last) => Wrong::Cut(last),
-        Standing::Other => Wrong::NoLayout,
-    };
-    findings.push(Finding { wrong, mend })?;
-    Ok(())
-}
+    // Whether a usable sector is one of a copy's.
+    fn are_bounds_over(&self) -> bool {
+        match &self.look.table {
+            Some(table) => Edges::of(table, self.look.size).are_over(),
+            None => false,
+        }
+    }
 
-// Adds what is wrong with the entries.
-fn add_entries(findings: &mut Vec<Finding<'_>>, table: &GPT, size: u64) -> Result<(), AllocError> {
-    let finding = match table.check_write(size) {
-        Err(Error::ConflictPartitionGUID) => Finding {
-            wrong: Wrong::SharedGuid,
-            mend: Mend::SetGuid,
-        },
-        Err(Error::InvalidPartitionBoundaries) => Finding {
-            wrong: Wrong::BadBoundaries,
-            mend: Mend::Remove,
-        },
-        Err(Error::OutOfMemory) => return Err(AllocError),
-        _ => return Ok(()),
-    };
-    findings.push(finding)?;
-    Ok(())
-}
+    fn push(
+        &mut self,
+        wrong: Wrong<'a>,
+        ways: Vec<Way>,
+        otherwise: Otherwise,
+    ) -> Result<(), AllocError> {
+        self.list.push(Finding {
+            wrong,
+            ways,
+            otherwise,
+        })?;
+        Ok(())
+    }
 
-// What is wrong with the first sector.
-fn wrong_mbr<'a>(mbr: Mbr, mend: Mend) -> Option<Finding<'a>> {
-    match mbr {
-        Mbr::Protective | Mbr::Hybrid => None,
-        Mbr::None => Some(Finding {
-            wrong: Wrong::NoMbr,
-            mend,
-        }),
-        Mbr::Dos => Some(Finding {
-            wrong: Wrong::DosMbr,
-            mend: Mend::OtherTool,
-        }),
+    // Adds a finding that no command mends.
+    fn add_only(&mut self, wrong: Wrong<'a>) -> Result<(), AllocError> {
+        let ways = Vec::new(self.alloc);
+        self.push(wrong, ways, Otherwise::OtherTool)
+    }
+
+    // Adds what is wrong with the copies.
+    fn add_copies(&mut self) -> Result<(), AllocError> {
+        let copies = &self.look.copies;
+        match CopiesState::new(&copies.primary, &copies.backup, copies.are_same) {
+            CopiesState::Good => Ok(()),
+            CopiesState::PrimaryBad(fault) => self.add(Wrong::PrimaryBad(fault)),
+            CopiesState::BackupBad(fault) => self.add(Wrong::BackupBad(fault)),
+            CopiesState::BothBad(primary, backup) => {
+                self.add(Wrong::PrimaryBad(primary))?;
+                self.add(Wrong::BackupBad(backup))
+            }
+            CopiesState::PrimaryElsewhere => self.add(Wrong::PrimaryElsewhere),
+            CopiesState::BackupElsewhere => self.add(Wrong::BackupElsewhere),
+            CopiesState::TwoTables => self.add(Wrong::TwoTables),
+        }
+    }
+
+    // Adds where the table is.
+    fn add_standing(&mut self) -> Result<(), AllocError> {
+        match self.standing {
+            None | Some(Standing::Right) => Ok(()),
+            Some(Standing::Grown(last)) => self.add(Wrong::Grown(last)),
+            Some(Standing::Cut(last)) => self.add(Wrong::Cut(last)),
+            Some(Standing::Other) => self.add(Wrong::NoLayout),
+        }
+    }
+
+    // Adds usable sectors that are the table's own, or leave out some at the end.
+    fn add_bounds(&mut self) -> Result<(), AllocError> {
+        let Some(table) = &self.look.table else {
+            return Ok(());
+        };
+        let copies = &self.look.copies;
+        let state = CopiesState::new(&copies.primary, &copies.backup, copies.are_same);
+        let edges = Edges::of(table, self.look.size);
+        let is_low = edges.is_low() && matches!(state, CopiesState::BackupElsewhere);
+        if !edges.are_over() && !is_low {
+            return Ok(());
+        }
+        let mut ways = vec![in self.alloc; Way::RepairBounds]?;
+        if let Some(way) = self.removal.way(self.alloc)? {
+            ways.push(way)?;
+        }
+        self.push(Wrong::Bounds(edges), ways, Otherwise::OtherTool)
+    }
+
+    // Adds what is wrong with entries.
+    fn add_entries(&mut self) -> Result<(), AllocError> {
+        let are_few = self.faults.len() <= MOST_SINGLE;
+        for i in 0..self.faults.len() {
+            let Some(fault) = self.faults.get(i).copied() else {
+                return Ok(());
+            };
+            let mut ways = Vec::new(self.alloc);
+            if are_few {
+                fault.add_ways(self.alloc, &mut ways)?;
+            }
+            if fault.is_shared_guid() {
+                ways.push(Way::Randomize)?;
+            }
+            if let Some(way) = self.removal.way(self.alloc)? {
+                ways.push(way)?;
+            }
+            self.push(Wrong::Entry(fault), ways, Otherwise::OtherTool)?;
+        }
+        Ok(())
+    }
+
+    // Adds what is wrong with the MBR.
+    fn add_mbr(&mut self) -> Result<(), AllocError> {
+        let first = &self.look.first_sector;
+        let count = first.protective_count;
+        let is_length_right = first.is_length_right;
+        match first.kind {
+            MbrKind::None => return self.add(Wrong::NoMbr),
+            MbrKind::Dos => return self.add_only(Wrong::DosMbr),
+            MbrKind::Hybrid => self.add_only(Wrong::Hybrid)?,
+            MbrKind::Protective if count == 1 && !is_length_right => self.add(Wrong::MbrLength)?,
+            MbrKind::Protective => (),
+        }
+        if count > 1 {
+            self.add_only(Wrong::Protective(count))?;
+        }
+        Ok(())
+    }
+
+    // Adds headers of tables with another sector size, and a footer.
+    fn add_others(&mut self) -> Result<(), AllocError> {
+        let look = self.look;
+        for signature in look.signatures.iter() {
+            if signature.sector_size != look.sector_size {
+                self.add_only(Wrong::Signature(*signature))?;
+            }
+        }
+        match &look.footer {
+            Some(footer) => self.add_only(Wrong::Footer(footer.name)),
+            None => Ok(()),
+        }
     }
 }
+
+// With more faults of entries than this, only a command that mends all of them is named.
+const MOST_SINGLE: usize = 8;
 
 impl fmt::Display for Wrong<'_> {
     fn fmt<W: fmt::Write>(&self, f: &mut fmt::Formatter<W>) -> fmt::Result {
@@ -164,17 +272,18 @@ impl fmt::Display for Wrong<'_> {
             Wrong::PrimaryBad(fault) => write_bad(f, "primary", *fault),
             Wrong::BackupBad(fault) => write_bad(f, "backup", *fault),
             Wrong::Grown(last) => {
-                write!(
-                    f,
-                    "the disk is longer than the table says, which ends at sector {last}"
-                )
+                f.write_str("the disk is longer than the table says, which ends at sector ")?;
+                write!(f, "{last}")
             }
             Wrong::Cut(last) => {
-                write!(
-                    f,
-                    "the disk is shorter than the table says, which ends at sector {last}"
-                )
+                f.write_str("the disk is shorter than the table says, which ends at sector ")?;
+                write!(f, "{last}")
             }
+            Wrong::Bounds(edges) => write!(f, "{edges}"),
+            Wrong::Entry(fault) => write!(f, "{fault}"),
+            Wrong::Protective(count) => write!(f, "the MBR has {count} entries of type 0xEE"),
+            Wrong::Signature(signature) => write_signature(f, signature),
+            Wrong::Footer(name) => write!(f, "the image ends with {name}"),
             other => f.write_str(other.text()),
         }
     }
@@ -186,58 +295,37 @@ fn write_bad<W: fmt::Write>(f: &mut fmt::Formatter<W>, place: &str, fault: &Erro
     write!(f, "the {place} copy is bad ({name}: {meaning})")
 }
 
+// That there is a header of a table with another sector size.
+fn write_signature<W: fmt::Write>(f: &mut fmt::Formatter<W>, signature: &Signature) -> fmt::Result {
+    let Signature {
+        sector_size,
+        place,
+        at,
+    } = *signature;
+    let place = match place {
+        Place::Start => "start",
+        Place::End => "end",
+    };
+    write!(
+        f,
+        "the header of a table with sectors of {sector_size} bytes is at the {place}, at byte {at}"
+    )
+}
+
 impl Wrong<'_> {
-    // What is wrong, where that has no numbers.
+    // What it is, where that has no numbers.
     fn text(&self) -> &'static str {
         match self {
             Wrong::PrimaryElsewhere => "the primary copy says that it stands elsewhere",
             Wrong::BackupElsewhere => "the backup copy says that it stands elsewhere",
             Wrong::TwoTables => "the two copies are two tables, of which the primary is taken",
             Wrong::NoLayout => "the table does not stand where gptedit writes one",
-            Wrong::SharedGuid => "two partitions have one GUID",
-            Wrong::BadBoundaries => {
-                "partitions share sectors, end before they start, or lie outside of the usable sectors"
-            }
             Wrong::NoMbr => "there is no protective MBR",
             Wrong::DosMbr => "the disk has a DOS partition table",
+            Wrong::MbrLength => "the protective MBR has another length than the disk",
+            Wrong::Hybrid =>
+                "the MBR is a hybrid one: it lists partitions beside the protective entry",
             _ => "a copy is bad",
-        }
-    }
-}
-
-/// How something is mended.
-#[derive(Clone, Copy)]
-pub(crate) struct WayOut<'a> {
-    pub(crate) mend: Mend,
-    pub(crate) image: &'a str,
-}
-
-impl fmt::Display for WayOut<'_> {
-    fn fmt<W: fmt::Write>(&self, f: &mut fmt::Formatter<W>) -> fmt::Result {
-        let image = self.image;
-        match self.mend {
-            Mend::Repair => write!(f, "`gptedit repair {image}`"),
-            Mend::Grow => write!(f, "`gptedit grow {image}`"),
-            Mend::SetGuid => write!(f, "`gptedit set {image} N --guid GUID` of one of them"),
-            Mend::Remove => write!(f, "`gptedit remove {image} N` of one of them"),
-            Mend::Save => f.write_str("copy the disk before anything is written to it"),
-            Mend::Lengthen => f.write_str("make the disk as long as it was"),
-            Mend::OtherTool => f.write_str("the tool that made it"),
-        }
-    }
-}
-
-impl Mend {
-    /// The word of the command that mends it, where there is one.
-    pub(crate) fn command(self) -> Option<&'static str> {
-        match self {
-            Mend::Repair => Some("repair"),
-            Mend::Grow => Some("grow"),
-            Mend::SetGuid => Some("set"),
-            Mend::Remove => Some("remove"),
-            Mend::Save => None,
-            Mend::Lengthen => None,
-            Mend::OtherTool => None,
         }
     }
 }

@@ -18,7 +18,7 @@ const USUAL_COUNT: u32 = 128;
 
 /// A table as JSON: `partitiontable` as `sfdisk --json` has it, and `gptman` with the copy that was read
 /// (`form`), what both copies are, the size of the disk in bytes, the alignment of places in sectors, and
-/// the runs of free sectors, each with its first sector and its length.
+/// the runs of free sectors, each with its first sector and its length. Of a dry run `dry_run` is true.
 pub fn table_json(
     alloc: Global,
     image: &str,
@@ -26,10 +26,14 @@ pub fn table_json(
     table: &GPT,
     state: &CopiesState<'_>,
     free: &[(u64, u64)],
+    is_dry: bool,
 ) -> Result<String, AllocError> {
     let mut members = Members::new(alloc);
     members.put("partitiontable", standard_value(alloc, image, table)?)?;
     members.put("gptman", own_value(alloc, size, table, state, free)?)?;
+    if is_dry {
+        members.put("dry_run", Value::Bool(true))?;
+    }
     print_json(alloc, &members.into_value())
 }
 

@@ -3,29 +3,43 @@
 //! What is for people is printed into any writer. What is for programs is a text of JSON.
 #![tactic(auto)]
 
+pub mod bounds;
 pub mod changes;
 pub mod check;
 mod columns;
 mod compare;
 pub mod copies;
+pub mod entries;
 pub mod fault;
-mod findings;
+pub mod findings;
 pub mod free;
 pub mod json;
+pub mod kept;
 mod layout;
 mod members;
+pub mod no_table;
+pub mod obstacle;
 pub mod refusal;
 mod sfdisk;
 pub mod show;
 mod texts;
 pub mod types;
+pub mod way;
+pub mod wiped;
 
+pub use bounds::Edges;
 pub use changes::print_changes;
-pub use check::{Look, Mbr, print_check, print_check_json};
+pub use check::{check_json, is_nothing_wrong, print_check};
 pub use copies::CopiesState;
 pub use fault::ErrorText;
+pub use findings::{Finding, Wrong, find_all};
 pub use free::{free_json, print_free};
 pub use json::{print_json, table_json};
+pub use kept::{Shortened, ShortenedText, UnlistedText, find_shortened, find_unlisted};
+pub use no_table::NoTableText;
+pub use obstacle::{ObstacleText, WhatText};
 pub use refusal::{RefusalText, write_bad_boundaries, write_not_laid_out, write_shared_guid};
 pub use show::show_table;
 pub use types::{print_types, types_json};
+pub use way::{Otherwise, Way};
+pub use wiped::wiped_json;

@@ -2,7 +2,7 @@
 
 use crate::texts::EntryText;
 use gptedit_core::{Amount, Refusal};
-use gptedit_text::values::AmountText;
+use gptedit_text::values::{AmountText, Escaped};
 use gptman::GPT;
 use std::fmt;
 
@@ -12,8 +12,10 @@ use std::fmt;
 pub struct RefusalText<'a> {
     /// The refusal.
     pub refusal: &'a Refusal,
-    /// The table as it is on the disk.
-    pub table: &'a GPT,
+    /// The table as it is on the disk, or would be without partitions; `None` if there is none.
+    pub table: Option<&'a GPT>,
+    /// The sector size in bytes.
+    pub sector_size: u64,
     /// The image or device, as it was named.
     pub image: &'a str,
 }
@@ -21,9 +23,9 @@ pub struct RefusalText<'a> {
 impl fmt::Display for RefusalText<'_> {
     fn fmt<W: fmt::Write>(&self, f: &mut fmt::Formatter<W>) -> fmt::Result {
         match self.refusal {
-            Refusal::NotWhole(amount) => write_not_whole(f, *amount, self.table.sector_size),
+            Refusal::NotWhole(amount) => write_not_whole(f, *amount, self.sector_size),
             Refusal::NoAlignment => {
-                f.write_str("partitions cannot begin at multiples of nothing: say --align 1MiB")
+                f.write_str("the alignment must not be zero; use for example --align 1MiB")
             }
             Refusal::NoUnusedEntry => self.write_no_unused(f),
             Refusal::NoEntry(number) => self.write_no_entry(f, *number),
@@ -48,8 +50,16 @@ impl fmt::Display for RefusalText<'_> {
 }
 
 impl RefusalText<'_> {
+    // How many entries the table has.
+    fn count(&self) -> u32 {
+        match self.table {
+            Some(table) => table.header.number_of_partition_entries,
+            None => 0,
+        }
+    }
+
     fn write_no_unused<W: fmt::Write>(&self, f: &mut fmt::Formatter<W>) -> fmt::Result {
-        let (count, image) = (self.table.header.number_of_partition_entries, self.image);
+        let (count, image) = (self.count(), Escaped(self.image));
         write!(
             f,
             "all {count} entries are used: `gptedit remove {image} N` empties one"
@@ -57,7 +67,7 @@ impl RefusalText<'_> {
     }
 
     fn write_no_entry<W: fmt::Write>(&self, f: &mut fmt::Formatter<W>, number: u32) -> fmt::Result {
-        let count = self.table.header.number_of_partition_entries;
+        let count = self.count();
         write!(f, "there is no entry {number}: the table has {count}")
     }
 
@@ -67,7 +77,8 @@ impl RefusalText<'_> {
             f,
             " is there already\nwithout a number the lowest unused one is taken; "
         )?;
-        write!(f, "`gptedit remove {} {number}` empties it", self.image)
+        let image = Escaped(self.image);
+        write!(f, "`gptedit remove {image} {number}` empties it")
     }
 
     fn write_is_unused<W: fmt::Write>(
@@ -78,7 +89,7 @@ impl RefusalText<'_> {
         write!(
             f,
             "entry {number} is not used: `gptedit show {}` lists those that are",
-            self.image
+            Escaped(self.image)
         )
     }
 
@@ -103,7 +114,7 @@ impl RefusalText<'_> {
     }
 
     fn write_no_room<W: fmt::Write>(&self, f: &mut fmt::Formatter<W>, number: u32) -> fmt::Result {
-        let image = self.image;
+        let image = Escaped(self.image);
         write!(
             f,
             "there is no room for partition {number}: `gptedit free {image}` lists what is free"
@@ -113,9 +124,9 @@ impl RefusalText<'_> {
     // The number of a partition, and what is there.
     fn write_entry<W: fmt::Write>(&self, f: &mut fmt::Formatter<W>, number: u32) -> fmt::Result {
         write!(f, "partition {number}")?;
-        match self.table.get(number) {
+        match self.table.and_then(|table| table.get(number)) {
             Some(entry) => {
-                let sector_size = self.table.sector_size;
+                let sector_size = self.sector_size;
                 write!(f, " ({})", EntryText { entry, sector_size })
             }
             None => Ok(()),
@@ -175,6 +186,7 @@ fn write_too_large<W: fmt::Write>(f: &mut fmt::Formatter<W>, number: u32) -> fmt
 
 /// That a table does not stand where gptedit writes one, and what to do.
 pub fn write_not_laid_out<W: fmt::Write>(f: &mut fmt::Formatter<W>, image: &str) -> fmt::Result {
+    let image = Escaped(image);
     writeln!(f, "the table does not stand where gptedit writes one")?;
     write!(
         f,
@@ -217,6 +229,7 @@ fn write_no_safe_order<W: fmt::Write>(f: &mut fmt::Formatter<W>) -> fmt::Result 
 
 /// That two partitions would have one GUID, and what to do.
 pub fn write_shared_guid<W: fmt::Write>(f: &mut fmt::Formatter<W>, image: &str) -> fmt::Result {
+    let image = Escaped(image);
     writeln!(f, "two partitions would have one GUID")?;
     write!(
         f,
@@ -228,12 +241,14 @@ pub fn write_shared_guid<W: fmt::Write>(f: &mut fmt::Formatter<W>, image: &str) 
 pub fn write_bad_boundaries<W: fmt::Write>(
     f: &mut fmt::Formatter<W>,
     image: &str,
-    table: &GPT,
+    table: Option<&GPT>,
 ) -> fmt::Result {
-    let (first, last) = (table.header.first_usable_lba, table.header.last_usable_lba);
-    writeln!(
-        f,
-        "partitions would share sectors, or lie outside of the usable ones, {first}..{last}"
-    )?;
+    let image = Escaped(image);
+    f.write_str("partitions would share sectors, or lie outside of the usable ones")?;
+    if let Some(table) = table {
+        let (first, last) = (table.header.first_usable_lba, table.header.last_usable_lba);
+        write!(f, ", {first}..{last}")?;
+    }
+    f.write_str("\n")?;
     write!(f, "`gptedit free {image}` lists what is free")
 }

@@ -4,6 +4,7 @@
 //! TOML or from a script of `sfdisk`, and written as TOML.
 #![tactic(auto)]
 
+mod creation;
 pub mod dump;
 mod entries;
 pub mod error;

@@ -2,41 +2,61 @@
 
 use crate::definition::{Argument, Definition};
 
-/// The commands, in the order of the help.
-pub(crate) static COMMANDS: [Definition; 15] = [
+/// The commands that only read, in the order of the help.
+pub(crate) static LOOKS: [Definition; 6] = [
     Definition {
         name: "show",
         about: "Shows the table",
         example: "Example:\n  gptedit show disk.img",
-        arguments: &[IMAGE, SECTOR, JSON],
+        arguments: &[IMAGE],
+        options: READING,
     },
     Definition {
         name: "check",
-        about: "Tells what is wrong with the table, and what mends it",
+        about: "Reports what is wrong with the table, and how to mend it",
         example: "Example:\n  gptedit check disk.img",
-        arguments: &[IMAGE, SECTOR, JSON],
+        arguments: &[IMAGE],
+        options: READING,
     },
     Definition {
         name: "free",
-        about: "Shows the runs of free sectors",
+        about: "Shows the ranges of free sectors",
         example: "Example:\n  gptedit free disk.img --align 1MiB",
         arguments: &[
             IMAGE,
             Argument::Value(
                 "--align",
                 "SIZE",
-                "Counts from multiples of this size, as 1MiB or 2048s",
+                "Starts each range at a multiple of this size, as 1MiB or 2048s",
             ),
-            SECTOR,
-            JSON,
         ],
+        options: READING,
+    },
+    Definition {
+        name: "dump",
+        about: "Prints the table as a layout for apply",
+        example: "Example:\n  gptedit dump disk.img > disk.toml",
+        arguments: &[IMAGE],
+        options: READING,
+    },
+    Definition {
+        name: "salvage",
+        about: "Prints what can be read of a damaged table, as a layout for apply --create",
+        example: "Example:\n  gptedit salvage disk.img > disk.toml",
+        arguments: &[IMAGE],
+        options: READING,
     },
     Definition {
         name: "types",
-        about: "Lists the types of partitions that have names",
+        about: "Lists the partition types that have names",
         example: "Example:\n  gptedit types",
-        arguments: &[JSON],
+        arguments: &[],
+        options: &[JSON],
     },
+];
+
+/// The commands that write, in the order of the help.
+pub(crate) static CHANGES: [Definition; 11] = [
     Definition {
         name: "new",
         about: "Writes an empty table and a protective MBR",
@@ -47,13 +67,10 @@ pub(crate) static COMMANDS: [Definition; 15] = [
             Argument::Number(
                 "--entries",
                 MOST_ENTRIES,
-                "How many entries it has [default: 128]",
+                "The number of entries [default: 128]",
             ),
-            DRY_RUN,
-            FORCE,
-            SECTOR,
-            JSON,
         ],
+        options: WRITING,
     },
     Definition {
         name: "add",
@@ -65,7 +82,7 @@ pub(crate) static COMMANDS: [Definition; 15] = [
             Argument::NeededValue(
                 "--size",
                 "SIZE",
-                "Its size, as 64MiB or 2048s; rest takes the longest run of free sectors",
+                "Its size, as 64MiB or 2048s; rest takes the longest free range",
             ),
             NAME,
             GUID,
@@ -73,28 +90,25 @@ pub(crate) static COMMANDS: [Definition; 15] = [
             Argument::Number(
                 "--number",
                 u32::MAX as u64,
-                "Its number [default: the lowest that is not used]",
+                "Its number [default: the lowest unused]",
             ),
-            Argument::Value("--start", "POSITION", "Where it begins, as 1MiB or 2048s"),
+            Argument::Value("--start", "POSITION", "Its start, as 1MiB or 2048s"),
             Argument::Value(
                 "--place",
                 "first|last|best",
-                "Which of the free places it takes, where no start is given [default: first]",
+                "Which free range it takes if no start is given [default: first]",
             ),
             Argument::Value(
                 "--align",
                 "SIZE",
-                "Begins at a multiple of this size [default: 1MiB]",
+                "Starts it at a multiple of this size [default: 1MiB]",
             ),
-            DRY_RUN,
-            FORCE,
-            SECTOR,
-            JSON,
         ],
+        options: WRITING,
     },
     Definition {
         name: "set",
-        about: "Changes the name, the type, the GUID or the attributes of a partition",
+        about: "Changes the name, type, GUID or attributes of a partition",
         example: "Example:\n  gptedit set disk.img 2 --name data",
         arguments: &[
             IMAGE,
@@ -103,11 +117,8 @@ pub(crate) static COMMANDS: [Definition; 15] = [
             Argument::Value("--type", "TYPE", TYPE_HELP),
             GUID,
             ATTRIBUTES,
-            DRY_RUN,
-            FORCE,
-            SECTOR,
-            JSON,
         ],
+        options: WRITING,
     },
     Definition {
         name: "resize",
@@ -118,13 +129,10 @@ pub(crate) static COMMANDS: [Definition; 15] = [
             NUMBER,
             Argument::Place(
                 "SIZE|max",
-                "The new size, as 40GiB or 2048s; max takes all that is free behind it",
+                "The new size, as 40GiB or 2048s; max takes all that is free after it",
             ),
-            DRY_RUN,
-            FORCE,
-            SECTOR,
-            JSON,
         ],
+        options: WRITING,
     },
     Definition {
         name: "remove",
@@ -133,45 +141,46 @@ pub(crate) static COMMANDS: [Definition; 15] = [
         arguments: &[
             IMAGE,
             Argument::NumberPlaces("N", "The numbers of the partitions"),
-            DRY_RUN,
-            FORCE,
-            SECTOR,
-            JSON,
         ],
+        options: WRITING,
     },
     Definition {
         name: "sort",
-        about: "Numbers the partitions by where they begin",
+        about: "Numbers the partitions in the order of their starts",
         example: "Example:\n  gptedit sort disk.img --dry-run",
-        arguments: &[IMAGE, DRY_RUN, FORCE, SECTOR, JSON],
+        arguments: &[IMAGE],
+        options: WRITING,
     },
     Definition {
         name: "grow",
-        about: "Makes the table that of the whole image, which has grown",
+        about: "Fits the table to the present length of the disk",
         example: "Example:\n  truncate -s 20G disk.img && gptedit grow disk.img",
-        arguments: &[IMAGE, DRY_RUN, FORCE, SECTOR, JSON],
+        arguments: &[IMAGE],
+        options: WRITING,
     },
     Definition {
         name: "repair",
-        about: "Writes both copies of the table anew from the good one",
+        about: "Writes both copies of the table again from the good one",
         example: "Example:\n  gptedit repair disk.img",
-        arguments: &[IMAGE, DRY_RUN, FORCE, SECTOR, JSON],
+        arguments: &[
+            IMAGE,
+            Argument::Flag(
+                "--bounds",
+                "Sets the first and last usable sector to the usual ones",
+            ),
+        ],
+        options: WRITING,
     },
     Definition {
         name: "randomize",
-        about: "Gives the disk and its partitions random GUIDs, for a clone",
+        about: "Writes random GUIDs for the disk and its partitions, for a clone",
         example: "Example:\n  gptedit randomize clone.img",
-        arguments: &[IMAGE, DRY_RUN, FORCE, SECTOR, JSON],
-    },
-    Definition {
-        name: "dump",
-        about: "Prints the table as a layout for apply",
-        example: "Example:\n  gptedit dump disk.img > disk.toml",
-        arguments: &[IMAGE, SECTOR, JSON],
+        arguments: &[IMAGE],
+        options: WRITING,
     },
     Definition {
         name: "apply",
-        about: "Makes the table what a layout says",
+        about: "Writes the table that a layout describes",
         example: "Example:\n  gptedit apply disk.img disk.toml",
         arguments: &[
             IMAGE,
@@ -181,14 +190,41 @@ pub(crate) static COMMANDS: [Definition; 15] = [
             ),
             Argument::Flag(
                 "--replace",
-                "Removes or moves partitions that the layout does not have so",
+                "Removes, moves or shortens partitions that the layout has otherwise",
             ),
-            DRY_RUN,
-            FORCE,
-            SECTOR,
-            JSON,
+            Argument::Flag("--create", "Writes a new table if there is none"),
         ],
+        options: WRITING,
     },
+    Definition {
+        name: "wipe",
+        about: "Clears both copies of the table and the protective MBR",
+        example: "Example:\n  gptedit wipe disk.img --overwrite",
+        arguments: &[IMAGE],
+        options: WRITING,
+    },
+];
+
+// The options of the commands that only read.
+const READING: &[Argument] = &[SECTOR, JSON];
+
+// The options of the commands that write.
+const WRITING: &[Argument] = &[
+    Argument::Flag(
+        "--dry-run",
+        "Writes nothing, and shows what would be written",
+    ),
+    Argument::Flag("--overwrite", "Writes also where contents would be lost"),
+    Argument::Flag("--in-use", "Writes also where the device is in use"),
+    Argument::Flag("--force", "Both --overwrite and --in-use"),
+    Argument::Value(
+        "--lock",
+        "wait|fail|none",
+        "What to do if another program has locked the image [default: wait]",
+    ),
+    Argument::Value("--backup", "FILE", "Writes a dump to this file first"),
+    SECTOR,
+    JSON,
 ];
 
 // Linux reads no table of more entries.
@@ -207,17 +243,7 @@ const SECTOR: Argument = Argument::Value(
     "The size of a sector: 512, 1024, 2048, 4096 [default: auto]",
 );
 
-const JSON: Argument = Argument::Flag("--json", "Answers as JSON");
-
-const DRY_RUN: Argument = Argument::Flag(
-    "--dry-run",
-    "Writes nothing, and tells what would be written",
-);
-
-const FORCE: Argument = Argument::Flag(
-    "--force",
-    "Writes where this is refused for what may be lost",
-);
+const JSON: Argument = Argument::Flag("--json", "Prints JSON");
 
 const TYPE_HELP: &str = "Its type: a name that gptedit types lists, or a GUID";
 

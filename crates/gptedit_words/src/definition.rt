@@ -1,6 +1,6 @@
 //! What a command is and takes, and the command of `clap` for it.
 
-use crate::commands::COMMANDS;
+use crate::commands::{CHANGES, LOOKS};
 use clap::builder::ValueParser;
 use clap::{Arg, ArgAction, Command};
 use std::alloc::{AllocError, Global};
@@ -13,8 +13,10 @@ pub(crate) struct Definition {
     pub(crate) about: &'static str,
     /// How it is used.
     pub(crate) example: &'static str,
-    /// The words that it takes.
+    /// Its own words.
     pub(crate) arguments: &'static [Argument],
+    /// The options that it shares with other commands.
+    pub(crate) options: &'static [Argument],
 }
 
 /// A word that a command takes, with its help. An option is known by its long word with the hyphens, and a
@@ -45,7 +47,10 @@ pub fn command<'a>(alloc: Global) -> Result<Command<'a>, AllocError> {
         .subcommand_required(true)
         .arg_required_else_help(true)
         .after_help("Each command has an example: gptedit add --help");
-    for definition in &COMMANDS {
+    for definition in &LOOKS {
+        command = command.subcommand(subcommand(alloc, definition)?)?;
+    }
+    for definition in &CHANGES {
         command = command.subcommand(subcommand(alloc, definition)?)?;
     }
     Ok(command)
@@ -58,6 +63,9 @@ fn subcommand<'a>(alloc: Global, definition: &Definition) -> Result<Command<'a>,
         .after_help(definition.example);
     for argument in definition.arguments {
         command = command.arg(arg_of(alloc, *argument))?;
+    }
+    for option in definition.options {
+        command = command.arg(arg_of(alloc, *option))?;
     }
     Ok(command)
 }

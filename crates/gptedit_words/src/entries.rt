@@ -1,13 +1,18 @@
 //! What the words of `add`, `set`, `resize` and `remove` ask of entries.
 
+ghost use Rattle.std.specs.Prelude.{◌≡◌, ◌∷◌, [], IfOk, None};
+ghost use Rattle.clap.specs.Words.{found_of};
+ghost use Rattle.gptedit_core.specs.declared.asked.Choice.TheVariants.{First};
+ghost use Rattle.gptedit_core.specs.declared.asked.Mode.TheVariants.{Change as Changing};
+ghost use Rattle.gptedit_words.specs.Asks.{AsksAddition, AsksFields, IsAddition, IsRemoval, IsResize, IsSetting, KeepsPlace};
+
 use crate::error::WordsError;
 use crate::request::Change;
-use crate::values::{given, name, number, numbers};
-use clap::ArgMatches;
-use gptedit_core::{Amount, Asked, Choice, Layout, Mode, Size};
-use gptedit_text::values::{
-    Wrong, read_amount, read_attributes, read_choice, read_guid, read_size, read_type,
+use crate::values::{
+    amount, attributes, choice, guid, kind, name, new_size, number, numbers, size,
 };
+use clap::ArgMatches;
+use gptedit_core::{Amount, Asked, Choice, Layout, Mode};
 use std::alloc::{AllocError, Global};
 
 /// At multiples of so much partitions begin, where nothing else is said.
@@ -20,26 +25,37 @@ const ANY: Amount = Amount::Sectors(1);
 pub(crate) fn read_add<'a>(
     alloc: Global,
     words: &ArgMatches<'a>,
-) -> Result<Change<'a>, WordsError<'a>> {
-    let asked = Asked {
-        number: words.get_one("--number"),
-        start: given(words, "--start", |text| read_amount(text))?,
-        size: given(words, "--size", |text| read_size(text))?,
-        choice: given(words, "--place", |text| read_choice(text))?.unwrap_or(Choice::First),
-        ..read_fields(alloc, words)?
-    };
-    let align = given(words, "--align", |text| read_amount(text))?.unwrap_or(ALIGN);
+) -> Result<Change<'a>, WordsError<'a>>
+    ensures { IfOk result (IsAddition (found_of words.now)) }
+{
+    let asked = read_new_entry(alloc, words)?;
+    let align = amount(words, "--align")?.unwrap_or(ALIGN);
     Ok(Change::Lay(Layout {
         mode: Mode::Add,
         ..layout_of(alloc, align, asked)?
     }))
 }
 
+// What the words of `add` ask of the new entry.
+fn read_new_entry<'a>(alloc: Global, words: &ArgMatches<'a>) -> Result<Asked, WordsError<'a>>
+    ensures { IfOk result (AsksAddition (found_of words.now)) }
+{
+    Ok(Asked {
+        number: words.get_one("--number"),
+        start: amount(words, "--start")?,
+        size: size(words, "--size")?,
+        choice: choice(words, "--place")?.unwrap_or(Choice::First),
+        ..read_fields(alloc, words)?
+    })
+}
+
 /// What the words of `set` ask for.
 pub(crate) fn read_set<'a>(
     alloc: Global,
     words: &ArgMatches<'a>,
-) -> Result<Change<'a>, WordsError<'a>> {
+) -> Result<Change<'a>, WordsError<'a>>
+    ensures { IfOk result (IsSetting (found_of words.now)) }
+{
     let fields = ["--name", "--type", "--guid", "--attributes"];
     if !fields.iter().any(|field| words.contains_id(field)) {
         return Err(WordsError::NothingToSet);
@@ -55,28 +71,24 @@ pub(crate) fn read_set<'a>(
 pub(crate) fn read_resize<'a>(
     alloc: Global,
     words: &ArgMatches<'a>,
-) -> Result<Change<'a>, WordsError<'a>> {
+) -> Result<Change<'a>, WordsError<'a>>
+    ensures { IfOk result (IsResize (found_of words.now)) }
+{
     let asked = Asked {
         number: Some(number(words, "N")?),
-        size: given(words, "SIZE|max", |text| read_new_size(text))?,
+        size: new_size(words, "SIZE|max")?,
         ..Asked::nothing(None)
     };
     Ok(Change::Lay(layout_of(alloc, ALIGN, asked)?))
-}
-
-// The size that a word of `resize` says.
-fn read_new_size(text: &str) -> Result<Size, Wrong> {
-    match text {
-        "max" => Ok(Size::Rest),
-        _ => read_amount(text).map(Size::Exactly),
-    }
 }
 
 /// What the words of `remove` ask for.
 pub(crate) fn read_remove<'a>(
     alloc: Global,
     words: &ArgMatches<'a>,
-) -> Result<Change<'a>, WordsError<'a>> {
+) -> Result<Change<'a>, WordsError<'a>>
+    ensures { IfOk result (IsRemoval (found_of words.now)) }
+{
     Ok(Change::Lay(Layout {
         mode: Mode::Change,
         disk_guid: None,
@@ -87,7 +99,13 @@ pub(crate) fn read_remove<'a>(
 }
 
 // The layout that changes one entry.
-fn layout_of(alloc: Global, align: Amount, asked: Asked) -> Result<Layout, AllocError> {
+fn layout_of(alloc: Global, align: Amount, asked: Asked) -> Result<Layout, AllocError>
+    ensures mode { IfOk result (λ layout. layout.mode ≡ Changing) }
+    ensures guid { IfOk result (λ layout. layout.disk_guid ≡ None) }
+    ensures align { IfOk result (λ layout. layout.align ≡ align) }
+    ensures removed { IfOk result (λ layout. layout.removed.items ≡ []) }
+    ensures asked { IfOk result (λ layout. layout.asked.items ≡ asked ∷ []) }
+{
     Ok(Layout {
         mode: Mode::Change,
         disk_guid: None,
@@ -98,11 +116,14 @@ fn layout_of(alloc: Global, align: Amount, asked: Asked) -> Result<Layout, Alloc
 }
 
 // What the options ask of the fields of an entry.
-fn read_fields<'a>(alloc: Global, words: &ArgMatches<'a>) -> Result<Asked, WordsError<'a>> {
+fn read_fields<'a>(alloc: Global, words: &ArgMatches<'a>) -> Result<Asked, WordsError<'a>>
+    ensures fields { IfOk result (AsksFields (found_of words.now)) }
+    ensures place { IfOk result KeepsPlace }
+{
     Ok(Asked {
-        type_guid: given(words, "--type", |text| read_type(text))?,
-        unique_guid: given(words, "--guid", |text| read_guid(text))?,
-        attributes: given(words, "--attributes", |text| read_attributes(text))?,
+        type_guid: kind(words, "--type")?,
+        unique_guid: guid(words, "--guid")?,
+        attributes: attributes(words, "--attributes")?,
         name: name(alloc, words)?,
         ..Asked::nothing(None)
     })

@@ -1,12 +1,15 @@
 //! The words of a command line, read.
 
+ghost use Rattle.std.specs.Prelude.{codes, IfOk};
+ghost use Rattle.clap.specs.Words.{found_of};
+ghost use Rattle.gptedit_words.specs.Asks.{AsksOptions, IsChange, IsCommand, IsRequest};
+
 use crate::definition::command;
 use crate::entries;
 use crate::error::WordsError;
-use crate::request::{Change, Command, ImageRequest, NewTable, Request};
-use crate::values::{given, needed, sector_size};
+use crate::request::{Change, Command, ImageRequest, Lock, NewTable, Options, Request};
+use crate::values::{amount, guid, lock, needed, sector_size};
 use clap::ArgMatches;
-use gptedit_text::values::{read_amount, read_guid};
 use std::alloc::Global;
 
 /// What these words ask for. The first is the program's name.
@@ -15,6 +18,17 @@ pub fn read_words<'a>(alloc: Global, words: &'a [String]) -> Result<Request<'a>,
     let Some((name, words)) = matches.subcommand() else {
         return Err(WordsError::Missing("COMMAND"));
     };
+    read_request(alloc, name, words)
+}
+
+// What the words of this command ask for.
+fn read_request<'a>(
+    alloc: Global,
+    name: &str,
+    words: &ArgMatches<'a>,
+) -> Result<Request<'a>, WordsError<'a>>
+    ensures { IfOk result (IsRequest name.now (found_of words.now)) }
+{
     if name == "types" {
         return Ok(Request::Types {
             is_json: words.get_flag("--json"),
@@ -33,20 +47,36 @@ fn read_command<'a>(
     alloc: Global,
     name: &str,
     words: &ArgMatches<'a>,
-) -> Result<Command<'a>, WordsError<'a>> {
+) -> Result<Command<'a>, WordsError<'a>>
+    ensures { IfOk result (IsCommand name.now (found_of words.now)) }
+{
     match name {
         "show" => Ok(Command::Show),
         "check" => Ok(Command::Check),
         "free" => Ok(Command::Free {
-            align: given(words, "--align", |text| read_amount(text))?,
+            align: amount(words, "--align")?,
         }),
         "dump" => Ok(Command::Dump),
+        "salvage" => Ok(Command::Salvage),
         _ => Ok(Command::Write {
             change: read_change(alloc, name, words)?,
-            is_dry: words.get_flag("--dry-run"),
-            is_forced: words.get_flag("--force"),
+            options: read_options(words)?,
         }),
     }
+}
+
+// The options of a change.
+fn read_options<'a>(words: &ArgMatches<'a>) -> Result<Options<'a>, WordsError<'a>>
+    ensures { IfOk result (AsksOptions (found_of words.now)) }
+{
+    let is_forced = words.get_flag("--force");
+    Ok(Options {
+        is_dry: words.get_flag("--dry-run"),
+        may_overwrite: words.get_flag("--overwrite") || is_forced,
+        may_use: words.get_flag("--in-use") || is_forced,
+        lock: lock(words, "--lock")?.unwrap_or(Lock::Wait),
+        backup: words.get_str("--backup"),
+    })
 }
 
 // What the words of this command make of a table.
@@ -54,7 +84,9 @@ fn read_change<'a>(
     alloc: Global,
     name: &str,
     words: &ArgMatches<'a>,
-) -> Result<Change<'a>, WordsError<'a>> {
+) -> Result<Change<'a>, WordsError<'a>>
+    ensures { IfOk result (IsChange name.now (found_of words.now)) }
+{
     match name {
         "new" => read_new(words),
         "add" => entries::read_add(alloc, words),
@@ -63,25 +95,33 @@ fn read_change<'a>(
         "remove" => entries::read_remove(alloc, words),
         "sort" => Ok(Change::Sort),
         "grow" => Ok(Change::Grow),
-        "repair" => Ok(Change::Repair),
+        "repair" => Ok(Change::Repair {
+            has_usual_bounds: words.get_flag("--bounds"),
+        }),
         "randomize" => Ok(Change::Randomize),
         "apply" => read_apply(words),
+        "wipe" => Ok(Change::Wipe),
         _ => Err(WordsError::Missing("COMMAND")),
     }
 }
 
 // What the words of `new` ask for.
-fn read_new<'a>(words: &ArgMatches<'a>) -> Result<Change<'a>, WordsError<'a>> {
+fn read_new<'a>(words: &ArgMatches<'a>) -> Result<Change<'a>, WordsError<'a>>
+    ensures { IfOk result (IsChange (codes "new") (found_of words.now)) }
+{
     Ok(Change::New(NewTable {
-        guid: given(words, "--guid", |text| read_guid(text))?,
+        guid: guid(words, "--guid")?,
         entries: words.get_one("--entries"),
     }))
 }
 
 // What the words of `apply` ask for.
-fn read_apply<'a>(words: &ArgMatches<'a>) -> Result<Change<'a>, WordsError<'a>> {
+fn read_apply<'a>(words: &ArgMatches<'a>) -> Result<Change<'a>, WordsError<'a>>
+    ensures { IfOk result (IsChange (codes "apply") (found_of words.now)) }
+{
     Ok(Change::Apply {
         file: needed(words, "FILE")?,
         is_replacing: words.get_flag("--replace"),
+        is_creating: words.get_flag("--create"),
     })
 }

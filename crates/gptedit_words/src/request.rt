@@ -41,15 +41,41 @@ pub enum Command<'a> {
     },
     /// To print the table as a layout.
     Dump,
+    /// To print what can still be read of a damaged table, as a layout.
+    Salvage,
     /// To write a table.
     Write {
         /// What the table becomes.
         change: Change<'a>,
-        /// Whether nothing is written, and only what would be is printed.
-        is_dry: bool,
-        /// Whether it is done where it would be refused for what may be lost.
-        is_forced: bool,
+        /// How it is written.
+        options: Options<'a>,
     },
+}
+
+/// How a change is written.
+#[derive(Clone, Copy, PartialEq, Eq, Debug)]
+pub struct Options<'a> {
+    /// Whether nothing is written, and only what would be is printed.
+    pub is_dry: bool,
+    /// Whether contents that would be lost may be overwritten.
+    pub may_overwrite: bool,
+    /// Whether a device that is in use may be written.
+    pub may_use: bool,
+    /// What is done where another program has the lock.
+    pub lock: Lock,
+    /// The path of the file that a dump is written to first.
+    pub backup: Option<&'a str>,
+}
+
+/// What is done where another program has the lock of the image.
+#[derive(Clone, Copy, PartialEq, Eq, Debug)]
+pub enum Lock {
+    /// The program waits.
+    Wait,
+    /// The change is refused.
+    Fail,
+    /// No lock is taken.
+    None,
 }
 
 /// What a new table is to be.
@@ -72,8 +98,11 @@ pub enum Change<'a> {
     Sort,
     /// One that takes the whole image.
     Grow,
-    /// Itself, written anew.
-    Repair,
+    /// Itself, written again from the good copy.
+    Repair {
+        /// Whether the first and last usable sectors become those of the usual layout.
+        has_usual_bounds: bool,
+    },
     /// One with random GUIDs.
     Randomize,
     /// What a layout says.
@@ -82,5 +111,9 @@ pub enum Change<'a> {
         file: &'a str,
         /// Whether partitions that the layout leaves out or moves may be lost.
         is_replacing: bool,
+        /// Whether the table is made where there is none.
+        is_creating: bool,
     },
+    /// None: both copies and the protective MBR are cleared.
+    Wipe,
 }

@@ -1,45 +1,193 @@
 //! The values of words, read.
 
+ghost use Rattle.std.specs.Prelude.{◌≡◌, ◌↔◌, codes, IfOk, IsTrue, Some};
+ghost use Rattle.clap.specs.Words.{first_value, found_of};
+ghost use Rattle.gptedit_text.specs.Words.{SaysAmount, SaysSize};
+ghost use Rattle.gptedit_words.specs.Asks.{Gives, IsNumberOf, SaysChoice, SaysGuid, SaysLock, SaysName, SaysNewSize};
+ghost use Rattle.gptedit_words.specs.Asks.{HasNumbers, IsSectorOf, IsSectorSize, SaysType, texts_of_place};
+
 use crate::error::WordsError;
+use crate::request::Lock;
 use clap::ArgMatches;
-use gptedit_text::values::{Wrong, is_long_name};
+use gptedit_core::{Amount, Choice, Size};
+use gptedit_text::values::{
+    Wrong, is_long_name, read_amount, read_attributes, read_choice, read_guid, read_size, read_type,
+};
 use gptman::PartitionName;
 use std::alloc::Global;
-
-// The sizes that a sector of a disk with a table may have.
-const SECTOR_SIZES: [u64; 4] = [512, 1024, 2048, 4096];
 
 /// The text of a word that is needed.
 pub(crate) fn needed<'a>(
     words: &ArgMatches<'a>,
     word: &'static str,
-) -> Result<&'a str, WordsError<'a>> {
-    words.get_str(word).ok_or(WordsError::Missing(word))
-}
-
-/// The value of an option, where it is given.
-pub(crate) fn given<'a, T, F: Fn(&str) -> Result<T, Wrong>>(
-    words: &ArgMatches<'a>,
-    word: &'static str,
-    read: F,
-) -> Result<Option<T>, WordsError<'a>>
-    requires { F.IsAlwaysCallable read }
+) -> Result<&'a str, WordsError<'a>>
+    ensures { IfOk result (λ text. first_value (found_of words.now) word.now ≡ Some text.now) }
 {
     match words.get_str(word) {
-        None => Ok(None),
-        Some(text) => match read(text) {
-            Ok(value) => Ok(Some(value)),
-            Err(wrong) => Err(WordsError::Value { word, text, wrong }),
+        Some(text) => Ok(text),
+        None => Err(WordsError::Missing(word)),
+    }
+}
+
+/// Returns the amount of a word, where it is given.
+pub(crate) fn amount<'a>(
+    words: &ArgMatches<'a>,
+    word: &'static str,
+) -> Result<Option<Amount>, WordsError<'a>>
+    ensures { IfOk result (Gives SaysAmount (first_value (found_of words.now) word.now)) }
+{
+    let Some(text) = words.get_str(word) else {
+        return Ok(None);
+    };
+    match read_amount(text) {
+        Ok(value) => Ok(Some(value)),
+        Err(wrong) => Err(WordsError::Value { word, text, wrong }),
+    }
+}
+
+/// Returns the size of a word, where it is given.
+pub(crate) fn size<'a>(
+    words: &ArgMatches<'a>,
+    word: &'static str,
+) -> Result<Option<Size>, WordsError<'a>>
+    ensures { IfOk result (Gives SaysSize (first_value (found_of words.now) word.now)) }
+{
+    let Some(text) = words.get_str(word) else {
+        return Ok(None);
+    };
+    match read_size(text) {
+        Ok(value) => Ok(Some(value)),
+        Err(wrong) => Err(WordsError::Value { word, text, wrong }),
+    }
+}
+
+/// Returns the new size of a partition that a word says, where it is given.
+pub(crate) fn new_size<'a>(
+    words: &ArgMatches<'a>,
+    word: &'static str,
+) -> Result<Option<Size>, WordsError<'a>>
+    ensures { IfOk result (Gives SaysNewSize (first_value (found_of words.now) word.now)) }
+{
+    let Some(text) = words.get_str(word) else {
+        return Ok(None);
+    };
+    match read_new_size(text) {
+        Ok(value) => Ok(Some(value)),
+        Err(wrong) => Err(WordsError::Value { word, text, wrong }),
+    }
+}
+
+// Reads a new size: an amount, or `max`.
+fn read_new_size(text: &str) -> Result<Size, Wrong>
+    ensures { IfOk result (SaysNewSize text.now) }
+{
+    match text {
+        "max" => Ok(Size::Rest),
+        _ => match read_amount(text) {
+            Ok(amount) => Ok(Size::Exactly(amount)),
+            Err(wrong) => Err(wrong),
         },
     }
 }
 
-/// The number of a word that is needed.
-pub(crate) fn number<'a>(
+/// Returns the choice of a place of a word, where it is given.
+pub(crate) fn choice<'a>(
     words: &ArgMatches<'a>,
     word: &'static str,
-) -> Result<u32, WordsError<'a>> {
-    words.get_one(word).ok_or(WordsError::Missing(word))
+) -> Result<Option<Choice>, WordsError<'a>>
+    ensures { IfOk result (Gives SaysChoice (first_value (found_of words.now) word.now)) }
+{
+    let Some(text) = words.get_str(word) else {
+        return Ok(None);
+    };
+    match read_choice(text) {
+        Ok(value) => Ok(Some(value)),
+        Err(wrong) => Err(WordsError::Value { word, text, wrong }),
+    }
+}
+
+/// Returns the GUID of a word, where it is given.
+pub(crate) fn guid<'a>(
+    words: &ArgMatches<'a>,
+    word: &'static str,
+) -> Result<Option<[u8; 16]>, WordsError<'a>>
+    ensures { IfOk result (Gives SaysGuid (first_value (found_of words.now) word.now)) }
+{
+    let Some(text) = words.get_str(word) else {
+        return Ok(None);
+    };
+    match read_guid(text) {
+        Ok(value) => Ok(Some(value)),
+        Err(wrong) => Err(WordsError::Value { word, text, wrong }),
+    }
+}
+
+/// Returns the type of a word, where it is given.
+pub(crate) fn kind<'a>(
+    words: &ArgMatches<'a>,
+    word: &'static str,
+) -> Result<Option<[u8; 16]>, WordsError<'a>>
+    ensures { IfOk result (Gives SaysType (first_value (found_of words.now) word.now)) }
+{
+    let Some(text) = words.get_str(word) else {
+        return Ok(None);
+    };
+    match read_type(text) {
+        Ok(value) => Ok(Some(value)),
+        Err(wrong) => Err(WordsError::Value { word, text, wrong }),
+    }
+}
+
+/// Returns the attributes of a word, where it is given.
+pub(crate) fn attributes<'a>(
+    words: &ArgMatches<'a>,
+    word: &'static str,
+) -> Result<Option<u64>, WordsError<'a>> {
+    let Some(text) = words.get_str(word) else {
+        return Ok(None);
+    };
+    match read_attributes(text) {
+        Ok(value) => Ok(Some(value)),
+        Err(wrong) => Err(WordsError::Value { word, text, wrong }),
+    }
+}
+
+/// Returns what is done where the image is locked, where it is given.
+pub(crate) fn lock<'a>(
+    words: &ArgMatches<'a>,
+    word: &'static str,
+) -> Result<Option<Lock>, WordsError<'a>>
+    ensures { IfOk result (Gives SaysLock (first_value (found_of words.now) word.now)) }
+{
+    let Some(text) = words.get_str(word) else {
+        return Ok(None);
+    };
+    match read_lock(text) {
+        Ok(value) => Ok(Some(value)),
+        Err(wrong) => Err(WordsError::Value { word, text, wrong }),
+    }
+}
+
+// Reads what is done where the image is locked.
+fn read_lock(text: &str) -> Result<Lock, Wrong>
+    ensures { IfOk result (SaysLock text.now) }
+{
+    match text {
+        "wait" => Ok(Lock::Wait),
+        "fail" => Ok(Lock::Fail),
+        "none" => Ok(Lock::None),
+        _ => Err(Wrong::NoLock),
+    }
+}
+
+/// The number of a word that is needed.
+pub(crate) fn number<'a>(words: &ArgMatches<'a>, word: &'static str) -> Result<u32, WordsError<'a>>
+    ensures { IfOk result (IsNumberOf (found_of words.now) word.now) }
+{
+    match words.get_one::<u32>(word) {
+        Some(number) => Ok(number),
+        None => Err(WordsError::Missing(word)),
+    }
 }
 
 /// The numbers of a word that is needed.
@@ -47,9 +195,14 @@ pub(crate) fn numbers<'a>(
     alloc: Global,
     words: &ArgMatches<'a>,
     word: &'static str,
-) -> Result<Vec<u32>, WordsError<'a>> {
+) -> Result<Vec<u32>, WordsError<'a>>
+    ensures { IfOk result (λ numbers. HasNumbers (texts_of_place (found_of words.now) word.now) numbers.items) }
+{
+    let Some(texts) = words.get_many::<u32>(word) else {
+        return Err(WordsError::Missing(word));
+    };
     let mut numbers = Vec::new(alloc);
-    for number in words.get_many(word).ok_or(WordsError::Missing(word))? {
+    for number in texts {
         let Ok(number) = number else {
             return Err(WordsError::Missing(word));
         };
@@ -62,7 +215,9 @@ pub(crate) fn numbers<'a>(
 pub(crate) fn name<'a>(
     alloc: Global,
     words: &ArgMatches<'a>,
-) -> Result<Option<PartitionName>, WordsError<'a>> {
+) -> Result<Option<PartitionName>, WordsError<'a>>
+    ensures { IfOk result (Gives SaysName (first_value (found_of words.now) (codes "--name"))) }
+{
     let Some(text) = words.get_str("--name") else {
         return Ok(None);
     };
@@ -75,14 +230,23 @@ pub(crate) fn name<'a>(
     }
 }
 
-/// The size of a sector in bytes, where it is given.
-pub(crate) fn sector_size<'a>(words: &ArgMatches<'a>) -> Result<Option<u64>, WordsError<'a>> {
+/// Returns the size of a sector in bytes, where it is given.
+pub(crate) fn sector_size<'a>(words: &ArgMatches<'a>) -> Result<Option<u64>, WordsError<'a>>
+    ensures { IfOk result (IsSectorOf (found_of words.now)) }
+{
     match words.get_str("--sector") {
         None => Ok(None),
         Some("auto") => Ok(None),
         Some(text) => match words.get_one::<u64>("--sector") {
-            Some(bytes) if SECTOR_SIZES.contains(&bytes) => Ok(Some(bytes)),
+            Some(bytes) if is_sector_size(bytes) => Ok(Some(bytes)),
             _ => Err(WordsError::Sector(text)),
         },
     }
+}
+
+// Reports whether a sector of a disk with a table may have so many bytes.
+fn is_sector_size(bytes: u64) -> bool
+    ensures { IsTrue result ↔ IsSectorSize bytes }
+{
+    bytes == 512 || bytes == 1024 || bytes == 2048 || bytes == 4096
 }

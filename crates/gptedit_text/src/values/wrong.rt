@@ -23,6 +23,8 @@ pub enum Wrong {
     NoAttribute,
     /// It is no choice of a place.
     NoChoice,
+    /// It is not what is done where an image is locked.
+    NoLock,
 }
 
 /// What would be right.
@@ -43,6 +45,7 @@ impl fmt::Display for Wrong {
                  no-auto and bits from 0 to 63, with commas between; or all 64 bits as 0x.."
             }
             Wrong::NoChoice => "a choice is first, last or best",
+            Wrong::NoLock => "it is wait, fail or none",
         })
     }
 }

@@ -1,0 +1,52 @@
+//! A layout of the table as it is, written to a file before a change.
+
+use crate::failure::{Failure, refuse};
+use crate::looking::layout_text;
+use gptman::GPT;
+use std::fs::File;
+use std::io::Write;
+use std::rt::Files;
+use std::{fs, io};
+
+/// Refuses a backup that cannot be made: no table is read, or the file exists.
+pub fn refuse_backup<R: Files<File = File> + AllocGlobal>(
+    rt: &R,
+    image: &str,
+    file: &str,
+    was: Option<&GPT>,
+) -> Result<(), Failure> {
+    if was.is_none() {
+        let why = "there is no table to write to the file of --backup\n\
+            `gptedit salvage` prints what can be read; run this without --backup";
+        return Err(refuse(rt.alloc(), image, &why));
+    }
+    if fs::symlink_metadata(rt, file).is_ok() {
+        return Err(refuse(
+            rt.alloc(),
+            file,
+            &"the file of --backup exists already; give another name",
+        ));
+    }
+    Ok(())
+}
+
+/// Writes the table to a new file, as `dump` prints it, and syncs it.
+pub fn write_backup<R: Files<File = File> + AllocGlobal>(
+    rt: &R,
+    image: &str,
+    file: &str,
+    was: &GPT,
+) -> Result<(), Failure> {
+    let text = layout_text(rt.alloc(), image, was)?;
+    match write_new(rt, file, text.as_bytes()) {
+        Ok(()) => Ok(()),
+        Err(error) => Err(refuse(rt.alloc(), file, &error)),
+    }
+}
+
+// Writes a new file, and syncs it.
+fn write_new<R: Files<File = File>>(rt: &R, file: &str, bytes: &[u8]) -> io::Result<()> {
+    let mut created = File::create_new(rt, file)?;
+    created.write_all(bytes)?;
+    created.sync_all()
+}

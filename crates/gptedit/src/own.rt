@@ -1,0 +1,96 @@
+//! The sectors of the entries of both copies, as their headers say.
+
+use gptedit_look::{Look, Obstacle};
+use gptman::{Disk, GPT, Result};
+use gptman_copy::copy::WholeCopy;
+
+/// The sectors of the entries of both copies: the first one of each, and the one after its last.
+#[derive(Clone, Copy)]
+pub struct Own {
+    primary: Option<(u64, u64)>,
+    backup: Option<(u64, u64)>,
+}
+
+impl Own {
+    /// Returns those of the good copies of a look.
+    pub fn of(look: &Look) -> Own {
+        let sector_size = look.sector_size.max(1);
+        Own {
+            primary: range_of(&look.copies.primary, sector_size),
+            backup: range_of(&look.copies.backup, sector_size),
+        }
+    }
+
+    /// Reports whether a sector is one of them.
+    pub fn has(self, sector: u64) -> bool {
+        for range in [self.primary, self.backup] {
+            if let Some((first, end)) = range {
+                if first <= sector && sector < end {
+                    return true;
+                }
+            }
+        }
+        false
+    }
+}
+
+// The sectors of the entries of a copy.
+fn range_of(copy: &Result<WholeCopy>, sector_size: u64) -> Option<(u64, u64)> {
+    let Ok(copy) = copy else {
+        return None;
+    };
+    let header = &copy.header;
+    let bytes = u64::from(header.number_of_partition_entries).saturating_mul(u64::from(
+        header.size_of_partition_entry,
+    ));
+    let first = header.partition_entry_lba;
+    let sectors = bytes.div_ceil(sector_size.max(1));
+    Some((first, first.saturating_add(sectors)))
+}
+
+/// Reads the bytes of the disk from this byte on.
+pub fn read_sector<D: Disk>(disk: &mut D, at: u64, bytes: &mut [u8]) -> Result<()> {
+    disk.seek_start(at)?;
+    disk.read_exact(bytes)?;
+    Ok(())
+}
+
+/// Reports whether these sectors, in the place of the other copy's entries, hold the entries of the copy whose
+/// header this table has.
+pub fn has_same_entries<D: Disk>(
+    disk: &mut D,
+    look: &Look,
+    next: &GPT,
+    range: Obstacle,
+) -> Result<bool> {
+    let Some(other) = next.header.other() else {
+        return Ok(false);
+    };
+    let sector_size = look.sector_size.max(1);
+    let (mut here, mut there) = ([0; PIECE], [0; PIECE]);
+    let first = other.partition_entry_lba;
+    if range.first < first {
+        return Ok(false);
+    }
+    let start = range.first.saturating_mul(sector_size);
+    let end = range.last.saturating_add(1).saturating_mul(sector_size);
+    let good = next
+        .header
+        .partition_entry_lba
+        .saturating_add(range.first - first)
+        .saturating_mul(sector_size);
+    for piece in 0..end.saturating_sub(start) / PIECE_BYTES {
+        let offset = piece.saturating_mul(PIECE_BYTES);
+        read_sector(disk, start.saturating_add(offset), &mut here)?;
+        read_sector(disk, good.saturating_add(offset), &mut there)?;
+        if here != there {
+            return Ok(false);
+        }
+    }
+    Ok(true)
+}
+
+// How many bytes are compared at once: those of the smallest sector.
+const PIECE: usize = 512;
+
+const PIECE_BYTES: u64 = 512;

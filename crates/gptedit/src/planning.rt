@@ -1,0 +1,380 @@
+//! A change is planned: what it would make of the table, and whether that may be written.
+
+use crate::failure::{Failure, refuse, refuse_asked, refuse_busy, refuse_error, refuse_no_table};
+use crate::image::Image;
+use crate::own::{Own, has_same_entries, read_sector};
+use crate::task::{Became, Task, Work};
+use gptedit_busy::find_users;
+use gptedit_core::{Bounds, Refusal};
+use gptedit_look::{Look, MbrKind, Obstacle, Purpose, What, find_obstacle};
+use gptedit_marks::find_contents;
+use gptedit_report::{Edges, ObstacleText, Shortened, ShortenedText, find_shortened};
+use gptedit_text::values::Escaped;
+use gptedit_words::Options;
+use gptman::GPT;
+use std::alloc::Global;
+use std::fmt;
+use std::fs::File;
+use std::rt::Files;
+
+/// What a change makes of the table. Nothing of it is refused.
+#[derive(Drop)]
+pub struct Plan {
+    /// The table that is there, if one is read.
+    pub was: Option<GPT>,
+    /// The table that is there then.
+    pub next: GPT,
+    /// Whether it is written.
+    pub is_changed: bool,
+    /// What `repair` replaces in the place of a broken copy, if that is something.
+    pub replaced: Option<Obstacle>,
+}
+
+/// Plans a task as a dry run, and refuses what may not be written.
+pub fn make_plan<R>(
+    rt: &R,
+    image: &mut Image<'_>,
+    look: &Look,
+    task: &mut Task,
+    options: &Options<'_>,
+) -> Result<Plan, Failure>
+where
+    R: Files<File = File> + AllocGlobal + Clone + Drop,
+{
+    let alloc = rt.alloc();
+    image.refuse_unknown(alloc, look)?;
+    if task.purpose == Purpose::Edit {
+        refuse_bounds(alloc, image.name, look, task.only_removes)?;
+    }
+    let mut plan = draft(alloc, image, look, task)?;
+    if !options.may_overwrite {
+        refuse_obstacles(alloc, image, look, task, &plan)?;
+    }
+    if !options.may_use && plan.is_changed {
+        refuse_users(rt, image, plan.was.as_ref(), Some(&plan.next))?;
+    }
+    if !options.may_overwrite {
+        refuse_losses(alloc, image, look, task, &plan)?;
+    }
+    if task.purpose == Purpose::Repair && plan.is_changed {
+        plan.replaced = find_replaced(alloc, image, look, &plan.next)?;
+    }
+    Ok(plan)
+}
+
+// What stands in the place of a broken copy, where only `repair` writes. The entries of the good copy are nothing.
+fn find_replaced(
+    alloc: Global,
+    image: &mut Image<'_>,
+    look: &Look,
+    next: &GPT,
+) -> Result<Option<Obstacle>, Failure> {
+    let disk = &mut image.opened.disk;
+    let found = match find_obstacle(alloc, disk, look, Purpose::Edit, next) {
+        Ok(Some(obstacle)) if obstacle.what == What::BoardCode => obstacle,
+        Ok(_) => return Ok(None),
+        Err(error) => return Err(refuse_error(alloc, image.name, &error)),
+    };
+    match has_same_entries(disk, look, next, found) {
+        Ok(true) => Ok(None),
+        Ok(false) => Ok(Some(found)),
+        Err(error) => Err(refuse_error(alloc, image.name, &error)),
+    }
+}
+
+// What the task would make of the table.
+fn draft(
+    alloc: Global,
+    image: &mut Image<'_>,
+    look: &Look,
+    task: &mut Task,
+) -> Result<Plan, Failure> {
+    let sector_size = look.sector_size.max(1);
+    match task.run(alloc, image, sector_size, true)? {
+        Became::Changed { was, next } => Ok(Plan {
+            was,
+            next,
+            is_changed: true,
+            replaced: None,
+        }),
+        Became::Unchanged { table } => Ok(Plan {
+            was: Some(copy_of(&table)?),
+            next: table,
+            is_changed: false,
+            replaced: None,
+        }),
+        Became::Refused { table, refusal } => Err(refuse_asked(
+            alloc,
+            image.name,
+            table.as_ref(),
+            sector_size,
+            &refusal,
+        )),
+    }
+}
+
+/// Returns a copy of a table.
+pub fn copy_of(table: &GPT) -> Result<GPT, Failure> {
+    match table.clone() {
+        Ok(table) => Ok(table),
+        Err(_) => Err(Failure::OutOfMemory),
+    }
+}
+
+// Refuses a table that counts sectors of its own as usable. Partitions in them may be removed.
+fn refuse_bounds(
+    alloc: Global,
+    image: &str,
+    look: &Look,
+    only_removes: bool,
+) -> Result<(), Failure> {
+    let Some(table) = &look.table else {
+        return Ok(());
+    };
+    let edges = Edges::of(table, look.size);
+    if !ends_with_disk(table, look) || !edges.are_over() {
+        return Ok(());
+    }
+    if only_removes && has_partition_over(table, edges) {
+        return Ok(());
+    }
+    Err(refuse(alloc, image, &OverBounds { edges, image }))
+}
+
+// Whether the backup header is in the last sector of the disk. Else the disk has another length than the table.
+fn ends_with_disk(table: &GPT, look: &Look) -> bool {
+    let sectors = look.size.checked_div(table.sector_size).unwrap_or(0);
+    let last = sectors.saturating_sub(1);
+    table.header.primary_lba.max(table.header.backup_lba) == last
+}
+
+// Whether a partition is in a sector of the table itself.
+fn has_partition_over(table: &GPT, edges: Edges) -> bool {
+    table.iter().any(|(_, entry)| {
+        entry.is_used() && (entry.starting_lba < edges.least || edges.most < entry.ending_lba)
+    })
+}
+
+// That a table counts sectors of its own as usable, and what to do.
+#[derive(Clone, Copy)]
+struct OverBounds<'a> {
+    edges: Edges,
+    image: &'a str,
+}
+
+impl fmt::Display for OverBounds<'_> {
+    fn fmt<W: fmt::Write>(&self, f: &mut fmt::Formatter<W>) -> fmt::Result {
+        writeln!(f, "{}", self.edges)?;
+        let image = Escaped(self.image);
+        write!(f, "`gptedit repair {image} --bounds` sets the usual ones")
+    }
+}
+
+// Refuses to overwrite what nobody named.
+fn refuse_obstacles(
+    alloc: Global,
+    image: &mut Image<'_>,
+    look: &Look,
+    task: &Task,
+    plan: &Plan,
+) -> Result<(), Failure> {
+    if !plan.is_changed {
+        return refuse_dos(alloc, image.name, look);
+    }
+    let disk = &mut image.opened.disk;
+    match find_obstacle(alloc, disk, look, task.purpose, &plan.next) {
+        Ok(None) => (),
+        Ok(Some(obstacle)) => {
+            return Err(refuse_obstacle(alloc, image.name, look, task.purpose, &obstacle));
+        }
+        Err(error) => return Err(refuse_error(alloc, image.name, &error)),
+    }
+    if !task.may_lose() {
+        return Ok(());
+    }
+    let (was, size) = (plan.was.as_ref(), plan.next.sector_size);
+    Err(refuse_asked(alloc, image.name, was, size, &Refusal::NoSafeOrder))
+}
+
+// Refuses what would lose what is on partitions, or in sectors that become usable.
+fn refuse_losses(
+    alloc: Global,
+    image: &mut Image<'_>,
+    look: &Look,
+    task: &Task,
+    plan: &Plan,
+) -> Result<(), Failure> {
+    let Some(was) = &plan.was else {
+        return Ok(());
+    };
+    match &task.work {
+        Work::Grow(growth) if growth.bounds == Bounds::Usual => {
+            refuse_freed(alloc, image, look, was, &plan.next)
+        }
+        Work::Edit(_) => refuse_shortening(alloc, image, was, &plan.next),
+        _ => Ok(()),
+    }
+}
+
+// Refuses a DOS disk.
+fn refuse_dos(alloc: Global, image: &str, look: &Look) -> Result<(), Failure> {
+    if look.first_sector.kind != MbrKind::Dos {
+        return Ok(());
+    }
+    let obstacle = Obstacle {
+        first: 0,
+        last: 0,
+        what: What::DosDisk,
+    };
+    Err(refuse_obstacle(alloc, image, look, Purpose::Edit, &obstacle))
+}
+
+/// Returns the refusal for what is in the way of a write.
+pub fn refuse_obstacle(
+    alloc: Global,
+    image: &str,
+    look: &Look,
+    purpose: Purpose,
+    obstacle: &Obstacle,
+) -> Failure {
+    let text = ObstacleText {
+        obstacle,
+        purpose,
+        table: look.table.as_ref(),
+        image,
+    };
+    match obstacle.what {
+        What::DosDisk => refuse_no_table(alloc, image, &text),
+        _ => refuse(alloc, image, &text),
+    }
+}
+
+/// Refuses a change that a use of the image or of one of its partitions does not allow.
+pub fn refuse_users<R>(
+    rt: &R,
+    image: &Image<'_>,
+    was: Option<&GPT>,
+    next: Option<&GPT>,
+) -> Result<(), Failure>
+where
+    R: Files<File = File> + AllocGlobal + Clone + Drop,
+{
+    let users = match find_users(rt, image.name, &image.opened) {
+        Ok(users) => users,
+        Err(_) => return Err(Failure::OutOfMemory),
+    };
+    match users.find_harm(was, next) {
+        None => Ok(()),
+        Some(found) => Err(refuse_busy(rt.alloc(), image.name, found)),
+    }
+}
+
+// Refuses partitions that become shorter than what is on them.
+fn refuse_shortening(
+    alloc: Global,
+    image: &mut Image<'_>,
+    was: &GPT,
+    next: &GPT,
+) -> Result<(), Failure> {
+    for shortened in find_shortened(alloc, was, next)?.iter() {
+        refuse_shorter(alloc, image, was.sector_size, *shortened)?;
+    }
+    Ok(())
+}
+
+// Refuses a partition that becomes shorter than what is on it.
+fn refuse_shorter(
+    alloc: Global,
+    image: &mut Image<'_>,
+    sector_size: u64,
+    shortened: Shortened,
+) -> Result<(), Failure> {
+    let start = shortened.first.saturating_mul(sector_size);
+    let end = shortened.last.saturating_add(1).saturating_mul(sector_size);
+    let next_end = shortened
+        .next_last
+        .saturating_add(1)
+        .saturating_mul(sector_size);
+    let contents = match find_contents(alloc, &mut image.opened.disk, start, end) {
+        Ok(contents) => contents,
+        Err(error) => return Err(refuse_error(alloc, image.name, &error)),
+    };
+    for content in contents.iter() {
+        let is_kept = match content.end {
+            Some(end) => end <= next_end,
+            None => false,
+        };
+        if !is_kept {
+            let text = ShortenedText {
+                shortened,
+                content,
+                sector_size,
+            };
+            return Err(refuse(alloc, image.name, &text));
+        }
+    }
+    Ok(())
+}
+
+// Refuses sectors that become usable and are not zero, unless they were a copy's.
+fn refuse_freed(
+    alloc: Global,
+    image: &mut Image<'_>,
+    look: &Look,
+    was: &GPT,
+    next: &GPT,
+) -> Result<(), Failure> {
+    let (was, next) = (&was.header, &next.header);
+    let before = (next.first_usable_lba, was.first_usable_lba);
+    let after = (
+        was.last_usable_lba.saturating_add(1),
+        next.last_usable_lba.saturating_add(1),
+    );
+    for (first, end) in [before, after] {
+        if let Some(sector) = find_data(alloc, image, look, first, end)? {
+            return Err(refuse(alloc, image.name, &Freed(sector)));
+        }
+    }
+    Ok(())
+}
+
+// The first sector among these that is not zero, and is not one of the entries of a copy.
+fn find_data(
+    alloc: Global,
+    image: &mut Image<'_>,
+    look: &Look,
+    first: u64,
+    end: u64,
+) -> Result<Option<u64>, Failure> {
+    let sector_size = look.sector_size.max(1);
+    let own = Own::of(look);
+    let mut bytes = vec![in alloc; 0; sector_size.min(LARGEST) as usize]?;
+    for sector in first..end {
+        if own.has(sector) {
+            continue;
+        }
+        let at = sector.saturating_mul(sector_size);
+        match read_sector(&mut image.opened.disk, at, &mut bytes) {
+            Ok(()) => (),
+            Err(error) => return Err(refuse_error(alloc, image.name, &error)),
+        }
+        if bytes.iter().any(|byte| *byte != 0) {
+            return Ok(Some(sector));
+        }
+    }
+    Ok(None)
+}
+
+// The largest sector size in bytes.
+const LARGEST: u64 = 4096;
+
+// That a sector becomes usable and is not zero, and what lifts the refusal.
+#[derive(Clone, Copy)]
+struct Freed(u64);
+
+impl fmt::Display for Freed {
+    fn fmt<W: fmt::Write>(&self, f: &mut fmt::Formatter<W>) -> fmt::Result {
+        writeln!(f, "sector {} would become usable, and is not zero", self.0)?;
+        f.write_str("--overwrite sets the bounds all the same")
+    }
+}

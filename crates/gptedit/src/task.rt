@@ -1,0 +1,208 @@
+//! A change of a table, which is planned and then made.
+
+ghost use Rattle.std.specs.Prelude.{◌<◌, length};
+ghost use Rattle.gptedit.specs.Ready.{asks_random-prop, has_random_for-prop};
+ghost use Rattle.gptedit_core.specs.Making.{has_random_in};
+ghost use Rattle.gptedit_core.specs.Planning.{has_random};
+
+use crate::failure::{Failure, refuse_error};
+use crate::image::Image;
+use gptedit_core::{Bounds, Creation, Growth, Made, Outcome, Refusal, Request};
+use gptedit_look::Purpose;
+use gptman::{GPT, Result};
+use std::alloc::Global;
+
+/// A change of a table: what is done, and what for.
+#[derive(Drop)]
+pub struct Task {
+    /// What is done.
+    pub work: Work,
+    /// What the table is written for.
+    pub purpose: Purpose,
+    /// Whether the job takes partitions away, and gives no sectors to any.
+    pub only_removes: bool,
+}
+
+/// What is done to a table.
+#[derive(Drop)]
+pub enum Work {
+    /// Its entries are changed.
+    Edit(Edit),
+    /// It is fitted to the disk.
+    Grow(Growth),
+    /// A new one is written over it.
+    Remake(Anew),
+    /// A new one is written, and none is read.
+    Make(Anew),
+}
+
+/// A change of entries.
+#[derive(Drop)]
+pub struct Edit {
+    request: Request,
+    ghost ready: { has_random request } by { asks_random-prop request.job (length request.random.items) },
+}
+
+/// A new table.
+#[derive(Drop)]
+pub struct Anew {
+    creation: Creation,
+    ghost ready: { has_random_in creation } by { has_random_for-prop creation.layout (length creation.random.items) },
+}
+
+/// What a task makes of a table.
+#[derive(Drop)]
+pub enum Became {
+    /// It is another one, or the first one.
+    Changed {
+        was: Option<GPT>,
+        next: GPT,
+    },
+    /// It is as it was.
+    Unchanged {
+        table: GPT,
+    },
+    /// The task is refused.
+    Refused {
+        table: Option<GPT>,
+        refusal: Refusal,
+    },
+}
+
+impl Task {
+    /// Does the task on the image's disk, or only tells what it would do.
+    pub fn run(
+        &mut self,
+        alloc: Global,
+        image: &mut Image<'_>,
+        sector_size: u64,
+        is_dry: bool,
+    ) -> std::result::Result<Became, Failure>
+        requires { 0 < sector_size }
+    {
+        let done = match &mut self.work {
+            Work::Edit(edit) => edit.run(alloc, image, sector_size, is_dry),
+            Work::Grow(growth) => run_growth(alloc, image, sector_size, growth.bounds, is_dry),
+            Work::Remake(anew) => anew.remake(alloc, image, sector_size, is_dry),
+            Work::Make(anew) => anew.make(alloc, image, sector_size, is_dry),
+        };
+        match done {
+            Ok(became) => Ok(became),
+            Err(error) => Err(refuse_error(alloc, image.name, &error)),
+        }
+    }
+
+    /// Reports whether a crash while it is written may leave neither the old table nor the new one.
+    pub fn may_lose(&self) -> bool {
+        match &self.work {
+            Work::Remake(anew) => anew.creation.may_lose,
+            _ => false,
+        }
+    }
+}
+
+// Fits the table to the disk.
+fn run_growth(
+    alloc: Global,
+    image: &mut Image<'_>,
+    sector_size: u64,
+    bounds: Bounds,
+    is_dry: bool,
+) -> Result<Became>
+    requires { 0 < sector_size }
+{
+    let growth = Growth { bounds, is_dry };
+    let disk = &mut image.opened.disk;
+    let outcome = gptedit_core::grow(alloc, disk, Some(sector_size), &growth)?;
+    Ok(read_outcome(outcome))
+}
+
+impl Edit {
+    /// Returns the change that a request asks for.
+    pub fn new(request: Request) -> Edit
+        requires { has_random request }
+    {
+        Edit { request }
+    }
+
+    fn run(
+        &mut self,
+        alloc: Global,
+        image: &mut Image<'_>,
+        sector_size: u64,
+        is_dry: bool,
+    ) -> Result<Became>
+        requires { 0 < sector_size }
+    {
+        self.request.is_dry = is_dry;
+        let disk = &mut image.opened.disk;
+        let outcome = gptedit_core::edit(alloc, disk, Some(sector_size), &self.request)?;
+        Ok(read_outcome(outcome))
+    }
+}
+
+impl Anew {
+    /// Returns the new table that is asked for.
+    pub fn new(creation: Creation) -> Anew
+        requires { has_random_in creation }
+    {
+        Anew { creation }
+    }
+
+    /// Lets a crash leave neither table.
+    pub fn let_lose(&mut self) {
+        self.creation.may_lose = true;
+    }
+
+    /// Writes it over the table that is there.
+    pub fn remake(
+        &mut self,
+        alloc: Global,
+        image: &mut Image<'_>,
+        sector_size: u64,
+        is_dry: bool,
+    ) -> Result<Became>
+        requires { 0 < sector_size }
+    {
+        self.creation.is_dry = is_dry;
+        let disk = &mut image.opened.disk;
+        let outcome = gptedit_core::remake(alloc, disk, Some(sector_size), &self.creation)?;
+        Ok(read_outcome(outcome))
+    }
+
+    fn make(
+        &mut self,
+        alloc: Global,
+        image: &mut Image<'_>,
+        sector_size: u64,
+        is_dry: bool,
+    ) -> Result<Became>
+        requires { 0 < sector_size }
+    {
+        self.creation.is_dry = is_dry;
+        let disk = &mut image.opened.disk;
+        match gptedit_core::make(alloc, disk, sector_size, &self.creation)? {
+            Made::New { next } => Ok(Became::Changed { was: None, next }),
+            Made::Refused { refusal } => {
+                let (guid, count) = (self.creation.guid, self.creation.entries);
+                let table = GPT::with_entries(alloc, disk, sector_size, guid, count).ok();
+                Ok(Became::Refused { table, refusal })
+            }
+        }
+    }
+}
+
+// What a task made of a table that was read.
+fn read_outcome(outcome: Outcome) -> Became {
+    match outcome {
+        Outcome::Changed { was, next } => Became::Changed {
+            was: Some(was),
+            next,
+        },
+        Outcome::Unchanged { table } => Became::Unchanged { table },
+        Outcome::Refused { table, refusal } => Became::Refused {
+            table: Some(table),
+            refusal,
+        },
+    }
+}

@@ -1,0 +1,147 @@
+//! The task of each command that changes a table that is there.
+
+use crate::drawing::{draw_guid, request_for};
+use crate::failure::Failure;
+use crate::image::Image;
+use crate::task::{Became, Edit, Task, Work};
+use gptedit_core::{Amount, Asked, Bounds, Choice, Growth, Job, Layout, Mode, Size};
+use gptedit_look::{Look, Purpose};
+use gptedit_report::Way;
+use gptguid_core::from_name;
+use gptman::GPT;
+use std::alloc::Global;
+use std::random::RandomSource;
+
+/// Returns the task of a job.
+pub fn edit<R: RandomSource + AllocGlobal>(rt: &R, job: Job) -> Result<Task, Failure> {
+    let only_removes = match &job {
+        Job::Lay(layout) => layout.asked.is_empty(),
+        _ => false,
+    };
+    let purpose = match &job {
+        Job::Rewrite => Purpose::Repair,
+        _ => Purpose::Edit,
+    };
+    Ok(Task {
+        work: Work::Edit(Edit::new(request_for(rt, job)?)),
+        purpose,
+        only_removes,
+    })
+}
+
+/// Returns the task of `grow`.
+pub fn grow() -> Task {
+    fit(Bounds::Kept, Purpose::Fit)
+}
+
+// The task that gives the table such bounds.
+fn fit(bounds: Bounds, purpose: Purpose) -> Task {
+    let growth = Growth {
+        bounds,
+        is_dry: true,
+    };
+    Task {
+        work: Work::Grow(growth),
+        purpose,
+        only_removes: false,
+    }
+}
+
+/// Returns the task of `repair`. With the usual bounds it sets these, if they are others.
+pub fn repair<R: RandomSource + AllocGlobal>(
+    rt: &R,
+    image: &mut Image<'_>,
+    look: &Look,
+    has_usual_bounds: bool,
+) -> Result<Task, Failure> {
+    if has_usual_bounds {
+        let mut bounds = fit(Bounds::Usual, Purpose::Repair);
+        let became = bounds.run(rt.alloc(), image, look.sector_size.max(1), true)?;
+        if !matches!(&became, Became::Unchanged { .. }) {
+            return Ok(bounds);
+        }
+    }
+    edit(rt, Job::Rewrite)
+}
+
+/// Returns the task of `randomize`: the disk and each partition get a random GUID.
+pub fn randomize<R: RandomSource + AllocGlobal>(rt: &R, table: &GPT) -> Result<Task, Failure> {
+    let alloc = rt.alloc();
+    let mut asked = Vec::new(alloc);
+    for (number, entry) in table.iter() {
+        if entry.is_used() {
+            asked.push(Asked {
+                unique_guid: Some(draw_guid(rt)?),
+                ..Asked::nothing(Some(number))
+            })?;
+        }
+    }
+    let layout = Layout {
+        mode: Mode::Change,
+        disk_guid: Some(draw_guid(rt)?),
+        align: Amount::Sectors(1),
+        removed: Vec::new(alloc),
+        asked,
+    };
+    edit(rt, Job::Lay(layout))
+}
+
+/// Returns the task of a command that mends something.
+pub fn mend<R: RandomSource + AllocGlobal>(
+    rt: &R,
+    image: &mut Image<'_>,
+    look: &Look,
+    table: &GPT,
+    way: &Way,
+) -> Result<Task, Failure> {
+    let alloc = rt.alloc();
+    match way {
+        Way::Repair => repair(rt, image, look, false),
+        Way::RepairBounds => repair(rt, image, look, true),
+        Way::Grow => Ok(grow()),
+        Way::Randomize => randomize(rt, table),
+        Way::Remove(numbers) => {
+            let mut layout = layout_of(alloc, Mode::Change);
+            for number in numbers.iter() {
+                layout.removed.push(*number)?;
+            }
+            edit(rt, Job::Lay(layout))
+        }
+        Way::SetGuid(number) => {
+            let mut layout = layout_of(alloc, Mode::Change);
+            layout.asked.push(Asked {
+                unique_guid: Some(draw_guid(rt)?),
+                ..Asked::nothing(Some(*number))
+            })?;
+            edit(rt, Job::Lay(layout))
+        }
+        Way::PutOver(number) => put_over(rt, *number),
+    }
+}
+
+// The layout that asks for nothing.
+fn layout_of(alloc: Global, mode: Mode) -> Layout {
+    Layout {
+        mode,
+        disk_guid: None,
+        align: Amount::Sectors(1),
+        removed: Vec::new(alloc),
+        asked: Vec::new(alloc),
+    }
+}
+
+// The task of `add --number N --type linux --size 1MiB`.
+fn put_over<R: RandomSource + AllocGlobal>(rt: &R, number: u32) -> Result<Task, Failure> {
+    let mut layout = layout_of(rt.alloc(), Mode::Add);
+    layout.align = MIB;
+    layout.asked.push(Asked {
+        type_guid: from_name("linux"),
+        size: Some(Size::Exactly(MIB)),
+        choice: Choice::First,
+        ..Asked::nothing(Some(number))
+    })?;
+    edit(rt, Job::Lay(layout))
+}
+
+// 1 MiB.
+const MIB: Amount = Amount::Bytes(1 << 20);

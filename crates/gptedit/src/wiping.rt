@@ -1,0 +1,105 @@
+//! A table is cleared.
+
+use crate::backup::{refuse_backup, write_backup};
+use crate::commands::How;
+use crate::failure::{Failure, refuse, refuse_error};
+use crate::image::Image;
+use crate::planning::refuse_users;
+use crate::telling::DRY;
+use gptedit_look::{Look, MbrKind, wipe};
+use gptedit_report::wiped_json;
+use gptedit_words::Options;
+use std::fs::File;
+use std::io::Write;
+use std::rt::Files;
+
+/// Clears both copies of the table, the headers at each sector size, and a protective MBR. Reports whether
+/// something was written.
+pub fn clear<R, W: Write>(
+    rt: &R,
+    out: &mut W,
+    image: &mut Image<'_>,
+    mut look: Look,
+    options: &Options<'_>,
+    how: How,
+) -> Result<bool, Failure>
+where
+    R: Files<File = File> + AllocGlobal + Clone + Drop,
+{
+    let alloc = rt.alloc();
+    image.refuse_unknown(alloc, &look)?;
+    let is_needed = is_something(&look);
+    if is_needed {
+        refuse_wipe(rt, image, &look, options)?;
+        if let Some(file) = options.backup {
+            refuse_backup(rt, image.name, file, look.table.as_ref())?;
+            if let (Some(was), false) = (&look.table, how.is_dry) {
+                write_backup(rt, image.name, file, was)?;
+            }
+        }
+    }
+    if is_needed && !how.is_dry {
+        if look.moved_header.is_none() {
+            // Without the table only what is seen of each copy is cleared, and not the place of a lost one.
+            look.table = None;
+        }
+        if let Err(error) = wipe(alloc, &mut image.opened.disk, &look) {
+            return Err(refuse_error(alloc, image.name, &error));
+        }
+    }
+    tell(rt, out, image.name, is_needed, how)?;
+    Ok(is_needed && !how.is_dry)
+}
+
+// Whether there is anything to clear.
+fn is_something(look: &Look) -> bool {
+    let kind = look.first_sector.kind;
+    look.table.is_some()
+        || !look.signatures.is_empty()
+        || matches!(kind, MbrKind::Protective | MbrKind::Hybrid)
+}
+
+// Refuses to clear what nobody named.
+fn refuse_wipe<R>(
+    rt: &R,
+    image: &Image<'_>,
+    look: &Look,
+    options: &Options<'_>,
+) -> Result<(), Failure>
+where
+    R: Files<File = File> + AllocGlobal + Clone + Drop,
+{
+    if !options.may_overwrite {
+        let why = "there is a GUID partition table, or what is left of one, which would be lost\n\
+            --overwrite clears it all the same";
+        return Err(refuse(rt.alloc(), image.name, &why));
+    }
+    if options.may_use {
+        return Ok(());
+    }
+    refuse_users(rt, image, look.table.as_ref(), None)
+}
+
+// Tells what became of it.
+fn tell<R: AllocGlobal, W: Write>(
+    rt: &R,
+    out: &mut W,
+    image: &str,
+    is_needed: bool,
+    how: How,
+) -> Result<(), Failure> {
+    if how.is_json {
+        let text = wiped_json(rt.alloc(), image, is_needed, how.is_dry)?;
+        writeln!(out, "{text}")?;
+        return Ok(());
+    }
+    if !is_needed {
+        out.write_all(b"unchanged\n")?;
+        return Ok(());
+    }
+    if how.is_dry {
+        out.write_all(DRY)?;
+    }
+    out.write_all(b"both copies of the table and the protective MBR are cleared\n")?;
+    Ok(())
+}

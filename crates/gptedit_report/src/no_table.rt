@@ -1,0 +1,61 @@
+//! That no copy of a table is good, what is wrong with each, and what can still be read.
+
+use crate::fault::Meaning;
+use crate::way::SAVE;
+use gptedit_look::Look;
+use gptedit_salvage::{Place, Salvaged};
+use gptedit_text::values::Escaped;
+use std::fmt;
+
+/// That no copy of a table is good, and what to do, in two or three lines without the last newline.
+#[derive(Clone, Copy)]
+pub struct NoTableText<'a> {
+    /// The look at the disk.
+    pub look: &'a Look,
+    /// What can still be read.
+    pub salvaged: &'a Salvaged,
+    /// The image or device, as it was named.
+    pub image: &'a str,
+}
+
+impl fmt::Display for NoTableText<'_> {
+    fn fmt<W: fmt::Write>(&self, f: &mut fmt::Formatter<W>) -> fmt::Result {
+        let copies = &self.look.copies;
+        f.write_str("there is no good copy")?;
+        if let Err(primary) = &copies.primary {
+            write!(f, ": of the primary one, {}", Meaning(primary))?;
+        }
+        if let Err(backup) = &copies.backup {
+            write!(f, "; of the backup, {}", Meaning(backup))?;
+        }
+        f.write_str("\n")?;
+        let primary = count_in(self.salvaged, Place::Primary);
+        let backup = count_in(self.salvaged, Place::Backup);
+        if primary > 0 || backup > 0 {
+            writeln!(
+                f,
+                "the primary copy still has {primary} readable entries, and the backup {backup}"
+            )?;
+        }
+        let image = Escaped(self.image);
+        write!(
+            f,
+            "`gptedit salvage {image}` prints what can be read; {SAVE}"
+        )?;
+        if primary == 0 && backup == 0 {
+            f.write_str("; use --sector if its sectors have another size")?;
+        }
+        Ok(())
+    }
+}
+
+// How many entries of a copy can be read.
+fn count_in(salvaged: &Salvaged, place: Place) -> usize {
+    let mut most = 0;
+    for copy in salvaged.copies.iter() {
+        if copy.spot.place == place {
+            most = copy.count_sensible().max(most);
+        }
+    }
+    most
+}

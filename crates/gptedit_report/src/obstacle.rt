@@ -1,0 +1,109 @@
+//! What a write would overwrite, and what lifts that refusal.
+
+use gptedit_look::{Obstacle, Purpose, What};
+use gptedit_text::values::Escaped;
+use gptman::GPT;
+use std::fmt;
+
+/// That a write would overwrite something, and what to do, in two lines without the last newline.
+#[derive(Clone, Copy)]
+pub struct ObstacleText<'a> {
+    /// What is in the way.
+    pub obstacle: &'a Obstacle,
+    /// What the table is written for.
+    pub purpose: Purpose,
+    /// The table that is there, if one is read.
+    pub table: Option<&'a GPT>,
+    /// The image or device, as it was named.
+    pub image: &'a str,
+}
+
+impl fmt::Display for ObstacleText<'_> {
+    fn fmt<W: fmt::Write>(&self, f: &mut fmt::Formatter<W>) -> fmt::Result {
+        match (self.obstacle.what, self.purpose) {
+            (_, Purpose::New) => self.write_new(f),
+            (What::DosDisk, _) => f.write_str(DOS),
+            (What::Footer(name), _) => {
+                writeln!(f, "the image ends with {name}, which would be overwritten")?;
+                f.write_str(LIFTED)
+            }
+            (What::BoardCode, Purpose::Edit | Purpose::Fit) => {
+                self.write_range(f)?;
+                let image = Escaped(self.image);
+                write!(f, "`gptedit repair {image}` writes the copy there; ")?;
+                write!(
+                    f,
+                    "`gptedit repair {image} --dry-run` names what it replaces"
+                )
+            }
+            _ => {
+                self.write_range(f)?;
+                f.write_str(LIFTED)
+            }
+        }
+    }
+}
+
+// What is said of a disk with a DOS partition table.
+const DOS: &str =
+    "the disk has a DOS partition table, and its boot loader may be in sectors 1..33\n\
+    --overwrite writes the GUID partition table all the same";
+
+// What lifts the refusal of a change.
+const LIFTED: &str = "--overwrite writes the table all the same";
+
+impl ObstacleText<'_> {
+    // What a new table would overwrite.
+    fn write_new<W: fmt::Write>(&self, f: &mut fmt::Formatter<W>) -> fmt::Result {
+        write!(f, "there is {}", WhatText(self.obstacle.what))?;
+        if let (What::Table, Some(table)) = (self.obstacle.what, self.table) {
+            let count = table.iter().filter(|(_, entry)| entry.is_used()).count();
+            write!(f, " of {count} partitions")?;
+        }
+        f.write_str(", which would be lost\n--overwrite writes a new table all the same")
+    }
+
+    // The sectors, and what is there.
+    fn write_range<W: fmt::Write>(&self, f: &mut fmt::Formatter<W>) -> fmt::Result {
+        let Obstacle { first, last, what } = *self.obstacle;
+        writeln!(
+            f,
+            "sectors {first}..{last} would be overwritten, where there is {}",
+            WhatText(what)
+        )
+    }
+}
+
+/// What was recognised, as in a sentence.
+#[derive(Clone, Copy)]
+pub struct WhatText(pub What);
+
+impl fmt::Display for WhatText {
+    fn fmt<W: fmt::Write>(&self, f: &mut fmt::Formatter<W>) -> fmt::Result {
+        match self.0 {
+            What::Content(name) | What::Footer(name) => f.write_str(name),
+            What::OtherSectorSize(size) => {
+                write!(
+                    f,
+                    "the header of a GUID partition table with sectors of {size} bytes"
+                )
+            }
+            other => f.write_str(plain_name(other)),
+        }
+    }
+}
+
+// What was recognised, where that has no name of its own.
+fn plain_name(what: What) -> &'static str {
+    match what {
+        What::DosDisk => "an MBR with partitions",
+        What::ElsewhereEntries =>
+            "something in the place of entries that another tool put elsewhere",
+        What::AfterLastUsable => "something after the last usable sector",
+        What::BoardCode => "something in the place of a broken copy, as the boot loader of a board",
+        What::Table => "a GUID partition table",
+        What::Header => "the header of a GUID partition table",
+        What::ProtectiveMbr => "a protective MBR",
+        _ => "something that is not zero",
+    }
+}

@@ -1,0 +1,22 @@
+//! That a table was cleared, as JSON.
+
+use crate::json::print_json;
+use crate::members::Members;
+use serde_json::Value;
+use std::alloc::{AllocError, Global};
+
+/// Returns as JSON whether a table was cleared, or would be: `device`, `wiped`, and of a dry run `dry_run`.
+pub fn wiped_json(
+    alloc: Global,
+    image: &str,
+    is_wiped: bool,
+    is_dry: bool,
+) -> Result<String, AllocError> {
+    let mut members = Members::new(alloc);
+    members.put_text("device", image)?;
+    members.put("wiped", Value::Bool(is_wiped))?;
+    if is_dry {
+        members.put("dry_run", Value::Bool(true))?;
+    }
+    print_json(alloc, &members.into_value())
+}

@@ -1,0 +1,37 @@
+//! New tables that texts describe.
+
+ghost use Rattle.std.specs.Prelude.{◌≡◌, false, unwrap_or, Some};
+
+use crate::Parsed;
+use gptedit_core::Creation;
+
+// The number of entries of a new table, where the text does not say it.
+const USUAL_COUNT: u32 = 128;
+
+impl Parsed {
+    /// Returns the new table that the text describes, of which nothing may be lost and which is to be written.
+    ///
+    /// Its entries and bounds are those of the header, or 128 entries and the widest bounds. `guid` is the GUID
+    /// of the disk, unless the text has one. `random` has a GUID for each partition.
+    pub fn into_creation(self, guid: [u8; 16], random: Vec<[u8; 16]>) -> Creation
+        ensures guid { result.guid ≡ guid }
+        ensures entries { result.entries ≡ unwrap_or self.header.entries 128 }
+        ensures first { result.first_usable ≡ self.header.first_usable }
+        ensures last { result.last_usable ≡ self.header.last_usable }
+        ensures layout { result.layout ≡ Some self.layout }
+        ensures random { result.random ≡ random }
+        ensures careful { result.may_lose ≡ false }
+        ensures real { result.is_dry ≡ false }
+    {
+        Creation {
+            guid,
+            entries: self.header.entries.unwrap_or(USUAL_COUNT),
+            first_usable: self.header.first_usable,
+            last_usable: self.header.last_usable,
+            layout: Some(self.layout),
+            random,
+            may_lose: false,
+            is_dry: false,
+        }
+    }
+}

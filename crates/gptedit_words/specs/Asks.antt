@@ -1,0 +1,252 @@
+-- What the words of a command ask for, by what the command line holds of each option and place.
+use Rattle.std.specs.Prelude.{◌≡◌, ◌≢◌, ◌⊎◌, ◌^◌, ◌<◌, ℕ, Bool, true, false, List, [], ◌∷◌, Option, Some, None, Ok, codes, option_map}
+use Rattle.std.specs.Str.Parse.{digits_value, without_leading_plus, IsNumeral}
+use Rattle.clap.specs.Words.{first_value, matched_of, one_text, typed_values}
+use Rattle.clap.specs.declared.parser.matches.Found.{Found}
+use Rattle.gptman_copy.specs.declared.codec.name.PartitionName.{PartitionName}
+use Rattle.gptedit_core.specs.declared.amount.Amount.{Amount}
+use Rattle.gptedit_core.specs.declared.amount.Amount.TheVariants.{Bytes}
+use Rattle.gptedit_core.specs.declared.asked.Asked.{Asked}
+use Rattle.gptedit_core.specs.declared.asked.Choice.{Choice}
+use Rattle.gptedit_core.specs.declared.asked.Choice.TheVariants.{First}
+use Rattle.gptedit_core.specs.declared.asked.Layout.{Layout}
+use Rattle.gptedit_core.specs.declared.asked.Mode.{Mode}
+use Rattle.gptedit_core.specs.declared.asked.Mode.TheVariants.{Add as Adding, Change as Changing}
+use Rattle.gptedit_core.specs.declared.asked.Size.{Size}
+use Rattle.gptedit_core.specs.declared.asked.Size.TheVariants.{Exactly, Rest}
+use Rattle.gptedit_text.specs.Words.{choice_said, guid_said, type_said, SaysAmount, SaysSize}
+use Rattle.gptedit_words.specs.declared.request.Change.{Change}
+use Rattle.gptedit_words.specs.declared.request.Change.TheVariants.{New, Lay, Sort, Grow, Repair, Randomize, Apply, Wipe}
+use Rattle.gptedit_words.specs.declared.request.Command.{Command}
+use Rattle.gptedit_words.specs.declared.request.Command.TheVariants.{Show, Check, Free, Dump, Salvage, Write}
+use Rattle.gptedit_words.specs.declared.request.ImageRequest.{ImageRequest}
+use Rattle.gptedit_words.specs.declared.request.Lock.{Lock}
+use Rattle.gptedit_words.specs.declared.request.Lock.TheVariants.{Wait, Fail, None as Unlocked}
+use Rattle.gptedit_words.specs.declared.request.NewTable.{NewTable}
+use Rattle.gptedit_words.specs.declared.request.Options.{Options}
+use Rattle.gptedit_words.specs.declared.request.Request.{Request}
+use Rattle.gptedit_words.specs.declared.request.Request.TheVariants.{Types, Image}
+
+-- the value is what the text says, and there is none where there is no text
+abbrev pub Gives : {A : Type 0} → (List ℕ → A → Type 0) → Option (List ℕ) → Option A → Type 0
+Gives says None None = Unit {0}
+Gives says (Some text) (Some value) = says text value
+Gives says text value = ⊥
+
+-- the value is what the text says, or the usual one where there is no text
+abbrev pub GivesOr : {A : Type 0} → (List ℕ → A → Type 0) → A → Option (List ℕ) → A → Type 0
+GivesOr says usual None value = value ≡ usual
+GivesOr says usual (Some text) value = says text value
+
+-- the text is a number of 32 bits in decimal digits, and this is the number
+abbrev pub SaysNumber : List ℕ → ℕ → Type 0
+SaysNumber text number = IsNumeral 10 (without_leading_plus text) × (digits_value 10 (without_leading_plus text) ≡ number)
+
+-- the number that a place holds
+abbrev pub IsNumberOf : Found → List ℕ → ℕ → Type 0
+IsNumberOf found word number = (one_text found word ≢ None) × ((text : List ℕ) → one_text found word ≡ Some text → SaysNumber text number)
+
+abbrev pub HasNumberOf : Found → List ℕ → Option ℕ → Type 0
+HasNumberOf found word (Some number) = IsNumberOf found word number
+HasNumberOf found word None = ⊥
+
+-- the number of an option, which may be left out
+abbrev pub ReadsNumber : List ℕ → Option ℕ → Type 0
+ReadsNumber text (Some number) = SaysNumber text number
+ReadsNumber text None = ¬ (IsNumeral 10 (without_leading_plus text) × (digits_value 10 (without_leading_plus text) < 2 ^ 32))
+
+abbrev pub MayHaveNumberOf : Found → List ℕ → Option ℕ → Type 0
+MayHaveNumberOf found word number = (one_text found word ≡ None → number ≡ None)
+    × ((text : List ℕ) → one_text found word ≡ Some text → ReadsNumber text number)
+
+-- the numbers of a place, in their order
+abbrev pub AreNumbers : List (List ℕ) → List ℕ → Type 0
+AreNumbers [] [] = Unit {0}
+AreNumbers (text ∷ texts) (number ∷ numbers) = SaysNumber text number × AreNumbers texts numbers
+AreNumbers texts numbers = ⊥
+
+-- a flag that is given, and one that is not
+abbrev pub IsSet : Found → List ℕ → Type 0
+IsSet found word = one_text found word ≡ Some (codes "true")
+
+abbrev pub IsUnset : Found → List ℕ → Type 0
+IsUnset found word = (one_text found word ≡ None) ⊎ (one_text found word ≡ Some (codes "false"))
+
+abbrev pub IsFlag : Found → List ℕ → Bool → Type 0
+IsFlag found word is_set = (IsSet found word → is_set ≡ true) × (IsUnset found word → is_set ≡ false)
+
+-- either of two flags
+abbrev pub IsEither : Found → List ℕ → List ℕ → Bool → Type 0
+IsEither found one other is_set = (IsSet found one → is_set ≡ true) × (IsSet found other → is_set ≡ true)
+    × (IsUnset found one → IsUnset found other → is_set ≡ false)
+
+-- what texts say
+abbrev pub SaysType : List ℕ → List ℕ → Type 0
+SaysType text guid = type_said text ≡ Ok guid
+
+abbrev pub SaysGuid : List ℕ → List ℕ → Type 0
+SaysGuid text guid = guid_said text ≡ Ok guid
+
+abbrev pub SaysChoice : List ℕ → Choice → Type 0
+SaysChoice text choice = choice_said text ≡ Ok choice
+
+abbrev pub SaysName : List ℕ → PartitionName → Type 0
+SaysName text name = name.text ≡ text
+
+-- the size of `resize`: an amount, or `max`
+abbrev pub SaysNewSize : List ℕ → Size → Type 0
+SaysNewSize text (Exactly amount) = SaysAmount text amount
+SaysNewSize text Rest = text ≡ codes "max"
+
+-- what is done where the image is locked
+abbrev pub SaysLock : List ℕ → Lock → Type 0
+SaysLock text Wait = text ≡ codes "wait"
+SaysLock text Fail = text ≡ codes "fail"
+SaysLock text Unlocked = text ≡ codes "none"
+
+-- places are chosen at multiples of 1 MiB, unless the words say otherwise
+abbrev pub usual_align : Amount
+usual_align = Bytes (2 ^ 20)
+
+-- the options of the fields of an entry
+pub record AsksFields (found : Found) (asked : Asked) : Type 0 where
+  pub type : Gives SaysType (first_value found (codes "--type")) asked.type_guid
+  pub guid : Gives SaysGuid (first_value found (codes "--guid")) asked.unique_guid
+  pub name : Gives SaysName (first_value found (codes "--name")) asked.name
+
+-- the place stays
+abbrev pub KeepsPlace : Asked → Type 0
+KeepsPlace asked = (asked.start ≡ None) × (asked.size ≡ None)
+
+-- the fields stay
+abbrev pub KeepsFields : Asked → Type 0
+KeepsFields asked = (asked.type_guid ≡ None) × (asked.unique_guid ≡ None) × (asked.attributes ≡ None) × (asked.name ≡ None)
+
+-- one entry, and what is asked of it
+abbrev pub IsOne : (Asked → Type 0) → List Asked → Type 0
+IsOne asks (asked ∷ []) = asks asked
+IsOne asks entries = ⊥
+
+-- the layout asks this of one entry; none is removed, and the GUID of the disk stays
+pub record AsksOne (mode : Mode) (asks : Asked → Type 0) (layout : Layout) : Type 0 where
+  pub mode_is : layout.mode ≡ mode
+  pub guid_stays : layout.disk_guid ≡ None
+  pub removes_none : layout.removed.items ≡ []
+  pub one : IsOne asks layout.asked.items
+
+-- `resize IMAGE N SIZE`: the size of entry N, and nothing else
+pub record AsksSize (found : Found) (asked : Asked) : Type 0 where
+  pub number : HasNumberOf found (codes "N") asked.number
+  pub size : Gives SaysNewSize (first_value found (codes "SIZE|max")) asked.size
+  pub start_stays : asked.start ≡ None
+  pub fields_stay : KeepsFields asked
+
+abbrev pub IsResize : Found → Change → Type 0
+IsResize found (Lay layout) = AsksOne Changing (AsksSize found) layout × (layout.align ≡ usual_align)
+IsResize found change = ⊥
+
+-- `set IMAGE N`: the fields of entry N that are given, and nothing else
+pub record AsksSet (found : Found) (asked : Asked) : Type 0 where
+  pub number : HasNumberOf found (codes "N") asked.number
+  pub fields : AsksFields found asked
+  pub place_stays : KeepsPlace asked
+
+abbrev pub IsSetting : Found → Change → Type 0
+IsSetting found (Lay layout) = AsksOne Changing (AsksSet found) layout
+IsSetting found change = ⊥
+
+-- `add IMAGE`: a new entry
+pub record AsksAddition (found : Found) (asked : Asked) : Type 0 where
+  pub number : MayHaveNumberOf found (codes "--number") asked.number
+  pub fields : AsksFields found asked
+  pub start : Gives SaysAmount (first_value found (codes "--start")) asked.start
+  pub size : Gives SaysSize (first_value found (codes "--size")) asked.size
+  pub place : GivesOr SaysChoice First (first_value found (codes "--place")) asked.choice
+
+abbrev pub IsAddition : Found → Change → Type 0
+IsAddition found (Lay layout) = AsksOne Adding (AsksAddition found) layout
+    × GivesOr SaysAmount usual_align (first_value found (codes "--align")) layout.align
+IsAddition found change = ⊥
+
+-- the texts that a place holds
+abbrev pub texts_of_place : Found → List ℕ → Option (List (List ℕ))
+texts_of_place found word = option_map typed_values (matched_of found word)
+
+-- the numbers that a place holds, in their order
+abbrev pub HasNumbers : Option (List (List ℕ)) → List ℕ → Type 0
+HasNumbers (Some texts) numbers = AreNumbers texts numbers
+HasNumbers None numbers = ⊥
+
+-- `remove IMAGE N..`: these numbers, in their order, and nothing else
+pub record AsksRemoval (found : Found) (layout : Layout) : Type 0 where
+  pub mode_is : layout.mode ≡ Changing
+  pub guid_stays : layout.disk_guid ≡ None
+  pub removes : HasNumbers (texts_of_place found (codes "N")) layout.removed.items
+  pub asks_none : layout.asked.items ≡ []
+
+abbrev pub IsRemoval : Found → Change → Type 0
+IsRemoval found (Lay layout) = AsksRemoval found layout
+IsRemoval found change = ⊥
+
+-- `new IMAGE`
+pub record AsksNew (found : Found) (new : NewTable) : Type 0 where
+  pub guid : Gives SaysGuid (first_value found (codes "--guid")) new.guid
+  pub entries : MayHaveNumberOf found (codes "--entries") new.entries
+
+-- `apply IMAGE FILE`
+pub record AsksApply (found : Found) (file : List ℕ) (is_replacing is_creating : Bool) : Type 0 where
+  pub file_is : first_value found (codes "FILE") ≡ Some file
+  pub replaces : IsFlag found (codes "--replace") is_replacing
+  pub creates : IsFlag found (codes "--create") is_creating
+
+-- what the words of the command of this name make of a table
+abbrev pub IsChange : List ℕ → Found → Change → Type 0
+IsChange name found (New new) = (name ≡ codes "new") × AsksNew found new
+IsChange name found (Lay layout) = ((name ≡ codes "add") × IsAddition found (Lay layout))
+    ⊎ (((name ≡ codes "set") × IsSetting found (Lay layout))
+    ⊎ (((name ≡ codes "resize") × IsResize found (Lay layout))
+    ⊎ ((name ≡ codes "remove") × IsRemoval found (Lay layout))))
+IsChange name found Sort = name ≡ codes "sort"
+IsChange name found Grow = name ≡ codes "grow"
+IsChange name found (Repair has_usual_bounds) = (name ≡ codes "repair") × IsFlag found (codes "--bounds") has_usual_bounds
+IsChange name found Randomize = name ≡ codes "randomize"
+IsChange name found (Apply file is_replacing is_creating) = (name ≡ codes "apply") × AsksApply found file.now is_replacing is_creating
+IsChange name found Wipe = name ≡ codes "wipe"
+
+-- how a change is written
+pub record AsksOptions (found : Found) (options : Options) : Type 0 where
+  pub dry : IsFlag found (codes "--dry-run") options.is_dry
+  pub overwrites : IsEither found (codes "--overwrite") (codes "--force") options.may_overwrite
+  pub uses : IsEither found (codes "--in-use") (codes "--force") options.may_use
+  pub lock_is : GivesOr SaysLock Wait (first_value found (codes "--lock")) options.lock
+  pub backup_is : option_map (λ file. file.now) options.backup ≡ first_value found (codes "--backup")
+
+-- what the words of the command of this name ask of an image
+abbrev pub IsCommand : List ℕ → Found → Command → Type 0
+IsCommand name found Show = name ≡ codes "show"
+IsCommand name found Check = name ≡ codes "check"
+IsCommand name found (Free align) = (name ≡ codes "free") × Gives SaysAmount (first_value found (codes "--align")) align
+IsCommand name found Dump = name ≡ codes "dump"
+IsCommand name found Salvage = name ≡ codes "salvage"
+IsCommand name found (Write change options) = IsChange name found change × AsksOptions found options
+
+-- the sizes of a sector
+abbrev pub IsSectorSize : ℕ → Type 0
+IsSectorSize bytes = (bytes ≡ 512) ⊎ ((bytes ≡ 1024) ⊎ ((bytes ≡ 2048) ⊎ (bytes ≡ 4096)))
+
+-- the size of a sector that is given, or none where it is to be found
+abbrev pub IsSectorOf : Found → Option ℕ → Type 0
+IsSectorOf found (Some bytes) = IsSectorSize bytes × IsNumberOf found (codes "--sector") bytes
+IsSectorOf found None = (first_value found (codes "--sector") ≡ None) ⊎ (first_value found (codes "--sector") ≡ Some (codes "auto"))
+
+-- what is asked of an image
+pub record AsksImage (name : List ℕ) (found : Found) (request : ImageRequest) : Type 0 where
+  pub image_is : first_value found (codes "IMAGE") ≡ Some request.image.now
+  pub sector : IsSectorOf found request.sector_size
+  pub json : IsFlag found (codes "--json") request.is_json
+  pub command_is : IsCommand name found request.command
+
+-- what the words of the command of this name ask for
+abbrev pub IsRequest : List ℕ → Found → Request → Type 0
+IsRequest name found (Types is_json) = (name ≡ codes "types") × IsFlag found (codes "--json") is_json
+IsRequest name found (Image request) = AsksImage name found request
