@@ -1,5 +1,5 @@
 -- Which uses of a disk a change of its table leaves alone.
-use Rattle.std.specs.Prelude.{◌≡◌, ◌≤◌, IsTrue, Option, None, Some}
+use Rattle.std.specs.Prelude.{◌≡◌, ◌≤◌, IsTrue, Option, Some}
 use Rattle.gptman.specs.Entry.{is_used}
 use Rattle.gptman.specs.Number.{entry_of_number}
 use Rattle.gptman_copy.specs.declared.codec.entry.GPTPartitionEntry.{GPTPartitionEntry}
@@ -24,3 +24,8 @@ IsKeptIn old new = ⊥
 abbrev pub IsHarmless : Part → GPT → GPT → Type 0
 IsHarmless Whole was next = ⊥
 IsHarmless (Partition n) was next = IsKeptIn (entry_of_number was n) (entry_of_number next n)
+
+-- A use of the part allows a change from one table to another. It allows none where a table is missing.
+abbrev pub IsAllowed : Part → Option GPT → Option GPT → Type 0
+IsAllowed part (Some was) (Some next) = IsHarmless part was next
+IsAllowed part was next = ⊥

@@ -2,12 +2,13 @@
 
 use crate::device::{Device, KnownPart};
 use crate::kernel::{is_there, list};
-use crate::loops::{Loop, find_loops};
+use crate::loops::{Loop, Shown, find_loops};
 use crate::mounts::Mounts;
 use crate::opening::Opened;
 use crate::target::Target;
 use crate::uses::{How, Part, Use, Users};
 use std::alloc::AllocError;
+use std::fs;
 use std::rt::Files;
 
 // What the kernel reports of uses.
@@ -16,6 +17,16 @@ struct Reports {
     mounts: Mounts,
     loops: Vec<Loop>,
     btrfs: Vec<Target>,
+}
+
+// How many loop devices over each other are followed.
+const LEVELS: u8 = 16;
+
+// A device or a file that shows a part of the disk.
+#[derive(Clone, Copy)]
+struct Piece {
+    target: Target,
+    part: Part,
 }
 
 /// Returns all uses of the disk and of its partitions that can be seen. A loop device that is only attached is
@@ -28,11 +39,17 @@ where
     R: Files + AllocGlobal + Clone + Drop,
 {
     let mut uses = Vec::new(rt.alloc());
+    let image = shown(rt, opened)?;
     let reports = Reports {
         mounts: Mounts::read(rt)?,
-        loops: find_loops(rt)?,
+        loops: find_loops(rt, &image)?,
         btrfs: find_btrfs(rt)?,
     };
+    let mut pieces = Vec::new(rt.alloc());
+    pieces.push(Piece {
+        target: opened.target,
+        part: Part::Whole,
+    })?;
     if let Some(device) = &opened.device {
         if let Some(file) = missing_in(rt, &reports) {
             uses.push(Use {
@@ -40,10 +57,23 @@ where
                 how: How::Unknown(file),
             })?;
         }
-        put_uses(rt, &reports, device, &mut uses)?;
+        put_uses(rt, &reports, device, &mut pieces, &mut uses)?;
     }
-    put_loops(rt, &reports, opened.target, Part::Whole, &mut uses)?;
+    put_loops(rt, &reports, pieces, &mut uses)?;
     Ok(Users { uses })
+}
+
+// The image, as loop devices show it.
+fn shown<R: Files + AllocGlobal>(rt: &R, opened: &Opened) -> Result<Shown, AllocError> {
+    let link = format!(in rt.alloc(); "/proc/self/fd/{}", opened.descriptor())?;
+    let path = match fs::read_link(rt, link.as_str()) {
+        Ok(path) => Some(String::from_str(rt.alloc(), path.as_path().as_str())?),
+        Err(_unreadable) => None,
+    };
+    Ok(Shown {
+        target: opened.target,
+        path,
+    })
 }
 
 // The file that is needed to see the uses of a device, and cannot be read.
@@ -54,11 +84,12 @@ fn missing_in<R: Files>(rt: &R, reports: &Reports) -> Option<&'static str> {
     reports.mounts.missing()
 }
 
-// Puts the uses of a device and of its partitions into the list.
+// Puts the uses of a device and of its partitions into the list, and the partitions to the pieces.
 fn put_uses<R>(
     rt: &R,
     reports: &Reports,
     device: &Device,
+    pieces: &mut Vec<Piece>,
     uses: &mut Vec<Use>,
 ) -> Result<(), AllocError>
 where
@@ -70,7 +101,10 @@ where
             Some(number) => {
                 let part = Part::Partition(number);
                 put_use(rt, reports, known, part, uses)?;
-                put_loops(rt, reports, known.target, part, uses)?;
+                pieces.push(Piece {
+                    target: known.target,
+                    part,
+                })?;
             }
         }
     }
@@ -83,10 +117,10 @@ where
     R: Files + AllocGlobal + Clone + Drop,
 {
     let alloc = rt.alloc();
-    if let Some(at) = reports.mounts.find(rt, known.target) {
-        return Ok(Some(How::Mounted(String::from_str(alloc, at)?)));
+    if let Some(at) = reports.mounts.find(rt, known.target)? {
+        return Ok(Some(How::Mounted(at)));
     }
-    if reports.mounts.is_swap(rt, known.target) {
+    if reports.mounts.is_swap(rt, known.target)? {
         return Ok(Some(How::Swap));
     }
     if reports.btrfs.iter().any(|found| *found == known.target) {
@@ -99,49 +133,54 @@ where
     }
 }
 
-// Puts the uses of loop devices over the target into the list, also of those over their partitions. What a
-// loop device shows from the first byte of a whole disk on are the partitions of that; else it is a use of the
-// part.
+// Puts the uses of loop devices over the pieces into the list, and of those over these, level by level.
 fn put_loops<R>(
     rt: &R,
     reports: &Reports,
-    target: Target,
-    part: Part,
+    pieces: Vec<Piece>,
+    uses: &mut Vec<Use>,
+) -> Result<(), AllocError>
+where
+    R: Files + AllocGlobal + Clone + Drop,
+{
+    let mut pieces = pieces;
+    for _ in 0..LEVELS {
+        let mut above = Vec::new(rt.alloc());
+        for piece in pieces.iter() {
+            put_level(rt, reports, *piece, &mut above, uses)?;
+        }
+        if above.is_empty() {
+            return Ok(());
+        }
+        pieces = above;
+    }
+    Ok(())
+}
+
+// Puts the uses of the loop devices over a piece into the list, and what they show to the pieces. What a loop
+// device shows from the first byte of a whole disk on are the partitions of that; else it is a use of the part.
+fn put_level<R>(
+    rt: &R,
+    reports: &Reports,
+    piece: Piece,
+    above: &mut Vec<Piece>,
     uses: &mut Vec<Use>,
 ) -> Result<(), AllocError>
 where
     R: Files + AllocGlobal + Clone + Drop,
 {
     for over in reports.loops.iter() {
-        if over.backing != Some(target) {
+        if over.backing != Some(piece.target) {
             continue;
         }
         for known in parts_of(rt, over)?.iter() {
-            let part = part_in(part, over, known);
+            let part = part_in(piece.part, over, known);
             put_use(rt, reports, known, part, uses)?;
-            for above in reports.loops.iter() {
-                if above.backing == Some(known.target) {
-                    put_all(rt, reports, above, part, uses)?;
-                }
-            }
+            above.push(Piece {
+                target: known.target,
+                part,
+            })?;
         }
-    }
-    Ok(())
-}
-
-// Puts the uses of a loop device and of its partitions into the list, as those of this part.
-fn put_all<R>(
-    rt: &R,
-    reports: &Reports,
-    above: &Loop,
-    part: Part,
-    uses: &mut Vec<Use>,
-) -> Result<(), AllocError>
-where
-    R: Files + AllocGlobal + Clone + Drop,
-{
-    for known in parts_of(rt, above)?.iter() {
-        put_use(rt, reports, known, part, uses)?;
     }
     Ok(())
 }

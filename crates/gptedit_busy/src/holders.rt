@@ -1,7 +1,7 @@
 //! Who holds a lock on a file.
 
 use crate::kernel::{list, read_text};
-use crate::target::Target;
+use crate::node::Node;
 use std::alloc::AllocError;
 use std::rt::Files;
 
@@ -16,20 +16,23 @@ where
 {
     let alloc = rt.alloc();
     let locks = read_text(rt, "/proc/locks")?;
-    let mut process = String::from_str(alloc, "self")?;
+    let mut name = String::from_str(alloc, "self")?;
     for _ in 0..GENERATIONS {
-        let Some((own, parent)) = read_numbers(rt, process.as_str())? else {
+        let Some(Process { number, parent }) = read_process(rt, name.as_str())? else {
             return Ok(false);
         };
         if let Some(locks) = &locks {
-            if holds_lock(locks.as_str(), own.as_str(), node) {
+            if holds_lock(locks.as_str(), number.as_str(), node) {
                 return Ok(true);
             }
         }
-        if has_descriptor_of(rt, own.as_str(), node)? {
+        if has_descriptor_of(rt, number.as_str(), node)? {
             return Ok(true);
         }
-        process = parent;
+        let Some(parent) = parent else {
+            return Ok(false);
+        };
+        name = parent;
     }
     Ok(false)
 }
@@ -51,48 +54,33 @@ pub(crate) fn has_record_lock<R: Files + AllocGlobal>(
     Ok(false)
 }
 
-/// A file as the list of locks names it.
-#[derive(Clone, Copy)]
-pub(crate) struct Node {
-    pub(crate) major: u64,
-    pub(crate) minor: u64,
-    pub(crate) inode: u64,
+// A process.
+#[derive(Drop)]
+struct Process {
+    // Its number.
+    number: String,
+    // The number of its parent. The first process of a container has none.
+    parent: Option<String>,
 }
 
-impl Node {
-    /// Returns the file that has these numbers.
-    pub(crate) fn new(device: (u64, u64), inode: u64) -> Node {
-        let (major, minor) = device;
-        Node {
-            major,
-            minor,
-            inode,
-        }
-    }
-}
-
-// The number of a process and that of its parent. The name between them may have any characters.
-fn read_numbers<R: Files + AllocGlobal>(
-    rt: &R,
-    process: &str,
-) -> Result<Option<(String, String)>, AllocError> {
+// The process whose folder in `/proc` has this name. The name of the program, which may have any characters, is
+// between the two numbers.
+fn read_process<R: Files + AllocGlobal>(rt: &R, name: &str) -> Result<Option<Process>, AllocError> {
     let alloc = rt.alloc();
-    let path = format!(in alloc; "/proc/{process}/stat")?;
+    let path = format!(in alloc; "/proc/{name}/stat")?;
     let Some(text) = read_text(rt, path.as_str())? else {
         return Ok(None);
     };
-    let own = text.as_str().split(' ').next().unwrap_or("");
+    let number = text.as_str().split(' ').next().unwrap_or("");
     let Some((_, rest)) = text.as_str().rsplit_once(") ") else {
         return Ok(None);
     };
-    let parent = rest.split(' ').nth(1).unwrap_or("0");
-    if own.is_empty() || parent == "0" {
-        return Ok(None);
-    }
-    Ok(Some((
-        String::from_str(alloc, own)?,
-        String::from_str(alloc, parent)?,
-    )))
+    let parent = match rest.split(' ').nth(1) {
+        None | Some("0") => None,
+        Some(parent) => Some(String::from_str(alloc, parent)?),
+    };
+    let number = String::from_str(alloc, number)?;
+    Ok(Some(Process { number, parent }))
 }
 
 // Whether the process of this number holds the lock of `flock` on the file, by the list of locks.
@@ -138,14 +126,7 @@ fn word_of(line: &str, index: usize) -> &str {
     line.split_ascii_whitespace().nth(index).unwrap_or("")
 }
 
-// Whether a line of the list of locks is about the file, which it names as `08:01:123`: the device in
-// hexadecimal and the inode in decimal digits.
+// Whether a line of the list of locks is about the file.
 fn is_on(line: &str, node: Node) -> bool {
-    let mut parts = word_of(line, 5).split(':');
-    let major = parts.next().unwrap_or("");
-    let minor = parts.next().unwrap_or("");
-    let inode = parts.next().unwrap_or("");
-    u64::from_str_radix(major, 16).ok() == Some(node.major)
-        && u64::from_str_radix(minor, 16).ok() == Some(node.minor)
-        && inode.parse::<u64>().ok() == Some(node.inode)
+    node.is_named(word_of(line, 5))
 }

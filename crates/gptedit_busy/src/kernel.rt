@@ -1,26 +1,28 @@
 //! Files of `/proc` and `/sys`.
 
-use std::alloc::AllocError;
+use std::alloc::{AllocError, Global};
 use std::fs;
 use std::io::ErrorKind;
 use std::rt::Files;
 
-/// Returns what a file of the kernel says, if it can be read. A byte that is no ASCII becomes a question mark.
+/// Returns what a file of the kernel says, if it can be read. What is no UTF-8 in it becomes U+FFFD.
 pub(crate) fn read_text<R: Files + AllocGlobal>(
     rt: &R,
     path: &str,
 ) -> Result<Option<String>, AllocError> {
-    let bytes = match fs::read(rt, path) {
-        Ok(bytes) => bytes,
-        Err(error) if error.kind() == ErrorKind::OutOfMemory => return Err(AllocError),
-        Err(_unreadable) => return Ok(None),
-    };
-    let mut text = String::with_capacity(rt.alloc(), bytes.len())?;
-    for byte in bytes.iter() {
-        let shown = if byte.is_ascii() { *byte } else { b'?' };
-        text.push(char::from(shown))?;
+    match read_bytes(rt, path)? {
+        Some(bytes) => Ok(Some(String::from_utf8_lossy(rt.alloc(), bytes.as_slice())?)),
+        None => Ok(None),
     }
-    Ok(Some(text))
+}
+
+// The bytes of a file of the kernel, if it can be read.
+fn read_bytes<R: Files + AllocGlobal>(rt: &R, path: &str) -> Result<Option<Vec<u8>>, AllocError> {
+    match fs::read(rt, path) {
+        Ok(bytes) => Ok(Some(bytes)),
+        Err(error) if error.kind() == ErrorKind::OutOfMemory => Err(AllocError),
+        Err(_unreadable) => Ok(None),
+    }
 }
 
 /// Returns the first line of such a file, without blanks at its ends.
@@ -34,6 +36,52 @@ pub(crate) fn read_line<R: Files + AllocGlobal>(
             Ok(Some(String::from_str(rt.alloc(), line)?))
         }
         None => Ok(None),
+    }
+}
+
+/// Returns the path that is in such a file and ends with a line break; nothing if it is not UTF-8.
+pub(crate) fn read_path<R: Files + AllocGlobal>(
+    rt: &R,
+    file: &str,
+) -> Result<Option<String>, AllocError> {
+    let Some(bytes) = read_bytes(rt, file)? else {
+        return Ok(None);
+    };
+    let Ok(text) = String::from_utf8(bytes) else {
+        return Ok(None);
+    };
+    let path = text.as_str();
+    let path = path.strip_suffix('\n').unwrap_or(path);
+    Ok(Some(String::from_str(rt.alloc(), path)?))
+}
+
+/// Returns a path of a list of mounts or of swap spaces, where `\040` is a blank.
+pub(crate) fn unescaped(alloc: Global, text: &str) -> Result<String, AllocError> {
+    let mut parts = text.split('\\');
+    let mut path = String::from_str(alloc, parts.next().unwrap_or(""))?;
+    for part in parts {
+        match read_escape(part) {
+            Some((c, rest)) => {
+                path.push(c)?;
+                path.push_str(rest)?;
+            }
+            None => {
+                path.push('\\')?;
+                path.push_str(part)?;
+            }
+        }
+    }
+    Ok(path)
+}
+
+// The ASCII character whose code is at the start of the text in three octal digits, and what is after these.
+fn read_escape(text: &str) -> Option<(char, &str)> {
+    let (digits, rest) = text.split_at_checked(3)?;
+    let code = u8::from_str_radix(digits, 8).ok()?;
+    if code.is_ascii() {
+        Some((char::from(code), rest))
+    } else {
+        None
     }
 }
 

@@ -10,6 +10,7 @@ mod holders;
 mod kernel;
 mod loops;
 mod mounts;
+mod node;
 pub mod opening;
 mod target;
 pub mod uses;

@@ -1,6 +1,6 @@
 //! What is mounted, in each mount namespace, and what is swap space.
 
-use crate::kernel::{list, read_text};
+use crate::kernel::{list, read_text, unescaped};
 use crate::target::Target;
 use std::alloc::AllocError;
 use std::collections::BTreeSet;
@@ -52,29 +52,38 @@ impl Mounts {
         }
     }
 
-    /// Returns where the target is mounted, as the kernel spells it.
-    pub(crate) fn find<R: Files>(&self, rt: &R, target: Target) -> Option<&str> {
+    /// Returns where the target is mounted.
+    pub(crate) fn find<R: Files + AllocGlobal>(
+        &self,
+        rt: &R,
+        target: Target,
+    ) -> Result<Option<String>, AllocError> {
         for mounts in self.namespaces.iter() {
             for line in mounts.as_str().lines() {
-                if is_mount_of(rt, line, target) {
-                    return line.split(' ').nth(4);
+                if is_mount_of(rt, line, target)? {
+                    let at = line.split(' ').nth(4).unwrap_or("");
+                    return Ok(Some(unescaped(rt.alloc(), at)?));
                 }
             }
         }
-        None
+        Ok(None)
     }
 
     /// Whether the target is swap space.
-    pub(crate) fn is_swap<R: Files>(&self, rt: &R, target: Target) -> bool {
+    pub(crate) fn is_swap<R: Files + AllocGlobal>(
+        &self,
+        rt: &R,
+        target: Target,
+    ) -> Result<bool, AllocError> {
         let Some(swaps) = &self.swaps else {
-            return false;
+            return Ok(false);
         };
         for line in swaps.as_str().lines() {
-            if is_path_of(rt, line.split(' ').next().unwrap_or(""), target) {
-                return true;
+            if is_path_of(rt, line.split(' ').next().unwrap_or(""), target)? {
+                return Ok(true);
             }
         }
-        false
+        Ok(false)
     }
 }
 
@@ -111,22 +120,34 @@ fn put_namespace<R: Files + AllocGlobal>(
 
 // Whether a line of `mountinfo` is that of the target: by its number, or by its source, as of a file system
 // over several devices.
-fn is_mount_of<R: Files>(rt: &R, line: &str, target: Target) -> bool {
+fn is_mount_of<R: Files + AllocGlobal>(
+    rt: &R,
+    line: &str,
+    target: Target,
+) -> Result<bool, AllocError> {
     if line
         .split(' ')
         .nth(2)
         .and_then(|number| Target::read(number))
         == Some(target)
     {
-        return true;
+        return Ok(true);
     }
     match line.split_once(" - ") {
         Some((_, rest)) => is_path_of(rt, rest.split(' ').nth(1).unwrap_or(""), target),
-        None => false,
+        None => Ok(false),
     }
 }
 
-// Whether the path leads to the target.
-fn is_path_of<R: Files>(rt: &R, path: &str, target: Target) -> bool {
-    path.starts_with('/') && Target::at(rt, path) == Some(target)
+// Whether the path, as the list has it, leads to the target.
+fn is_path_of<R: Files + AllocGlobal>(
+    rt: &R,
+    path: &str,
+    target: Target,
+) -> Result<bool, AllocError> {
+    if !path.starts_with('/') {
+        return Ok(false);
+    }
+    let path = unescaped(rt.alloc(), path)?;
+    Ok(Target::at(rt, path.as_str()) == Some(target))
 }

@@ -1,13 +1,15 @@
 //! An image is opened, and locked where it is to be written.
 
 use crate::device::Device;
-use crate::holders::{Node, has_record_lock, is_held_by_ancestor};
-use crate::target::{Target, split};
+use crate::holders::{has_record_lock, is_held_by_ancestor};
+use crate::node::Node;
+use crate::target::Target;
 use gptman::{Error, FileDisk};
 use gptman_open::{Held, hold};
 use std::alloc::AllocError;
-use std::fs::{File, Metadata, TryLockError};
+use std::fs::{File, Metadata, OpenOptions, TryLockError};
 use std::io::ErrorKind;
+use std::os::fd::AsRawFd;
 use std::os::unix::fs::MetadataExt;
 use std::rt::Files;
 use std::{fmt, fs, io};
@@ -32,8 +34,17 @@ pub struct Opened {
     pub device: Option<Device>,
     // What the path leads to.
     pub(crate) target: Target,
-    // What keeps the lock, and the places of closed standard streams.
+    // What keeps the places of closed standard streams, and the lock.
     held: Held,
+    // What keeps the lock where the file system gives none to an opening for reading only.
+    lock: Option<File>,
+}
+
+impl Opened {
+    // The descriptor of an opening of the image.
+    pub(crate) fn descriptor(&self) -> i32 {
+        self.held.above.as_raw_fd()
+    }
 }
 
 /// Who holds the lock.
@@ -65,7 +76,8 @@ pub enum OpenError {
 /// Opens an image, for reading only if nothing is to be written. Else it is locked first, as `flock` does; one
 /// line on standard error comes before it waits.
 ///
-/// If the file system has no locks, it is opened without.
+/// If the file system has no locks, it is opened without. If it gives none to an opening for reading only, as NFS
+/// does, the lock is on one for writing.
 ///
 /// # Errors
 /// `NotADisk` if the path leads to no file and no block device. `Locked` if the lock is held and is not waited
@@ -80,11 +92,11 @@ where
     };
     let held = hold(rt, rt.alloc(), name)?;
     let metadata = held.above.metadata()?;
-    let disk = if writes {
-        take_lock(rt, name, lock, &held.above, &metadata)?;
-        FileDisk::open(rt, name)?
+    let (disk, lock) = if writes {
+        let lock = take_lock(rt, name, lock, &held.above, &metadata)?;
+        (FileDisk::open(rt, name)?, lock)
     } else {
-        FileDisk::open_read(rt, name)?
+        (FileDisk::open_read(rt, name)?, None)
     };
     if !is_same(&metadata, &fs::metadata(rt, name)?) || Target::of(&metadata) != Some(target) {
         return Err(OpenError::Replaced);
@@ -95,6 +107,7 @@ where
         device,
         target,
         held,
+        lock,
     })
 }
 
@@ -103,32 +116,72 @@ fn is_same(one: &Metadata, other: &Metadata) -> bool {
     one.dev() == other.dev() && one.ino() == other.ino()
 }
 
-// Takes the lock of `flock` on a file that is open, and refuses one that another program has locked in parts.
+// Takes the lock of `flock` on a file that is open for reading only, and refuses one that another program has
+// locked in parts. Returns the opening for writing that keeps the lock, if there had to be one.
 fn take_lock<R>(
     rt: &R,
     name: &str,
     lock: Lock,
     file: &File,
     metadata: &Metadata,
-) -> Result<(), OpenError>
+) -> Result<Option<File>, OpenError>
 where
-    R: Files + AllocGlobal + Eprint + Clone + Drop,
+    R: Files<File = File> + AllocGlobal + Eprint + Clone + Drop,
 {
     if lock == Lock::None {
-        return Ok(());
+        return Ok(None);
     }
-    let node = Node::new(split(metadata.dev()), metadata.ino());
-    match file.try_lock() {
-        Ok(()) => (),
-        Err(TryLockError::WouldBlock) => wait_for_lock(rt, name, lock, file, node)?,
-        Err(TryLockError::Error(_no_locks)) => (),
+    let node = Node::of(rt, file, metadata)?;
+    let mut keeper = None;
+    if !lock_opening(rt, name, lock, file, node)? {
+        keeper = Some(lock_to_write(rt, name, lock, metadata, node)?);
     }
     if has_record_lock(rt, node)? {
         return Err(OpenError::Locked {
             holder: Holder::Machine,
         });
     }
-    Ok(())
+    Ok(keeper)
+}
+
+// Opens the file for writing too, and takes the lock on that, if the file system has locks.
+fn lock_to_write<R>(
+    rt: &R,
+    name: &str,
+    lock: Lock,
+    metadata: &Metadata,
+    node: Node,
+) -> Result<File, OpenError>
+where
+    R: Files<File = File> + AllocGlobal + Eprint + Clone + Drop,
+{
+    let file = OpenOptions::new().read(true).write(true).open(rt, name)?;
+    if !is_same(metadata, &file.metadata()?) {
+        return Err(OpenError::Replaced);
+    }
+    lock_opening(rt, name, lock, &file, node)?;
+    Ok(file)
+}
+
+// Takes the lock, and waits for it. Returns whether the file system gives one on this opening.
+fn lock_opening<R>(
+    rt: &R,
+    name: &str,
+    lock: Lock,
+    file: &File,
+    node: Node,
+) -> Result<bool, OpenError>
+where
+    R: Files + AllocGlobal + Eprint + Clone + Drop,
+{
+    match file.try_lock() {
+        Ok(()) => Ok(true),
+        Err(TryLockError::WouldBlock) => {
+            wait_for_lock(rt, name, lock, file, node)?;
+            Ok(true)
+        }
+        Err(TryLockError::Error(_refused)) => Ok(false),
+    }
 }
 
 // Waits for the lock, unless it is not to be waited for or would never be had.

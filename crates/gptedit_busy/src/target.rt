@@ -57,11 +57,17 @@ impl Target {
 
     /// Reads the number of a block device, as `8:1`.
     pub(crate) fn read(text: &str) -> Option<Target> {
-        let (major, minor) = text.split_once(":")?;
-        let major = major.parse::<u64>().ok()?;
-        let minor = minor.parse::<u64>().ok()?;
+        let (major, minor) = read_pair(text)?;
         Some(Target::Device { major, minor })
     }
+}
+
+/// Reads the major and the minor number of a device, as `8:1`.
+pub(crate) fn read_pair(text: &str) -> Option<(u64, u64)> {
+    let (major, minor) = text.split_once(":")?;
+    let major = major.parse::<u64>().ok()?;
+    let minor = minor.parse::<u64>().ok()?;
+    Some((major, minor))
 }
 
 /// Returns the major and the minor number in the number of a device, as the C library packs them.

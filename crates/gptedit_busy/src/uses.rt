@@ -1,10 +1,9 @@
 //! Uses of a disk and of its partitions, and which changes of the table they allow.
 
-ghost use Rattle.std.specs.Prelude.{◌↔◌, IsTrue};
-ghost use Rattle.gptedit_busy.specs.Harm.{IsHarmless, IsKept};
+ghost use Rattle.std.specs.Prelude.{◌↔◌, All, Contains, IfSome, IsNone, IsTrue, option_copied};
+ghost use Rattle.gptedit_busy.specs.Harm.{IsAllowed, IsHarmless, IsKept};
 
 use gptman::{GPT, GPTPartitionEntry};
-use std::fmt;
 
 /// The part of a disk that is in use.
 #[derive(Clone, Copy, PartialEq, Eq, Debug)]
@@ -49,15 +48,25 @@ pub struct Users {
 impl Users {
     /// Returns the first use that does not allow the change of the table from `was` to `next`. With no table
     /// before or after, none allows it.
-    pub fn find_harm(&self, was: Option<&GPT>, next: Option<&GPT>) -> Option<&Use> {
-        self.uses
-            .iter()
-            .find(|found| !allows(found.part, was, next))
+    pub fn find_harm(&self, was: Option<&GPT>, next: Option<&GPT>) -> Option<&Use>
+        ensures none { IsNone result ↔ All (λ found. IsAllowed found.part (option_copied was.entry)
+            (option_copied next.entry)) self.now.uses.items }
+        ensures harmed { IfSome (option_copied result) (λ found. Contains self.now.uses.items found ×
+            ¬ IsAllowed found.part (option_copied was.entry) (option_copied next.entry)) }
+    {
+        for found in self.uses.iter() {
+            if !allows(found.part, was, next) {
+                return Some(found);
+            }
+        }
+        None
     }
 }
 
 // Whether a use of this part allows the change.
-fn allows(part: Part, was: Option<&GPT>, next: Option<&GPT>) -> bool {
+fn allows(part: Part, was: Option<&GPT>, next: Option<&GPT>) -> bool
+    ensures { IsTrue result ↔ IsAllowed part (option_copied was.entry) (option_copied next.entry) }
+{
     match (was, next) {
         (Some(was), Some(next)) => is_harmless(part, was, next),
         _ => false,
@@ -87,34 +96,4 @@ fn is_kept(old: &GPTPartitionEntry, new: &GPTPartitionEntry) -> bool
         && old.partition_type_guid == new.partition_type_guid
         && old.unique_partition_guid == new.unique_partition_guid
         && old.ending_lba <= new.ending_lba
-}
-
-impl fmt::Display for Use {
-    fn fmt<W: fmt::Write>(&self, f: &mut fmt::Formatter<W>) -> fmt::Result {
-        write!(f, "{} {}", self.part, self.how)?;
-        f.write_str(
-            "\nclose it first; --in-use writes the table all the same, and the kernel keeps the old one until it is told",
-        )
-    }
-}
-
-impl fmt::Display for Part {
-    fn fmt<W: fmt::Write>(&self, f: &mut fmt::Formatter<W>) -> fmt::Result {
-        match self {
-            Part::Whole => f.write_str("the disk"),
-            Part::Partition(number) => write!(f, "partition {number}"),
-        }
-    }
-}
-
-impl fmt::Display for How {
-    fn fmt<W: fmt::Write>(&self, f: &mut fmt::Formatter<W>) -> fmt::Result {
-        match self {
-            How::Mounted(at) => write!(f, "is mounted at {at}"),
-            How::Swap => f.write_str("is used as swap space"),
-            How::Held(by) => write!(f, "is in use by {by}"),
-            How::Btrfs => f.write_str("is part of a mounted Btrfs file system"),
-            How::Unknown(file) => write!(f, "may be in use: {file} cannot be read"),
-        }
-    }
 }
