@@ -1,3 +1,4 @@
 pub mod Products
 pub mod Pieces
 pub mod Writing
+pub mod Spared

@@ -1,12 +1,15 @@
 -- What is found in a block of bytes, and in a range of them.
-use Rattle.std.proofs.Common.{◌≡◌, ◌≤◌, ◌<◌, ◌+◌, ◌-◌, ◌⊎◌, ◌↔◌, ⊎_elim, ◌∙◌, ℕ, List, length, get_or, drop, inl, inr, ap, sym, subst, arith, Option, Some, None, Result, Ok, Err}
-use Rattle.std.specs.Prelude.{IfOk, MatchOption}
+use Rattle.std.proofs.Common.{◌≡◌, ◌≤◌, ◌<◌, ◌+◌, ◌-◌, ◌⊎◌, ◌↔◌, ⊎_elim, ◌∙◌, ℕ, List, length, get_or, drop, inl, inr, ap, sym, subst, arith, Option, Some, None, Result, Ok, Err, Bool, [], ◌∷◌, ◌++◌, ◌*◌}
+use Rattle.std.specs.Prelude.{IfOk, MatchOption, nat_eq, if◌then◌else◌}
 use Rattle.std.proofs.lemmas.List.{get_or-drop, get_or-take}
+use Rattle.std.proofs.lemmas.Bool.Decides.{eqb_tells}
 use Rattle.gptman_copy.specs.Bytes.{part}
 use Rattle.gptman.specs.declared.table.GPT.{GPT}
 use Rattle.gptedit_look.specs.declared.seen.Look.{Look}
 use Rattle.gptedit_look.specs.declared.seen.Purpose.{Purpose}
-use Rattle.gptman_copy.specs.Write.{other_header}
+use Rattle.gptman_copy.specs.Ranges.{Inside}
+use Rattle.gptman_copy.specs.Write.{copy_ranges, other_header}
+use Rattle.gptman_copy.specs.declared.codec.header.GPTHeader.{GPTHeader}
 use Rattle.gptman_copy.specs.declared.error.Error.{Error}
 use Rattle.gptedit_look.specs.declared.guard.Refused.{Refused}
 use Rattle.gptedit_look.specs.declared.touched.TouchedCopy.{TouchedCopy}
@@ -67,15 +70,54 @@ copy_touched copy a n b m size header entries k = (
   λ h. ⊎_elim (λ x. inl ((header k).1 (x, h.1))) (λ x. inr ((entries k).1 (x, h.1))) h.0,
 )
 
+-- k is in one of two lists of ranges
+pub inside_of_both : (rs ss : List (ℕ × ℕ)) (k : ℕ) → Inside (rs ++ ss) k ↔ (Inside rs k ⊎ Inside ss k)
+inside_of_both [] ss k = (λ h. inr h, λ h. ⊎_elim (λ no. absurd no) (λ s. s) h)
+inside_of_both (r ∷ rs) ss k =
+    let more = inside_of_both rs ss k in (
+      λ h. ⊎_elim (λ x. inl (inl x)) (λ x. ⊎_elim (λ y. inl (inr y)) (λ y. inr y) (more.0 x)) h,
+      λ h. ⊎_elim (λ x. ⊎_elim (λ y. inl y) (λ y. inr (more.1 (inl y))) x) (λ x. inr (more.1 (inr x))) h,
+    )
+
+-- the range of n entries, or none
+abbrev entries_range : ℕ → ℕ → Bool → List (ℕ × ℕ)
+entries_range start n none = if none then [] else ((start, 128 * n) ∷ [])
+
+-- k is one of so many entries
+inside_entries : (start n k : ℕ) → IsIn start (128 * n) k ↔ Inside (entries_range start n (nat_eq n 0)) k
+inside_entries start n k =
+    let P : Bool → Type 0 = λ b. IsIn start (128 * n) k ↔ Inside (entries_range start n b) k in
+    elim (eqb_tells n 0) as (λ _. P (nat_eq n 0)) [
+      | inl zero ↦ subst P (sym zero.0) (λ h. absurd (omega (arith, zero.1, h.0, h.1)), λ no. absurd no)
+      | inr some ↦ subst P (sym some.0) (λ h. inl h, λ h. ⊎_elim (λ x. x) (λ no. absurd no) h)
+    ]
+
+-- k is one of a copy
+pub inside_copy : (h : GPTHeader) (ss k : ℕ) → IsOfCopy h ss k ↔ Inside (copy_ranges h ss) k
+inside_copy h ss k =
+    let entries = inside_entries (h.partition_entry_lba * ss) h.number_of_partition_entries k in (
+      λ x. ⊎_elim (λ y. inl y) (λ y. inr (entries.0 y)) x,
+      λ x. ⊎_elim (λ y. inl y) (λ y. inr (entries.1 y)) x,
+    )
+
+-- the bytes of a copy, as ranges
+pub copy_touched_in : (copy : TouchedCopy) (h : GPTHeader) (ss size : ℕ)
+    → ((k : ℕ) → IsTouchedIn copy k ↔ (IsOfCopy h ss k × (k < size))) → (k : ℕ) → IsTouchedIn copy k ↔ (Inside (copy_ranges h ss) k × (k < size))
+copy_touched_in copy h ss size iff k = (
+  λ x. let f = (iff k).0 x in ((inside_copy h ss k).0 f.0, f.1),
+  λ x. (iff k).1 ((inside_copy h ss k).1 x.0, x.1),
+)
+
 -- both copies of a table
 pub table_touched : (table : TouchedTable) (g : GPT) (size : ℕ)
-    → ((k : ℕ) → IsTouchedIn table.own k ↔ (IsOfCopy g.header g.sector_size k × (k < size)))
-    → ((k : ℕ) → IsTouchedIn table.other k ↔ (IsOfCopy (other_header g.header) g.sector_size k × (k < size)))
+    → ((k : ℕ) → IsTouchedIn table.own k ↔ (Inside (copy_ranges g.header g.sector_size) k × (k < size)))
+    → ((k : ℕ) → IsTouchedIn table.other k ↔ (Inside (copy_ranges (other_header g.header) g.sector_size) k × (k < size)))
     → (k : ℕ) → IsTouchedOf table k ↔ (IsWritten g k × (k < size))
-table_touched table g size own other k = (
-  λ h. ⊎_elim (λ x. let f = (own k).0 x in (inl f.0, f.1)) (λ x. let f = (other k).0 x in (inr f.0, f.1)) h,
-  λ h. ⊎_elim (λ x. inl ((own k).1 (x, h.1))) (λ x. inr ((other k).1 (x, h.1))) h.0,
-)
+table_touched table g size own other k =
+    let both = inside_of_both (copy_ranges g.header g.sector_size) (copy_ranges (other_header g.header) g.sector_size) k in (
+      λ h. ⊎_elim (λ x. let f = (own k).0 x in (both.1 (inl f.0), f.1)) (λ x. let f = (other k).0 x in (both.1 (inr f.0), f.1)) h,
+      λ h. ⊎_elim (λ x. inl ((own k).1 (x, h.1))) (λ x. inr ((other k).1 (x, h.1))) (both.0 h.0),
+    )
 
 -- the same, where the numbers are said otherwise
 pub copy_touched_as : (copy : TouchedCopy) (a n b m size a' b' m' : ℕ) → a ≡ a' → b ≡ b' → m ≡ m'

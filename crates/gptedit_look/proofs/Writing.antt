@@ -1,7 +1,7 @@
 -- Runs of calls that read and write.
-use Rattle.std.proofs.Common.{◌≡◌, ◌≤◌, ◌+◌, ℕ, List, [], ◌∷◌, arith}
-use Rattle.gptman_copy.specs.Disk.{DiskState, IsHonest, Reads, Within, Writes}
-use Rattle.gptman_copy.proofs.Ranges.{within_none, within_range}
+use Rattle.std.proofs.Common.{ℕ, List}
+use Rattle.gptman_copy.specs.Disk.{DiskState, Reads, Within, Writes}
+use Rattle.gptman_copy.proofs.Ranges.{within_none}
 use Rattle.gptman_copy.proofs.Runs.{wrote_then, wrote_wider}
 
 -- one after another

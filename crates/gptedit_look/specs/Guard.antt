@@ -1,15 +1,16 @@
 -- What a write of a table may overwrite.
-use Rattle.std.specs.Prelude.{◌≡◌, ◌≢◌, ◌≤◌, ◌<◌, ◌⊎◌, ◌+◌, ◌-◌, ◌*◌, ◌/◌, ℕ, Bool, List, All, get_or, max, Option, Some, None, Result, Ok, Err, if◌then◌else◌, nat_eq}
-use Rattle.gptman_copy.specs.Write.{other_header}
+use Rattle.std.specs.Prelude.{◌≡◌, ◌≤◌, ◌<◌, ◌⊎◌, ◌+◌, ◌-◌, ◌*◌, ◌/◌, ℕ, List, All, get_or, max, Option, Some, None, Result, Ok, Err}
+use Rattle.gptman_copy.specs.Ranges.{Inside}
 use Rattle.gptman_copy.specs.declared.codec.header.GPTHeader.{GPTHeader}
 use Rattle.gptman_copy.specs.declared.copy.WholeCopy.{WholeCopy}
 use Rattle.gptman_copy.specs.declared.error.Error.{Error}
+use Rattle.gptman.specs.TableWrites.{table_ranges}
 use Rattle.gptman.specs.declared.table.GPT.{GPT}
 use Rattle.gptedit_marks.specs.declared.Content.{Content}
 use Rattle.gptedit_look.specs.declared.raw.RawHeader.{RawHeader}
 use Rattle.gptedit_look.specs.declared.seen.Look.{Look}
 use Rattle.gptedit_look.specs.declared.seen.Purpose.{Purpose}
-use Rattle.gptedit_look.specs.declared.seen.Purpose.TheVariants.{Edit, Repair, Fit, New}
+use Rattle.gptedit_look.specs.declared.seen.Purpose.TheVariants.{Repair, Fit, New}
 
 -- byte k is one of so many from this one on
 abbrev pub IsIn : ℕ → ℕ → ℕ → Type 0
@@ -23,9 +24,9 @@ entries_size h = 128 * h.number_of_partition_entries
 abbrev pub IsOfCopy : GPTHeader → ℕ → ℕ → Type 0
 IsOfCopy h ss k = IsIn (h.primary_lba * ss) 92 k ⊎ IsIn (h.partition_entry_lba * ss) (entries_size h) k
 
--- a write of this table touches k: one of the copy with its header, or of the other copy
+-- a write of this table touches k, by the contract of `GPT::write_into`
 abbrev pub IsWritten : GPT → ℕ → Type 0
-IsWritten g k = IsOfCopy g.header g.sector_size k ⊎ IsOfCopy (other_header g.header) g.sector_size k
+IsWritten g k = Inside (table_ranges g) k
 
 -- a copy is good, and says that it is in this sector
 abbrev pub IsGoodIn : ℕ → Result WholeCopy Error → Type 0

@@ -1,3 +1,5 @@
+pub mod FirstSector
 pub mod Guard
 pub mod Touched
 pub mod Guarded
+pub mod Seen

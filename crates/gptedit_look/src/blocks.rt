@@ -1,5 +1,9 @@
 //! Reading bytes of a disk, and the numbers in them.
 
+ghost use Rattle.std.specs.Prelude.{◌≤◌, ◌+◌, length};
+ghost use Rattle.gptman.specs.Answers.{HasCause};
+ghost use Rattle.gptman.specs.Disk.{Reads};
+
 use gptman::{Disk, Result};
 use std::alloc::Global;
 
@@ -7,13 +11,29 @@ use std::alloc::Global;
 ///
 /// # Errors
 /// `Io` if the disk failed, `OutOfMemory` if there was no memory.
-pub fn read_block<D: Disk>(alloc: Global, disk: &mut D, at: u64, length: u64) -> Result<Vec<u8>> {
+#[tactic(auto, using(gptman_copy::proofs::Readers::both_read, gptman_copy::proofs::Runs::rose_since))]
+pub fn read_block<D: Disk>(alloc: Global, disk: &mut D, at: u64, length: u64) -> Result<Vec<u8>>
+    ensures reads { Reads (D.state disk.old) (D.state disk.new) }
+    ensures cause { HasCause result (D.state disk.old) (D.state disk.new) }
+{
     let size = disk.seek_end()?;
-    let length = length.min(size.saturating_sub(at));
+    let at = at.min(size);
+    let length = length.min(size - at);
     let mut bytes = vec![in alloc; 0; length as usize]?;
-    disk.seek_start(at)?;
-    disk.read_exact(&mut bytes)?;
+    read_at(disk, at, &mut bytes)?;
     Ok(bytes)
+}
+
+// Reads the bytes from this one on.
+#[tactic(auto, using(gptman_copy::proofs::Readers::both_read, gptman_copy::proofs::Runs::rose_since))]
+fn read_at<D: Disk>(disk: &mut D, at: u64, bytes: &mut [u8]) -> Result<()>
+    requires { at + length bytes.old ≤ (D.state disk.old).size }
+    ensures reads { Reads (D.state disk.old) (D.state disk.new) }
+    ensures cause { HasCause result (D.state disk.old) (D.state disk.new) }
+{
+    disk.seek_start(at)?;
+    disk.read_exact(bytes)?;
+    Ok(())
 }
 
 /// Returns the little-endian number in the 4 bytes at `at`, or 0 if there are none.
@@ -22,13 +42,6 @@ pub fn u32_at(bytes: &[u8], at: usize) -> u32 {
         Some([a, b, c, d, ..]) => u32::from_le_bytes([*a, *b, *c, *d]),
         _ => 0,
     }
-}
-
-/// Returns the little-endian number in the 8 bytes at `at`, or 0 if there are none.
-pub fn u64_at(bytes: &[u8], at: usize) -> u64 {
-    let low = u64::from(u32_at(bytes, at));
-    let high = u64::from(u32_at(bytes, at.saturating_add(4)));
-    high << 32 | low
 }
 
 /// Returns the number in the 2 bytes at `at`, or 0 if there are none.

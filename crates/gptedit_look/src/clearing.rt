@@ -5,7 +5,7 @@ use crate::raw::RawHeader;
 use crate::seen::Look;
 use crate::signatures::{Place, Signature, place_at};
 use crate::zeros::{Zeroed, put_zeros};
-use gptman::{Disk, GPTHeader, Result};
+use gptman::{Disk, Error, GPTHeader, Result};
 use std::alloc::Global;
 
 // The bytes of a signature.
@@ -50,7 +50,11 @@ fn read_header<D: Disk>(disk: &mut D, place: Place, sector_size: u64) -> Result<
         return Ok(None);
     };
     disk.seek_start(at)?;
-    Ok(GPTHeader::read_from(disk).ok())
+    match GPTHeader::read_from(disk) {
+        Ok(header) => Ok(Some(header)),
+        Err(Error::Io(error)) => Err(Error::Io(error)),
+        Err(_) => Ok(None),
+    }
 }
 
 fn all_of(signature: &Signature) -> Zeroed {
@@ -82,9 +86,9 @@ fn overlaps(at: u64, sector: u64, sector_size: u64, length: u64) -> bool {
     at < start + u128::from(length) && start < at + u128::from(SIGNATURE_SIZE)
 }
 
-/// Clears both copies of the table, the signatures of all sector sizes, and the entries of a protective MBR. If
-/// no copy is good, only what the headers show in the usual places is cleared. The boot code and all else stay.
-/// It is synced.
+/// Clears both copies of the table, the signatures of all sector sizes, and the entries of a protective MBR. Of a
+/// copy that is not good in its place, only the header that was seen and entries in the usual place are cleared.
+/// The boot code, the place of a copy that is lost, and all else stay. It is synced.
 ///
 /// # Errors
 /// `Io` if the disk failed, `OutOfMemory` if there was no memory: then nothing is written.
@@ -100,22 +104,19 @@ pub fn wipe<D: Disk>(alloc: Global, disk: &mut D, look: &Look) -> Result<()> {
 // All ranges that a wipe clears.
 fn ranges_of(alloc: Global, look: &Look) -> Result<Vec<Zeroed>> {
     let mut ranges = Vec::new(alloc);
-    if let Some(table) = &look.table {
-        push_copy(&mut ranges, &table.header, table.sector_size)?;
-        if let Some(other) = table.header.other() {
-            push_copy(&mut ranges, &other, table.sector_size)?;
+    match &look.copies.primary {
+        Ok(copy) if copy.header.primary_lba == 1 => {
+            push_copy(&mut ranges, &copy.header, look.sector_size)?
         }
+        _ => push_raw(&mut ranges, look.primary_header, look.sector_size)?,
     }
-    if let Ok(copy) = &look.copies.primary {
-        push_copy(&mut ranges, &copy.header, look.sector_size)?;
+    match &look.copies.backup {
+        Ok(copy) if copy.header.primary_lba == last_of(look) => {
+            push_copy(&mut ranges, &copy.header, look.sector_size)?
+        }
+        _ => push_raw(&mut ranges, look.backup_header, look.sector_size)?,
     }
-    if let Ok(copy) = &look.copies.backup {
-        push_copy(&mut ranges, &copy.header, look.sector_size)?;
-    }
-    if look.table.is_none() {
-        push_raw(&mut ranges, look.primary_header, look.sector_size)?;
-        push_raw(&mut ranges, look.backup_header, look.sector_size)?;
-    }
+    push_raw(&mut ranges, look.moved_header, look.sector_size)?;
     for signature in look.signatures.iter() {
         ranges.push(all_of(signature))?;
     }
@@ -125,10 +126,18 @@ fn ranges_of(alloc: Global, look: &Look) -> Result<Vec<Zeroed>> {
     Ok(ranges)
 }
 
+// The last whole sector.
+fn last_of(look: &Look) -> u64 {
+    (look.size / look.sector_size.max(1)).saturating_sub(1)
+}
+
 // The header and the entries of a copy.
 fn push_copy(ranges: &mut Vec<Zeroed>, header: &GPTHeader, sector_size: u64) -> Result<()> {
     let entries = ENTRY_SIZE * u64::from(header.number_of_partition_entries);
     push(ranges, header.primary_lba, sector_size, HEADER_SIZE)?;
+    if header.partition_entry_lba < 2 {
+        return Ok(());
+    }
     push(ranges, header.partition_entry_lba, sector_size, entries)
 }
 
@@ -165,6 +174,6 @@ fn has_usual_entries(header: &RawHeader, entries: u64, sector_size: u64) -> bool
     }
     match sector {
         1 => header.entries_lba == 2,
-        _ => header.entries_lba == sector.saturating_sub(sectors),
+        _ => sector.checked_sub(sectors) == Some(header.entries_lba) && header.entries_lba > 1,
     }
 }

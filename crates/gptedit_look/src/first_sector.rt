@@ -1,5 +1,11 @@
 //! What the first 512 bytes of a disk hold: an MBR, and of which kind.
 
+ghost use Rattle.std.specs.Prelude.{◌≡◌, ◌≤◌, ◌<◌, ℕ, get_or, IfOk, IsTrue};
+ghost use Rattle.gptedit_look.specs.FirstSector.{IsVacant};
+ghost use Rattle.gptedit_look.specs.declared.first_sector.MbrKind.TheVariants.{None as Empty};
+ghost use Rattle.gptman.specs.Answers.{HasCause};
+ghost use Rattle.gptman.specs.Disk.{Reads};
+
 use crate::blocks::{has_at, read_block, u16_at, u32_at};
 use gptman::{Disk, Result};
 use std::alloc::{AllocError, Global};
@@ -16,8 +22,10 @@ const PROTECTIVE: u8 = 0xee;
 /// What an MBR is.
 #[derive(Debug, Clone, Copy, PartialEq, Eq)]
 pub enum MbrKind {
-    /// There is no 55 AA, or there are no entries.
+    /// There is no 55 AA, or there are no entries: all of their bytes are zero.
     None,
+    /// There is 55 AA, and what is before it is no MBR, as the boot sector of a file system.
+    Other,
     /// One protective entry or more, and no other.
     Protective,
     /// A protective entry and others.
@@ -103,11 +111,15 @@ impl Entry {
 ///
 /// # Errors
 /// `Io` if the disk failed, `OutOfMemory` if there was no memory.
+#[tactic(auto, using(gptman_copy::proofs::Readers::both_read, gptman_copy::proofs::Runs::rose_since))]
 pub fn read_first_sector<D: Disk>(
     alloc: Global,
     disk: &mut D,
     sector_size: u64,
-) -> Result<FirstSector> {
+) -> Result<FirstSector>
+    ensures reads { Reads (D.state disk.old) (D.state disk.new) }
+    ensures cause { HasCause result (D.state disk.old) (D.state disk.new) }
+{
     let size = disk.seek_end()?;
     let bytes = read_block(alloc, disk, 0, MBR_LENGTH)?;
     let sectors = size.checked_div(sector_size).unwrap_or(0);
@@ -119,12 +131,14 @@ pub fn decode(
     alloc: Global,
     bytes: &[u8],
     sectors: u64,
-) -> std::result::Result<FirstSector, AllocError> {
+) -> std::result::Result<FirstSector, AllocError>
+    ensures vacant { IfOk result (λ first. first.kind ≡ Empty → IsVacant bytes.now) }
+{
     let entries = decode_entries(bytes);
     let mut listed = Vec::new(alloc);
     let kind = kind_of(bytes, &entries);
     let mut protective_count = 0u8;
-    if kind != MbrKind::None {
+    if has_entries(kind) {
         for entry in entries {
             if entry.is_protective() {
                 protective_count = protective_count.saturating_add(1);
@@ -137,9 +151,14 @@ pub fn decode(
         kind,
         is_length_right: is_length_right(&entries, sectors),
         protective_count,
-        is_bootable: kind != MbrKind::None && entries.iter().any(|entry| entry.mark == 0x80),
+        is_bootable: has_entries(kind) && entries.iter().any(|entry| entry.mark == 0x80),
         listed,
     })
+}
+
+// Whether the entries of such an MBR are entries.
+fn has_entries(kind: MbrKind) -> bool {
+    !matches!(kind, MbrKind::None | MbrKind::Other)
 }
 
 // The four entries.
@@ -163,8 +182,10 @@ fn listed_of(entry: Entry) -> Listed {
 }
 
 // What an MBR with these entries is.
-fn kind_of(bytes: &[u8], entries: &[Entry; 4]) -> MbrKind {
-    if !has_at(bytes, 510, &[0x55, 0xaa]) {
+fn kind_of(bytes: &[u8], entries: &[Entry; 4]) -> MbrKind
+    ensures { result ≡ Empty → IsVacant bytes.now }
+{
+    if byte_at(bytes, 510) != 0x55 || byte_at(bytes, 511) != 0xaa {
         return MbrKind::None;
     }
     let has_protective = entries.iter().any(|entry| entry.is_protective());
@@ -175,7 +196,37 @@ fn kind_of(bytes: &[u8], entries: &[Entry; 4]) -> MbrKind {
         (true, false) => MbrKind::Protective,
         (true, true) => MbrKind::Hybrid,
         (false, true) if is_partitioned(bytes, entries) => MbrKind::Dos,
-        _ => MbrKind::None,
+        _ if is_empty(bytes) => MbrKind::None,
+        _ => MbrKind::Other,
+    }
+}
+
+/// Reports whether all bytes of the entries are zero, and this is no boot sector.
+pub fn is_empty(bytes: &[u8]) -> bool
+    ensures { IsTrue result → (k : ℕ) → 446 ≤ k → k < 510 → get_or bytes.now k 0 ≡ 0 }
+{
+    are_zero(bytes, 446, 510) && !is_boot_sector(bytes)
+}
+
+// Whether the bytes from `first` on and before `end` are zero. There are zeros after the last byte.
+fn are_zero(bytes: &[u8], first: usize, end: usize) -> bool
+    ensures { IsTrue result → (k : ℕ) → first ≤ k → k < end → get_or bytes.now k 0 ≡ 0 }
+{
+    for at in first..end {
+        if byte_at(bytes, at) != 0 {
+            return false;
+        }
+    }
+    true
+}
+
+// The byte at this place, or 0 if there is none.
+fn byte_at(bytes: &[u8], at: usize) -> u8
+    ensures { result ≡ get_or bytes.now at 0 }
+{
+    match bytes.get(at) {
+        Some(byte) => *byte,
+        None => 0,
     }
 }
 

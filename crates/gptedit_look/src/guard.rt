@@ -5,7 +5,7 @@ ghost use Rattle.gptman.specs.Answers.{HasCause};
 ghost use Rattle.gptman.specs.Disk.{IsHonest, Reads};
 ghost use Rattle.gptman_copy.specs.Bytes.{part as bytes_at};
 ghost use Rattle.gptedit_look.specs.Guard.{IsAllowed, AreFree, IsRefused, MayBeOverwritten};
-ghost use Rattle.gptedit_look.specs.Guarded.{AreAllFree, IsNamed, IsRefusedOf};
+ghost use Rattle.gptedit_look.specs.Guarded.{AreAllFree, IsNamed, IsRefusedOf, SparesOthers};
 ghost use Rattle.gptedit_look.specs.Touched.{EndsWithin, IsTouchedIn};
 ghost use Rattle.gptedit_look.specs.declared.first_sector.MbrKind.TheVariants.{Dos};
 ghost use Rattle.gptedit_look.specs.declared.seen.Purpose.TheVariants.{New};
@@ -44,6 +44,10 @@ pub fn find_obstacle<D: Disk>(
     ensures free { IsHonest (D.state disk.old) → IfOk result (λ found. MatchOption found
         (AreAllFree look.now purpose next.now (D.state disk.old).view (D.state disk.old).size)
         (IsNamed look.now purpose next.now (D.state disk.old).view)) }
+
+    // After None a write of the table changes no byte that may not be overwritten.
+    ensures spares { IsHonest (D.state disk.old) → result ≡ Ok None
+        → SparesOthers look.now purpose next.now (D.state disk.old).view }
 {
     let known = find_known(look, purpose);
     if known.is_some() {

@@ -6,7 +6,7 @@ ghost use Rattle.gptman.specs.Disk.{IsHonest, Keeps, Reads, Writes};
 ghost use Rattle.gptman.specs.Mbr.{mbr_range};
 
 use crate::blocks::{has_at, u32_at};
-use crate::first_sector::is_boot_sector;
+use crate::first_sector::is_empty;
 use gptman::{Disk, GPT, Result};
 use gptman_copy::cells::{put, put_u32};
 use std::alloc::Global;
@@ -150,10 +150,7 @@ fn change_of(bytes: &[u8; 512], sectors: u64, may_make: bool) -> MbrChange {
 
 // Whether there is no 55 AA, or no entry at all.
 fn is_missing(bytes: &[u8; 512]) -> bool {
-    if !has_at(bytes, 510, &[0x55, 0xaa]) {
-        return true;
-    }
-    bytes[446..510].iter().all(|byte| *byte == 0) && !is_boot_sector(bytes)
+    !has_at(bytes, 510, &[0x55, 0xaa]) || is_empty(bytes)
 }
 
 // The place of the protective entry, if it is the only entry.

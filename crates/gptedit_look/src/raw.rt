@@ -1,8 +1,14 @@
 //! A header as it is on the disk, without its tests.
 
-use crate::blocks::{has_at, read_block, u32_at, u64_at};
+ghost use Rattle.std.specs.Prelude.{◌≡◌, ◌≤◌, ◌+◌, IfOk};
+ghost use Rattle.gptman.specs.Answers.{HasCause};
+ghost use Rattle.gptman.specs.Disk.{IsHonest, Reads};
+ghost use Rattle.gptman_copy.specs.Bytes.{part as bytes_at};
+ghost use Rattle.gptman_copy.specs.Coding.{header_of};
+ghost use Rattle.gptedit_look.specs.Seen.{raw_of};
+
 use crate::signatures::{Place, SIGNATURE, place_at};
-use gptman::{Disk, Result};
+use gptman::{Disk, GPTHeader, Result};
 use std::alloc::Global;
 
 // The bytes of a header.
@@ -36,20 +42,22 @@ pub struct RawHeader {
 }
 
 impl RawHeader {
-    // The header that these bytes are, which begin at this byte of the disk.
-    fn decode(at: u64, bytes: &[u8]) -> RawHeader {
+    // The fields of this header, which begins at this byte of the disk.
+    fn of(at: u64, header: &GPTHeader) -> RawHeader
+        ensures { result ≡ raw_of at header.now }
+    {
         RawHeader {
             at,
-            revision: part_at(bytes, 8),
-            header_size: u32_at(bytes, 12),
-            my_lba: u64_at(bytes, 24),
-            other_lba: u64_at(bytes, 32),
-            first_usable_lba: u64_at(bytes, 40),
-            last_usable_lba: u64_at(bytes, 48),
-            disk_guid: part_at(bytes, 56),
-            entries_lba: u64_at(bytes, 72),
-            count: u32_at(bytes, 80),
-            entry_size: u32_at(bytes, 84),
+            revision: header.revision,
+            header_size: header.header_size,
+            my_lba: header.primary_lba,
+            other_lba: header.backup_lba,
+            first_usable_lba: header.first_usable_lba,
+            last_usable_lba: header.last_usable_lba,
+            disk_guid: header.disk_guid,
+            entries_lba: header.partition_entry_lba,
+            count: header.number_of_partition_entries,
+            entry_size: header.size_of_partition_entry,
         }
     }
 }
@@ -58,12 +66,16 @@ impl RawHeader {
 ///
 /// # Errors
 /// `Io` if the disk failed, `OutOfMemory` if there was no memory.
+#[tactic(auto, using(gptman_copy::proofs::Readers::both_read, gptman_copy::proofs::Runs::rose_since))]
 pub fn read_raw_header<D: Disk>(
     alloc: Global,
     disk: &mut D,
     sector_size: u64,
     place: Place,
-) -> Result<Option<RawHeader>> {
+) -> Result<Option<RawHeader>>
+    ensures reads { Reads (D.state disk.old) (D.state disk.new) }
+    ensures cause { HasCause result (D.state disk.old) (D.state disk.new) }
+{
     let size = disk.seek_end()?;
     match place_at(place, sector_size, size) {
         Some(at) => read_raw_header_at(alloc, disk, at),
@@ -71,28 +83,62 @@ pub fn read_raw_header<D: Disk>(
     }
 }
 
-/// Reads the header at this byte, if it begins with `EFI PART`.
+/// Reads the header at this byte, if it begins with `EFI PART` and does not pass the end of the disk.
 ///
 /// # Errors
-/// `Io` if the disk failed, `OutOfMemory` if there was no memory.
+/// `Io` if the disk failed.
+#[tactic(auto, using(gptman_copy::proofs::Readers::both_read, gptman_copy::proofs::Runs::rose_since))]
 pub fn read_raw_header_at<D: Disk>(
-    alloc: Global,
+    _alloc: Global,
     disk: &mut D,
     at: u64,
-) -> Result<Option<RawHeader>> {
-    let bytes = read_block(alloc, disk, at, LENGTH)?;
-    if !has_at(&bytes, 0, &SIGNATURE) {
+) -> Result<Option<RawHeader>>
+    ensures reads { Reads (D.state disk.old) (D.state disk.new) }
+    ensures cause { HasCause result (D.state disk.old) (D.state disk.new) }
+{
+    let size = disk.seek_end()?;
+    if at > size || size - at < LENGTH {
         return Ok(None);
     }
-    Ok(Some(RawHeader::decode(at, &bytes)))
+    let header = read_header(disk, at)?;
+    if header.signature != SIGNATURE {
+        return Ok(None);
+    }
+    Ok(Some(RawHeader::of(at, &header)))
 }
 
-// The bytes from `at` on, with zeros where there are none.
-fn part_at<const N: usize>(bytes: &[u8], at: usize) -> [u8; N] {
-    let mut part = [0; N];
-    let rest = bytes.get(at..).unwrap_or(&[]);
-    for (to, from) in part.iter_mut().zip(rest) {
-        *to = *from;
-    }
-    part
+// Reads the fields of a header at this byte.
+#[tactic(auto, using(gptman_copy::proofs::Readers::both_read, gptman_copy::proofs::Runs::rose_since))]
+fn read_header<D: Disk>(disk: &mut D, at: u64) -> Result<GPTHeader>
+    requires { at + 92 ≤ (D.state disk.old).size }
+    ensures reads { Reads (D.state disk.old) (D.state disk.new) }
+    ensures cause { HasCause result (D.state disk.old) (D.state disk.new) }
+    ensures value { IsHonest (D.state disk.old)
+        → IfOk result (λ header. header ≡ header_of (bytes_at (D.state disk.old).view at 92)) }
+{
+    let bytes = read_bytes(disk, at)?;
+    Ok(decoded(&bytes))
+}
+
+// The header that these bytes hold.
+#[tactic(auto, using(gptman_copy::proofs::HeaderBytes::header_is))]
+fn decoded(bytes: &[u8; 92]) -> GPTHeader
+    ensures { result ≡ header_of bytes.now }
+{
+    GPTHeader::decode(bytes)
+}
+
+// Reads 92 bytes from this one on.
+#[tactic(auto, using(gptman_copy::proofs::Readers::both_read, gptman_copy::proofs::Runs::rose_since))]
+fn read_bytes<D: Disk>(disk: &mut D, at: u64) -> Result<[u8; 92]>
+    requires { at + 92 ≤ (D.state disk.old).size }
+    ensures reads { Reads (D.state disk.old) (D.state disk.new) }
+    ensures cause { HasCause result (D.state disk.old) (D.state disk.new) }
+    ensures value { IsHonest (D.state disk.old)
+        → IfOk result (λ bytes. bytes ≡ bytes_at (D.state disk.old).view at 92) }
+{
+    let mut bytes = [0; 92];
+    disk.seek_start(at)?;
+    disk.read_exact(&mut bytes)?;
+    Ok(bytes)
 }

@@ -1,6 +1,8 @@
 //! The look at a disk.
 
 ghost use Rattle.std.specs.Prelude.{◌<◌};
+ghost use Rattle.gptman.specs.Answers.{HasCause};
+ghost use Rattle.gptman.specs.Disk.{Reads};
 
 use crate::first_sector::{FirstSector, read_first_sector};
 use crate::raw::{RawHeader, read_raw_header, read_raw_header_at};
@@ -25,43 +27,71 @@ const DEFAULT_SECTOR_SIZE: u64 = 512;
 ///
 /// # Errors
 /// `Io` if the disk failed, `OutOfMemory` if there was no memory.
-pub fn look<D: Disk>(alloc: Global, disk: &mut D, sector_size: Option<u64>) -> Result<Looked> {
+#[tactic(auto, using(gptman_copy::proofs::Readers::both_read, gptman_copy::proofs::Runs::rose_since))]
+pub fn look<D: Disk>(alloc: Global, disk: &mut D, sector_size: Option<u64>) -> Result<Looked>
+    ensures reads { Reads (D.state disk.old) (D.state disk.new) }
+    ensures cause { HasCause result (D.state disk.old) (D.state disk.new) }
+{
     if let Some(count) = find_too_many(alloc, disk, sector_size)? {
         return Ok(Looked::TooMany(count));
     }
+    Ok(Looked::Seen(look_whole(alloc, disk, sector_size)?))
+}
+
+// Looks at a disk whose headers count few entries.
+#[tactic(auto, using(gptman_copy::proofs::Readers::both_read, gptman_copy::proofs::Runs::rose_since))]
+fn look_whole<D: Disk>(alloc: Global, disk: &mut D, sector_size: Option<u64>) -> Result<Look>
+    ensures reads { Reads (D.state disk.old) (D.state disk.new) }
+    ensures cause { HasCause result (D.state disk.old) (D.state disk.new) }
+{
     let table = read_good(alloc, disk, sector_size)?;
     let sector_size = size_of(table.as_ref(), sector_size);
-    Ok(Looked::Seen(see(alloc, disk, sector_size, table)?))
+    see(alloc, disk, sector_size, table)
 }
 
 // The greatest number of entries that a header counts, if it is too great.
+#[tactic(auto, using(gptman_copy::proofs::Readers::both_read, gptman_copy::proofs::Runs::rose_since))]
 fn find_too_many<D: Disk>(
     alloc: Global,
     disk: &mut D,
     sector_size: Option<u64>,
-) -> Result<Option<u32>> {
-    let sizes = match sector_size {
-        Some(size) => [size, size],
-        None => [512, 4096],
-    };
-    for size in sizes {
-        for place in [Place::Start, Place::End] {
-            if let Some(header) = read_raw_header(alloc, disk, size, place)? {
-                if header.count > MOST_ENTRIES {
-                    return Ok(Some(header.count));
-                }
-            }
-        }
+) -> Result<Option<u32>>
+    ensures reads { Reads (D.state disk.old) (D.state disk.new) }
+    ensures cause { HasCause result (D.state disk.old) (D.state disk.new) }
+{
+    match sector_size {
+        Some(size) => find_too_many_in(alloc, disk, size),
+        None => match find_too_many_in(alloc, disk, 512)? {
+            Some(count) => Ok(Some(count)),
+            None => find_too_many_in(alloc, disk, 4096),
+        },
     }
-    Ok(None)
+}
+
+// The same with sectors of this size.
+#[tactic(auto, using(gptman_copy::proofs::Readers::both_read, gptman_copy::proofs::Runs::rose_since))]
+fn find_too_many_in<D: Disk>(alloc: Global, disk: &mut D, sector_size: u64) -> Result<Option<u32>>
+    ensures reads { Reads (D.state disk.old) (D.state disk.new) }
+    ensures cause { HasCause result (D.state disk.old) (D.state disk.new) }
+{
+    let primary = read_raw_header(alloc, disk, sector_size, Place::Start)?;
+    let backup = read_raw_header(alloc, disk, sector_size, Place::End)?;
+    Ok(too_many_of(primary).or(too_many_of(backup)))
+}
+
+// The number of entries that a header counts, if it is too great.
+fn too_many_of(header: Option<RawHeader>) -> Option<u32> {
+    match header {
+        Some(header) if header.count > MOST_ENTRIES => Some(header.count),
+        _ => None,
+    }
 }
 
 // The table, or that no copy is good.
-fn read_good<D: Disk>(
-    alloc: Global,
-    disk: &mut D,
-    sector_size: Option<u64>,
-) -> Result<Option<GPT>> {
+fn read_good<D: Disk>(alloc: Global, disk: &mut D, sector_size: Option<u64>) -> Result<Option<GPT>>
+    ensures reads { Reads (D.state disk.old) (D.state disk.new) }
+    ensures cause { HasCause result (D.state disk.old) (D.state disk.new) }
+{
     let sector_size = match sector_size {
         Some(size) if size > 0 => Some(size),
         _ => None,
@@ -87,15 +117,48 @@ fn size_of(table: Option<&GPT>, given: Option<u64>) -> u64
 }
 
 // Looks at all else.
+#[tactic(auto, using(gptman_copy::proofs::Readers::both_read, gptman_copy::proofs::Runs::rose_since))]
 fn see<D: Disk>(alloc: Global, disk: &mut D, sector_size: u64, table: Option<GPT>) -> Result<Look>
     requires { 0 < sector_size }
+    ensures reads { Reads (D.state disk.old) (D.state disk.new) }
+    ensures cause { HasCause result (D.state disk.old) (D.state disk.new) }
+{
+    let copies = check(alloc, disk, sector_size)?;
+    let (headers, known) = see_beside(alloc, disk, sector_size, &copies)?;
+    Ok(assemble(sector_size, table, copies, headers, known))
+}
+
+// What is there beside the copies.
+#[tactic(auto, using(gptman_copy::proofs::Readers::both_read, gptman_copy::proofs::Runs::rose_since))]
+fn see_beside<D: Disk>(
+    alloc: Global,
+    disk: &mut D,
+    sector_size: u64,
+    copies: &BothCopies,
+) -> Result<(Headers, Known)>
+    ensures reads { Reads (D.state disk.old) (D.state disk.new) }
+    ensures cause { HasCause result (D.state disk.old) (D.state disk.new) }
 {
     let size = disk.seek_end()?;
-    let copies = check(alloc, disk, sector_size)?;
-    let moved = read_moved(alloc, disk, sector_size, size, &copies)?;
+    see_on(alloc, disk, sector_size, size, copies)
+}
+
+// The same on a disk of this length.
+#[tactic(auto, using(gptman_copy::proofs::Readers::both_read, gptman_copy::proofs::Runs::rose_since))]
+fn see_on<D: Disk>(
+    alloc: Global,
+    disk: &mut D,
+    sector_size: u64,
+    size: u64,
+    copies: &BothCopies,
+) -> Result<(Headers, Known)>
+    ensures reads { Reads (D.state disk.old) (D.state disk.new) }
+    ensures cause { HasCause result (D.state disk.old) (D.state disk.new) }
+{
+    let moved = read_moved(alloc, disk, sector_size, size, copies)?;
     let headers = read_headers(alloc, disk, sector_size, moved)?;
     let known = find_known(alloc, disk, sector_size, size)?;
-    Ok(assemble(sector_size, table, copies, headers, known))
+    Ok((headers, known))
 }
 
 // What begins with `EFI PART`, where headers are.
@@ -117,12 +180,16 @@ struct Known {
 }
 
 // The raw headers, beside the one that moved.
+#[tactic(auto, using(gptman_copy::proofs::Readers::both_read, gptman_copy::proofs::Runs::rose_since))]
 fn read_headers<D: Disk>(
     alloc: Global,
     disk: &mut D,
     sector_size: u64,
     moved: Option<RawHeader>,
-) -> Result<Headers> {
+) -> Result<Headers>
+    ensures reads { Reads (D.state disk.old) (D.state disk.new) }
+    ensures cause { HasCause result (D.state disk.old) (D.state disk.new) }
+{
     let primary = read_raw_header(alloc, disk, sector_size, Place::Start)?;
     let backup = read_raw_header(alloc, disk, sector_size, Place::End)?;
     Ok(Headers {
@@ -133,14 +200,36 @@ fn read_headers<D: Disk>(
 }
 
 // What is recognised on a disk of this length.
-fn find_known<D: Disk>(alloc: Global, disk: &mut D, sector_size: u64, size: u64) -> Result<Known> {
+#[tactic(auto, using(gptman_copy::proofs::Readers::both_read, gptman_copy::proofs::Runs::rose_since))]
+fn find_known<D: Disk>(alloc: Global, disk: &mut D, sector_size: u64, size: u64) -> Result<Known>
+    ensures reads { Reads (D.state disk.old) (D.state disk.new) }
+    ensures cause { HasCause result (D.state disk.old) (D.state disk.new) }
+{
+    let first_sector = read_first_sector(alloc, disk, sector_size)?;
+    let signatures = find_signatures(alloc, disk)?;
+    let (contents, footer) = find_marks(alloc, disk, size)?;
     Ok(Known {
         size,
-        first_sector: read_first_sector(alloc, disk, sector_size)?,
-        signatures: find_signatures(alloc, disk)?,
-        contents: find_contents(alloc, disk, 0, size)?,
-        footer: find_footer(alloc, disk)?,
+        first_sector,
+        signatures,
+        contents,
+        footer,
     })
+}
+
+// The contents and the footer that are recognised.
+#[tactic(auto, using(gptman_copy::proofs::Readers::both_read, gptman_copy::proofs::Runs::rose_since))]
+fn find_marks<D: Disk>(
+    alloc: Global,
+    disk: &mut D,
+    size: u64,
+) -> Result<(Vec<Content>, Option<Content>)>
+    ensures reads { Reads (D.state disk.old) (D.state disk.new) }
+    ensures cause { HasCause result (D.state disk.old) (D.state disk.new) }
+{
+    let contents = find_contents(alloc, disk, 0, size)?;
+    let footer = find_footer(alloc, disk)?;
+    Ok((contents, footer))
 }
 
 // The look with these parts.
@@ -175,7 +264,10 @@ fn read_moved<D: Disk>(
     sector_size: u64,
     size: u64,
     copies: &BothCopies,
-) -> Result<Option<RawHeader>> {
+) -> Result<Option<RawHeader>>
+    ensures reads { Reads (D.state disk.old) (D.state disk.new) }
+    ensures cause { HasCause result (D.state disk.old) (D.state disk.new) }
+{
     let Ok(primary) = &copies.primary else {
         return Ok(None);
     };

@@ -83,6 +83,8 @@ pub enum What {
     Header,
     /// A protective MBR.
     ProtectiveMbr,
+    /// A sector 0 that ends with 55 AA and is no MBR.
+    BootSector,
     /// Something that is not zero.
     Unknown,
 }

@@ -1,5 +1,8 @@
 //! Where `EFI PART` is: in sector 1 or in the last sector, for each sector size.
 
+ghost use Rattle.gptman.specs.Answers.{HasCause};
+ghost use Rattle.gptman.specs.Disk.{Reads};
+
 use crate::blocks::{has_at, read_block};
 use gptman::{Disk, Result};
 use std::alloc::Global;
@@ -44,25 +47,47 @@ pub fn place_at(place: Place, sector_size: u64, size: u64) -> Option<u64> {
 ///
 /// # Errors
 /// `Io` if the disk failed, `OutOfMemory` if there was no memory.
-pub fn find_signatures<D: Disk>(alloc: Global, disk: &mut D) -> Result<Vec<Signature>> {
+#[tactic(auto, using(gptman_copy::proofs::Readers::both_read, gptman_copy::proofs::Runs::rose_since))]
+pub fn find_signatures<D: Disk>(alloc: Global, disk: &mut D) -> Result<Vec<Signature>>
+    ensures reads { Reads (D.state disk.old) (D.state disk.new) }
+    ensures cause { HasCause result (D.state disk.old) (D.state disk.new) }
+{
     let mut signatures = Vec::new(alloc);
     for sector_size in SECTOR_SIZES {
-        for place in [Place::Start, Place::End] {
-            if let Some(signature) = find_signature(alloc, disk, sector_size, place)? {
-                signatures.push(signature)?;
-            }
-        }
+        push_signature(alloc, disk, &mut signatures, sector_size, Place::Start)?;
+        push_signature(alloc, disk, &mut signatures, sector_size, Place::End)?;
     }
     Ok(signatures)
 }
 
+// Adds the signature at this place, if there is one.
+fn push_signature<D: Disk>(
+    alloc: Global,
+    disk: &mut D,
+    signatures: &mut Vec<Signature>,
+    sector_size: u64,
+    place: Place,
+) -> Result<()>
+    ensures reads { Reads (D.state disk.old) (D.state disk.new) }
+    ensures cause { HasCause result (D.state disk.old) (D.state disk.new) }
+{
+    if let Some(signature) = find_signature(alloc, disk, sector_size, place)? {
+        signatures.push(signature)?;
+    }
+    Ok(())
+}
+
 // The signature at this place.
+#[tactic(auto, using(gptman_copy::proofs::Readers::both_read, gptman_copy::proofs::Runs::rose_since))]
 fn find_signature<D: Disk>(
     alloc: Global,
     disk: &mut D,
     sector_size: u64,
     place: Place,
-) -> Result<Option<Signature>> {
+) -> Result<Option<Signature>>
+    ensures reads { Reads (D.state disk.old) (D.state disk.new) }
+    ensures cause { HasCause result (D.state disk.old) (D.state disk.new) }
+{
     let size = disk.seek_end()?;
     let Some(at) = place_at(place, sector_size, size) else {
         return Ok(None);

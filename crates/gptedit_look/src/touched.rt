@@ -1,8 +1,9 @@
 //! The bytes that a write of a table touches.
 
 ghost use Rattle.std.specs.Prelude.{◌≡◌, ◌↔◌, ◌≤◌, ◌<◌, ◌+◌, ◌*◌, ◌^◌, ◌⊎◌, ℕ};
-ghost use Rattle.gptman_copy.specs.Write.{other_header};
-ghost use Rattle.gptedit_look.specs.Guard.{IsIn, IsOfCopy, IsWritten};
+ghost use Rattle.gptman_copy.specs.Ranges.{Inside};
+ghost use Rattle.gptman_copy.specs.Write.{copy_ranges, other_header};
+ghost use Rattle.gptedit_look.specs.Guard.{IsIn, IsWritten};
 ghost use Rattle.gptedit_look.specs.Touched.{EndsWithin, IsTouched, IsTouchedIn, IsTouchedOf};
 
 use crate::bytes::{start_after, start_of};
@@ -56,7 +57,7 @@ pub fn touched_by(next: &GPT, size: u64) -> TouchedTable
 
 // The ranges of the copy with this header.
 fn own_of(header: &GPTHeader, sector_size: u64, size: u64) -> TouchedCopy
-    ensures inside { (k : ℕ) → IsTouchedIn result k ↔ (IsOfCopy header.now sector_size k × (k < size)) }
+    ensures inside { (k : ℕ) → IsTouchedIn result k ↔ (Inside (copy_ranges header.now sector_size) k × (k < size)) }
     ensures ends { EndsWithin result size }
 {
     let count = u64::from(header.number_of_partition_entries);
@@ -71,7 +72,7 @@ fn own_of(header: &GPTHeader, sector_size: u64, size: u64) -> TouchedCopy
 // The ranges of the other copy than that with this header.
 fn other_of(header: &GPTHeader, sector_size: u64, size: u64) -> TouchedCopy
     ensures inside { (k : ℕ)
-        → IsTouchedIn result k ↔ (IsOfCopy (other_header header.now) sector_size k × (k < size)) }
+        → IsTouchedIn result k ↔ (Inside (copy_ranges (other_header header.now) sector_size) k × (k < size)) }
     ensures ends { EndsWithin result size }
 {
     let count = u64::from(header.number_of_partition_entries);

@@ -12,12 +12,13 @@ use gptedit_marks::Content;
 use gptman::GPT;
 
 /// Returns what a new table would destroy, wherever it is: a table, what is left of one, a protective MBR, a
-/// footer, or contents.
+/// footer, contents, or a boot sector that is not recognised.
 pub fn known_beside(look: &Look) -> Option<Obstacle> {
     if let Some(signature) = signature_of(look) {
         return Some(signature);
     }
-    if look.first_sector.kind != MbrKind::None {
+    let kind = look.first_sector.kind;
+    if matches!(kind, MbrKind::Protective | MbrKind::Hybrid) {
         return Some(spanning(look, 0, 512, What::ProtectiveMbr));
     }
     if let Some(footer) = &look.footer {
@@ -25,6 +26,7 @@ pub fn known_beside(look: &Look) -> Option<Obstacle> {
     }
     match look.contents.first() {
         Some(content) => Some(covering(look, content, What::Content(content.name))),
+        None if kind == MbrKind::Other => Some(spanning(look, 0, 512, What::BootSector)),
         None => None,
     }
 }

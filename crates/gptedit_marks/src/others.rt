@@ -113,7 +113,7 @@ pub fn find_zfs(piece: &Piece) -> Option<Found> {
 // What is recognised near the end: its name, how far before the end, where its mark is there, and the mark.
 struct Late(&'static str, u64, u64, &'static [u8]);
 
-static LATE: [Late; 8] = [
+static LATE: [Late; 12] = [
     Late("a DRBD device", 4096, 60, b"\x83\x74\x02\x6b"),
     Late("a DRBD device", 4096, 60, b"\x83\x74\x02\x6c"),
     Late("a DRBD device", 4096, 60, b"\x83\x74\x02\x6d"),
@@ -131,6 +131,15 @@ static LATE: [Late; 8] = [
     ),
     Late("a member of a DDF RAID array", 512, 0, b"\xde\x11\xde\x11"),
     Late("a member of a DDF RAID array", 4096, 0, b"\xde\x11\xde\x11"),
+    Late("a member of an NVIDIA RAID array", 1024, 0, b"NVIDIA"),
+    Late("a member of an LSI RAID array", 512, 0, b"$XIDE$"),
+    Late(
+        "a member of an Adaptec RAID array",
+        512,
+        0,
+        b"\x37\xfc\x4d\x1e",
+    ),
+    Late("a label of FreeBSD's GEOM", 512, 0, b"GEOM::"),
     Late(
         "a footer of Android Verified Boot",
         64,

@@ -8,7 +8,7 @@ use std::alloc::AllocError;
 struct Mark(&'static str, u64, &'static [u8]);
 
 // What takes the range from its start on.
-static WHOLE: [Mark; 51] = [
+static WHOLE: [Mark; 54] = [
     Mark("a ReFS file system", 3, b"ReFS\0\0\0\0"),
     Mark("a UDF file system", 34816, b"\0NSR02\x01"),
     Mark("a UDF file system", 34816, b"\0NSR03\x01"),
@@ -69,6 +69,9 @@ static WHOLE: [Mark; 51] = [
         b"\xa9\x2b\x4e\xfc\0\0\0\x01",
     ),
     Mark("a VDO volume", 0, b"dmvdo001"),
+    Mark("an SGI volume header", 0, b"\x0b\xe5\xa9\x41"),
+    Mark("an Amiga partition table", 0, b"RDSK\0\0"),
+    Mark("a zonefs file system", 0, b"SFOZ"),
     Mark("an Oracle ASM disk", 32, b"ORCLDISK"),
     Mark("an UBI volume", 0, b"UBI#\x01\0\0\0"),
     Mark("an Android sparse image", 0, b"\x3a\xff\x26\xed\x01\0"),

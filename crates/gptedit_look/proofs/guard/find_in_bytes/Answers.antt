@@ -1,4 +1,4 @@
-use Rattle.std.proofs.Common.{◌≡◌, ◌+◌, ◌⊎◌, below_more}
+use Rattle.std.proofs.Common.{below_more}
 use Rattle.gptedit_look.proofs.guard.find_in_bytes.Goals as goal
 
 pub loop-i-preserved : goal.loop-i-preserved

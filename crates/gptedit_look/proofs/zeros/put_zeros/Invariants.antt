@@ -1,4 +1,4 @@
-use Rattle.std.proofs.Common.{◌≡◌, ◌≤◌, ◌+◌, ◌-◌, [], ◌∷◌}
+use Rattle.std.proofs.Common.{◌≤◌, ◌-◌, [], ◌∷◌}
 use Rattle.gptman_copy.specs.Disk.{Keeps, Writes}
 use Rattle.gptedit_look.proofs.zeros.put_zeros.Given as goal
 

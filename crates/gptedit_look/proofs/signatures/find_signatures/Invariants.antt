@@ -1,0 +1,5 @@
+use Rattle.gptman_copy.specs.Disk.{Reads}
+use Rattle.gptedit_look.proofs.signatures.find_signatures.Given as goal
+
+abbrev pub invariant-loop-sector_size : goal.invariant-loop-sector_size
+invariant-loop-sector_size g l = Reads (g.D.Disk.state l.fn.disk) (g.D.Disk.state l.disk)
