@@ -2,14 +2,14 @@
 
 use crate::backup::{refuse_backup, write_backup};
 use crate::commands::How;
-use crate::failure::{Failure, refuse_asked, refuse_device, refuse_error};
+use crate::failure::{Failure, refuse_asked, refuse_error};
 use crate::image::Image;
+use crate::mbr::change_mbr;
 use crate::planning::{Plan, make_plan};
 use crate::task::{Became, Task, Work};
 use crate::telling::{Done, tell};
-use gptedit_look::{Look, MbrChange, MbrKind, Purpose, clear_signatures, mend_mbr};
+use gptedit_look::{Look, Purpose, clear_signatures};
 use gptedit_words::Options;
-use gptman::{Disk, GPT};
 use std::alloc::Global;
 use std::fs::File;
 use std::io::Write;
@@ -31,8 +31,7 @@ where
 {
     let alloc = rt.alloc();
     let plan = make_plan(rt, image, look, task, options)?;
-    let mbr = change_mbr(alloc, image, look, task, &plan, true)?;
-    let is_needed = plan.is_changed || mbr != MbrChange::Left;
+    let is_needed = plan.is_needed();
     if let (Some(file), true) = (options.backup, is_needed) {
         refuse_backup(rt, image.name, file, plan.was.as_ref())?;
         if let (Some(was), false) = (&plan.was, how.is_dry) {
@@ -45,7 +44,6 @@ where
     let done = Done {
         task,
         plan: &plan,
-        mbr,
         may_lose: may_lose(look, task),
     };
     tell(out, alloc, image, look, &done, how)?;
@@ -77,57 +75,11 @@ fn write(
             return Err(refuse_asked(alloc, image.name, table.as_ref(), sector_size, &refusal));
         }
     }
-    change_mbr(alloc, image, look, task, plan, false)?;
+    change_mbr(alloc, image, look, task.purpose, plan.is_changed, false)?;
     if task.purpose == Purpose::New {
         if let Err(error) = clear_signatures(&mut image.opened.disk, look, sector_size) {
             return Err(refuse_error(alloc, image.name, &error));
         }
     }
     Ok(())
-}
-
-// Mends the protective MBR, or makes one, or only tells what would become of it.
-fn change_mbr(
-    alloc: Global,
-    image: &mut Image<'_>,
-    look: &Look,
-    task: &Task,
-    plan: &Plan,
-    is_dry: bool,
-) -> Result<MbrChange, Failure> {
-    let first = &look.first_sector;
-    let is_own = first.kind == MbrKind::Protective && first.protective_count == 1;
-    let may_make = match (task.purpose, first.kind) {
-        (Purpose::New, _) if !is_own => return make_mbr(alloc, image, look, is_dry),
-        (Purpose::New, _) => true,
-        (_, MbrKind::Dos | MbrKind::Hybrid) => return Ok(MbrChange::Left),
-        (Purpose::Edit, _) if !plan.is_changed => return Ok(MbrChange::Left),
-        (Purpose::Edit, _) => false,
-        (Purpose::Repair | Purpose::Fit, _) => true,
-    };
-    let sector_size = look.sector_size.max(1);
-    match mend_mbr(alloc, &mut image.opened.disk, sector_size, may_make, is_dry) {
-        Ok(change) => Ok(change),
-        Err(error) => Err(refuse_error(alloc, image.name, &error)),
-    }
-}
-
-// Writes a protective MBR over whatever is in its 66 bytes.
-fn make_mbr(
-    alloc: Global,
-    image: &mut Image<'_>,
-    look: &Look,
-    is_dry: bool,
-) -> Result<MbrChange, Failure> {
-    if is_dry {
-        return Ok(MbrChange::Made);
-    }
-    let disk = &mut image.opened.disk;
-    if let Err(error) = GPT::write_protective_mbr_into(disk, look.sector_size.max(1)) {
-        return Err(refuse_error(alloc, image.name, &error));
-    }
-    match disk.sync() {
-        Ok(()) => Ok(MbrChange::Made),
-        Err(error) => Err(refuse_device(alloc, image.name, &error)),
-    }
 }

@@ -16,11 +16,13 @@ mod image;
 mod layouts;
 mod looking;
 mod making;
+mod mbr;
 mod own;
 mod planning;
 mod task;
 mod tasks;
 mod telling;
+mod using;
 mod wiping;
 
 use crate::failure::Failure;

@@ -49,7 +49,7 @@ fn range_of(copy: &Result<WholeCopy>, sector_size: u64) -> Option<(u64, u64)> {
 }
 
 /// Reads the bytes of the disk from this byte on.
-pub fn read_sector<D: Disk>(disk: &mut D, at: u64, bytes: &mut [u8]) -> Result<()> {
+pub fn read_at<D: Disk>(disk: &mut D, at: u64, bytes: &mut [u8]) -> Result<()> {
     disk.seek_start(at)?;
     disk.read_exact(bytes)?;
     Ok(())
@@ -81,8 +81,8 @@ pub fn has_same_entries<D: Disk>(
         .saturating_mul(sector_size);
     for piece in 0..end.saturating_sub(start) / PIECE_BYTES {
         let offset = piece.saturating_mul(PIECE_BYTES);
-        read_sector(disk, start.saturating_add(offset), &mut here)?;
-        read_sector(disk, good.saturating_add(offset), &mut there)?;
+        read_at(disk, start.saturating_add(offset), &mut here)?;
+        read_at(disk, good.saturating_add(offset), &mut there)?;
         if here != there {
             return Ok(false);
         }

@@ -2,11 +2,13 @@
 
 use crate::failure::{Failure, refuse, refuse_asked, refuse_busy, refuse_error, refuse_no_table};
 use crate::image::Image;
-use crate::own::{Own, has_same_entries, read_sector};
+use crate::mbr::change_mbr;
+use crate::own::{Own, has_same_entries, read_at};
 use crate::task::{Became, Task, Work};
+use crate::using::UseText;
 use gptedit_busy::find_users;
 use gptedit_core::{Bounds, Refusal};
-use gptedit_look::{Look, MbrKind, Obstacle, Purpose, What, find_obstacle};
+use gptedit_look::{Look, MbrChange, MbrKind, Obstacle, Purpose, What, find_obstacle};
 use gptedit_marks::find_contents;
 use gptedit_report::{Edges, ObstacleText, Shortened, ShortenedText, find_shortened};
 use gptedit_text::values::Escaped;
@@ -26,8 +28,17 @@ pub struct Plan {
     pub next: GPT,
     /// Whether it is written.
     pub is_changed: bool,
+    /// What becomes of the MBR.
+    pub mbr: MbrChange,
     /// What `repair` replaces in the place of a broken copy, if that is something.
     pub replaced: Option<Obstacle>,
+}
+
+impl Plan {
+    /// Reports whether anything is written.
+    pub fn is_needed(&self) -> bool {
+        self.is_changed || self.mbr != MbrChange::Left
+    }
 }
 
 /// Plans a task as a dry run, and refuses what may not be written.
@@ -50,7 +61,9 @@ where
     if !options.may_overwrite {
         refuse_obstacles(alloc, image, look, task, &plan)?;
     }
-    if !options.may_use && plan.is_changed {
+    let (purpose, is_changed) = (task.purpose, plan.is_changed);
+    plan.mbr = change_mbr(alloc, image, look, purpose, is_changed, true)?;
+    if !options.may_use && plan.is_needed() {
         refuse_users(rt, image, plan.was.as_ref(), Some(&plan.next))?;
     }
     if !options.may_overwrite {
@@ -95,12 +108,14 @@ fn draft(
             was,
             next,
             is_changed: true,
+            mbr: MbrChange::Left,
             replaced: None,
         }),
         Became::Unchanged { table } => Ok(Plan {
             was: Some(copy_of(&table)?),
             next: table,
             is_changed: false,
+            mbr: MbrChange::Left,
             replaced: None,
         }),
         Became::Refused { table, refusal } => Err(refuse_asked(
@@ -265,7 +280,7 @@ where
     };
     match users.find_harm(was, next) {
         None => Ok(()),
-        Some(found) => Err(refuse_busy(rt.alloc(), image.name, found)),
+        Some(found) => Err(refuse_busy(rt.alloc(), image.name, &UseText(found))),
     }
 }
 
@@ -354,7 +369,7 @@ fn find_data(
             continue;
         }
         let at = sector.saturating_mul(sector_size);
-        match read_sector(&mut image.opened.disk, at, &mut bytes) {
+        match read_at(&mut image.opened.disk, at, &mut bytes) {
             Ok(()) => (),
             Err(error) => return Err(refuse_error(alloc, image.name, &error)),
         }

@@ -24,8 +24,6 @@ pub struct Done<'a> {
     pub task: &'a Task,
     /// What it makes of the table.
     pub plan: &'a Plan,
-    /// What becomes of the MBR.
-    pub mbr: MbrChange,
     /// Whether a crash can leave neither the old table nor the new one.
     pub may_lose: bool,
 }
@@ -42,13 +40,12 @@ pub fn tell<W: Write>(
     let Done {
         task,
         plan,
-        mbr,
         may_lose,
     } = *done;
     if how.is_json {
         return tell_json(out, alloc, image, look, plan, how);
     }
-    if how.is_dry && (plan.is_changed || mbr != MbrChange::Left) {
+    if how.is_dry && plan.is_needed() {
         out.write_all(DRY)?;
     }
     if may_lose {
@@ -63,7 +60,7 @@ pub fn tell<W: Write>(
         )?;
     }
     tell_table(out, alloc, image, look, task, plan)?;
-    tell_mbr(out, task.purpose, mbr)?;
+    tell_mbr(out, task.purpose, plan.mbr)?;
     tell_hybrid(out, alloc, look, plan)
 }
 

@@ -19,7 +19,7 @@ pub fn clear<R, W: Write>(
     rt: &R,
     out: &mut W,
     image: &mut Image<'_>,
-    mut look: Look,
+    look: Look,
     options: &Options<'_>,
     how: How,
 ) -> Result<bool, Failure>
@@ -28,6 +28,7 @@ where
 {
     let alloc = rt.alloc();
     image.refuse_unknown(alloc, &look)?;
+    let kind = look.first_sector.kind;
     let is_needed = is_something(&look);
     if is_needed {
         refuse_wipe(rt, image, &look, options)?;
@@ -39,24 +40,24 @@ where
         }
     }
     if is_needed && !how.is_dry {
-        if look.moved_header.is_none() {
-            // Without the table only what is seen of each copy is cleared, and not the place of a lost one.
-            look.table = None;
-        }
         if let Err(error) = wipe(alloc, &mut image.opened.disk, &look) {
             return Err(refuse_error(alloc, image.name, &error));
         }
     }
-    tell(rt, out, image.name, is_needed, how)?;
+    if how.is_json {
+        let text = wiped_json(alloc, image.name, is_needed, how.is_dry)?;
+        writeln!(out, "{text}")?;
+    } else {
+        tell(out, is_needed, kind, how.is_dry)?;
+    }
     Ok(is_needed && !how.is_dry)
 }
 
 // Whether there is anything to clear.
 fn is_something(look: &Look) -> bool {
-    let kind = look.first_sector.kind;
     look.table.is_some()
         || !look.signatures.is_empty()
-        || matches!(kind, MbrKind::Protective | MbrKind::Hybrid)
+        || look.first_sector.kind == MbrKind::Protective
 }
 
 // Refuses to clear what nobody named.
@@ -80,26 +81,25 @@ where
     refuse_users(rt, image, look.table.as_ref(), None)
 }
 
-// Tells what became of it.
-fn tell<R: AllocGlobal, W: Write>(
-    rt: &R,
+// Tells what became of it, on a disk whose MBR was of this kind.
+fn tell<W: Write>(
     out: &mut W,
-    image: &str,
     is_needed: bool,
-    how: How,
+    kind: MbrKind,
+    is_dry: bool,
 ) -> Result<(), Failure> {
-    if how.is_json {
-        let text = wiped_json(rt.alloc(), image, is_needed, how.is_dry)?;
-        writeln!(out, "{text}")?;
-        return Ok(());
-    }
     if !is_needed {
         out.write_all(b"unchanged\n")?;
         return Ok(());
     }
-    if how.is_dry {
+    if is_dry {
         out.write_all(DRY)?;
     }
-    out.write_all(b"both copies of the table and the protective MBR are cleared\n")?;
+    let text = match kind {
+        MbrKind::Protective => "both copies of the table and the protective MBR are cleared\n",
+        MbrKind::Hybrid => "both copies of the table are cleared, and the hybrid MBR stays\n",
+        _ => "both copies of the table are cleared\n",
+    };
+    out.write_all(text.as_bytes())?;
     Ok(())
 }

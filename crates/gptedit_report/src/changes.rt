@@ -11,7 +11,7 @@ use std::{fmt, io};
 /// Prints how a table becomes another: a line for the disk's GUID, for the usable sectors and for the number
 /// of entries, where they differ, and one for each partition that does, by its number. `+` begins a partition
 /// that is added, `-` one that is removed, `~` one that is changed, and `2 -> 1` one that has another number.
-/// Where nothing differs the line is `unchanged`.
+/// Where none differs, only bytes of unused entries do, and the line says so.
 ///
 /// It takes time in O(n log n) for n entries. An error comes where `out` failed, and where there is no memory.
 pub fn print_changes<W: Write>(
@@ -23,7 +23,7 @@ pub fn print_changes<W: Write>(
     let changes = compare(alloc, was, next)?;
     let header = HeaderChange { was, next };
     if changes.is_empty() && !header.is_any() {
-        return out.write_all(b"unchanged\n");
+        return out.write_all(b"entries that are not used are cleared\n");
     }
     write!(out, "{header}")?;
     for change in changes.iter() {

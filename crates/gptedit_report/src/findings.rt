@@ -48,6 +48,8 @@ pub enum Wrong<'a> {
     Entry(EntryFault),
     /// There is no MBR.
     NoMbr,
+    /// Sector 0 is a boot sector, and no MBR.
+    OtherMbr,
     /// The MBR is one of a DOS disk.
     DosMbr,
     /// The protective MBR has the length of another disk.
@@ -237,6 +239,7 @@ impl<'a> Findings<'a> {
         let is_length_right = first.is_length_right;
         match first.kind {
             MbrKind::None => return self.add(Wrong::NoMbr),
+            MbrKind::Other => return self.add_only(Wrong::OtherMbr),
             MbrKind::Dos => return self.add_only(Wrong::DosMbr),
             MbrKind::Hybrid => self.add_only(Wrong::Hybrid)?,
             MbrKind::Protective if count == 1 && !is_length_right => self.add(Wrong::MbrLength)?,
@@ -321,6 +324,7 @@ impl Wrong<'_> {
             Wrong::TwoTables => "the two copies are two tables, of which the primary is taken",
             Wrong::NoLayout => "the table does not stand where gptedit writes one",
             Wrong::NoMbr => "there is no protective MBR",
+            Wrong::OtherMbr => "there is no protective MBR: sector 0 is a boot sector",
             Wrong::DosMbr => "the disk has a DOS partition table",
             Wrong::MbrLength => "the protective MBR has another length than the disk",
             Wrong::Hybrid =>

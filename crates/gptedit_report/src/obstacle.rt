@@ -104,6 +104,7 @@ fn plain_name(what: What) -> &'static str {
         What::Table => "a GUID partition table",
         What::Header => "the header of a GUID partition table",
         What::ProtectiveMbr => "a protective MBR",
+        What::BootSector => "a boot sector",
         _ => "something that is not zero",
     }
 }

@@ -1,0 +1,54 @@
+//! The MBR as part of a change.
+
+use crate::failure::{Failure, refuse_device, refuse_error};
+use crate::image::Image;
+use gptedit_look::{Look, MbrChange, MbrKind, Purpose, mend_mbr};
+use gptman::{Disk, GPT};
+use std::alloc::Global;
+
+/// Mends the protective MBR, or makes one, or only tells what would become of it. `is_changed` is whether the
+/// table is written.
+pub fn change_mbr(
+    alloc: Global,
+    image: &mut Image<'_>,
+    look: &Look,
+    purpose: Purpose,
+    is_changed: bool,
+    is_dry: bool,
+) -> Result<MbrChange, Failure> {
+    let first = &look.first_sector;
+    let is_own = first.kind == MbrKind::Protective && first.protective_count == 1;
+    let may_make = match (purpose, first.kind) {
+        (Purpose::New, _) if !is_own => return make_mbr(alloc, image, look, is_dry),
+        (Purpose::New, _) => true,
+        (_, MbrKind::Dos | MbrKind::Hybrid) => return Ok(MbrChange::Left),
+        (Purpose::Edit, _) if !is_changed => return Ok(MbrChange::Left),
+        (Purpose::Edit, _) => false,
+        (Purpose::Repair | Purpose::Fit, _) => true,
+    };
+    let sector_size = look.sector_size.max(1);
+    match mend_mbr(alloc, &mut image.opened.disk, sector_size, may_make, is_dry) {
+        Ok(change) => Ok(change),
+        Err(error) => Err(refuse_error(alloc, image.name, &error)),
+    }
+}
+
+// Writes a protective MBR over whatever is in its 66 bytes.
+fn make_mbr(
+    alloc: Global,
+    image: &mut Image<'_>,
+    look: &Look,
+    is_dry: bool,
+) -> Result<MbrChange, Failure> {
+    if is_dry {
+        return Ok(MbrChange::Made);
+    }
+    let disk = &mut image.opened.disk;
+    if let Err(error) = GPT::write_protective_mbr_into(disk, look.sector_size.max(1)) {
+        return Err(refuse_error(alloc, image.name, &error));
+    }
+    match disk.sync() {
+        Ok(()) => Ok(MbrChange::Made),
+        Err(error) => Err(refuse_device(alloc, image.name, &error)),
+    }
+}

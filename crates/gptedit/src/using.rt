@@ -1,0 +1,33 @@
+//! A use of a disk, as people are told of it.
+
+use gptedit_busy::{How, Part, Use};
+use gptedit_text::values::Escaped;
+use std::fmt;
+
+/// That a part of a disk is in use, and what to do. Hidden characters are escaped.
+#[derive(Clone, Copy)]
+pub struct UseText<'a>(pub &'a Use);
+
+impl fmt::Display for UseText<'_> {
+    fn fmt<W: fmt::Write>(&self, f: &mut fmt::Formatter<W>) -> fmt::Result {
+        match self.0.part {
+            Part::Whole => f.write_str("the disk ")?,
+            Part::Partition(number) => write!(f, "partition {number} ")?,
+        }
+        write_how(f, &self.0.how)?;
+        f.write_str(
+            "\nclose it first; --in-use writes the table all the same, and the kernel keeps the old one until it is told",
+        )
+    }
+}
+
+// Writes how a part is used.
+fn write_how<W: fmt::Write>(f: &mut fmt::Formatter<W>, how: &How) -> fmt::Result {
+    match how {
+        How::Mounted(at) => write!(f, "is mounted at {}", Escaped(at.as_str())),
+        How::Swap => f.write_str("is used as swap space"),
+        How::Held(by) => write!(f, "is in use by {}", Escaped(by.as_str())),
+        How::Btrfs => f.write_str("is part of a mounted Btrfs file system"),
+        How::Unknown(file) => write!(f, "may be in use: {file} cannot be read"),
+    }
+}
