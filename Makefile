@@ -91,12 +91,15 @@ crash-states: gptimg gptedit
 # the power of a Linux kernel in the middle of commands, has other programs, kernels and boot loaders read such
 # images, compares the library for C with others, and has tests/gptedit try wrong programs, each of which must
 # fail; each where what it needs is installed.
-# They stand beside the gate.
+# They stand beside the gate. The model of gptedit plays COMMANDS random commands of a SEED.
+SEED = 2
+COMMANDS = 5000
 trials: gptimg gptedit
 	@python3 -B trials/crash_states/changes.py ./gptedit
 	@tests/with_firmware.sh
 	@tests/with_power_cuts.sh
 	@tests/with_readers.sh
 	@tests/with_libraries.sh
-	@python3 -B tests/gptedit ./gptedit uses model
+	@python3 -B tests/gptedit ./gptedit uses sources locks holders
+	@python3 -B tests/gptedit/model.py ./gptedit $(SEED) $(COMMANDS)
 	@python3 -B trials/planted

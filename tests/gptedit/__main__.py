@@ -1,4 +1,4 @@
-"""Tries gptedit as a process: usage: tests/gptedit GPTEDIT [MODULE..].
+"""Tries gptedit as a process: usage: tests/gptedit GPTEDIT [MODULE[/SUBJECT]..].
 
 Prints a line for each subject, and in full what does not hold. The last line is 'N passed, M failed', and the
 status is 1 where something failed. What needs sfdisk, sgdisk, parted, cgpt or strace is tried where they are, and
@@ -19,10 +19,11 @@ def main():
     tally = Tally()
     with tempfile.TemporaryDirectory() as folder:
         program = Program(os.path.realpath(sys.argv[1]), folder, tally)
-        for name in sys.argv[2:] or GATE:
-            module = importlib.import_module(name)
-            for subject, run in module.SUBJECTS.items():
-                tally.subject(subject, run, program)
+        for word in sys.argv[2:] or GATE:
+            name, _, chosen = word.partition("/")
+            subjects = importlib.import_module(name).SUBJECTS
+            for subject in [chosen] if chosen else subjects:
+                tally.subject(subject, subjects[subject], program)
     print(f"{tally.passed} passed, {tally.failed} failed")
     return 1 if tally.failed else 0
 

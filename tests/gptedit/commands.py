@@ -119,9 +119,15 @@ def try_editing(tally, program):
          '~ 3 name "" -> "root", type linux -> linux-swap\n')
     root = root._replace(type=SWAP, name="root")
     holds_table(tally, program, "set", {1: ESP_ENTRY, 3: root})
+    root = root._replace(guid="c0ffee00-0000-4000-8000-000000000003")
+    program.run("set", "disk.img", "3", "--guid", root.guid)
+    holds_table(tally, program, "set --guid", {1: ESP_ENTRY, 3: root})
     says(tally, program, ["set", "disk.img", "3", "--name", "root"], "unchanged\n")
     says(tally, program, ["resize", "disk.img", "3", "16MiB"],
          "~ 3 sectors 133120..149503 8 MiB -> 133120..165887 16 MiB\n")
+    program.run("resize", "disk.img", "3", "1MiB")
+    holds_table(tally, program, "resize to less", {1: ESP_ENTRY, 3: root._replace(last=135167)})
+    program.run("resize", "disk.img", "3", "16MiB")
     says(tally, program, ["resize", "disk.img", "3", "max"],
          "~ 3 sectors 133120..165887 16 MiB -> 133120..260095 62 MiB\n")
     root = root._replace(last=260095)

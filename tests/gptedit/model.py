@@ -75,8 +75,9 @@ class Player:
     """Draws commands, and says what each does: the words, the table afterwards (None where it is refused), and a
     text for standard input."""
 
-    def __init__(self, random_, model):
-        self.random, self.model = random_, model
+    def __init__(self, random_, model, path):
+        self.random, self.model, self.path = random_, model, path
+        self.refusal = 1
 
     def guid(self):
         """A new GUID, seldom one that is there."""
@@ -124,7 +125,8 @@ class Player:
             line += ["--align", align] + (["--place", "last"] if is_last else [])
         if not count or not number or first is None:
             return line, None, ""
-        made = table.Entry(fields["type"], fields["guid"], first, first + count - 1, fields["attributes"], fields["name"])
+        last, bits = first + count - 1, fields["attributes"]
+        made = table.Entry(fields["type"], fields["guid"], first, last, bits, fields["name"])
         return line, model.with_entries({**model.entries, number: made}), ""
 
     def set(self):
@@ -177,11 +179,15 @@ class Player:
         """`grow` of an image that was made longer, or not."""
         model, more = self.model, self.random.choice([0, 0, MIB, MIB // 2, 3 * model_step(self.model)])
         first, last = table.bounds(model.size + more, model.sector, model.table.count)
-        if more:
-            model.size += more
-            os.truncate(self.path, model.size)
-            return ["grow", IMAGE], model.table._replace(first=max(first, model.table.first), last=last), ""
-        return ["grow", IMAGE], model.table, ""
+        if not more:
+            return ["grow", IMAGE], model.table, ""
+        is_readable = table.read_copies(self.path, model.sector)[0]
+        os.truncate(self.path, model.size + more)
+        if not is_readable:  # the backup copy is not at the end, and the primary one is broken
+            self.refusal = 3
+            return ["grow", IMAGE], None, ""
+        model.size += more
+        return ["grow", IMAGE], model.table._replace(first=max(first, model.table.first), last=last), ""
 
     def new(self):
         """`new` over the table."""
@@ -232,7 +238,8 @@ def made_by(program, random_, maker, size):
         first, last = table.bounds(size, sector)
         count = random_.choice([128, 128, 56, 4, 256])
         first, last = table.bounds(size, sector, count)
-        found = table.Table(str(uuid.UUID(int=random_.getrandbits(128))), random_.choice([first, 300, 2048]),
+        found = table.Table(str(uuid.UUID(int=random_.getrandbits(128))),
+                            random_.choice([first, 300, 2048 if sector == 512 else 512]),
                             random_.choice([last, last, last - 77]), count, {})
         table.put(program.file(IMAGE), table.pieces_of(found, size, sector))
         return Model(size, sector, found)
@@ -256,8 +263,7 @@ def play(tally, program, seed, commands):
         model = made_by(program, random_, maker, random_.choice([8, 16, 24]) * MIB)
         if not tally_made(tally, model, maker):
             return done
-        player = Player(random_, model)
-        player.path = program.file(IMAGE)
+        player = Player(random_, model, program.file(IMAGE))
         for step in range(EACH):
             done += turn(tally, program, player, f"seed {seed}, command {played} ({maker}, {step})")
             played += 1
@@ -284,12 +290,14 @@ def damage(player, program):
 def turn(tally, program, player, what):
     """One command: draws it, and counts whether it does what the model says. Says whether it was done."""
     damage(player, program)
+    player.refusal = 1
     kinds = [player.add] * 6 + [player.set] * 3 + [player.resize] * 4 + [player.remove] * 2 + [player.apply] * 3
     words, wanted, text = player.random.choice(kinds + [player.sort, player.repair, player.grow, player.new])()
     model, before = player.model, player.model.table
     ended = program.run(*words, text=text)
     what = f"{what}: {' '.join(words)} {text[:200]!r}"
-    tally.equals(f"{what} on {model.sector}, {before}: {ended}"[:1500], int(wanted is None), ended[0])
+    tally.equals(f"{what} on {model.sector}, {before}: {ended}"[:1500], 0 if wanted else player.refusal, ended[0])
+    os.truncate(player.path, model.size)
     copies = table.read_copies(program.file(IMAGE), model.sector)
     if words[0] == "new" and wanted and copies[0] and copies[0].count == before.count:
         # A new table of the same number of entries may keep the bounds.

@@ -21,7 +21,7 @@ RULES = {
     "a stale copy of a table at that end counts as nothing":
         ["the new place of the backup copy", "everyday: a clone that is grown"],
     "the 66 bytes of sector 0 are replaced where they are zero, without 55 AA or protective":
-        ["the length in the MBR", "what is no DOS disk", EVERY_RUN],
+        ["the length in the MBR", "what is no DOS disk", "boot sectors", EVERY_RUN],
     "boot code in sectors 1..33 of a DOS disk": ["DOS disks", "a DOS disk"],
     "a file system that reaches into the place of a copy": ["a file system over the disk"],
     "footers of image formats": ["a footer", "the new place of the backup copy"],
@@ -43,7 +43,8 @@ RULES = {
     "new needs --overwrite over a header at any size of a sector": ["what new is refused over",
                                                                     "headers that new would lose"],
     "new needs --overwrite over a protective MBR, a DOS disk and contents": [
-        "what new is refused over", "contents that new would lose"],
+        "what new is refused over", "contents that new would lose", "marks at the start", "marks at the end",
+        "boot sectors"],
     "a wiped or shredded disk is none of these": ["everyday: wiped disks"],
     "salvage prints a layout that apply --create --overwrite takes": ["salvage"],
     "salvage --json is the same as data": ["salvage"],
@@ -53,9 +54,12 @@ RULES = {
     "harmless changes of a device in use need neither": ["devices in use"],
     "mounts in each namespace, swap, holders, loops": ["devices in use"],
     "only attached is no refusal": ["devices in use"],
+    "both disks of a Btrfs over two disks are in use": ["a Btrfs over two disks"],
+    "a use of the whole disk needs --in-use": ["a use of the whole disk"],
+    "without /proc or /sys a change of a block device is refused": ["no /proc, no /sys"],
     "a partition's sector size is its parent's": ["devices of 4096 bytes"],
     "--lock wait, fail, none, and a line before it waits": ["--lock"],
-    "an ancestor that holds the lock is not waited for": ["ancestors that lock"],
+    "an ancestor that holds the lock is not waited for": ["ancestors that lock", "locks of block devices"],
     "an image that qemu holds": ["qemu's lock"],
     "the layout is read before the image is opened": ["no lock while a layout is read"],
     # Sizes of a sector, bounds, the MBR

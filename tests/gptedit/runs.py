@@ -16,8 +16,8 @@ import table
 
 PIECE = 4096
 GATE = ["commands", "refusals", "layouts", "texts", "outputs", "guards", "checks", "safety", "everyday", "traces",
-        "stops", "streams", "rules"]
-TRIALS = ["uses", "model"]
+        "marks", "stops", "streams", "rules", "model"]
+TRIALS = ["uses", "sources", "locks", "holders"]
 MODULES = GATE + TRIALS
 MIB = 1 << 20
 BOOT_CODE = random.Random(46).randbytes(446)

@@ -77,7 +77,8 @@ def try_lock(tally, program):
         tally.equals("add once the lock is free", 0, program.run(*ADD_ESP)[0])
         tally.holds("add has waited", holder.poll() is not None)
     writers = [subprocess.Popen([program.path, "add", "disk.img", "--type", "linux", "--size", "1MiB"],
-                                cwd=program.folder, stdout=subprocess.DEVNULL) for _ in range(20)]
+                                cwd=program.folder, stdout=subprocess.DEVNULL, stderr=subprocess.DEVNULL)
+               for _ in range(20)]
     tally.equals("twenty at once", [0] * 20, [writer.wait() for writer in writers])
     tally.equals("their partitions", 21, len(table.read(program.file("disk.img")).entries))
     return None

@@ -175,6 +175,13 @@ def try_units(tally, program):
     layout = '[[partition]]\nname-utf16 = "0041 D83D de00"\ntype = "efi"\nsize = "1MiB"\n'
     says(tally, program, ["apply", "disk.img", "-"], '+ 1 2048..4095 1 MiB efi "A\U0001f600"\n', text=layout)
     tally.equals("units in either case", [0x41, 0xd83d, 0xde00, 0], units_in(program)[0][:4])
+    for name in "a" * 35 + "b", "a" * 34 + "\U0001f600":
+        units = [*struct.unpack("<36H", name.encode("utf-16-le"))]
+        program.run("set", "disk.img", "1", "--name", name)
+        tally.equals(f"the units of --name {name}", units, [*units_in(program)[0]])
+        program.run("set", "disk.img", "1", "--name", "")
+        program.run("apply", "disk.img", "-", text=f'[[partition]]\nnumber = 1\nname = "{name}"\n')
+        tally.equals(f"the units of {name} in a layout", units, [*units_in(program)[0]])
 
 
 def try_headers(tally, program):

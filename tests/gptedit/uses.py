@@ -1,11 +1,9 @@
-"""Locks, and devices in use: on loop devices, where root may make them; else a line says so."""
+"""Devices in use: on loop devices, where root may make them; else a line says so."""
 import os
-import shutil
 import subprocess
-import time
 
 import table
-from commands import DISK, ROOT
+from commands import DISK, ESP, MIB, ROOT
 from makers import IMAGE, TWO, entry, holds, make, there
 
 NAME = ["set", IMAGE, "1", "--name", "x"]
@@ -32,6 +30,13 @@ class Loop:
         """Runs a command in the end."""
         self.undo.insert(0, words)
 
+    def mounts_first(self, at, part=None):
+        """Makes a file system in a device, its first partition if no other is named, and mounts it until the end.
+        Says whether that succeeded."""
+        part = part or self.path + "p1"
+        self.later("umount", at)
+        return self.call("mkfs.ext4", "-q", "-F", part, "2048") and self.call("mount", part, at)
+
     def __exit__(self, *_):
         for words in self.undo:
             self.call(*words)
@@ -55,18 +60,20 @@ def start(program):
     make(program, {1: entry(2048, 10239), 2: entry(12288, 20479, "two", ROOT)})
 
 
-def uses(tally, program, what, path, number=1):
-    """Counts what is refused of a device of which partition `number` is in use, and what is not."""
+def uses(tally, program, what, path, number=1, sizes=("3MiB", "5MiB")):
+    """Counts what is refused of a device of which partition `number` is in use, and what is not: `sizes` are one
+    that shortens it and one that lengthens it."""
     one, other = str(number), str(3 - number)
-    for words in ["remove", path, one], ["resize", path, one, "3MiB"], ["new", path, "--overwrite"], \
+    for words in ["remove", path, one], ["resize", path, one, sizes[0]], ["new", path, "--overwrite"], \
             ["set", path, one, "--guid", DISK], ["set", path, one, "--type", "swap"], ["randomize", path]:
         for more in ["-n"], []:
             ended = program.plain(*words, *more)
             tally.holds(f"{what}: {words + more} is refused: {ended}", ended[0] == 4 and "--in-use" in ended[2])
             if ended[0] != 4:
                 break
-    for words in ["set", path, one, "--name", "new"], ["resize", path, one, "5MiB"], ["set", path, other, "--name", "y"], \
-            ["set", path, one, "--attributes", "no-auto"], ["remove", path, one, "--in-use", "-n"]:
+    for words in ["set", path, one, "--name", "new"], ["resize", path, one, sizes[1]], \
+            ["set", path, other, "--name", "y"], ["set", path, one, "--attributes", "no-auto"], \
+            ["remove", path, one, "--in-use", "-n"]:
         ended = program.plain(*words)
         tally.holds(f"{what}: {words} goes: {ended}", ended[0] == 0)
 
@@ -80,7 +87,7 @@ def try_uses(tally, program):
         tally.holds(f"a device that is only attached is not in use: {ended}", ended[0] == 0)
         tally.holds(f"a line says how the kernel is told: {ended}", "partx -u" in ended[1] + ended[2])
     os.makedirs(program.file("at"), exist_ok=True)
-    for what in "mounted", "mounted in another namespace", "a loop over the partition", "the image of a loop", "swap":
+    for what in USES:
         start(program)
         with Loop(program) as loop:
             part = loop.path + "p1"
@@ -96,6 +103,10 @@ def try_uses(tally, program):
     return None
 
 
+USES = ["mounted", "mounted in another namespace", "a loop over the partition", "the image of a loop", "swap",
+        "a volume of device-mapper", "an array of md"]
+
+
 def use(program, loop, what, part):
     """Puts a partition to a use. Gives a process that keeps it, True, or None where that cannot be had."""
     at = program.file("at")
@@ -103,6 +114,14 @@ def use(program, loop, what, part):
         loop.call("mkswap", part, "2048")
         loop.later("swapoff", part)
         return True if loop.call("swapon", part) else None
+    if what == "a volume of device-mapper":
+        loop.later("dmsetup", "remove", "gptedit-test")
+        words = ["dmsetup", "create", "gptedit-test", "--table", f"0 2048 linear {part} 0"]
+        return True if there("dmsetup") and loop.call(*words) else None
+    if what == "an array of md":
+        loop.later("mdadm", "--stop", "/dev/md/gptedit-test")
+        words = ["mdadm", "--build", "/dev/md/gptedit-test", "--level=linear", "--force", "--raid-devices=1", part]
+        return True if there("mdadm") and loop.call(*words) else None
     if what == "mounted in another namespace":
         if not there("unshare"):
             return None
@@ -121,6 +140,86 @@ def use(program, loop, what, part):
     return True
 
 
+def try_btrfs(tally, program):
+    """Both disks of a Btrfs file system over two disks, of which mounts name one only."""
+    if not can_loop(program) or not there("mkfs.btrfs"):
+        return "no loop devices for this user, or no mkfs.btrfs: left out"
+    names, size = ["one.img", "two.img"], 256 * MIB
+    os.makedirs(program.file("at"), exist_ok=True)
+    small = entry(416000, 418047, "two", "c0ffee00-0000-4000-8000-000000000003")
+    for name, guid in zip(names, (ESP, ROOT)):
+        make(program, {1: entry(2048, 411647, guid=guid), 2: small}, size, name=name)
+    with Loop(program, names[0]) as one, Loop(program, names[1]) as two:
+        parts = [one.path + "p1", two.path + "p1"]
+        if not one.call("mkfs.btrfs", "-q", "-f", *parts) or not one.call(
+                "mount", "-o", f"device={parts[0]},device={parts[1]}", parts[0], program.file("at")):
+            return "no Btrfs over two disks is to be had here: left out"
+        one.later("umount", program.file("at"))
+        for what, loop in ("the first disk of a Btrfs", one), ("the second disk of a Btrfs", two):
+            uses(tally, program, what, loop.path, sizes=("100MiB", "201MiB"))
+    with Loop(program, names[1]) as two:
+        ended = program.plain("remove", two.path, "1")
+        tally.holds(f"a disk of a Btrfs that is not mounted: {ended}", ended[0] == 0)
+    return None
+
+
+def try_whole(tally, program):
+    """A use of the whole disk allows no change."""
+    if not can_loop(program):
+        return "no loop devices for this user: left out"
+    os.makedirs(program.file("at"), exist_ok=True)
+    program.make_zeros(IMAGE, 16 * MIB)
+    with Loop(program) as loop:
+        if not loop.call("mkfs.ext4", "-q", "-F", loop.path, "8192") or not loop.call(
+                "mount", loop.path, program.file("at")):
+            return "no file system over a whole disk is to be had here: left out"
+        loop.later("umount", program.file("at"))
+        for words in ["new", loop.path, "--overwrite"], ["new", program.file(IMAGE), "--overwrite"]:
+            for more in ["-n"], []:
+                ended = program.plain(*words, *more)
+                tally.holds(f"a mounted disk: {words + more} is refused: {ended}", ended[0] == 4 and
+                            "--in-use" in ended[2])
+        ended = program.plain("new", loop.path, "--overwrite", "--in-use", "-n")
+        tally.holds(f"a mounted disk: new --in-use goes: {ended}", ended[0] == 0)
+    return None
+
+
+HIDE = 'mount -t tmpfs none "$1" && shift && exec "$@"'
+
+
+def try_hidden(tally, program):
+    """No /proc, no /sys: a change of a block device is refused, as nothing says that it is not in use."""
+    if not can_loop(program) or not there("unshare"):
+        return "no loop devices for this user, or no unshare: left out"
+    start(program)
+    with Loop(program) as loop:
+        if not loop.call("unshare", "-m", "sh", "-c", HIDE, "sh", "/sys", "true"):
+            return "no mount namespace is to be had here: left out"
+        for folder in "/proc", "/sys":
+            def run(*words):
+                return subprocess.run(["unshare", "-m", "sh", "-c", HIDE, "sh", folder, program.path, *words],
+                                      cwd=program.folder, stdin=subprocess.DEVNULL, stdout=subprocess.PIPE,
+                                      stderr=subprocess.PIPE, check=False, timeout=60)
+            size = ["--sector", "512"]
+            for words in ["set", loop.path, "1", "--name", "x"], ["remove", loop.path, "2"], \
+                    ["resize", loop.path, "1", "5MiB"]:
+                for more in ["-n"], []:
+                    ended = run(*words, *size, *more)
+                    what = f"without {folder}: {words + size + more}"
+                    tally.holds(f"{what} is refused: {ended}", ended.returncode == 4 and b"--in-use" in ended.stderr)
+                    tally.holds(f"{what} says why: {ended}", folder.encode() in ended.stderr)
+            ended = run("show", loop.path, *size)
+            tally.holds(f"without {folder}: show goes: {ended}", ended.returncode == 0)
+            ended = run("set", loop.path, "1", "--name", folder[1:], *size, "--in-use")
+            tally.holds(f"without {folder}: --in-use goes: {ended}", ended.returncode == 0)
+            ended = run("set", IMAGE, "1", "--name", "file" + folder[1:])
+            tally.holds(f"without {folder}: a file goes: {ended}", ended.returncode == 0)
+        ended = run("set", loop.path, "1", "--name", "y", "--in-use")
+        tally.holds(f"without /sys the size of a sector is to be said: {ended}", ended.returncode == 1 and
+                    b"--sector" in ended.stderr)
+    return None
+
+
 def try_sizes(tally, program):
     """A loop device with sectors of 4096 bytes."""
     if not can_loop(program):
@@ -136,89 +235,5 @@ def try_sizes(tally, program):
     return None
 
 
-def try_locks(tally, program):
-    """`--lock wait`, `fail` and `none`, while another program holds the lock."""
-    if not there("flock"):
-        return "flock is not installed: left out"
-    start(program)
-    path = program.file(IMAGE)
-    with subprocess.Popen(["flock", path, "sleep", "3"]) as holder:
-        while subprocess.run(["flock", "-n", path, "true"], check=False).returncode == 0:
-            time.sleep(0.01)
-        began = time.monotonic()
-        ended = program.plain(*NAME, "--lock", "fail")
-        tally.holds(f"--lock fail: {ended}", ended[0] == 4 and time.monotonic() - began < 1)
-        ended = program.plain(*NAME, "--lock", "none")
-        tally.holds(f"--lock none: {ended}", ended[0] == 0 and holder.poll() is None)
-        ended = program.plain(*NAME[:-1], "y")
-        tally.holds(f"a line before it waits: {ended}", ended[0] == 0 and
-                    f"waiting for the lock on {IMAGE}" in ended[2])
-        tally.holds("it has waited", holder.poll() is not None)
-    return None
-
-
-def try_ancestors(tally, program):
-    """An ancestor that holds the lock is not waited for."""
-    path, line = program.file(IMAGE), 'exec "$0" set disk.img 1 --name z "$@"'
-    for holder in ["flock", path], ["udevadm", "lock", "-d", path]:
-        if not there(holder[0]) or subprocess.run([*holder, "true"], stderr=subprocess.DEVNULL, check=False).returncode:
-            print(f"        {holder[0]} locks nothing here: left out")
-            continue
-        start(program)
-        began = time.monotonic()
-        for more, wanted in ([], 4), (["--lock", "none"], 0):
-            words = [*holder, "sh", "-c", line, program.path, *more]
-            status, err = limited(words, program.folder)
-            tally.equals(f"the status under {holder[0]} {more}: {err}", wanted, status)
-            tally.holds(f"--lock none is named: {err}", not wanted or b"--lock none" in err)
-        tally.holds("it does not wait", time.monotonic() - began < 3)
-
-
-def limited(words, folder):
-    """The status of a command and what it printed as an error; None where it does not end in some seconds."""
-    with subprocess.Popen(words, cwd=folder, stdout=subprocess.DEVNULL, stderr=subprocess.PIPE) as process:
-        try:
-            return process.wait(5), process.stderr.read()
-        except subprocess.TimeoutExpired:
-            process.kill()
-            return None, b"it waits"
-
-
-def try_input(tally, program):
-    """The layout is read before the image is opened: no lock is held meanwhile."""
-    if not there("flock"):
-        return "flock is not installed: left out"
-    start(program)
-    with subprocess.Popen([program.path, "apply", IMAGE, "-", "--replace"], cwd=program.folder,
-                          stdin=subprocess.PIPE, stdout=subprocess.DEVNULL) as process:
-        time.sleep(0.3)
-        status = subprocess.run(["flock", "-n", program.file(IMAGE), "true"], check=False).returncode
-        tally.equals("the lock is free while standard input is read", 0, status)
-        process.stdin.write(b"label: gpt\n")
-        process.stdin.close()
-        tally.equals("the status of apply", 0, process.wait())
-    holds(tally, program, "apply of standard input", {})
-    return None
-
-
-def try_qemu(tally, program):
-    """An image that qemu holds."""
-    if not shutil.which("qemu-io") and not shutil.which("qemu-system-x86_64"):
-        return "qemu is not installed: left out"
-    start(program)
-    path = program.file(IMAGE)
-    words = ["qemu-io", "-f", "raw", path] if shutil.which("qemu-io") else [
-        "qemu-system-x86_64", "-S", "-nographic", "-monitor", "stdio", "-serial", "none", "-drive",
-        f"file={path},format=raw"]
-    with subprocess.Popen(words, stdin=subprocess.PIPE, stdout=subprocess.DEVNULL,
-                          stderr=subprocess.DEVNULL) as holder:
-        time.sleep(1)
-        ended = program.plain(*NAME)
-        tally.holds(f"an image that qemu holds: {ended}", ended[0] == 4)
-        tally.equals("show of it", 0, program.plain("show", IMAGE)[0])
-        holder.kill()
-    return None
-
-
-SUBJECTS = {"devices in use": try_uses, "devices of 4096 bytes": try_sizes, "--lock": try_locks,
-            "ancestors that lock": try_ancestors, "no lock while a layout is read": try_input, "qemu's lock": try_qemu}
+SUBJECTS = {"devices in use": try_uses, "a use of the whole disk": try_whole, "a Btrfs over two disks": try_btrfs,
+            "no /proc, no /sys": try_hidden, "devices of 4096 bytes": try_sizes}
