@@ -73,11 +73,11 @@ pub enum OpenError {
     OutOfMemory,
 }
 
-/// Opens an image, for reading only if nothing is to be written. Else it is locked first, as `flock` does; one
-/// line on standard error comes before it waits.
+/// Opens an image, for reading only if nothing is to be written. It is locked first, as `flock` does, unless the
+/// lock is `Lock::None`; one line on standard error comes before it waits.
 ///
 /// If the file system has no locks, it is opened without. If it gives none to an opening for reading only, as NFS
-/// does, the lock is on one for writing.
+/// does, the lock is on one for writing; if nothing is to be written, there is none.
 ///
 /// # Errors
 /// `NotADisk` if the path leads to no file and no block device. `Locked` if the lock is held and is not waited
@@ -92,11 +92,14 @@ where
     };
     let held = hold(rt, rt.alloc(), name)?;
     let metadata = held.above.metadata()?;
-    let (disk, lock) = if writes {
-        let lock = take_lock(rt, name, lock, &held.above, &metadata)?;
-        (FileDisk::open(rt, name)?, lock)
+    let lock = match lock {
+        Lock::None => None,
+        lock => take_lock(rt, name, lock, writes, &held.above, &metadata)?,
+    };
+    let disk = if writes {
+        FileDisk::open(rt, name)?
     } else {
-        (FileDisk::open_read(rt, name)?, None)
+        FileDisk::open_read(rt, name)?
     };
     if !is_same(&metadata, &fs::metadata(rt, name)?) || Target::of(&metadata) != Some(target) {
         return Err(OpenError::Replaced);
@@ -122,18 +125,16 @@ fn take_lock<R>(
     rt: &R,
     name: &str,
     lock: Lock,
+    writes: bool,
     file: &File,
     metadata: &Metadata,
 ) -> Result<Option<File>, OpenError>
 where
     R: Files<File = File> + AllocGlobal + Eprint + Clone + Drop,
 {
-    if lock == Lock::None {
-        return Ok(None);
-    }
     let node = Node::of(rt, file, metadata)?;
     let mut keeper = None;
-    if !lock_opening(rt, name, lock, file, node)? {
+    if !lock_opening(rt, name, lock, file, node)? && writes {
         keeper = Some(lock_to_write(rt, name, lock, metadata, node)?);
     }
     if has_record_lock(rt, node)? {
