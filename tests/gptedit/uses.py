@@ -96,15 +96,27 @@ def try_uses(tally, program):
             if holder is None:
                 print(f"        {what}: not to be had here, left out")
                 continue
-            uses(tally, program, what, program.file(IMAGE) if what == "the image of a loop" else loop.path)
+            uses(tally, program, what, path_of(program, loop, what))
             if holder is not True:
                 holder.kill()
                 holder.wait()
     return None
 
 
-USES = ["mounted", "mounted in another namespace", "a loop over the partition", "the image of a loop", "swap",
-        "a volume of device-mapper", "an array of md"]
+USES = ["mounted", "mounted in another namespace", "a loop over the partition", "the image of a loop",
+        "another loop over the image", "swap", "a volume of device-mapper", "an array of md"]
+
+
+def path_of(program, loop, what):
+    """The path of the disk that is changed."""
+    if what == "the image of a loop":
+        return program.file(IMAGE)
+    if what == "another loop over the image":
+        made = subprocess.run(["losetup", "-f", "--show", program.file(IMAGE)], stdout=subprocess.PIPE, check=True)
+        other = made.stdout.decode().strip()
+        loop.later("losetup", "-d", other)
+        return other
+    return loop.path
 
 
 def use(program, loop, what, part):

@@ -14,6 +14,8 @@ use std::rt::Files;
 // What the kernel reports of uses.
 #[derive(Drop)]
 struct Reports {
+    // The image itself, which is over no part of it.
+    image: Target,
     mounts: Mounts,
     loops: Vec<Loop>,
     btrfs: Vec<Target>,
@@ -41,6 +43,7 @@ where
     let mut uses = Vec::new(rt.alloc());
     let image = shown(rt, opened)?;
     let reports = Reports {
+        image: opened.target,
         mounts: Mounts::read(rt)?,
         loops: find_loops(rt, &image)?,
         btrfs: find_btrfs(rt)?,
@@ -50,6 +53,12 @@ where
         target: opened.target,
         part: Part::Whole,
     })?;
+    if let Some(target) = backing_of(&reports.loops, opened.target) {
+        pieces.push(Piece {
+            target,
+            part: Part::Whole,
+        })?;
+    }
     if let Some(device) = &opened.device {
         if let Some(file) = missing_in(rt, &reports) {
             uses.push(Use {
@@ -61,6 +70,12 @@ where
     }
     put_loops(rt, &reports, pieces, &mut uses)?;
     Ok(Users { uses })
+}
+
+// What the image shows from its first byte on, if it is a loop device: other loop devices may show it too.
+fn backing_of(loops: &[Loop], image: Target) -> Option<Target> {
+    let own = loops.iter().find(|own| own.target == image)?;
+    if own.is_whole { own.backing } else { None }
 }
 
 // The image, as loop devices show it.
@@ -170,7 +185,7 @@ where
     R: Files + AllocGlobal + Clone + Drop,
 {
     for over in reports.loops.iter() {
-        if over.backing != Some(piece.target) {
+        if over.backing != Some(piece.target) || over.target == reports.image {
             continue;
         }
         for known in parts_of(rt, over)?.iter() {
