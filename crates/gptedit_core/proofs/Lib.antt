@@ -2,12 +2,14 @@ pub mod Again
 pub mod Anew
 pub mod Bounded
 pub mod Checked
+pub mod Cuts
 pub mod Dumped
 pub mod Ends
 pub mod Growing
 pub mod Kept
 pub mod Laid
 pub mod Lengthened
+pub mod Offered
 pub mod Ordered
 pub mod Planned
 pub mod Reached

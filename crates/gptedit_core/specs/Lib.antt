@@ -6,3 +6,4 @@ pub mod Named
 pub mod Placing
 pub mod Planning
 pub mod Resolving
+pub mod Slots

@@ -6,11 +6,13 @@ ghost use Rattle.gptedit_core.specs.Laying.{removed_all, removed_one};
 ghost use Rattle.gptedit_core.specs.Laying.{ArePut, IsLaid, IsPut, IsStopOf, RefusesLaying, RefusesPut};
 ghost use Rattle.gptedit_core.specs.Laying.{RefusesPutting};
 ghost use Rattle.gptedit_core.specs.Resolving.{refusal_in, resolved_all, IsStopFor};
+ghost use Rattle.gptedit_core.specs.Slots.{AreKept};
 
 use crate::amount::Amount;
 use crate::asked::{Asked, Layout, Mode};
 use crate::refusal::{Refusal, Stop};
 use crate::resolve::{Partition, resolve};
+use crate::slots::Slots;
 use gptman::{GPT, GPTPartitionEntry};
 use std::alloc::Global;
 
@@ -150,18 +152,21 @@ fn put_all(table: &mut GPT, partitions: &[Partition]) -> Result<(), Stop>
     ensures put { OnOk result (ArePut partitions.now table.old table.new) }
     ensures refused { IfErr result (IsStopOf (RefusesPutting partitions.now table.old)) }
 {
+    let mut slots = Slots::unknown();
     for partition in partitions {
-        put(table, partition)?;
+        put(table, &mut slots, partition)?;
     }
     Ok(())
 }
 
 // Puts a partition into the table, under the number of an entry that is not used.
-fn put(table: &mut GPT, partition: &Partition) -> Result<(), Stop>
-    requires { 0 < table.old.align }
+fn put(table: &mut GPT, slots: &mut Slots, partition: &Partition) -> Result<(), Stop>
+    requires aligned { 0 < table.old.align }
+    requires kept { AreKept slots.old table.old }
     ensures put { OnOk result (IsPut partition.now table.old table.new) }
     ensures refused { IfErr result (IsStopOf (RefusesPut partition.now table.old)) }
     ensures align { OnOk result (table.new.align ≡ table.old.align) }
+    ensures kept { OnOk result (AreKept slots.new table.new) }
 {
     let number = partition.number;
     let Some(there) = table.get(number) else {
@@ -170,13 +175,15 @@ fn put(table: &mut GPT, partition: &Partition) -> Result<(), Stop>
     if there.is_used() {
         return Err(Stop::Refused(Refusal::Twice(number)));
     }
-    let Some((first, last)) = partition.place.find(table)? else {
+    let Some((first, last)) = slots.find(table, partition.place)? else {
         return Err(Stop::Refused(Refusal::NoRoom(number)));
     };
-    table[number] = GPTPartitionEntry {
+    let entry = GPTPartitionEntry {
         starting_lba: first,
         ending_lba: last,
         ..partition.entry.clone()?
     };
+    slots.leave_out(table, number, &entry)?;
+    table[number] = entry;
     Ok(())
 }

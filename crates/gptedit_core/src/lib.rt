@@ -17,6 +17,7 @@ pub mod place;
 pub mod plan;
 pub mod refusal;
 pub mod resolve;
+mod slots;
 
 pub use amount::Amount;
 pub use asked::{Asked, Choice, Layout, Mode, Size};

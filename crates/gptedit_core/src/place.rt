@@ -127,7 +127,7 @@ fn last_end(align: u64, far: u64) -> Option<u64>
 }
 
 // The runs of free sectors, each as its first sector and its length.
-fn find_runs(table: &GPT) -> Result<Vec<(u64, u64)>>
+pub(crate) fn find_runs(table: &GPT) -> Result<Vec<(u64, u64)>>
     ensures refused { IfErr result (λ e. fault_of e ≡ out_of_memory) }
     ensures value { IfOk result (λ v. AreSlots (IsFreeIn table.now) 1 v.items) }
     ensures fits { IfOk result (λ v. All (λ s. s.0 + s.1 ≤ 2 ^ 64) v.items) }
@@ -204,7 +204,7 @@ fn find_longest_run(table: &GPT) -> Result<Option<(u64, u64)>>
 }
 
 // How many sectors stand from this one on before the next multiple of the alignment.
-fn skip(align: u64, sector: u64) -> u64
+pub(crate) fn skip(align: u64, sector: u64) -> u64
     requires { 0 < align }
     ensures { IsFirstMultiple align sector (sector + result) }
 {

@@ -1,6 +1,7 @@
 use Rattle.std.proofs.Common.{◌≡◌, drop}
 use Rattle.gptman.specs.declared.table.GPT.{GPT}
 use Rattle.gptedit_core.specs.Laying.{ArePut, RefusesPutting}
+use Rattle.gptedit_core.specs.Slots.{AreKept}
 use Rattle.gptedit_core.specs.declared.refusal.Refusal.{Refusal}
 use Rattle.gptedit_core.proofs.laying.put_all.Given as goal
 
@@ -9,3 +10,4 @@ invariant-loop-partition l =
     ((final : GPT) → ArePut (drop l.partition-index l.partitions) l.table final → ArePut l.partitions l.fn.table final)
     × ((r : Refusal) → RefusesPutting (drop l.partition-index l.partitions) l.table r → RefusesPutting l.partitions l.fn.table r)
     × (l.table.align ≡ l.fn.table.align)
+    × AreKept l.slots l.table

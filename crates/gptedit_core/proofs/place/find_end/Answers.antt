@@ -1,4 +1,4 @@
-use Rattle.std.proofs.Common.{◌≡◌, rules, arith, max}
+use Rattle.std.proofs.Common.{◌≡◌, rules, max}
 use Rattle.gptman.specs.Place.{IsFreeIn}
 use Rattle.gptedit_core.proofs.Ends.{end_at, no_end}
 use Rattle.gptedit_core.proofs.place.find_end.Goals as goal

@@ -1,4 +1,4 @@
-use Rattle.std.proofs.Common.{◌≡◌, ◌+◌, ◌-◌, ◌%◌, arith, rules}
+use Rattle.std.proofs.Common.{◌+◌, ◌-◌, ◌%◌, arith}
 use Rattle.gptedit_core.proofs.Ends.{last_before}
 use Rattle.gptedit_core.proofs.place.last_end.Goals as goal
 

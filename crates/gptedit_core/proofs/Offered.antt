@@ -1,0 +1,190 @@
+-- What is chosen of the slots of a table that are kept, and what is left of them once an entry is put.
+use Prim.Native.Nat.{◌∣◌}
+use Rattle.std.proofs.Common.{◌≡◌, ◌≢◌, ℕ, ◌+◌, ◌-◌, ◌^◌, ◌<◌, ◌≤◌, max, List, length, get_or, take, inl, inr, Option, Some, None, refl, sym, ap, ◌∙◌, subst, arith, not, IsTrue}
+use Rattle.std.specs.Prelude.{IfSome, IsSomeAnd}
+use Rattle.std.specs.List.{All, AllPairs, flat_map}
+use Rattle.std.proofs.lemmas.Bool.{cases_eq, cases_lt, false≢true}
+use Rattle.std.proofs.lemmas.List.{get_or-set_other, get_or-set_same, get_or_default, length-set}
+use Rattle.std.proofs.lemmas.List.Elements.{All-contains, All-set, All-weaker}
+use Rattle.gptman.specs.Chosen.{AreShort, IsBestSlot, IsTighter}
+use Rattle.gptman.specs.Coding.{empty_entry}
+use Rattle.gptman.specs.Entry.{covers, is_unused, is_used}
+use Rattle.gptman.specs.Number.{entry_at, with_entry, IsNumber}
+use Rattle.gptman.specs.Place.{HasNoSlot, IsAlignedSlot, IsFirstMultiple, IsFreeIn}
+use Rattle.gptman.specs.Table.{entries_in}
+use Rattle.gptman_copy.specs.declared.codec.entry.GPTPartitionEntry.{GPTPartitionEntry}
+use Rattle.gptman.specs.declared.table.GPT.{GPT}
+use Rattle.gptman.proofs.Choice.{kept_more, taken_more, SoFar}
+use Rattle.gptman.proofs.Covered.{covered_if, covers_if}
+use Rattle.gptman.proofs.FreeSectors.{free_settled}
+use Rattle.gptman.proofs.Offers.{best, first, last, none_offered, offered, IsAsked}
+use Rattle.gptedit_core.specs.Placing.{HasNoLongestPlace, HasNoneChosen, IsChosen, IsLongestPlace, IsLongestRun, IsStartInLongest}
+use Rattle.gptedit_core.specs.Slots.{rest_of, start_in, AreSlotsOf, IsLonger, IsNoWorse}
+use Rattle.gptedit_core.specs.declared.asked.Choice.{Choice}
+use Rattle.gptedit_core.specs.declared.asked.Choice.TheVariants.{First, Last, Best, Longest as InLongest}
+use Rattle.gptedit_core.proofs.Cuts.{rest_fits, slot_long, slots_apart, slots_left, IsLess}
+
+-- ---- the choice
+
+itself : (choice : Choice) (s : ℕ × ℕ) → IsNoWorse choice s s
+itself First s = omega arith
+itself Last s = omega arith
+itself Best s = inr (refl, omega arith)
+itself InLongest s = inr (refl, omega arith)
+
+tighter_than : (s t u : ℕ × ℕ) → IsTighter s t → IsTighter t u → IsTighter s u
+tighter_than s t u (inl p) (inl q) = inl (omega arith)
+tighter_than s t u (inl p) (inr q) = let e = q.0 in inl (omega arith)
+tighter_than s t u (inr p) (inl q) = let e = p.0 in inl (omega arith)
+tighter_than s t u (inr p) (inr q) = let e = p.0 in let f = q.0 in let g = p.1 in let h = q.1 in inr (omega arith, omega arith)
+
+longer_than : (s t u : ℕ × ℕ) → IsLonger s t → IsLonger t u → IsLonger s u
+longer_than s t u (inl p) (inl q) = inl (omega arith)
+longer_than s t u (inl p) (inr q) = let e = q.0 in inl (omega arith)
+longer_than s t u (inr p) (inl q) = let e = p.0 in inl (omega arith)
+longer_than s t u (inr p) (inr q) = let e = p.0 in let f = q.0 in let g = p.1 in let h = q.1 in inr (omega arith, omega arith)
+
+no_worse_than : (choice : Choice) (s t u : ℕ × ℕ) → IsNoWorse choice s t → IsNoWorse choice t u → IsNoWorse choice s u
+no_worse_than First s t u p q = omega arith
+no_worse_than Last s t u p q = omega arith
+no_worse_than Best s t u p q = tighter_than s t u p q
+no_worse_than InLongest s t u p q = longer_than s t u p q
+
+-- the slot at i is taken
+pub pick_taken : (choice : Choice) (n : ℕ) (slots : List (ℕ × ℕ)) (i : ℕ) (found : Option (ℕ × ℕ)) → i < length slots
+    → SoFar (IsNoWorse choice) n (take i slots) found → n ≤ (get_or slots i (0, 0)).1 → IfSome found (IsNoWorse choice (get_or slots i (0, 0)))
+    → SoFar (IsNoWorse choice) n (take (i + 1) slots) (Some (get_or slots i (0, 0)))
+pick_taken choice n slots i None h short fits better =
+    taken_more (IsNoWorse choice) n slots i h fits (itself choice (get_or slots i (0, 0)))
+    (All-weaker (λ t. t.1 < n) (λ t. n ≤ t.1 → IsNoWorse choice (get_or slots i (0, 0)) t) (λ t less long. absurd (omega arith)) (take i slots) short)
+pick_taken choice n slots i (Some b) h c fits better =
+    taken_more (IsNoWorse choice) n slots i h fits (itself choice (get_or slots i (0, 0)))
+    (All-weaker (λ t. n ≤ t.1 → IsNoWorse choice b t) (λ t. n ≤ t.1 → IsNoWorse choice (get_or slots i (0, 0)) t)
+    (λ t than long. no_worse_than choice (get_or slots i (0, 0)) b t better (than long)) (take i slots) c.best)
+
+-- the slot at i is passed over
+pub pick_kept : (choice : Choice) (n : ℕ) (slots : List (ℕ × ℕ)) (i : ℕ) (found : Option (ℕ × ℕ)) → i < length slots
+    → SoFar (IsNoWorse choice) n (take i slots) found
+    → (n ≤ (get_or slots i (0, 0)).1 → IsSomeAnd found (λ s. IsNoWorse choice s (get_or slots i (0, 0))))
+    → SoFar (IsNoWorse choice) n (take (i + 1) slots) found
+pick_kept choice n slots i None h short no_better =
+    kept_more (IsNoWorse choice) n slots i None h short (elim (cases_lt (get_or slots i (0, 0)).1 n) [ inl less ↦ less | inr more ↦ absurd (no_better more) ])
+pick_kept choice n slots i (Some b) h c no_better = kept_more (IsNoWorse choice) n slots i (Some b) h c no_better
+
+-- ---- the place
+
+asked_of : (g : GPT) (n : ℕ) (slots : List (ℕ × ℕ)) → 0 < g.align → 0 < n → AreSlotsOf g g.align slots → IsAsked g n n slots
+asked_of g n slots positive some are = record { positive = positive; is = omega arith; found = are.are; fits = are.fit }
+
+-- The span is the one that is chosen, and its last sector is one of 64 bits.
+pub record IsOffered (g : GPT) (choice : Choice) (n start : ℕ) : Type 0 where
+  pub chosen : IsChosen choice (IsFreeIn g) g.align (max 1 n) start
+  pub fits : start + max 1 n ≤ 2 ^ 64
+
+pub place_of : (choice : Choice) (g : GPT) (n : ℕ) (slots : List (ℕ × ℕ)) (s : ℕ × ℕ) → choice ≢ InLongest → 0 < g.align → 0 < n → AreSlotsOf g g.align slots
+    → IsBestSlot (IsNoWorse choice) n slots s → IsOffered g choice n (start_in choice g.align n s)
+place_of First g n slots s _ positive some are c = let o = offered first g n n slots s (asked_of g n slots positive some are) c in record { chosen = o.value; fits = o.fits }
+place_of Last g n slots s _ positive some are c = let o = offered last g n n slots s (asked_of g n slots positive some are) c in record { chosen = o.value; fits = o.fits }
+place_of Best g n slots s _ positive some are c = let o = offered best g n n slots s (asked_of g n slots positive some are) c in record { chosen = o.value; fits = o.fits }
+place_of InLongest g n slots s other positive some are c = absurd (other refl)
+
+pub none_of : (choice : Choice) (g : GPT) (n : ℕ) (slots : List (ℕ × ℕ)) → choice ≢ InLongest → 0 < g.align → 0 < n → AreSlotsOf g g.align slots → AreShort n slots
+    → HasNoneChosen choice (IsFreeIn g) g.align (max 1 n)
+none_of First g n slots _ positive some are short = none_offered g n n slots (asked_of g n slots positive some are) short
+none_of Last g n slots _ positive some are short = none_offered g n n slots (asked_of g n slots positive some are) short
+none_of Best g n slots _ positive some are short = none_offered g n n slots (asked_of g n slots positive some are) short
+none_of InLongest g n slots other positive some are short = absurd (other refl)
+
+-- ---- a new entry
+
+unused_covers : (e : GPTPartitionEntry) (x : ℕ) → IsTrue (is_unused e) → ¬ IsTrue (covers x e)
+unused_covers e x unused covered = false≢true (sym (ap not unused) ∙ (covered_if e x covered).used)
+
+-- Where an entry that is not used is put, its sectors are not free any more.
+pub less_free : (g : GPT) (i : ℕ) (e : GPTPartitionEntry) → IsNumber g i → IsTrue (is_unused (entry_at g i)) → IsTrue (is_used e)
+    → IsLess (IsFreeIn g) (IsFreeIn (with_entry g i e)) e.starting_lba e.ending_lba
+less_free g i e number unused used =
+    let es : List GPTPartitionEntry = entries_in g in
+    let low = number.0 in
+    let high = number.1 in
+    let within : i - 1 < length es = omega arith in
+    record {
+      down = λ x free. record {
+        usable = free.usable;
+        uncovered = λ j d below. elim (cases_eq j (i - 1)) [
+          | inl here ↦
+              let at : get_or es j d ≡ entry_at g i = get_or_default es j d empty_entry (omega (arith, below, length-set es (i - 1) e)) ∙ ap (λ (k : ℕ). get_or es k empty_entry) here in
+              subst (λ (f : GPTPartitionEntry). ¬ IsTrue (covers x f)) (sym at) (unused_covers (entry_at g i) x unused)
+          | inr other ↦ subst (λ (f : GPTPartitionEntry). ¬ IsTrue (covers x f)) (get_or-set_other es (i - 1) j e d other) (free.uncovered j d (omega (arith, length-set es (i - 1) e)))
+        ];
+      };
+      out = λ x from to free.
+          subst (λ (f : GPTPartitionEntry). ¬ IsTrue (covers x f)) (get_or-set_same es (i - 1) e e within) (free.uncovered (i - 1) e (omega (arith, length-set es (i - 1) e)))
+          (covers_if e x (record { used = used; from = from; to = to }));
+      back = λ x free outside. record {
+        usable = free.usable;
+        uncovered = All-set (λ f. ¬ IsTrue (covers x f)) es (i - 1) e (λ covered.
+            let c = covered_if e x covered in
+            let from = c.from in
+            let to = c.to in
+            elim outside [ inl before ↦ omega arith | inr behind ↦ omega arith ]) free.uncovered;
+      };
+    }
+
+pub kept_after : (g : GPT) (align i : ℕ) (e : GPTPartitionEntry) (slots : List (ℕ × ℕ)) → 0 < align → IsNumber g i → IsTrue (is_unused (entry_at g i))
+    → IsTrue (is_used e) → e.starting_lba ≤ e.ending_lba → AreSlotsOf g align slots
+    → AreSlotsOf (with_entry g i e) align (flat_map (rest_of align e.starting_lba e.ending_lba) slots)
+kept_after g align i e slots positive number unused used ordered are = record {
+  are = slots_left (IsFreeIn g) (IsFreeIn (with_entry g i e)) align e.starting_lba e.ending_lba slots (less_free g i e number unused used) ordered positive
+      (free_settled g.header (entries_in g)) are.are;
+  fit = rest_fits align e.starting_lba e.ending_lba (2 ^ 64) slots positive are.fit;
+}
+
+-- each slot of a table has a sector
+pub all_long : (g : GPT) (align : ℕ) (slots : List (ℕ × ℕ)) → AreSlotsOf g align slots → All (λ s. 0 < s.1) slots
+all_long g align slots are = λ k d within. slot_long (IsFreeIn g) align (get_or slots k d).0 (get_or slots k d).1 (are.are.each k d within)
+
+-- and begins at a multiple
+pub all_multiples : (g : GPT) (align : ℕ) (slots : List (ℕ × ℕ)) → AreSlotsOf g align slots → All (λ s. align ∣ s.0) slots
+all_multiples g align slots are = λ k d within. (are.are.each k d within).start.multiple
+
+pub all_apart : (g : GPT) (align : ℕ) (slots : List (ℕ × ℕ)) → AreSlotsOf g align slots → AllPairs (λ s t. s.0 + s.1 ≤ t.0) slots
+all_apart g align slots are = slots_apart (IsFreeIn g) align slots are.are
+
+-- ---- the longest run
+
+longer_is : (s t : ℕ × ℕ) → IsLonger s t → t.1 ≤ s.1
+longer_is s t (inl p) = omega arith
+longer_is s t (inr p) = let e = p.0 in omega arith
+
+longer_left : (s t : ℕ × ℕ) → IsLonger s t → s.1 ≡ t.1 → s.0 ≤ t.0
+longer_left s t (inl p) same = absurd (omega arith)
+longer_left s t (inr p) same = p.1
+
+pub longest_of : (g : GPT) (runs : List (ℕ × ℕ)) (s : ℕ × ℕ) → AreSlotsOf g 1 runs → IsBestSlot (IsNoWorse InLongest) 1 runs s → IsLongestRun (IsFreeIn g) s.0 s.1
+longest_of g runs s are best = record {
+  run = All-contains (λ s. IsAlignedSlot (IsFreeIn g) 1 s.0 s.1) runs s are.are.each best.member;
+  longest = λ t k slot. longer_is s (t, k) (All-contains (λ t. 1 ≤ t.1 → IsLonger s t) runs (t, k) best.best (are.are.every t k slot) (slot_long (IsFreeIn g) 1 t k slot));
+  leftmost = λ t slot. longer_left s (t, s.1) (All-contains (λ t. 1 ≤ t.1 → IsLonger s t) runs (t, s.1) best.best (are.are.every t s.1 slot) best.fits) refl;
+}
+
+pub no_longest_of : (g : GPT) (runs : List (ℕ × ℕ)) → AreSlotsOf g 1 runs → AreShort 1 runs → HasNoSlot (IsFreeIn g) 1
+no_longest_of g runs are short s n slot =
+    let some = slot_long (IsFreeIn g) 1 s n slot in
+    let none = All-contains (λ s. s.1 < 1) runs (s, n) short (are.are.every s n slot) in
+    omega arith
+
+-- so many sectors from its first multiple of the alignment on
+pub in_longest : (g : GPT) (n start long skipped : ℕ) → IsLongestRun (IsFreeIn g) start long → IsFirstMultiple g.align start (start + skipped)
+    → start + skipped + max 1 n ≤ start + long → IsLongestPlace (IsFreeIn g) g.align (max 1 n) (start + skipped)
+in_longest g n start long skipped longest first within = (
+  start + long,
+  record { start = start; long = long; longest = longest; first = first; is = refl },
+  within,
+)
+
+pub not_in_longest : (g : GPT) (n start long skipped : ℕ) → IsLongestRun (IsFreeIn g) start long → IsFirstMultiple g.align start (start + skipped)
+    → start + long < start + skipped + max 1 n → HasNoLongestPlace (IsFreeIn g) g.align (max 1 n)
+not_in_longest g n start long skipped longest first short =
+    let at : IsStartInLongest (IsFreeIn g) g.align (start + skipped) (start + long) = record { start = start; long = long; longest = longest; first = first; is = refl } in
+    inr (start + skipped, start + long, at, short)

@@ -1,0 +1,7 @@
+use Rattle.std.proofs.Common.{take}
+use Rattle.gptman.proofs.Choice.{SoFar}
+use Rattle.gptedit_core.specs.Slots.{IsNoWorse}
+use Rattle.gptedit_core.proofs.slots.pick.Given as goal
+
+abbrev pub invariant-loop-slot : goal.invariant-loop-slot
+invariant-loop-slot l = SoFar (IsNoWorse l.choice) l.size (take l.slot-index l.slots) l.found
