@@ -1,1 +1,3 @@
+pub mod Layouts
+pub mod Scripts
 pub mod Words

@@ -1,5 +1,7 @@
 -- What words say.
-use Rattle.std.specs.Prelude.{◌≡◌, ◌<◌, ◌⊎◌, ℕ, ◌*◌, ◌^◌, List, [], ◌∷◌, ◌++◌, Contains, Option, None, Some, Result, Ok, Err, codes, if◌then◌else◌}
+use Rattle.std.specs.Prelude.{◌≡◌, ◌≢◌, ◌==◌, ◌<◌, ◌≤◌, ◌⊎◌, ℕ, ◌*◌, ◌^◌, List, [], ◌∷◌, ◌++◌, All, Contains, Option, None, Some, Result, Ok, Err, codes, if◌then◌else◌}
+use Rattle.std.specs.Int.{bit_at}
+use Rattle.std.specs.List.{Any, slice_split}
 use Rattle.std.specs.Str.{bytes_eq}
 use Rattle.std.specs.Option.{ok_or}
 use Rattle.std.specs.Str.Parse.{digits_value, IsNumeral}
@@ -46,10 +48,20 @@ abbrev pub SaysAmount : List ℕ → Amount → Type 0
 SaysAmount text (Sectors n) = (number : List ℕ) × (text ≡ number ++ codes "s") × IsNumeral 10 number × (digits_value 10 number ≡ n)
 SaysAmount text (Bytes n) = (number : List ℕ) × (unit : ℕ) × HasUnit text number unit × IsNumeral 10 number × (digits_value 10 number * unit ≡ n)
 
+-- the amount is below 2^64
+abbrev pub FitsAmount : Amount → Type 0
+FitsAmount (Sectors n) = n < 2 ^ 64
+FitsAmount (Bytes n) = n < 2 ^ 64
+
 -- the text is that of an amount, or `rest`
 abbrev pub SaysSize : List ℕ → Size → Type 0
 SaysSize text (Exactly amount) = SaysAmount text amount
 SaysSize text Rest = text ≡ codes "rest"
+
+-- the size is the rest, or below 2^64
+abbrev pub FitsSize : Size → Type 0
+FitsSize (Exactly amount) = FitsAmount amount
+FitsSize Rest = Unit {0}
 
 -- the attributes that have a name, and their bits
 abbrev pub attribute_names : List (List ℕ × ℕ)
@@ -57,7 +69,41 @@ attribute_names =
     (codes "required", 0) ∷ (codes "no-block-io", 1) ∷ (codes "legacy-boot", 2) ∷
     (codes "grow-file-system", 59) ∷ (codes "read-only", 60) ∷ (codes "no-auto", 63) ∷ []
 
--- the word is the name of a bit, or its number, and these are the attributes with that bit alone
+-- the word is the name of a bit, or its number
+abbrev pub SaysBit : List ℕ → ℕ → Type 0
+SaysBit word bit = (bit < 64) × (Contains attribute_names (word, bit) ⊎ (IsNumeral 10 word × (digits_value 10 word ≡ bit)))
+
+-- the word is that of an attribute
+abbrev pub IsAttribute : List ℕ → Type 0
+IsAttribute word = (bit : ℕ) × SaysBit word bit
+
+-- the attributes are those with the bit of the word, and no other
 abbrev pub SaysAttribute : List ℕ → ℕ → Type 0
-SaysAttribute word attributes = (bit : ℕ) × (bit < 64) × (attributes ≡ 2 ^ bit) ×
-    (Contains attribute_names (word, bit) ⊎ (IsNumeral 10 word × (digits_value 10 word ≡ bit)))
+SaysAttribute word attributes = (bit : ℕ) × SaysBit word bit × (attributes ≡ 2 ^ bit)
+
+-- each of the list says a bit that is there, and each bit that is there is one that some of the list says
+pub record HasBitsOf {A : Type 0} (says : A → ℕ → Type 0) (list : List A) (attributes : ℕ) : Type 0 where
+  pub there : All (λ one. (bit : ℕ) × says one bit × (bit_at attributes bit ≡ 1)) list
+  pub only : (bit : ℕ) → bit_at attributes bit ≡ 1 → Any (λ one. says one bit) list
+
+-- the words of a list, with commas between them
+abbrev pub words_of : List ℕ → List (List ℕ)
+words_of text = slice_split (λ byte. byte == 44) text
+
+-- the attributes are those of all words of the list
+abbrev pub SaysEach : List ℕ → ℕ → Type 0
+SaysEach text attributes = HasBitsOf SaysBit (words_of text) attributes
+
+-- the attributes are all 64 bits, as hexadecimal digits
+abbrev pub SaysAllBits : List ℕ → ℕ → Type 0
+SaysAllBits text attributes = (digits : List ℕ) × (text ≡ codes "0x" ++ digits) × IsNumeral 16 digits × (digits_value 16 digits ≡ attributes)
+
+-- the text is that of these attributes: empty for none, all bits, or a list
+abbrev pub SaysAttributes : List ℕ → ℕ → Type 0
+SaysAttributes text attributes = ((text ≡ []) × (attributes ≡ 0)) ⊎ (SaysAllBits text attributes ⊎ SaysEach text attributes)
+
+-- the text is not that of attributes: some word of it is none, and it is not all bits below 2^64
+pub record SaysNoAttributes (text : List ℕ) : Type 0 where
+  pub words : ¬ (All IsAttribute (words_of text))
+  pub some : text ≢ []
+  pub bits : (attributes : ℕ) → SaysAllBits text attributes → 2 ^ 64 ≤ attributes

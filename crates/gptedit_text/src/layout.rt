@@ -1,5 +1,10 @@
 //! Layouts in TOML.
 
+ghost use Rattle.std.specs.Prelude.{◌≡◌, codes, IfOk, Some};
+ghost use Rattle.toml.specs.Data.{get_member};
+ghost use Rattle.toml.specs.View.{table_view};
+ghost use Rattle.gptedit_text.specs.Layouts.{GivesAttributesOf};
+
 mod keyed;
 
 use crate::Parsed;
@@ -177,7 +182,10 @@ fn read_number(value: &Value) -> Option<u32> {
 }
 
 // What is asked of the entry of this number.
-fn read_entry(alloc: Global, partition: &Keyed<'_>, number: u32) -> Result<Asked, LayoutError> {
+fn read_entry(alloc: Global, partition: &Keyed<'_>, number: u32) -> Result<Asked, LayoutError>
+    ensures number { IfOk result (λ asked. asked.number ≡ Some number) }
+    ensures attributes { IfOk result (λ asked. GivesAttributesOf (get_member (codes "attributes") (table_view partition.now.table.now)) asked.attributes) }
+{
     Ok(Asked {
         type_guid: partition.word("type", read_type)?,
         unique_guid: partition.word("guid", read_guid)?,

@@ -1,5 +1,11 @@
 //! What stands under the keys of a table.
 
+ghost use Rattle.std.specs.Prelude.{◌≡◌, ◌≢◌, ◌<◌, ℕ, pos, All, IfErr, IfOk, MatchOption, map, option_map};
+ghost use Rattle.toml.specs.Data.{get_member};
+ghost use Rattle.toml.specs.View.{table_view, view};
+ghost use Rattle.gptedit_text.specs.Layouts.{GivesAttributesOf, IsAttributeOf, SaysAttributeOf, SaysBitOf};
+ghost use Rattle.gptedit_text.specs.Words.{HasBitsOf};
+
 use crate::error::{Fault, LayoutError, Place, Section};
 use crate::values::{Wrong, read_attribute};
 use std::alloc::Global;
@@ -50,7 +56,9 @@ impl<'a> Keyed<'a> {
     }
 
     /// What stands under this key.
-    pub fn get(&self, key: &'static str) -> Option<&'a Value> {
+    pub fn get(&self, key: &'static str) -> Option<&'a Value>
+        ensures { option_map (λ value. view value.now) result ≡ get_member key.now (table_view self.now.table.now) }
+    {
         self.table.get(key)
     }
 
@@ -99,28 +107,59 @@ impl<'a> Keyed<'a> {
     }
 
     /// The attributes that the list under this key says, by names and numbers of bits.
-    pub fn attributes(&self, key: &'static str) -> Result<Option<u64>, LayoutError> {
+    pub fn attributes(&self, key: &'static str) -> Result<Option<u64>, LayoutError>
+        ensures { IfOk result (GivesAttributesOf (get_member key.now (table_view self.now.table.now))) }
+    {
         let Some(value) = self.get(key) else {
             return Ok(None);
         };
         let Some(list) = value.as_array() else {
             return Err(self.fault(key, Fault::NotAttributes));
         };
-        let mut bits = 0;
-        for value in list.iter() {
-            bits |= self.attribute(key, value)?;
+        match self.attributes_of(key, list) {
+            Ok(attributes) => Ok(Some(attributes)),
+            Err(error) => Err(error),
         }
-        Ok(Some(bits))
+    }
+
+    // The attributes of all values of a list.
+    fn attributes_of(&self, key: &'static str, list: &[Value]) -> Result<u64, LayoutError>
+        ensures said { IfOk result (HasBitsOf SaysBitOf (map view list.now)) }
+        ensures refused { IfErr result (λ error. ¬ (All IsAttributeOf (map view list.now))) }
+    {
+        let mut bits = 0;
+        for value in list {
+            let more = self.attribute(key, value)?;
+            bits |= more;
+        }
+        Ok(bits)
     }
 
     // One attribute.
-    fn attribute(&self, key: &'static str, value: &Value) -> Result<u64, LayoutError> {
-        let bit = match value {
-            Value::String(word) => read_attribute(word.as_str()),
-            Value::Integer(bit) if *bit >= 0 && *bit < 64 => Ok(1 << *bit),
-            Value::Integer(_) => Err(Wrong::NoAttribute),
-            _ => return Err(self.fault(key, Fault::NotAttributes)),
-        };
-        bit.map_err(|wrong| self.fault(key, Fault::Value(wrong)))
+    fn attribute(&self, key: &'static str, value: &Value) -> Result<u64, LayoutError>
+        ensures said { IfOk result (SaysAttributeOf (view value.now)) }
+        ensures refused { IfErr result (λ error. ¬ (IsAttributeOf (view value.now))) }
+    {
+        match value {
+            Value::String(word) => match read_attribute(word.as_str()) {
+                Ok(attribute) => Ok(attribute),
+                Err(wrong) => Err(self.fault(key, Fault::Value(wrong))),
+            },
+            Value::Integer(number) => match bit_of(*number) {
+                Some(bit) => Ok(1 << bit),
+                None => Err(self.fault(key, Fault::Value(Wrong::NoAttribute))),
+            },
+            _ => Err(self.fault(key, Fault::NotAttributes)),
+        }
+    }
+}
+
+// The bit of an attribute of this number.
+fn bit_of(number: i64) -> Option<u64>
+    ensures { MatchOption result ((bit : ℕ) → bit < 64 → number ≢ pos bit) (λ bit. (bit < 64) × (number ≡ pos bit)) }
+{
+    match u64::try_from(number) {
+        Ok(bit) if bit < 64 => Some(bit),
+        _ => None,
     }
 }

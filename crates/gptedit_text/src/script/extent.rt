@@ -1,45 +1,95 @@
 //! Starts and sizes in a script.
 
-ghost use Rattle.std.specs.Prelude.{◌≤◌};
+ghost use Rattle.std.specs.Prelude.{◌≡◌, ◌≢◌, ◌<◌, ◌≤◌, ◌⊎◌, ◌^◌, ◌++◌, ℕ, List, [], length, IfSome, MatchOption, None};
+ghost use Rattle.std.specs.Str.Parse.{digits_value, IsNumeral};
+ghost use Rattle.gptedit_text.specs.Scripts.{HasScriptUnit, SaysExtent, SaysNoScriptNumber, SaysScriptNumber};
 
 use gptedit_core::Amount;
 
-// The first letter of a unit of bytes, and the unit.
-const UNITS: [(char, u64); 6] = [
-    ('K', 1 << 10),
-    ('M', 1 << 20),
-    ('G', 1 << 30),
-    ('T', 1 << 40),
-    ('P', 1 << 50),
-    ('E', 1 << 60),
+// The units of bytes.
+const UNITS: [(&str, u64); 12] = [
+    ("K", 1 << 10),
+    ("KiB", 1 << 10),
+    ("M", 1 << 20),
+    ("MiB", 1 << 20),
+    ("G", 1 << 30),
+    ("GiB", 1 << 30),
+    ("T", 1 << 40),
+    ("TiB", 1 << 40),
+    ("P", 1 << 50),
+    ("PiB", 1 << 50),
+    ("E", 1 << 60),
+    ("EiB", 1 << 60),
 ];
 
-/// The sectors of a number, or the bytes of one with a unit, as `64MiB` or `64M`.
-pub fn read_extent(text: &str) -> Option<Amount> {
-    let short = text.strip_suffix("iB").unwrap_or(text);
-    for (letter, unit) in UNITS {
-        if let Some(number) = short.strip_suffix(letter) {
-            return read_number(number)?.checked_mul(unit).map(Amount::Bytes);
+/// The sectors of a number, or the bytes of one with a unit, as `64MiB` or `64M`. A last `E` is a digit where
+/// the text is hexadecimal with it.
+pub fn read_extent(text: &str) -> Option<Amount>
+    ensures { IfSome result (SaysExtent text.now) }
+{
+    match read_number(text) {
+        Some(sectors) => Some(Amount::Sectors(sectors)),
+        None => match split_unit(text) {
+            Some((number, unit)) => match read_number(number)?.checked_mul(unit) {
+                Some(bytes) => Some(Amount::Bytes(bytes)),
+                None => None,
+            },
+            None => None,
+        },
+    }
+}
+
+// The number before a unit of bytes, and the bytes of that unit.
+fn split_unit(text: &str) -> Option<(&str, u64)>
+    ensures { IfSome result (λ parts. HasScriptUnit text.now parts.0.now parts.1) }
+{
+    for (name, bytes) in UNITS {
+        if let Some(number) = text.strip_suffix(name) {
+            return Some((number, bytes));
         }
     }
-    read_number(text).map(Amount::Sectors)
+    None
 }
 
 /// A whole number: hexadecimal behind `0x`, octal behind another `0`, else decimal.
-pub fn read_number(text: &str) -> Option<u64> {
-    if let Some(digits) = text.strip_prefix("0x") {
-        return read_digits(digits, 16);
+pub fn read_number(text: &str) -> Option<u64>
+    ensures said { IfSome result (SaysScriptNumber text.now) }
+    ensures refused { result ≡ None → SaysNoScriptNumber text.now }
+{
+    match behind(text, "0x") {
+        Some(digits) => read_digits(digits, 16),
+        None => match behind(text, "0") {
+            Some(digits) => read_octal(digits),
+            None => read_digits(text, 10),
+        },
     }
-    match text.strip_prefix('0') {
-        Some(digits) if !digits.is_empty() => read_digits(digits, 8),
-        _ => read_digits(text, 10),
+}
+
+// The number of octal digits behind a 0, which alone is the number 0.
+fn read_octal(digits: &str) -> Option<u64>
+    ensures { MatchOption result ((0 < length digits.now) × ¬ (IsNumeral 8 digits.now × (digits_value 8 digits.now < 2 ^ 64)))
+        (λ number. ((digits.now ≡ []) × (number ≡ 0)) ⊎ (IsNumeral 8 digits.now × (digits_value 8 digits.now ≡ number))) }
+{
+    if digits.is_empty() {
+        Some(0)
+    } else {
+        read_digits(digits, 8)
     }
+}
+
+// What stands behind this text at the front.
+fn behind<'a>(text: &'a str, front: &str) -> Option<&'a str>
+    ensures { MatchOption result ((rest : List ℕ) → text.now ≢ front.now ++ rest) (λ rest. text.now ≡ front.now ++ rest.now) }
+{
+    text.strip_prefix(front)
 }
 
 // The number that the digits write.
 fn read_digits(digits: &str, radix: u32) -> Option<u64>
     requires from { 2 ≤ radix }
     requires to { radix ≤ 36 }
+    ensures { MatchOption result (¬ (IsNumeral radix digits.now × (digits_value radix digits.now < 2 ^ 64)))
+        (λ number. IsNumeral radix digits.now × (digits_value radix digits.now ≡ number)) }
 {
     if digits.starts_with('+') {
         return None;

@@ -1,8 +1,9 @@
 //! Amounts of sectors and bytes, with their units.
 
-ghost use Rattle.std.specs.Prelude.{◌≡◌, ◌^◌, ◌<◌, ◌++◌, ℕ, List, Ok, IfOk, IfSome, codes};
-ghost use Rattle.gptedit_core.specs.declared.amount.Amount.TheVariants.{Sectors};
-ghost use Rattle.gptedit_text.specs.Words.{HasUnit, SaysAmount, SaysSize};
+ghost use Rattle.std.specs.Prelude.{◌≡◌, ◌≢◌, ◌↔◌, ◌^◌, ◌*◌, ◌<◌, ◌++◌, ℕ, List, Ok, None, EachIndex, IfOk, IfSome, IsTrue, MatchOption, slice_index};
+ghost use Rattle.gptedit_core.specs.declared.amount.Amount.TheVariants.{Bytes, Sectors};
+ghost use Rattle.gptedit_text.specs.Words.{FitsAmount, FitsSize, HasUnit, SaysAmount, SaysSize};
+ghost use Rattle.std.specs.Int.{IsInRange};
 ghost use Rattle.std.specs.Result.{OkIff};
 ghost use Rattle.std.specs.Str.Parse.{digits_value, IsNumeral};
 
@@ -24,39 +25,93 @@ const UNITS: [(&str, u64); 5] = [
 /// `64MiB`, `1GiB`, `2TiB` of bytes.
 pub fn read_amount(text: &str) -> Result<Amount, Wrong>
     ensures said { IfOk result (SaysAmount text.now) }
-    ensures sectors { (number : List ℕ) → text.now ≡ number ++ codes "s" → IsNumeral 10 number
-        → digits_value 10 number < 2 ^ 64 → result ≡ Ok (Sectors (digits_value 10 number)) }
+    ensures read { (amount : Amount) → SaysAmount text.now amount → FitsAmount amount → result ≡ Ok amount }
 {
-    if let Some(number) = text.strip_suffix("s") {
-        return Ok(Amount::Sectors(read_number(number)?));
+    match number_before(text, "s") {
+        Some(number) => read_sectors(number),
+        None => match split_unit(text) {
+            Some((number, unit)) => read_bytes(number, unit),
+            None => Err(wrong_amount(text)),
+        },
     }
-    let Some((number, unit)) = split_unit(text) else {
-        read_number(text)?;
-        return Err(Wrong::NoUnit);
-    };
-    match read_number(number)?.checked_mul(unit) {
-        Some(bytes) => Ok(Amount::Bytes(bytes)),
-        None => Err(Wrong::TooLarge),
+}
+
+// What is wrong with a text that has no unit behind its digits.
+fn wrong_amount(text: &str) -> Wrong {
+    match read_number(text) {
+        Ok(_) => Wrong::NoUnit,
+        Err(wrong) => wrong,
+    }
+}
+
+// The sectors of a number.
+fn read_sectors(number: &str) -> Result<Amount, Wrong>
+    requires { IsNumeral 10 number.now }
+    ensures { OkIff result (digits_value 10 number.now < 2 ^ 64) (Sectors (digits_value 10 number.now)) }
+{
+    match read_number(number) {
+        Ok(sectors) => Ok(Amount::Sectors(sectors)),
+        Err(wrong) => Err(wrong),
+    }
+}
+
+// The bytes of a number of this unit.
+fn read_bytes(number: &str, unit: u64) -> Result<Amount, Wrong>
+    requires number { IsNumeral 10 number.now }
+    requires unit { 0 < unit }
+    ensures { OkIff result (digits_value 10 number.now * unit < 2 ^ 64) (Bytes (digits_value 10 number.now * unit)) }
+{
+    match read_number(number) {
+        Ok(count) => match count.checked_mul(unit) {
+            Some(bytes) => Ok(Amount::Bytes(bytes)),
+            None => Err(Wrong::TooLarge),
+        },
+        Err(wrong) => Err(wrong),
     }
 }
 
 // The number before a unit of bytes, and the bytes of that unit.
 fn split_unit(text: &str) -> Option<(&str, u64)>
-    ensures { IfSome result (λ parts. HasUnit text.now parts.0.now parts.1) }
+    ensures found { IfSome result (λ parts. IsNumeral 10 parts.0.now × HasUnit text.now parts.0.now parts.1) }
+    ensures some { IfSome result (λ parts. 0 < parts.1) }
+    ensures unknown { result ≡ None → (number : List ℕ) (unit : ℕ) → IsNumeral 10 number → ¬ (HasUnit text.now number unit) }
 {
     for (name, bytes) in UNITS {
-        if let Some(number) = text.strip_suffix(name) {
-            return Some((number, bytes));
+        match number_before(text, name) {
+            Some(number) => return Some((number, bytes)),
+            None => (),
         }
     }
     None
 }
 
+// The digits before a unit, where there is nothing else.
+fn number_before<'a>(text: &'a str, unit: &str) -> Option<&'a str>
+    ensures { MatchOption result ((number : List ℕ) → IsNumeral 10 number → text.now ≢ number ++ unit.now)
+        (λ number. IsNumeral 10 number.now × (text.now ≡ number.now ++ unit.now)) }
+{
+    let number = text.strip_suffix(unit)?;
+    if is_whole(number) { Some(number) } else { None }
+}
+
+// Reports whether the text is a whole number: digits, and nothing else.
+fn is_whole(text: &str) -> bool
+    ensures { IsTrue result ↔ IsNumeral 10 text.now }
+{
+    !text.is_empty() && are_digits(text.as_bytes())
+}
+
+// Reports whether each byte is a digit.
+fn are_digits(bytes: &[u8]) -> bool
+    ensures { IsTrue result ↔ EachIndex bytes.now (λ k. IsInRange 48 57 (slice_index bytes.now k)) }
+{
+    bytes.iter().all(|byte| byte.is_ascii_digit())
+}
+
 /// The sector that a word says: a number with `s`, as `34s`.
 pub fn read_sector(text: &str) -> Result<u64, Wrong>
     ensures said { IfOk result (λ sector. SaysAmount text.now (Sectors sector)) }
-    ensures read { (number : List ℕ) → text.now ≡ number ++ codes "s" → IsNumeral 10 number
-        → digits_value 10 number < 2 ^ 64 → result ≡ Ok (digits_value 10 number) }
+    ensures read { (sector : ℕ) → SaysAmount text.now (Sectors sector) → sector < 2 ^ 64 → result ≡ Ok sector }
 {
     let Some(number) = text.strip_suffix("s") else {
         return Err(Wrong::NoSector);
@@ -69,7 +124,8 @@ pub fn read_sector(text: &str) -> Result<u64, Wrong>
 
 /// The size that a word says: an amount, or `rest`.
 pub fn read_size(text: &str) -> Result<Size, Wrong>
-    ensures { IfOk result (SaysSize text.now) }
+    ensures said { IfOk result (SaysSize text.now) }
+    ensures read { (size : Size) → SaysSize text.now size → FitsSize size → result ≡ Ok size }
 {
     if text == "rest" {
         return Ok(Size::Rest);

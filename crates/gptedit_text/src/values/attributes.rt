@@ -1,8 +1,10 @@
 //! Attributes of partitions, as names and as numbers of bits.
 
-ghost use Rattle.std.specs.Prelude.{◌≡◌, ◌<◌, Contains, IfOk, IfSome};
+ghost use Rattle.std.specs.Prelude.{◌≡◌, ◌<◌, ◌^◌, ℕ, All, Contains, IfErr, IfOk, IfSome};
+ghost use Rattle.std.specs.Result.{OkIff};
 ghost use Rattle.std.specs.Str.Parse.{digits_value, IsNumeral};
-ghost use Rattle.gptedit_text.specs.Words.{attribute_names, SaysAttribute};
+ghost use Rattle.gptedit_text.specs.Words.{attribute_names, IsAttribute, SaysAttribute, SaysAttributes};
+ghost use Rattle.gptedit_text.specs.Words.{SaysEach, SaysNoAttributes, words_of};
 
 use crate::values::wrong::Wrong;
 use std::fmt;
@@ -20,7 +22,10 @@ const NAMES: [(&str, u64); 6] = [
 /// The attributes that a word says: nothing; or with commas between them, `required` (bit 0),
 /// `no-block-io` (1), `legacy-boot` (2), `grow-file-system` (59), `read-only` (60), `no-auto` (63) and
 /// numbers of bits, from 0 to 63; or all bits as `0x` and hexadecimal digits.
-pub fn read_attributes(text: &str) -> Result<u64, Wrong> {
+pub fn read_attributes(text: &str) -> Result<u64, Wrong>
+    ensures said { IfOk result (SaysAttributes text.now) }
+    ensures refused { IfErr result (λ wrong. SaysNoAttributes text.now) }
+{
     if text.is_empty() {
         return Ok(0);
     }
@@ -31,17 +36,21 @@ pub fn read_attributes(text: &str) -> Result<u64, Wrong> {
 }
 
 // The attributes of all the words with commas between them.
-fn read_list(text: &str) -> Result<u64, Wrong> {
+fn read_list(text: &str) -> Result<u64, Wrong>
+    ensures said { IfOk result (SaysEach text.now) }
+    ensures refused { IfErr result (λ wrong. ¬ (All IsAttribute (words_of text.now))) }
+{
     let mut bits = 0;
     for word in text.split(',') {
-        bits |= read_attribute(word)?;
+        let more = read_attribute(word)?;
+        bits |= more;
     }
     Ok(bits)
 }
 
 // All bits, as hexadecimal digits.
 fn read_digits(digits: &str) -> Result<u64, Wrong>
-    ensures { IfOk result (λ bits. IsNumeral 16 digits.now × (digits_value 16 digits.now ≡ bits)) }
+    ensures { OkIff result (IsNumeral 16 digits.now × (digits_value 16 digits.now < 2 ^ 64)) (digits_value 16 digits.now) }
 {
     if digits.starts_with('+') {
         return Err(Wrong::NoAttribute);
@@ -51,18 +60,22 @@ fn read_digits(digits: &str) -> Result<u64, Wrong>
 
 /// The one attribute that a word says, by its name or the number of its bit.
 pub fn read_attribute(word: &str) -> Result<u64, Wrong>
-    ensures { IfOk result (SaysAttribute word.now) }
+    ensures said { IfOk result (SaysAttribute word.now) }
+    ensures refused { IfErr result (λ wrong. ¬ (IsAttribute word.now)) }
 {
-    let bit = match find_bit(word) {
-        Some(bit) => bit,
-        None => read_bit(word)?,
-    };
-    Ok(1 << bit)
+    match find_bit(word) {
+        Some(bit) => Ok(1 << bit),
+        None => match read_bit(word) {
+            Ok(bit) => Ok(1 << bit),
+            Err(wrong) => Err(wrong),
+        },
+    }
 }
 
 // The bit of a name.
 fn find_bit(word: &str) -> Option<u64>
-    ensures { IfSome result (λ bit. (bit < 64) × Contains attribute_names (word.now, bit)) }
+    ensures found { IfSome result (λ bit. (bit < 64) × Contains attribute_names (word.now, bit)) }
+    ensures unknown { result ≡ None → (bit : ℕ) → ¬ (Contains attribute_names (word.now, bit)) }
 {
     for (name, bit) in NAMES {
         if word == name {
@@ -74,7 +87,7 @@ fn find_bit(word: &str) -> Option<u64>
 
 // A bit by its number.
 fn read_bit(word: &str) -> Result<u64, Wrong>
-    ensures { IfOk result (λ bit. (bit < 64) × IsNumeral 10 word.now × (digits_value 10 word.now ≡ bit)) }
+    ensures { OkIff result (IsNumeral 10 word.now × (digits_value 10 word.now < 64)) (digits_value 10 word.now) }
 {
     if word.starts_with('+') {
         return Err(Wrong::NoAttribute);

@@ -1,0 +1,4 @@
+mod Amounts
+mod BitLists
+mod Lists
+mod Tables
