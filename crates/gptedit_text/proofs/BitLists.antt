@@ -7,13 +7,12 @@ use Rattle.std.proofs.lemmas.Bool.{cases_eq}
 use Rattle.std.proofs.lemmas.Iterator.{YieldsList}
 use Rattle.std.proofs.lemmas.List.Elements.{All-cons, All-head, All-nil, All-tail}
 use Rattle.std.proofs.lemmas.Nat.Bits.{bit_at-lt, bit_at-pow_other, bit_at-pow_same, bit_at-zero, bit_at_or, same_from_bits}
-use Rattle.std.specs.Prelude.{Result, Ok, Err, codes, IfErr, ◌++◌, ◌≤◌}
-use Rattle.std.specs.Char.{digit_value}
+use Rattle.std.specs.Prelude.{Result, Ok, Err, codes, IfErr, ◌++◌}
 use Rattle.std.specs.List.{onto_first, slice_split}
 use Rattle.std.specs.Result.{OkIff}
 use Rattle.std.specs.Str.Parse.{digits_value, IsNumeral}
 use Rattle.std.proofs.lemmas.Bool.{cases_lt}
-use Rattle.gptedit_text.specs.Words.{attribute_names, HasBitsOf, IsAttribute, SaysAllBits, SaysBit, SaysNoAttributes, words_of}
+use Rattle.gptedit_text.specs.Words.{attribute_names, HasBitsOf, IsAttribute, SaysBit, SaysNoAttributes, words_of}
 use Rattle.gptedit_text.specs.declared.values.wrong.Wrong.{Wrong}
 use Rattle.gptedit_text.proofs.Tables.{each_of}
 

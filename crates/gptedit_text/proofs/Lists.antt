@@ -1,13 +1,12 @@
 -- Attributes, as the values of a list in TOML say them.
-use Rattle.std.proofs.Common.{◌≡◌, ◌+◌, ◌<◌, ◌≤◌, ◌^◌, ℕ, List, [], ◌∷◌, All, drop, get_or, length, map, subst, sym, ap, ◌∙◌, refl, arith}
-use Rattle.std.specs.Prelude.{Option, Some, None, Vec, bit_or, option_map}
-use Rattle.std.specs.Borrow.{Bor}
+use Rattle.std.proofs.Common.{◌≡◌, ◌+◌, ◌<◌, ◌≤◌, ℕ, List, [], ◌∷◌, All, drop, get_or, length, map, subst, sym, ap, refl}
+use Rattle.std.specs.Prelude.{Some, Vec, bit_or}
 use Rattle.std.specs.declared.alloc.Global.{Global}
 use Rattle.std.proofs.lemmas.List.{drop_all, drop_more}
-use Rattle.toml.specs.Data.{Data, Items, array, as_array, boolean, datetime, float, integer, item, no_items, string, table}
-use Rattle.toml.specs.View.{array_view, items_of, items_view, view}
+use Rattle.toml.specs.Data.{Data, Items, array, as_array, boolean, datetime, float, integer, string, table}
+use Rattle.toml.specs.View.{array_view, items_of, view}
 use Rattle.toml.specs.declared.value.Value.{Value}
-use Rattle.gptedit_text.specs.Layouts.{GivesAttributesOf, IsAttributeOf, SaysAttributeOf, SaysAttributesOf, SaysBitOf, list_of}
+use Rattle.gptedit_text.specs.Layouts.{IsAttributeOf, SaysAttributeOf, SaysAttributesOf, SaysBitOf, list_of}
 use Rattle.gptedit_text.specs.Words.{HasBitsOf}
 use Rattle.gptedit_text.proofs.BitLists.{Sofar, sofar_all, sofar_first, sofar_next, sofar_wrong}
 

@@ -1,5 +1,5 @@
 -- What values of a layout in TOML say.
-use Rattle.std.specs.Prelude.{◌≡◌, ◌<◌, ◌^◌, ℕ, ℤ, pos, List, [], ◌∷◌, Option, None, Some}
+use Rattle.std.specs.Prelude.{◌≡◌, ◌<◌, ◌^◌, ℕ, pos, List, [], ◌∷◌, Option, None, Some}
 use Rattle.toml.specs.Data.{Data, Items, array, boolean, datetime, float, integer, item, no_items, string, table}
 use Rattle.gptedit_text.specs.Words.{HasBitsOf, SaysBit}
 

@@ -1,5 +1,5 @@
 -- What words of a script of `sfdisk` say.
-use Rattle.std.specs.Prelude.{◌≡◌, ◌≢◌, ◌≤◌, ◌⊎◌, ◌*◌, ◌^◌, ℕ, List, [], ◌∷◌, ◌++◌, Contains, Option, None, Some, codes, slice_index}
+use Rattle.std.specs.Prelude.{◌≡◌, ◌≢◌, ◌≤◌, ◌⊎◌, ◌*◌, ◌^◌, ℕ, List, [], ◌∷◌, ◌++◌, Contains, codes, slice_index}
 use Rattle.std.specs.Str.Parse.{digits_value, IsNumeral}
 use Rattle.gptedit_core.specs.declared.amount.Amount.{Amount}
 use Rattle.gptedit_core.specs.declared.amount.Amount.TheVariants.{Bytes, Sectors}

@@ -1,9 +1,10 @@
 -- Numbers, read from texts one after the other.
-use Rattle.std.proofs.Common.{◌≡◌, ◌++◌, ◌∷◌, [], ℕ, List, subst}
+use Rattle.std.proofs.Common.{◌≡◌, ◌++◌, ◌∷◌, [], ℕ, List, subst, sym}
 use Rattle.std.specs.Prelude.{Some, None, Ok, Err, Result, Option}
 use Rattle.std.proofs.lemmas.List.{append_assoc, append-nil}
 use Rattle.clap.specs.Words.{StepsValues}
-use Rattle.gptedit_words.specs.Asks.{AreNumbers, SaysNumber}
+use Rattle.gptedit_words.specs.Asks.{AreNumbers, SaysNoNumber, SaysNumber}
+use Rattle.gptedit_words.specs.Refusals.{AllNumbers}
 
 -- the numbers that were read, and those of the texts that are left, are those of all texts
 abbrev pub Collects : List (List ℕ) → List ℕ → List (List ℕ) → Type 0
@@ -23,3 +24,15 @@ pub collect_last : {E : Type 0} (gives : List ℕ → Result ℕ E → Type 0) (
     → StepsValues gives before after None → Collects before done all → AreNumbers all done
 collect_last gives [] after all done step sofar = subst (λ (d : List ℕ). AreNumbers all d) (append-nil done) (sofar [] tt)
 collect_last gives (t ∷ left) after all done step sofar = absurd step
+
+-- ---- a text that is no number
+
+pub known_next : {E : Type 0} (gives : List ℕ → Result ℕ E → Type 0) (before after : List (List ℕ)) (r : Result ℕ E)
+    → StepsValues gives before after (Some r) → AllNumbers before → AllNumbers after
+known_next gives [] after r step all = absurd step
+known_next gives (t ∷ left) after r step all = subst AllNumbers (sym step.1) all.1
+
+pub known_wrong : {E : Type 0} (gives : List ℕ → Result ℕ E → Type 0) (before after : List (List ℕ)) (e : E)
+    → StepsValues gives before after (Some (Err e)) → ((t : List ℕ) → gives t (Err e) → SaysNoNumber t) → ¬ (AllNumbers before)
+known_wrong gives [] after e step says = λ all. step
+known_wrong gives (t ∷ left) after e step says = λ all. all.0 (says t step.0)

@@ -14,7 +14,7 @@ use Rattle.gptedit_core.specs.declared.asked.Mode.{Mode}
 use Rattle.gptedit_core.specs.declared.asked.Mode.TheVariants.{Add as Adding, Change as Changing}
 use Rattle.gptedit_core.specs.declared.asked.Size.{Size}
 use Rattle.gptedit_core.specs.declared.asked.Size.TheVariants.{Exactly, Rest}
-use Rattle.gptedit_text.specs.Words.{choice_said, guid_said, type_said, SaysAmount, SaysSize}
+use Rattle.gptedit_text.specs.Words.{choice_said, guid_said, type_said, FitsAmount, FitsSize, SaysAmount, SaysAttributes, SaysSize}
 use Rattle.gptedit_words.specs.declared.request.Change.{Change}
 use Rattle.gptedit_words.specs.declared.request.Change.TheVariants.{New, Lay, Sort, Grow, Repair, Randomize, Apply, Wipe}
 use Rattle.gptedit_words.specs.declared.request.Command.{Command}
@@ -38,7 +38,7 @@ abbrev pub GivesOr : {A : Type 0} → (List ℕ → A → Type 0) → A → Opti
 GivesOr says usual None value = value ≡ usual
 GivesOr says usual (Some text) value = says text value
 
--- the text is a number of 32 bits in decimal digits, and this is the number
+-- the text is a number in decimal digits, and this is the number
 abbrev pub SaysNumber : List ℕ → ℕ → Type 0
 SaysNumber text number = IsNumeral 10 (without_leading_plus text) × (digits_value 10 (without_leading_plus text) ≡ number)
 
@@ -50,14 +50,10 @@ abbrev pub HasNumberOf : Found → List ℕ → Option ℕ → Type 0
 HasNumberOf found word (Some number) = IsNumberOf found word number
 HasNumberOf found word None = ⊥
 
--- the number of an option, which may be left out
-abbrev pub ReadsNumber : List ℕ → Option ℕ → Type 0
-ReadsNumber text (Some number) = SaysNumber text number
-ReadsNumber text None = ¬ (IsNumeral 10 (without_leading_plus text) × (digits_value 10 (without_leading_plus text) < 2 ^ 32))
-
+-- the number of an option, which may be left out; a number that is given is never taken for none
 abbrev pub MayHaveNumberOf : Found → List ℕ → Option ℕ → Type 0
-MayHaveNumberOf found word number = (one_text found word ≡ None → number ≡ None)
-    × ((text : List ℕ) → one_text found word ≡ Some text → ReadsNumber text number)
+MayHaveNumberOf found word (Some number) = IsNumberOf found word number
+MayHaveNumberOf found word None = one_text found word ≡ None
 
 -- the numbers of a place, in their order
 abbrev pub AreNumbers : List (List ℕ) → List ℕ → Type 0
@@ -104,6 +100,41 @@ SaysLock text Wait = text ≡ codes "wait"
 SaysLock text Fail = text ≡ codes "fail"
 SaysLock text Unlocked = text ≡ codes "none"
 
+-- a text stands there, and it is none such
+abbrev pub IsWrong : (List ℕ → Type 0) → Option (List ℕ) → Type 0
+IsWrong none None = ⊥
+IsWrong none (Some text) = none text
+
+-- no text stands there, or one that is none such
+abbrev pub IsMissingOrWrong : (List ℕ → Type 0) → Option (List ℕ) → Type 0
+IsMissingOrWrong none None = Unit {0}
+IsMissingOrWrong none (Some text) = none text
+
+-- what texts do not say
+abbrev pub SaysNoNumber : List ℕ → Type 0
+SaysNoNumber text = ¬ (IsNumeral 10 (without_leading_plus text) × (digits_value 10 (without_leading_plus text) < 2 ^ 32))
+
+abbrev pub SaysNoAmount : List ℕ → Type 0
+SaysNoAmount text = (amount : Amount) → SaysAmount text amount → ¬ (FitsAmount amount)
+
+abbrev pub SaysNoSize : List ℕ → Type 0
+SaysNoSize text = (size : Size) → SaysSize text size → ¬ (FitsSize size)
+
+abbrev pub SaysNoNewSize : List ℕ → Type 0
+SaysNoNewSize text = (size : Size) → SaysNewSize text size → ¬ (FitsSize size)
+
+abbrev pub SaysNoType : List ℕ → Type 0
+SaysNoType text = (guid : List ℕ) → ¬ (SaysType text guid)
+
+abbrev pub SaysNoGuid : List ℕ → Type 0
+SaysNoGuid text = (guid : List ℕ) → ¬ (SaysGuid text guid)
+
+abbrev pub SaysNoChoice : List ℕ → Type 0
+SaysNoChoice text = (choice : Choice) → ¬ (SaysChoice text choice)
+
+abbrev pub SaysNoLock : List ℕ → Type 0
+SaysNoLock text = (lock : Lock) → ¬ (SaysLock text lock)
+
 -- places are chosen at multiples of 1 MiB, unless the words say otherwise
 abbrev pub usual_align : Amount
 usual_align = Bytes (2 ^ 20)
@@ -112,6 +143,7 @@ usual_align = Bytes (2 ^ 20)
 pub record AsksFields (found : Found) (asked : Asked) : Type 0 where
   pub type : Gives SaysType (first_value found (codes "--type")) asked.type_guid
   pub guid : Gives SaysGuid (first_value found (codes "--guid")) asked.unique_guid
+  pub attributes : Gives SaysAttributes (first_value found (codes "--attributes")) asked.attributes
   pub name : Gives SaysName (first_value found (codes "--name")) asked.name
 
 -- the place stays
@@ -233,6 +265,12 @@ IsCommand name found (Write change options) = IsChange name found change × Asks
 -- the sizes of a sector
 abbrev pub IsSectorSize : ℕ → Type 0
 IsSectorSize bytes = (bytes ≡ 512) ⊎ ((bytes ≡ 1024) ⊎ ((bytes ≡ 2048) ⊎ (bytes ≡ 4096)))
+
+-- a size of a sector is given, and it is none
+pub record IsNoSectorOf (found : Found) : Type 0 where
+  pub given : first_value found (codes "--sector") ≢ None
+  pub fixed : first_value found (codes "--sector") ≢ Some (codes "auto")
+  pub none : (bytes : ℕ) → IsSectorSize bytes → ¬ (IsNumberOf found (codes "--sector") bytes)
 
 -- the size of a sector that is given, or none where it is to be found
 abbrev pub IsSectorOf : Found → Option ℕ → Type 0

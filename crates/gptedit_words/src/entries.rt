@@ -1,15 +1,17 @@
 //! What the words of `add`, `set`, `resize` and `remove` ask of entries.
 
-ghost use Rattle.std.specs.Prelude.{◌≡◌, ◌∷◌, [], IfOk, None};
+ghost use Rattle.std.specs.Prelude.{◌≡◌, ◌∷◌, [], codes, IfOk, None};
 ghost use Rattle.clap.specs.Words.{found_of};
 ghost use Rattle.gptedit_core.specs.declared.asked.Choice.TheVariants.{First};
 ghost use Rattle.gptedit_core.specs.declared.asked.Mode.TheVariants.{Change as Changing};
 ghost use Rattle.gptedit_words.specs.Asks.{AsksAddition, AsksFields, IsAddition, IsRemoval, IsResize, IsSetting, KeepsPlace};
+ghost use Rattle.gptedit_words.specs.Asks.{texts_of_place};
+ghost use Rattle.gptedit_words.specs.Refusals.{gives_field, CanAdd, CanRemove, CanResize, CanSet, HasFields, RefusedOnlyFor};
 
 use crate::error::WordsError;
 use crate::request::Change;
 use crate::values::{
-    amount, attributes, choice, guid, kind, name, new_size, number, numbers, size,
+    amount, attributes, choice, guid, kind, name, new_size, number, number_if_given, numbers, size,
 };
 use clap::ArgMatches;
 use gptedit_core::{Amount, Asked, Choice, Layout, Mode};
@@ -26,7 +28,8 @@ pub(crate) fn read_add<'a>(
     alloc: Global,
     words: &ArgMatches<'a>,
 ) -> Result<Change<'a>, WordsError<'a>>
-    ensures { IfOk result (IsAddition (found_of words.now)) }
+    ensures said { IfOk result (IsAddition (found_of words.now)) }
+    ensures refused { RefusedOnlyFor (found_of words.now) (¬ (CanAdd (found_of words.now))) result }
 {
     let asked = read_new_entry(alloc, words)?;
     let align = amount(words, "--align")?.unwrap_or(ALIGN);
@@ -38,10 +41,11 @@ pub(crate) fn read_add<'a>(
 
 // What the words of `add` ask of the new entry.
 fn read_new_entry<'a>(alloc: Global, words: &ArgMatches<'a>) -> Result<Asked, WordsError<'a>>
-    ensures { IfOk result (AsksAddition (found_of words.now)) }
+    ensures said { IfOk result (AsksAddition (found_of words.now)) }
+    ensures refused { RefusedOnlyFor (found_of words.now) (¬ (CanAdd (found_of words.now))) result }
 {
     Ok(Asked {
-        number: words.get_one("--number"),
+        number: number_if_given(words, "--number")?,
         start: amount(words, "--start")?,
         size: size(words, "--size")?,
         choice: choice(words, "--place")?.unwrap_or(Choice::First),
@@ -54,10 +58,10 @@ pub(crate) fn read_set<'a>(
     alloc: Global,
     words: &ArgMatches<'a>,
 ) -> Result<Change<'a>, WordsError<'a>>
-    ensures { IfOk result (IsSetting (found_of words.now)) }
+    ensures said { IfOk result (IsSetting (found_of words.now)) }
+    ensures refused { RefusedOnlyFor (found_of words.now) (¬ (CanSet (found_of words.now))) result }
 {
-    let fields = ["--name", "--type", "--guid", "--attributes"];
-    if !fields.iter().any(|field| words.contains_id(field)) {
+    if !gives_field(words) {
         return Err(WordsError::NothingToSet);
     }
     let asked = Asked {
@@ -67,12 +71,24 @@ pub(crate) fn read_set<'a>(
     Ok(Change::Lay(layout_of(alloc, ANY, asked)?))
 }
 
+// Whether some field of the entry is given.
+#[tactic(auto, unfolding(crate::specs::Refusals::gives_field))]
+fn gives_field(words: &ArgMatches<'_>) -> bool
+    ensures { result ≡ gives_field (found_of words.now) }
+{
+    words.contains_id("--name")
+        || words.contains_id("--type")
+        || words.contains_id("--guid")
+        || words.contains_id("--attributes")
+}
+
 /// What the words of `resize` ask for.
 pub(crate) fn read_resize<'a>(
     alloc: Global,
     words: &ArgMatches<'a>,
 ) -> Result<Change<'a>, WordsError<'a>>
-    ensures { IfOk result (IsResize (found_of words.now)) }
+    ensures said { IfOk result (IsResize (found_of words.now)) }
+    ensures refused { RefusedOnlyFor (found_of words.now) (¬ (CanResize (found_of words.now))) result }
 {
     let asked = Asked {
         number: Some(number(words, "N")?),
@@ -87,7 +103,8 @@ pub(crate) fn read_remove<'a>(
     alloc: Global,
     words: &ArgMatches<'a>,
 ) -> Result<Change<'a>, WordsError<'a>>
-    ensures { IfOk result (IsRemoval (found_of words.now)) }
+    ensures said { IfOk result (IsRemoval (found_of words.now)) }
+    ensures refused { RefusedOnlyFor (found_of words.now) (¬ (CanRemove (texts_of_place (found_of words.now) (codes "N")))) result }
 {
     Ok(Change::Lay(Layout {
         mode: Mode::Change,
@@ -119,6 +136,7 @@ fn layout_of(alloc: Global, align: Amount, asked: Asked) -> Result<Layout, Alloc
 fn read_fields<'a>(alloc: Global, words: &ArgMatches<'a>) -> Result<Asked, WordsError<'a>>
     ensures fields { IfOk result (AsksFields (found_of words.now)) }
     ensures place { IfOk result KeepsPlace }
+    ensures refused { RefusedOnlyFor (found_of words.now) (¬ (HasFields (found_of words.now))) result }
 {
     Ok(Asked {
         type_guid: kind(words, "--type")?,

@@ -1,5 +1,8 @@
 //! Why words ask for nothing.
 
+ghost use Rattle.std.specs.Prelude.{◌≡◌};
+ghost use Rattle.gptedit_words.specs.declared.error.WordsError.TheVariants.{OutOfMemory};
+
 use clap::error::ErrorKind;
 use gptedit_text::values::Wrong;
 use std::alloc::{AllocError, AllocFailed};
@@ -95,12 +98,16 @@ impl From<clap::Error> for WordsError<'_> {
 }
 
 impl From<AllocError> for WordsError<'_> {
+    ghost from_gives = { λ _ error. error ≡ OutOfMemory };
+
     fn from(_e: AllocError) -> Self {
         WordsError::OutOfMemory
     }
 }
 
 impl<T: Drop> From<AllocFailed<T>> for WordsError<'_> {
+    ghost from_gives = { λ _ error. error ≡ OutOfMemory };
+
     fn from(_e: AllocFailed<T>) -> Self {
         WordsError::OutOfMemory
     }

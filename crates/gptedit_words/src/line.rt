@@ -1,14 +1,15 @@
 //! The words of a command line, read.
 
-ghost use Rattle.std.specs.Prelude.{codes, IfOk};
-ghost use Rattle.clap.specs.Words.{found_of};
-ghost use Rattle.gptedit_words.specs.Asks.{AsksOptions, IsChange, IsCommand, IsRequest};
+ghost use Rattle.std.specs.Prelude.{◌≡◌, ◌≢◌, codes, IfOk, None};
+ghost use Rattle.clap.specs.Words.{first_value, found_of};
+ghost use Rattle.gptedit_words.specs.Asks.{AsksOptions, IsChange, IsCommand, IsRequest, IsWrong, SaysNoLock};
+ghost use Rattle.gptedit_words.specs.Refusals.{CanAsk, CanChange, CanMake, CanRun, RefusedOnlyFor};
 
 use crate::definition::command;
 use crate::entries;
 use crate::error::WordsError;
 use crate::request::{Change, Command, ImageRequest, Lock, NewTable, Options, Request};
-use crate::values::{amount, guid, lock, needed, sector_size};
+use crate::values::{amount, guid, lock, needed, number_if_given, sector_size};
 use clap::ArgMatches;
 use std::alloc::Global;
 
@@ -27,7 +28,8 @@ fn read_request<'a>(
     name: &str,
     words: &ArgMatches<'a>,
 ) -> Result<Request<'a>, WordsError<'a>>
-    ensures { IfOk result (IsRequest name.now (found_of words.now)) }
+    ensures said { IfOk result (IsRequest name.now (found_of words.now)) }
+    ensures refused { RefusedOnlyFor (found_of words.now) ((name.now ≢ codes "types") × ¬ (CanAsk name.now (found_of words.now))) result }
 {
     if name == "types" {
         return Ok(Request::Types {
@@ -48,7 +50,8 @@ fn read_command<'a>(
     name: &str,
     words: &ArgMatches<'a>,
 ) -> Result<Command<'a>, WordsError<'a>>
-    ensures { IfOk result (IsCommand name.now (found_of words.now)) }
+    ensures said { IfOk result (IsCommand name.now (found_of words.now)) }
+    ensures refused { RefusedOnlyFor (found_of words.now) (¬ (CanRun name.now (found_of words.now))) result }
 {
     match name {
         "show" => Ok(Command::Show),
@@ -67,7 +70,8 @@ fn read_command<'a>(
 
 // The options of a change.
 fn read_options<'a>(words: &ArgMatches<'a>) -> Result<Options<'a>, WordsError<'a>>
-    ensures { IfOk result (AsksOptions (found_of words.now)) }
+    ensures said { IfOk result (AsksOptions (found_of words.now)) }
+    ensures refused { RefusedOnlyFor (found_of words.now) (IsWrong SaysNoLock (first_value (found_of words.now) (codes "--lock"))) result }
 {
     let is_forced = words.get_flag("--force");
     Ok(Options {
@@ -85,7 +89,8 @@ fn read_change<'a>(
     name: &str,
     words: &ArgMatches<'a>,
 ) -> Result<Change<'a>, WordsError<'a>>
-    ensures { IfOk result (IsChange name.now (found_of words.now)) }
+    ensures said { IfOk result (IsChange name.now (found_of words.now)) }
+    ensures refused { RefusedOnlyFor (found_of words.now) (¬ (CanChange name.now (found_of words.now))) result }
 {
     match name {
         "new" => read_new(words),
@@ -107,17 +112,19 @@ fn read_change<'a>(
 
 // What the words of `new` ask for.
 fn read_new<'a>(words: &ArgMatches<'a>) -> Result<Change<'a>, WordsError<'a>>
-    ensures { IfOk result (IsChange (codes "new") (found_of words.now)) }
+    ensures said { IfOk result (IsChange (codes "new") (found_of words.now)) }
+    ensures refused { RefusedOnlyFor (found_of words.now) (¬ (CanMake (found_of words.now))) result }
 {
     Ok(Change::New(NewTable {
         guid: guid(words, "--guid")?,
-        entries: words.get_one("--entries"),
+        entries: number_if_given(words, "--entries")?,
     }))
 }
 
 // What the words of `apply` ask for.
 fn read_apply<'a>(words: &ArgMatches<'a>) -> Result<Change<'a>, WordsError<'a>>
-    ensures { IfOk result (IsChange (codes "apply") (found_of words.now)) }
+    ensures said { IfOk result (IsChange (codes "apply") (found_of words.now)) }
+    ensures refused { RefusedOnlyFor (found_of words.now) (first_value (found_of words.now) (codes "FILE") ≡ None) result }
 {
     Ok(Change::Apply {
         file: needed(words, "FILE")?,

@@ -1,10 +1,14 @@
 //! The values of words, read.
 
-ghost use Rattle.std.specs.Prelude.{◌≡◌, ◌↔◌, codes, IfOk, IsTrue, Some};
-ghost use Rattle.clap.specs.Words.{first_value, found_of};
-ghost use Rattle.gptedit_text.specs.Words.{SaysAmount, SaysSize};
+ghost use Rattle.std.specs.Prelude.{◌≡◌, ◌↔◌, codes, IfErr, IfOk, IsTrue, None, Some};
+ghost use Rattle.clap.specs.Words.{first_value, found_of, one_text};
+ghost use Rattle.gptedit_text.specs.Words.{SaysAmount, SaysAttributes, SaysNoAttributes, SaysSize};
 ghost use Rattle.gptedit_words.specs.Asks.{Gives, IsNumberOf, SaysChoice, SaysGuid, SaysLock, SaysName, SaysNewSize};
 ghost use Rattle.gptedit_words.specs.Asks.{HasNumbers, IsSectorOf, IsSectorSize, SaysType, texts_of_place};
+ghost use Rattle.gptedit_words.specs.Asks.{IsMissingOrWrong, IsNoSectorOf, IsWrong, MayHaveNumberOf};
+ghost use Rattle.gptedit_words.specs.Asks.{SaysNoAmount, SaysNoChoice, SaysNoGuid, SaysNoLock, SaysNoNewSize};
+ghost use Rattle.gptedit_words.specs.Asks.{SaysNoNumber, SaysNoSize, SaysNoType};
+ghost use Rattle.gptedit_words.specs.Refusals.{CanRemove, RefusedOnlyFor};
 
 use crate::error::WordsError;
 use crate::request::Lock;
@@ -21,7 +25,8 @@ pub(crate) fn needed<'a>(
     words: &ArgMatches<'a>,
     word: &'static str,
 ) -> Result<&'a str, WordsError<'a>>
-    ensures { IfOk result (λ text. first_value (found_of words.now) word.now ≡ Some text.now) }
+    ensures said { IfOk result (λ text. first_value (found_of words.now) word.now ≡ Some text.now) }
+    ensures refused { IfErr result (λ error. first_value (found_of words.now) word.now ≡ None) }
 {
     match words.get_str(word) {
         Some(text) => Ok(text),
@@ -34,7 +39,8 @@ pub(crate) fn amount<'a>(
     words: &ArgMatches<'a>,
     word: &'static str,
 ) -> Result<Option<Amount>, WordsError<'a>>
-    ensures { IfOk result (Gives SaysAmount (first_value (found_of words.now) word.now)) }
+    ensures said { IfOk result (Gives SaysAmount (first_value (found_of words.now) word.now)) }
+    ensures refused { IfErr result (λ error. IsWrong SaysNoAmount (first_value (found_of words.now) word.now)) }
 {
     let Some(text) = words.get_str(word) else {
         return Ok(None);
@@ -50,7 +56,8 @@ pub(crate) fn size<'a>(
     words: &ArgMatches<'a>,
     word: &'static str,
 ) -> Result<Option<Size>, WordsError<'a>>
-    ensures { IfOk result (Gives SaysSize (first_value (found_of words.now) word.now)) }
+    ensures said { IfOk result (Gives SaysSize (first_value (found_of words.now) word.now)) }
+    ensures refused { IfErr result (λ error. IsWrong SaysNoSize (first_value (found_of words.now) word.now)) }
 {
     let Some(text) = words.get_str(word) else {
         return Ok(None);
@@ -66,7 +73,8 @@ pub(crate) fn new_size<'a>(
     words: &ArgMatches<'a>,
     word: &'static str,
 ) -> Result<Option<Size>, WordsError<'a>>
-    ensures { IfOk result (Gives SaysNewSize (first_value (found_of words.now) word.now)) }
+    ensures said { IfOk result (Gives SaysNewSize (first_value (found_of words.now) word.now)) }
+    ensures refused { IfErr result (λ error. IsWrong SaysNoNewSize (first_value (found_of words.now) word.now)) }
 {
     let Some(text) = words.get_str(word) else {
         return Ok(None);
@@ -79,7 +87,8 @@ pub(crate) fn new_size<'a>(
 
 // Reads a new size: an amount, or `max`.
 fn read_new_size(text: &str) -> Result<Size, Wrong>
-    ensures { IfOk result (SaysNewSize text.now) }
+    ensures said { IfOk result (SaysNewSize text.now) }
+    ensures refused { IfErr result (λ wrong. SaysNoNewSize text.now) }
 {
     match text {
         "max" => Ok(Size::Rest),
@@ -95,7 +104,8 @@ pub(crate) fn choice<'a>(
     words: &ArgMatches<'a>,
     word: &'static str,
 ) -> Result<Option<Choice>, WordsError<'a>>
-    ensures { IfOk result (Gives SaysChoice (first_value (found_of words.now) word.now)) }
+    ensures said { IfOk result (Gives SaysChoice (first_value (found_of words.now) word.now)) }
+    ensures refused { IfErr result (λ error. IsWrong SaysNoChoice (first_value (found_of words.now) word.now)) }
 {
     let Some(text) = words.get_str(word) else {
         return Ok(None);
@@ -111,7 +121,8 @@ pub(crate) fn guid<'a>(
     words: &ArgMatches<'a>,
     word: &'static str,
 ) -> Result<Option<[u8; 16]>, WordsError<'a>>
-    ensures { IfOk result (Gives SaysGuid (first_value (found_of words.now) word.now)) }
+    ensures said { IfOk result (Gives SaysGuid (first_value (found_of words.now) word.now)) }
+    ensures refused { IfErr result (λ error. IsWrong SaysNoGuid (first_value (found_of words.now) word.now)) }
 {
     let Some(text) = words.get_str(word) else {
         return Ok(None);
@@ -127,7 +138,8 @@ pub(crate) fn kind<'a>(
     words: &ArgMatches<'a>,
     word: &'static str,
 ) -> Result<Option<[u8; 16]>, WordsError<'a>>
-    ensures { IfOk result (Gives SaysType (first_value (found_of words.now) word.now)) }
+    ensures said { IfOk result (Gives SaysType (first_value (found_of words.now) word.now)) }
+    ensures refused { IfErr result (λ error. IsWrong SaysNoType (first_value (found_of words.now) word.now)) }
 {
     let Some(text) = words.get_str(word) else {
         return Ok(None);
@@ -142,7 +154,10 @@ pub(crate) fn kind<'a>(
 pub(crate) fn attributes<'a>(
     words: &ArgMatches<'a>,
     word: &'static str,
-) -> Result<Option<u64>, WordsError<'a>> {
+) -> Result<Option<u64>, WordsError<'a>>
+    ensures said { IfOk result (Gives SaysAttributes (first_value (found_of words.now) word.now)) }
+    ensures refused { IfErr result (λ error. IsWrong SaysNoAttributes (first_value (found_of words.now) word.now)) }
+{
     let Some(text) = words.get_str(word) else {
         return Ok(None);
     };
@@ -157,7 +172,8 @@ pub(crate) fn lock<'a>(
     words: &ArgMatches<'a>,
     word: &'static str,
 ) -> Result<Option<Lock>, WordsError<'a>>
-    ensures { IfOk result (Gives SaysLock (first_value (found_of words.now) word.now)) }
+    ensures said { IfOk result (Gives SaysLock (first_value (found_of words.now) word.now)) }
+    ensures refused { IfErr result (λ error. IsWrong SaysNoLock (first_value (found_of words.now) word.now)) }
 {
     let Some(text) = words.get_str(word) else {
         return Ok(None);
@@ -170,7 +186,8 @@ pub(crate) fn lock<'a>(
 
 // Reads what is done where the image is locked.
 fn read_lock(text: &str) -> Result<Lock, Wrong>
-    ensures { IfOk result (SaysLock text.now) }
+    ensures said { IfOk result (SaysLock text.now) }
+    ensures refused { IfErr result (λ wrong. SaysNoLock text.now) }
 {
     match text {
         "wait" => Ok(Lock::Wait),
@@ -182,11 +199,29 @@ fn read_lock(text: &str) -> Result<Lock, Wrong>
 
 /// The number of a word that is needed.
 pub(crate) fn number<'a>(words: &ArgMatches<'a>, word: &'static str) -> Result<u32, WordsError<'a>>
-    ensures { IfOk result (IsNumberOf (found_of words.now) word.now) }
+    ensures said { IfOk result (IsNumberOf (found_of words.now) word.now) }
+    ensures refused { IfErr result (λ error. IsMissingOrWrong SaysNoNumber (one_text (found_of words.now) word.now)) }
 {
     match words.get_one::<u32>(word) {
         Some(number) => Ok(number),
         None => Err(WordsError::Missing(word)),
+    }
+}
+
+/// Returns the number of a word, where it is given.
+pub(crate) fn number_if_given<'a>(
+    words: &ArgMatches<'a>,
+    word: &'static str,
+) -> Result<Option<u32>, WordsError<'a>>
+    ensures said { IfOk result (MayHaveNumberOf (found_of words.now) word.now) }
+    ensures refused { IfErr result (λ error. IsWrong SaysNoNumber (one_text (found_of words.now) word.now)) }
+{
+    match words.get_str(word) {
+        Some(_) => match number(words, word) {
+            Ok(number) => Ok(Some(number)),
+            Err(error) => Err(error),
+        },
+        None => Ok(None),
     }
 }
 
@@ -196,17 +231,18 @@ pub(crate) fn numbers<'a>(
     words: &ArgMatches<'a>,
     word: &'static str,
 ) -> Result<Vec<u32>, WordsError<'a>>
-    ensures { IfOk result (λ numbers. HasNumbers (texts_of_place (found_of words.now) word.now) numbers.items) }
+    ensures said { IfOk result (λ numbers. HasNumbers (texts_of_place (found_of words.now) word.now) numbers.items) }
+    ensures refused { RefusedOnlyFor (found_of words.now) (¬ (CanRemove (texts_of_place (found_of words.now) word.now))) result }
 {
     let Some(texts) = words.get_many::<u32>(word) else {
         return Err(WordsError::Missing(word));
     };
     let mut numbers = Vec::new(alloc);
     for number in texts {
-        let Ok(number) = number else {
-            return Err(WordsError::Missing(word));
-        };
-        numbers.push(number)?;
+        match number {
+            Ok(number) => numbers.push(number)?,
+            Err(_) => return Err(WordsError::Missing(word)),
+        }
     }
     Ok(numbers)
 }
@@ -216,7 +252,8 @@ pub(crate) fn name<'a>(
     alloc: Global,
     words: &ArgMatches<'a>,
 ) -> Result<Option<PartitionName>, WordsError<'a>>
-    ensures { IfOk result (Gives SaysName (first_value (found_of words.now) (codes "--name"))) }
+    ensures said { IfOk result (Gives SaysName (first_value (found_of words.now) (codes "--name"))) }
+    ensures refused { RefusedOnlyFor (found_of words.now) (⊥) result }
 {
     let Some(text) = words.get_str("--name") else {
         return Ok(None);
@@ -232,7 +269,8 @@ pub(crate) fn name<'a>(
 
 /// Returns the size of a sector in bytes, where it is given.
 pub(crate) fn sector_size<'a>(words: &ArgMatches<'a>) -> Result<Option<u64>, WordsError<'a>>
-    ensures { IfOk result (IsSectorOf (found_of words.now)) }
+    ensures said { IfOk result (IsSectorOf (found_of words.now)) }
+    ensures refused { IfErr result (λ error. IsNoSectorOf (found_of words.now)) }
 {
     match words.get_str("--sector") {
         None => Ok(None),

@@ -1,4 +1,5 @@
 use Rattle.clap.specs.Words.{values_left}
+use Rattle.gptedit_words.specs.Refusals.{AllNumbers}
 use Rattle.gptedit_words.proofs.Numbers.{Collects}
 use Rattle.gptedit_words.proofs.values.numbers.Given as goal
 
@@ -7,3 +8,4 @@ invariant-loop-number l =
     (goal.iterator-loop-number).can_next l.number-iterator
     × (goal.iterator-loop-number).is_finite l.number-iterator
     × Collects (values_left l.number-iterator) l.numbers.items (values_left l.initial.number-iterator)
+    × (AllNumbers (values_left l.initial.number-iterator) → AllNumbers (values_left l.number-iterator))

@@ -1,6 +1,5 @@
-use Rattle.std.proofs.Common.{arith, refl}
+use Rattle.std.proofs.Common.{arith}
 use Rattle.gptedit_text.proofs.Tables.{lacks_all, lacks_first, lacks_next}
-use Rattle.gptedit_text.proofs.Amounts.{unit_is_some}
 use Rattle.gptedit_text.proofs.values.amount.split_unit.Goals as goal
 
 pub loop-name-init : goal.loop-name-init

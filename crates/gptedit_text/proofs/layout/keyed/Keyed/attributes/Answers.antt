@@ -1,4 +1,4 @@
-use Rattle.std.proofs.Common.{map, subst, rules}
+use Rattle.std.proofs.Common.{map, subst}
 use Rattle.std.specs.Prelude.{Some}
 use Rattle.toml.specs.View.{view}
 use Rattle.gptedit_text.specs.Layouts.{GivesAttributesOf, SaysBitOf}
