@@ -271,6 +271,43 @@ def try_own_sectors(tally, program):
                      table.read(program.file(IMAGE)))
 
 
+def mbr_from(first, sectors, status=0, beside=bytes(48)):
+    """The 66 bytes of an MBR whose first entry protects so many sectors from this one on."""
+    start = bytes([status, 1, 2, 3, 0xee, 4, 5, 6])
+    return start + struct.pack("<II", first, sectors) + beside + b"\x55\xaa"
+
+
+def mended_from(mbr, sectors):
+    """The same with this length, and the last end."""
+    return mbr[:5] + b"\xff\xff\xff" + mbr[8:12] + struct.pack("<I", sectors) + mbr[16:]
+
+
+def try_starts(tally, program):
+    """An entry that starts elsewhere than in sector 1 keeps its start, and gets the length to the end of the disk."""
+    end = SIZE // 512
+    for first in 0, 2, 34:
+        for words in WRITES:
+            make(program, ONE)
+            mbr = mbr_from(first, end, 0x80)  # right for an entry from sector 0 on
+            program.put(IMAGE, 446, mbr)
+            ended = program.run("check", IMAGE)
+            tally.equals(f"check of an entry from sector {first} on", int(first != 0), ended[0])
+            out = goes(tally, program, words)
+            if first == 0:
+                tally.equals(f"a right MBR after {words}", mbr, mbr_of(program))
+            elif words[0] != "sort" or "unchanged" not in out:
+                tally.equals(f"the MBR from sector {first} on after {words}", mended_from(mbr, end - first), mbr_of(program))
+                tally.equals(f"check after {words}", 0, program.run("check", IMAGE)[0])
+    unused = bytes([0, 0, 0, 0, 0x83]) + bytes(3) + struct.pack("<II", 2048, 0) + bytes(32)
+    for name, mbr in ("a start past the end", mbr_from(end, 1)), ("an entry of no sectors beside it", mbr_from(1, 7, 0, unused)):
+        for words in WRITES:
+            make(program, ONE)
+            program.put(IMAGE, 446, mbr)
+            tally.equals(f"check of {name}", 0, program.run("check", IMAGE)[0])
+            goes(tally, program, words)
+            tally.equals(f"{name} after {words}", mbr, mbr_of(program))
+
+
 def try_mbr(tally, program):
     """The MBR is part of the change: its length is mended by each write, its boot mark is kept."""
     for status in 0, 0x80:
@@ -281,6 +318,7 @@ def try_mbr(tally, program):
             out = goes(tally, program, words)
             if words[0] != "sort" or "unchanged" not in out:  # what writes no table need not mend it
                 tally.equals(f"the MBR after {words}", table.mbr_bytes(SIZE, 512, status), mbr_of(program))
+    try_starts(tally, program)
     for words in WRITES:
         make(program, ONE)
         windows = table.mbr_bytes(SIZE)[:12] + b"\xff" * 4 + table.mbr_bytes(SIZE)[16:]

@@ -27,7 +27,7 @@ pub fn change_mbr(
         (Purpose::Repair | Purpose::Fit, _) => true,
     };
     let sector_size = look.sector_size.max(1);
-    match mend_mbr(alloc, &mut image.opened.disk, sector_size, may_make, is_dry) {
+    match mend_mbr(&mut image.opened.disk, sector_size, may_make, is_dry) {
         Ok(change) => Ok(change),
         Err(error) => Err(refuse_error(alloc, image.name, &error)),
     }

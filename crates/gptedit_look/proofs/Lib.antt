@@ -2,3 +2,5 @@ pub mod Products
 pub mod Pieces
 pub mod Writing
 pub mod Spared
+pub mod Lengths
+pub mod Changes

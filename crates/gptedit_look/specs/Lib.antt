@@ -3,3 +3,5 @@ pub mod Guard
 pub mod Touched
 pub mod Guarded
 pub mod Seen
+pub mod Protective
+pub mod Mended

@@ -1,6 +1,6 @@
 //! Reading bytes of a disk, and the numbers in them.
 
-ghost use Rattle.std.specs.Prelude.{◌≤◌, ◌+◌, length};
+ghost use Rattle.std.specs.Prelude.{◌≡◌, ◌≤◌, ◌+◌, get_or, length};
 ghost use Rattle.gptman.specs.Answers.{HasCause};
 ghost use Rattle.gptman.specs.Disk.{Reads};
 
@@ -34,6 +34,16 @@ fn read_at<D: Disk>(disk: &mut D, at: u64, bytes: &mut [u8]) -> Result<()>
     disk.seek_start(at)?;
     disk.read_exact(bytes)?;
     Ok(())
+}
+
+/// Returns the byte at this place, or 0 if there is none.
+pub fn byte_at(bytes: &[u8], at: usize) -> u8
+    ensures { result ≡ get_or bytes.now at 0 }
+{
+    match bytes.get(at) {
+        Some(byte) => *byte,
+        None => 0,
+    }
 }
 
 /// Returns the little-endian number in the 4 bytes at `at`, or 0 if there are none.

@@ -1,12 +1,14 @@
 //! What the first 512 bytes of a disk hold: an MBR, and of which kind.
 
-ghost use Rattle.std.specs.Prelude.{◌≡◌, ◌≤◌, ◌<◌, ℕ, get_or, IfOk, IsTrue};
+ghost use Rattle.std.specs.Prelude.{◌≡◌, ◌≤◌, ◌<◌, ℕ, false, get_or, IfOk, IsTrue};
 ghost use Rattle.gptedit_look.specs.FirstSector.{IsVacant};
+ghost use Rattle.gptedit_look.specs.Protective.{IsOutOfLength};
 ghost use Rattle.gptedit_look.specs.declared.first_sector.MbrKind.TheVariants.{None as Empty};
 ghost use Rattle.gptman.specs.Answers.{HasCause};
 ghost use Rattle.gptman.specs.Disk.{Reads};
 
-use crate::blocks::{has_at, read_block, u16_at, u32_at};
+use crate::blocks::{byte_at, has_at, read_block, u16_at, u32_at};
+use crate::protective::find_misfit;
 use gptman::{Disk, Result};
 use std::alloc::{AllocError, Global};
 
@@ -52,8 +54,8 @@ pub struct Listed {
 pub struct FirstSector {
     /// Its kind.
     pub kind: MbrKind,
-    /// Whether the first protective entry covers the disk, as it should: from sector 1 to the end, or with the
-    /// greatest length that an entry can have.
+    /// Whether the only entry, if it is protective and starts on the disk, has the length that it should have: to
+    /// the end of the disk, or the greatest that an entry can have. It is true of any other MBR.
     pub is_length_right: bool,
     /// The number of protective entries.
     pub protective_count: u8,
@@ -98,13 +100,6 @@ impl Entry {
     fn is_used(self) -> bool {
         self.kind != 0 && self.sectors != 0
     }
-
-    // Whether it covers a disk of so many sectors.
-    fn covers(self, sectors: u64) -> bool {
-        let length = u64::from(self.sectors);
-        let all = u64::from(u32::MAX);
-        self.first == 1 && (length == sectors.saturating_sub(1).min(all) || length == all)
-    }
 }
 
 /// Reads the MBR of a disk, whose sectors have `sector_size` bytes.
@@ -133,6 +128,10 @@ pub fn decode(
     sectors: u64,
 ) -> std::result::Result<FirstSector, AllocError>
     ensures vacant { IfOk result (λ first. first.kind ≡ Empty → IsVacant bytes.now) }
+    ensures fits { IfOk result (λ first. IsTrue first.is_length_right → (i : ℕ)
+        → ¬ IsOutOfLength bytes.now sectors i) }
+    ensures misfit { IfOk result (λ first. (i : ℕ) → IsOutOfLength bytes.now sectors i
+        → first.is_length_right ≡ false) }
 {
     let entries = decode_entries(bytes);
     let mut listed = Vec::new(alloc);
@@ -149,7 +148,7 @@ pub fn decode(
     }
     Ok(FirstSector {
         kind,
-        is_length_right: is_length_right(&entries, sectors),
+        is_length_right: has_right_length(bytes, sectors),
         protective_count,
         is_bootable: has_entries(kind) && entries.iter().any(|entry| entry.mark == 0x80),
         listed,
@@ -179,6 +178,14 @@ fn listed_of(entry: Entry) -> Listed {
         first: u64::from(entry.first),
         sectors: u64::from(entry.sectors),
     }
+}
+
+// Whether the only entry, if it is protective, has the length that it should have on a disk of so many sectors.
+fn has_right_length(bytes: &[u8], sectors: u64) -> bool
+    ensures fits { IsTrue result → (i : ℕ) → ¬ IsOutOfLength bytes.now sectors i }
+    ensures misfit { (i : ℕ) → IsOutOfLength bytes.now sectors i → result ≡ false }
+{
+    find_misfit(bytes, sectors).is_none()
 }
 
 // What an MBR with these entries is.
@@ -220,27 +227,9 @@ fn are_zero(bytes: &[u8], first: usize, end: usize) -> bool
     true
 }
 
-// The byte at this place, or 0 if there is none.
-fn byte_at(bytes: &[u8], at: usize) -> u8
-    ensures { result ≡ get_or bytes.now at 0 }
-{
-    match bytes.get(at) {
-        Some(byte) => *byte,
-        None => 0,
-    }
-}
-
 // Whether the four entries are entries, and not the code of a boot sector.
 fn is_partitioned(bytes: &[u8], entries: &[Entry; 4]) -> bool {
     entries.iter().all(|entry| entry.has_mark()) && !is_boot_sector(bytes)
-}
-
-// Whether the first protective entry is as it should be on a disk with so many sectors.
-fn is_length_right(entries: &[Entry; 4], sectors: u64) -> bool {
-    match entries.iter().find(|entry| entry.is_protective()) {
-        Some(entry) => entry.covers(sectors),
-        None => false,
-    }
 }
 
 /// Reports whether these are the first bytes of a FAT, exFAT or NTFS file system.

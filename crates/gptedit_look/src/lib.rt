@@ -11,6 +11,7 @@ pub mod first_sector;
 pub mod grounds;
 pub mod guard;
 pub mod mending;
+pub mod protective;
 pub mod raw;
 pub mod seeing;
 pub mod seen;

@@ -1,15 +1,21 @@
 //! The MBR as part of a change of the table.
 
-ghost use Rattle.std.specs.Prelude.{◌≡◌, ◌≤◌, ◌<◌, ◌+◌, [], ◌∷◌, length, IsTrue, OnOk};
+ghost use Rattle.std.specs.Prelude.{◌≡◌, ◌≤◌, ◌<◌, ◌^◌, ◌+◌, ◌*◌, [], ◌∷◌, ℕ, false, length, IfOk, IsTrue, OnOk};
+ghost use Rattle.byteorder.specs.Endian.{little_bytes};
 ghost use Rattle.gptman.specs.Answers.{HasCause};
-ghost use Rattle.gptman.specs.Disk.{IsHonest, Keeps, Reads, Writes};
-ghost use Rattle.gptman.specs.Mbr.{mbr_range};
+ghost use Rattle.gptman.specs.Disk.{overlay, IsHonest, Keeps, Reads, Writes};
+ghost use Rattle.gptman.specs.Mbr.{mbr_range, IsMbrStored};
+ghost use Rattle.gptedit_look.specs.FirstSector.{IsMarked, IsVacant};
+ghost use Rattle.gptedit_look.specs.Mended.{change_of, first_bytes, HasPlace, IsChange, IsDone, IsForeign, IsInNeed, IsPlan, IsSet};
+ghost use Rattle.gptedit_look.specs.Protective.{IsOutOfLength};
+ghost use Rattle.gptedit_look.specs.declared.mending.MbrChange.TheVariants.{Mended};
+ghost use Rattle.gptedit_look.specs.declared.mending.Plan.TheVariants.{Leave};
 
-use crate::blocks::{has_at, u32_at};
+use crate::blocks::byte_at;
 use crate::first_sector::is_empty;
+use crate::protective::{Misfit, find_misfit};
 use gptman::{Disk, GPT, Result};
 use gptman_copy::cells::{put, put_u32};
-use std::alloc::Global;
 
 // The byte of the disk at which the entries begin.
 const MBR_START: u64 = 446;
@@ -17,11 +23,14 @@ const MBR_START: u64 = 446;
 // The byte after an MBR.
 const MBR_END: u64 = 512;
 
-// The first byte of each entry.
-const ENTRIES: [usize; 4] = [446, 462, 478, 494];
+// The first byte of the first entry.
+const ENTRIES: usize = 446;
 
-// The type of an entry that protects a disk.
-const PROTECTIVE: u8 = 0xee;
+// The bytes of an entry.
+const ENTRY_SIZE: usize = 16;
+
+// The end of an entry that passes what an end can say.
+const LAST_END: [u8; 3] = [0xff; 3];
 
 /// What became of the MBR.
 #[derive(Debug, Clone, Copy, PartialEq, Eq)]
@@ -35,13 +44,13 @@ pub enum MbrChange {
 }
 
 /// Sets the length and the end of a protective entry right, if it is the only entry and its length is wrong; or
-/// writes a protective MBR, if there is no 55 AA or no entry at all, and `may_make`. The boot code, the boot mark
-/// and any other MBR stay as they are. What is written is synced. With `is_dry` nothing is written.
+/// writes a protective MBR, if there is no 55 AA or no entry at all, and `may_make`. The boot code, the boot mark,
+/// the start of the entry and any other MBR stay as they are. What is written is synced. With `is_dry` nothing is
+/// written.
 ///
 /// # Errors
 /// `Io` if the disk failed, `Overflow` or `NoSpaceLeft` if the disk is too short for an MBR that is made.
 pub fn mend_mbr<D: Disk>(
-    _alloc: Global,
     disk: &mut D,
     sector_size: u64,
     may_make: bool,
@@ -53,6 +62,18 @@ pub fn mend_mbr<D: Disk>(
     // No byte but those from 446 to 511 changes at any moment, and none in a dry run.
     ensures wrote { Writes (mbr_range ∷ []) (D.state disk.old) (D.state disk.new) }
     ensures dry { IsTrue is_dry → Reads (D.state disk.old) (D.state disk.new) }
+
+    // What the answer says is what was done.
+    ensures change { IsHonest (D.state disk.old) → IfOk result (λ change.
+        IsChange may_make is_dry sector_size change (D.state disk.old) (D.state disk.new)) }
+
+    // An MBR with another entry, or a boot sector, is only read.
+    ensures others { IsHonest (D.state disk.old) → IsForeign (first_bytes (D.state disk.old))
+        → Reads (D.state disk.old) (D.state disk.new) }
+
+    // A wrong length is set right.
+    ensures needed { IsHonest (D.state disk.old) → (i : ℕ)
+        → IsInNeed (D.state disk.old) sector_size i → IfOk result (λ change. change ≡ Mended) }
 {
     let size = disk.seek_end()?;
     if size < MBR_END {
@@ -60,12 +81,31 @@ pub fn mend_mbr<D: Disk>(
     }
     let bytes = read_first(disk)?;
     let sector_size = sector_size.max(1);
-    let change = change_of(&bytes, size / sector_size, may_make);
+    let plan = plan_of(&bytes, size / sector_size, may_make);
     if is_dry {
-        return Ok(change);
+        return Ok(change_of(plan));
     }
-    carry_out(disk, change, &bytes, sector_size, size)?;
-    Ok(change)
+    carry_out(disk, plan, &bytes, sector_size)?;
+    Ok(change_of(plan))
+}
+
+// What is to become of an MBR.
+#[derive(Clone, Copy)]
+enum Plan {
+    Leave,
+    Mend(Misfit),
+    Make,
+}
+
+// What became of an MBR with which this was done.
+fn change_of(plan: Plan) -> MbrChange
+    ensures { result ≡ change_of plan }
+{
+    match plan {
+        Plan::Leave => MbrChange::Left,
+        Plan::Mend(_) => MbrChange::Mended,
+        Plan::Make => MbrChange::Made,
+    }
 }
 
 // Reads the first 512 bytes.
@@ -74,6 +114,8 @@ fn read_first<D: Disk>(disk: &mut D) -> Result<[u8; 512]>
     requires { 512 ≤ (D.state disk.old).size }
     ensures reads { Reads (D.state disk.old) (D.state disk.new) }
     ensures cause { HasCause result (D.state disk.old) (D.state disk.new) }
+    ensures value { IsHonest (D.state disk.old)
+        → IfOk result (λ bytes. bytes ≡ first_bytes (D.state disk.old)) }
 {
     let mut bytes = [0; 512];
     disk.seek_start(0)?;
@@ -81,27 +123,50 @@ fn read_first<D: Disk>(disk: &mut D) -> Result<[u8; 512]>
     Ok(bytes)
 }
 
-// Writes what is to become of an MBR with these bytes, on a disk of so many.
-fn carry_out<D: Disk>(
-    disk: &mut D,
-    change: MbrChange,
-    bytes: &[u8; 512],
-    sector_size: u64,
-    size: u64,
-) -> Result<()>
+// What is to become of an MBR, on a disk of so many sectors.
+fn plan_of(bytes: &[u8; 512], sectors: u64, may_make: bool) -> Plan
+    ensures plan { IsPlan may_make sectors bytes.now result }
+    ensures others { IsForeign bytes.now → result ≡ Leave }
+    ensures needed { (i : ℕ) → IsMarked bytes.now → IsOutOfLength bytes.now sectors i
+        → change_of result ≡ Mended }
+{
+    if is_missing(bytes) {
+        return if may_make { Plan::Make } else { Plan::Leave };
+    }
+    match find_misfit(bytes, sectors) {
+        Some(misfit) => Plan::Mend(misfit),
+        None => Plan::Leave,
+    }
+}
+
+// Whether there is no 55 AA, or no entry at all.
+fn is_missing(bytes: &[u8; 512]) -> bool
+    ensures missing { IsTrue result → IsVacant bytes.now }
+    ensures marked { result ≡ false → IsMarked bytes.now }
+{
+    if byte_at(bytes, 510) != 0x55 || byte_at(bytes, 511) != 0xaa {
+        return true;
+    }
+    is_empty(bytes)
+}
+
+// Does it, with an MBR of these bytes.
+fn carry_out<D: Disk>(disk: &mut D, plan: Plan, bytes: &[u8; 512], sector_size: u64) -> Result<()>
     requires sector { 0 < sector_size }
     requires room { 512 ≤ (D.state disk.old).size }
+    requires place { HasPlace plan }
+    requires bytes { IsHonest (D.state disk.old) → bytes.now ≡ first_bytes (D.state disk.old) }
     ensures keeps { Keeps (D.state disk.old) (D.state disk.new) }
     ensures cause { HasCause result (D.state disk.old) (D.state disk.new) }
     ensures wrote { Writes (mbr_range ∷ []) (D.state disk.old) (D.state disk.new) }
+    ensures leaves { plan ≡ Leave → Reads (D.state disk.old) (D.state disk.new) }
+    ensures done { IsHonest (D.state disk.old)
+        → OnOk result (IsDone plan sector_size (D.state disk.old) (D.state disk.new)) }
 {
-    match change {
-        MbrChange::Left => Ok(()),
-        MbrChange::Mended => {
-            let mended = mended(bytes, size / sector_size);
-            write_mbr(disk, &mended[446..512])
-        }
-        MbrChange::Made => make_mbr(disk, sector_size),
+    match plan {
+        Plan::Leave => Ok(()),
+        Plan::Mend(misfit) => set_length(disk, misfit, bytes),
+        Plan::Make => make_mbr(disk, sector_size),
     }
 }
 
@@ -111,11 +176,41 @@ fn make_mbr<D: Disk>(disk: &mut D, sector_size: u64) -> Result<()>
     ensures keeps { Keeps (D.state disk.old) (D.state disk.new) }
     ensures cause { HasCause result (D.state disk.old) (D.state disk.new) }
     ensures wrote { Writes (mbr_range ∷ []) (D.state disk.old) (D.state disk.new) }
-    ensures synced { IsHonest (D.state disk.old) → OnOk result ((D.state disk.new).pending ≡ []) }
+    ensures stored { IsHonest (D.state disk.old)
+        → OnOk result (IsMbrStored false sector_size (D.state disk.old) (D.state disk.new)) }
 {
     GPT::write_protective_mbr_into(disk, sector_size)?;
     disk.sync()?;
     Ok(())
+}
+
+// Sets the length and the end of an entry right, in an MBR of these bytes.
+fn set_length<D: Disk>(disk: &mut D, misfit: Misfit, bytes: &[u8; 512]) -> Result<()>
+    requires place { misfit.entry < 4 }
+    requires room { 512 ≤ (D.state disk.old).size }
+    requires bytes { IsHonest (D.state disk.old) → bytes.now ≡ first_bytes (D.state disk.old) }
+    ensures keeps { Keeps (D.state disk.old) (D.state disk.new) }
+    ensures cause { HasCause result (D.state disk.old) (D.state disk.new) }
+    ensures wrote { Writes (mbr_range ∷ []) (D.state disk.old) (D.state disk.new) }
+    ensures set { IsHonest (D.state disk.old)
+        → OnOk result (IsSet misfit.entry misfit.length (D.state disk.old) (D.state disk.new)) }
+{
+    let mended = mended(bytes, misfit);
+    write_mbr(disk, &mended[446..512])
+}
+
+// The bytes with the length and the end of this entry set right.
+fn mended(bytes: &[u8; 512], misfit: Misfit) -> [u8; 512]
+    requires { misfit.entry < 4 }
+    ensures laid { result ≡ overlay (overlay bytes.now (451 + 16 * misfit.entry) (0xFF ∷ 0xFF ∷ 0xFF ∷ []))
+        (458 + 16 * misfit.entry) (little_bytes 4 misfit.length) }
+    ensures in_range { misfit.length < 2 ^ 32 }
+{
+    let at = ENTRIES + ENTRY_SIZE * misfit.entry;
+    let mut mended = *bytes;
+    put(&mut mended, at + 5, &LAST_END);
+    put_u32(&mut mended, at + 12, misfit.length);
+    mended
 }
 
 // Writes the bytes from 446 to 511, and syncs them.
@@ -125,80 +220,12 @@ fn write_mbr<D: Disk>(disk: &mut D, bytes: &[u8]) -> Result<()>
     ensures keeps { Keeps (D.state disk.old) (D.state disk.new) }
     ensures cause { HasCause result (D.state disk.old) (D.state disk.new) }
     ensures wrote { Writes (mbr_range ∷ []) (D.state disk.old) (D.state disk.new) }
+    ensures laid { IsHonest (D.state disk.old)
+        → OnOk result ((D.state disk.new).view ≡ overlay (D.state disk.old).view 446 bytes.now) }
     ensures synced { IsHonest (D.state disk.old) → OnOk result ((D.state disk.new).pending ≡ []) }
 {
     disk.seek_start(MBR_START)?;
     disk.write_all(bytes)?;
     disk.sync()?;
     Ok(())
-}
-
-// What is to become of an MBR, on a disk of so many sectors.
-fn change_of(bytes: &[u8; 512], sectors: u64, may_make: bool) -> MbrChange {
-    if is_missing(bytes) {
-        return if may_make {
-            MbrChange::Made
-        } else {
-            MbrChange::Left
-        };
-    }
-    match find_protective(bytes) {
-        Some(at) if !is_right(bytes, at, sectors) => MbrChange::Mended,
-        _ => MbrChange::Left,
-    }
-}
-
-// Whether there is no 55 AA, or no entry at all.
-fn is_missing(bytes: &[u8; 512]) -> bool {
-    !has_at(bytes, 510, &[0x55, 0xaa]) || is_empty(bytes)
-}
-
-// The place of the protective entry, if it is the only entry.
-fn find_protective(bytes: &[u8; 512]) -> Option<usize> {
-    let mut found = None;
-    for at in ENTRIES {
-        match bytes[at + 4] {
-            0 => (),
-            PROTECTIVE if found.is_none() => found = Some(at),
-            _ => return None,
-        }
-    }
-    found
-}
-
-// Whether the entry at this place covers a disk of so many sectors.
-fn is_right(bytes: &[u8; 512], at: usize, sectors: u64) -> bool {
-    let first = u32_at(bytes, at.saturating_add(8));
-    let length = u32_at(bytes, at.saturating_add(12));
-    first == 1 && (length == length_for(sectors) || length == u32::MAX)
-}
-
-// The length of a protective entry on a disk of so many sectors.
-fn length_for(sectors: u64) -> u32 {
-    sectors.saturating_sub(1).min(u64::from(u32::MAX)) as u32
-}
-
-// The bytes with the only protective entry set right, on a disk of so many sectors.
-fn mended(bytes: &[u8; 512], sectors: u64) -> [u8; 512] {
-    let mut mended = *bytes;
-    match find_protective(bytes) {
-        Some(446) => set_right(&mut mended, 446, sectors),
-        Some(462) => set_right(&mut mended, 462, sectors),
-        Some(478) => set_right(&mut mended, 478, sectors),
-        Some(494) => set_right(&mut mended, 494, sectors),
-        _ => (),
-    }
-    mended
-}
-
-// Sets the length and the end of the entry at this place right, and its start if that is not sector 1.
-fn set_right(bytes: &mut [u8], at: usize, sectors: u64)
-    requires { at + 16 ≤ length bytes.old }
-{
-    put(bytes, at + 5, &[0xff, 0xff, 0xff]);
-    if u32_at(bytes, at.saturating_add(8)) != 1 {
-        put(bytes, at + 1, &[0, 2, 0]);
-        put_u32(bytes, at + 8, 1);
-    }
-    put_u32(bytes, at + 12, length_for(sectors));
 }

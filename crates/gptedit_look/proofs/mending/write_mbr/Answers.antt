@@ -1,4 +1,5 @@
-use Rattle.std.proofs.Common.{◌≡◌, arith}
+use Rattle.std.proofs.Common.{◌≡◌, ◌∙◌, arith}
+use Rattle.gptman_copy.specs.Disk.{overlay}
 use Rattle.gptman_copy.proofs.Ranges.{within_none, within_range}
 use Rattle.gptman_copy.proofs.Runs.{wrote_then, wrote_wider}
 use Rattle.gptedit_look.proofs.mending.write_mbr.Goals as goal
@@ -22,3 +23,11 @@ returns-clause-wrote g c = λ honest.
     let at : (g.D.Disk.state c.seek_start.new.self).position ≡ 446 = c.in_ok-seek_start.ensures.answer.1 in
     let wrote = wrote_then (within_range (omega (arith, at)) (omega (arith, at, c.requires.length))) (wrote_wider within_none read.wrote) (c.write_all.ensures.wrote read.wrote.honest) in
     wrote_then within_none wrote (c.sync.ensures.wrote wrote.honest)
+
+pub returns-clause-laid : goal.returns-clause-laid
+returns-clause-laid g c = λ honest.
+    let read = c.seek_start.ensures.reads.only honest in
+    let laid = c.in_ok-write_all.ensures.laid read.wrote.honest in
+    let at : (g.D.Disk.state c.seek_start.new.self).position ≡ 446 = c.in_ok-seek_start.ensures.answer.1 in
+    let wrote = c.write_all.ensures.wrote read.wrote.honest in
+    c.sync.ensures.view wrote.honest ∙ laid.view ∙ (λ i. overlay (read.view i) (at i) c.args.bytes.now)

@@ -1,0 +1,25 @@
+use Rattle.std.proofs.Common.{◌≡◌, ◌≤◌, ◌<◌, ◌^◌, ◌+◌, ◌*◌, ℕ, List, [], ◌∷◌, length, ap, sym, subst, ◌∙◌, arith}
+use Rattle.std.specs.Prelude.{slice_range}
+use Rattle.byteorder.specs.Endian.{little_bytes}
+use Rattle.gptman_copy.specs.Bytes.{part}
+use Rattle.gptman_copy.specs.Disk.{overlay}
+use Rattle.gptedit_look.specs.Protective.{HasLength}
+use Rattle.gptedit_look.proofs.Changes.{on_ok_both}
+use Rattle.gptedit_look.proofs.Lengths.{has_length}
+use Rattle.gptedit_look.proofs.mending.set_length.Goals as goal
+
+pub returns-clause-set : goal.returns-clause-set
+returns-clause-set g c = λ honest.
+    let old = g.D.Disk.state c.args.disk.now in
+    let i = c.args.misfit.entry in
+    let n = c.args.misfit.length in
+    let laid_over : List ℕ → List ℕ = λ b. overlay (overlay b (451 + 16 * i) (0xFF ∷ 0xFF ∷ 0xFF ∷ [])) (458 + 16 * i) (little_bytes 4 n) in
+    let fits : n < 256 ^ 4 = omega (arith, c.mended-mended.ensures.in_range) in
+    let room : 512 ≤ length old.view = omega (arith, (g.met.D.Disk.sound c.args.disk.now honest).size, c.requires.room) in
+    let bytes : c.mended-mended.result ≡ laid_over (part old.view 0 512) = c.mended-mended.ensures.laid ∙ ap laid_over (c.requires.bytes honest) in
+    on_ok_both c.write_mbr.result (c.write_mbr.ensures.laid honest) (c.write_mbr.ensures.synced honest) (λ laid synced. record {
+      bytes = subst (λ (v : List ℕ). HasLength i n old.view v)
+          (sym (laid ∙ ap (λ (m : List ℕ). overlay old.view 446 (slice_range m 446 512)) bytes))
+          (has_length old.view i n c.requires.place fits room);
+      synced = synced;
+    })
