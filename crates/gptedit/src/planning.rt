@@ -83,7 +83,7 @@ fn find_replaced(
     next: &GPT,
 ) -> Result<Option<Obstacle>, Failure> {
     let disk = &mut image.opened.disk;
-    let found = match find_obstacle(alloc, disk, look, Purpose::Edit, next) {
+    let found = match find_obstacle(disk, look, Purpose::Edit, next) {
         Ok(Some(obstacle)) if obstacle.what == What::BoardCode => obstacle,
         Ok(_) => return Ok(None),
         Err(error) => return Err(refuse_error(alloc, image.name, &error)),
@@ -197,7 +197,7 @@ fn refuse_obstacles(
         return refuse_dos(alloc, image.name, look);
     }
     let disk = &mut image.opened.disk;
-    match find_obstacle(alloc, disk, look, task.purpose, &plan.next) {
+    match find_obstacle(disk, look, task.purpose, &plan.next) {
         Ok(None) => (),
         Ok(Some(obstacle)) => {
             return Err(refuse_obstacle(alloc, image.name, look, task.purpose, &obstacle));

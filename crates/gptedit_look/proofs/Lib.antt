@@ -4,3 +4,4 @@ pub mod Writing
 pub mod Spared
 pub mod Lengths
 pub mod Changes
+pub mod Clears

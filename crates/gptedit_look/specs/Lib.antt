@@ -5,3 +5,4 @@ pub mod Guarded
 pub mod Seen
 pub mod Protective
 pub mod Mended
+pub mod Wiped

@@ -1,5 +1,8 @@
 -- What a look at a disk sees.
-use Rattle.std.specs.Prelude.{ℕ}
+use Rattle.std.specs.Prelude.{◌≡◌, ◌≢◌, ◌≤◌, ◌<◌, ◌⊎◌, ◌+◌, ℕ, List, [], ◌∷◌, Option, Some, None}
+use Rattle.gptman_copy.specs.Bytes.{part}
+use Rattle.gptman_copy.specs.Coding.{header_of}
+use Rattle.gptman_copy.specs.Disk.{DiskState}
 use Rattle.gptman_copy.specs.declared.codec.header.GPTHeader.{GPTHeader}
 use Rattle.gptedit_look.specs.declared.raw.RawHeader.{RawHeader}
 
@@ -18,3 +21,21 @@ raw_of at h = record {
   count = h.number_of_partition_entries;
   entry_size = h.size_of_partition_entry;
 }
+
+-- EFI PART
+abbrev pub efi_part : List ℕ
+efi_part = 0x45 ∷ 0x46 ∷ 0x49 ∷ 0x20 ∷ 0x50 ∷ 0x41 ∷ 0x52 ∷ 0x54 ∷ []
+
+-- the header in the 92 bytes from this one on
+abbrev pub header_at : DiskState → ℕ → GPTHeader
+header_at disk at = header_of (part disk.view at 92)
+
+-- the fields of a header, if it begins with EFI PART
+abbrev pub IsRawOf : ℕ → GPTHeader → Option RawHeader → Type 0
+IsRawOf at h (Some raw) = (h.signature ≡ efi_part) × (raw ≡ raw_of at h)
+IsRawOf at h None = h.signature ≢ efi_part
+
+-- What is seen at a byte: a header that begins with EFI PART and does not pass the end, or none.
+abbrev pub IsSeenAt : DiskState → ℕ → Option RawHeader → Type 0
+IsSeenAt disk at (Some raw) = (at + 92 ≤ disk.size) × IsRawOf at (header_at disk at) (Some raw)
+IsSeenAt disk at None = (disk.size < at + 92) ⊎ IsRawOf at (header_at disk at) None

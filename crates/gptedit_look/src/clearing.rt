@@ -1,11 +1,21 @@
 //! Clearing what makes a disk look like one with a table.
 
+ghost use Rattle.std.specs.Prelude.{◌≡◌, ◌≤◌, ◌<◌, ◌+◌, ◌*◌, ◌↔◌, ℕ, [], IfOk, IsTrue, OnOk, Some as Present};
+ghost use Rattle.gptman.specs.Answers.{HasCause, Refuses};
+ghost use Rattle.gptman.specs.Disk.{IsHonest, Keeps, Reads, Writes};
+ghost use Rattle.gptman_copy.specs.Fault.{io};
+ghost use Rattle.gptman_copy.specs.Ranges.{Inside};
+ghost use Rattle.gptedit_look.specs.Guard.{last_of, IsIn};
+ghost use Rattle.gptedit_look.specs.Wiped.{ranges_in, Adds, HasUsualEntries, IsApartFrom, IsBeside, IsCleared, IsClearOf, IsOfCopies, IsOfMbr, IsOfOwn, IsOfPlace, IsOfRaw, IsOfSignature, IsOfWhole, IsWiped, WritesOnly};
+
+use crate::bytes::start_of;
 use crate::first_sector::MbrKind;
 use crate::raw::RawHeader;
 use crate::seen::Look;
 use crate::signatures::{Place, Signature, place_at};
 use crate::zeros::{Zeroed, put_zeros};
 use gptman::{Disk, Error, GPTHeader, Result};
+use gptman_copy::copy::WholeCopy;
 use std::alloc::Global;
 
 // The bytes of a signature.
@@ -17,25 +27,42 @@ const HEADER_SIZE: u64 = 92;
 // The bytes of an entry.
 const ENTRY_SIZE: u64 = 128;
 
-// The entries and the end of an MBR.
-const MBR: Zeroed = Zeroed {
-    start: 446,
-    length: 66,
-};
+// The most entries that a header may count.
+const MOST_ENTRIES: u32 = 32768;
+
+// The byte at which the entries of an MBR begin.
+const MBR_START: u64 = 446;
+
+// The bytes of its entries and of its end.
+const MBR_SIZE: u64 = 66;
 
 /// Writes 8 zeros over each signature of another sector size than this one that the look saw, but for those in
 /// the table that now stands with this sector size. It is synced.
 ///
 /// # Errors
 /// `Io` if the disk failed.
-pub fn clear_signatures<D: Disk>(disk: &mut D, look: &Look, sector_size: u64) -> Result<()> {
+pub fn clear_signatures<D: Disk>(disk: &mut D, look: &Look, sector_size: u64) -> Result<()>
+    ensures keeps { Keeps (D.state disk.old) (D.state disk.new) }
+    ensures cause { HasCause result (D.state disk.old) (D.state disk.new) }
+{
     let primary = read_header(disk, Place::Start, sector_size)?;
     let backup = read_header(disk, Place::End, sector_size)?;
-    for signature in look.signatures.iter() {
-        if signature.sector_size != sector_size
-            && !is_in_table(signature, primary, sector_size)
-            && !is_in_table(signature, backup, sector_size)
-        {
+    clear_beside(disk, &look.signatures, primary, backup, sector_size)
+}
+
+// Clears the signatures of another sector size that are beside the copies with these headers.
+fn clear_beside<D: Disk>(
+    disk: &mut D,
+    signatures: &[Signature],
+    primary: Option<GPTHeader>,
+    backup: Option<GPTHeader>,
+    sector_size: u64,
+) -> Result<()>
+    ensures keeps { Keeps (D.state disk.old) (D.state disk.new) }
+    ensures cause { HasCause result (D.state disk.old) (D.state disk.new) }
+{
+    for signature in signatures {
+        if is_beside(signature, primary, backup, sector_size) {
             put_zeros(disk, all_of(signature))?;
         }
     }
@@ -43,12 +70,41 @@ pub fn clear_signatures<D: Disk>(disk: &mut D, look: &Look, sector_size: u64) ->
     Ok(())
 }
 
+// Whether a signature is one of another sector size, and beside these copies.
+fn is_beside(
+    signature: &Signature,
+    primary: Option<GPTHeader>,
+    backup: Option<GPTHeader>,
+    sector_size: u64,
+) -> bool
+    ensures { IsTrue result ↔ IsBeside primary backup sector_size signature.now }
+{
+    signature.sector_size != sector_size
+        && is_clear_of(signature, primary, sector_size)
+        && is_clear_of(signature, backup, sector_size)
+}
+
 // The header at this place, if it is good.
-fn read_header<D: Disk>(disk: &mut D, place: Place, sector_size: u64) -> Result<Option<GPTHeader>> {
+fn read_header<D: Disk>(disk: &mut D, place: Place, sector_size: u64) -> Result<Option<GPTHeader>>
+    ensures reads { Reads (D.state disk.old) (D.state disk.new) }
+    ensures cause { HasCause result (D.state disk.old) (D.state disk.new) }
+{
     let size = disk.seek_end()?;
     let Some(at) = place_at(place, sector_size, size) else {
         return Ok(None);
     };
+    if size - at < HEADER_SIZE {
+        return Ok(None);
+    }
+    read_header_at(disk, at)
+}
+
+// The header at this byte, if it is good.
+fn read_header_at<D: Disk>(disk: &mut D, at: u64) -> Result<Option<GPTHeader>>
+    requires { at + 92 ≤ (D.state disk.old).size }
+    ensures reads { Reads (D.state disk.old) (D.state disk.new) }
+    ensures cause { HasCause result (D.state disk.old) (D.state disk.new) }
+{
     disk.seek_start(at)?;
     match GPTHeader::read_from(disk) {
         Ok(header) => Ok(Some(header)),
@@ -57,21 +113,33 @@ fn read_header<D: Disk>(disk: &mut D, place: Place, sector_size: u64) -> Result<
     }
 }
 
-fn all_of(signature: &Signature) -> Zeroed {
+fn all_of(signature: &Signature) -> Zeroed
+    ensures at { result.start ≡ signature.now.at }
+    ensures length { result.length ≡ 8 }
+{
     Zeroed {
         start: signature.at,
         length: SIGNATURE_SIZE,
     }
 }
 
-// Whether a byte of the signature is one of the copy with this header.
-fn is_in_table(signature: &Signature, header: Option<GPTHeader>, sector_size: u64) -> bool {
-    let Some(header) = header else {
-        return false;
-    };
+// Whether no byte of the signature is one of the copy with this header, if there is one.
+fn is_clear_of(signature: &Signature, header: Option<GPTHeader>, sector_size: u64) -> bool
+    ensures { IsTrue result ↔ IsClearOf signature.now sector_size header }
+{
+    match header {
+        Some(header) => is_apart_from(signature, &header, sector_size),
+        None => true,
+    }
+}
+
+// Whether none is one of this copy.
+fn is_apart_from(signature: &Signature, header: &GPTHeader, sector_size: u64) -> bool
+    ensures { IsTrue result ↔ IsApartFrom signature.now sector_size header.now }
+{
     let entries = ENTRY_SIZE * u64::from(header.number_of_partition_entries);
-    overlaps(signature.at, header.primary_lba, sector_size, HEADER_SIZE)
-        || overlaps(
+    is_apart(signature.at, header.primary_lba, sector_size, HEADER_SIZE)
+        && is_apart(
             signature.at,
             header.partition_entry_lba,
             sector_size,
@@ -79,11 +147,13 @@ fn is_in_table(signature: &Signature, header: Option<GPTHeader>, sector_size: u6
         )
 }
 
-// Whether a signature at this byte has one in common with so many from this sector on.
-fn overlaps(at: u64, sector: u64, sector_size: u64, length: u64) -> bool {
-    let start = u128::from(sector) * u128::from(sector_size);
+// Whether a signature at this byte has none in common with so many from this sector on.
+fn is_apart(at: u64, sector: u64, sector_size: u64, length: u64) -> bool
+    ensures { IsTrue result ↔ ((k : ℕ) → IsIn at 8 k → ¬ IsIn (sector * sector_size) length k) }
+{
+    let start = start_of(sector, sector_size);
     let at = u128::from(at);
-    at < start + u128::from(length) && start < at + u128::from(SIGNATURE_SIZE)
+    length == 0 || start + u128::from(length) <= at || at + u128::from(SIGNATURE_SIZE) <= start
 }
 
 /// Clears both copies of the table, the signatures of all sector sizes, and the entries of a protective MBR. Of a
@@ -92,9 +162,28 @@ fn overlaps(at: u64, sector: u64, sector_size: u64, length: u64) -> bool {
 ///
 /// # Errors
 /// `Io` if the disk failed, `OutOfMemory` if there was no memory: then nothing is written.
-pub fn wipe<D: Disk>(alloc: Global, disk: &mut D, look: &Look) -> Result<()> {
+pub fn wipe<D: Disk>(alloc: Global, disk: &mut D, look: &Look) -> Result<()>
+    ensures keeps { Keeps (D.state disk.old) (D.state disk.new) }
+    ensures cause { HasCause result (D.state disk.old) (D.state disk.new) }
+
+    // No other byte changes at any moment.
+    ensures only { WritesOnly (IsWiped look.now) (D.state disk.old) (D.state disk.new) }
+    ensures cleared { IsHonest (D.state disk.old)
+        → OnOk result (IsCleared (IsWiped look.now) (D.state disk.new)) }
+{
     let ranges = ranges_of(alloc, look)?;
-    for range in ranges.iter() {
+    clear_all(disk, &ranges)
+}
+
+// Clears the ranges, and syncs them.
+fn clear_all<D: Disk>(disk: &mut D, ranges: &[Zeroed]) -> Result<()>
+    ensures keeps { Keeps (D.state disk.old) (D.state disk.new) }
+    ensures cause { HasCause result (D.state disk.old) (D.state disk.new) }
+    ensures wrote { Writes (ranges_in ranges.now) (D.state disk.old) (D.state disk.new) }
+    ensures cleared { IsHonest (D.state disk.old)
+        → OnOk result (IsCleared (Inside (ranges_in ranges.now)) (D.state disk.new)) }
+{
+    for range in ranges {
         put_zeros(disk, *range)?;
     }
     disk.sync()?;
@@ -102,37 +191,109 @@ pub fn wipe<D: Disk>(alloc: Global, disk: &mut D, look: &Look) -> Result<()> {
 }
 
 // All ranges that a wipe clears.
-fn ranges_of(alloc: Global, look: &Look) -> Result<Vec<Zeroed>> {
+fn ranges_of(alloc: Global, look: &Look) -> Result<Vec<Zeroed>>
+    ensures io { ¬ Refuses result io }
+    ensures adds { IfOk result (λ ranges. Adds (IsWiped look.now) [] ranges.items) }
+{
     let mut ranges = Vec::new(alloc);
-    match &look.copies.primary {
-        Ok(copy) if copy.header.primary_lba == 1 => {
-            push_copy(&mut ranges, &copy.header, look.sector_size)?
-        }
-        _ => push_raw(&mut ranges, look.primary_header, look.sector_size)?,
-    }
-    match &look.copies.backup {
-        Ok(copy) if copy.header.primary_lba == last_of(look) => {
-            push_copy(&mut ranges, &copy.header, look.sector_size)?
-        }
-        _ => push_raw(&mut ranges, look.backup_header, look.sector_size)?,
-    }
+    push_copies(&mut ranges, look)?;
     push_raw(&mut ranges, look.moved_header, look.sector_size)?;
-    for signature in look.signatures.iter() {
-        ranges.push(all_of(signature))?;
-    }
-    if look.first_sector.kind == MbrKind::Protective {
-        ranges.push(MBR)?;
-    }
+    push_signatures(&mut ranges, &look.signatures)?;
+    push_mbr(&mut ranges, look.first_sector.kind)?;
     Ok(ranges)
 }
 
+// Both copies.
+fn push_copies(ranges: &mut Vec<Zeroed>, look: &Look) -> Result<()>
+    ensures io { ¬ Refuses result io }
+    ensures adds { OnOk result (Adds (IsOfCopies look.now) ranges.old.items ranges.new.items) }
+{
+    let size = look.sector_size;
+    push_place(ranges, 1, &look.copies.primary, look.primary_header, size)?;
+    push_place(
+        ranges,
+        last_of(look),
+        &look.copies.backup,
+        look.backup_header,
+        size,
+    )
+}
+
 // The last whole sector.
-fn last_of(look: &Look) -> u64 {
-    (look.size / look.sector_size.max(1)).saturating_sub(1)
+fn last_of(look: &Look) -> u64
+    ensures { result ≡ last_of look.now }
+{
+    (look.size / look.sector_size).saturating_sub(1)
+}
+
+// The copy whose place is this sector: the good one, or the header that was seen there.
+fn push_place(
+    ranges: &mut Vec<Zeroed>,
+    sector: u64,
+    copy: &Result<WholeCopy>,
+    seen: Option<RawHeader>,
+    sector_size: u64,
+) -> Result<()>
+    requires { 0 < sector_size }
+    ensures io { ¬ Refuses result io }
+    ensures adds { OnOk result
+        (Adds (λ k. IsOfPlace sector sector_size k seen copy.now) ranges.old.items ranges.new.items) }
+{
+    match copy {
+        Ok(copy) => push_own(ranges, sector, &copy.header, seen, sector_size),
+        Err(_) => push_raw(ranges, seen, sector_size),
+    }
+}
+
+// The good copy with this header, if it says that its place is this sector, or the header that was seen there.
+fn push_own(
+    ranges: &mut Vec<Zeroed>,
+    sector: u64,
+    header: &GPTHeader,
+    seen: Option<RawHeader>,
+    sector_size: u64,
+) -> Result<()>
+    requires { 0 < sector_size }
+    ensures io { ¬ Refuses result io }
+    ensures adds { OnOk result
+        (Adds (IsOfOwn header.now sector sector_size seen) ranges.old.items ranges.new.items) }
+{
+    if header.primary_lba == sector {
+        push_copy(ranges, header, sector_size)
+    } else {
+        push_raw(ranges, seen, sector_size)
+    }
+}
+
+// The signatures.
+fn push_signatures(ranges: &mut Vec<Zeroed>, signatures: &[Signature]) -> Result<()>
+    ensures io { ¬ Refuses result io }
+    ensures adds { OnOk result
+        (Adds (λ k. IsOfSignature k signatures.now) ranges.old.items ranges.new.items) }
+{
+    for signature in signatures {
+        ranges.push(all_of(signature))?;
+    }
+    Ok(())
+}
+
+// The entries and the end of a protective MBR.
+fn push_mbr(ranges: &mut Vec<Zeroed>, kind: MbrKind) -> Result<()>
+    ensures io { ¬ Refuses result io }
+    ensures adds { OnOk result (Adds (IsOfMbr kind) ranges.old.items ranges.new.items) }
+{
+    if kind != MbrKind::Protective {
+        return Ok(());
+    }
+    push_range(ranges, MBR_START, MBR_SIZE)
 }
 
 // The header and the entries of a copy.
-fn push_copy(ranges: &mut Vec<Zeroed>, header: &GPTHeader, sector_size: u64) -> Result<()> {
+fn push_copy(ranges: &mut Vec<Zeroed>, header: &GPTHeader, sector_size: u64) -> Result<()>
+    ensures io { ¬ Refuses result io }
+    ensures adds { OnOk result
+        (Adds (IsOfWhole header.now sector_size) ranges.old.items ranges.new.items) }
+{
     let entries = ENTRY_SIZE * u64::from(header.number_of_partition_entries);
     push(ranges, header.primary_lba, sector_size, HEADER_SIZE)?;
     if header.partition_entry_lba < 2 {
@@ -142,38 +303,66 @@ fn push_copy(ranges: &mut Vec<Zeroed>, header: &GPTHeader, sector_size: u64) -> 
 }
 
 // So many bytes from this sector on.
-fn push(ranges: &mut Vec<Zeroed>, sector: u64, sector_size: u64, length: u64) -> Result<()> {
-    if let Some(start) = sector.checked_mul(sector_size) {
-        ranges.push(Zeroed { start, length })?;
+fn push(ranges: &mut Vec<Zeroed>, sector: u64, sector_size: u64, length: u64) -> Result<()>
+    ensures io { ¬ Refuses result io }
+    ensures adds { OnOk result
+        (Adds (IsIn (sector * sector_size) length) ranges.old.items ranges.new.items) }
+{
+    match sector.checked_mul(sector_size) {
+        Some(start) => push_range(ranges, start, length),
+        None => Ok(()),
     }
+}
+
+// So many bytes from this one on.
+fn push_range(ranges: &mut Vec<Zeroed>, start: u64, length: u64) -> Result<()>
+    ensures io { ¬ Refuses result io }
+    ensures adds { OnOk result (Adds (IsIn start length) ranges.old.items ranges.new.items) }
+{
+    ranges.push(Zeroed { start, length })?;
     Ok(())
 }
 
 // A header that may be broken, and its entries if they are where they usually are.
-fn push_raw(ranges: &mut Vec<Zeroed>, header: Option<RawHeader>, sector_size: u64) -> Result<()> {
-    let Some(header) = header else {
-        return Ok(());
-    };
-    ranges.push(Zeroed {
-        start: header.at,
-        length: HEADER_SIZE,
-    })?;
-    let entries = ENTRY_SIZE * u64::from(header.count);
-    if has_usual_entries(&header, entries, sector_size) {
-        push(ranges, header.entries_lba, sector_size, entries)?;
+fn push_raw(ranges: &mut Vec<Zeroed>, header: Option<RawHeader>, sector_size: u64) -> Result<()>
+    requires { 0 < sector_size }
+    ensures io { ¬ Refuses result io }
+    ensures adds { OnOk result
+        (Adds (λ k. IsOfRaw sector_size k header) ranges.old.items ranges.new.items) }
+{
+    match header {
+        Some(header) => push_seen(ranges, &header, sector_size),
+        None => Ok(()),
     }
-    Ok(())
 }
 
-// Whether the entries of a header are in sector 2, or end before the header in the last sector.
-fn has_usual_entries(header: &RawHeader, entries: u64, sector_size: u64) -> bool {
-    let sectors = entries.div_ceil(sector_size.max(1));
-    let sector = header.at / sector_size.max(1);
-    if header.count > 32768 || header.entry_size != 128 {
+// The same of one that was seen.
+fn push_seen(ranges: &mut Vec<Zeroed>, header: &RawHeader, sector_size: u64) -> Result<()>
+    requires { 0 < sector_size }
+    ensures io { ¬ Refuses result io }
+    ensures adds { OnOk result
+        (Adds (λ k. IsOfRaw sector_size k (Present header.now)) ranges.old.items ranges.new.items) }
+{
+    push_range(ranges, header.at, HEADER_SIZE)?;
+    if !has_usual_entries(header, sector_size) {
+        return Ok(());
+    }
+    let entries = ENTRY_SIZE * u64::from(header.count);
+    push(ranges, header.entries_lba, sector_size, entries)
+}
+
+// Whether the entries of a header in sector 1 are in sector 2, or those of another end before it.
+fn has_usual_entries(header: &RawHeader, sector_size: u64) -> bool
+    requires { 0 < sector_size }
+    ensures { IsTrue result ↔ HasUsualEntries header.now sector_size }
+{
+    if header.count > MOST_ENTRIES || header.entry_size != 128 {
         return false;
     }
-    match sector {
-        1 => header.entries_lba == 2,
-        _ => sector.checked_sub(sectors) == Some(header.entries_lba) && header.entries_lba > 1,
+    let sector = header.at / sector_size;
+    if sector == 1 {
+        return header.entries_lba == 2;
     }
+    let sectors = (ENTRY_SIZE * u64::from(header.count)).div_ceil(sector_size);
+    header.entries_lba > 1 && sector.checked_sub(sectors) == Some(header.entries_lba)
 }

@@ -16,7 +16,6 @@ use crate::seen::{Look, Obstacle, Purpose, What};
 use crate::touched::{Touched, TouchedCopy, touched_by};
 use crate::what::{known_beside, name_of};
 use gptman::{Disk, GPT, Result};
-use std::alloc::Global;
 
 // The most bytes that are read at a time.
 const BLOCK: u64 = 512;
@@ -32,7 +31,6 @@ const BLOCK: u64 = 512;
 /// # Errors
 /// `Io` if the disk failed.
 pub fn find_obstacle<D: Disk>(
-    _alloc: Global,
     disk: &mut D,
     look: &Look,
     purpose: Purpose,

@@ -5,11 +5,10 @@ ghost use Rattle.gptman.specs.Answers.{HasCause};
 ghost use Rattle.gptman.specs.Disk.{IsHonest, Reads};
 ghost use Rattle.gptman_copy.specs.Bytes.{part as bytes_at};
 ghost use Rattle.gptman_copy.specs.Coding.{header_of};
-ghost use Rattle.gptedit_look.specs.Seen.{raw_of};
+ghost use Rattle.gptedit_look.specs.Seen.{header_at, raw_of, IsRawOf, IsSeenAt};
 
 use crate::signatures::{Place, SIGNATURE, place_at};
 use gptman::{Disk, GPTHeader, Result};
-use std::alloc::Global;
 
 // The bytes of a header.
 const LENGTH: u64 = 92;
@@ -65,10 +64,9 @@ impl RawHeader {
 /// Reads the header at this place, if it begins with `EFI PART`.
 ///
 /// # Errors
-/// `Io` if the disk failed, `OutOfMemory` if there was no memory.
+/// `Io` if the disk failed.
 #[tactic(auto, using(gptman_copy::proofs::Readers::both_read, gptman_copy::proofs::Runs::rose_since))]
 pub fn read_raw_header<D: Disk>(
-    alloc: Global,
     disk: &mut D,
     sector_size: u64,
     place: Place,
@@ -78,7 +76,7 @@ pub fn read_raw_header<D: Disk>(
 {
     let size = disk.seek_end()?;
     match place_at(place, sector_size, size) {
-        Some(at) => read_raw_header_at(alloc, disk, at),
+        Some(at) => read_raw_header_at(disk, at),
         None => Ok(None),
     }
 }
@@ -88,23 +86,41 @@ pub fn read_raw_header<D: Disk>(
 /// # Errors
 /// `Io` if the disk failed.
 #[tactic(auto, using(gptman_copy::proofs::Readers::both_read, gptman_copy::proofs::Runs::rose_since))]
-pub fn read_raw_header_at<D: Disk>(
-    _alloc: Global,
-    disk: &mut D,
-    at: u64,
-) -> Result<Option<RawHeader>>
+pub fn read_raw_header_at<D: Disk>(disk: &mut D, at: u64) -> Result<Option<RawHeader>>
     ensures reads { Reads (D.state disk.old) (D.state disk.new) }
     ensures cause { HasCause result (D.state disk.old) (D.state disk.new) }
+
+    // A header is answered exactly where there is one, with the fields that are on the disk.
+    ensures seen { IsHonest (D.state disk.old) → IfOk result (IsSeenAt (D.state disk.old) at) }
 {
     let size = disk.seek_end()?;
     if at > size || size - at < LENGTH {
         return Ok(None);
     }
+    read_inside(disk, at)
+}
+
+// The same where it does not pass the end.
+fn read_inside<D: Disk>(disk: &mut D, at: u64) -> Result<Option<RawHeader>>
+    requires { at + 92 ≤ (D.state disk.old).size }
+    ensures reads { Reads (D.state disk.old) (D.state disk.new) }
+    ensures cause { HasCause result (D.state disk.old) (D.state disk.new) }
+    ensures seen { IsHonest (D.state disk.old)
+        → IfOk result (IsRawOf at (header_at (D.state disk.old) at)) }
+{
     let header = read_header(disk, at)?;
-    if header.signature != SIGNATURE {
-        return Ok(None);
+    Ok(raw_of(at, &header))
+}
+
+// The fields of this header, if it begins with `EFI PART`.
+fn raw_of(at: u64, header: &GPTHeader) -> Option<RawHeader>
+    ensures { IsRawOf at header.now result }
+{
+    if header.signature == SIGNATURE {
+        Some(RawHeader::of(at, header))
+    } else {
+        None
     }
-    Ok(Some(RawHeader::of(at, &header)))
 }
 
 // Reads the fields of a header at this byte.

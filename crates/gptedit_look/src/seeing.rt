@@ -32,7 +32,7 @@ pub fn look<D: Disk>(alloc: Global, disk: &mut D, sector_size: Option<u64>) -> R
     ensures reads { Reads (D.state disk.old) (D.state disk.new) }
     ensures cause { HasCause result (D.state disk.old) (D.state disk.new) }
 {
-    if let Some(count) = find_too_many(alloc, disk, sector_size)? {
+    if let Some(count) = find_too_many(disk, sector_size)? {
         return Ok(Looked::TooMany(count));
     }
     Ok(Looked::Seen(look_whole(alloc, disk, sector_size)?))
@@ -51,31 +51,27 @@ fn look_whole<D: Disk>(alloc: Global, disk: &mut D, sector_size: Option<u64>) ->
 
 // The greatest number of entries that a header counts, if it is too great.
 #[tactic(auto, using(gptman_copy::proofs::Readers::both_read, gptman_copy::proofs::Runs::rose_since))]
-fn find_too_many<D: Disk>(
-    alloc: Global,
-    disk: &mut D,
-    sector_size: Option<u64>,
-) -> Result<Option<u32>>
+fn find_too_many<D: Disk>(disk: &mut D, sector_size: Option<u64>) -> Result<Option<u32>>
     ensures reads { Reads (D.state disk.old) (D.state disk.new) }
     ensures cause { HasCause result (D.state disk.old) (D.state disk.new) }
 {
     match sector_size {
-        Some(size) => find_too_many_in(alloc, disk, size),
-        None => match find_too_many_in(alloc, disk, 512)? {
+        Some(size) => find_too_many_in(disk, size),
+        None => match find_too_many_in(disk, 512)? {
             Some(count) => Ok(Some(count)),
-            None => find_too_many_in(alloc, disk, 4096),
+            None => find_too_many_in(disk, 4096),
         },
     }
 }
 
 // The same with sectors of this size.
 #[tactic(auto, using(gptman_copy::proofs::Readers::both_read, gptman_copy::proofs::Runs::rose_since))]
-fn find_too_many_in<D: Disk>(alloc: Global, disk: &mut D, sector_size: u64) -> Result<Option<u32>>
+fn find_too_many_in<D: Disk>(disk: &mut D, sector_size: u64) -> Result<Option<u32>>
     ensures reads { Reads (D.state disk.old) (D.state disk.new) }
     ensures cause { HasCause result (D.state disk.old) (D.state disk.new) }
 {
-    let primary = read_raw_header(alloc, disk, sector_size, Place::Start)?;
-    let backup = read_raw_header(alloc, disk, sector_size, Place::End)?;
+    let primary = read_raw_header(disk, sector_size, Place::Start)?;
+    let backup = read_raw_header(disk, sector_size, Place::End)?;
     Ok(too_many_of(primary).or(too_many_of(backup)))
 }
 
@@ -155,8 +151,8 @@ fn see_on<D: Disk>(
     ensures reads { Reads (D.state disk.old) (D.state disk.new) }
     ensures cause { HasCause result (D.state disk.old) (D.state disk.new) }
 {
-    let moved = read_moved(alloc, disk, sector_size, size, copies)?;
-    let headers = read_headers(alloc, disk, sector_size, moved)?;
+    let moved = read_moved(disk, sector_size, size, copies)?;
+    let headers = read_headers(disk, sector_size, moved)?;
     let known = find_known(alloc, disk, sector_size, size)?;
     Ok((headers, known))
 }
@@ -182,7 +178,6 @@ struct Known {
 // The raw headers, beside the one that moved.
 #[tactic(auto, using(gptman_copy::proofs::Readers::both_read, gptman_copy::proofs::Runs::rose_since))]
 fn read_headers<D: Disk>(
-    alloc: Global,
     disk: &mut D,
     sector_size: u64,
     moved: Option<RawHeader>,
@@ -190,8 +185,8 @@ fn read_headers<D: Disk>(
     ensures reads { Reads (D.state disk.old) (D.state disk.new) }
     ensures cause { HasCause result (D.state disk.old) (D.state disk.new) }
 {
-    let primary = read_raw_header(alloc, disk, sector_size, Place::Start)?;
-    let backup = read_raw_header(alloc, disk, sector_size, Place::End)?;
+    let primary = read_raw_header(disk, sector_size, Place::Start)?;
+    let backup = read_raw_header(disk, sector_size, Place::End)?;
     Ok(Headers {
         primary,
         backup,
@@ -259,7 +254,6 @@ fn assemble(
 
 // The header where a good primary header says that the other one is, if that is not the last sector.
 fn read_moved<D: Disk>(
-    alloc: Global,
     disk: &mut D,
     sector_size: u64,
     size: u64,
@@ -279,5 +273,5 @@ fn read_moved<D: Disk>(
     if sector < 2 || sector >= sectors.saturating_sub(1) {
         return Ok(None);
     }
-    read_raw_header_at(alloc, disk, at)
+    read_raw_header_at(disk, at)
 }

@@ -1,7 +1,9 @@
 //! Where `EFI PART` is: in sector 1 or in the last sector, for each sector size.
 
+ghost use Rattle.std.specs.Prelude.{◌<◌, ◌/◌, SomeIff};
 ghost use Rattle.gptman.specs.Answers.{HasCause};
 ghost use Rattle.gptman.specs.Disk.{Reads};
+ghost use Rattle.gptedit_look.specs.Wiped.{byte_of};
 
 use crate::blocks::{has_at, read_block};
 use gptman::{Disk, Result};
@@ -34,7 +36,9 @@ pub struct Signature {
 }
 
 /// Returns the byte at which the header at this place begins, on a disk of `size` bytes, if there is room for it.
-pub fn place_at(place: Place, sector_size: u64, size: u64) -> Option<u64> {
+pub fn place_at(place: Place, sector_size: u64, size: u64) -> Option<u64>
+    ensures { SomeIff result (1 < size / sector_size) (byte_of place sector_size size) }
+{
     let sectors = size.checked_div(sector_size)?;
     match place {
         Place::Start if sectors > 1 => Some(sector_size),

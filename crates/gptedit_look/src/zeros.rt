@@ -1,8 +1,9 @@
 //! Writing zeros.
 
-ghost use Rattle.std.specs.Prelude.{◌≤◌, ◌+◌, [], ◌∷◌};
+ghost use Rattle.std.specs.Prelude.{◌≤◌, ◌+◌, [], ◌∷◌, OnOk};
 ghost use Rattle.gptman.specs.Answers.{HasCause};
-ghost use Rattle.gptman.specs.Disk.{Keeps, Writes};
+ghost use Rattle.gptman.specs.Disk.{IsHonest, Keeps, Writes};
+ghost use Rattle.gptedit_look.specs.Wiped.{AreZeros};
 
 use gptman::{Disk, Result};
 
@@ -26,6 +27,8 @@ pub fn put_zeros<D: Disk>(disk: &mut D, range: Zeroed) -> Result<()>
     ensures keeps { Keeps (D.state disk.old) (D.state disk.new) }
     ensures cause { HasCause result (D.state disk.old) (D.state disk.new) }
     ensures wrote { Writes ((range.start, range.length) ∷ []) (D.state disk.old) (D.state disk.new) }
+    ensures zeros { IsHonest (D.state disk.old)
+        → OnOk result (AreZeros range.start range.length (D.state disk.new).view) }
 {
     let size = disk.seek_end()?;
     let end = range.start.saturating_add(range.length).min(size);
@@ -45,6 +48,7 @@ fn put_block<D: Disk>(disk: &mut D, at: u64, count: u64) -> Result<()>
     ensures keeps { Keeps (D.state disk.old) (D.state disk.new) }
     ensures cause { HasCause result (D.state disk.old) (D.state disk.new) }
     ensures wrote { Writes ((at, count) ∷ []) (D.state disk.old) (D.state disk.new) }
+    ensures zeros { IsHonest (D.state disk.old) → OnOk result (AreZeros at count (D.state disk.new).view) }
 {
     let zeros = [0; 512];
     disk.seek_start(at)?;

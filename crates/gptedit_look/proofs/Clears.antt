@@ -1,0 +1,292 @@
+-- Ranges that are cleared.
+use Rattle.std.proofs.Common.{true, ◌≡◌, ◌≤◌, ◌<◌, ◌⊎◌, ⊎_elim, ◌∙◌, ◌+◌, ◌-◌, ◌*◌, ◌^◌, ℕ, zero, suc, List, [], ◌∷◌, ◌++◌, length, get_or, take, drop, replicate, inl, inr, sym, subst, refl, ap, arith, Option, Some, None, Result, Ok, Err}
+use Rattle.std.specs.Prelude.{◌≢◌, ◌↔◌, ◌/◌, Bool, nat_eq, IsTrue, OnOk, SomeIff}
+use Rattle.std.specs.Option.{option_eq}
+use Rattle.std.proofs.Common.{eq-eqb}
+use Rattle.std.proofs.lemmas.Bool.Decides.{eqb_tells}
+use native.Mathlib.Nat.{add-mul, mul-le-mul_right, one-mul}
+use Rattle.std.proofs.lemmas.Bool.{cases_lt, false≢true}
+use Rattle.std.proofs.lemmas.List.{get_or_past, length-take-le}
+use Rattle.gptman_copy.specs.Disk.{overlay, AgreesOutside, DiskState, IsSound, Outside, Reads, Within, Writes}
+use Rattle.gptman_copy.specs.Ranges.{Inside}
+use Rattle.gptman_copy.specs.declared.codec.header.GPTHeader.{GPTHeader}
+use Rattle.gptman_copy.specs.declared.copy.WholeCopy.{WholeCopy}
+use Rattle.gptman_copy.specs.declared.error.Error.{Error}
+use Rattle.gptedit_look.specs.declared.raw.RawHeader.{RawHeader}
+use Rattle.gptman_copy.proofs.Overlays.{overlay_inside}
+use Rattle.gptman_copy.proofs.Ranges.{within_later, within_none, within_range, within_self}
+use Rattle.gptman_copy.proofs.Runs.{wrote_not, wrote_then, wrote_wider}
+use Rattle.gptedit_look.specs.Guard.{IsIn}
+use Rattle.gptedit_look.specs.Wiped.{ranges_in, Adds, AreZeros, EndsBefore, HasUsualEntries, IsCleared, IsOfMbr, IsOfOwn, IsOfPlace, IsOfRaw, IsOfSignature, IsOfWhole, WritesOnly}
+use Rattle.gptedit_look.specs.declared.first_sector.MbrKind.{MbrKind}
+use Rattle.gptedit_look.specs.declared.first_sector.MbrKind.TheVariants.{None as MbrNone, Other, Protective, Hybrid, Dos}
+use Rattle.gptedit_look.specs.declared.signatures.Signature.{Signature}
+use Rattle.gptedit_look.specs.declared.zeros.Zeroed.{Zeroed}
+use Rattle.gptedit_look.proofs.Spared.{in_or_out}
+
+-- one range more
+pub inside_push : (rs : List Zeroed) (r : Zeroed) (k : ℕ) → Inside (ranges_in (rs ++ r ∷ [])) k ↔ (Inside (ranges_in rs) k ⊎ IsIn r.start r.length k)
+inside_push [] r k = (λ h. ⊎_elim (λ x. inr x) (λ no. absurd no) h, λ h. ⊎_elim (λ no. absurd no) (λ x. inl x) h)
+inside_push (s ∷ rs) r k =
+    let more = inside_push rs r k in (
+      λ h. ⊎_elim (λ x. inl (inl x)) (λ x. ⊎_elim (λ y. inl (inr y)) (λ y. inr y) (more.0 x)) h,
+      λ h. ⊎_elim (λ x. ⊎_elim (λ y. inl y) (λ y. inr (more.1 (inl y))) x) (λ x. inr (more.1 (inr x))) h,
+    )
+
+pub adds_range : (rs new : List Zeroed) (start n : ℕ) (r : Zeroed) → r.start ≡ start → r.length ≡ n → new ≡ rs ++ r ∷ [] → Adds (IsIn start n) rs new
+adds_range rs new start n r at long is =
+    let same : (k : ℕ) → IsIn r.start r.length k → IsIn start n k = λ k h. (omega (arith, at, h.0), omega (arith, at, long, h.1)) in
+    let back : (k : ℕ) → IsIn start n k → IsIn r.start r.length k = λ k h. (omega (arith, at, h.0), omega (arith, at, long, h.1)) in
+    subst (λ (xs : List Zeroed). Adds (IsIn start n) rs xs) (sym is) (record {
+      only = λ k h. ⊎_elim (λ x. inl x) (λ x. inr (same k x)) ((inside_push rs r k).0 h);
+      kept = λ k h. (inside_push rs r k).1 (inl h);
+      all = λ k fits h. (inside_push rs r k).1 (inr (back k h));
+    })
+
+-- nothing
+pub adds_none : (P : ℕ → Type 0) (rs : List Zeroed) → ((k : ℕ) → k < 18446744073709551616 → ¬ P k) → Adds P rs rs
+adds_none P rs none = record { only = λ k h. inl h; kept = λ k h. h; all = λ k fits h. absurd (none k fits h) }
+
+-- one after another
+pub adds_then : (P Q : ℕ → Type 0) (a b c : List Zeroed) → Adds P a b → Adds Q b c → Adds (λ k. P k ⊎ Q k) a c
+adds_then P Q a b c ab bc = record {
+  only = λ k h. ⊎_elim (λ x. ⊎_elim (λ y. inl y) (λ y. inr (inl y)) (ab.only k x)) (λ x. inr (inr x)) (bc.only k h);
+  kept = λ k h. bc.kept k (ab.kept k h);
+  all = λ k fits h. ⊎_elim (λ x. bc.kept k (ab.all k fits x)) (λ x. bc.all k fits x) h;
+}
+
+-- the same said otherwise
+pub adds_as : (P Q : ℕ → Type 0) (a b : List Zeroed) → ((k : ℕ) → P k → Q k) → ((k : ℕ) → Q k → P k) → Adds P a b → Adds Q a b
+adds_as P Q a b to back ab = record {
+  only = λ k h. ⊎_elim (λ x. inl x) (λ x. inr (to k x)) (ab.only k h);
+  kept = ab.kept;
+  all = λ k fits h. ab.all k fits (back k h);
+}
+
+-- what is in the rest of a list is in the list
+pub signature_drop : (i : ℕ) (signatures : List Signature) (k : ℕ) → IsOfSignature k (drop i signatures) → IsOfSignature k signatures
+signature_drop zero signatures k h = h
+signature_drop (suc i) [] k h = h
+signature_drop (suc i) (s ∷ signatures) k h = inr (signature_drop i signatures k h)
+
+pub outside_drop : (i : ℕ) (rs : List Zeroed) (k : ℕ) → Outside (ranges_in rs) k → Outside (ranges_in (drop i rs)) k
+outside_drop zero rs k out = out
+outside_drop (suc i) [] k out = out
+outside_drop (suc i) (r ∷ rs) k out = outside_drop i rs k out.1
+
+-- one range of a list lies in the list
+pub within_all : (i : ℕ) (rs more : List Zeroed) (r : Zeroed) → drop i rs ≡ r ∷ more → Within ((r.start, r.length) ∷ []) (ranges_in rs)
+within_all i rs more r is = record {
+  covers = λ k out.
+      let rest : Outside (ranges_in (r ∷ more)) k = subst (λ (xs : List Zeroed). Outside (ranges_in xs) k) is (outside_drop i rs k out) in
+      (rest.0, tt);
+}
+
+-- where a range was set to zeros, what was zero is zero
+pub zero_stays : (start n : ℕ) (a b : List ℕ) → AgreesOutside ((start, n) ∷ []) a b → AreZeros start n b → (k : ℕ) → get_or a k 0 ≡ 0 → get_or b k 0 ≡ 0
+zero_stays start n a b agrees zeros k was = ⊎_elim (λ here. zeros k here) (λ out. agrees.same k (out, tt) ∙ was) (in_or_out start n k)
+
+-- each range before i is set to zeros
+abbrev pub AreSet : List Zeroed → List Zeroed → List ℕ → Type 0
+AreSet rs rest b = (k : ℕ) → Inside (ranges_in rs) k → Inside (ranges_in rest) k ⊎ (get_or b k 0 ≡ 0)
+
+pub set_more : (rs more rest : List Zeroed) (r : Zeroed) (a b : List ℕ) → rest ≡ r ∷ more → AgreesOutside ((r.start, r.length) ∷ []) a b → AreZeros r.start r.length b
+    → AreSet rs rest a → AreSet rs more b
+set_more rs more rest r a b is agrees zeros set k inside =
+    ⊎_elim
+    (λ here. let there : Inside (ranges_in (r ∷ more)) k = subst (λ (xs : List Zeroed). Inside (ranges_in xs) k) is here in
+    ⊎_elim (λ x. inr (zeros k x)) (λ x. inl x) there)
+    (λ was. inr (zero_stays r.start r.length a b agrees zeros k was)) (set k inside)
+
+-- so many zeros
+abbrev pub zeros : ℕ → List ℕ
+zeros m = replicate m 0
+
+-- the first of many
+pub zeros_are : (n m k : ℕ) → get_or (take n (zeros m)) k 0 ≡ 0
+zeros_are zero m k = refl
+zeros_are (suc n) zero k = refl
+zeros_are (suc n) (suc m) zero = refl
+zeros_are (suc n) (suc m) (suc k) = zeros_are n m k
+
+-- zeros that were laid over bytes
+pub zeros_laid : (old new bytes : List ℕ) (position at n : ℕ) → position ≡ at → length bytes ≡ n → at + n ≤ length old → ((k : ℕ) → get_or bytes k 0 ≡ 0)
+    → new ≡ overlay old position bytes → AreZeros at n new
+zeros_laid old new bytes position at n is long fits zeros laid k here =
+    let room : position + length bytes ≤ length old = omega (arith, is, long, fits) in
+    let low : position ≤ k = omega (arith, is, here.0) in
+    let high : k < position + length bytes = omega (arith, is, long, here.1) in
+    ap (λ (b : List ℕ). get_or b k 0) laid ∙ overlay_inside old position bytes room k low high ∙ zeros (k - position)
+
+-- one block more
+pub zeros_more : (start at n : ℕ) (a b : List ℕ) → AgreesOutside ((at, n) ∷ []) a b → AreZeros at n b
+    → ((k : ℕ) → start ≤ k → k < at → get_or a k 0 ≡ 0) → (k : ℕ) → start ≤ k → k < at + n → get_or b k 0 ≡ 0
+zeros_more start at n a b agrees zeros before k from below =
+    ⊎_elim (λ (lt : k < at). agrees.same k (inl lt, tt) ∙ before k from lt) (λ (ge : at ≤ k). zeros k (ge, below)) (cases_lt k at)
+
+-- all of them, as far as the disk goes
+pub zeros_all : (start n at end size : ℕ) (b : List ℕ) → length b ≡ size → end ≤ at → ((end ≡ size) ⊎ (end ≡ start + n)) ⊎ (size ≤ start)
+    → ((k : ℕ) → start ≤ k → k < at → get_or b k 0 ≡ 0) → AreZeros start n b
+zeros_all start n at end size b long done ends before k here =
+    ⊎_elim (λ (lt : k < at). before k here.0 lt) (λ (ge : at ≤ k).
+    let past : length b ≤ k = ⊎_elim (λ e. ⊎_elim (λ is. omega (arith, long, done, ge, is)) (λ is. absurd (omega (arith, is, done, ge, here.1))) e)
+    (λ far. omega (arith, long, far, here.0)) ends in
+    get_or_past b k 0 past) (cases_lt k at)
+
+-- entries that fill so many sectors end before a sector where these are the last before it
+pub ends_before : (sector first n ss sectors : ℕ) → n ≤ sectors * ss → sectors * ss < n + ss → first + sectors ≡ sector → EndsBefore sector first n ss
+ends_before sector first n ss sectors low high is =
+    let all : sector * ss ≡ first * ss + sectors * ss = ap (λ (x : ℕ). x * ss) (sym is) ∙ add-mul first sectors ss in
+    (omega (arith, all, low), omega (arith, all, high))
+
+-- and nowhere else
+pub ends_only : (sector first n ss sectors : ℕ) → n ≤ sectors * ss → sectors * ss < n + ss → EndsBefore sector first n ss → first + sectors ≡ sector
+ends_only sector first n ss sectors low high ends =
+    let all : (first + sectors) * ss ≡ first * ss + sectors * ss = add-mul first sectors ss in
+    ⊎_elim (λ (lt : first + sectors < sector).
+    let le : first + sectors + 1 ≤ sector = omega (arith, lt) in
+    let up : (first + sectors + 1) * ss ≤ sector * ss = mul-le-mul_right ss le in
+    let more : (first + sectors + 1) * ss ≡ (first + sectors) * ss + 1 * ss = add-mul (first + sectors) 1 ss in
+    let one : 1 * ss ≡ ss = one-mul ss in
+    absurd (omega (arith, all, up, more, one, low, high, ends.1)))
+    (λ (ge : sector ≤ first + sectors). ⊎_elim (λ (lt : sector < first + sectors).
+    let le : sector + 1 ≤ first + sectors = omega (arith, lt) in
+    let up : (sector + 1) * ss ≤ (first + sectors) * ss = mul-le-mul_right ss le in
+    let more : (sector + 1) * ss ≡ sector * ss + 1 * ss = add-mul sector 1 ss in
+    let one : 1 * ss ≡ ss = one-mul ss in
+    absurd (omega (arith, all, up, more, one, low, high, ends.0)))
+    (λ (le : first + sectors ≤ sector). omega (arith, ge, le)) (cases_lt sector (first + sectors))) (cases_lt (first + sectors) sector)
+
+-- an MBR of another kind is left
+pub no_mbr : (kind : MbrKind) → kind ≢ Protective → (k : ℕ) → ¬ IsOfMbr kind k
+no_mbr Protective other k h = other refl
+no_mbr MbrNone other k h = h
+no_mbr Other other k h = h
+no_mbr Hybrid other k h = h
+no_mbr Dos other k h = h
+
+pub adds_mbr : (kind : MbrKind) (a b : List Zeroed) → kind ≡ Protective → Adds (IsIn 446 66) a b → Adds (IsOfMbr kind) a b
+adds_mbr kind a b is adds = subst (λ (x : MbrKind). Adds (IsOfMbr x) a b) (sym is) adds
+
+-- what a list of signatures adds, one after another
+pub signature_added : (signatures more : List Signature) (old now new : List Zeroed) (i : ℕ) (s : Signature) (r : Zeroed) → drop i signatures ≡ s ∷ more
+    → r.start ≡ s.at → r.length ≡ 8 → new ≡ now ++ r ∷ []
+    → ((k : ℕ) → Inside (ranges_in now) k → Inside (ranges_in old) k ⊎ IsOfSignature k signatures)
+    → (k : ℕ) → Inside (ranges_in new) k → Inside (ranges_in old) k ⊎ IsOfSignature k signatures
+signature_added signatures more old now new i s r rest at long is only k inside =
+    let here : Inside (ranges_in (now ++ r ∷ [])) k = subst (λ (xs : List Zeroed). Inside (ranges_in xs) k) is inside in
+    ⊎_elim (λ x. only k x)
+    (λ x. inr (signature_drop i signatures k (subst (λ (xs : List Signature). IsOfSignature k xs) (sym rest) (inl (omega (arith, at, x.0), omega (arith, at, long, x.1))))))
+    ((inside_push now r k).0 here)
+
+pub signature_all : (signatures more : List Signature) (now new : List Zeroed) (i : ℕ) (s : Signature) (r : Zeroed) → drop i signatures ≡ s ∷ more
+    → r.start ≡ s.at → r.length ≡ 8 → new ≡ now ++ r ∷ []
+    → ((k : ℕ) → IsOfSignature k signatures → IsOfSignature k (drop i signatures) ⊎ Inside (ranges_in now) k)
+    → (k : ℕ) → IsOfSignature k signatures → IsOfSignature k more ⊎ Inside (ranges_in new) k
+signature_all signatures more now new i s r rest at long is all k h =
+    let at_new : Inside (ranges_in (now ++ r ∷ [])) k → Inside (ranges_in new) k = λ x. subst (λ (xs : List Zeroed). Inside (ranges_in xs) k) (sym is) x in
+    ⊎_elim
+    (λ x. let there : IsOfSignature k (s ∷ more) = subst (λ (xs : List Signature). IsOfSignature k xs) rest x in
+    ⊎_elim (λ y. inr (at_new ((inside_push now r k).1 (inr (omega (arith, at, y.0), omega (arith, at, long, y.1)))))) (λ y. inl y) there)
+    (λ x. inr (at_new ((inside_push now r k).1 (inl x)))) (all k h)
+
+pub signature_kept : (old now new : List Zeroed) (r : Zeroed) → new ≡ now ++ r ∷ []
+    → ((k : ℕ) → Inside (ranges_in old) k → Inside (ranges_in now) k) → (k : ℕ) → Inside (ranges_in old) k → Inside (ranges_in new) k
+signature_kept old now new r is kept k h = subst (λ (xs : List Zeroed). Inside (ranges_in xs) k) (sym is) ((inside_push now r k).1 (inl (kept k h)))
+
+-- a fact after Ok
+pub on_ok_as : {T E P R : Type 0} → (r : Result T E) → OnOk r P → (P → R) → OnOk r R
+on_ok_as (Ok x) p f = f p
+on_ok_as (Err e) p f = tt
+
+-- a range that begins at a sector, or does not fit
+pub adds_at : (start place n : ℕ) (a b : List Zeroed) → start ≡ place → Adds (IsIn start n) a b → Adds (IsIn place n) a b
+adds_at start place n a b is adds = subst (λ (x : ℕ). Adds (IsIn x n) a b) is adds
+
+pub adds_far : (place n : ℕ) (a : List Zeroed) → ¬ (place < 2 ^ 64) → Adds (IsIn place n) a a
+adds_far place n a far = adds_none (IsIn place n) a (λ k fits h. far (omega (arith, fits, h.0)))
+
+-- a copy without entries behind the first two sectors
+pub adds_bare : (h : GPTHeader) (ss : ℕ) (a b : List Zeroed) → h.partition_entry_lba < 2 → Adds (IsIn (h.primary_lba * ss) 92) a b → Adds (IsOfWhole h ss) a b
+adds_bare h ss a b low adds = adds_as (IsIn (h.primary_lba * ss) 92) (IsOfWhole h ss) a b (λ k x. inl x) (λ k x. ⊎_elim (λ y. y) (λ y. absurd (omega (arith, low, y.0))) x) adds
+
+-- and with them
+pub adds_whole : (h : GPTHeader) (ss : ℕ) (a b c : List Zeroed) → 2 ≤ h.partition_entry_lba → Adds (IsIn (h.primary_lba * ss) 92) a b
+    → Adds (IsIn (h.partition_entry_lba * ss) (128 * h.number_of_partition_entries)) b c → Adds (IsOfWhole h ss) a c
+adds_whole h ss a b c high one two =
+    adds_as _ (IsOfWhole h ss) a c (λ k x. ⊎_elim (λ y. inl y) (λ y. inr (high, y)) x) (λ k x. ⊎_elim (λ y. inl y) (λ y. inr y.1) x)
+    (adds_then (IsIn (h.primary_lba * ss) 92) (IsIn (h.partition_entry_lba * ss) (128 * h.number_of_partition_entries)) a b c one two)
+
+-- a header that was seen, without usual entries
+pub adds_alone : (h : RawHeader) (ss : ℕ) (a b : List Zeroed) → ¬ HasUsualEntries h ss → Adds (IsIn h.at 92) a b → Adds (λ k. IsOfRaw ss k (Some h)) a b
+adds_alone h ss a b other adds = adds_as (IsIn h.at 92) (λ k. IsOfRaw ss k (Some h)) a b (λ k x. inl x) (λ k x. ⊎_elim (λ y. y) (λ y. absurd (other y.0)) x) adds
+
+-- and with them
+pub adds_seen : (h : RawHeader) (ss : ℕ) (a b c : List Zeroed) → HasUsualEntries h ss → Adds (IsIn h.at 92) a b
+    → Adds (IsIn (h.entries_lba * ss) (128 * h.count)) b c → Adds (λ k. IsOfRaw ss k (Some h)) a c
+adds_seen h ss a b c usual one two =
+    adds_as _ (λ k. IsOfRaw ss k (Some h)) a c (λ k x. ⊎_elim (λ y. inl y) (λ y. inr (usual, y)) x) (λ k x. ⊎_elim (λ y. inl y) (λ y. inr y.1) x)
+    (adds_then (IsIn h.at 92) (IsIn (h.entries_lba * ss) (128 * h.count)) a b c one two)
+
+pub adds_raw : (ss : ℕ) (raw seen : Option RawHeader) (a b : List Zeroed) → raw ≡ seen → Adds (λ k. IsOfRaw ss k seen) a b → Adds (λ k. IsOfRaw ss k raw) a b
+adds_raw ss raw seen a b is adds = subst (λ (x : Option RawHeader). Adds (λ k. IsOfRaw ss k x) a b) (sym is) adds
+
+pub adds_nothing : (ss : ℕ) (raw : Option RawHeader) (a : List Zeroed) → raw ≡ None → Adds (λ k. IsOfRaw ss k raw) a a
+adds_nothing ss raw a is = adds_raw ss raw None a a is (adds_none (λ k. IsOfRaw ss k None) a (λ k fits h. h))
+
+-- the copy that says that its place is this sector, and another
+pub adds_own : (h : GPTHeader) (sector ss : ℕ) (raw : Option RawHeader) (a b : List Zeroed) → h.primary_lba ≡ sector → Adds (IsOfWhole h ss) a b → Adds (IsOfOwn h sector ss raw) a b
+adds_own h sector ss raw a b is adds = adds_as (IsOfWhole h ss) (IsOfOwn h sector ss raw) a b (λ k x. inl (is, x)) (λ k x. ⊎_elim (λ y. y.1) (λ y. absurd (y.0 is)) x) adds
+
+pub adds_other : (h : GPTHeader) (sector ss : ℕ) (raw : Option RawHeader) (a b : List Zeroed) → h.primary_lba ≢ sector → Adds (λ k. IsOfRaw ss k raw) a b → Adds (IsOfOwn h sector ss raw) a b
+adds_other h sector ss raw a b other adds =
+    adds_as (λ k. IsOfRaw ss k raw) (IsOfOwn h sector ss raw) a b (λ k x. inr (other, x)) (λ k x. ⊎_elim (λ y. absurd (other y.0)) (λ y. y.1) x) adds
+
+-- what was said of a copy is said of its place
+pub adds_place : (sector ss : ℕ) (raw : Option RawHeader) (copy same : Result WholeCopy Error) (a b : List Zeroed) → copy ≡ same
+    → Adds (λ k. IsOfPlace sector ss k raw same) a b → Adds (λ k. IsOfPlace sector ss k raw copy) a b
+adds_place sector ss raw copy same a b is adds = subst (λ (x : Result WholeCopy Error). Adds (λ k. IsOfPlace sector ss k raw x) a b) (sym is) adds
+
+-- what a wipe may change, and what it clears
+pub wiped_only : (P : ℕ → Type 0) (rs : List Zeroed) (old new : DiskState) → Adds P [] rs → Writes (ranges_in rs) old new → WritesOnly P old new
+wiped_only P rs old new adds wrote = record { ranges = ranges_in rs; within = λ k h. ⊎_elim (λ no. absurd no) (λ x. x) (adds.only k h); wrote = wrote }
+
+pub wiped_cleared : (P : ℕ → Type 0) (rs : List Zeroed) (disk : DiskState) → Adds P [] rs → length disk.view < 18446744073709551616
+    → IsCleared (Inside (ranges_in rs)) disk → IsCleared P disk
+wiped_cleared P rs disk adds small cleared = record {
+  zero = λ k h. ⊎_elim (λ (fits : k < 18446744073709551616). cleared.zero k (adds.all k fits h))
+      (λ (far : 18446744073709551616 ≤ k). let past : length disk.view ≤ k = omega (arith, small, far) in get_or_past disk.view k 0 past) (cases_lt k 18446744073709551616);
+  synced = cleared.synced;
+}
+
+-- so many of 512 zeros
+pub zeros_part : (n : ℕ) → n ≤ 512 → length (take n (zeros 512)) ≡ n
+zeros_part n few = length-take-le n (zeros 512) few
+
+-- one range of a list more
+pub clear_wrote : {a b c : DiskState} (rs : List Zeroed) (i : ℕ) (r : Zeroed) → drop i rs ≡ r ∷ drop (i + 1) rs → Writes ((r.start, r.length) ∷ []) b c
+    → Writes (ranges_in rs) a b → Writes (ranges_in rs) a c
+clear_wrote rs i r is next before honest = let ab = before honest in wrote_then (within_all i rs (drop (i + 1) rs) r is) ab (next ab.honest)
+
+-- what the test of usual entries answers, of a header that is not in sector 1
+pub usual_iff : (h : RawHeader) (ss sectors : ℕ) (sub : Option ℕ) (result : Bool) → h.count ≤ 32768 → h.entry_size ≡ 128 → 1 < h.entries_lba → h.at / ss ≢ 1
+    → 128 * h.count ≤ sectors * ss → sectors * ss < 128 * h.count + ss → SomeIff sub (sectors ≤ h.at / ss) (h.at / ss - sectors)
+    → result ≡ option_eq nat_eq sub (Some h.entries_lba) → IsTrue result ↔ HasUsualEntries h ss
+usual_iff h ss sectors None result few size behind other low high sub is = (
+  λ yes. absurd (false≢true (sym is ∙ yes)),
+  λ usual. absurd (sub (⊎_elim (λ (first : (h.at / ss ≡ 1) × (h.entries_lba ≡ 2)). absurd (other first.0))
+      (λ (x : (h.at / ss ≢ 1) × EndsBefore (h.at / ss) h.entries_lba (128 * h.count) ss).
+      let sum : h.entries_lba + sectors ≡ h.at / ss = ends_only (h.at / ss) h.entries_lba (128 * h.count) ss sectors low high x.1 in omega (arith, sum)) usual.place)),
+)
+usual_iff h ss sectors (Some x) result few size behind other low high sub is = (
+  λ yes. let same : x ≡ h.entries_lba = ⊎_elim (λ t. t.1) (λ f. absurd (false≢true (sym f.0 ∙ sym is ∙ yes))) (eqb_tells x h.entries_lba) in
+      record {
+        few = few;
+        entry_size = size;
+        behind = omega (arith, behind);
+        place = inr (other, ends_before (h.at / ss) h.entries_lba (128 * h.count) ss sectors low high (omega (arith, same, sub.0, sub.1)));
+      },
+  λ usual. is ∙ eq-eqb x h.entries_lba (⊎_elim (λ (first : (h.at / ss ≡ 1) × (h.entries_lba ≡ 2)). absurd (other first.0))
+      (λ (y : (h.at / ss ≢ 1) × EndsBefore (h.at / ss) h.entries_lba (128 * h.count) ss).
+      let sum : h.entries_lba + sectors ≡ h.at / ss = ends_only (h.at / ss) h.entries_lba (128 * h.count) ss sectors low high y.1 in omega (arith, sum, sub.0, sub.1)) usual.place),
+)
