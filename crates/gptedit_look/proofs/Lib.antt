@@ -5,3 +5,4 @@ pub mod Spared
 pub mod Lengths
 pub mod Changes
 pub mod Clears
+pub mod Beside

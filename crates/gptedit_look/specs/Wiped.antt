@@ -100,6 +100,17 @@ pub record IsBeside (one second : Option GPTHeader) (ss : ℕ) (signature : Sign
   pub primary : IsClearOf signature ss one
   pub backup : IsClearOf signature ss second
 
+-- k is one of such a signature
+abbrev pub IsOfBeside : Option GPTHeader → Option GPTHeader → ℕ → ℕ → List Signature → Type 0
+IsOfBeside primary backup ss k [] = ⊥
+IsOfBeside primary backup ss k (signature ∷ signatures) =
+    (IsBeside primary backup ss signature × IsIn signature.at 8 k) ⊎ IsOfBeside primary backup ss k signatures
+
+-- k is one of a signature of another sector size
+abbrev pub IsOfOther : ℕ → ℕ → List Signature → Type 0
+IsOfOther ss k [] = ⊥
+IsOfOther ss k (signature ∷ signatures) = ((signature.sector_size ≢ ss) × IsIn signature.at 8 k) ⊎ IsOfOther ss k signatures
+
 -- the ranges of a list
 abbrev pub ranges_in : List Zeroed → List (ℕ × ℕ)
 ranges_in [] = []

@@ -6,7 +6,7 @@ ghost use Rattle.gptman.specs.Disk.{IsHonest, Keeps, Reads, Writes};
 ghost use Rattle.gptman_copy.specs.Fault.{io};
 ghost use Rattle.gptman_copy.specs.Ranges.{Inside};
 ghost use Rattle.gptedit_look.specs.Guard.{last_of, IsIn};
-ghost use Rattle.gptedit_look.specs.Wiped.{ranges_in, Adds, HasUsualEntries, IsApartFrom, IsBeside, IsCleared, IsClearOf, IsOfCopies, IsOfMbr, IsOfOwn, IsOfPlace, IsOfRaw, IsOfSignature, IsOfWhole, IsWiped, WritesOnly};
+ghost use Rattle.gptedit_look.specs.Wiped.{ranges_in, Adds, HasUsualEntries, IsApartFrom, IsBeside, IsCleared, IsClearOf, IsOfBeside, IsOfCopies, IsOfMbr, IsOfOther, IsOfOwn, IsOfPlace, IsOfRaw, IsOfSignature, IsOfWhole, IsWiped, WritesOnly};
 
 use crate::bytes::start_of;
 use crate::first_sector::MbrKind;
@@ -44,6 +44,10 @@ const MBR_SIZE: u64 = 66;
 pub fn clear_signatures<D: Disk>(disk: &mut D, look: &Look, sector_size: u64) -> Result<()>
     ensures keeps { Keeps (D.state disk.old) (D.state disk.new) }
     ensures cause { HasCause result (D.state disk.old) (D.state disk.new) }
+
+    // No byte changes at any moment but those of signatures of another sector size.
+    ensures only { WritesOnly (λ k. IsOfOther sector_size k look.now.signatures.items)
+        (D.state disk.old) (D.state disk.new) }
 {
     let primary = read_header(disk, Place::Start, sector_size)?;
     let backup = read_header(disk, Place::End, sector_size)?;
@@ -60,14 +64,33 @@ fn clear_beside<D: Disk>(
 ) -> Result<()>
     ensures keeps { Keeps (D.state disk.old) (D.state disk.new) }
     ensures cause { HasCause result (D.state disk.old) (D.state disk.new) }
+    ensures only { WritesOnly (λ k. IsOfBeside primary backup sector_size k signatures.now)
+        (D.state disk.old) (D.state disk.new) }
 {
     for signature in signatures {
-        if is_beside(signature, primary, backup, sector_size) {
-            put_zeros(disk, all_of(signature))?;
-        }
+        clear_one(disk, signature, primary, backup, sector_size)?;
     }
     disk.sync()?;
     Ok(())
+}
+
+// Clears a signature if it is one of another sector size, and beside these copies.
+fn clear_one<D: Disk>(
+    disk: &mut D,
+    signature: &Signature,
+    primary: Option<GPTHeader>,
+    backup: Option<GPTHeader>,
+    sector_size: u64,
+) -> Result<()>
+    ensures keeps { Keeps (D.state disk.old) (D.state disk.new) }
+    ensures cause { HasCause result (D.state disk.old) (D.state disk.new) }
+    ensures only { WritesOnly (λ k. IsBeside primary backup sector_size signature.now × IsIn signature.now.at 8 k)
+        (D.state disk.old) (D.state disk.new) }
+{
+    if !is_beside(signature, primary, backup, sector_size) {
+        return Ok(());
+    }
+    put_zeros(disk, all_of(signature))
 }
 
 // Whether a signature is one of another sector size, and beside these copies.

@@ -1,0 +1,84 @@
+-- Signatures that are cleared beside a table.
+use Rattle.std.proofs.Common.{true, ◌≡◌, ◌≤◌, ◌<◌, ◌⊎◌, ⊎_elim, ◌+◌, ℕ, zero, suc, List, [], ◌∷◌, ◌++◌, drop, inl, inr, sym, subst, arith, Option}
+use Rattle.gptman_copy.specs.Disk.{DiskState, IsSound, Reads, Writes}
+use Rattle.gptman_copy.specs.declared.codec.header.GPTHeader.{GPTHeader}
+use Rattle.gptman_copy.proofs.Ranges.{within_left, within_none, within_right, within_self}
+use Rattle.gptman_copy.proofs.Runs.{wrote_not, wrote_then, wrote_wider}
+use Rattle.gptedit_look.proofs.Pieces.{inside_of_both}
+use Rattle.gptedit_look.specs.Guard.{IsIn}
+use Rattle.gptedit_look.specs.Wiped.{IsBeside, IsOfBeside, IsOfOther, WritesOnly}
+use Rattle.gptedit_look.specs.declared.signatures.Signature.{Signature}
+
+-- before anything is written
+pub only_not : (P : ℕ → Type 0) (a : DiskState) → (a.is_honest ≡ true → IsSound a) → WritesOnly P a a
+only_not P a sound = record { ranges = []; within = λ k no. absurd no; wrote = λ honest. wrote_not [] a honest (sound honest) }
+
+-- one range alone
+pub only_one : (P : ℕ → Type 0) (start n : ℕ) (a b : DiskState) → Writes ((start, n) ∷ []) a b → ((k : ℕ) → IsIn start n k → P k) → WritesOnly P a b
+only_one P start n a b wrote may = record { ranges = (start, n) ∷ []; within = λ k h. ⊎_elim (λ here. may k here) (λ no. absurd no) h; wrote = wrote }
+
+-- one signature, at its place
+pub only_signature : (Q : Type 0) (s : Signature) (start n : ℕ) (a b : DiskState) → Q → start ≡ s.at → n ≡ 8 → Writes ((start, n) ∷ []) a b
+    → WritesOnly (λ k. Q × IsIn s.at 8 k) a b
+only_signature Q s start n a b is at long wrote =
+    only_one (λ k. Q × IsIn s.at 8 k) start n a b wrote (λ k here. (is, (omega (arith, at, here.0), omega (arith, at, long, here.1))))
+
+-- one after another
+pub only_both : (P Q : ℕ → Type 0) (a b c : DiskState) → ((k : ℕ) → Q k → P k) → WritesOnly P a b → WritesOnly Q b c → WritesOnly P a c
+only_both P Q a b c to first next = record {
+  ranges = next.ranges ++ first.ranges;
+  within = λ k h. ⊎_elim (λ x. to k (next.within k x)) (λ x. first.within k x) ((inside_of_both next.ranges first.ranges k).0 h);
+  wrote = λ honest.
+      let ab = first.wrote honest in
+      wrote_then (within_left next.ranges first.ranges) (wrote_wider (within_right next.ranges first.ranges) ab) (next.wrote ab.honest);
+}
+
+-- what writes nothing
+pub only_still : (P : ℕ → Type 0) (a b c : DiskState) → WritesOnly P a b → Writes [] b c → WritesOnly P a c
+only_still P a b c first next = record {
+  ranges = first.ranges;
+  within = first.within;
+  wrote = λ honest. let ab = first.wrote honest in wrote_then within_none ab (next ab.honest);
+}
+
+-- what read before it
+pub only_after : (P : ℕ → Type 0) (a b c : DiskState) → Reads a b → WritesOnly P b c → WritesOnly P a c
+only_after P a b c reads next = record {
+  ranges = next.ranges;
+  within = next.within;
+  wrote = λ honest. let ab = reads.only honest in wrote_then (within_self next.ranges) (wrote_wider within_none ab.wrote) (next.wrote ab.wrote.honest);
+}
+
+-- the same bytes said otherwise
+pub only_as : (P Q : ℕ → Type 0) (a b : DiskState) → ((k : ℕ) → P k → Q k) → WritesOnly P a b → WritesOnly Q a b
+only_as P Q a b to first = record { ranges = first.ranges; within = λ k h. to k (first.within k h); wrote = first.wrote }
+
+-- what is in the rest of a list is in the list
+pub beside_drop : (primary backup : Option GPTHeader) (ss i : ℕ) (signatures : List Signature) (k : ℕ)
+    → IsOfBeside primary backup ss k (drop i signatures) → IsOfBeside primary backup ss k signatures
+beside_drop primary backup ss zero signatures k h = h
+beside_drop primary backup ss (suc i) [] k h = h
+beside_drop primary backup ss (suc i) (s ∷ signatures) k h = inr (beside_drop primary backup ss i signatures k h)
+
+-- what is cleared of a signature is of one of them
+pub beside_may : (primary backup : Option GPTHeader) (ss i : ℕ) (signatures more : List Signature) (s : Signature) → drop i signatures ≡ s ∷ more
+    → (k : ℕ) → IsBeside primary backup ss s × IsIn s.at 8 k → IsOfBeside primary backup ss k signatures
+beside_may primary backup ss i signatures more s rest k here =
+    beside_drop primary backup ss i signatures k (subst (λ (xs : List Signature). IsOfBeside primary backup ss k xs) (sym rest) (inl here))
+
+-- one signature more
+pub beside_then : {a b c : DiskState} (primary backup : Option GPTHeader) (ss i : ℕ) (signatures : List Signature) (s : Signature)
+    → drop i signatures ≡ s ∷ drop (i + 1) signatures → WritesOnly (λ k. IsBeside primary backup ss s × IsIn s.at 8 k) b c
+    → WritesOnly (λ k. IsOfBeside primary backup ss k signatures) a b → WritesOnly (λ k. IsOfBeside primary backup ss k signatures) a c
+beside_then {a} {b} {c} primary backup ss i signatures s rest next first =
+    only_both (λ k. IsOfBeside primary backup ss k signatures) (λ k. IsBeside primary backup ss s × IsIn s.at 8 k) a b c
+    (beside_may primary backup ss i signatures (drop (i + 1) signatures) s rest) first next
+
+-- each is one of another sector size
+pub other_of : (primary backup : Option GPTHeader) (ss : ℕ) (signatures : List Signature) (k : ℕ) → IsOfBeside primary backup ss k signatures → IsOfOther ss k signatures
+other_of primary backup ss [] k h = h
+other_of primary backup ss (s ∷ signatures) k h = ⊎_elim (λ x. inl (x.0.other, x.1)) (λ x. inr (other_of primary backup ss signatures k x)) h
+
+-- what only read
+pub only_read : (P : ℕ → Type 0) (a b : DiskState) → Reads a b → WritesOnly P a b
+only_read P a b reads = record { ranges = []; within = λ k no. absurd no; wrote = λ honest. (reads.only honest).wrote }
