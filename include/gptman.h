@@ -5,8 +5,8 @@
  * calls, and no call touches memory outside of the arrays that it was given.
  *
  * Every pointer is to be that of an array of at least as many elements as the count behind it says, aligned as
- * its type asks, and never null, also where the count is 0. Arrays that a call writes to are not to overlap
- * others. The caller owns all of them. A call may be made by several threads at once.
+ * its type asks. Where the count is 0 it may be null, and no other may. Arrays that a call writes to are not to
+ * overlap others. The caller owns all of them. A call may be made by several threads at once.
  *
  * What the calls answer is proved: docs/PROMISES.md, "The library for C". That a caller makes the steps in their
  * order is not.
@@ -87,7 +87,11 @@ enum {
     GPTMAN_INVALID_PARTITION_ENTRY_SIZE = 16,
     GPTMAN_LACKS_BYTES = 17,  /* neither end has all of needed->length bytes from needed->from on */
     GPTMAN_LACKS_ROOM = 18,   /* an array is too short */
-    GPTMAN_BAD_ARGUMENT = 19
+    GPTMAN_BAD_ARGUMENT = 19,
+
+    /* Of gptman_fd.h alone: a call asked for bytes or room that it had, for bytes that no disk of that size has, or too
+     * often. None is known to. */
+    GPTMAN_FD_ASKS_AGAIN = 100
 };
 
 /* The name of an answer, as docs/FAULTS.md has it; "Unknown" of a number that no call answers. */
@@ -98,6 +102,7 @@ static inline const char *gptman_fault_name(uint32_t answer) {
         "InvalidPartitionBoundaries", "InvalidPartitionNumber", "UnusedPartition", "PartitionNotFound", "Overflow",
         "OutOfMemory", "InvalidPartitionEntrySize", "LacksBytes", "LacksRoom", "BadArgument",
     };
+    if (answer == GPTMAN_FD_ASKS_AGAIN) return "AsksAgain";
     return answer < sizeof names / sizeof *names ? names[answer] : "Unknown";
 }
 
@@ -137,14 +142,16 @@ uint32_t gptman_check(const uint8_t *head, size_t head_length, const uint8_t *ta
 
 /* Plans the write of the table that a disk holds, with other entries.
  *
- * The ends and sizes are as for gptman_read. `partitions` has all entries as they are to be, the unused ones
- * included: as many as the table has. On GPTMAN_OK there are needed->steps steps in `steps`, and what they
- * write is in `bytes`. Make them in their order, each only after the one before has succeeded: for
- * GPTMAN_WRITE write `length` bytes from bytes + `start` on to byte `offset` of the disk, for GPTMAN_SYNC store
- * all that was written, as fsync does. The copy that was not read is written and synced first, and then the
- * other, so that where you stop, or the power fails, the disk holds the old table or the new one; this is so
- * where the copy that was read stands in its place and the table has the layout that docs/FORMAT.md states.
- * After a step that failed read the table anew.
+ * The ends and sizes are as for gptman_read. Sync the disk and read them after that, so that the copy that is not
+ * written first is stored. `partitions` has all entries as they are to be, the unused ones included: as many as the
+ * table has. On GPTMAN_OK there are needed->steps steps in `steps`, and what they write is in `bytes`. Make them in
+ * their order, each only after the one before has succeeded: for GPTMAN_WRITE write `length` bytes from bytes +
+ * `start` on to byte `offset` of the disk, for GPTMAN_SYNC store all that was written, as fsync does. The copy that
+ * was not read is written and synced first, and then the other, so that where you stop, or the power fails, the disk
+ * holds the old table or the new one; this is so where the copy that was read stands in its place and the table has
+ * the layout that docs/FORMAT.md states.
+ * After a step that failed the ends are no longer those of the disk: make no step of this plan again, but sync,
+ * read the ends and the table, and plan anew.
  *
  * The other answers are those of gptman_read, and
  * GPTMAN_CONFLICT_PARTITION_GUID: two partitions have one unique GUID;

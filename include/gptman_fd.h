@@ -1,17 +1,24 @@
 /* gptman_fd.h: the calls of gptman.h over a file descriptor, for those who have one. This is not proved.
  *
- * Each call answers 0, a number of gptman.h, or GPTMAN_IO where the system refused, which errno tells. */
+ * Each call answers 0, a number of gptman.h, or GPTMAN_IO where the system refused, which errno tells. It reads the
+ * length and the ends of the disk anew, and a change first syncs the disk, so that it is planned from what is stored.
+ * So after a call that failed the next one may be made over the same ends. The position of the file is moved. */
 #ifndef GPTMAN_FD_H
 #define GPTMAN_FD_H
 
 #include <errno.h>
+#include <fcntl.h>
 #include <stdlib.h>
+#include <sys/file.h>
 #include <unistd.h>
 
 #include "gptman.h"
 
 /* An end is made no longer than this, as a table that asks for more is none that a system reads. */
 #define GPTMAN_MOST_BYTES (1u << 28)
+
+/* A call asks no more often than this for longer ends or arrays; most ask twice. */
+enum { GPTMAN_MOST_ROUNDS = 32 };
 
 /* The ends of a disk. `size` and `sector_size` are in bytes. */
 typedef struct gptman_ends {
@@ -21,16 +28,20 @@ typedef struct gptman_ends {
     size_t head_length, tail_length;
 } gptman_ends;
 
+/* Frees the ends, which are empty then. It keeps errno, and leaves the file open. */
 static inline void gptman_ends_free(gptman_ends *ends) {
+    int kept = errno;
     free(ends->head);
     free(ends->tail);
     ends->head = ends->tail = NULL;
+    ends->head_length = ends->tail_length = 0;
+    errno = kept;
 }
 
 /* Reads `length` bytes from byte `at` on. 0, or -1. */
 static inline int gptman_pread_all(int fd, uint8_t *to, uint64_t length, uint64_t at) {
     while (length > 0) {
-        ssize_t n = pread(fd, to, length, (off_t)at);
+        ssize_t n = pread(fd, to, (size_t)length, (off_t)at);
         if (n < 0 && errno == EINTR) continue;
         if (n == 0) errno = EIO;
         if (n <= 0) return -1;
@@ -39,75 +50,114 @@ static inline int gptman_pread_all(int fd, uint8_t *to, uint64_t length, uint64_
     return 0;
 }
 
-/* Takes so many first and last bytes of the disk, or all of it where these would overlap. */
+/* Takes so many first and last bytes of the disk, or all of it as its first where these would meet. Where that fails
+ * the ends are empty. */
 static inline uint32_t gptman_ends_take(gptman_ends *ends, uint64_t first, uint64_t last) {
-    first = first < ends->size ? first : ends->size;
-    last = last < ends->size - first ? last : ends->size - first;
+    uint64_t size = ends->size;
+    if (first >= size || last >= size - first) first = size, last = 0;
     gptman_ends_free(ends);
-    ends->head = (uint8_t *)malloc(first + 1);
-    ends->tail = (uint8_t *)malloc(last + 1);
-    if (ends->head == NULL || ends->tail == NULL) return GPTMAN_OUT_OF_MEMORY;
-    ends->head_length = first, ends->tail_length = last;
-    if (gptman_pread_all(ends->fd, ends->head, first, 0) != 0) return GPTMAN_IO;
-    return gptman_pread_all(ends->fd, ends->tail, last, ends->size - last) != 0 ? GPTMAN_IO : GPTMAN_OK;
+    ends->head = (uint8_t *)malloc((size_t)first + 1);
+    ends->tail = (uint8_t *)malloc((size_t)last + 1);
+    uint32_t answer = ends->head == NULL || ends->tail == NULL ? GPTMAN_OUT_OF_MEMORY : GPTMAN_OK;
+    if (answer == GPTMAN_OK && (gptman_pread_all(ends->fd, ends->head, first, 0) != 0 ||
+                                gptman_pread_all(ends->fd, ends->tail, last, size - last) != 0)) {
+        answer = GPTMAN_IO;
+    }
+    if (answer != GPTMAN_OK) gptman_ends_free(ends);
+    if (answer == GPTMAN_OK) ends->head_length = (size_t)first, ends->tail_length = (size_t)last;
+    return answer;
 }
 
-/* Begins with the ends that most tables need. The length of a block device is that of its end. */
-static inline uint32_t gptman_ends_open(gptman_ends *ends, int fd, uint64_t sector_size) {
-    off_t size = lseek(fd, 0, SEEK_END);
-    ends->fd = fd, ends->sector_size = sector_size, ends->head = ends->tail = NULL;
+/* Takes the ends anew, as long as they are, and at least those that most tables need. The length of a block device is
+ * that of its end. */
+static inline uint32_t gptman_ends_renew(gptman_ends *ends) {
+    uint64_t sector = ends->sector_size, first = 2 * sector + 16384, last = sector + 16384;
+    if (sector != 512 && sector != 1024 && sector != 2048 && sector != 4096) return GPTMAN_BAD_ARGUMENT;
+    off_t size = lseek(ends->fd, 0, SEEK_END);
     if (size < 0) return GPTMAN_IO;
     ends->size = (uint64_t)size;
-    if (sector_size == 0 || sector_size > UINT64_MAX / 64) return GPTMAN_BAD_ARGUMENT;
-    return gptman_ends_take(ends, 2 * sector_size + 16384, sector_size + 16384);
+    return gptman_ends_take(ends, ends->head_length > first ? ends->head_length : first,
+                            ends->tail_length > last ? ends->tail_length : last);
 }
 
-/* Makes the end longer that is nearer to the bytes that are lacking. */
+/* Begins with the ends that most tables need, and takes no lock. A sector has 512, 1024, 2048 or 4096 bytes. */
+static inline uint32_t gptman_ends_open_unlocked(gptman_ends *ends, int fd, uint64_t sector_size) {
+    ends->fd = fd, ends->size = 0, ends->sector_size = sector_size;
+    ends->head = ends->tail = NULL;
+    ends->head_length = ends->tail_length = 0;
+    return gptman_ends_renew(ends);
+}
+
+/* The same, but a file that is open for writing is locked before: this waits until no other program holds the advisory
+ * lock of flock on it, and goes on without where the file system has none. The lock stands until the file is closed,
+ * so that nobody who takes it writes between a reading and the change that is made of it. */
+static inline uint32_t gptman_ends_open(gptman_ends *ends, int fd, uint64_t sector_size) {
+    int mode = fcntl(fd, F_GETFL);
+    if (mode != -1 && (mode & O_ACCMODE) != O_RDONLY) {
+        while (flock(fd, LOCK_EX) != 0 && errno == EINTR) continue;
+    }
+    return gptman_ends_open_unlocked(ends, fd, sector_size);
+}
+
+/* Makes the end longer that is nearer to the bytes that are lacking. These are on the disk, and in neither end. */
 static inline uint32_t gptman_ends_add(gptman_ends *ends, const gptman_needed *needed) {
-    uint64_t first = needed->from + needed->length, last = ends->size - needed->from;
+    uint64_t from = needed->from, size = ends->size;
+    if (from > size || needed->length > size - from) return GPTMAN_FD_ASKS_AGAIN;
+    uint64_t first = from + needed->length, last = size - from;
+    if (first <= ends->head_length || last <= ends->tail_length) return GPTMAN_FD_ASKS_AGAIN;
     if (first > GPTMAN_MOST_BYTES && last > GPTMAN_MOST_BYTES) return GPTMAN_LACKS_BYTES;
     return first <= last ? gptman_ends_take(ends, first, ends->tail_length)
                          : gptman_ends_take(ends, ends->head_length, last);
 }
 
-/* Reads the table. `*partitions` is an array of table->entry_count elements, for free(). */
+/* Reads the table. `*partitions` is an array of table->entry_count elements, for free(); null where it is not read. */
 static inline uint32_t gptman_read_fd(gptman_ends *ends, gptman_table *table, gptman_partition **partitions) {
     size_t count = 128;
     gptman_needed needed = {0, 0, 0, 0};
+    uint32_t answer = gptman_ends_renew(ends);
     *partitions = NULL;
-    for (;;) {
-        free(*partitions);
-        *partitions = (gptman_partition *)malloc((count + 1) * sizeof **partitions);
-        if (*partitions == NULL) return GPTMAN_OUT_OF_MEMORY;
-        uint32_t answer = gptman_read(ends->head, ends->head_length, ends->tail, ends->tail_length, ends->size,
-                                      ends->sector_size, table, *partitions, count, &needed);
-        if (answer == GPTMAN_LACKS_ROOM) {
-            count = table->entry_count;
-        } else if (answer == GPTMAN_LACKS_BYTES) {
-            if ((answer = gptman_ends_add(ends, &needed)) != GPTMAN_OK) return answer;
-        } else {
-            return answer;
+    for (int round = 0; answer == GPTMAN_OK && round < GPTMAN_MOST_ROUNDS; round++) {
+        gptman_partition *room = (gptman_partition *)malloc((count + 1) * sizeof *room);
+        if (room == NULL) return GPTMAN_OUT_OF_MEMORY;
+        answer = gptman_read(ends->head, ends->head_length, ends->tail, ends->tail_length, ends->size,
+                             ends->sector_size, table, room, count, &needed);
+        if (answer == GPTMAN_OK) {
+            *partitions = room;
+            return GPTMAN_OK;
+        }
+        free(room);
+        if (answer == GPTMAN_LACKS_BYTES) {
+            answer = gptman_ends_add(ends, &needed);
+        } else if (answer == GPTMAN_LACKS_ROOM && table->entry_count > count) {
+            count = table->entry_count, answer = GPTMAN_OK;
         }
     }
+    if (answer == GPTMAN_OK) answer = GPTMAN_FD_ASKS_AGAIN;
+    return answer;
 }
 
 /* Tells of both copies. */
 static inline uint32_t gptman_check_fd(gptman_ends *ends, gptman_copies *copies) {
     gptman_needed needed = {0, 0, 0, 0};
-    for (;;) {
-        uint32_t answer = gptman_check(ends->head, ends->head_length, ends->tail, ends->tail_length, ends->size,
-                                       ends->sector_size, copies, &needed);
+    uint32_t answer = gptman_ends_renew(ends);
+    for (int round = 0; answer == GPTMAN_OK && round < GPTMAN_MOST_ROUNDS; round++) {
+        answer = gptman_check(ends->head, ends->head_length, ends->tail, ends->tail_length, ends->size,
+                              ends->sector_size, copies, &needed);
         if (answer != GPTMAN_LACKS_BYTES) return answer;
-        if ((answer = gptman_ends_add(ends, &needed)) != GPTMAN_OK) return answer;
+        answer = gptman_ends_add(ends, &needed);
     }
+    if (answer == GPTMAN_OK) answer = GPTMAN_FD_ASKS_AGAIN;
+    return answer;
 }
 
 /* Makes the steps in their order, and stops at the first that fails. */
 static inline uint32_t gptman_make_steps(int fd, const gptman_step *steps, uint64_t count, const uint8_t *bytes) {
-    for (const gptman_step *step = steps; step < steps + count; step++) {
+    for (uint64_t i = 0; i < count; i++) {
+        const gptman_step *step = &steps[i];
         if (step->kind == GPTMAN_SYNC && fsync(fd) != 0) return GPTMAN_IO;
         for (uint64_t done = 0; step->kind == GPTMAN_WRITE && done < step->length;) {
-            ssize_t n = pwrite(fd, bytes + step->start + done, step->length - done, (off_t)(step->offset + done));
+            ssize_t n = pwrite(fd, bytes + step->start + done, (size_t)(step->length - done),
+                               (off_t)(step->offset + done));
             if (n < 0 && errno == EINTR) continue;
             if (n == 0) errno = EIO;
             if (n <= 0) return GPTMAN_IO;
@@ -141,30 +191,45 @@ static inline uint32_t gptman_plan_fd(const gptman_ends *ends, const gptman_want
                         wanted->partitions, wanted->count, steps, step_count, bytes, byte_count, needed);
 }
 
+/* Begins a change: what was written before is synced, and then read. */
+static inline uint32_t gptman_begin_fd(gptman_ends *ends) {
+    if (fsync(ends->fd) != 0) return GPTMAN_IO;
+    return gptman_ends_renew(ends);
+}
+
+/* Makes the steps of a change, and reads the ends anew. Where a step failed the ends are empty. */
+static inline uint32_t gptman_end_fd(gptman_ends *ends, const gptman_step *steps, uint64_t count,
+                                     const uint8_t *bytes) {
+    uint32_t answer = gptman_make_steps(ends->fd, steps, count, bytes);
+    if (answer == GPTMAN_OK) return gptman_ends_renew(ends);
+    gptman_ends_free(ends);
+    return answer;
+}
+
 /* Writes it, and reads the ends anew. */
 static inline uint32_t gptman_make_fd(gptman_ends *ends, const gptman_wanted *wanted) {
     gptman_needed needed = {0, 0, 0, 0};
-    gptman_step *steps = (gptman_step *)malloc(sizeof *steps);
-    uint8_t *bytes = (uint8_t *)malloc(1);
     size_t step_count = 0, byte_count = 0;
-    uint32_t answer = GPTMAN_OUT_OF_MEMORY;
-    while (steps != NULL && bytes != NULL) {
-        answer = gptman_plan_fd(ends, wanted, steps, step_count, bytes, byte_count, &needed);
-        if (answer == GPTMAN_LACKS_ROOM) {
-            free(steps), free(bytes);
-            steps = (gptman_step *)malloc((needed.steps + 1) * sizeof *steps);
-            bytes = (uint8_t *)malloc(needed.bytes + 1);
-            step_count = needed.steps, byte_count = needed.bytes;
-            answer = GPTMAN_OUT_OF_MEMORY;
-        } else if (answer == GPTMAN_LACKS_BYTES) {
-            if ((answer = gptman_ends_add(ends, &needed)) != GPTMAN_OK) break;
-        } else {
-            if (answer == GPTMAN_OK) answer = gptman_make_steps(ends->fd, steps, needed.steps, bytes);
-            if (answer == GPTMAN_OK) answer = gptman_ends_take(ends, ends->head_length, ends->tail_length);
-            break;
+    uint32_t answer = gptman_begin_fd(ends);
+    for (int round = 0; answer == GPTMAN_OK && round < GPTMAN_MOST_ROUNDS; round++) {
+        gptman_step *steps = (gptman_step *)malloc((step_count + 1) * sizeof *steps);
+        uint8_t *bytes = (uint8_t *)malloc(byte_count + 1);
+        int is_planned = 0, kept;
+        answer = GPTMAN_OUT_OF_MEMORY;
+        if (steps != NULL && bytes != NULL) {
+            answer = gptman_plan_fd(ends, wanted, steps, step_count, bytes, byte_count, &needed);
+            is_planned = answer == GPTMAN_OK;
+        }
+        if (is_planned) answer = gptman_end_fd(ends, steps, needed.steps, bytes);
+        kept = errno, free(steps), free(bytes), errno = kept;
+        if (is_planned) return answer;
+        if (answer == GPTMAN_LACKS_BYTES) {
+            answer = gptman_ends_add(ends, &needed);
+        } else if (answer == GPTMAN_LACKS_ROOM && (needed.steps > step_count || needed.bytes > byte_count)) {
+            step_count = (size_t)needed.steps, byte_count = (size_t)needed.bytes, answer = GPTMAN_OK;
         }
     }
-    free(steps), free(bytes);
+    if (answer == GPTMAN_OK) answer = GPTMAN_FD_ASKS_AGAIN;
     return answer;
 }
 
@@ -174,7 +239,7 @@ static inline uint32_t gptman_write_fd(gptman_ends *ends, const gptman_partition
     return gptman_make_fd(ends, &wanted);
 }
 
-/* Writes the table that the disk holds, fitted to the length that it had when the ends were opened. */
+/* Writes the table that the disk holds, fitted to the length that the disk has now. */
 static inline uint32_t gptman_fit_fd(gptman_ends *ends) {
     gptman_wanted wanted = {NULL, 1, NULL, 0};
     return gptman_make_fd(ends, &wanted);
@@ -194,10 +259,9 @@ static inline uint32_t gptman_mbr_fd(gptman_ends *ends, int bootable) {
     static const gptman_step steps[] = {{GPTMAN_WRITE, GPTMAN_MBR_START, GPTMAN_MBR_LENGTH, 0},
                                         {GPTMAN_SYNC, 0, 0, 0}};
     uint8_t bytes[GPTMAN_MBR_LENGTH];
-    uint32_t answer = gptman_mbr(ends->size, ends->sector_size, bootable != 0, bytes, sizeof bytes);
-    if (answer == GPTMAN_OK) answer = gptman_make_steps(ends->fd, steps, 2, bytes);
-    if (answer == GPTMAN_OK) answer = gptman_ends_take(ends, ends->head_length, ends->tail_length);
-    return answer;
+    uint32_t answer = gptman_begin_fd(ends);
+    if (answer == GPTMAN_OK) answer = gptman_mbr(ends->size, ends->sector_size, bootable != 0, bytes, sizeof bytes);
+    return answer == GPTMAN_OK ? gptman_end_fd(ends, steps, 2, bytes) : answer;
 }
 
 #endif

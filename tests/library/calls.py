@@ -135,14 +135,16 @@ def try_copies(tally, library, program):
     path = program.file("other.img")
     for what, data in images.items():
         program.write("other.img", data)
-        for sector in 512, 520, 4096, 1 << 20:
+        for sector in 512, 1024, 2048, 4096:
             wanted = program.run("other.img", str(sector), "check")[1]
             what_of = f"both copies of an image that is {what}, with sectors of {sector}"
             tally.equals(what_of, wanted, checked(gptman, path, sector))
             tally.equals(f"{what_of}, over a file descriptor", wanted, printed(over_fd, path, str(sector), "check"))
     with gptman.Disk(program.file("disk.img")) as disk:
         tally.equals("the copies of an open disk", (None, None, True), disk.check())
-    tally.equals("a sector size of 0", "BadArgument", refusal(gptman, lambda: gptman.check(path, 0)))
+    for sector in 0, 1, 256, 511, 520, 8192, 1 << 20, 1 << 63:
+        tally.equals(f"both copies with sectors of {sector}", ("BadArgument", "fault: BadArgument\n"), (
+            refusal(gptman, lambda: gptman.check(path, sector)), printed(over_fd, path, str(sector), "check")))
     if not os.path.exists("/usr/sbin/sgdisk"):
         return "sgdisk is not installed: long tables are left out"
     program.make_image("long.img", 64 << 20)
@@ -169,11 +171,13 @@ def printed(*words):
 
 
 def try_mbr(tally, library, program):
-    """A protective MBR is that of gptimg, byte for byte, and so is what is refused."""
+    """A protective MBR is that of gptimg, byte for byte, and so is what is refused; the call itself takes sectors of
+    any size."""
     gptman, over_fd = module(), by_descriptor(library)
+    calls, room = ctypes.CDLL(os.environ["GPTMAN_LIBRARY"]), ctypes.create_string_buffer(66)
     sizes = [0, 100, 511, 512, 513, 1024, 4095, 4096, SIZE, 1 << 20, (1 << 41) - 512, (1 << 41) + 512, (1 << 41) + 1024]
     for size in sizes:
-        for sector in 1, 91, 512, 520, 4096, 1 << 20:
+        for sector in 512, 1024, 2048, 4096:
             for kind in "plain", "bootable":
                 what = f"an MBR ({kind}) on {size} bytes with sectors of {sector}"
                 wanted = with_mbr(program, size, lambda path: printed(program.path, path, str(sector), "mbr", kind))
@@ -181,6 +185,12 @@ def try_mbr(tally, library, program):
                     program, size, lambda path: mbr_by_module(gptman, path, sector, kind)))
                 tally.equals(f"{what}, over a file descriptor", wanted, with_mbr(
                     program, size, lambda path: printed(over_fd, path, str(sector), kind)))
+        for sector in 1, 91, 520, 1 << 20:
+            out, data, _ = with_mbr(program, size, lambda path: printed(program.path, path, str(sector), "mbr", "plain"))
+            wanted = data[446:512] if out == "ok\n" else fault_in(out)
+            answer = calls.gptman_mbr(ctypes.c_uint64(size), ctypes.c_uint64(sector), 0, room, ctypes.c_size_t(66))
+            tally.equals(f"the bytes of an MBR on {size} bytes with sectors of {sector}", wanted,
+                         gptman.FAULTS[answer - 1] if answer else room.raw)
     start(program)
     with gptman.Disk(program.file("disk.img"), writable=True) as disk:
         disk.write_mbr(bootable=True)
@@ -288,7 +298,7 @@ def try_new(tally, library, program):
     """New tables are those of gptimg and gptedit, byte for byte; one that is there is not lost."""
     gptman, random_ = module(), random.Random(7)
     guid = uuid.UUID(bytes_le=bytes.fromhex("00112233445566778899aabbccddeeff"))
-    for size, sector in (SIZE, 512), (1 << 20, 512), (51200, 512), (1 << 20, 4096), (1 << 20, 520):
+    for size, sector in (SIZE, 512), (1 << 20, 512), (51200, 512), (1 << 20, 4096), (1 << 20, 1024):
         program.make_image("theirs.img", size)
         program.make_image("ours.img", size)
         program.run("theirs.img", str(sector), "new", guid.bytes_le.hex())

@@ -108,7 +108,8 @@ def try_headers(tally, library, program):
         program.write(name, b'#include "gptman_fd.h"\nint main(void) { return (int)gptman_version() != 256; }\n')
     for language in ["c99", "c11", "c17"] + (["c++11", "c++17"] if is_there("c++") else []):
         source = program.file("both.cc" if "+" in language else "both.c")
-        tally.equals(f"a program in {language}", "", run(library.compile(source, "both", language=language)))
+        tally.equals(f"a program in {language}", "",
+                     run(library.compile(source, "both", "-Wconversion", language=language)))
     if is_there("nm"):
         lines = run("nm", "-D", "--defined-only", program.file("libgptman.so.1")).split("\n")
         names = {line.split()[-1] for line in lines if line}
