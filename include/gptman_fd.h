@@ -128,8 +128,9 @@ static inline uint32_t gptman_read_fd(gptman_ends *ends, gptman_table *table, gp
         free(room);
         if (answer == GPTMAN_LACKS_BYTES) {
             answer = gptman_ends_add(ends, &needed);
-        } else if (answer == GPTMAN_LACKS_ROOM && table->entry_count > count) {
-            count = table->entry_count, answer = GPTMAN_OK;
+        } else if (answer == GPTMAN_LACKS_ROOM) {
+            answer = table->entry_count > count ? GPTMAN_OK : GPTMAN_FD_ASKS_AGAIN;
+            count = table->entry_count;
         }
     }
     if (answer == GPTMAN_OK) answer = GPTMAN_FD_ASKS_AGAIN;
@@ -225,8 +226,10 @@ static inline uint32_t gptman_make_fd(gptman_ends *ends, const gptman_wanted *wa
         if (is_planned) return answer;
         if (answer == GPTMAN_LACKS_BYTES) {
             answer = gptman_ends_add(ends, &needed);
-        } else if (answer == GPTMAN_LACKS_ROOM && (needed.steps > step_count || needed.bytes > byte_count)) {
-            step_count = (size_t)needed.steps, byte_count = (size_t)needed.bytes, answer = GPTMAN_OK;
+        } else if (answer == GPTMAN_LACKS_ROOM) {
+            int is_more = needed.steps > step_count || needed.bytes > byte_count;
+            answer = is_more ? GPTMAN_OK : GPTMAN_FD_ASKS_AGAIN;
+            step_count = (size_t)needed.steps, byte_count = (size_t)needed.bytes;
         }
     }
     if (answer == GPTMAN_OK) answer = GPTMAN_FD_ASKS_AGAIN;

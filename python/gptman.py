@@ -338,7 +338,9 @@ class Disk(_File):
         for ends in self._rounds():
             entries = (_Partition * max(count, 1))()
             answer = _library.gptman_read(*ends, byref(table), entries, count, byref(needed))
-            if answer == LACKS_ROOM and count < table.entry_count <= MOST_ENTRIES:
+            if answer == LACKS_ROOM and table.entry_count <= MOST_ENTRIES:
+                if table.entry_count <= count:
+                    break
                 count = table.entry_count
             elif answer == LACKS_BYTES:
                 self._add(ends, needed)
@@ -355,10 +357,11 @@ class Disk(_File):
         self.align, self.entry_count = table.align, table.entry_count
         self.is_backup = bool(table.is_backup)
         numbered = dict(enumerate(entries, 1))
-        self.partitions = {number: _partition_of(entry) for number, entry in numbered.items() if any(entry.type_guid)}
+        self.partitions = {number: _partition_of(entry) for number, entry in numbered.items()
+                           if bytes(entry.type_guid) != UNUSED}
         # Unused entries that are not all zeros stay as they are.
         self._unused = {number: entry for number, entry in numbered.items()
-                        if number not in self.partitions and any(bytes(entry))}
+                        if number not in self.partitions and bytes(entry) != bytes(128)}
 
     def write(self):
         """Writes the table with `partitions` for its used entries, in one write that a stop does not tear. An entry
@@ -426,7 +429,9 @@ class Disk(_File):
             answer = call(*ends, *what, steps, step_count, data, byte_count, byref(needed))
             if answer == LACKS_BYTES:
                 self._add(ends, needed)
-            elif answer == LACKS_ROOM and (needed.steps > step_count or needed.bytes > byte_count):
+            elif answer == LACKS_ROOM:
+                if needed.steps <= step_count and needed.bytes <= byte_count:
+                    break
                 step_count, byte_count = needed.steps, needed.bytes
             elif answer:
                 raise Fault(answer)

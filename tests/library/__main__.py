@@ -12,6 +12,7 @@ sys.path.insert(1, os.path.join(HERE, "..", "gptedit"))
 
 import calls
 import examples
+import helpers
 import wild
 from built import build
 from runs import Program, Tally
@@ -25,7 +26,7 @@ def main():
     with tempfile.TemporaryDirectory() as folder:
         library = build(os.path.realpath(sys.argv[1]), folder)
         program = Program(os.path.realpath(sys.argv[2]), folder)
-        for module in (examples, calls, wild):
+        for module in (examples, calls, helpers, wild):
             for name, run in module.SUBJECTS.items():
                 tally.subject(name, run, library, program)
     print(f"{tally.passed} passed, {tally.failed} failed")

@@ -501,6 +501,105 @@ def try_refusals(tally, library, program):
     tally.equals("a checksum", 0xCBF43926, gptman.crc32(b"123456789"))
 
 
+def with_remains(program):
+    """An image whose first entry has a name with units behind a zero, and whose second, unused, has old fields."""
+    entries = {1: table.Entry(str(LINUX), str(uuid.UUID(int=1)), 40, 49, 5, "one\0behind it"),
+               2: table.Entry(str(uuid.UUID(int=0)), str(uuid.UUID(int=2)), 50, 59, 6, "removed"),
+               4: table.Entry(str(LINUX), str(uuid.UUID(int=4)), 60, 69, 7, "four")}
+    found = table.Table(str(uuid.UUID(int=9)), 34, SECTORS - 34, 128, entries)
+    program.make_image("disk.img", SIZE)
+    table.put(program.file("disk.img"), table.pieces_of(found, SIZE))
+    return program.bytes_of("disk.img")
+
+
+def try_kept(tally, library, program):
+    """Of entries that were not touched every byte is kept, in both copies; a name that stays keeps its units."""
+    gptman, path = module(), program.file("disk.img")
+
+    def changed(what, wanted, change):
+        """Counts whether a change leaves the entries with these bytes in the place of those that were there."""
+        image = bytearray(with_remains(program))
+        for number, at, data in wanted:
+            for array in 1024, SIZE - 33 * 512:
+                image[array + 128 * number - 128 + at:array + 128 * number - 128 + at + len(data)] = data
+        with gptman.Disk(path, writable=True) as disk:
+            change(disk)
+            disk.write()
+        left = program.bytes_of("disk.img")
+        tally.holds(f"both copies after {what}", table.read(path))
+        for array in 1024, SIZE - 33 * 512:
+            tally.holds(f"the entries after {what}", image[array:array + 16384] == left[array:array + 16384])
+
+    def move(disk):
+        disk.partitions[9] = disk.partitions.pop(1)
+
+    def with_new(disk):
+        disk.partitions[2] = gptman.Partition(LINUX, 100, 100, "new", unique_guid=uuid.UUID(int=7))
+
+    def there_and_gone(disk):
+        with_new(disk)
+        disk.write()
+        disk.remove(2)
+
+    first = with_remains(program)[1024:1152]
+    new = table.entry_bytes(table.Entry(str(LINUX), str(uuid.UUID(int=7)), 100, 100, 0, "new"))
+    attributes, nothing = (1 << 63).to_bytes(8, "little"), bytes(128)
+    changed("no change", [], lambda d: None)
+    changed("another attribute", [(4, 48, attributes)], lambda d: setattr(d.partitions[4], "attributes", 1 << 63))
+    changed("another attribute of the first", [(1, 48, attributes)],
+            lambda d: setattr(d.partitions[1], "attributes", 1 << 63))
+    changed("another name", [(1, 56, "un".encode("utf-16-le").ljust(72, b"\0"))],
+            lambda d: setattr(d.partitions[1], "name", "un"))
+    changed("another number", [(1, 0, nothing), (9, 0, first)], move)
+    changed("a removal", [(1, 0, nothing)], lambda d: d.remove(1))
+    changed("a removal from the list", [(1, 0, nothing)], lambda d: d.partitions.pop(1))
+    changed("a removal by None", [(1, 0, nothing)], lambda d: d.partitions.update({1: None}))
+    changed("a removal of an unused entry", [(2, 0, nothing)], lambda d: d.remove(2))
+    changed("a new partition in an unused entry", [(2, 0, new)], with_new)
+    changed("a new partition that is removed again", [(2, 0, nothing)], there_and_gone)
+
+
+def try_numbers(tally, library, program):
+    """Numbers that do not fit, types of zeros, names that are none and numbers of no entry are refused, and nothing is
+    written then."""
+    gptman, path = module(), program.file("disk.img")
+    good = with_remains(program)
+
+    def refused(what, change):
+        with gptman.Disk(path, writable=True) as disk:
+            change(disk)
+            for call in disk.write, disk.plan:
+                tally.equals(f"a write with {what}", "ValueError", refusal(gptman, call))
+        tally.holds(f"nothing is written with {what}", program.bytes_of("disk.img") == good)
+
+    def new_at(number):
+        return lambda d: d.partitions.update({number: gptman.Partition(LINUX, 200, 300)})
+
+    for name in "first_lba", "last_lba", "attributes":
+        for number in -1, -5000, 1 << 64, (1 << 64) + 5000, 1 << 200:
+            refused(f"{name} of {number}", lambda d: setattr(d.partitions[4], name, number))
+    for name in "\0", "a\0b", "x" * 37, "\U0001f680" * 19:
+        refused(f"the name {name!r}", lambda d: setattr(d.partitions[4], "name", name))
+    refused("a type of zeros", lambda d: setattr(d.partitions[4], "type_guid", uuid.UUID(int=0)))
+    for number in 0, -1, -128, 129, 1 << 32:
+        refused(f"a partition of number {number}", new_at(number))
+    with gptman.Disk(path) as disk:
+        for size in -1, 1 << 64, (1 << 64) + 1:
+            tally.equals(f"a place for {size} sectors", "ValueError", refusal(gptman, lambda: disk.find_place(size)))
+        for name in "align", "first_usable_lba", "last_usable_lba":
+            was = getattr(disk, name)
+            setattr(disk, name, (1 << 64) + was)
+            tally.equals(f"a place with another {name}", "ValueError", refusal(gptman, lambda: disk.find_place(1)))
+            setattr(disk, name, was)
+    for count in -1, 1 << 32, (1 << 32) + 128:
+        tally.equals(f"a new table of {count} entries", "ValueError", refusal(
+            gptman, lambda: gptman.Disk.create(path, entry_count=count)))
+    for sector in 0, -512, 520, 8192, (1 << 64) + 512:
+        for call in (lambda: gptman.Disk(path, sector)), (lambda: gptman.Disk.create(path, sector)):
+            tally.equals(f"sectors of {sector}", "BadArgument", refusal(gptman, call))
+    tally.holds("nothing is written by these", program.bytes_of("disk.img") == good)
+
+
 def other_number(gptman, disk):
     disk.partitions[129] = gptman.Partition(LINUX, 200, 300)
     try:
@@ -545,5 +644,5 @@ def try_long(tally, library, program):
 SUBJECTS = {"damaged images": try_damaged, "both copies": try_copies, "protective MBRs": try_mbr,
             "stops among the steps": try_stops, "new tables": try_new, "tables that are fitted": try_fits,
             "refusals of fitting": try_fit_refusals, "places": try_places, "names": try_names,
-            "refusals": try_refusals,
+            "refusals": try_refusals, "bytes that are kept": try_kept, "numbers that do not fit": try_numbers,
             "long tables": try_long}

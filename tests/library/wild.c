@@ -1,5 +1,6 @@
-/* wild FILE: hands arguments at random to the calls, each array between two pages that no one may touch, and
- * refuses each request for memory in turn. The last line is what was tried; a wrong access ends the program. */
+/* wild IMAGE TIMES: hands arguments at random to the calls, each array between two pages that no one may touch, and
+ * refuses each request for memory in turn. Of most calls all arguments are right. The last line is what was tried; a
+ * wrong access ends the program. */
 #define _DEFAULT_SOURCE
 #include <stdio.h>
 #include <stdlib.h>
@@ -68,82 +69,135 @@ static uint64_t draw_length(void) {
     return draw(4) == 0 ? odd[draw(sizeof odd / sizeof *odd)] : draw(MOST);
 }
 
-/* A look at both copies, and an MBR that ends where the array does. */
-static void call_others(room head, size_t first, room tail, size_t last, uint64_t size, uint64_t sector, room data,
-                        size_t bytes) {
-    gptman_copies copies = {77, 77, 77};
+/* Mostly the first, so that most calls are done; sometimes the second. */
+static uint64_t mostly(uint64_t usual, uint64_t odd) { return draw(12) == 0 ? odd : usual; }
+
+/* The pointer of an array, or null where there may be one. */
+static void *at(room r, size_t count) { return count == 0 && draw(2) ? NULL : r.at; }
+
+enum { READ, CHECK, WRITE, NEW, FIT, MBR, PLACE, GET_NAME, SET_NAME, CALLS };
+static const char *const names[CALLS] = {"read", "check", "write", "new", "fit", "mbr", "place", "get_name", "set_name"};
+static long done[CALLS];
+
+/* Counts a call, whose answer is 0 or one of these. */
+static void answered(int call, uint32_t answer, uint64_t others) {
+    if (answer != 0 && (answer > 19 || (others >> answer & 1) == 0)) {
+        fprintf(stderr, "%s answers %u\n", names[call], (unsigned)answer);
+        exit(4);
+    }
+    done[call] += answer == 0;
+}
+
+static void expect(int call, int holds) {
+    if (holds) return;
+    fprintf(stderr, "%s answers what cannot be\n", names[call]);
+    exit(5);
+}
+
+#define BIT(n) (1ull << (n))
+enum { READS = BIT(2) | BIT(7) | BIT(17) | BIT(19), WRITES = BIT(8) | BIT(9) | BIT(10) | BIT(14) | BIT(18) };
+
+/* The arguments that most calls have, each array in a room of its own. */
+typedef struct arguments {
+    room head, tail, partitions, steps, bytes;
+    size_t first, last, partition_count, step_count, byte_count;
+    uint64_t size, sector;
+    gptman_table table;
     gptman_needed needed;
-    memset(&needed, 0, sizeof needed);
-    uint32_t looked = gptman_check(head.at, first, tail.at, last, size, sector, &copies, &needed);
-    if (looked != 0 && looked != 17 && looked != 19) exit(13);
-    if (looked != 0 && (copies.primary_fault != 77 || copies.backup_fault != 77 || copies.are_same != 77)) exit(20);
-    if (looked == 0 && (copies.primary_fault > 16 || copies.backup_fault > 16 || copies.are_same > 1)) exit(14);
-    if (looked == 17 && needed.from + needed.length > size) exit(15);
-    size_t count = draw(2) || bytes < 130 ? bytes : draw(130);
-    uint32_t mbr = gptman_mbr(size, sector, (uint32_t)draw(3), data.at + (bytes - count), count);
-    if (mbr != 0 && mbr != 8 && mbr != 14 && mbr != 18 && mbr != 19) exit(16);
-    if ((mbr == 0 && count < GPTMAN_MBR_LENGTH) || (mbr == 18 && count >= GPTMAN_MBR_LENGTH)) exit(17);
+} arguments;
+
+#define ENDS(a) (const uint8_t *)at((a)->head, (a)->first), (a)->first, (const uint8_t *)at((a)->tail, (a)->last), \
+                (a)->last, (a)->size, (a)->sector
+#define PLAN(a) (gptman_step *)at((a)->steps, (a)->step_count), (a)->step_count, \
+                (uint8_t *)at((a)->bytes, (a)->byte_count), (a)->byte_count, &(a)->needed
+#define ENTRIES(a) (gptman_partition *)at((a)->partitions, (a)->partition_count), (a)->partition_count
+
+/* A plan, or bytes that are lacking. */
+static void planned(const arguments *a, int call, uint32_t answer, uint64_t others) {
+    answered(call, answer, others);
+    expect(call, answer != 0 || (a->needed.steps <= a->step_count && a->needed.bytes <= a->byte_count));
+    expect(call, answer != 17 || (a->needed.from <= a->size && a->needed.length <= a->size - a->needed.from));
+    expect(call, answer != 18 || a->needed.steps > a->step_count || a->needed.bytes > a->byte_count);
+}
+
+/* Another entry, mostly one that is right. */
+static void change(arguments *a) {
+    if (a->partition_count == 0 || draw(3) == 0) return;
+    gptman_partition *entry = (gptman_partition *)a->partitions.at + draw(mostly(8, a->partition_count)) % a->partition_count;
+    for (int i = 0; i < 16; i++) entry->type_guid[i] = (uint8_t)draw(256), entry->unique_guid[i] = (uint8_t)draw(256);
+    entry->first_lba = mostly(34 + draw(180), draw_length()), entry->last_lba = entry->first_lba + mostly(draw(3), draw_length());
+}
+
+static void call_plans(arguments *a) {
+    change(a);
+    planned(a, WRITE, gptman_write(ENDS(a), ENTRIES(a), PLAN(a)), READS | WRITES);
+    gptman_table table = a->table;
+    table.entry_count = (uint32_t)mostly(1 + draw(200), draw_length());
+    planned(a, NEW, gptman_new(ENDS(a), &table, PLAN(a)), BIT(17) | BIT(19) | WRITES);
+    planned(a, FIT, gptman_fit(ENDS(a), PLAN(a)), READS | WRITES);
+}
+
+static void call_others(arguments *a) {
+    gptman_copies copies = {77, 77, 77};
+    uint32_t looked = gptman_check(ENDS(a), &copies, &a->needed);
+    answered(CHECK, looked, BIT(17) | BIT(19));
+    expect(CHECK, looked == 0 || (copies.primary_fault == 77 && copies.backup_fault == 77 && copies.are_same == 77));
+    expect(CHECK, looked != 0 || (copies.primary_fault <= 16 && copies.backup_fault <= 16 && copies.are_same <= 1));
+    size_t count = a->byte_count < 130 ? a->byte_count : mostly(a->byte_count, draw(130));
+    uint32_t mbr = gptman_mbr(a->size, a->sector, (uint32_t)mostly(draw(2), 2), a->bytes.at + (a->byte_count - count), count);
+    answered(MBR, mbr, BIT(8) | BIT(14) | BIT(18) | BIT(19));
+    expect(MBR, (mbr != 0 || count >= GPTMAN_MBR_LENGTH) && (mbr != 18 || count < GPTMAN_MBR_LENGTH));
+    uint64_t lba = 7;
+    a->table.align = mostly(1 + draw(8), draw_length());
+    uint32_t place = gptman_place(&a->table, ENTRIES(a), mostly(draw(20), draw_length()), (uint32_t)mostly(1 + draw(3), draw(9)), &lba);
+    answered(PLACE, place, BIT(8) | BIT(19));
+    expect(PLACE, place == 0 || lba == 7);
 }
 
 /* A name of random units, and one of random bytes, where there is a partition. */
-static void call_names(gptman_partition *partitions, size_t count, room data, size_t bytes) {
-    if (count == 0) return;
-    gptman_partition *last = &partitions[count - 1];
+static void call_names(arguments *a) {
+    if (a->partition_count == 0) return;
+    gptman_partition *last = (gptman_partition *)a->partitions.at + (a->partition_count - 1);
     for (int i = 0; i < 36; i++) last->name[i] = (uint16_t)(draw(4) == 0 ? 0xd800 + draw(2048) : draw(65536));
-    uint32_t told = gptman_get_name(last, data.at, bytes);
-    if (told != 0 && told != 18) exit(21);
-    if (told == 0 && memchr(data.at, 0, bytes) == NULL) exit(22);
-    if (told == 18 && bytes >= GPTMAN_NAME_SIZE) exit(23);
-    uint32_t set = gptman_set_name(last, data.at, told == 0 ? strlen((const char *)data.at) : draw(bytes + 1));
-    if (set != 0 && set != 19) exit(24);
+    uint8_t *text = a->bytes.at;
+    uint32_t told = gptman_get_name(last, (uint8_t *)at(a->bytes, a->byte_count), a->byte_count);
+    answered(GET_NAME, told, BIT(18));
+    expect(GET_NAME, told == 0 ? memchr(text, 0, a->byte_count) != NULL : a->byte_count < GPTMAN_NAME_SIZE);
+    size_t length = told == 0 ? mostly(strlen((const char *)text), draw(a->byte_count + 1)) : draw(a->byte_count + 1);
+    answered(SET_NAME, gptman_set_name(last, (const uint8_t *)at(a->bytes, length), length), BIT(19));
 }
 
-/* One call of each kind with these ends. Answers what gptman_write answered. */
-static uint32_t call(room head, size_t first, room tail, size_t last, uint64_t size, uint64_t sector, size_t count,
-                     size_t steps, size_t bytes) {
-    room partitions = take(count * sizeof(gptman_partition), 8, 1);
-    room made = take(steps * sizeof(gptman_step), 8, 1), data = take(bytes, 1, 1);
-    gptman_table table;
-    gptman_needed needed;
-    memset(&table, 0, sizeof table), memset(&needed, 0, sizeof needed);
-    uint32_t read = gptman_read(head.at, first, tail.at, last, size, sector, &table,
-                                (gptman_partition *)partitions.at, count, &needed);
-    if (read > 19 || (read == 0 && table.entry_count > count)) exit(4);
-    if (read == 17 && needed.from + needed.length > size) exit(5);
-    uint32_t answer = gptman_write(head.at, first, tail.at, last, size, sector, (gptman_partition *)partitions.at,
-                                   count, (gptman_step *)made.at, steps, data.at, bytes, &needed);
-    if (answer > 19 || (answer == 0 && (needed.steps > steps || needed.bytes > bytes))) exit(6);
-    table.entry_count = (uint32_t)(draw(2) ? 128 : draw_length());
-    uint32_t fresh = gptman_new(head.at, first, tail.at, last, size, sector, &table, (gptman_step *)made.at, steps,
-                                data.at, bytes, &needed);
-    if (fresh > 19 || (fresh == 0 && (needed.steps > steps || needed.bytes > bytes))) exit(11);
-    uint32_t fitted = gptman_fit(head.at, first, tail.at, last, size, sector, (gptman_step *)made.at, steps, data.at,
-                                 bytes, &needed);
-    if (fitted > 19 || (fitted == 0 && (needed.steps > steps || needed.bytes > bytes))) exit(13);
-    call_others(head, first, tail, last, size, sector, data, bytes);
-    uint64_t lba = 7;
-    uint32_t place = gptman_place(&table, (gptman_partition *)partitions.at, count, draw_length(), (uint32_t)draw(5), &lba);
-    if (place != 0 && (lba != 7 || (place != 8 && place != 19))) exit(12);
-    call_names((gptman_partition *)partitions.at, count, data, bytes);
-    give(partitions, count * sizeof(gptman_partition));
-    give(made, steps * sizeof(gptman_step)), give(data, bytes);
-    return answer;
+/* Turns some bits of an end. */
+static void turn(uint8_t *bytes, size_t count) {
+    for (uint64_t k = draw(3) == 0 ? draw(4) : 0; k > 0 && count > 0; k--) {
+        bytes[mostly(draw(2048), draw(count)) % count] ^= (uint8_t)(1 << draw(8));
+    }
 }
 
-/* The ends of the image, some of its bytes changed. */
-static uint32_t call_at_random(void) {
-    uint64_t size = draw(3) == 0 ? draw_length() : image_size;
-    static const uint64_t sectors[] = {512, 512, 512, 512, 4096, 0, 1, 92, 1ull << 63, UINT64_MAX};
-    uint64_t sector = sectors[draw(10)];
-    size_t first = draw(2) ? 17408 : draw(40000), last = draw(2) ? 16896 : draw(40000);
-    room head = take(first, 1, draw(2)), tail = take(last, 1, draw(2));
-    memcpy(head.at, image, first < image_size ? first : image_size);
-    if (last <= image_size) memcpy(tail.at, image + image_size - last, last);
-    for (uint64_t k = draw(3); k > 0 && first > 0; k--) head.at[draw(first)] ^= (uint8_t)(1 << draw(8));
-    for (uint64_t k = draw(2); k > 0 && last > 0; k--) tail.at[draw(last)] ^= (uint8_t)(1 << draw(8));
-    uint32_t answer = call(head, first, tail, last, size, sector, draw(2) ? 128 : draw(200), draw(20), draw(40000));
-    give(head, first), give(tail, last);
-    return answer;
+/* One call of each kind with ends of the image, some of its bytes changed. */
+static void call_at_random(void) {
+    static const uint64_t sectors[] = {1024, 4096, 0, 1, 92, 1ull << 63, UINT64_MAX};
+    arguments a;
+    memset(&a, 0, sizeof a);
+    a.size = mostly(image_size, draw_length()), a.sector = mostly(512, sectors[draw(7)]);
+    a.first = mostly(17408 + draw(4000), draw(40000)), a.last = mostly(16896 + draw(4000), draw(40000));
+    if (draw(40) == 0) a.first = 0;
+    if (draw(40) == 0) a.last = 0;
+    a.partition_count = mostly(128, draw(200)), a.step_count = mostly(20 + draw(20), draw(20));
+    a.byte_count = mostly(66000 + draw(2000), draw(66000));
+    if (draw(40) == 0) a.partition_count = a.step_count = a.byte_count = 0;
+    a.head = take(a.first, 1, draw(2)), a.tail = take(a.last, 1, draw(2));
+    a.partitions = take(a.partition_count * sizeof(gptman_partition), 8, 1);
+    a.steps = take(a.step_count * sizeof(gptman_step), 8, 1), a.bytes = take(a.byte_count, 1, 1);
+    memcpy(a.head.at, image, a.first), memcpy(a.tail.at, image + image_size - a.last, a.last);
+    turn(a.head.at + (a.first > 512 ? 512 : 0), a.first > 512 ? a.first - 512 : 0), turn(a.tail.at, a.last);
+    uint32_t read = gptman_read(ENDS(&a), &a.table, ENTRIES(&a), &a.needed);
+    answered(READ, read, READS | BIT(18));
+    expect(READ, read != 0 || a.table.entry_count <= a.partition_count);
+    expect(READ, read != 17 || (a.needed.from <= a.size && a.needed.length <= a.size - a.needed.from));
+    call_plans(&a), call_others(&a), call_names(&a);
+    give(a.head, a.first), give(a.tail, a.last), give(a.bytes, a.byte_count);
+    give(a.partitions, a.partition_count * sizeof(gptman_partition)), give(a.steps, a.step_count * sizeof(gptman_step));
 }
 
 /* Each call once with the good image, until one is not done: what that one answers. */
@@ -195,10 +249,13 @@ int main(int argc, char **argv) {
     FILE *file = argc == 3 ? fopen(argv[1], "rb") : NULL;
     if (file == NULL) return 2;
     image_size = fread(image, 1, MOST, file);
-    int refused = refuse_in_turn(), done = 0;
+    if (image_size != MOST) return 2;
+    int refused = refuse_in_turn();
     long runs = atol(argv[2]);
-    for (long k = 0; k < runs; k++) done += call_at_random() == 0;
+    for (long k = 0; k < runs; k++) call_at_random();
     if (taken != given) return 9;
-    printf("%d requests refused, %ld calls at random, %d of them done\n", refused, runs, done);
+    printf("%d requests refused, %ld calls of each at random, done of them", refused, runs);
+    for (int k = 0; k < CALLS; k++) printf("%s %s %ld", k == 0 ? ":" : ",", names[k], done[k]);
+    printf("\n");
     return 0;
 }

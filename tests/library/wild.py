@@ -1,13 +1,13 @@
 """Arguments at random, and requests for memory that are refused in turn, by the program wild.c."""
 import os
+import re
 import subprocess
 
 from built import TOP, is_there
+from handles import SANITIZED
 
 WRAPPED = ["-Wl,--wrap=malloc", "-Wl,--wrap=realloc", "-Wl,--wrap=free"]
-
-
-SANITIZED = ["-g", "-fsanitize=address,undefined", "-fno-sanitize-recover=all"]
+CALLS = "read check write new fit mbr place get_name set_name".split()
 
 
 def compile_wild(library, name, *words):
@@ -20,19 +20,34 @@ def start(program):
     program.run("disk.img", "512", "new", "00112233445566778899aabbccddeeff")
 
 
+def tell(ended):
+    """The note of a run that ended, and what each call was done of its times."""
+    note = ended.stdout.decode().strip()
+    times, done = re.search(r"(\d+) calls of each at random, done of them: (.*)", note).groups() if note else (1, "")
+    return note, {name: int(number) / int(times) for name, number in re.findall(r"(\w+) (\d+)", done)}
+
+
 def try_wild(tally, library, program):
-    """No access is wrong, no answer is none of those that are named, and all memory is given back."""
+    """No access is wrong, no answer is none of those that are named, all memory is given back, and each call is done
+    in a quarter of its times and more."""
     start(program)
     path = compile_wild(library, "wild")
-    ended = subprocess.run([path, program.file("disk.img"), "20000"], stdout=subprocess.PIPE, check=False)
-    tally.equals("the status of wild", 0, ended.returncode)
-    note = ended.stdout.decode().strip()
-    tally.holds(f"some requests are refused, and some calls are done: {note}", " 0 " not in " " + note)
-    if is_there("valgrind"):
-        words = ["valgrind", "-q", "--error-exitcode=9", path, program.file("disk.img"), "60"]
-        ended = subprocess.run(words, stdout=subprocess.DEVNULL, stderr=subprocess.PIPE, check=False)
-        tally.equals(f"valgrind finds nothing: {ended.stderr.decode()[:400]}", 0, ended.returncode)
-    return note
+    ended = subprocess.run([path, program.file("disk.img"), "3000"], stdout=subprocess.PIPE, stderr=subprocess.PIPE,
+                           check=False)
+    tally.equals("what wild says, and its status", ("", 0), (ended.stderr.decode(), ended.returncode))
+    note, done = tell(ended)
+    tally.equals("the calls that are tried", set(CALLS), set(done))
+    for name, share in done.items():
+        tally.holds(f"{name} is done in {share:.0%} of its times", share >= 0.25)
+    tally.holds(f"some requests for memory are refused: {note}", not note.startswith("0 "))
+    if not is_there("valgrind"):
+        return f"{note}; valgrind is not installed: accesses are not watched by it"
+    words = ["valgrind", "-q", "--error-exitcode=9", path, program.file("disk.img"), "20"]
+    ended = subprocess.run(words, stdout=subprocess.PIPE, stderr=subprocess.PIPE, check=False)
+    tally.equals(f"valgrind finds nothing: {ended.stderr.decode()[:400]}", 0, ended.returncode)
+    tally.equals("the calls that are done under valgrind", set(CALLS),
+                 {name for name, share in tell(ended)[1].items() if share})
+    return f"{note}; 20 of each under valgrind"
 
 
 def try_sanitizers(tally, library, program):
@@ -43,10 +58,10 @@ def try_sanitizers(tally, library, program):
     except subprocess.CalledProcessError:
         return "left out: the compiler has no sanitizers"
     # A request that is too large is refused, as without them.
-    ended = subprocess.run([path, program.file("disk.img"), "2000"], stdout=subprocess.PIPE, stderr=subprocess.PIPE,
+    ended = subprocess.run([path, program.file("disk.img"), "1000"], stdout=subprocess.PIPE, stderr=subprocess.PIPE,
                            check=False, env={**os.environ, "ASAN_OPTIONS": "allocator_may_return_null=1"})
     tally.equals(f"the sanitizers find nothing: {ended.stderr.decode()[:400]}", 0, ended.returncode)
-    return ended.stdout.decode().strip()
+    return tell(ended)[0]
 
 
 SUBJECTS = {"arguments at random": try_wild, "arguments at random, sanitized": try_sanitizers}
