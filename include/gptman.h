@@ -91,7 +91,7 @@ enum {
 
     /* Of gptman_fd.h alone: a call asked for bytes or room that it had, for bytes that no disk of that size has, or too
      * often. None is known to. */
-    GPTMAN_FD_ASKS_AGAIN = 100
+    GPTMAN_FD_ASKS_AGAIN = 150
 };
 
 /* The name of an answer, as docs/FAULTS.md has it; "Unknown" of a number that no call answers. */

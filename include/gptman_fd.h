@@ -69,15 +69,17 @@ static inline uint32_t gptman_ends_take(gptman_ends *ends, uint64_t first, uint6
 }
 
 /* Takes the ends anew, as long as they are, and at least those that most tables need. The length of a block device is
- * that of its end. */
+ * that of its end. Where that fails the ends are empty. */
 static inline uint32_t gptman_ends_renew(gptman_ends *ends) {
     uint64_t sector = ends->sector_size, first = 2 * sector + 16384, last = sector + 16384;
+    if (ends->head_length > first) first = ends->head_length;
+    if (ends->tail_length > last) last = ends->tail_length;
+    gptman_ends_free(ends);
     if (sector != 512 && sector != 1024 && sector != 2048 && sector != 4096) return GPTMAN_BAD_ARGUMENT;
     off_t size = lseek(ends->fd, 0, SEEK_END);
     if (size < 0) return GPTMAN_IO;
     ends->size = (uint64_t)size;
-    return gptman_ends_take(ends, ends->head_length > first ? ends->head_length : first,
-                            ends->tail_length > last ? ends->tail_length : last);
+    return gptman_ends_take(ends, first, last);
 }
 
 /* Begins with the ends that most tables need, and takes no lock. A sector has 512, 1024, 2048 or 4096 bytes. */
@@ -194,16 +196,18 @@ static inline uint32_t gptman_plan_fd(const gptman_ends *ends, const gptman_want
 
 /* Begins a change: what was written before is synced, and then read. */
 static inline uint32_t gptman_begin_fd(gptman_ends *ends) {
-    if (fsync(ends->fd) != 0) return GPTMAN_IO;
-    return gptman_ends_renew(ends);
+    if (fsync(ends->fd) == 0) return gptman_ends_renew(ends);
+    gptman_ends_free(ends);
+    return GPTMAN_IO;
 }
 
-/* Makes the steps of a change, and reads the ends anew. Where a step failed the ends are empty. */
+/* Makes the steps of a change, and reads the ends anew. These are empty where a step failed, and where they cannot be
+ * read, which does not undo the change. */
 static inline uint32_t gptman_end_fd(gptman_ends *ends, const gptman_step *steps, uint64_t count,
                                      const uint8_t *bytes) {
     uint32_t answer = gptman_make_steps(ends->fd, steps, count, bytes);
-    if (answer == GPTMAN_OK) return gptman_ends_renew(ends);
-    gptman_ends_free(ends);
+    if (answer == GPTMAN_OK) gptman_ends_renew(ends);
+    if (answer != GPTMAN_OK) gptman_ends_free(ends);
     return answer;
 }
 

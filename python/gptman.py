@@ -25,7 +25,7 @@ FAULTS = ("Io InvalidSignature InvalidRevision InvalidHeaderSize InvalidChecksum
           "InvalidPartitionBoundaries InvalidPartitionNumber UnusedPartition PartitionNotFound Overflow "
           "OutOfMemory InvalidPartitionEntrySize LacksBytes LacksRoom BadArgument").split()
 NO_SPACE_LEFT, LACKS_BYTES, LACKS_ROOM, BAD_ARGUMENT = 8, 17, 18, 19
-ASKS_AGAIN = 100  # a call asked for bytes or room that it had, for bytes that no disk of that size has, or too often
+ASKS_AGAIN = 150  # a call asked for bytes or room that it had, for bytes that no disk of that size has, or too often
 SYNC = 2
 MBR_START, MBR_LENGTH = 446, 66
 MOST_ENTRIES, MOST_BYTES, MOST_ROUNDS = 1 << 20, 1 << 28, 32

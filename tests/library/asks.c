@@ -22,15 +22,15 @@ static uint32_t ask(gptman_needed *needed, size_t head, size_t tail, uint32_t *r
     return GPTMAN_LACKS_BYTES;
 }
 
-static uint32_t ask_read(const uint8_t *head, size_t head_length, const uint8_t *tail, size_t tail_length, uint64_t size,
-                         uint64_t sector, gptman_table *table, gptman_partition *partitions, size_t count,
-                         gptman_needed *needed) {
+static uint32_t ask_read(const uint8_t *head, size_t head_length, const uint8_t *tail, size_t tail_length,
+                         uint64_t size, uint64_t sector, gptman_table *table, gptman_partition *partitions,
+                         size_t count, gptman_needed *needed) {
     (void)head, (void)tail, (void)size, (void)sector, (void)partitions, (void)count;
     return ask(needed, head_length, tail_length, &table->entry_count);
 }
 
-static uint32_t ask_check(const uint8_t *head, size_t head_length, const uint8_t *tail, size_t tail_length, uint64_t size,
-                          uint64_t sector, gptman_copies *copies, gptman_needed *needed) {
+static uint32_t ask_check(const uint8_t *head, size_t head_length, const uint8_t *tail, size_t tail_length,
+                          uint64_t size, uint64_t sector, gptman_copies *copies, gptman_needed *needed) {
     uint32_t room;
     (void)head, (void)tail, (void)size, (void)sector, (void)copies;
     return ask(needed, head_length, tail_length, &room);

@@ -8,7 +8,7 @@ import sys
 import uuid
 
 import table
-from built import TOP
+from built import TOP, is_there
 
 LINUX = uuid.UUID("0fc63daf-8483-4772-8e79-3d69d8477de4")
 SECTORS = 512
@@ -145,7 +145,7 @@ def try_copies(tally, library, program):
     for sector in 0, 1, 256, 511, 520, 8192, 1 << 20, 1 << 63:
         tally.equals(f"both copies with sectors of {sector}", ("BadArgument", "fault: BadArgument\n"), (
             refusal(gptman, lambda: gptman.check(path, sector)), printed(over_fd, path, str(sector), "check")))
-    if not os.path.exists("/usr/sbin/sgdisk"):
+    if not is_there("sgdisk"):
         return "sgdisk is not installed: long tables are left out"
     program.make_image("long.img", 64 << 20)
     path = program.file("long.img")
@@ -186,7 +186,8 @@ def try_mbr(tally, library, program):
                 tally.equals(f"{what}, over a file descriptor", wanted, with_mbr(
                     program, size, lambda path: printed(over_fd, path, str(sector), kind)))
         for sector in 1, 91, 520, 1 << 20:
-            out, data, _ = with_mbr(program, size, lambda path: printed(program.path, path, str(sector), "mbr", "plain"))
+            words = str(sector), "mbr", "plain"
+            out, data, _ = with_mbr(program, size, lambda path: printed(program.path, path, *words))
             wanted = data[446:512] if out == "ok\n" else fault_in(out)
             answer = calls.gptman_mbr(ctypes.c_uint64(size), ctypes.c_uint64(sector), 0, room, ctypes.c_size_t(66))
             tally.equals(f"the bytes of an MBR on {size} bytes with sectors of {sector}", wanted,
@@ -621,7 +622,7 @@ def refusal(gptman, call):
 
 def try_long(tally, library, program):
     """A table of many entries, whose arrays are longer than the first ends, and sectors of 4096 bytes."""
-    if not os.path.exists("/usr/sbin/sgdisk"):
+    if not is_there("sgdisk"):
         return "sgdisk is not installed: left out"
     gptman = module()
     path = program.file("long.img")

@@ -166,7 +166,8 @@ static uint32_t do_line(char words[6][4096]) {
     if (strcmp(name, "new") == 0) return make_new(words[1], (uint32_t)strtoull(words[2], NULL, 10));
     if (strcmp(name, "same") == 0) return write_table(0, "", "", 0, 0);
     if (strcmp(name, "write") != 0) exit(6);
-    return write_table((uint32_t)number, words[2], words[3], strtoull(words[4], NULL, 10), strtoull(words[5], NULL, 10));
+    uint64_t first = strtoull(words[4], NULL, 10), last = strtoull(words[5], NULL, 10);
+    return write_table((uint32_t)number, words[2], words[3], first, last);
 }
 
 int main(void) {
@@ -174,7 +175,8 @@ int main(void) {
     ends.fd = -1;
     while (fgets(line, sizeof line, stdin) != NULL) {
         for (int i = 0; i < 6; i++) words[i][0] = 0;
-        sscanf(line, "%4095s %4095s %4095s %4095s %4095s %4095s", words[0], words[1], words[2], words[3], words[4], words[5]);
+        sscanf(line, "%4095s %4095s %4095s %4095s %4095s %4095s", words[0], words[1], words[2], words[3], words[4],
+               words[5]);
         uint32_t answer = do_line(words);
         printf("%s\n\n", gptman_fault_name(answer));
         fflush(stdout);

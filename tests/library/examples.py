@@ -2,9 +2,11 @@
 import os
 import subprocess
 import sys
+import textwrap
 
 import table
 from built import TOP, is_there
+from calls import with_remains
 
 MIB = 1 << 20
 LINUX = "0fc63daf-8483-4772-8e79-3d69d8477de4"
@@ -120,4 +122,36 @@ def try_headers(tally, library, program):
                      {name for name in names if not name.startswith("_")})
 
 
-SUBJECTS = {"the examples": try_examples, "the headers": try_headers}
+AROUND = """#include <fcntl.h>
+#include <inttypes.h>
+#include <stdio.h>
+#include <string.h>
+#include "gptman_fd.h"
+int main(int argc, char **argv) {
+    gptman_ends ends;
+    gptman_table table;
+    gptman_partition *partitions = NULL;
+    int fd = argc == 2 ? open(argv[1], O_RDONLY) : -1;
+%s
+    free(partitions), gptman_ends_free(&ends);
+    return (int)fault;
+}
+"""
+
+
+def try_document(tally, library, program):
+    """What docs/LIBRARY.md shows first lists the used entries of a table, and no unused one with old fields."""
+    with_remains(program)
+    with open(os.path.join(TOP, "docs", "LIBRARY.md"), encoding="utf-8") as file:
+        text = file.read()
+    in_c, in_python = (text.split(f"```{language}\n")[1].split("```")[0] for language in ("c", "python"))
+    program.write("shown.c", (AROUND % textwrap.indent(in_c, "    ")).encode())
+    path = library.compile(program.file("shown.c"), "shown")
+    entries = table.read(program.file("disk.img")).entries
+    tally.equals("what it lists in C", "".join(f"{n} {e.first} {e.last}\n" for n, e in entries.items()),
+                 run(path, program.file("disk.img")))
+    tally.equals("what it lists in Python", listed(entries), run(sys.executable, "-c", in_python, cwd=program.folder,
+                                                                env=library.environment()))
+
+
+SUBJECTS = {"the examples": try_examples, "the headers": try_headers, "what the document shows": try_document}

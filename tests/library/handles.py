@@ -16,7 +16,7 @@ import uuid
 import table
 from built import TOP
 
-LIMIT = 10
+LIMIT = 30
 SANITIZED = ["-g", "-fsanitize=address,undefined", "-fno-sanitize-recover=all"]
 HOWS = ("nothing", "part", "all", "garbage")
 

@@ -11,6 +11,7 @@ import zlib
 import table
 from built import TOP
 from calls import LINUX, module, start
+from examples import in_rust
 from handles import HOWS, LIMIT, OverC, OverPython, SANITIZED, both, quick_folder
 
 GUID = "33221100-5544-7766-8899-aabbccddeeff"
@@ -49,12 +50,16 @@ def mbr_answer(size, sector):
     return "Overflow" if size < sector else "Ok"
 
 
+COUNTS = 1, 4, 13, 33, 64, 128, 200
+ODD = 4, 128
+
+
 def lengths_of(count, sector):
     """Lengths from 0 to twice the least disk: each number of sectors, and some bytes beside it."""
     least = 2 * array_sectors(count, sector) + 3
     for sectors in range(2 * least + 1):
         yield sectors * sector
-        if count in (4, 128):
+        if count in ODD:
             yield sectors * sector + 1
             yield sectors * sector + sector - 1
 
@@ -73,10 +78,10 @@ def try_lengths(tally, library, program):
                         try_length(tally, what, handle, path, sector, count, size)
                         disks += 1
             tally.equals(f"the status of {handle.name}", 0, handle.close())
-    return f"{disks} disks; numbers of entries: {' '.join(map(str, COUNTS))}, and not those between"
+    return (f"{disks} disks; left out: other numbers of entries than {' '.join(map(str, COUNTS))}, and but for "
+            f"{' and '.join(map(str, ODD))} lengths that are no whole sectors")
 
 
-COUNTS = (1, 4, 13, 33, 64, 128, 200)
 
 
 def try_length(tally, what, handle, path, sector, count, size):
@@ -161,8 +166,8 @@ def astray(random_):
 
 def try_astray(tally, library, program):
     """Disks whose headers name places within an end, across both and past the disk: every call ends, both helpers
-    answer and leave the same, and a reading is that of gptimg."""
-    disks = 0
+    answer and leave the same, and a reading is that of gptimg. The example in Rust ends on them too."""
+    disks, rust = 0, in_rust(library)
     with quick_folder(program) as folder:
         handles = both(library, module())
         paths = [os.path.join(folder, name) for name in ("c.img", "python.img")]
@@ -175,10 +180,39 @@ def try_astray(tally, library, program):
             tally.equals(f"whether it is read, {what}", "Ok" if status == 0 else out.split()[1].split("(")[0],
                          told[0][0][0])
             tally.equals(f"both copies, {what}", program.run("astray.img", "512", "check")[1], told[0][1])
+            if rust:
+                ended = subprocess.run([rust, program.file("astray.img")], stdout=subprocess.DEVNULL,
+                                       stderr=subprocess.DEVNULL, timeout=LIMIT, check=False)
+                tally.equals(f"whether the example in Rust lists it, {what}", status == 0, ended.returncode == 0)
             disks += 1
         for handle in handles:
             tally.equals(f"the status of {handle.name}", 0, handle.close())
-    return f"{disks} disks"
+    return f"{disks} disks" + ("" if rust else ", left out: cargo")
+
+
+def try_many(tally, library, program):
+    """A table of more entries than an end may hold is refused at once, and one of many is read and written."""
+    with quick_folder(program) as folder:
+        path = os.path.join(folder, "many.img")
+        for handle in both(library, module()):
+            put_file(path, b"")
+            os.truncate(path, 2 << 40)
+            end = (2 << 40) // 512 - 1
+            with open(path, "r+b") as file:
+                for own, other, place in (1, end, 2), (end, 1, end - (1 << 30)):
+                    file.seek(own * 512)
+                    file.write(header_of(own, other, place, (1 << 32) - 1, 0, end - (1 << 30) - 1))
+            handle.open(path)
+            tally.equals(f"a table of 2^32 - 1 entries, {handle.name}",
+                         ("LacksBytes", "fault: LacksBytes\n", "LacksBytes"),
+                         (handle.read()[0], handle.check(), handle.fit()))
+            tally.equals(f"a new table of 5000 entries, {handle.name}", "Ok", handle.new(path, 512, GUID, 5000))
+            handle.read()
+            tally.equals(f"a write of its last entry, {handle.name}", "Ok", handle.write(5000, entry_at(5000, 5000)))
+            made = table.Table(GUID, 2 + 1250, end - 1251, 5000, {5000: entry_at(5000, 5000)})
+            tally.equals(f"both copies of it, {handle.name}", made, table.read(path))
+            tally.equals(f"what is read of it, {handle.name}", ("Ok", made), handle.read())
+            tally.equals(f"the status of {handle.name}", 0, handle.close())
 
 
 def astray_answers(handle, path, data):
@@ -367,10 +401,13 @@ def try_requests(tally, library, program):
                 begin(handle, path, data)
                 handle.fail("alloc", number)
                 answer = make()
-                was_refused = handle.calls()[2] > number
+                writes, _, requests = handle.calls()
+                was_refused = requests > number
                 handle.fail()
+                # What is refused once the steps are made does not undo them.
                 tally.holds(f"{what} with request {number} refused: {answer}",
-                            ("OutOfMemory" in answer) == was_refused)
+                            is_done(answer) if writes or not was_refused else "OutOfMemory" in answer)
+                tally.holds(f"both copies where it was written, {what}", not writes or table.read(path))
                 if not was_refused:
                     break
                 tally.holds(f"a table that is kept, {what}", None not in table.read_copies(path) or what == "new")
@@ -501,8 +538,7 @@ def try_writers(tally, library, program):
         for number in range(4):
             first = 110 + 30 * number
             writers += [begin_add(library, add, path, first), begin_add(library, None, path, first + 10)]
-            words = ["add", str(100 + number), "af3dc60f838472478e793d69d8477de4", f"{number:02x}" * 16, "1", "first", "1",
-                     "by gptimg"]
+            words = ["add", str(100 + number), LINUX.bytes_le.hex(), f"{number:02x}" * 16, "1", "first", "1", "one"]
             writers.append(subprocess.Popen([program.path, path, "512", *words], stdout=subprocess.DEVNULL))
         tally.equals(f"the statuses of 12 writers at once, turn {turn}", [0] * 12,
                      [writer.wait(3 * LIMIT) for writer in writers])
@@ -511,6 +547,6 @@ def try_writers(tally, library, program):
 
 
 SUBJECTS = {"disks of every length": try_lengths, "headers that lead astray": try_astray,
-            "failures of a write, twice": try_failures, "syncs that drop": try_dropped,
-            "short reads and writes": try_short, "requests for memory": try_requests,
+            "tables of many entries": try_many, "failures of a write, twice": try_failures,
+            "syncs that drop": try_dropped, "short reads and writes": try_short, "requests for memory": try_requests,
             "a library that asks on": try_asking, "the lock": try_lock, "writers at once": try_writers}

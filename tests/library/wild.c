@@ -76,7 +76,8 @@ static uint64_t mostly(uint64_t usual, uint64_t odd) { return draw(12) == 0 ? od
 static void *at(room r, size_t count) { return count == 0 && draw(2) ? NULL : r.at; }
 
 enum { READ, CHECK, WRITE, NEW, FIT, MBR, PLACE, GET_NAME, SET_NAME, CALLS };
-static const char *const names[CALLS] = {"read", "check", "write", "new", "fit", "mbr", "place", "get_name", "set_name"};
+static const char *const names[CALLS] = {"read", "check", "write", "new", "fit", "mbr", "place", "get_name",
+                                         "set_name"};
 static long done[CALLS];
 
 /* Counts a call, whose answer is 0 or one of these. */
@@ -123,9 +124,11 @@ static void planned(const arguments *a, int call, uint32_t answer, uint64_t othe
 /* Another entry, mostly one that is right. */
 static void change(arguments *a) {
     if (a->partition_count == 0 || draw(3) == 0) return;
-    gptman_partition *entry = (gptman_partition *)a->partitions.at + draw(mostly(8, a->partition_count)) % a->partition_count;
+    size_t number = draw(mostly(8, a->partition_count)) % a->partition_count;
+    gptman_partition *entry = (gptman_partition *)a->partitions.at + number;
     for (int i = 0; i < 16; i++) entry->type_guid[i] = (uint8_t)draw(256), entry->unique_guid[i] = (uint8_t)draw(256);
-    entry->first_lba = mostly(34 + draw(180), draw_length()), entry->last_lba = entry->first_lba + mostly(draw(3), draw_length());
+    entry->first_lba = mostly(34 + draw(180), draw_length());
+    entry->last_lba = entry->first_lba + mostly(draw(3), draw_length());
 }
 
 static void call_plans(arguments *a) {
@@ -144,12 +147,15 @@ static void call_others(arguments *a) {
     expect(CHECK, looked == 0 || (copies.primary_fault == 77 && copies.backup_fault == 77 && copies.are_same == 77));
     expect(CHECK, looked != 0 || (copies.primary_fault <= 16 && copies.backup_fault <= 16 && copies.are_same <= 1));
     size_t count = a->byte_count < 130 ? a->byte_count : mostly(a->byte_count, draw(130));
-    uint32_t mbr = gptman_mbr(a->size, a->sector, (uint32_t)mostly(draw(2), 2), a->bytes.at + (a->byte_count - count), count);
+    uint8_t *last = a->bytes.at + (a->byte_count - count);
+    uint32_t mbr = gptman_mbr(a->size, a->sector, (uint32_t)mostly(draw(2), 2), last, count);
     answered(MBR, mbr, BIT(8) | BIT(14) | BIT(18) | BIT(19));
     expect(MBR, (mbr != 0 || count >= GPTMAN_MBR_LENGTH) && (mbr != 18 || count < GPTMAN_MBR_LENGTH));
     uint64_t lba = 7;
     a->table.align = mostly(1 + draw(8), draw_length());
-    uint32_t place = gptman_place(&a->table, ENTRIES(a), mostly(draw(20), draw_length()), (uint32_t)mostly(1 + draw(3), draw(9)), &lba);
+    uint64_t size = mostly(draw(20), draw_length());
+    uint32_t choice = (uint32_t)mostly(1 + draw(3), draw(9));
+    uint32_t place = gptman_place(&a->table, ENTRIES(a), size, choice, &lba);
     answered(PLACE, place, BIT(8) | BIT(19));
     expect(PLACE, place == 0 || lba == 7);
 }

@@ -79,18 +79,20 @@ struct Ends<'a> {
 }
 
 impl Ends<'_> {
-    /// Makes the end longer that is nearer to the bytes that are lacking.
+    /// Makes the end longer that is nearer to the bytes that are lacking. Two ends that meet are the whole disk.
     fn add(&mut self, needed: &Needed) -> Result<(), u32> {
         let (first, last) = (needed.from + needed.length, self.size - needed.from);
         if first.min(last) > MOST_BYTES {
             return Err(LACKS_BYTES);
         }
         if first <= last {
-            self.head_end = first;
+            self.head_end = self.head_end.max(first);
         } else {
-            self.tail_start = needed.from;
+            self.tail_start = self.tail_start.min(needed.from);
         }
-        self.tail_start = self.tail_start.max(self.head_end);
+        if self.head_end >= self.tail_start {
+            (self.head_end, self.tail_start) = (self.size, self.size);
+        }
         Ok(())
     }
 
