@@ -83,6 +83,9 @@ PLACED = [
      [81920, 204800, 122880, 2048, 143360]),
     (["size=1MiB", "start=30MiB, size=1MiB", ",1MiB", "start=3MiB, size=1MiB", ",1MiB"],
      [2048, 61440, 63488, 6144, 65536]),
+    # Numbers in hexadecimal, whose last digit may be a letter of a unit, and in octal.
+    (["start=0x800, size=0x1E", "start=2078, size=1", "start=010000, size=0x1M", "start=6144, size=1"],
+     [2048, 2078, 4096, 6144]),
     # Where the longest run begins at no multiple, what is before the next one stays free; sfdisk does not
     # align in a run as short as that of the last two.
     (["start=4000, size=250000", "size=6111"], [4000, 256000]),
@@ -253,7 +256,8 @@ def try_round(tally, program):
 def try_defaults(tally, program):
     """What scripts leave out is as sfdisk has it."""
     scripts = ["size=1MiB, type=L\nsize=2MiB, type=S\n", ",4MiB,U\n,8MiB,L\n,,L\n", "size=+, name=all\n",
-               "size=3000, type=linux\nsize=1MiB, type=home\n", "size=1MiB\nstart=8MiB, size=1MiB, attrs=GUID:60\n"]
+               "size=3000, type=linux\nsize=1MiB, type=home\n", "size=1MiB\nstart=8MiB, size=1MiB, attrs=GUID:60\n",
+               "start=0x800, size=0x1E\nstart=010000, size=0x1M\n"]
     if not shutil.which("sfdisk"):
         return "sfdisk is not installed: left out"
     for script in scripts:
