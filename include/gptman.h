@@ -88,11 +88,17 @@ enum {
     GPTMAN_LACKS_BYTES = 17,  /* neither end has all of needed->length bytes from needed->from on */
     GPTMAN_LACKS_ROOM = 18,   /* an array is too short */
     GPTMAN_BAD_ARGUMENT = 19,
+    GPTMAN_OTHER_LENGTH = 100, /* the table was made for a disk of another length: gptman_fit fits it */
+    GPTMAN_OTHER_LAYOUT = 101, /* the table, or the copy that is read, has not the layout of docs/FORMAT.md */
+    GPTMAN_DOS_DISK = 102,     /* the first sector has partitions of its own */
 
     /* Of gptman_fd.h alone: a call asked for bytes or room that it had, for bytes that no disk of that size has, or too
      * often. None is known to. */
     GPTMAN_FD_ASKS_AGAIN = 150
 };
+
+/* The flags of a write: GPTMAN_OVER_DOS where the first sector may have partitions of its own; else 0. */
+enum { GPTMAN_OVER_DOS = 1 };
 
 /* The name of an answer, as docs/FAULTS.md has it; "Unknown" of a number that no call answers. */
 static inline const char *gptman_fault_name(uint32_t answer) {
@@ -102,6 +108,8 @@ static inline const char *gptman_fault_name(uint32_t answer) {
         "InvalidPartitionBoundaries", "InvalidPartitionNumber", "UnusedPartition", "PartitionNotFound", "Overflow",
         "OutOfMemory", "InvalidPartitionEntrySize", "LacksBytes", "LacksRoom", "BadArgument",
     };
+    static const char *const more[] = {"OtherLength", "OtherLayout", "DosDisk"};
+    if (answer >= 100 && answer - 100 < sizeof more / sizeof *more) return more[answer - 100];
     if (answer == GPTMAN_FD_ASKS_AGAIN) return "AsksAgain";
     return answer < sizeof names / sizeof *names ? names[answer] : "Unknown";
 }
@@ -117,7 +125,8 @@ static inline const char *gptman_fault_name(uint32_t answer) {
  * GPTMAN_INVALID_SIGNATURE, GPTMAN_READ_ERROR: no copy of a table is without fault; the first where neither
  *     shows a signature, or the disk is shorter than a sector.
  * GPTMAN_OUT_OF_MEMORY: there is no memory. This says nothing of the disk.
- * GPTMAN_LACKS_BYTES: make an end longer, so that it has the bytes that `needed` names, and call again.
+ * GPTMAN_LACKS_BYTES: make an end longer, so that it has the bytes that `needed` names, and call again. They lie on
+ *     the disk. Ends that meet have all of it, and this is not answered.
  * GPTMAN_LACKS_ROOM: `partitions` is shorter than table->entry_count, which is set.
  * GPTMAN_BAD_ARGUMENT: `sector_size` is 0, or the ends are together longer than the disk.
  *
@@ -146,10 +155,9 @@ uint32_t gptman_check(const uint8_t *head, size_t head_length, const uint8_t *ta
  * written first is stored. `partitions` has all entries as they are to be, the unused ones included: as many as the
  * table has. On GPTMAN_OK there are needed->steps steps in `steps`, and what they write is in `bytes`. Make them in
  * their order, each only after the one before has succeeded: for GPTMAN_WRITE write `length` bytes from bytes +
- * `start` on to byte `offset` of the disk, for GPTMAN_SYNC store all that was written, as fsync does. The copy that
- * was not read is written and synced first, and then the other, so that where you stop, or the power fails, the disk
- * holds the old table or the new one; this is so where the copy that was read stands in its place and the table has
- * the layout that docs/FORMAT.md states.
+ * `start` on to byte `offset` of the disk, for GPTMAN_SYNC store all that was written, as fsync does. There are no
+ * other kinds of steps. The copy that was not read is written and synced first, and then the other, so that where you
+ * stop, or the power fails, the disk holds the old table or the new one.
  * After a step that failed the ends are no longer those of the disk: make no step of this plan again, but sync,
  * read the ends and the table, and plan anew.
  *
@@ -160,11 +168,18 @@ uint32_t gptman_check(const uint8_t *head, size_t head_length, const uint8_t *ta
  * GPTMAN_NO_SPACE_LEFT, GPTMAN_OVERFLOW: a copy would end past the disk, or past byte 2^64;
  * GPTMAN_LACKS_ROOM: `steps` or `bytes` is shorter than needed->steps or needed->bytes, which are set: call
  *     once with arrays of no room to know them;
- * GPTMAN_BAD_ARGUMENT: also where `partition_count` is not that of the table, or the table has no entries. */
+ * GPTMAN_BAD_ARGUMENT: also where `partition_count` is not that of the table, the table has no entries, or `flags` is
+ *     above 1;
+ * GPTMAN_OTHER_LENGTH: the table was made for a disk of another length: its headers are not those of sector 1 and of
+ *     the last whole sector. gptman_fit fits it;
+ * GPTMAN_OTHER_LAYOUT: the copy that is read does not stand in its place, or the table has not the layout that
+ *     docs/FORMAT.md states otherwise;
+ * GPTMAN_DOS_DISK: the first 512 bytes are an MBR with partitions of its own, and `flags` is not GPTMAN_OVER_DOS.
+ *     They stay as they are. */
 uint32_t gptman_write(const uint8_t *head, size_t head_length, const uint8_t *tail, size_t tail_length,
                       uint64_t disk_size, uint64_t sector_size, const gptman_partition *partitions,
                       size_t partition_count, gptman_step *steps, size_t step_count, uint8_t *bytes,
-                      size_t byte_count, gptman_needed *needed);
+                      size_t byte_count, gptman_needed *needed, uint32_t flags);
 
 /* Plans the write of a new table, of unused entries alone: of `table` disk_guid and entry_count are read.
  *
@@ -173,11 +188,13 @@ uint32_t gptman_write(const uint8_t *head, size_t head_length, const uint8_t *ta
  * copy is clear of the new backup copy. No protective MBR is written.
  *
  * GPTMAN_OVERFLOW, GPTMAN_INVALID_PARTITION_BOUNDARIES: the disk has too few sectors for two copies.
- * GPTMAN_BAD_ARGUMENT: also where entry_count is 0, or the disk is shorter than a sector.
- * The other answers are those of gptman_write, but that nothing is read. */
+ * GPTMAN_BAD_ARGUMENT: also where entry_count is 0, or the disk is shorter than a sector;
+ * GPTMAN_OTHER_LAYOUT: the new table would not have the layout that docs/FORMAT.md states, as where sectors are too
+ *     short for a header.
+ * The other answers are those of gptman_write but GPTMAN_OTHER_LENGTH, and nothing is read. */
 uint32_t gptman_new(const uint8_t *head, size_t head_length, const uint8_t *tail, size_t tail_length,
                     uint64_t disk_size, uint64_t sector_size, const gptman_table *table, gptman_step *steps,
-                    size_t step_count, uint8_t *bytes, size_t byte_count, gptman_needed *needed);
+                    size_t step_count, uint8_t *bytes, size_t byte_count, gptman_needed *needed, uint32_t flags);
 
 /* Plans the write of the table that a disk holds, fitted to the length that the disk has now: it has become longer or
  * shorter than the table was made for. The usable sectors and the place of the backup copy become those of that
@@ -185,17 +202,18 @@ uint32_t gptman_new(const uint8_t *head, size_t head_length, const uint8_t *tail
  *
  * The ends, sizes and arrays are as for gptman_write, `disk_size` as it is now, and so are the steps. Where the primary
  * copy is read, the backup copy is written first, at its new place, so that where you stop, or the power fails, the
- * disk holds the old table or the fitted one, whatever else is on it; this is so where the primary copy stands in
- * its place and the fitted table has the layout that docs/FORMAT.md states. No protective MBR is written.
+ * disk holds the old table or the fitted one, whatever else is on it. No protective MBR is written.
  *
- * The other answers are those of gptman_read and gptman_write, and
+ * The other answers are those of gptman_read, and those of gptman_write but GPTMAN_OTHER_LENGTH, and
  * GPTMAN_INVALID_PARTITION_BOUNDARIES: also where a partition would end past the last usable sector of a disk that has
  *     become shorter;
  * GPTMAN_OVERFLOW: also where the disk has too few sectors for two copies, or the table has no entries;
- * GPTMAN_BAD_ARGUMENT: `sector_size` is 0, or the ends are together longer than the disk. */
+ * GPTMAN_OTHER_LAYOUT: the copy that is read does not stand in its place, or the fitted table has not the layout
+ *     that docs/FORMAT.md states;
+ * GPTMAN_BAD_ARGUMENT: `sector_size` is 0, the ends are together longer than the disk, or `flags` is above 1. */
 uint32_t gptman_fit(const uint8_t *head, size_t head_length, const uint8_t *tail, size_t tail_length,
                     uint64_t disk_size, uint64_t sector_size, gptman_step *steps, size_t step_count, uint8_t *bytes,
-                    size_t byte_count, gptman_needed *needed);
+                    size_t byte_count, gptman_needed *needed, uint32_t flags);
 
 /* Where the protective MBR stands on a disk, and how many bytes it has. */
 enum { GPTMAN_MBR_START = 446, GPTMAN_MBR_LENGTH = 66 };

@@ -184,14 +184,14 @@ static inline uint32_t gptman_plan_fd(const gptman_ends *ends, const gptman_want
                                       size_t step_count, uint8_t *bytes, size_t byte_count, gptman_needed *needed) {
     if (wanted->table != NULL) {
         return gptman_new(ends->head, ends->head_length, ends->tail, ends->tail_length, ends->size,
-                          ends->sector_size, wanted->table, steps, step_count, bytes, byte_count, needed);
+                          ends->sector_size, wanted->table, steps, step_count, bytes, byte_count, needed, 0);
     }
     if (wanted->fits) {
         return gptman_fit(ends->head, ends->head_length, ends->tail, ends->tail_length, ends->size,
-                          ends->sector_size, steps, step_count, bytes, byte_count, needed);
+                          ends->sector_size, steps, step_count, bytes, byte_count, needed, 0);
     }
     return gptman_write(ends->head, ends->head_length, ends->tail, ends->tail_length, ends->size, ends->sector_size,
-                        wanted->partitions, wanted->count, steps, step_count, bytes, byte_count, needed);
+                        wanted->partitions, wanted->count, steps, step_count, bytes, byte_count, needed, 0);
 }
 
 /* Begins a change: what was written before is synced, and then read. */

@@ -26,6 +26,7 @@ FAULTS = ("Io InvalidSignature InvalidRevision InvalidHeaderSize InvalidChecksum
           "OutOfMemory InvalidPartitionEntrySize LacksBytes LacksRoom BadArgument").split()
 NO_SPACE_LEFT, LACKS_BYTES, LACKS_ROOM, BAD_ARGUMENT = 8, 17, 18, 19
 ASKS_AGAIN = 150  # a call asked for bytes or room that it had, for bytes that no disk of that size has, or too often
+MORE_FAULTS = {100: "OtherLength", 101: "OtherLayout", 102: "DosDisk", ASKS_AGAIN: "AsksAgain"}
 SYNC = 2
 MBR_START, MBR_LENGTH = 446, 66
 MOST_ENTRIES, MOST_BYTES, MOST_ROUNDS = 1 << 20, 1 << 28, 32
@@ -95,10 +96,11 @@ def _load():
     partitions = [POINTER(_Partition), c_size_t]
     library.gptman_read.argtypes = ends + [POINTER(_Table)] + partitions + [POINTER(_Needed)]
     library.gptman_write.argtypes = ends + partitions + [POINTER(_Step), c_size_t, POINTER(c_uint8), c_size_t,
-                                                         POINTER(_Needed)]
+                                                         POINTER(_Needed), c_uint32]
     library.gptman_new.argtypes = ends + [POINTER(_Table), POINTER(_Step), c_size_t, POINTER(c_uint8), c_size_t,
-                                          POINTER(_Needed)]
-    library.gptman_fit.argtypes = ends + [POINTER(_Step), c_size_t, POINTER(c_uint8), c_size_t, POINTER(_Needed)]
+                                          POINTER(_Needed), c_uint32]
+    library.gptman_fit.argtypes = ends + [POINTER(_Step), c_size_t, POINTER(c_uint8), c_size_t, POINTER(_Needed),
+                                          c_uint32]
     library.gptman_check.argtypes = ends + [POINTER(_Copies), POINTER(_Needed)]
     library.gptman_mbr.argtypes = [c_uint64, c_uint64, c_uint32, POINTER(c_uint8), c_size_t]
     library.gptman_place.argtypes = [POINTER(_Table)] + partitions + [c_uint64, c_uint32, POINTER(c_uint64)]
@@ -133,7 +135,7 @@ def version():
 
 def _name_of(number):
     """The name of a fault, or None where there is none."""
-    return "AsksAgain" if number == ASKS_AGAIN else FAULTS[number - 1] if number else None
+    return MORE_FAULTS[number] if number in MORE_FAULTS else FAULTS[number - 1] if number else None
 
 
 def _fitting(number, bits, what):
@@ -426,7 +428,7 @@ class Disk(_File):
         needed, step_count, byte_count = _Needed(), 0, 0
         for ends in self._rounds():
             steps, data = (_Step * max(step_count, 1))(), (c_uint8 * max(byte_count, 1))()
-            answer = call(*ends, *what, steps, step_count, data, byte_count, byref(needed))
+            answer = call(*ends, *what, steps, step_count, data, byte_count, byref(needed), 0)
             if answer == LACKS_BYTES:
                 self._add(ends, needed)
             elif answer == LACKS_ROOM:

@@ -38,9 +38,10 @@ static uint32_t ask_check(const uint8_t *head, size_t head_length, const uint8_t
 
 static uint32_t ask_fit(const uint8_t *head, size_t head_length, const uint8_t *tail, size_t tail_length, uint64_t size,
                         uint64_t sector, gptman_step *steps, size_t step_count, uint8_t *bytes, size_t byte_count,
-                        gptman_needed *needed) {
+                        gptman_needed *needed, uint32_t flags) {
     uint32_t room;
     (void)head, (void)tail, (void)size, (void)sector, (void)steps, (void)step_count, (void)bytes, (void)byte_count;
+    (void)flags;
     return ask(needed, head_length, tail_length, &room);
 }
 

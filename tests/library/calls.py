@@ -642,8 +642,21 @@ def try_long(tally, library, program):
     tally.equals("with sectors of 4096 bytes", "x" * 36, table.read(program.file("big.img"), 4096).entries[1].name)
 
 
+def try_flags(tally, library, program):
+    """A disk of DOS is planned with the flag, and no other flag is known."""
+    gptman = module()
+    start(program)
+    good = program.bytes_of("disk.img")
+    used = bytes([0x80]) + bytes(3) + bytes([0x83]) + bytes(3) + (1).to_bytes(4, "little") + (9).to_bytes(4, "little")
+    data = good[:446] + bytes(48) + used + b"\x55\xaa" + good[512:]
+    head, tail, needed = data[:34 * 512], data[-33 * 512:], gptman._Needed()
+    for flags, answer in (0, 102), (1, 18), (2, 19), (1 << 31, 19):
+        tally.equals(f"fitting a disk of DOS with the flags {flags}", answer, gptman._library.gptman_fit(
+            head, len(head), tail, len(tail), SIZE, 512, None, 0, None, 0, ctypes.byref(needed), flags))
+
+
 SUBJECTS = {"damaged images": try_damaged, "both copies": try_copies, "protective MBRs": try_mbr,
             "stops among the steps": try_stops, "new tables": try_new, "tables that are fitted": try_fits,
             "refusals of fitting": try_fit_refusals, "places": try_places, "names": try_names,
             "refusals": try_refusals, "bytes that are kept": try_kept, "numbers that do not fit": try_numbers,
-            "long tables": try_long}
+            "long tables": try_long, "flags": try_flags}

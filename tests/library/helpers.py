@@ -3,6 +3,7 @@ fail, and two writers at once."""
 import fcntl
 import os
 import random
+import struct
 import subprocess
 import sys
 import time
@@ -213,6 +214,66 @@ def try_many(tally, library, program):
             tally.equals(f"both copies of it, {handle.name}", made, table.read(path))
             tally.equals(f"what is read of it, {handle.name}", ("Ok", made), handle.read())
             tally.equals(f"the status of {handle.name}", 0, handle.close())
+
+
+def mbr_of(*entries):
+    """A first sector with these entries of an MBR, each a boot mark, a type and a length from sector 64 on."""
+    raw = b"".join(bytes([mark, 0, 2, 0, kind, 255, 255, 255]) + struct.pack("<II", 64, length)
+                   for mark, kind, length in entries)
+    return bytes(446) + raw.ljust(64, b"\0") + b"\x55\xaa"
+
+
+def image_of(found, size, **places):
+    """The bytes of a disk with this table and no MBR."""
+    image = bytearray(size)
+    for at, piece in table.pieces_of(found, size, **places):
+        image[at:at + len(piece)] = piece
+    return bytes(image)
+
+
+def refusals_of():
+    """What a disk is, its bytes, and what a write, a fit and a new table are answered with."""
+    size = 512 * 512
+    usual = image_of(table.Table(GUID, 34, 478, 128, {1: entry_at(70, 79)}), size)
+    moved = image_of(table.Table(GUID, 66, 478, 128, {1: entry_at(70, 79)}), size, primary_at=34)
+    yield "the stated layout", usual, ("Ok", "Ok", "Ok")
+    yield "a disk that has grown", usual + bytes(100 * 512), ("OtherLength", "Ok", "Ok")
+    yield "a disk that was cut", usual[:-10 * 512], ("OtherLength", "Ok", "Ok")
+    yield "entries that were moved", moved, ("OtherLayout", "OtherLayout", "Ok")
+    yield "the backup copy of these", moved[:512] + bytes(512) + moved[1024:], ("Ok", "Ok", "Ok")
+    for what, entries, is_dos in (
+            ("a partition of DOS", [(0, 0x83, 100)], True), ("one that is bootable", [(0x80, 7, 1)], True),
+            ("one in the last entry", [(0, 0, 0)] * 3 + [(0, 0x0c, 1 << 24)], True),
+            ("one of no sectors", [(0, 0x83, 0)], False), ("one of no type", [(0, 0, 100)], False),
+            ("a protective entry", [(0, 0xee, 511)], False), ("a boot mark of none", [(0x12, 0x83, 100)], False),
+            ("a hybrid MBR", [(0, 0xee, 63), (0x80, 0x83, 100)], False),
+            ("a hybrid MBR whose last entry protects", [(0, 0x83, 100), (0, 0, 0), (0, 0, 0), (0, 0xee, 63)], False)):
+        yield what, mbr_of(*entries) + usual[512:], ("DosDisk",) * 3 if is_dos else ("Ok",) * 3
+    yield "one without 55 AA", mbr_of((0, 0x83, 100))[:510] + bytes(2) + usual[512:], ("Ok",) * 3
+
+
+def try_stated(tally, library, program):
+    """Disks of another length than the table's, other layouts, and disks of DOS: a change is refused with the name of
+    that, and writes nothing; and what is none of these is changed."""
+    disks = 0
+    with quick_folder(program) as folder:
+        path = os.path.join(folder, "stated.img")
+        for handle in both(library, module()):
+            for what, data, answers in refusals_of():
+                calls = (lambda: handle.write(2, entry_at(90, 99, 2)), handle.fit,
+                         lambda: handle.new(path, 512, OTHER, 128))
+                for name, call, answer in zip(("a write", "a fit", "a new table"), calls, answers):
+                    put_file(path, data)
+                    handle.open(path)
+                    handle.read()
+                    tally.equals(f"{name}, {what}, {handle.name}", answer, call())
+                    tally.holds(f"whether {name} changes {what}, {handle.name}",
+                                name == "a fit" or (data_of(path) == data) == (answer != "Ok"))
+                    tally.holds(f"{name} leaves the first sector of {what}, {handle.name}",
+                                data_of(path)[:512] == data[:512])
+                disks += 1
+            tally.equals(f"the status of {handle.name}", 0, handle.close())
+    return f"{disks} disks"
 
 
 def astray_answers(handle, path, data):
@@ -447,7 +508,8 @@ class Asking:
     def ask(self, *words):
         """The answer of each call: the ends are the first words, and what is needed is the last."""
         self.number += 1
-        needed, first, last, size = words[-1]._obj, words[1], words[3], words[4]
+        needed = [word._obj for word in words if hasattr(word, "_obj")][-1]
+        first, last, size = words[1], words[3], words[4]
         needed.from_, needed.length, room = self.WAYS[self.way](self.number, first, last, size)
         needed.steps = needed.bytes = max(self.number if room > 0 else 0, 0)
         if hasattr(getattr(words[6], "_obj", None), "entry_count"):
@@ -547,6 +609,7 @@ def try_writers(tally, library, program):
 
 
 SUBJECTS = {"disks of every length": try_lengths, "headers that lead astray": try_astray,
-            "tables of many entries": try_many, "failures of a write, twice": try_failures,
-            "syncs that drop": try_dropped, "short reads and writes": try_short, "requests for memory": try_requests,
+            "tables of many entries": try_many, "other layouts and disks of DOS": try_stated,
+            "failures of a write, twice": try_failures, "syncs that drop": try_dropped,
+            "short reads and writes": try_short, "requests for memory": try_requests,
             "a library that asks on": try_asking, "the lock": try_lock, "writers at once": try_writers}

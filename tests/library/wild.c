@@ -80,9 +80,14 @@ static const char *const names[CALLS] = {"read", "check", "write", "new", "fit",
                                          "set_name"};
 static long done[CALLS];
 
+/* The answers from 100 on have the bits from 32 on. */
+#define BIT(n) (1ull << ((n) < 100 ? (n) : (n) - 68))
+enum { READS = BIT(2) | BIT(7) | BIT(17) | BIT(19), WRITES = BIT(8) | BIT(9) | BIT(10) | BIT(14) | BIT(18) };
+#define PLANS (WRITES | BIT(101) | BIT(102))
+
 /* Counts a call, whose answer is 0 or one of these. */
 static void answered(int call, uint32_t answer, uint64_t others) {
-    if (answer != 0 && (answer > 19 || (others >> answer & 1) == 0)) {
+    if (answer != 0 && (answer > 119 || (answer > 19 && answer < 100) || (others & BIT(answer)) == 0)) {
         fprintf(stderr, "%s answers %u\n", names[call], (unsigned)answer);
         exit(4);
     }
@@ -95,14 +100,13 @@ static void expect(int call, int holds) {
     exit(5);
 }
 
-#define BIT(n) (1ull << (n))
-enum { READS = BIT(2) | BIT(7) | BIT(17) | BIT(19), WRITES = BIT(8) | BIT(9) | BIT(10) | BIT(14) | BIT(18) };
 
 /* The arguments that most calls have, each array in a room of its own. */
 typedef struct arguments {
     room head, tail, partitions, steps, bytes;
     size_t first, last, partition_count, step_count, byte_count;
     uint64_t size, sector;
+    uint32_t flags;
     gptman_table table;
     gptman_needed needed;
 } arguments;
@@ -110,7 +114,7 @@ typedef struct arguments {
 #define ENDS(a) (const uint8_t *)at((a)->head, (a)->first), (a)->first, (const uint8_t *)at((a)->tail, (a)->last), \
                 (a)->last, (a)->size, (a)->sector
 #define PLAN(a) (gptman_step *)at((a)->steps, (a)->step_count), (a)->step_count, \
-                (uint8_t *)at((a)->bytes, (a)->byte_count), (a)->byte_count, &(a)->needed
+                (uint8_t *)at((a)->bytes, (a)->byte_count), (a)->byte_count, &(a)->needed, (a)->flags
 #define ENTRIES(a) (gptman_partition *)at((a)->partitions, (a)->partition_count), (a)->partition_count
 
 /* A plan, or bytes that are lacking. */
@@ -133,11 +137,12 @@ static void change(arguments *a) {
 
 static void call_plans(arguments *a) {
     change(a);
-    planned(a, WRITE, gptman_write(ENDS(a), ENTRIES(a), PLAN(a)), READS | WRITES);
+    planned(a, WRITE, gptman_write(ENDS(a), ENTRIES(a), PLAN(a)), READS | PLANS | BIT(100));
     gptman_table table = a->table;
     table.entry_count = (uint32_t)mostly(1 + draw(200), draw_length());
-    planned(a, NEW, gptman_new(ENDS(a), &table, PLAN(a)), BIT(17) | BIT(19) | WRITES);
-    planned(a, FIT, gptman_fit(ENDS(a), PLAN(a)), READS | WRITES);
+    uint64_t no_memory = table.entry_count >> 20 != 0 ? BIT(15) : 0; /* some hundred MB of entries on a large disk */
+    planned(a, NEW, gptman_new(ENDS(a), &table, PLAN(a)), BIT(17) | BIT(19) | PLANS | no_memory);
+    planned(a, FIT, gptman_fit(ENDS(a), PLAN(a)), READS | PLANS);
 }
 
 static void call_others(arguments *a) {
@@ -186,6 +191,7 @@ static void call_at_random(void) {
     arguments a;
     memset(&a, 0, sizeof a);
     a.size = mostly(image_size, draw_length()), a.sector = mostly(512, sectors[draw(7)]);
+    a.flags = (uint32_t)mostly(draw(2), draw_length());
     a.first = mostly(17408 + draw(4000), draw(40000)), a.last = mostly(16896 + draw(4000), draw(40000));
     if (draw(40) == 0) a.first = 0;
     if (draw(40) == 0) a.last = 0;
@@ -218,13 +224,13 @@ static uint32_t call_each(const uint8_t *head, const uint8_t *tail) {
     uint32_t answer = gptman_read(head, 17408, tail, 16896, image_size, 512, &table, partitions, 128, &needed);
     if (answer == 0) {
         answer = gptman_write(head, 17408, tail, 16896, image_size, 512, partitions, 128, steps, 64, bytes,
-                              sizeof bytes, &needed);
+                              sizeof bytes, &needed, 0);
     }
     if (answer == 0) {
-        answer = gptman_fit(head, 17408, tail, 16896, image_size, 512, steps, 64, bytes, sizeof bytes, &needed);
+        answer = gptman_fit(head, 17408, tail, 16896, image_size, 512, steps, 64, bytes, sizeof bytes, &needed, 0);
     }
     if (answer == 0) {
-        answer = gptman_new(head, 17408, tail, 16896, image_size, 512, &table, steps, 64, bytes, sizeof bytes, &needed);
+        answer = gptman_new(head, 17408, tail, 16896, image_size, 512, &table, steps, 64, bytes, sizeof bytes, &needed, 0);
     }
     if (answer == 0) answer = gptman_check(head, 17408, tail, 16896, image_size, 512, &copies, &needed);
     if (answer == 0) answer = gptman_mbr(image_size, 512, 0, bytes, sizeof bytes);

@@ -7,25 +7,30 @@
 ghost use Rattle.std.specs.Prelude.{◌≡◌, ◌≢◌, ◌≤◌, ◌<◌, ◌⊎◌, ◌+◌, ℕ, List, None, Some, length, take, true};
 ghost use Rattle.std.specs.Prelude.{drop, nat_eq};
 ghost use Rattle.gptman.specs.Crc.{crc_of};
+ghost use Rattle.gptman.specs.Layout.{HasLayout};
 ghost use Rattle.gptman.specs.Mbr.{mbr_bytes, mbr_fault};
 ghost use Rattle.gptman.specs.Reading.{reading_of, taken_from};
 ghost use Rattle.gptman.specs.Table.{new_table_of};
 ghost use Rattle.gptman_ends.specs.Checking.{IsCheckTold};
 ghost use Rattle.gptman_ends.specs.Crossing.{HasCount, IsOffer, IsRefused, IsTold};
+ghost use Rattle.gptman_ends.specs.Dos.{IsDosDisk};
 ghost use Rattle.gptman_ends.specs.Ends.{HasEnds, IsKnown};
 ghost use Rattle.gptman.specs.Name.{units_of};
 ghost use Rattle.std.specs.Prelude.{◌∷◌, ◌++◌, IsUtf8};
 ghost use Rattle.std.specs.Str.{chars};
 ghost use Rattle.gptman_ends.specs.Naming.{name_text};
-ghost use Rattle.gptman_ends.specs.Plan.{acts_of, steps_fit};
-ghost use Rattle.gptman_ends.specs.Planning.{AreNoEnds, IsFitPlan, IsMiscounted, IsNewPlan, IsNumberOf, IsPlan};
+ghost use Rattle.gptman_ends.specs.Plan.{acts_of, are_writes_and_syncs, steps_fit};
+ghost use Rattle.gptman_ends.specs.Planning.{AreNoEnds, HasPlan, IsFitPlan, IsMiscounted, IsNewPlan, IsNotStatedToFit};
+ghost use Rattle.gptman_ends.specs.Planning.{IsNumberOf, IsOfOtherLayout, IsOfOtherLength, IsPlan};
 ghost use Rattle.gptman_ends.specs.Planning.{needed_after, refusal_number, RefusesFit, RefusesNew, RefusesPlan};
 
 use gptman::crc::crc32;
 use gptman_ends::checking::{Look, look_at_both};
+use gptman_ends::dos::{Seen, look_for_dos};
 use gptman_ends::ends::are_apart;
 use gptman_ends::faults::{
-    BAD_ARGUMENT, LACKS_BYTES, LACKS_ROOM, NO_SPACE_LEFT, OUT_OF_MEMORY, number_of,
+    BAD_ARGUMENT, DOS_DISK, LACKS_BYTES, LACKS_ROOM, NO_SPACE_LEFT, OTHER_LAYOUT, OTHER_LENGTH,
+    OUT_OF_MEMORY, number_of,
 };
 use gptman_ends::fitting::plan_fit;
 use gptman_ends::making::plan_new;
@@ -76,6 +81,7 @@ pub extern "C" fn gptman_read(
     ensures lacks { result ≡ 17
         → ¬ IsKnown (length head.now) (length tail.now) disk_size (needed.new.from, needed.new.length) }
     ensures within { result ≡ 17 → needed.new.from + needed.new.length ≤ disk_size }
+    ensures whole { result ≡ 17 → length head.now + length tail.now < disk_size }
     ensures room { result ≡ 18 → length partitions.old < table.new.entry_count }
     ensures count { result ≡ 18 → (b : List ℕ) → HasEnds b head.now tail.now disk_size
         → HasCount (reading_of b sector_size) table.new.entry_count }
@@ -134,6 +140,7 @@ pub extern "C" fn gptman_check(
     ensures lacks { result ≡ 17
         → ¬ IsKnown (length head.now) (length tail.now) disk_size (needed.new.from, needed.new.length) }
     ensures within { result ≡ 17 → needed.new.from + needed.new.length ≤ disk_size }
+    ensures whole { result ≡ 17 → length head.now + length tail.now < disk_size }
     ensures bad { result ≡ 19
         → (sector_size ≡ 0) ⊎ (disk_size < length head.now + length tail.now) }
     ensures answers { (result ≡ 0) ⊎ ((result ≡ 15) ⊎ ((result ≡ 17) ⊎ (result ≡ 19))) }
@@ -165,9 +172,9 @@ pub extern "C" fn gptman_check(
 /// are to be, the unused ones included, as many as the table has. The steps and the bytes that they write are
 /// laid into `steps` and `bytes`. Who makes them in their order, each after the one before it has succeeded,
 /// does to the disk what a write of the library does: the other copy is written and synced, and then the one
-/// that was read. So where that one stands in the form of its place, and the table has the stated layout, a stop
-/// among or within the steps leaves the old table or the new one at one place at least, whatever the other copy
-/// was, and no byte outside of the two copies is touched; after all of them both places hold the new one.
+/// that was read. A stop among or within the steps leaves the old table or the new one at one place at least,
+/// whatever the other copy was, and no byte outside of the two copies is touched; after all of them both places
+/// hold the new one.
 ///
 /// 0: `needed.steps` steps are in `steps`, and their bytes in `bytes`.
 ///
@@ -178,10 +185,20 @@ pub extern "C" fn gptman_check(
 /// 17: neither `head` nor `tail` has all of the `needed.length` bytes of the disk from byte `needed.from` on,
 /// which have to be known for a plan.
 ///
-/// 18: `steps` has no room for `needed.steps` steps, or `bytes` none for `needed.bytes` bytes.
+/// 18: `steps` has no room for the `needed.steps` steps of the plan, or `bytes` none for its `needed.bytes` bytes.
 ///
 /// 19: `sector_size` is 0, the two ends together are longer than the disk, `partitions` has not as many
-/// entries as the table, or the table has none.
+/// entries as the table, or the table has none, or `flags` is above 1.
+///
+/// 100: the table was made for a disk of another length: its headers are not those of sector 1 and of the last
+/// whole sector. `gptman_fit` fits it.
+///
+/// 101: it was made for this length, but the copy that is read is not in the form of its place, or the table has
+/// not the stated layout otherwise.
+///
+/// 102: `flags` is 0, and the first 512 bytes of the disk are an MBR with partitions of its own: signed, with a boot
+/// mark in each of its four entries, one of them used, and none of a protective MBR. Where `flags` is 1, these bytes
+/// are not looked at.
 #[unsafe(no_mangle)]
 pub extern "C" fn gptman_write(
     alloc: Global,
@@ -193,31 +210,48 @@ pub extern "C" fn gptman_write(
     steps: &mut [Step],
     bytes: &mut [u8],
     needed: &mut Needed,
+    flags: u32,
 ) -> u32
     ensures plan { result ≡ 0 → (b : List ℕ) → HasEnds b head.now tail.now disk_size
         → IsPlan b sector_size partitions.now (acts_of bytes.new (take needed.new.steps steps.new)) }
     ensures fits { result ≡ 0 → (needed.new.steps ≤ length steps.new) × (needed.new.bytes ≤ length bytes.new) }
     ensures steps_fit { result ≡ 0
         → steps_fit disk_size needed.new.bytes (take needed.new.steps steps.new) ≡ true }
+    ensures kinds { result ≡ 0 → are_writes_and_syncs (take needed.new.steps steps.new) ≡ true }
     ensures refused { 0 < result → result ≤ 16 → result ≢ 15 → (b : List ℕ)
         → HasEnds b head.now tail.now disk_size
         → IsNumberOf (RefusesPlan b sector_size partitions.now) result }
     ensures lacks { result ≡ 17
         → ¬ IsKnown (length head.now) (length tail.now) disk_size (needed.new.from, needed.new.length) }
     ensures within { result ≡ 17 → needed.new.from + needed.new.length ≤ disk_size }
+    ensures whole { result ≡ 17 → length head.now + length tail.now < disk_size }
     ensures room { result ≡ 18
         → (length steps.old < needed.new.steps) ⊎ (length bytes.old < needed.new.bytes) }
-    ensures bad { result ≡ 19 → AreNoEnds head.now tail.now disk_size sector_size
-        ⊎ ((b : List ℕ) → HasEnds b head.now tail.now disk_size → IsMiscounted b sector_size partitions.now) }
-    ensures most { result ≤ 19 }
+    ensures suffices { result ≡ 18 → HasPlan (λ acts. (b : List ℕ) → HasEnds b head.now tail.now disk_size
+        → IsPlan b sector_size partitions.now acts) needed.new }
+    ensures bad { result ≡ 19 → AreNoEnds head.now tail.now disk_size sector_size ⊎ ((1 < flags)
+        ⊎ ((b : List ℕ) → HasEnds b head.now tail.now disk_size → IsMiscounted b sector_size partitions.now)) }
+    ensures other_length { result ≡ 100 → (b : List ℕ) → HasEnds b head.now tail.now disk_size
+        → IsOfOtherLength b sector_size }
+    ensures other_layout { result ≡ 101 → (b : List ℕ) → HasEnds b head.now tail.now disk_size
+        → IsOfOtherLayout b sector_size }
+    ensures dos_disk { result ≡ 102 → (flags ≡ 0) × ((b : List ℕ) → HasEnds b head.now tail.now disk_size
+        → IsDosDisk b) }
+    ensures no_dos_disk { result ≡ 0 → flags ≡ 0 → (b : List ℕ) → HasEnds b head.now tail.now disk_size
+        → ¬ IsDosDisk b }
+    ensures most { (result ≤ 19) ⊎ ((result ≡ 100) ⊎ ((result ≡ 101) ⊎ (result ≡ 102))) }
 
     // What is not told stays as it was.
     ensures steps { result ≢ 0 → steps.new ≡ steps.old }
     ensures bytes { result ≢ 0 → bytes.new ≡ bytes.old }
     ensures needed { result ≢ 0 → result ≢ 17 → result ≢ 18 → needed.new ≡ needed.old }
 {
-    if sector_size == 0 || !are_apart(head, tail, disk_size) {
+    if sector_size == 0 || flags > OVER_DOS || !are_apart(head, tail, disk_size) {
         return BAD_ARGUMENT;
+    }
+    let seen = refuse_dos(alloc, head, tail, disk_size, flags, needed);
+    if seen != 0 {
+        return seen;
     }
     match plan(alloc, head, tail, disk_size, sector_size, partitions) {
         Ok(plan) => give(&plan, steps, bytes, needed),
@@ -229,13 +263,13 @@ pub extern "C" fn gptman_write(
 /// entries are read.
 ///
 /// `head`, `tail`, `disk_size` and `sector_size` are as for `gptman_read`, and the steps are told and to be made
-/// as those of `gptman_write`. Where the table has the stated layout, both places hold it after all of them, and
-/// no byte outside of the two copies is touched. The backup copy comes first. So of a table that stood in the
-/// primary place a stop among or within the steps leaves that one or the new one, where its primary copy lies
-/// clear of the new backup copy.
+/// as those of `gptman_write`. Both places hold the table after all of them, and no byte outside of the two copies
+/// is touched. The backup copy comes first. So of a table that stood in the primary place a stop among or within
+/// the steps leaves that one or the new one, where its primary copy lies clear of the new backup copy.
 ///
-/// The answers are those of `gptman_write`, but that nothing is read; 14 and 10 are a disk of too few sectors for
-/// two copies, 19 also a table of no entries, and a disk shorter than a sector.
+/// The answers are those of `gptman_write` but 100, and nothing is read; 14 and 10 are a disk of too few sectors for
+/// two copies, 19 also a table of no entries, and a disk shorter than a sector, and 101 a table that would not have the
+/// stated layout, as with sectors that are too short for a header.
 #[unsafe(no_mangle)]
 pub extern "C" fn gptman_new(
     alloc: Global,
@@ -247,6 +281,7 @@ pub extern "C" fn gptman_new(
     steps: &mut [Step],
     bytes: &mut [u8],
     needed: &mut Needed,
+    flags: u32,
 ) -> u32
     ensures plan { result ≡ 0 → (b : List ℕ) → HasEnds b head.now tail.now disk_size
         → IsNewPlan b (new_table_of table.now.entry_count table.now.disk_guid sector_size disk_size)
@@ -254,24 +289,39 @@ pub extern "C" fn gptman_new(
     ensures fits { result ≡ 0 → (needed.new.steps ≤ length steps.new) × (needed.new.bytes ≤ length bytes.new) }
     ensures steps_fit { result ≡ 0
         → steps_fit disk_size needed.new.bytes (take needed.new.steps steps.new) ≡ true }
+    ensures kinds { result ≡ 0 → are_writes_and_syncs (take needed.new.steps steps.new) ≡ true }
     ensures refused { 0 < result → result ≤ 16 → result ≢ 15
         → IsNumberOf (RefusesNew table.now.entry_count table.now.disk_guid sector_size disk_size) result }
     ensures lacks { result ≡ 17
         → ¬ IsKnown (length head.now) (length tail.now) disk_size (needed.new.from, needed.new.length) }
     ensures within { result ≡ 17 → needed.new.from + needed.new.length ≤ disk_size }
+    ensures whole { result ≡ 17 → length head.now + length tail.now < disk_size }
     ensures room { result ≡ 18
         → (length steps.old < needed.new.steps) ⊎ (length bytes.old < needed.new.bytes) }
-    ensures bad { result ≡ 19 → AreNoEnds head.now tail.now disk_size sector_size
-        ⊎ ((table.now.entry_count ≡ 0) ⊎ (disk_size < sector_size)) }
-    ensures most { result ≤ 19 }
+    ensures suffices { result ≡ 18 → HasPlan (λ acts. (b : List ℕ) → HasEnds b head.now tail.now disk_size
+        → IsNewPlan b (new_table_of table.now.entry_count table.now.disk_guid sector_size disk_size) acts)
+        needed.new }
+    ensures bad { result ≡ 19 → AreNoEnds head.now tail.now disk_size sector_size ⊎ ((1 < flags)
+        ⊎ ((table.now.entry_count ≡ 0) ⊎ (disk_size < sector_size))) }
+    ensures other_layout { result ≡ 101
+        → ¬ HasLayout (new_table_of table.now.entry_count table.now.disk_guid sector_size disk_size) disk_size }
+    ensures dos_disk { result ≡ 102 → (flags ≡ 0) × ((b : List ℕ) → HasEnds b head.now tail.now disk_size
+        → IsDosDisk b) }
+    ensures no_dos_disk { result ≡ 0 → flags ≡ 0 → (b : List ℕ) → HasEnds b head.now tail.now disk_size
+        → ¬ IsDosDisk b }
+    ensures most { (result ≤ 19) ⊎ ((result ≡ 101) ⊎ (result ≡ 102)) }
 
     // What is not told stays as it was.
     ensures steps { result ≢ 0 → steps.new ≡ steps.old }
     ensures bytes { result ≢ 0 → bytes.new ≡ bytes.old }
     ensures needed { result ≢ 0 → result ≢ 17 → result ≢ 18 → needed.new ≡ needed.old }
 {
-    if sector_size == 0 || !are_apart(head, tail, disk_size) {
+    if sector_size == 0 || flags > OVER_DOS || !are_apart(head, tail, disk_size) {
         return BAD_ARGUMENT;
+    }
+    let seen = refuse_dos(alloc, head, tail, disk_size, flags, needed);
+    if seen != 0 {
+        return seen;
     }
     let planned = plan_new(
         alloc,
@@ -293,10 +343,10 @@ pub extern "C" fn gptman_new(
 /// those of the new length; the entries stay as they are.
 ///
 /// `head`, `tail`, `disk_size` and `sector_size` are as for `gptman_read`, `disk_size` as it is now, and the steps
-/// are told and to be made as those of `gptman_write`. Where the fitted table has the stated layout, both places
-/// hold it after all of them, and no byte outside of its two copies is touched. Where the primary copy is read, and
-/// stands in the form of its place, the backup copy comes first, at its new place: a stop among or within the steps
-/// leaves the old table or the fitted one at one place at least, whatever else is on the disk.
+/// are told and to be made as those of `gptman_write`. Both places hold the fitted table after all of them, and no
+/// byte outside of its two copies is touched. Where the primary copy is read, the backup copy comes first, at its
+/// new place: a stop among or within the steps leaves the old table or the fitted one at one place at least,
+/// whatever else is on the disk.
 ///
 /// 0: `needed.steps` steps are in `steps`, and their bytes in `bytes`.
 ///
@@ -308,9 +358,13 @@ pub extern "C" fn gptman_new(
 /// 17: neither `head` nor `tail` has all of the `needed.length` bytes of the disk from byte `needed.from` on,
 /// which have to be known for a plan.
 ///
-/// 18: `steps` has no room for `needed.steps` steps, or `bytes` none for `needed.bytes` bytes.
+/// 18: `steps` has no room for the `needed.steps` steps of the plan, or `bytes` none for its `needed.bytes` bytes.
 ///
-/// 19: `sector_size` is 0, or the two ends together are longer than the disk.
+/// 19: `sector_size` is 0, the two ends together are longer than the disk, or `flags` is above 1.
+///
+/// 101: the copy that is read is not in the form of its place, or the fitted table has not the stated layout.
+///
+/// 102: as of `gptman_write`.
 #[unsafe(no_mangle)]
 pub extern "C" fn gptman_fit(
     alloc: Global,
@@ -321,33 +375,87 @@ pub extern "C" fn gptman_fit(
     steps: &mut [Step],
     bytes: &mut [u8],
     needed: &mut Needed,
+    flags: u32,
 ) -> u32
     ensures plan { result ≡ 0 → (b : List ℕ) → HasEnds b head.now tail.now disk_size
         → IsFitPlan b sector_size (acts_of bytes.new (take needed.new.steps steps.new)) }
     ensures fits { result ≡ 0 → (needed.new.steps ≤ length steps.new) × (needed.new.bytes ≤ length bytes.new) }
     ensures steps_fit { result ≡ 0
         → steps_fit disk_size needed.new.bytes (take needed.new.steps steps.new) ≡ true }
+    ensures kinds { result ≡ 0 → are_writes_and_syncs (take needed.new.steps steps.new) ≡ true }
     ensures refused { 0 < result → result ≤ 16 → result ≢ 15 → (b : List ℕ)
         → HasEnds b head.now tail.now disk_size → IsNumberOf (RefusesFit b sector_size) result }
     ensures lacks { result ≡ 17
         → ¬ IsKnown (length head.now) (length tail.now) disk_size (needed.new.from, needed.new.length) }
     ensures within { result ≡ 17 → needed.new.from + needed.new.length ≤ disk_size }
+    ensures whole { result ≡ 17 → length head.now + length tail.now < disk_size }
     ensures room { result ≡ 18
         → (length steps.old < needed.new.steps) ⊎ (length bytes.old < needed.new.bytes) }
-    ensures bad { result ≡ 19 → AreNoEnds head.now tail.now disk_size sector_size }
-    ensures most { result ≤ 19 }
+    ensures suffices { result ≡ 18 → HasPlan (λ acts. (b : List ℕ) → HasEnds b head.now tail.now disk_size
+        → IsFitPlan b sector_size acts) needed.new }
+    ensures bad { result ≡ 19 → AreNoEnds head.now tail.now disk_size sector_size ⊎ (1 < flags) }
+    ensures other_layout { result ≡ 101 → (b : List ℕ) → HasEnds b head.now tail.now disk_size
+        → IsNotStatedToFit b sector_size }
+    ensures dos_disk { result ≡ 102 → (flags ≡ 0) × ((b : List ℕ) → HasEnds b head.now tail.now disk_size
+        → IsDosDisk b) }
+    ensures no_dos_disk { result ≡ 0 → flags ≡ 0 → (b : List ℕ) → HasEnds b head.now tail.now disk_size
+        → ¬ IsDosDisk b }
+    ensures most { (result ≤ 19) ⊎ ((result ≡ 101) ⊎ (result ≡ 102)) }
 
     // What is not told stays as it was.
     ensures steps { result ≢ 0 → steps.new ≡ steps.old }
     ensures bytes { result ≢ 0 → bytes.new ≡ bytes.old }
     ensures needed { result ≢ 0 → result ≢ 17 → result ≢ 18 → needed.new ≡ needed.old }
 {
-    if sector_size == 0 || !are_apart(head, tail, disk_size) {
+    if sector_size == 0 || flags > OVER_DOS || !are_apart(head, tail, disk_size) {
         return BAD_ARGUMENT;
+    }
+    let seen = refuse_dos(alloc, head, tail, disk_size, flags, needed);
+    if seen != 0 {
+        return seen;
     }
     match plan_fit(alloc, head, tail, disk_size, sector_size) {
         Ok(plan) => give(&plan, steps, bytes, needed),
         Err(refusal) => refuse(&refusal, needed),
+    }
+}
+
+// A disk may be written over whose first sector has partitions of its own.
+const OVER_DOS: u32 = 1;
+
+// The answer where the first sector of the disk has partitions of its own, or is not known, unless the flag says
+// that it may be written over; else 0.
+fn refuse_dos(
+    alloc: Global,
+    head: &[u8],
+    tail: &[u8],
+    disk_size: u64,
+    flags: u32,
+    needed: &mut Needed,
+) -> u32
+    requires apart { length head.now + length tail.now ≤ disk_size }
+    requires flags { flags ≤ 1 }
+    ensures none { result ≡ 0 → flags ≡ 0 → (b : List ℕ) → HasEnds b head.now tail.now disk_size → ¬ IsDosDisk b }
+    ensures dos_disk { result ≡ 102 → (flags ≡ 0) × ((b : List ℕ) → HasEnds b head.now tail.now disk_size
+        → IsDosDisk b) }
+    ensures lacks { result ≡ 17
+        → ¬ IsKnown (length head.now) (length tail.now) disk_size (needed.new.from, needed.new.length) }
+    ensures within { result ≡ 17 → needed.new.from + needed.new.length ≤ disk_size }
+    ensures whole { result ≡ 17 → length head.now + length tail.now < disk_size }
+    ensures answers { (result ≡ 0) ⊎ ((result ≡ 17) ⊎ (result ≡ 102)) }
+    ensures needed { result ≢ 17 → needed.new ≡ needed.old }
+{
+    if flags == OVER_DOS {
+        return 0;
+    }
+    match look_for_dos(alloc, head, tail, disk_size) {
+        Seen::Clear => 0,
+        Seen::DosDisk => DOS_DISK,
+        Seen::Unknown(lack) => {
+            needed.from = lack.from;
+            needed.length = lack.length;
+            LACKS_BYTES
+        }
     }
 }
 
@@ -364,6 +472,8 @@ fn refuse(refusal: &Refusal, needed: &mut Needed) -> u32
             needed.length = lack.length;
             LACKS_BYTES
         }
+        Refusal::OtherLength => OTHER_LENGTH,
+        Refusal::OtherLayout => OTHER_LAYOUT,
     }
 }
 
@@ -374,6 +484,9 @@ fn give(plan: &Record, steps: &mut [Step], bytes: &mut [u8], needed: &mut Needed
     ensures fits { result ≡ 0 → (needed.new.steps ≤ length steps.new) × (needed.new.bytes ≤ length bytes.new) }
     ensures steps_fit { result ≡ 0
         → steps_fit plan.now.size needed.new.bytes (take needed.new.steps steps.new) ≡ true }
+    ensures kinds { result ≡ 0 → are_writes_and_syncs (take needed.new.steps steps.new) ≡ true }
+    ensures count { needed.new.steps ≡ length plan.now.steps.items }
+    ensures filled { needed.new.bytes ≡ length plan.now.bytes.items }
     ensures room { result ≡ 18
         → (length steps.old < needed.new.steps) ⊎ (length bytes.old < needed.new.bytes) }
     ensures either { (result ≡ 0) ⊎ (result ≡ 18) }

@@ -1,4 +1,5 @@
 -- The plan of a write is one on every disk with these ends.
+use Rattle.std.proofs.lemmas.List.{length-map}
 use Rattle.std.proofs.Common.{◌≡◌, ◌≤◌, ⊎_elim, ℕ, ◌+◌, List, [], ◌∷◌, Bool, length, sym, ◌∙◌, subst, arith}
 use Rattle.gptman.specs.Crash.{IsReadInForm}
 use Rattle.gptman.specs.Disk.{AgreesOutside}
@@ -14,7 +15,7 @@ use Rattle.gptman_ends.specs.Crossing.{four_ranges, with_partitions}
 use Rattle.gptman_ends.specs.Ends.{ArePlacesKnown, AreRangesKnown, HasEnds, disk_bytes}
 use Rattle.gptman_ends.specs.Plan.{Act, AreKnown}
 use Rattle.gptman_ends.specs.Planning.{IsPlan, IsSafePlan}
-use Rattle.gptman_ends.specs.Reading.{IsTable}
+use Rattle.gptman_ends.specs.Reading.{IsTable, side_of}
 use Rattle.gptman_ends.specs.declared.records.Partition.{Partition}
 use Rattle.gptman_ends.proofs.AnyMiddle.{after_any, others_any, stops_any}
 use Rattle.gptman_ends.proofs.Known.{length-disk_bytes}
@@ -43,13 +44,31 @@ module _ (head tail : List ℕ) (size : ℕ) (apart : length head + length tail 
   abbrev next : Table
   next = with_partitions g partitions
 
-  module _ (told : IsTable head tail size g.sector_size g is_backup) (known : AreKnown (length head) (length tail) size acts)
+  -- the table with other entries, as many as it has, has the stated layout too
+  laid_too : length partitions ≡ (table_in g).count → IsLaidOut (table_in g) g.sector_size size → IsLaidOut next g.sector_size size
+  laid_too count laid = record {
+    sector = laid.sector;
+    signature = laid.signature;
+    revision = laid.revision;
+    header_size = laid.header_size;
+    entry_size = laid.entry_size;
+    entries = length-map partitions _ ∙ count;
+    low_sector = laid.low_sector;
+    high_sector = laid.high_sector;
+    inside = laid.inside;
+    apart = laid.apart;
+    fits = laid.fits;
+  }
+
+  module _ (told : IsTable head tail size g.sector_size g is_backup) (form : IsHeaderForm (side_of is_backup) g.header) (laid : IsLaidOut (table_in g) g.sector_size size)
+      (count : length partitions ≡ (table_in g).count) (known : AreKnown (length head) (length tail) size acts)
       (places : AreInside (four_ranges (table_in g) g.sector_size size) size → AreRangesKnown (length head) (length tail) size (four_ranges (table_in g) g.sector_size size))
       (safe_zero : IsReadInForm zero g → IsLaidOut next g.sector_size size → IsSafePlan zero g.sector_size (table_in g) next acts) (b : List ℕ) (ends : HasEnds b head tail size) where
-    in_form : IsHeaderForm (taken_from b g.sector_size) g.header → IsReadInForm zero g
-    in_form form =
-        let same : taken_from b g.sector_size ≡ taken_from zero g.sector_size = told.from b ends ∙ sym (told.from zero (ends_zero head tail size apart)) in
-        takes_in_form zero g (told.reading zero (ends_zero head tail size apart)) (subst (λ (side : Side). IsHeaderForm side g.header) same form)
+    form_of : (x : List ℕ) → HasEnds x head tail size → IsHeaderForm (taken_from x g.sector_size) g.header
+    form_of x of_x = subst (λ (side : Side). IsHeaderForm side g.header) (sym (told.from x of_x)) form
+
+    in_form : IsReadInForm zero g
+    in_form = let of_zero = ends_zero head tail size apart in takes_in_form zero g (told.reading zero of_zero) (form_of zero of_zero)
 
     lift : AreRangesKnown (length head) (length tail) size (four_ranges (table_in g) g.sector_size size) → IsSafePlan zero g.sector_size (table_in g) next acts
         → IsSafePlan b g.sector_size (table_in g) next acts
@@ -70,7 +89,7 @@ module _ (head tail : List ℕ) (size : ℕ) (apart : length head + length tail 
     plan_any = record {
       copy = copy_of g;
       taken = told.reading b ends;
-      safe = λ form laid.
-          let here : IsLaidOut next g.sector_size size = subst (λ (n : ℕ). IsLaidOut next g.sector_size n) ends.long laid in
-          lift (places here.inside) (safe_zero (in_form form) here);
+      form = form_of b ends;
+      laid = subst (λ (n : ℕ). IsLaidOut (table_in g) g.sector_size n) (sym ends.long) laid;
+      safe = lift (places laid.inside) (safe_zero in_form (laid_too count laid));
     }

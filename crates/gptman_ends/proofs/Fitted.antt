@@ -1,12 +1,12 @@
 -- A table that is fitted to the disk's length.
-use Rattle.std.proofs.Common.{◌≡◌, ◌≢◌, ◌≤◌, ◌<◌, ◌/◌, ◌*◌, ◌||◌, ◌⊎◌, ⊎_elim, Bool, true, false, ℕ, ◌+◌, ◌-◌, List, [], ◌∷◌, length, refl, sym, ◌∙◌, ap, subst, arith}
+use Rattle.std.proofs.Common.{◌≡◌, ◌≢◌, ◌≤◌, ◌<◌, ◌/◌, ◌*◌, ◌||◌, ◌⊎◌, ⊎_elim, inl, inr, Bool, true, false, ℕ, ◌+◌, ◌-◌, List, [], ◌∷◌, length, refl, sym, ap, subst, arith}
 use Rattle.std.specs.Prelude.{if◌then◌else◌, nat_eq, Option, None, Some, Ok}
 use Rattle.std.proofs.Math.Nat.{mul-le-mul_left}
 use Rattle.std.proofs.lemmas.Bool.{eqb-false, ltb-false}
 use Rattle.gptman.specs.Copy.{IsCoherent}
 use Rattle.gptman.specs.Fault.{Fault, fault_of, io, overflow}
 use Rattle.gptman.specs.Fit.{array_sectors, array_size, fit_fault, fit_header, is_too_small}
-use Rattle.gptman.specs.Layout.{Holds, IsLaidOut}
+use Rattle.gptman.specs.Layout.{HasLayout, Holds, IsLaidOut}
 use Rattle.gptman.specs.Reading.{Side, primary, backup, reading_of, taken_from}
 use Rattle.gptman.specs.Stop.{HoldsOneOf}
 use Rattle.gptman.specs.Table.{entries_in, grow_to, table_in, IsHeaderForm, IsInForm}
@@ -18,14 +18,14 @@ use Rattle.gptman_copy.specs.declared.error.Error.{Error}
 use Rattle.gptman.specs.declared.table.GPT.{GPT}
 use Rattle.gptman.proofs.FourRanges.{sides_clear}
 use Rattle.gptman.proofs.ReadingLaw.{holds_what_is_read}
-use Rattle.gptman_ends.specs.Ends.{IsKnown}
+use Rattle.gptman_ends.specs.Ends.{HasEnds}
 use Rattle.gptman_ends.specs.Plan.{Act, LeftBy}
-use Rattle.gptman_ends.specs.Planning.{IsFitPlan, IsFitRefusal, IsNumberOf, IsSizeRefusal, IsTablePlan, IsTableRefusal, IsUnfitTable, IsWrittenPlan, RefusesFit, needed_after, refusal_number}
+use Rattle.gptman_ends.specs.Planning.{Cause, IsFitPlan, IsFitRefusal, IsNotStatedToFit, IsOfFault, IsSizeRefusal, IsStatedToFit, IsTablePlan, IsTableRefusal, IsUnfitTable, StopsFit, StopsTable}
+use Rattle.gptman_ends.specs.Planning.Cause.{bad_argument, a_fault, other_length, other_layout}
 use Rattle.gptman_ends.specs.Planning.RefusesFit.{does_not_fit, is_unfit_fitted}
-use Rattle.gptman_ends.specs.Reading.{OfEvery}
+use Rattle.gptman_ends.specs.Reading.{IsTable, OfEvery, side_of}
 use Rattle.gptman_ends.specs.declared.planning.Refusal.{Refusal}
-use Rattle.gptman_ends.specs.declared.records.Needed.{Needed}
-use Rattle.gptman_ends.proofs.Refused.{bad_of, fault_of_number, lacks_of, not_told, numbers, refused_as}
+use Rattle.gptman_ends.proofs.Refused.{fault_as, refused_as}
 
 -- ---- a header that fits
 
@@ -74,93 +74,100 @@ settled_err fault e before after none settles = ⊎_elim
 
 -- ---- the plan
 
-module _ (b : List ℕ) (g : GPT) (acts : List Act) (taken : reading_of b g.sector_size ≡ Ok (copy_of g)) (plan : IsTablePlan b (grow_to g (length b)) acts) where
+-- the header of a value on the stated layout is in one of the two forms
+pub in_form : (g : GPT) (len : ℕ) → HasLayout g len → IsInForm g.header
+in_form g len layout = by_side layout.side layout.form
+  where
+    by_side : (side : Side) → IsHeaderForm side g.header → IsInForm g.header
+    by_side primary form = inl form
+    by_side backup form = inr form
+
+-- and one of which the table is laid out and the header is in a form has the stated layout
+pub has_layout : (g : GPT) (len : ℕ) → IsInForm g.header → IsLaidOut (table_in g) g.sector_size len → HasLayout g len
+has_layout g len form laid = ⊎_elim (λ at. record { table = laid; side = primary; form = at }) (λ at. record { table = laid; side = backup; form = at }) form
+
+module _ (b : List ℕ) (g : GPT) (acts : List Act) (taken : reading_of b g.sector_size ≡ Ok (copy_of g)) (form : IsHeaderForm (taken_from b g.sector_size) g.header)
+    (plan : IsTablePlan b (grow_to g (length b)) acts) where
   abbrev grown : GPT
   grown = grow_to g (length b)
 
-  written : IsInForm grown.header → IsLaidOut (table_in grown) g.sector_size (length b) → IsWrittenPlan b g.sector_size (table_in grown) acts
-  written form laid = ⊎_elim
-      (λ at. plan.written (record { table = laid; side = primary; form = at }))
-      (λ at. plan.written (record { table = laid; side = backup; form = at }))
-      form
-
-  held : taken_from b g.sector_size ≡ primary → IsHeaderForm primary g.header → Holds b g.sector_size primary (table_in g)
-  held from form =
-      subst (λ (side : Side). Holds b g.sector_size side (table_in g)) from
-      (holds_what_is_read b g.sector_size (copy_of g) taken (subst (λ (side : Side). IsHeaderForm side g.header) (sym from) form))
+  held : taken_from b g.sector_size ≡ primary → Holds b g.sector_size primary (table_in g)
+  held from = subst (λ (side : Side). Holds b g.sector_size side (table_in g)) from (holds_what_is_read b g.sector_size (copy_of g) taken form)
 
   -- the primary copy is in the same place, which the backup copy does not touch
-  stops : taken_from b g.sector_size ≡ primary → IsHeaderForm primary g.header → IsLaidOut (table_in grown) g.sector_size (length b)
-      → (x : List ℕ) → LeftBy b acts 0 x → HoldsOneOf x g.sector_size (table_in g ∷ table_in grown ∷ [])
-  stops from form laid x left =
-      plan.replaced (form_fitted g.header g.sector_size (length b) form) laid (table_in g) (held from form) (sides_clear backup (table_in grown) g.sector_size (length b) laid) x left
+  stops : taken_from b g.sector_size ≡ primary → (x : List ℕ) → LeftBy b acts 0 x → HoldsOneOf x g.sector_size (table_in g ∷ table_in grown ∷ [])
+  stops from x left =
+      let at : IsHeaderForm primary g.header = subst (λ (side : Side). IsHeaderForm side g.header) from form in
+      plan.replaced (form_fitted g.header g.sector_size (length b) at) (table_in g) (held from) (sides_clear backup (table_in grown) g.sector_size (length b) plan.layout.table) x left
 
   fit_here : IsFitPlan b g.sector_size acts
-  fit_here = record { copy = copy_of g; taken = taken; written = written; stops = stops }
+  fit_here = record {
+    copy = copy_of g;
+    taken = taken;
+    stated = record { form = form; fitted_form = in_form grown (length b) plan.layout; laid = plan.layout.table };
+    written = plan.written;
+    stops = stops;
+  }
 
 -- ---- of every disk with these ends
 
-module _ (head tail : List ℕ) (size ss : ℕ) (g : GPT) (sector : g.sector_size ≡ ss) (reading : OfEvery head tail size (λ b. reading_of b ss ≡ Ok (copy_of g))) where
+module _ (head tail : List ℕ) (size ss : ℕ) (g : GPT) (is_backup : Bool) (told : IsTable head tail size ss g is_backup) where
   read_so : (b : List ℕ) → reading_of b ss ≡ Ok (copy_of g) → reading_of b g.sector_size ≡ Ok (copy_of g)
-  read_so b is = subst (λ (n : ℕ). reading_of b n ≡ Ok (copy_of g)) (sym sector) is
+  read_so b is = subst (λ (n : ℕ). reading_of b n ≡ Ok (copy_of g)) (sym told.sector) is
 
-  pub fit_plan : (next : GPT) (acts : List Act) → next ≡ grow_to g size → OfEvery head tail size (λ b. IsTablePlan b next acts) → OfEvery head tail size (λ b. IsFitPlan b ss acts)
-  fit_plan next acts is plan b ends =
+  form_so : IsHeaderForm (side_of is_backup) g.header → (b : List ℕ) → HasEnds b head tail size → IsHeaderForm (taken_from b g.sector_size) g.header
+  form_so form b ends =
+      subst (λ (n : ℕ). IsHeaderForm (taken_from b n) g.header) (sym told.sector) (subst (λ (side : Side). IsHeaderForm side g.header) (sym (told.from b ends)) form)
+
+  pub fit_plan : IsHeaderForm (side_of is_backup) g.header → (next : GPT) (acts : List Act) → next ≡ grow_to g size → OfEvery head tail size (λ b. IsTablePlan b next acts)
+      → OfEvery head tail size (λ b. IsFitPlan b ss acts)
+  fit_plan form next acts is plan b ends =
       let here : IsTablePlan b (grow_to g (length b)) acts =
       subst (λ (n : ℕ). IsTablePlan b (grow_to g n) acts) (sym ends.long) (subst (λ (t : GPT). IsTablePlan b t acts) is (plan b ends)) in
-      subst (λ (n : ℕ). IsFitPlan b n acts) sector (fit_here b g acts (read_so b (reading b ends)) here)
+      subst (λ (n : ℕ). IsFitPlan b n acts) told.sector (fit_here b g acts (read_so b (told.reading b ends)) (form_so form b ends) here)
+
+  -- a copy that is not in the form of its place
+  pub not_of_side : ¬ IsHeaderForm (side_of is_backup) g.header → OfEvery head tail size (λ b. IsNotStatedToFit b ss)
+  not_of_side not b ends = record {
+    copy = copy_of g;
+    taken = told.reading b ends;
+    other = λ stated. not (subst (λ (side : Side). IsHeaderForm side g.header) (told.from b ends) stated.form);
+  }
 
   pub size_refused : (r : Refusal) → IsSizeRefusal head tail size g r → IsFitRefusal head tail size ss r
-  size_refused r refused = refused_as ⊥ ⊥ (λ fault. fit_fault g.header g.sector_size size ≡ Some fault) (λ fault. OfEvery head tail size (λ b. RefusesFit b ss fault)) head tail size
-      (λ none. none)
-      (λ fault is b ends. does_not_fit (copy_of g) (reading b ends)
-      (subst (λ (n : ℕ). fit_fault g.header n (length b) ≡ Some fault) sector (subst (λ (n : ℕ). fit_fault g.header g.sector_size n ≡ Some fault) (sym ends.long) is)))
+  size_refused r refused =
+      let why : Fault → Type 0 = λ fault. fit_fault g.header g.sector_size size ≡ Some fault in
+      refused_as (IsOfFault why) (λ cause. OfEvery head tail size (λ b. StopsFit b ss cause)) head tail size
+      (fault_as why (λ cause. OfEvery head tail size (λ b. StopsFit b ss cause)) (λ fault is b ends. does_not_fit (copy_of g) (told.reading b ends)
+      (subst (λ (n : ℕ). fit_fault g.header n (length b) ≡ Some fault) told.sector (subst (λ (n : ℕ). fit_fault g.header g.sector_size n ≡ Some fault) (sym ends.long) is))))
       r refused
 
   unfit : (next : GPT) (fault : Fault) (len : ℕ) → next ≡ grow_to g len → RefusesTable next len fault → IsUnfitTable (fit_header g.header ss len) ss (entries_in g) len fault
   unfit next fault len is why = record {
     value = next;
-    header_is = subst (λ (n : ℕ). next.header ≡ fit_header g.header n len) sector (ap (λ (t : GPT). t.header) is);
-    sector = subst (λ (n : ℕ). next.sector_size ≡ n) sector (ap (λ (t : GPT). t.sector_size) is);
+    header_is = subst (λ (n : ℕ). next.header ≡ fit_header g.header n len) told.sector (ap (λ (t : GPT). t.header) is);
+    sector = subst (λ (n : ℕ). next.sector_size ≡ n) told.sector (ap (λ (t : GPT). t.sector_size) is);
     entries_are = ap (λ (t : GPT). entries_in t) is;
     why = why;
   }
 
+  -- a fitted table that has not the stated layout
+  not_laid : (next : GPT) → next ≡ grow_to g size → ¬ HasLayout next size → OfEvery head tail size (λ b. IsNotStatedToFit b ss)
+  not_laid next is not b ends = record {
+    copy = copy_of g;
+    taken = told.reading b ends;
+    other = λ stated.
+        let at : IsStatedToFit b g.sector_size (copy_of g) = subst (λ (n : ℕ). IsStatedToFit b n (copy_of g)) (sym told.sector) stated in
+        let here : HasLayout (grow_to g (length b)) (length b) = has_layout (grow_to g (length b)) (length b) at.fitted_form at.laid in
+        not (subst (λ (t : GPT). HasLayout t size) (sym is) (subst (λ (n : ℕ). HasLayout (grow_to g n) n) ends.long here));
+  }
+
   pub table_refused : (next : GPT) → next ≡ grow_to g size → (r : Refusal) → IsTableRefusal head tail size next r → IsFitRefusal head tail size ss r
-  table_refused next is r refused = refused_as ⊥ ⊥ (RefusesTable next size) (λ fault. OfEvery head tail size (λ b. RefusesFit b ss fault)) head tail size
-      (λ none. none)
-      (λ fault why b ends. is_unfit_fitted (copy_of g) (reading b ends)
-      (subst (λ (n : ℕ). IsUnfitTable (fit_header g.header ss n) ss (entries_in g) n fault) (sym ends.long) (unfit next fault size is why)))
-      r refused
-
--- ---- the number of a refusal
-
-module _ (head tail : List ℕ) (size ss : ℕ) (r : Refusal) (refused : IsFitRefusal head tail size ss r) (answer : ℕ) (is : answer ≡ refusal_number r) where
-  abbrev why : Fault → Type 0
-  why fault = OfEvery head tail size (λ b. RefusesFit b ss fault)
-
-  pub fit_above : 0 < answer
-  fit_above = omega (arith, is, (numbers r).0)
-
-  pub fit_most : answer ≤ 19
-  fit_most = omega (arith, is, (numbers r).2)
-
-  pub fit_not_18 : answer ≢ 18
-  fit_not_18 eighteen = (numbers r).1 (sym is ∙ eighteen)
-
-  pub fit_not_19 : answer ≢ 19
-  fit_not_19 nineteen = bad_of ⊥ why head tail size r refused (sym is ∙ nineteen)
-
-  pub fit_number : answer ≤ 16 → answer ≢ 15 → OfEvery head tail size (λ b. IsNumberOf (RefusesFit b ss) answer)
-  fit_number below other b ends =
-      let named : IsNumberOf why (refusal_number r) = fault_of_number ⊥ why head tail size r refused (omega (arith, is, below)) (λ fifteen. other (is ∙ fifteen)) in
-      record { fault = named.fault; holds = named.holds b ends; number_is = named.number_is ∙ sym is }
-
-  pub fit_lacks : (old new : Needed) → new ≡ needed_after r old → answer ≡ 17
-      → (¬ IsKnown (length head) (length tail) size (new.from, new.length)) × (new.from + new.length ≤ size)
-  fit_lacks old new told seventeen =
-      subst (λ (n : Needed). (¬ IsKnown (length head) (length tail) size (n.from, n.length)) × (n.from + n.length ≤ size)) (sym told)
-      (lacks_of ⊥ why head tail size r old refused (sym is ∙ seventeen))
-
-  pub fit_kept : (old new : Needed) → new ≡ needed_after r old → answer ≢ 17 → new ≡ old
-  fit_kept old new told other = told ∙ not_told r old (λ seventeen. other (is ∙ seventeen))
+  table_refused next is r refused = refused_as (StopsTable next size) (λ cause. OfEvery head tail size (λ b. StopsFit b ss cause)) head tail size by_cause r refused
+    where
+      by_cause : (cause : Cause) → StopsTable next size cause → OfEvery head tail size (λ b. StopsFit b ss cause)
+      by_cause bad_argument none = absurd none
+      by_cause (a_fault fault) why = λ b ends. is_unfit_fitted (copy_of g) (told.reading b ends)
+          (subst (λ (n : ℕ). IsUnfitTable (fit_header g.header ss n) ss (entries_in g) n fault) (sym ends.long) (unfit next fault size is why))
+      by_cause other_length none = absurd none
+      by_cause other_layout not = not_laid next is not

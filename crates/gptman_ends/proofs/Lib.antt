@@ -13,6 +13,8 @@ pub mod Planned
 pub mod RecordedMbr
 pub mod Refused
 pub mod Rewriting
+pub mod Seen
+pub mod Stated
 pub mod Steps
 pub mod TablePlans
 pub mod Told

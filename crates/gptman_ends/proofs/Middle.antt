@@ -61,7 +61,8 @@ same_ends b c head tail size of_b of_c = record {
 -- a known range has no byte of the middle
 apart_middle : (first last size : ℕ) (r : ℕ × ℕ) → IsKnown first last size r → IsApartFromAll r (middle_of first last size)
 apart_middle first last size r (inl before) = (inr (inr (inl before)), tt)
-apart_middle first last size r (inr behind) = ⊎_elim
+apart_middle first last size r (inr (inr met)) = (inr (inl (omega (arith, met.0))), tt)
+apart_middle first last size r (inr (inl behind)) = ⊎_elim
     (λ crossed. (inr (inl (omega (arith, crossed))), tt))
     (λ apart. (inr (inr (inr (omega (arith, apart, behind.0)))), tt))
     (cases_lt size (first + last))
@@ -108,7 +109,8 @@ overlay_both rs a b at bytes fits agrees = record {
 module _ (first last size : ℕ) (apart : first + last ≤ size) where
   pub fits_known : (r : ℕ × ℕ) → IsKnown first last size r → r.0 + r.1 ≤ size
   fits_known r (inl before) = omega (arith, before, apart)
-  fits_known r (inr behind) = behind.1
+  fits_known r (inr (inl behind)) = behind.1
+  fits_known r (inr (inr met)) = met.1
 
   length-step : (a : List ℕ) (e : Act) → length a ≡ size → IsActKnown first last size e → length (view_step a e) ≡ size
   length-step a (lay at bytes) long known = length-overlay a at bytes (omega (arith, long, fits_known (at, length bytes) known)) ∙ long
@@ -142,7 +144,8 @@ module _ (first last size : ℕ) (apart : first + last ≤ size) where
   module _ (k : ℕ) (low : first ≤ k) (high : k < first + (size - (first + last))) where
     clear : (r : ℕ × ℕ) → IsKnown first last size r → (k < r.0) ⊎ (r.0 + r.1 ≤ k)
     clear r (inl before) = inr (omega (arith, before, low))
-    clear r (inr behind) = inl (omega (arith, behind.0, high, apart))
+    clear r (inr (inl behind)) = inl (omega (arith, behind.0, high, apart))
+    clear r (inr (inr met)) = absurd (omega (arith, met.0, low, high))
 
     still_step : (a : List ℕ) (e : Act) → length a ≡ size → IsActKnown first last size e → get_or (view_step a e) k 0 ≡ get_or a k 0
     still_step a (lay at bytes) long known =

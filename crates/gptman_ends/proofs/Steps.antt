@@ -6,7 +6,7 @@ use Rattle.std.proofs.lemmas.List.{map_push, take_all}
 use Rattle.std.proofs.lemmas.List.Folds.{list_all-append}
 use Rattle.std.proofs.Math.Seq.{drop-append_seam}
 use Rattle.gptman.specs.Bytes.{part}
-use Rattle.gptman_ends.specs.Plan.{Act, act_of, acts_of, step_fits, steps_fit}
+use Rattle.gptman_ends.specs.Plan.{Act, act_of, acts_of, are_writes_and_syncs, is_write_or_sync, step_fits, steps_fit}
 use Rattle.gptman_ends.specs.Plan.Act.{lay, store}
 use Rattle.gptman_ends.specs.declared.records.Step.{Step}
 use Rattle.gptman_ends.proofs.Known.{part_left}
@@ -32,6 +32,12 @@ pub fits_push : (size n : ℕ) (steps : List Step) (s : Step) → steps_fit size
 fits_push size n steps s fits on_disk held =
     let here : step_fits size n s ≡ true = and_from (leb (s.offset + s.length) size) (leb (s.start + s.length) n) (le-leb (s.offset + s.length) size on_disk) (le-leb (s.start + s.length) n held) in
     list_all-append (step_fits size n) steps (s ∷ []) ∙ and_from (steps_fit size n steps) (steps_fit size n (s ∷ [])) fits (and_from (step_fits size n s) true here refl)
+
+-- the kinds of steps, with one more
+pub kinds_push : (steps : List Step) (s : Step) → are_writes_and_syncs steps ≡ true → is_write_or_sync s ≡ true → are_writes_and_syncs (steps ++ s ∷ []) ≡ true
+kinds_push steps s all one =
+    let last : are_writes_and_syncs (s ∷ []) ≡ true = and_from (is_write_or_sync s) true one refl in
+    list_all-append is_write_or_sync steps (s ∷ []) ∙ and_from (are_writes_and_syncs steps) (are_writes_and_syncs (s ∷ [])) all last
 
 act_same : (bytes more : List ℕ) (size : ℕ) (s : Step) → step_fits size (length bytes) s ≡ true → act_of (bytes ++ more) s ≡ act_of bytes s
 act_same bytes more size s fits =

@@ -1,17 +1,19 @@
 -- The plan of a table's write.
-use Rattle.std.proofs.Common.{◌≡◌, ◌≤◌, ℕ, ◌+◌, List, [], length, refl, sym, ap, ◌∙◌, subst}
+use Rattle.std.proofs.Common.{◌≡◌, ◌≤◌, inr, ℕ, ◌+◌, List, [], length, refl, sym, ap, ◌∙◌, subst}
 use Rattle.gptman.specs.Crash.{StartsLaidOut, StartsSynced, StopsKeepOthers}
 use Rattle.gptman.specs.Disk.{AgreesOutside, DiskState, IsHonest}
-use Rattle.gptman.specs.Layout.{HasLayout, Holds, IsLaidOut}
+use Rattle.gptman.specs.Layout.{HasLayout, Holds}
 use Rattle.gptman.specs.Ranges.{AreInside}
 use Rattle.gptman.specs.Reading.{primary, backup}
 use Rattle.gptman.specs.Stop.{IsStored}
-use Rattle.gptman.specs.Table.{Table, table_in, IsHeaderForm}
+use Rattle.gptman.specs.Table.{Table, new_table_of, table_in, IsHeaderForm}
+use Rattle.gptman.specs.TableWrites.{RefusesTable}
 use Rattle.gptman.specs.declared.table.GPT.{GPT}
 use Rattle.gptman_ends.specs.Crossing.{four_ranges}
 use Rattle.gptman_ends.specs.Ends.{AreRangesKnown, HasEnds, disk_bytes}
 use Rattle.gptman_ends.specs.Plan.{Act, AreKnown, LeftBy, plan_state}
-use Rattle.gptman_ends.specs.Planning.{IsNewPlan, IsReplaced, IsTablePlan, IsWrittenPlan}
+use Rattle.gptman_ends.specs.Planning.{Cause, IsNewPlan, IsReplaced, IsTablePlan, IsWrittenPlan, StopsNew, StopsTable}
+use Rattle.gptman_ends.specs.Planning.Cause.{bad_argument, a_fault, other_length, other_layout}
 use Rattle.gptman_ends.specs.Turns.{AreInTurns, header_ranges}
 use Rattle.gptman_ends.proofs.AnyMiddle.{after_any, others_any}
 use Rattle.gptman_ends.proofs.AnyPlan.{at_side}
@@ -60,22 +62,22 @@ module _ (head tail : List ℕ) (size : ℕ) (apart : length head + length tail 
     (places : AreInside (four_ranges (table_in g) g.sector_size size) size → AreRangesKnown (length head) (length tail) size (four_ranges (table_in g) g.sector_size size))
     (written : HasLayout g size → IsWrittenPlan (disk_bytes head tail size) g.sector_size (table_in g) acts)
     (turns : IsHeaderForm primary g.header → AreInTurns (header_ranges backup g.header g.sector_size size) (header_ranges primary g.header g.sector_size size) acts)
-    (b : List ℕ) (ends : HasEnds b head tail size) where
+    (layout : HasLayout g size) (b : List ℕ) (ends : HasEnds b head tail size) where
   abbrev zero : List ℕ
   zero = disk_bytes head tail size
 
   all : length zero ≡ size
   all = length-disk_bytes head tail size apart
 
-  here : HasLayout g (length b) → HasLayout g size
-  here layout = subst (λ (n : ℕ). HasLayout g n) ends.long layout
+  here : HasLayout g (length b)
+  here = subst (λ (n : ℕ). HasLayout g n) (sym ends.long) layout
 
-  four : HasLayout g (length b) → AreRangesKnown (length head) (length tail) size (four_ranges (table_in g) g.sector_size size)
-  four layout = places (here layout).table.inside
+  four : AreRangesKnown (length head) (length tail) size (four_ranges (table_in g) g.sector_size size)
+  four = places layout.table.inside
 
-  written_any : HasLayout g (length b) → IsWrittenPlan b g.sector_size (table_in g) acts
-  written_any layout =
-      let plan = written (here layout) in
+  written_any : IsWrittenPlan b g.sector_size (table_in g) acts
+  written_any =
+      let plan = written layout in
       let others : (y : List ℕ) → LeftBy zero acts 0 y → AgreesOutside (four_ranges (table_in g) g.sector_size size) zero y =
       λ y left. subst (λ (n : ℕ). AgreesOutside (four_ranges (table_in g) g.sector_size n) zero y) all (plan.others y left) in
       record {
@@ -83,18 +85,24 @@ module _ (head tail : List ℕ) (size : ℕ) (apart : length head + length tail 
             subst (λ (n : ℕ). AgreesOutside (four_ranges (table_in g) g.sector_size n) b x) (sym ends.long)
             (others_any head tail b size apart ends acts known (four_ranges (table_in g) g.sector_size size) others x left);
         synced = plan.synced;
-        at_primary = after_any head tail b size apart ends acts known g.sector_size primary (table_in g) (at_side (length head) (length tail) size g.sector_size (table_in g) primary (four layout)) plan.at_primary;
-        at_backup = after_any head tail b size apart ends acts known g.sector_size backup (table_in g) (at_side (length head) (length tail) size g.sector_size (table_in g) backup (four layout)) plan.at_backup;
+        at_primary = after_any head tail b size apart ends acts known g.sector_size primary (table_in g) (at_side (length head) (length tail) size g.sector_size (table_in g) primary four) plan.at_primary;
+        at_backup = after_any head tail b size apart ends acts known g.sector_size backup (table_in g) (at_side (length head) (length tail) size g.sector_size (table_in g) backup four) plan.at_backup;
       }
 
-  replaced_any : IsHeaderForm primary g.header → IsLaidOut (table_in g) g.sector_size (length b) → (was : Table) → IsReplaced b g.sector_size was (table_in g) acts
-  replaced_any form laid was = replaced b (length head) (length tail) size g.sector_size apart ends.long (table_in g) acts known
-      (subst (λ (n : ℕ). IsLaidOut (table_in g) g.sector_size n) ends.long laid) (turns form)
-      (written_any (record { table = laid; side = primary; form = form })).at_backup was
+  replaced_any : IsHeaderForm primary g.header → (was : Table) → IsReplaced b g.sector_size was (table_in g) acts
+  replaced_any form was = replaced b (length head) (length tail) size g.sector_size apart ends.long (table_in g) acts known
+      layout.table (turns form) written_any.at_backup was
 
   pub table_any : IsTablePlan b g acts
-  table_any = record { written = written_any; replaced = replaced_any }
+  table_any = record { layout = here; written = written_any; replaced = replaced_any }
 
 -- a new table has a primary header
 pub new_plan : (b : List ℕ) (g : GPT) (acts : List Act) → IsHeaderForm primary g.header → IsTablePlan b g acts → IsNewPlan b g acts
-new_plan b g acts form plan = record { written = plan.written; replaced = λ layout. plan.replaced form layout.table }
+new_plan b g acts form plan = record { layout = plan.layout; written = plan.written; replaced = plan.replaced form }
+
+-- why its table is not written is why it is not
+pub table_stops_new : (count : ℕ) (guid : List ℕ) (ss size : ℕ) (g : GPT) → g ≡ new_table_of count guid ss size → (cause : Cause) → StopsTable g size cause → StopsNew count guid ss size cause
+table_stops_new count guid ss size g is bad_argument none = absurd none
+table_stops_new count guid ss size g is (a_fault fault) why = inr (subst (λ (t : GPT). RefusesTable t size fault) is why)
+table_stops_new count guid ss size g is other_length none = none
+table_stops_new count guid ss size g is other_layout not = subst (λ (t : GPT). ¬ HasLayout t size) is not

@@ -1,5 +1,5 @@
 -- What the ends tell is the same on every disk with these ends.
-use Rattle.std.proofs.Common.{◌≡◌, ◌≢◌, ◌≤◌, ◌<◌, ◌^◌, ◌⊎◌, ⊎_elim, inl, inr, ◌&&◌, true, false, ℕ, suc, Bool, ◌+◌, ◌-◌, List, [], length, ltb, refl, sym, ◌∙◌, ap, subst, arith}
+use Rattle.std.proofs.Common.{◌≡◌, ◌≢◌, ◌≤◌, ◌<◌, ◌^◌, ◌⊎◌, inl, inr, ◌&&◌, true, false, ℕ, suc, Bool, ◌+◌, List, [], length, ltb, refl, sym, ◌∙◌, ap, subst, arith}
 use Rattle.std.specs.Prelude.{if◌then◌else◌, Result, Ok, Err, IsErr, is_ok, MatchOption, Option, Some, None}
 use Rattle.std.proofs.lemmas.Bool.{le-leb}
 use Rattle.std.proofs.lemmas.List.{take_all}
@@ -11,12 +11,12 @@ use Rattle.gptman_copy.specs.declared.codec.header.GPTHeader.{GPTHeader}
 use Rattle.gptman_copy.specs.declared.codec.entry.GPTPartitionEntry.{GPTPartitionEntry}
 use Rattle.gptman_copy.proofs.CopyParts.{header_refused, array_refused, both_pass}
 use Rattle.gptman_copy.proofs.CopyTests.{entries_start, entries_length, header_short, array_size_wrong, array_beyond, array_short}
-use Rattle.gptman_copy.proofs.Overlays.{part-part}
 use Rattle.gptman.specs.Reading.{Side, primary, backup, both, copy_start, copy_in, reading_of, taken_from}
 use Rattle.gptman_ends.specs.Ends.{HasEnds, IsKnown, disk_bytes}
 use Rattle.gptman_ends.specs.Faults.{fault_number}
 use Rattle.gptman_ends.specs.Reading.{OfEvery, IsHeaderTold, IsArrayTold, IsCopyTold, IsToldAt}
 use Rattle.gptman_ends.proofs.Known.{length-disk_bytes, known_head, known_tail}
+use Rattle.gptman_ends.proofs.Middle.{agree_in_ends}
 
 -- what holds of an option, a case at a time
 pub matched : {T : Type 0} (P Q : Type 0) (R : T → Type 0) (o : Option T) → (P → Q) → MatchOption o P R → MatchOption o Q R
@@ -34,17 +34,7 @@ at_some P R o x is m = subst (λ p. MatchOption p P R) is m
 
 -- a known range has the same bytes on both
 known_part : (head tail : List ℕ) (size : ℕ) (b c : List ℕ) → HasEnds b head tail size → HasEnds c head tail size → (from len : ℕ) → IsKnown (length head) (length tail) size (from, len) → part b from len ≡ part c from len
-known_part head tail size b c one other from len known = ⊎_elim
-    (λ first.
-    let inner : (x : List ℕ) → part (part x 0 (length head)) from len ≡ part x from len = λ x. part-part x 0 (length head) from len first ∙ ap (λ (k : ℕ). part x k len) (omega arith) in
-    sym (inner b) ∙ ap (λ (l : List ℕ). part l from len) (one.at_head ∙ sym other.at_head) ∙ inner c)
-    (λ last.
-    let at : ℕ = size - length tail in
-    let fits : (from - at) + len ≤ length tail = omega (arith, last.0, last.1) in
-    let place : at + (from - at) ≡ from = omega (arith, last.0) in
-    let inner : (x : List ℕ) → part (part x at (length tail)) (from - at) len ≡ part x from len = λ x. part-part x at (length tail) (from - at) len fits ∙ ap (λ (k : ℕ). part x k len) place in
-    sym (inner b) ∙ ap (λ (l : List ℕ). part l (from - at) len) (one.at_tail ∙ sym other.at_tail) ∙ inner c)
-    known
+known_part head tail size b c one other from len known = agree_in_ends b c head tail size from len one other known
 
 -- ---- a reading, by the two copies
 

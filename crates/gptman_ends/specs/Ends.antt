@@ -11,9 +11,10 @@ pub record HasEnds (b head tail : List ℕ) (size : ℕ) : Type 0 where
   pub at_head : part b 0 (length head) ≡ head
   pub at_tail : part b (size - length tail) (length tail) ≡ tail
 
--- The range lies in one of the ends of a disk of size bytes, of which the first has `first` bytes and the last `last`.
+-- The range lies in one of the ends of a disk of size bytes, of which the first has `first` bytes and the last `last`; or on the disk, where these two meet.
 abbrev pub IsKnown : ℕ → ℕ → ℕ → ℕ × ℕ → Type 0
-IsKnown first last size range = (range.0 + range.1 ≤ first) ⊎ ((size - last ≤ range.0) × (range.0 + range.1 ≤ size))
+IsKnown first last size range =
+    (range.0 + range.1 ≤ first) ⊎ (((size - last ≤ range.0) × (range.0 + range.1 ≤ size)) ⊎ ((size ≤ first + last) × (range.0 + range.1 ≤ size)))
 
 -- each of the ranges does
 abbrev pub AreRangesKnown : ℕ → ℕ → ℕ → List (ℕ × ℕ) → Type 0

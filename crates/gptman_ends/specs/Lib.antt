@@ -1,5 +1,6 @@
 pub mod Checking
 pub mod Crossing
+pub mod Dos
 pub mod Ends
 pub mod Faults
 pub mod Naming

@@ -1,5 +1,5 @@
 -- What the steps of a plan do to the bytes of a disk, and what a stop among them may leave.
-use Rattle.std.specs.Prelude.{◌≡◌, ◌≤◌, ◌+◌, ◌&&◌, ℕ, Bool, true, nat_eq, leb, List, [], ◌∷◌, length, take, map, if◌then◌else◌}
+use Rattle.std.specs.Prelude.{◌≡◌, ◌≤◌, ◌+◌, ◌&&◌, ◌||◌, ℕ, Bool, true, nat_eq, leb, List, [], ◌∷◌, length, take, map, if◌then◌else◌}
 use Rattle.std.specs.List.{fold, list_all}
 use Rattle.gptman.specs.Bytes.{part}
 use Rattle.gptman.specs.Disk.{DiskState, IsSound, AgreesOutside, overlay}
@@ -26,6 +26,13 @@ step_fits size filled step = leb (step.offset + step.length) size && leb (step.s
 
 abbrev pub steps_fit : ℕ → ℕ → List Step → Bool
 steps_fit size filled steps = list_all (step_fits size filled) steps
+
+-- the step is a write, of kind 1, or a sync, of kind 2
+abbrev pub is_write_or_sync : Step → Bool
+is_write_or_sync step = nat_eq step.kind 1 || nat_eq step.kind 2
+
+abbrev pub are_writes_and_syncs : List Step → Bool
+are_writes_and_syncs steps = list_all is_write_or_sync steps
 
 abbrev pub view_step : List ℕ → Act → List ℕ
 view_step view (lay at bytes) = overlay view at bytes

@@ -4,7 +4,7 @@ use Rattle.gptman.specs.Copy.{Copy}
 use Rattle.gptman.specs.Disk.{AgreesOutside, DiskState}
 use Rattle.gptman.specs.Fault.{Fault, fault_of, out_of_memory}
 use Rattle.gptman_copy.specs.Fit.{fit_fault, fit_header, new_header_of}
-use Rattle.gptman.specs.Layout.{HasLayout, Holds, IsLaidOut, copy_ranges_at}
+use Rattle.gptman.specs.Layout.{HasLayout, HasRightSectors, Holds, IsLaidOut, copy_ranges_at}
 use Rattle.gptman.specs.Ranges.{AreClear}
 use Rattle.gptman.specs.Reading.{primary, backup, reading_of, taken_from}
 use Rattle.gptman.specs.Stop.{HoldsOneOf}
@@ -15,12 +15,13 @@ use Rattle.gptman_copy.specs.declared.codec.header.GPTHeader.{GPTHeader}
 use Rattle.gptman.specs.declared.table.GPT.{GPT}
 use Rattle.gptman_ends.specs.Crossing.{content_in, content_of, four_ranges}
 use Rattle.gptman_ends.specs.Faults.{fault_number}
-use Rattle.gptman_ends.specs.Plan.{Act, LeftBy, pending_of, view_of}
+use Rattle.gptman_ends.specs.Plan.{Act, LeftBy, acts_of, pending_of, view_of}
 use Rattle.gptman_ends.specs.Reading.{IsLack, OfEvery}
 use Rattle.gptman_ends.specs.declared.planning.Refusal.{Refusal}
-use Rattle.gptman_ends.specs.declared.planning.Refusal.TheVariants.{BadArgument, Refused, Lacks}
+use Rattle.gptman_ends.specs.declared.planning.Refusal.TheVariants.{BadArgument, Refused, Lacks, OtherLength, OtherLayout}
 use Rattle.gptman_ends.specs.declared.records.Needed.{Needed}
 use Rattle.gptman_ends.specs.declared.records.Partition.{Partition}
+use Rattle.gptman_ends.specs.declared.records.Step.{Step}
 
 -- the table of the copy, with these for its entries
 abbrev pub rewritten : Copy → List Partition → Table
@@ -35,13 +36,27 @@ pub record IsSafePlan (start : List ℕ) (ss : ℕ) (was next : Table) (acts : L
   pub at_primary : Holds (view_of start acts) ss primary next
   pub at_backup : Holds (view_of start acts) ss backup next
 
--- The acts write the table that a disk of these bytes is read as, with these for its entries: safely, where the copy that is read is in the form of its place, and
--- the table has the stated layout.
+-- The acts write the table that a disk of these bytes is read as, with these for its entries, safely; the copy that is read is in the form of its place, and its
+-- table has the stated layout.
 pub record IsPlan (start : List ℕ) (ss : ℕ) (partitions : List Partition) (acts : List Act) : Type 0 where
   pub copy : Copy
   pub taken : reading_of start ss ≡ Ok copy
-  pub safe : IsHeaderForm (taken_from start ss) copy.header → IsLaidOut (rewritten copy partitions) ss (length start)
-      → IsSafePlan start ss (table_of copy.header copy.entries) (rewritten copy partitions) acts
+  pub form : IsHeaderForm (taken_from start ss) copy.header
+  pub laid : IsLaidOut (table_of copy.header copy.entries) ss (length start)
+  pub safe : IsSafePlan start ss (table_of copy.header copy.entries) (rewritten copy partitions) acts
+
+-- The table that a disk of these bytes is read as was made for one of another length: its headers are not those of sector 1 and of the last whole sector.
+pub record IsOfOtherLength (b : List ℕ) (ss : ℕ) : Type 0 where
+  pub copy : Copy
+  pub taken : reading_of b ss ≡ Ok copy
+  pub other : ¬ HasRightSectors (table_of copy.header copy.entries) ss (length b)
+
+-- It was made for one of this length, but the copy that is read is not in the form of its place, or the table has not the stated layout otherwise.
+pub record IsOfOtherLayout (b : List ℕ) (ss : ℕ) : Type 0 where
+  pub copy : Copy
+  pub taken : reading_of b ss ≡ Ok copy
+  pub made : HasRightSectors (table_of copy.header copy.entries) ss (length b)
+  pub other : ¬ (IsHeaderForm (taken_from b ss) copy.header × IsLaidOut (table_of copy.header copy.entries) ss (length b))
 
 -- The table with this header and with these for its entries may not be written to a disk of len bytes, for this fault.
 pub record IsUnfit (header : GPTHeader) (ss : ℕ) (partitions : List Partition) (len : ℕ) (fault : Fault) : Type 0 where
@@ -68,6 +83,14 @@ pub data RefusesPlan (b : List ℕ) (ss : ℕ) (partitions : List Partition) (fa
 abbrev pub RefusesNew : ℕ → List ℕ → ℕ → ℕ → Fault → Type 0
 RefusesNew count guid ss size fault = (fit_fault (new_header_of count guid) ss size ≡ Some fault) ⊎ RefusesTable (new_table_of count guid ss size) size fault
 
+-- So many steps over so many bytes do what is planned.
+pub record HasPlan (is_plan : List Act → Type 0) (needed : Needed) : Type 0 where
+  pub steps : List Step
+  pub bytes : List ℕ
+  pub count : length steps ≡ needed.steps
+  pub filled : length bytes ≡ needed.bytes
+  pub plan : is_plan (acts_of bytes steps)
+
 -- The number is that of a fault of which this holds.
 pub record IsNumberOf (why : Fault → Type 0) (number : ℕ) : Type 0 where
   pub fault : Fault
@@ -84,38 +107,77 @@ pub record IsMiscounted (b : List ℕ) (ss : ℕ) (partitions : List Partition) 
   pub taken : reading_of b ss ≡ Ok copy
   pub count : (copy.header.number_of_partition_entries ≡ 0) ⊎ ((length partitions ≢ copy.header.number_of_partition_entries) ⊎ (length b < ss))
 
--- Why nothing is planned: an argument is bad, a fault, of which this holds, or want of memory; or bytes of the disk that neither end has.
-abbrev pub IsRefusal : Type 0 → (Fault → Type 0) → List ℕ → List ℕ → ℕ → Refusal → Type 0
-IsRefusal bad why head tail size BadArgument = bad
-IsRefusal bad why head tail size (Refused e) = (fault_of e ≡ out_of_memory) ⊎ why (fault_of e)
-IsRefusal bad why head tail size (Lacks lack) = IsLack head tail size lack
+-- why nothing is planned, but for bytes that are lacking
+pub data Cause : Type 0 where
+  bad_argument : Cause
+  a_fault : Fault → Cause
+  other_length : Cause
+  other_layout : Cause
+
+-- Why nothing is planned: a cause, of which this holds, or want of memory; or bytes of the disk that neither end has.
+abbrev pub IsRefusal : (Cause → Type 0) → List ℕ → List ℕ → ℕ → Refusal → Type 0
+IsRefusal why head tail size BadArgument = why bad_argument
+IsRefusal why head tail size (Refused e) = (fault_of e ≡ out_of_memory) ⊎ why (a_fault (fault_of e))
+IsRefusal why head tail size (Lacks lack) = IsLack head tail size lack
+IsRefusal why head tail size OtherLength = why other_length
+IsRefusal why head tail size OtherLayout = why other_layout
+
+-- the cause is a fault, of which this holds
+abbrev pub IsOfFault : (Fault → Type 0) → Cause → Type 0
+IsOfFault why bad_argument = ⊥
+IsOfFault why (a_fault fault) = why fault
+IsOfFault why other_length = ⊥
+IsOfFault why other_layout = ⊥
 
 -- the number that a refusal has in C
 abbrev pub refusal_number : Refusal → ℕ
 refusal_number BadArgument = 19
 refusal_number (Refused e) = fault_number (fault_of e)
 refusal_number (Lacks lack) = 17
+refusal_number OtherLength = 100
+refusal_number OtherLayout = 101
 
 -- what is told of it
 abbrev pub needed_after : Refusal → Needed → Needed
 needed_after BadArgument needed = needed
 needed_after (Refused e) needed = needed
 needed_after (Lacks lack) needed = record needed { from = lack.from; length = lack.length }
+needed_after OtherLength needed = needed
+needed_after OtherLayout needed = needed
 
 -- of a write whose arguments are right
 abbrev pub IsRewriteRefusal : List ℕ → List ℕ → ℕ → GPT → List Partition → Refusal → Type 0
-IsRewriteRefusal head tail size g partitions refusal = IsRefusal ⊥ (IsUnfit g.header g.sector_size partitions size) head tail size refusal
+IsRewriteRefusal head tail size g partitions refusal = IsRefusal (IsOfFault (IsUnfit g.header g.sector_size partitions size)) head tail size refusal
+
+-- why this table is not written to a disk of size bytes
+abbrev pub StopsTable : GPT → ℕ → Cause → Type 0
+StopsTable g size bad_argument = ⊥
+StopsTable g size (a_fault fault) = RefusesTable g size fault
+StopsTable g size other_length = ⊥
+StopsTable g size other_layout = ¬ HasLayout g size
 
 abbrev pub IsTableRefusal : List ℕ → List ℕ → ℕ → GPT → Refusal → Type 0
-IsTableRefusal head tail size g refusal = IsRefusal ⊥ (RefusesTable g size) head tail size refusal
+IsTableRefusal head tail size g refusal = IsRefusal (StopsTable g size) head tail size refusal
 
--- of a write, and of a new table
+-- why the table of a disk of these bytes is not written with these for its entries
+abbrev pub StopsPlan : List ℕ → ℕ → List Partition → Cause → Type 0
+StopsPlan b ss partitions bad_argument = IsMiscounted b ss partitions
+StopsPlan b ss partitions (a_fault fault) = RefusesPlan b ss partitions fault
+StopsPlan b ss partitions other_length = IsOfOtherLength b ss
+StopsPlan b ss partitions other_layout = IsOfOtherLayout b ss
+
 abbrev pub IsPlanRefusal : List ℕ → List ℕ → ℕ → ℕ → List Partition → Refusal → Type 0
-IsPlanRefusal head tail size ss partitions refusal = IsRefusal (OfEvery head tail size (λ b. IsMiscounted b ss partitions))
-    (λ fault. OfEvery head tail size (λ b. RefusesPlan b ss partitions fault)) head tail size refusal
+IsPlanRefusal head tail size ss partitions refusal = IsRefusal (λ cause. OfEvery head tail size (λ b. StopsPlan b ss partitions cause)) head tail size refusal
+
+-- why a new table is not written
+abbrev pub StopsNew : ℕ → List ℕ → ℕ → ℕ → Cause → Type 0
+StopsNew count guid ss size bad_argument = (count ≡ 0) ⊎ (size < ss)
+StopsNew count guid ss size (a_fault fault) = RefusesNew count guid ss size fault
+StopsNew count guid ss size other_length = ⊥
+StopsNew count guid ss size other_layout = ¬ HasLayout (new_table_of count guid ss size) size
 
 abbrev pub IsNewRefusal : List ℕ → List ℕ → ℕ → ℕ → ℕ → List ℕ → Refusal → Type 0
-IsNewRefusal head tail size ss count guid refusal = IsRefusal ((count ≡ 0) ⊎ (size < ss)) (RefusesNew count guid ss size) head tail size refusal
+IsNewRefusal head tail size ss count guid refusal = IsRefusal (StopsNew count guid ss size) head tail size refusal
 
 -- After all of these acts both places hold the table, and nothing is pending; a stop among or within them leaves all bytes outside of its four ranges as they were.
 pub record IsWrittenPlan (start : List ℕ) (ss : ℕ) (next : Table) (acts : List Act) : Type 0 where
@@ -129,29 +191,43 @@ abbrev pub IsReplaced : List ℕ → ℕ → Table → Table → List Act → Ty
 IsReplaced start ss was next acts = Holds start ss primary was → AreClear (copy_ranges_at primary was ss (length start)) (copy_ranges_at backup next ss (length start))
     → (x : List ℕ) → LeftBy start acts 0 x → HoldsOneOf x ss (was ∷ next ∷ [])
 
--- The acts write the table of this value, where it has the stated layout; and a table that is replaced is not lost, where the value has a primary header.
+-- The acts write the table of this value, which has the stated layout; and a table that is replaced is not lost, where the value has a primary header.
 pub record IsTablePlan (start : List ℕ) (g : GPT) (acts : List Act) : Type 0 where
-  pub written : HasLayout g (length start) → IsWrittenPlan start g.sector_size (table_in g) acts
-  pub replaced : IsHeaderForm primary g.header → IsLaidOut (table_in g) g.sector_size (length start) → (was : Table) → IsReplaced start g.sector_size was (table_in g) acts
+  pub layout : HasLayout g (length start)
+  pub written : IsWrittenPlan start g.sector_size (table_in g) acts
+  pub replaced : IsHeaderForm primary g.header → (was : Table) → IsReplaced start g.sector_size was (table_in g) acts
 
 -- The same of a new table, whose header is a primary one.
 pub record IsNewPlan (start : List ℕ) (g : GPT) (acts : List Act) : Type 0 where
-  pub written : HasLayout g (length start) → IsWrittenPlan start g.sector_size (table_in g) acts
-  pub replaced : HasLayout g (length start) → (was : Table) → IsReplaced start g.sector_size was (table_in g) acts
+  pub layout : HasLayout g (length start)
+  pub written : IsWrittenPlan start g.sector_size (table_in g) acts
+  pub replaced : (was : Table) → IsReplaced start g.sector_size was (table_in g) acts
 
 -- the table of the copy, with its header fitted to a disk of len bytes
 abbrev pub fitted : Copy → ℕ → ℕ → Table
 fitted copy ss len = table_of (fit_header copy.header ss len) copy.entries
 
--- The acts write the table that a disk of these bytes is read as, fitted to its length, where the fitted header is in one of the two forms and the table has the
--- stated layout. Where the primary copy is read, and is in the form of its place, a stop leaves the old table or the fitted one at one place at least.
+-- The copy that a disk of these bytes is read as is in the form of its place, and its table, fitted to the length of the disk, has the stated layout.
+pub record IsStatedToFit (b : List ℕ) (ss : ℕ) (copy : Copy) : Type 0 where
+  pub form : IsHeaderForm (taken_from b ss) copy.header
+  pub fitted_form : IsInForm (fit_header copy.header ss (length b))
+  pub laid : IsLaidOut (fitted copy ss (length b)) ss (length b)
+
+-- The acts write the table that a disk of these bytes is read as, fitted to its length, on the stated layout. Where the primary copy is read, a stop leaves the old
+-- table or the fitted one at one place at least.
 pub record IsFitPlan (start : List ℕ) (ss : ℕ) (acts : List Act) : Type 0 where
   pub copy : Copy
   pub taken : reading_of start ss ≡ Ok copy
-  pub written : IsInForm (fit_header copy.header ss (length start)) → IsLaidOut (fitted copy ss (length start)) ss (length start)
-      → IsWrittenPlan start ss (fitted copy ss (length start)) acts
-  pub stops : taken_from start ss ≡ primary → IsHeaderForm primary copy.header → IsLaidOut (fitted copy ss (length start)) ss (length start)
-      → (x : List ℕ) → LeftBy start acts 0 x → HoldsOneOf x ss (table_of copy.header copy.entries ∷ fitted copy ss (length start) ∷ [])
+  pub stated : IsStatedToFit start ss copy
+  pub written : IsWrittenPlan start ss (fitted copy ss (length start)) acts
+  pub stops : taken_from start ss ≡ primary → (x : List ℕ) → LeftBy start acts 0 x
+      → HoldsOneOf x ss (table_of copy.header copy.entries ∷ fitted copy ss (length start) ∷ [])
+
+-- The copy that is read is not in the form of its place, or the fitted table has not the stated layout.
+pub record IsNotStatedToFit (b : List ℕ) (ss : ℕ) : Type 0 where
+  pub copy : Copy
+  pub taken : reading_of b ss ≡ Ok copy
+  pub other : ¬ IsStatedToFit b ss copy
 
 -- The table with this header and these entries may not be written to a disk of len bytes, for this fault.
 pub record IsUnfitTable (header : GPTHeader) (ss : ℕ) (entries : List GPTPartitionEntry) (len : ℕ) (fault : Fault) : Type 0 where
@@ -169,8 +245,15 @@ pub data RefusesFit (b : List ℕ) (ss : ℕ) (fault : Fault) : Type 0 where
 
 -- of a table that is fitted to a disk of that size
 abbrev pub IsSizeRefusal : List ℕ → List ℕ → ℕ → GPT → Refusal → Type 0
-IsSizeRefusal head tail size g refusal = IsRefusal ⊥ (λ fault. fit_fault g.header g.sector_size size ≡ Some fault) head tail size refusal
+IsSizeRefusal head tail size g refusal = IsRefusal (IsOfFault (λ fault. fit_fault g.header g.sector_size size ≡ Some fault)) head tail size refusal
+
+-- why the table of a disk of these bytes is not written fitted to its length
+abbrev pub StopsFit : List ℕ → ℕ → Cause → Type 0
+StopsFit b ss bad_argument = ⊥
+StopsFit b ss (a_fault fault) = RefusesFit b ss fault
+StopsFit b ss other_length = ⊥
+StopsFit b ss other_layout = IsNotStatedToFit b ss
 
 -- of one that is read and fitted
 abbrev pub IsFitRefusal : List ℕ → List ℕ → ℕ → ℕ → Refusal → Type 0
-IsFitRefusal head tail size ss refusal = IsRefusal ⊥ (λ fault. OfEvery head tail size (λ b. RefusesFit b ss fault)) head tail size refusal
+IsFitRefusal head tail size ss refusal = IsRefusal (λ cause. OfEvery head tail size (λ b. StopsFit b ss cause)) head tail size refusal

@@ -2,7 +2,9 @@
 use Rattle.std.specs.Prelude.{◌≡◌, ◌≤◌, ◌<◌, ◌⊎◌, ◌+◌, ℕ, Bool, true, false, List, length, Ok, Err}
 use Rattle.gptman.specs.Copy.{array_result, copy_at, header_result}
 use Rattle.gptman.specs.Fault.{fault_of, out_of_memory}
+use Rattle.gptman.specs.Layout.{IsLaidOut}
 use Rattle.gptman.specs.Reading.{Side, primary, backup, reading_of, taken_from}
+use Rattle.gptman.specs.Table.{table_in, IsHeaderForm}
 use Rattle.gptman.specs.TableReads.{copy_of, IsAsRead}
 use Rattle.gptman_copy.specs.declared.codec.header.GPTHeader.{GPTHeader}
 use Rattle.gptman.specs.declared.table.GPT.{GPT}
@@ -54,6 +56,13 @@ pub record IsTable (head tail : List ℕ) (size ss : ℕ) (table : GPT) (is_back
   pub sector : table.sector_size ≡ ss
   pub value : IsAsRead table
   pub align : 0 < table.align
+
+-- Every such disk is read as this table, from a copy that is in the form of its place, and the table has the stated layout.
+pub record IsStatedTable (head tail : List ℕ) (size ss : ℕ) (table : GPT) : Type 0 where
+  pub is_backup : Bool
+  pub read : IsTable head tail size ss table is_backup
+  pub form : IsHeaderForm (side_of is_backup) table.header
+  pub laid : IsLaidOut (table_in table) ss size
 
 -- What the ends tell: the table, or the fault, of every such disk; or what they lack.
 abbrev pub IsReading : List ℕ → List ℕ → ℕ → ℕ → Reading → Type 0

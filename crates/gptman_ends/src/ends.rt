@@ -80,8 +80,8 @@ impl<'a> Ends<'a> {
         }
     }
 
-    // Fills the buffer from the position on, with what was there before anything was written.
-    fn fill(&self, buf: &mut [u8])
+    /// Fills the buffer from the position on, with what was there before anything was written.
+    pub fn fill(&self, buf: &mut [u8])
         requires { self.now.position + length buf.old ≤ self.now.plan.size }
         ensures { buf.new ≡ part (disk_bytes self.now.head.now self.now.tail.now self.now.plan.size)
             self.now.position (length buf.old) }

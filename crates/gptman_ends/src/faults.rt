@@ -15,6 +15,15 @@ pub const LACKS_ROOM: u32 = 18;
 /// An argument that no disk or table has.
 pub const BAD_ARGUMENT: u32 = 19;
 
+/// The table was made for a disk of another length.
+pub const OTHER_LENGTH: u32 = 100;
+
+/// The table, or the copy that was read, has not the stated layout.
+pub const OTHER_LAYOUT: u32 = 101;
+
+/// The first sector of the disk has partitions of its own.
+pub const DOS_DISK: u32 = 102;
+
 /// There is no place for a partition.
 pub const NO_SPACE_LEFT: u32 = 8;
 

@@ -9,6 +9,7 @@ ghost use Rattle.gptman_ends.specs.Plan.{acts_of};
 ghost use Rattle.gptman_ends.specs.Planning.{IsFitPlan, IsFitRefusal, IsSizeRefusal};
 
 use crate::ends::Ends;
+use crate::layout::is_of_side;
 use crate::planning::Refusal;
 use crate::reading::{Reading, read};
 use crate::record::Record;
@@ -31,11 +32,14 @@ pub fn plan_fit(
     ensures size { IfOk result (λ plan. plan.size ≡ size) }
     ensures refused { IfErr result (IsFitRefusal head.now tail.now size sector_size) }
 {
-    let table = match read(alloc, head, tail, size, sector_size) {
-        Reading::Table { table, .. } => table,
+    let (table, is_backup) = match read(alloc, head, tail, size, sector_size) {
+        Reading::Table { table, is_backup } => (table, is_backup),
         Reading::Fault(fault) => return Err(Refusal::Refused(fault)),
         Reading::Lacks(lack) => return Err(Refusal::Lacks(lack)),
     };
+    if !is_of_side(&table.header, is_backup) {
+        return Err(Refusal::OtherLayout);
+    }
     let fitted = fit(alloc, head, tail, size, table)?;
     plan_table(alloc, head, tail, size, fitted)
 }

@@ -6,9 +6,11 @@
 #![tactic(auto)]
 
 pub mod checking;
+pub mod dos;
 pub mod ends;
 pub mod faults;
 pub mod fitting;
+pub mod layout;
 pub mod making;
 pub mod naming;
 pub mod offers;

@@ -9,8 +9,11 @@ ghost use Rattle.gptman_ends.specs.Crossing.{with_partitions};
 ghost use Rattle.gptman_ends.specs.Ends.{disk_bytes, HasEnds};
 ghost use Rattle.gptman_ends.specs.Plan.{acts_of};
 ghost use Rattle.gptman_ends.specs.Planning.{IsPlan, IsPlanRefusal, IsRewriteRefusal, IsSafePlan};
+ghost use Rattle.gptman_ends.specs.Reading.{IsStatedTable};
+ghost use Rattle.gptman_ends.specs.declared.records.Partition.{Partition};
 
 use crate::ends::Ends;
+use crate::layout::{is_made_for, is_stated};
 use crate::places::{lack_of_places, lack_of_steps};
 use crate::reading::{Lack, Reading, read};
 use crate::record::Record;
@@ -25,6 +28,8 @@ pub enum Refusal {
     BadArgument,
     Refused(Error),
     Lacks(Lack),
+    OtherLength,
+    OtherLayout,
 }
 
 /// The steps that write the table that the ends hold, with these for its entries. The sector size is in bytes.
@@ -43,11 +48,7 @@ pub fn plan(
     ensures size { IfOk result (λ plan. plan.size ≡ size) }
     ensures refused { IfErr result (IsPlanRefusal head.now tail.now size sector_size partitions.now) }
 {
-    let table = match read(alloc, head, tail, size, sector_size) {
-        Reading::Table { table, .. } => table,
-        Reading::Fault(fault) => return Err(Refusal::Refused(fault)),
-        Reading::Lacks(lack) => return Err(Refusal::Lacks(lack)),
-    };
+    let table = read_stated(alloc, head, tail, size, sector_size)?;
     let count = u64::from(table.header.number_of_partition_entries);
     if count == 0 || partitions.len() as u64 != count || size < sector_size {
         return Err(Refusal::BadArgument);
@@ -61,6 +62,34 @@ pub fn plan(
         None => Ok(plan),
         Some(lack) => Err(Refusal::Lacks(lack)),
     }
+}
+
+// The table that the ends hold, where it has the stated layout.
+fn read_stated(
+    alloc: Global,
+    head: &[u8],
+    tail: &[u8],
+    size: u64,
+    sector_size: u64,
+) -> Result<GPT, Refusal>
+    requires sector { 0 < sector_size }
+    requires apart { length head.now + length tail.now ≤ size }
+    ensures table { IfOk result (IsStatedTable head.now tail.now size sector_size) }
+    ensures refused { (partitions : List Partition)
+        → IfErr result (IsPlanRefusal head.now tail.now size sector_size partitions) }
+{
+    let (table, is_backup) = match read(alloc, head, tail, size, sector_size) {
+        Reading::Table { table, is_backup } => (table, is_backup),
+        Reading::Fault(fault) => return Err(Refusal::Refused(fault)),
+        Reading::Lacks(lack) => return Err(Refusal::Lacks(lack)),
+    };
+    if !is_made_for(&table, size) {
+        return Err(Refusal::OtherLength);
+    }
+    if !is_stated(&table, is_backup, size) {
+        return Err(Refusal::OtherLayout);
+    }
+    Ok(table)
 }
 
 // The steps that write this table, with these for its entries, to the disk with zeros between its ends.

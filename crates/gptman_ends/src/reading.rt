@@ -202,7 +202,9 @@ pub fn lack_of(head: &[u8], tail: &[u8], size: u64, from: u64, len: u64) -> Opti
     ensures known { MatchOption result (IsKnown (length head.now) (length tail.now) size (from, len))
         (IsLack head.now tail.now size) }
 {
-    if from + len <= head.len() as u64 || size - tail.len() as u64 <= from {
+    let first = head.len() as u64;
+    let last = tail.len() as u64;
+    if from + len <= first || size - last <= from || first + last == size {
         return None;
     }
     Some(Lack { from, length: len })

@@ -1,7 +1,7 @@
 //! The steps of a plan, with their bytes.
 
 ghost use Rattle.std.specs.Prelude.{◌≡◌, ◌≤◌, ◌<◌, ◌⊎◌, ◌+◌, [], ◌∷◌, ◌++◌, length, take, true, false};
-ghost use Rattle.gptman_ends.specs.Plan.{acts_of, steps_fit};
+ghost use Rattle.gptman_ends.specs.Plan.{acts_of, are_writes_and_syncs, steps_fit};
 ghost use Rattle.gptman_ends.specs.Plan.Act.{lay, store};
 
 use crate::records::Step;
@@ -14,6 +14,7 @@ pub struct Record {
     pub steps: Vec<Step>,
     pub bytes: Vec<u8>,
     ghost held: { steps_fit size (length bytes.items) steps.items ≡ true },
+    ghost kinds: { are_writes_and_syncs steps.items ≡ true },
 }
 
 impl Record {
@@ -78,6 +79,8 @@ impl Record {
             × (length self.now.bytes.items ≤ length bytes.new) }
         ensures steps_fit { result ≡ true → steps_fit self.now.size (length self.now.bytes.items)
             (take (length self.now.steps.items) steps.new) ≡ true }
+        ensures kinds { result ≡ true
+            → are_writes_and_syncs (take (length self.now.steps.items) steps.new) ≡ true }
         ensures room { result ≡ false → (length steps.old < length self.now.steps.items)
             ⊎ (length bytes.old < length self.now.bytes.items) }
         ensures steps { result ≡ false → steps.new ≡ steps.old }

@@ -16,7 +16,7 @@ use crate::turns::is_in_turns;
 use gptman::{Error, GPT};
 use std::alloc::Global;
 
-/// The steps that write this table to a disk with these ends.
+/// The steps that write this table to a disk with these ends. It is refused where it has not the stated layout there.
 pub fn plan_table(
     alloc: Global,
     head: &[u8],
@@ -34,13 +34,17 @@ pub fn plan_table(
     ensures size { IfOk result (λ plan. plan.size ≡ size) }
     ensures refused { IfErr result (IsTableRefusal head.now tail.now size table) }
 {
-    match lack_of_places(head, tail, size, &table) {
-        None => {}
-        Some(lack) => return Err(Refusal::Lacks(lack)),
-    }
+    let lack = lack_of_places(head, tail, size, &table);
+    let is_laid_out = table.has_layout(size);
     let sector_size = table.sector_size;
     let header = table.header;
     let plan = record_table(alloc, head, tail, size, table)?;
+    if !is_laid_out {
+        return Err(Refusal::OtherLayout);
+    }
+    if let Some(lack) = lack {
+        return Err(Refusal::Lacks(lack));
+    }
     if !is_in_turns(&plan, &header, sector_size) {
         return Err(Refusal::Refused(Error::OutOfMemory));
     }

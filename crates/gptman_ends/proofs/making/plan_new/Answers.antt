@@ -1,14 +1,13 @@
-use Rattle.std.proofs.Common.{◌≡◌, ◌<◌, ◌⊎◌, inr, ℕ, List, refl, subst}
+use Rattle.std.proofs.Common.{ℕ, List, refl, subst}
 use Rattle.std.proofs.lemmas.Result.{IfErr-weaker, IfOk-weaker}
 use Rattle.gptman.specs.Table.{new_table_of}
-use Rattle.gptman.specs.TableWrites.{RefusesTable}
 use Rattle.gptman.specs.declared.table.GPT.{GPT}
 use Rattle.gptman_ends.specs.Ends.{HasEnds}
 use Rattle.gptman_ends.specs.Plan.{Act, acts_of}
-use Rattle.gptman_ends.specs.Planning.{IsNewPlan, IsNewRefusal, IsTablePlan, IsTableRefusal, RefusesNew}
+use Rattle.gptman_ends.specs.Planning.{IsNewPlan, IsNewRefusal, IsTablePlan, IsTableRefusal, StopsNew, StopsTable}
 use Rattle.gptman_ends.specs.declared.record.Record.{Record}
 use Rattle.gptman_ends.proofs.Refused.{refused_as}
-use Rattle.gptman_ends.proofs.TablePlans.{new_plan}
+use Rattle.gptman_ends.proofs.TablePlans.{new_plan, table_stops_new}
 use Rattle.gptman_ends.proofs.making.plan_new.Goals as goal
 
 pub returns-clause-plan : goal.returns-clause-plan
@@ -27,7 +26,6 @@ returns-clause-refused c =
     let a = c.args in
     let g : GPT = c.in_ok-table.table in
     IfErr-weaker c.plan_table.result (IsTableRefusal a.head.now a.tail.now a.size g) (IsNewRefusal a.head.now a.tail.now a.size a.sector_size a.count a.disk_guid)
-    (λ r is. refused_as ⊥ ((a.count ≡ 0) ⊎ (a.size < a.sector_size)) (RefusesTable g a.size) (RefusesNew a.count a.disk_guid a.sector_size a.size) a.head.now a.tail.now a.size
-    (λ none. absurd none)
-    (λ fault why. inr (subst (λ (t : GPT). RefusesTable t a.size fault) c.in_ok-table.ensures.value why)) r is)
+    (λ r is. refused_as (StopsTable g a.size) (StopsNew a.count a.disk_guid a.sector_size a.size) a.head.now a.tail.now a.size
+    (table_stops_new a.count a.disk_guid a.sector_size a.size g c.in_ok-table.ensures.value) r is)
     c.plan_table.ensures.refused

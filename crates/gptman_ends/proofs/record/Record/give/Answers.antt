@@ -1,6 +1,6 @@
 use Rattle.std.proofs.Common.{rules, ◌≡◌, ◌++◌, ℕ, List, length, take, drop, ap, ◌∙◌}
 use Rattle.std.proofs.Math.Seq.{take-append_seam}
-use Rattle.gptman_ends.specs.Plan.{acts_of, steps_fit}
+use Rattle.gptman_ends.specs.Plan.{acts_of, are_writes_and_syncs, steps_fit}
 use Rattle.gptman_ends.specs.declared.records.Step.{Step}
 use Rattle.gptman_ends.proofs.Steps.{acts_same}
 use Rattle.gptman_ends.proofs.record.Record.give.Goals as goal
@@ -24,3 +24,12 @@ returns-clause-steps_fit c = λ _.
     (λ i. steps_fit r.size (length r.bytes.items) (take (length r.steps.items) (steps_are i ++ rest_steps)))
     ∙ ap (λ (l : List Step). steps_fit r.size (length r.bytes.items) l) (take-append_seam r.steps.items rest_steps)
     ∙ r.held
+
+pub returns-clause-kinds : goal.returns-clause-kinds
+returns-clause-kinds c = λ _.
+    let r = c.args.self.now in
+    let steps_are : c.copy_from_slice.new.self ≡ r.steps.items = search rules in
+    let rest_steps : List Step = drop c.len-2.result c.args.steps.now in
+    (λ i. are_writes_and_syncs (take (length r.steps.items) (steps_are i ++ rest_steps)))
+    ∙ ap (λ (l : List Step). are_writes_and_syncs l) (take-append_seam r.steps.items rest_steps)
+    ∙ r.kinds

@@ -1,7 +1,7 @@
-use Rattle.std.proofs.Common.{rules, ◌⊎◌, ⊎_elim, ◌≡◌, ◌++◌, ◌∷◌, [], length, true, refl, ◌∙◌, arith, length-append, List}
-use Rattle.gptman_ends.specs.Plan.{acts_of, steps_fit}
+use Rattle.std.proofs.Common.{rules, ◌⊎◌, ⊎_elim, ◌≡◌, ◌++◌, ◌∷◌, [], length, true, refl, sym, subst, ◌∙◌, arith, length-append, List}
+use Rattle.gptman_ends.specs.Plan.{acts_of, are_writes_and_syncs, steps_fit}
 use Rattle.gptman_ends.specs.declared.records.Step.{Step}
-use Rattle.gptman_ends.proofs.Steps.{acts_same, acts_write, fits_more, fits_push}
+use Rattle.gptman_ends.proofs.Steps.{acts_same, acts_write, fits_more, fits_push, kinds_push}
 use Rattle.gptman_ends.proofs.record.Record.write.Goals as goal
 
 pub invariant_of-self-2 : goal.invariant_of-self-2
@@ -17,6 +17,10 @@ invariant_of-self-2 c =
       held = ⊎_elim
           (λ yes. held (r.steps.items ++ s ∷ []) yes (fits_push r.size (length (r.bytes.items ++ c.args.buf.now)) r.steps.items s fits c.requires (omega (arith, length-append r.bytes.items c.args.buf.now))))
           (λ no. held r.steps.items no fits)
+          pushed;
+      kinds = ⊎_elim
+          (λ yes. subst (λ (l : List Step). are_writes_and_syncs l ≡ true) (sym yes) (kinds_push r.steps.items s r.kinds refl))
+          (λ no. subst (λ (l : List Step). are_writes_and_syncs l ≡ true) (sym no) r.kinds)
           pushed;
     }
 
