@@ -127,13 +127,17 @@ def use(program, loop, what, part):
         loop.later("swapoff", part)
         return True if loop.call("swapon", part) else None
     if what == "a volume of device-mapper":
+        if not there("dmsetup"):
+            return None
         loop.later("dmsetup", "remove", "gptedit-test")
         words = ["dmsetup", "create", "gptedit-test", "--table", f"0 2048 linear {part} 0"]
-        return True if there("dmsetup") and loop.call(*words) else None
+        return True if loop.call(*words) else None
     if what == "an array of md":
+        if not there("mdadm"):
+            return None
         loop.later("mdadm", "--stop", "/dev/md/gptedit-test")
         words = ["mdadm", "--build", "/dev/md/gptedit-test", "--level=linear", "--force", "--raid-devices=1", part]
-        return True if there("mdadm") and loop.call(*words) else None
+        return True if loop.call(*words) else None
     if what == "mounted in another namespace":
         if not there("unshare"):
             return None
