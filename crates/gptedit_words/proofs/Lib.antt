@@ -1,1 +1,3 @@
 mod Numbers
+mod Shapes
+mod Spelled

@@ -1,6 +1,6 @@
 -- Numbers, read from texts one after the other.
 use Rattle.std.proofs.Common.{◌≡◌, ◌++◌, ◌∷◌, [], ℕ, List, subst, sym}
-use Rattle.std.specs.Prelude.{Some, None, Ok, Err, Result, Option}
+use Rattle.std.specs.Prelude.{Some, None, Ok, Err, Result}
 use Rattle.std.proofs.lemmas.List.{append_assoc, append-nil}
 use Rattle.clap.specs.Words.{StepsValues}
 use Rattle.gptedit_words.specs.Asks.{AreNumbers, SaysNoNumber, SaysNumber}

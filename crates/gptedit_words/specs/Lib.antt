@@ -1,2 +1,5 @@
 pub mod Asks
+pub mod Definitions
+pub mod Line
 pub mod Refusals
+pub mod Spelled

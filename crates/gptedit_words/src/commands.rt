@@ -210,7 +210,8 @@ const READING: &[Argument] = &[SECTOR, JSON];
 
 // The options of the commands that write.
 const WRITING: &[Argument] = &[
-    Argument::Flag(
+    Argument::Lettered(
+        'n',
         "--dry-run",
         "Writes nothing, and shows what would be written",
     ),

@@ -1,6 +1,7 @@
 //! Why words ask for nothing.
 
 ghost use Rattle.std.specs.Prelude.{◌≡◌};
+ghost use Rattle.gptedit_words.specs.Spelled.{IsOfUsage};
 ghost use Rattle.gptedit_words.specs.declared.error.WordsError.TheVariants.{OutOfMemory};
 
 use clap::error::ErrorKind;
@@ -89,6 +90,8 @@ fn write_value<W: fmt::Write>(
 impl Error for WordsError<'_> {}
 
 impl From<clap::Error> for WordsError<'_> {
+    ghost from_gives = { IsOfUsage };
+
     fn from(error: clap::Error) -> Self {
         match error.kind() {
             ErrorKind::OutOfMemory => WordsError::OutOfMemory,

@@ -1,9 +1,10 @@
 //! The words of a command line, read.
 
-ghost use Rattle.std.specs.Prelude.{◌≡◌, ◌≢◌, codes, IfOk, None};
+ghost use Rattle.std.specs.Prelude.{◌≡◌, ◌≢◌, codes, IfErr, IfOk, None};
 ghost use Rattle.clap.specs.Words.{first_value, found_of};
 ghost use Rattle.gptedit_words.specs.Asks.{AsksOptions, IsChange, IsCommand, IsRequest, IsWrong, SaysNoLock};
 ghost use Rattle.gptedit_words.specs.Refusals.{CanAsk, CanChange, CanMake, CanRun, RefusedOnlyFor};
+ghost use Rattle.gptedit_words.specs.Spelled.{texts_of, IsRefused, IsSpelled};
 
 use crate::definition::command;
 use crate::entries;
@@ -14,7 +15,14 @@ use clap::ArgMatches;
 use std::alloc::Global;
 
 /// What these words ask for. The first is the program's name.
-pub fn read_words<'a>(alloc: Global, words: &'a [String]) -> Result<Request<'a>, WordsError<'a>> {
+///
+/// # Errors
+/// `Usage` where they are not as the command line is; `Missing`, `Value`, `Sector`, `LongName` and `NothingToSet`
+/// where the words of a command ask for nothing; `OutOfMemory`.
+pub fn read_words<'a>(alloc: Global, words: &'a [String]) -> Result<Request<'a>, WordsError<'a>>
+    ensures said { IfOk result (IsSpelled (texts_of words.entry.now)) }
+    ensures refused { IfErr result (IsRefused (texts_of words.entry.now)) }
+{
     let matches = command(alloc)?.try_get_matches_from(words)?;
     let Some((name, words)) = matches.subcommand() else {
         return Err(WordsError::Missing("COMMAND"));

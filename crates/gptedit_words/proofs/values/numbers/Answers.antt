@@ -2,7 +2,6 @@ use Rattle.std.proofs.Common.{rules, ◌≡◌, ◌∷◌, [], ◌++◌, sym}
 use Rattle.std.specs.Prelude.{Some}
 use Rattle.clap.specs.Words.{found_of, values_left}
 use Rattle.gptedit_words.specs.Asks.{texts_of_place}
-use Rattle.gptedit_words.specs.Refusals.{AllNumbers, CanRemove}
 use Rattle.gptedit_words.proofs.Numbers.{collect_first, collect_last, collect_next, known_next, known_wrong}
 use Rattle.gptedit_words.proofs.values.numbers.Goals as goal
 

@@ -1,0 +1,30 @@
+-- The rules of `clap` for the commands as they are written down in the code.
+use Rattle.std.specs.Prelude.{List, [], ◌∷◌, ◌++◌, map}
+use Rattle.clap.specs.Words.{App, Rule, Shape, with_rule, with_subcommand}
+use Rattle.gptedit_words.specs.Line.{flag, lettered, needed_value, number, number_place, number_places, text_place, value, with_words}
+use Rattle.gptedit_words.specs.declared.definition.Argument.{Argument}
+use Rattle.gptedit_words.specs.declared.definition.Argument.TheVariants.{Flag, Lettered, Value, NeededValue, Number, Place, NumberPlace, NumberPlaces}
+use Rattle.gptedit_words.specs.declared.definition.Definition.{Definition}
+
+abbrev pub rule_for : Argument → Rule
+rule_for (Flag word help) = flag word.now
+rule_for (Lettered letter word help) = lettered letter word.now
+rule_for (Value word name help) = value word.now
+rule_for (NeededValue word name help) = needed_value word.now
+rule_for (Number word most help) = number word.now most
+rule_for (Place name help) = text_place name.now
+rule_for (NumberPlace name help) = number_place name.now
+rule_for (NumberPlaces name help) = number_places name.now
+
+abbrev pub shape_for : Definition → Shape
+shape_for d = with_words d.name.now (map rule_for d.arguments.now ++ map rule_for d.options.now)
+
+-- the command with these words more
+abbrev pub with_rules : App → List Rule → App
+with_rules app [] = app
+with_rules app (rule ∷ rules) = with_rules (with_rule app rule) rules
+
+-- the command with these commands more
+abbrev pub with_commands : App → List Shape → App
+with_commands app [] = app
+with_commands app (shape ∷ shapes) = with_commands (with_subcommand app shape) shapes

@@ -1,0 +1,119 @@
+-- The command line: its commands in the order of the help, and the words that each takes.
+use Rattle.std.specs.Prelude.{◌^◌, ◌-◌, ℕ, List, [], ◌∷◌, ◌++◌, Some, true, false, codes, option_and_then, unwrap_or}
+use Rattle.clap.specs.Lexer.{strip_byte, usize_max}
+use Rattle.clap.specs.Simple.{new_shape}
+use Rattle.clap.specs.Words.{App, Rule, Shape, Text, new_rule}
+use Rattle.clap.specs.declared.builder.action.ArgAction.TheVariants.{Append, SetTrue}
+use Rattle.clap.specs.declared.builder.value_parser.ValueParser.TheVariants.{NonEmptyString, Unsigned}
+
+-- the word of an option without its two hyphens
+unfoldable pub long_word : Text → Text
+long_word word = unwrap_or (option_and_then (strip_byte 45) (strip_byte 45 word)) word
+
+-- an option; where it takes a value, help names it
+abbrev pub option : Text → Rule
+option word = record (new_rule word) { long = Some (long_word word) }
+
+abbrev pub value : Text → Rule
+value word = record (option word) { value_names = 1 }
+
+abbrev pub needed_value : Text → Rule
+needed_value word = record (value word) { required = true }
+
+-- an option with a number from 1 to so many
+abbrev pub number : Text → ℕ → Rule
+number word most = record (value word) { parser = Some (Unsigned 1 most) }
+
+-- an option without a value, and one with a letter too
+abbrev pub flag : Text → Rule
+flag word = record (option word) { action = Some SetTrue }
+
+abbrev pub lettered : ℕ → Text → Rule
+lettered letter word = record (flag word) { short = Some letter }
+
+-- a word by its place, which is needed
+abbrev pub place : Text → Rule
+place name = record (new_rule name) { required = true }
+
+-- the same, where the empty text is none
+abbrev pub text_place : Text → Rule
+text_place name = record (place name) { parser = Some NonEmptyString }
+
+-- a number from 1 to 2^32 - 1
+abbrev pub numbered : Rule → Rule
+numbered rule = record rule { parser = Some (Unsigned 1 (2 ^ 32 - 1)) }
+
+abbrev pub number_place : Text → Rule
+number_place name = numbered (place name)
+
+-- one such number or more
+abbrev pub number_places : Text → Rule
+number_places name = record (number_place name) {
+  range = Some (record { start_inclusive = 1; end_inclusive = usize_max });
+  action = Some Append;
+}
+
+-- a command of this name, with these words
+abbrev pub with_words : Text → List Rule → Shape
+with_words name rules = record (new_shape name) { rules = rules }
+
+-- the words of an image and of how its table is shown
+abbrev pub showing : List Rule
+showing = value (codes "--sector") ∷ flag (codes "--json") ∷ []
+
+-- the words of how a change is written
+abbrev pub writing : List Rule
+writing = lettered 110 (codes "--dry-run") ∷ flag (codes "--overwrite") ∷ flag (codes "--in-use") ∷ flag (codes "--force")
+    ∷ value (codes "--lock") ∷ value (codes "--backup") ∷ showing
+
+-- a command that reads an image, and one that changes its table
+abbrev pub look : Text → List Rule → Shape
+look name rules = with_words name ((text_place (codes "IMAGE") ∷ rules) ++ showing)
+
+abbrev pub change : Text → List Rule → Shape
+change name rules = with_words name ((text_place (codes "IMAGE") ∷ rules) ++ writing)
+
+-- the commands
+abbrev pub looks : List Shape
+looks = look (codes "show") []
+    ∷ look (codes "check") []
+    ∷ look (codes "free") (value (codes "--align") ∷ [])
+    ∷ look (codes "dump") []
+    ∷ look (codes "salvage") []
+    ∷ with_words (codes "types") (flag (codes "--json") ∷ [])
+    ∷ []
+
+abbrev pub added : List Rule
+added = needed_value (codes "--type") ∷ needed_value (codes "--size") ∷ value (codes "--name") ∷ value (codes "--guid")
+    ∷ value (codes "--attributes") ∷ number (codes "--number") (2 ^ 32 - 1) ∷ value (codes "--start") ∷ value (codes "--place")
+    ∷ value (codes "--align") ∷ []
+
+abbrev pub set : List Rule
+set = number_place (codes "N") ∷ value (codes "--name") ∷ value (codes "--type") ∷ value (codes "--guid")
+    ∷ value (codes "--attributes") ∷ []
+
+abbrev pub changes : List Shape
+changes = change (codes "new") (value (codes "--guid") ∷ number (codes "--entries") 32768 ∷ [])
+    ∷ change (codes "add") added
+    ∷ change (codes "set") set
+    ∷ change (codes "resize") (number_place (codes "N") ∷ text_place (codes "SIZE|max") ∷ [])
+    ∷ change (codes "remove") (number_places (codes "N") ∷ [])
+    ∷ change (codes "sort") []
+    ∷ change (codes "grow") []
+    ∷ change (codes "repair") (flag (codes "--bounds") ∷ [])
+    ∷ change (codes "randomize") []
+    ∷ change (codes "apply") (text_place (codes "FILE") ∷ flag (codes "--replace") ∷ flag (codes "--create") ∷ [])
+    ∷ change (codes "wipe") []
+    ∷ []
+
+-- a command is asked for, and there is a version
+abbrev pub top : Shape
+top = record (new_shape (codes "gptedit")) {
+  is_leaf = false;
+  has_version = true;
+  subcommand_required = true;
+  arg_required_else_help = true;
+}
+
+unfoldable pub line : App
+line = record { top = top; subs = looks ++ changes }

@@ -1,0 +1,49 @@
+-- What a command line asks for: the words of a command are found in it, and these ask for something.
+use Rattle.std.specs.Prelude.{◌≡◌, ◌≢◌, ◌⊎◌, ℕ, List, [], map, Some, None, Err, codes, String, string_bytes}
+use Rattle.clap.specs.Words.{fault_of, kind_of, rows_of, subcommand_of, IsAmong}
+use Rattle.clap.specs.declared.error.Error.{Error}
+use Rattle.clap.specs.declared.error.kind.ErrorKind.TheVariants as kind
+use Rattle.clap.specs.declared.parser.matches.Found.{Found}
+use Rattle.gptedit_words.specs.Asks.{IsRequest}
+use Rattle.gptedit_words.specs.Line.{line}
+use Rattle.gptedit_words.specs.Refusals.{CanAsk, RefusedOnlyFor}
+use Rattle.gptedit_words.specs.declared.error.WordsError.{WordsError}
+use Rattle.gptedit_words.specs.declared.error.WordsError.TheVariants.{LongName, Missing, NothingToSet, OutOfMemory, Sector, Usage, Value}
+use Rattle.gptedit_words.specs.declared.request.Request.{Request}
+
+-- the bytes of each word
+abbrev pub texts_of : {A : Type 0} → List (String A) → List (List ℕ)
+texts_of words = map string_bytes words
+
+-- The command line has no fault, its command has this name, and this is found of the command's own words.
+pub record Names (words : List (List ℕ)) (name : List ℕ) (found : Found) : Type 0 where
+  pub faultless : fault_of line words ≡ []
+  pub command : subcommand_of line words ≡ Some (name, rows_of found)
+
+-- the command line asks for this
+pub record IsSpelled (words : List (List ℕ)) (request : Request) : Type 0 where
+  pub name : List ℕ
+  pub found : Found
+  pub named : Names words name found
+  pub asks : IsRequest name found request
+
+-- the command's own words ask for nothing, for this reason
+pub record IsWrongOf (words : List (List ℕ)) (error : WordsError) : Type 0 where
+  pub name : List ℕ
+  pub found : Found
+  pub named : Names words name found
+  pub reason : RefusedOnlyFor {A = Request} found ((name ≢ codes "types") × ¬ (CanAsk name found)) (Err error)
+
+-- the command line asks for nothing, for this reason
+abbrev pub IsRefused : List (List ℕ) → WordsError → Type 0
+IsRefused words OutOfMemory = Unit {0}
+IsRefused words (Usage error) = IsAmong (kind_of error) (fault_of line words) ⊎ IsWrongOf words (Usage error)
+IsRefused words (Missing word) = (subcommand_of line words ≡ None) ⊎ IsWrongOf words (Missing word)
+IsRefused words (LongName text) = IsWrongOf words (LongName text)
+IsRefused words (Value word text wrong) = IsWrongOf words (Value word text wrong)
+IsRefused words (Sector text) = IsWrongOf words (Sector text)
+IsRefused words NothingToSet = IsWrongOf words NothingToSet
+
+-- an error of `clap` that is no want of memory stays what it is
+abbrev pub IsOfUsage : Error → WordsError → Type 0
+IsOfUsage e error = ((kind_of e ≡ kind.OutOfMemory) × (error ≡ OutOfMemory)) ⊎ ((kind_of e ≢ kind.OutOfMemory) × (error ≡ Usage e))
