@@ -1,13 +1,15 @@
 -- Signatures that are cleared beside a table.
-use Rattle.std.proofs.Common.{true, ◌≡◌, ◌≤◌, ◌<◌, ◌⊎◌, ⊎_elim, ◌+◌, ℕ, zero, suc, List, [], ◌∷◌, ◌++◌, drop, inl, inr, sym, subst, arith, Option}
-use Rattle.gptman_copy.specs.Disk.{DiskState, IsSound, Reads, Writes}
+use Rattle.std.proofs.Common.{true, ◌≡◌, ◌⊎◌, ⊎_elim, ◌∙◌, ◌+◌, ℕ, zero, suc, List, [], ◌∷◌, ◌++◌, drop, get_or, inl, inr, sym, subst, arith, Option}
+use Rattle.gptman_copy.specs.Disk.{DiskState, IsSound, Outside, Reads, Writes}
+use Rattle.gptman_copy.specs.Ranges.{Inside}
 use Rattle.gptman_copy.specs.declared.codec.header.GPTHeader.{GPTHeader}
 use Rattle.gptman_copy.proofs.Ranges.{within_left, within_none, within_right, within_self}
 use Rattle.gptman_copy.proofs.Runs.{wrote_not, wrote_then, wrote_wider}
 use Rattle.gptedit_look.proofs.Pieces.{inside_of_both}
 use Rattle.gptedit_look.specs.Guard.{IsIn}
-use Rattle.gptedit_look.specs.Wiped.{IsBeside, IsOfBeside, IsOfOther, WritesOnly}
+use Rattle.gptedit_look.specs.Wiped.{AreZeros, IsBeside, IsCleared, IsOfBeside, IsOfOther, WritesOnly}
 use Rattle.gptedit_look.specs.declared.signatures.Signature.{Signature}
+use Rattle.gptedit_look.proofs.Spared.{inside_or_outside}
 
 -- before anything is written
 pub only_not : (P : ℕ → Type 0) (a : DiskState) → (a.is_honest ≡ true → IsSound a) → WritesOnly P a a
@@ -82,3 +84,37 @@ other_of primary backup ss (s ∷ signatures) k h = ⊎_elim (λ x. inl (x.0.oth
 -- what only read
 pub only_read : (P : ℕ → Type 0) (a b : DiskState) → Reads a b → WritesOnly P a b
 only_read P a b reads = record { ranges = []; within = λ k no. absurd no; wrote = λ honest. (reads.only honest).wrote }
+
+-- the zeros of one signature, at its place
+pub zeros_signature : (s : Signature) (start n : ℕ) (b : List ℕ) → start ≡ s.at → n ≡ 8 → AreZeros start n b → AreZeros s.at 8 b
+zeros_signature s start n b at long zeros k here = zeros k (omega (arith, at, here.0), omega (arith, at, long, here.1))
+
+-- where each byte that may change is zero after it, what was zero is zero
+pub zero_kept : (P : ℕ → Type 0) (a b : DiskState) → a.is_honest ≡ true → WritesOnly P a b → ((k : ℕ) → P k → get_or b.view k 0 ≡ 0)
+    → (k : ℕ) → get_or a.view k 0 ≡ 0 → get_or b.view k 0 ≡ 0
+zero_kept P a b honest only zeros k was =
+    ⊎_elim (λ (here : Inside only.ranges k). zeros k (only.within k here))
+    (λ (out : Outside only.ranges k). (only.wrote honest).view.same k out ∙ was) (inside_or_outside only.ranges k)
+
+-- each byte of a signature to be cleared is zero, but for those in the rest of the list
+abbrev pub AreGone : Option GPTHeader → Option GPTHeader → ℕ → List Signature → List Signature → List ℕ → Type 0
+AreGone primary backup ss signatures rest b = (k : ℕ) → IsOfBeside primary backup ss k signatures → IsOfBeside primary backup ss k rest ⊎ (get_or b k 0 ≡ 0)
+
+-- one signature more
+pub gone_more : (primary backup : Option GPTHeader) (ss : ℕ) (signatures more rest : List Signature) (s : Signature) (a b : DiskState) → rest ≡ s ∷ more
+    → a.is_honest ≡ true → WritesOnly (λ k. IsBeside primary backup ss s × IsIn s.at 8 k) a b → (IsBeside primary backup ss s → AreZeros s.at 8 b.view)
+    → AreGone primary backup ss signatures rest a.view → AreGone primary backup ss signatures more b.view
+gone_more primary backup ss signatures more rest s a b is honest only zeros gone k one =
+    let here : (j : ℕ) → IsBeside primary backup ss s × IsIn s.at 8 j → get_or b.view j 0 ≡ 0 = λ j x. zeros x.0 j x.1 in
+    ⊎_elim
+    (λ left. let there : IsOfBeside primary backup ss k (s ∷ more) = subst (λ (xs : List Signature). IsOfBeside primary backup ss k xs) is left in
+    ⊎_elim (λ x. inr (here k x)) (λ x. inl x) there)
+    (λ was. inr (zero_kept (λ j. IsBeside primary backup ss s × IsIn s.at 8 j) a b honest only here k was)) (gone k one)
+
+-- what is cleared, by other names
+pub cleared_as : (one two primary backup : Option GPTHeader) (ss : ℕ) (xs ys : List Signature) (disk : DiskState) → one ≡ primary → two ≡ backup → xs ≡ ys
+    → IsCleared (λ k. IsOfBeside one two ss k xs) disk → IsCleared (λ k. IsOfBeside primary backup ss k ys) disk
+cleared_as one two primary backup ss xs ys disk first second same cleared =
+    subst (λ (x : Option GPTHeader). IsCleared (λ k. IsOfBeside x backup ss k ys) disk) first
+    (subst (λ (x : Option GPTHeader). IsCleared (λ k. IsOfBeside one x ss k ys) disk) second
+    (subst (λ (zs : List Signature). IsCleared (λ k. IsOfBeside one two ss k zs) disk) same cleared))

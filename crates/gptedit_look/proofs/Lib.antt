@@ -6,3 +6,4 @@ pub mod Lengths
 pub mod Changes
 pub mod Clears
 pub mod Beside
+pub mod Headers

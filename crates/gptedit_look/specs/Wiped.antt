@@ -1,5 +1,6 @@
 -- What is cleared, so that a disk looks no longer like one with a table.
-use Rattle.std.specs.Prelude.{◌≡◌, ◌≢◌, ◌≤◌, ◌<◌, ◌⊎◌, ◌+◌, ◌-◌, ◌*◌, ◌/◌, ℕ, List, [], ◌∷◌, get_or, Option, Some, None, Result, Ok, Err}
+use Rattle.std.specs.Prelude.{◌≡◌, ◌≢◌, ◌≤◌, ◌<◌, ◌⊎◌, ◌+◌, ◌-◌, ◌*◌, ◌/◌, ℕ, List, [], ◌∷◌, length, get_or, nat_lt, Option, Some, None, Result, Ok, Err, if◌then◌else◌}
+use Rattle.std.specs.Result.{result_ok}
 use Rattle.gptman_copy.specs.Disk.{DiskState, Writes}
 use Rattle.gptman_copy.specs.Ranges.{Inside}
 use Rattle.gptman_copy.specs.declared.codec.header.GPTHeader.{GPTHeader}
@@ -85,6 +86,14 @@ abbrev pub byte_of : Place → ℕ → ℕ → ℕ
 byte_of Start ss size = ss
 byte_of End ss size = (size / ss - 1) * ss
 
+-- the good header at this byte, if there is one
+abbrev pub header_found : List ℕ → ℕ → Option GPTHeader
+header_found b at = result_ok (header_result b at)
+
+-- the good header at this place, if there is one: none on a disk of one whole sector at most
+abbrev pub header_in : Place → ℕ → List ℕ → Option GPTHeader
+header_in place ss b = if nat_lt 1 (length b / ss) then header_found b (byte_of place ss (length b)) else None
+
 -- a signature has no byte in common with a copy
 abbrev pub IsApartFrom : Signature → ℕ → GPTHeader → Type 0
 IsApartFrom signature ss h = (k : ℕ) → IsIn signature.at 8 k → ¬ IsOfCopy h ss k
@@ -105,6 +114,10 @@ abbrev pub IsOfBeside : Option GPTHeader → Option GPTHeader → ℕ → ℕ �
 IsOfBeside primary backup ss k [] = ⊥
 IsOfBeside primary backup ss k (signature ∷ signatures) =
     (IsBeside primary backup ss signature × IsIn signature.at 8 k) ⊎ IsOfBeside primary backup ss k signatures
+
+-- k is one of such a signature, beside the good headers in these bytes
+abbrev pub IsOfOld : ℕ → List ℕ → List Signature → ℕ → Type 0
+IsOfOld ss b signatures k = IsOfBeside (header_in Start ss b) (header_in End ss b) ss k signatures
 
 -- k is one of a signature of another sector size
 abbrev pub IsOfOther : ℕ → ℕ → List Signature → Type 0

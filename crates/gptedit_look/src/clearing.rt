@@ -3,10 +3,10 @@
 ghost use Rattle.std.specs.Prelude.{◌≡◌, ◌≤◌, ◌<◌, ◌+◌, ◌*◌, ◌↔◌, ℕ, [], IfOk, IsTrue, OnOk, Some as Present};
 ghost use Rattle.gptman.specs.Answers.{HasCause, Refuses};
 ghost use Rattle.gptman.specs.Disk.{IsHonest, Keeps, Reads, Writes};
-ghost use Rattle.gptman_copy.specs.Fault.{io};
+ghost use Rattle.gptman_copy.specs.Fault.{fault_of, io};
 ghost use Rattle.gptman_copy.specs.Ranges.{Inside};
 ghost use Rattle.gptedit_look.specs.Guard.{last_of, IsIn};
-ghost use Rattle.gptedit_look.specs.Wiped.{ranges_in, Adds, HasUsualEntries, IsApartFrom, IsBeside, IsCleared, IsClearOf, IsOfBeside, IsOfCopies, IsOfMbr, IsOfOther, IsOfOwn, IsOfPlace, IsOfRaw, IsOfSignature, IsOfWhole, IsWiped, WritesOnly};
+ghost use Rattle.gptedit_look.specs.Wiped.{header_found, header_in, ranges_in, Adds, AreZeros, HasUsualEntries, IsApartFrom, IsBeside, IsCleared, IsClearOf, IsOfBeside, IsOfCopies, IsOfMbr, IsOfOld, IsOfOther, IsOfOwn, IsOfPlace, IsOfRaw, IsOfSignature, IsOfWhole, IsWiped, WritesOnly};
 
 use crate::bytes::start_of;
 use crate::first_sector::MbrKind;
@@ -48,6 +48,10 @@ pub fn clear_signatures<D: Disk>(disk: &mut D, look: &Look, sector_size: u64) ->
     // No byte changes at any moment but those of signatures of another sector size.
     ensures only { WritesOnly (λ k. IsOfOther sector_size k look.now.signatures.items)
         (D.state disk.old) (D.state disk.new) }
+
+    // Those that have no byte in common with a copy whose header is good on the disk are zero.
+    ensures cleared { IsHonest (D.state disk.old) → OnOk result (IsCleared
+        (IsOfOld sector_size (D.state disk.old).view look.now.signatures.items) (D.state disk.new)) }
 {
     let primary = read_header(disk, Place::Start, sector_size)?;
     let backup = read_header(disk, Place::End, sector_size)?;
@@ -66,6 +70,8 @@ fn clear_beside<D: Disk>(
     ensures cause { HasCause result (D.state disk.old) (D.state disk.new) }
     ensures only { WritesOnly (λ k. IsOfBeside primary backup sector_size k signatures.now)
         (D.state disk.old) (D.state disk.new) }
+    ensures cleared { IsHonest (D.state disk.old) → OnOk result (IsCleared
+        (λ k. IsOfBeside primary backup sector_size k signatures.now) (D.state disk.new)) }
 {
     for signature in signatures {
         clear_one(disk, signature, primary, backup, sector_size)?;
@@ -86,6 +92,9 @@ fn clear_one<D: Disk>(
     ensures cause { HasCause result (D.state disk.old) (D.state disk.new) }
     ensures only { WritesOnly (λ k. IsBeside primary backup sector_size signature.now × IsIn signature.now.at 8 k)
         (D.state disk.old) (D.state disk.new) }
+    ensures cleared { IsHonest (D.state disk.old)
+        → OnOk result (IsBeside primary backup sector_size signature.now
+        → AreZeros signature.now.at 8 (D.state disk.new).view) }
 {
     if !is_beside(signature, primary, backup, sector_size) {
         return Ok(());
@@ -111,6 +120,8 @@ fn is_beside(
 fn read_header<D: Disk>(disk: &mut D, place: Place, sector_size: u64) -> Result<Option<GPTHeader>>
     ensures reads { Reads (D.state disk.old) (D.state disk.new) }
     ensures cause { HasCause result (D.state disk.old) (D.state disk.new) }
+    ensures found { IsHonest (D.state disk.old) → IfOk result (λ header. header
+        ≡ header_in place sector_size (D.state disk.old).view) }
 {
     let size = disk.seek_end()?;
     let Some(at) = place_at(place, sector_size, size) else {
@@ -123,17 +134,27 @@ fn read_header<D: Disk>(disk: &mut D, place: Place, sector_size: u64) -> Result<
 }
 
 // The header at this byte, if it is good.
+#[tactic(auto, using(gptman_copy::proofs::Readers::both_read, gptman_copy::proofs::Runs::rose_since))]
 fn read_header_at<D: Disk>(disk: &mut D, at: u64) -> Result<Option<GPTHeader>>
     requires { at + 92 ≤ (D.state disk.old).size }
     ensures reads { Reads (D.state disk.old) (D.state disk.new) }
     ensures cause { HasCause result (D.state disk.old) (D.state disk.new) }
+    ensures found { IsHonest (D.state disk.old) → IfOk result (λ header. header
+        ≡ header_found (D.state disk.old).view at) }
 {
     disk.seek_start(at)?;
     match GPTHeader::read_from(disk) {
         Ok(header) => Ok(Some(header)),
-        Err(Error::Io(error)) => Err(Error::Io(error)),
+        Err(error) if is_io(&error) => Err(error),
         Err(_) => Ok(None),
     }
+}
+
+// Whether the disk failed, or ended before.
+fn is_io(error: &Error) -> bool
+    ensures { IsTrue result ↔ (fault_of error.now ≡ io) }
+{
+    matches!(error, Error::Io(_))
 }
 
 fn all_of(signature: &Signature) -> Zeroed
