@@ -1,13 +1,12 @@
 -- What became of an MBR.
-use Rattle.std.proofs.Common.{◌≡◌, true, false, Bool, ◌≤◌, ◌/◌, ◌∙◌, ℕ, List, [], max, sym, subst, ap, arith, Result, Ok, Err}
-use Rattle.std.specs.Prelude.{IsTrue, OnOk}
+use Rattle.std.proofs.Common.{◌≡◌, true, false, Bool, ◌≤◌, ◌∙◌, ℕ, List, max, sym, subst, Result, Ok, Err}
+use Rattle.std.specs.Prelude.{OnOk}
 use Rattle.std.proofs.lemmas.Bool.{false≢true}
 use Rattle.gptman.specs.Mbr.{mbr_bytes, IsMbrStored}
-use Rattle.gptman_copy.specs.Bytes.{part}
-use Rattle.gptman_copy.specs.Disk.{overlay, DiskState, OnlyRead, Reads}
+use Rattle.gptman_copy.specs.Disk.{overlay, DiskState, Reads}
 use Rattle.gptman_copy.proofs.Readers.{both_read}
-use Rattle.gptedit_look.specs.Mended.{change_of, first_bytes, sectors_of, IsChange, IsDone, IsForeign, IsInNeed, IsPlan, IsSet, MakesMbr, MendsEntry}
-use Rattle.gptedit_look.specs.Protective.{right_length, HasLength}
+use Rattle.gptedit_look.specs.Mended.{change_of, first_bytes, sectors_of, IsChange, IsDone, IsPlan, IsSet}
+use Rattle.gptedit_look.specs.Protective.{HasLength}
 use Rattle.gptedit_look.specs.declared.mending.Plan.{Plan}
 use Rattle.gptedit_look.specs.declared.mending.Plan.TheVariants.{Leave, Mend, Make}
 

@@ -1,4 +1,4 @@
-use Rattle.std.proofs.Common.{◌≡◌, ◌≤◌, ◌+◌, length, take, arith}
+use Rattle.std.proofs.Common.{◌≤◌, ◌+◌, length, take, arith}
 use Rattle.gptedit_look.proofs.Clears.{zeros, zeros_are, zeros_laid, zeros_part}
 use Rattle.gptedit_look.proofs.zeros.put_block.Goals as goal
 
