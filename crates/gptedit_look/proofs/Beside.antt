@@ -118,3 +118,10 @@ cleared_as one two primary backup ss xs ys disk first second same cleared =
     subst (λ (x : Option GPTHeader). IsCleared (λ k. IsOfBeside x backup ss k ys) disk) first
     (subst (λ (x : Option GPTHeader). IsCleared (λ k. IsOfBeside one x ss k ys) disk) second
     (subst (λ (zs : List Signature). IsCleared (λ k. IsOfBeside one two ss k zs) disk) same cleared))
+
+-- what is changed, by other names
+pub only_named : (one two primary backup : Option GPTHeader) (ss : ℕ) (signatures : List Signature) (a b : DiskState) → one ≡ primary → two ≡ backup
+    → WritesOnly (λ k. IsOfBeside one two ss k signatures) a b → WritesOnly (λ k. IsOfBeside primary backup ss k signatures) a b
+only_named one two primary backup ss signatures a b first second only =
+    subst (λ (x : Option GPTHeader). WritesOnly (λ k. IsOfBeside x backup ss k signatures) a b) first
+    (subst (λ (x : Option GPTHeader). WritesOnly (λ k. IsOfBeside one x ss k signatures) a b) second only)

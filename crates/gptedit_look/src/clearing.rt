@@ -49,7 +49,9 @@ pub fn clear_signatures<D: Disk>(disk: &mut D, look: &Look, sector_size: u64) ->
     ensures only { WritesOnly (λ k. IsOfOther sector_size k look.now.signatures.items)
         (D.state disk.old) (D.state disk.new) }
 
-    // Those that have no byte in common with a copy whose header is good on the disk are zero.
+    // Of these only such as have no byte in common with a copy whose header is good on the disk; they are zero then.
+    ensures spares { IsHonest (D.state disk.old) → WritesOnly
+        (IsOfOld sector_size (D.state disk.old).view look.now.signatures.items) (D.state disk.old) (D.state disk.new) }
     ensures cleared { IsHonest (D.state disk.old) → OnOk result (IsCleared
         (IsOfOld sector_size (D.state disk.old).view look.now.signatures.items) (D.state disk.new)) }
 {
