@@ -13,6 +13,7 @@ pub mod Planned
 pub mod RecordedMbr
 pub mod Refused
 pub mod Rewriting
+pub mod Rounded
 pub mod Seen
 pub mod Stated
 pub mod Steps

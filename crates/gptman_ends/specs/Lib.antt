@@ -8,4 +8,5 @@ pub mod Plan
 pub mod Planning
 pub mod Protective
 pub mod Reading
+pub mod Rounds
 pub mod Turns

@@ -21,6 +21,7 @@ pub mod protective;
 pub mod reading;
 pub mod record;
 pub mod records;
+pub mod rounds;
 pub mod tables;
 pub mod tell;
 pub mod turns;
