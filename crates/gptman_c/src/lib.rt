@@ -23,6 +23,7 @@ ghost use Rattle.gptman_ends.specs.Plan.{acts_of, are_writes_and_syncs, steps_fi
 ghost use Rattle.gptman_ends.specs.Planning.{AreNoEnds, HasPlan, IsFitPlan, IsMiscounted, IsNewPlan, IsNotStatedToFit};
 ghost use Rattle.gptman_ends.specs.Planning.{IsNumberOf, IsOfOtherLayout, IsOfOtherLength, IsPlan};
 ghost use Rattle.gptman_ends.specs.Planning.{needed_after, refusal_number, RefusesFit, RefusesNew, RefusesPlan};
+ghost use Rattle.gptman_ends.specs.Rounds.{reading_ranges, IsAmong};
 
 use gptman::crc::crc32;
 use gptman_ends::checking::{Look, look_at_both};
@@ -82,6 +83,8 @@ pub extern "C" fn gptman_read(
         → ¬ IsKnown (length head.now) (length tail.now) disk_size (needed.new.from, needed.new.length) }
     ensures within { result ≡ 17 → needed.new.from + needed.new.length ≤ disk_size }
     ensures whole { result ≡ 17 → length head.now + length tail.now < disk_size }
+    ensures asked { result ≡ 17 → (b : List ℕ) → HasEnds b head.now tail.now disk_size
+        → IsAmong (needed.new.from, needed.new.length) (reading_ranges b sector_size) }
     ensures room { result ≡ 18 → length partitions.old < table.new.entry_count }
     ensures count { result ≡ 18 → (b : List ℕ) → HasEnds b head.now tail.now disk_size
         → HasCount (reading_of b sector_size) table.new.entry_count }
@@ -141,6 +144,8 @@ pub extern "C" fn gptman_check(
         → ¬ IsKnown (length head.now) (length tail.now) disk_size (needed.new.from, needed.new.length) }
     ensures within { result ≡ 17 → needed.new.from + needed.new.length ≤ disk_size }
     ensures whole { result ≡ 17 → length head.now + length tail.now < disk_size }
+    ensures asked { result ≡ 17 → (b : List ℕ) → HasEnds b head.now tail.now disk_size
+        → IsAmong (needed.new.from, needed.new.length) (reading_ranges b sector_size) }
     ensures bad { result ≡ 19
         → (sector_size ≡ 0) ⊎ (disk_size < length head.now + length tail.now) }
     ensures answers { (result ≡ 0) ⊎ ((result ≡ 15) ⊎ ((result ≡ 17) ⊎ (result ≡ 19))) }

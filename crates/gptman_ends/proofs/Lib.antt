@@ -2,6 +2,7 @@ pub mod Acts
 pub mod Aligned
 pub mod AnyMiddle
 pub mod AnyPlan
+pub mod Asked
 pub mod Checked
 pub mod Fitted
 pub mod InTurns

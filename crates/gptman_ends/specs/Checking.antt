@@ -8,7 +8,8 @@ use Rattle.gptimg_core.specs.Checks.{HoldOneTable}
 use Rattle.gptimg_core.specs.declared.commands.check.BothCopies.{BothCopies}
 use Rattle.gptman_ends.specs.Ends.{disk_bytes}
 use Rattle.gptman_ends.specs.Faults.{fault_number}
-use Rattle.gptman_ends.specs.Reading.{IsLack, OfEvery}
+use Rattle.gptman_ends.specs.Reading.{IsLackOf, OfEvery}
+use Rattle.gptman_ends.specs.Rounds.{reading_ranges}
 use Rattle.gptman_ends.specs.declared.checking.Look.{Look}
 use Rattle.gptman_ends.specs.declared.checking.Look.TheVariants.{Told, Unknown}
 use Rattle.gptman_ends.specs.declared.records.Check.{Check}
@@ -40,4 +41,4 @@ pub record AreFoundIn (b : List ℕ) (ss : ℕ) (copies : BothCopies) : Type 0 w
 -- what the ends tell of both copies, or what they lack
 abbrev pub IsLook : List ℕ → List ℕ → ℕ → ℕ → Look → Type 0
 IsLook head tail size ss (Told check) = OfEvery head tail size (λ b. IsCheckTold b ss check)
-IsLook head tail size ss (Unknown lack) = IsLack head tail size lack
+IsLook head tail size ss (Unknown lack) = IsLackOf (λ b. reading_ranges b ss) head tail size lack

@@ -9,6 +9,7 @@ use Rattle.gptman.specs.TableReads.{copy_of, IsAsRead}
 use Rattle.gptman_copy.specs.declared.codec.header.GPTHeader.{GPTHeader}
 use Rattle.gptman.specs.declared.table.GPT.{GPT}
 use Rattle.gptman_ends.specs.Ends.{HasEnds, IsKnown, disk_bytes}
+use Rattle.gptman_ends.specs.Rounds.{IsAmong, reading_ranges}
 use Rattle.gptman_ends.specs.declared.reading.Lack.{Lack}
 use Rattle.gptman_ends.specs.declared.reading.Place.{Place}
 use Rattle.gptman_ends.specs.declared.reading.Place.TheVariants.{At, Unknown}
@@ -22,6 +23,11 @@ OfEvery head tail size P = (b : List ℕ) → HasEnds b head tail size → P b
 -- the disk has these bytes, and neither end has them all
 abbrev pub IsLack : List ℕ → List ℕ → ℕ → Lack → Type 0
 IsLack head tail size lack = (¬ IsKnown (length head) (length tail) size (lack.from, lack.length)) × (lack.from + lack.length ≤ size)
+
+-- Neither end has all of these bytes, which are one of the places of every disk with these ends.
+pub record IsLackOf (places : List ℕ → List (ℕ × ℕ)) (head tail : List ℕ) (size : ℕ) (lack : Lack) : Type 0 where
+  pub lacking : IsLack head tail size lack
+  pub among : OfEvery head tail size (λ b. IsAmong (lack.from, lack.length) (places b))
 
 -- every such disk has there, at byte p, the header of the one with zeros, or its fault
 abbrev pub IsHeaderTold : List ℕ → List ℕ → ℕ → ℕ → Type 0
@@ -47,7 +53,7 @@ pub record IsToldAt (head tail : List ℕ) (size ss : ℕ) (side : Side) : Type 
 -- where the copy is that a reading takes, or what the ends lack
 abbrev pub IsPlace : List ℕ → List ℕ → ℕ → ℕ → Place → Type 0
 IsPlace head tail size ss (At is_backup) = IsToldAt head tail size ss (side_of is_backup)
-IsPlace head tail size ss (Unknown lack) = IsLack head tail size lack
+IsPlace head tail size ss (Unknown lack) = IsLackOf (λ b. reading_ranges b ss) head tail size lack
 
 -- Every such disk is read as this table, from this side.
 pub record IsTable (head tail : List ℕ) (size ss : ℕ) (table : GPT) (is_backup : Bool) : Type 0 where
@@ -68,4 +74,4 @@ pub record IsStatedTable (head tail : List ℕ) (size ss : ℕ) (table : GPT) : 
 abbrev pub IsReading : List ℕ → List ℕ → ℕ → ℕ → Reading → Type 0
 IsReading head tail size ss (Table table is_backup) = IsTable head tail size ss table is_backup
 IsReading head tail size ss (Fault e) = (fault_of e ≡ out_of_memory) ⊎ OfEvery head tail size (λ b. reading_of b ss ≡ Err (fault_of e))
-IsReading head tail size ss (Lacks lack) = IsLack head tail size lack
+IsReading head tail size ss (Lacks lack) = IsLackOf (λ b. reading_ranges b ss) head tail size lack

@@ -7,7 +7,8 @@ ghost use Rattle.gptman.specs.Copy.{copy_of_whole};
 ghost use Rattle.gptman.specs.Fault.{fault_of, out_of_memory};
 ghost use Rattle.gptman_ends.specs.Checking.{number_in, AreCopiesTold, AreFoundIn, IsLook};
 ghost use Rattle.gptman_ends.specs.Ends.{disk_bytes};
-ghost use Rattle.gptman_ends.specs.Reading.{IsLack};
+ghost use Rattle.gptman_ends.specs.Reading.{IsLackOf};
+ghost use Rattle.gptman_ends.specs.Rounds.{reading_ranges};
 
 use crate::ends::Ends;
 use crate::faults::number_of;
@@ -59,7 +60,7 @@ fn lack_of_copies(
     requires sector { 0 < sector_size }
     requires apart { length head.now + length tail.now ≤ size }
     ensures told { IfOk result (λ o. MatchOption o (AreCopiesTold head.now tail.now size sector_size)
-        (IsLack head.now tail.now size)) }
+        (IsLackOf (λ b. reading_ranges b sector_size) head.now tail.now size)) }
     ensures refused { IfErr result (λ e. fault_of e ≡ out_of_memory) }
 {
     if let Some(lack) = lack_of_copy(alloc, head, tail, size, sector_size, sector_size)? {

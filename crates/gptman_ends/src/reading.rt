@@ -2,14 +2,15 @@
 //! these ends, though it is read from the one with zeros between them.
 
 ghost use Rattle.std.specs.Prelude.{◌≡◌, ◌≤◌, ◌<◌, ◌⊎◌, ◌+◌, length, is_ok, IfErr, IfOk};
-ghost use Rattle.std.specs.Prelude.{IsErr, MatchOption, Ok};
+ghost use Rattle.std.specs.Prelude.{IfSome, IsErr, MatchOption, Ok};
 ghost use Rattle.gptman.specs.Answers.{answer_of, Refuses};
 ghost use Rattle.gptman.specs.Copy.{copy_at, header_result};
 ghost use Rattle.gptman.specs.Fault.{fault_of, out_of_memory};
 ghost use Rattle.gptman.specs.Reading.{reading_of};
 ghost use Rattle.gptman.specs.TableReads.{copy_of, IsAsRead};
 ghost use Rattle.gptman_ends.specs.Ends.{disk_bytes, IsKnown};
-ghost use Rattle.gptman_ends.specs.Reading.{IsArrayTold, IsCopyTold, IsLack, IsPlace, IsReading};
+ghost use Rattle.gptman_ends.specs.Reading.{IsArrayTold, IsCopyTold, IsLack, IsLackOf, IsPlace, IsReading};
+ghost use Rattle.gptman_ends.specs.Rounds.{copy_ranges, entries_range};
 
 use crate::ends::Ends;
 use gptman::disk::passes_end;
@@ -131,7 +132,7 @@ pub fn lack_of_copy(
 ) -> Result<Option<Lack>>
     requires { length head.now + length tail.now ≤ size }
     ensures told { IfOk result (λ o. MatchOption o (IsCopyTold head.now tail.now size at sector_size)
-        (IsLack head.now tail.now size)) }
+        (IsLackOf (λ b. copy_ranges b sector_size at) head.now tail.now size)) }
     ensures refused { IfErr result (λ e. fault_of e ≡ out_of_memory) }
 {
     if passes_end(size, at, 92) {
@@ -182,7 +183,7 @@ fn lack_of_entries(
 ) -> Option<Lack>
     requires { length head.now + length tail.now ≤ size }
     ensures told { MatchOption result (IsArrayTold head.now tail.now size sector_size header.now)
-        (IsLack head.now tail.now size) }
+        (IsLackOf (λ _. entries_range sector_size (Ok header.now)) head.now tail.now size) }
 {
     if header.number_of_partition_entries == 0 || header.size_of_partition_entry != 128 {
         return None;
@@ -201,6 +202,7 @@ pub fn lack_of(head: &[u8], tail: &[u8], size: u64, from: u64, len: u64) -> Opti
     requires inside { from + len ≤ size }
     ensures known { MatchOption result (IsKnown (length head.now) (length tail.now) size (from, len))
         (IsLack head.now tail.now size) }
+    ensures asked { IfSome result (λ lack. (lack.from ≡ from) × (lack.length ≡ len)) }
 {
     let first = head.len() as u64;
     let last = tail.len() as u64;

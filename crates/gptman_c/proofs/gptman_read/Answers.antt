@@ -18,4 +18,4 @@ pub returns-in-Lacks-clause-whole : goal.returns-in-Lacks-clause-whole
 returns-in-Lacks-clause-whole c = λ _.
     let a = c.args in
     let lack = c.in-Lacks.ensures.reading in
-    ends_apart (length a.head.now) (length a.tail.now) a.disk_size c.in-Lacks.lack.from c.in-Lacks.lack.length lack.0 lack.1
+    ends_apart (length a.head.now) (length a.tail.now) a.disk_size c.in-Lacks.lack.from c.in-Lacks.lack.length lack.lacking.0 lack.lacking.1

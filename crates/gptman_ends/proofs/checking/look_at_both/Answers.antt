@@ -1,6 +1,7 @@
 use Rattle.gptman_ends.specs.Checking.{AreCopiesTold}
 use Rattle.gptman_ends.specs.Ends.{disk_bytes}
-use Rattle.gptman_ends.specs.Reading.{IsLack}
+use Rattle.gptman_ends.specs.Reading.{IsLackOf}
+use Rattle.gptman_ends.specs.Rounds.{reading_ranges}
 use Rattle.gptman_ends.proofs.Checked.{check_told}
 use Rattle.gptman_ends.proofs.Told.{at_none}
 use Rattle.gptman_ends.proofs.checking.look_at_both.Goals as goal
@@ -11,6 +12,6 @@ returns-clause-look c = λ b ends.
     let tail = c.args.tail.now in
     let size = c.args.size in
     let ss = c.args.sector_size in
-    let told = at_none (AreCopiesTold head tail size ss) (IsLack head tail size) c.in_ok-lack.field-0 c.in_default.is c.in_ok-lack.ensures.told in
+    let told = at_none (AreCopiesTold head tail size ss) (IsLackOf (λ b. reading_ranges b ss) head tail size) c.in_ok-lack.field-0 c.in_default.is c.in_ok-lack.ensures.told in
     let made = c.check_of.ensures in
     check_told (disk_bytes head tail size) b ss c.in_ok-copies.copies c.check_of.result (λ side. told side b ends) c.in_ok-copies.ensures.found made.primary made.backup made.same made.flag

@@ -1,7 +1,9 @@
-use Rattle.std.proofs.Common.{◌≡◌, ◌<◌, ◌+◌, ◌*◌, ◌^◌, ℕ, length, refl, subst, arith}
+use Rattle.std.proofs.Common.{◌≡◌, ◌<◌, ◌+◌, ◌*◌, ◌^◌, ℕ, Ok, inl, length, refl, subst, arith}
 use Rattle.gptman_ends.specs.Ends.{IsKnown}
-use Rattle.gptman_ends.specs.Reading.{IsArrayTold, IsLack}
-use Rattle.gptman_ends.proofs.Told.{beyond_array, known_array, matched, no_array, short_array, wrong_array}
+use Rattle.gptman_ends.specs.Reading.{IsArrayTold}
+use Rattle.gptman_ends.specs.Rounds.{entries_range}
+use Rattle.gptman_ends.proofs.Asked.{told_or_lack}
+use Rattle.gptman_ends.proofs.Told.{beyond_array, known_array, no_array, short_array, wrong_array}
 use Rattle.gptman_ends.proofs.reading.lack_of_entries.Goals as goal
 use Rattle.gptman_ends.proofs.reading.lack_of_entries.Goals.{then-header-eq0-via-then-header-eq0, then-header-eq0-via-else-header-eq0+then-header-ne128}
 
@@ -37,13 +39,14 @@ returns-then-passes_end c =
 
 pub returns : goal.returns
 returns c =
-    let h = c.args.header.now in
-    let start : c.in_ok-start.start ≡ h.partition_entry_lba * c.args.sector_size = c.in_ok-start.ensures.1 in
+    let a = c.args in
+    let h = a.header.now in
+    let start : c.in_ok-start.start ≡ h.partition_entry_lba * a.sector_size = c.in_ok-start.ensures.1 in
     let long : 128 * c.from-len.result ≡ 128 * h.number_of_partition_entries = omega (arith, c.from-len.ensures) in
+    let made : ◌≡◌ {A = ℕ × ℕ} (c.in_ok-start.start, 128 * c.from-len.result) (h.partition_entry_lba * a.sector_size, 128 * h.number_of_partition_entries) = λ i. (start i, long i) in
     record {
-      told = matched (IsKnown (length c.args.head.now) (length c.args.tail.now) c.args.size (c.in_ok-start.start, 128 * c.from-len.result))
-          (IsArrayTold c.args.head.now c.args.tail.now c.args.size c.args.sector_size h) (IsLack c.args.head.now c.args.tail.now c.args.size) c.lack_of.result
-          (λ known. known_array c.args.head.now c.args.tail.now c.args.size c.requires c.args.sector_size h
-          (subst (λ (n : ℕ). IsKnown (length c.args.head.now) (length c.args.tail.now) c.args.size (n, 128 * h.number_of_partition_entries)) start
-          (subst (λ (n : ℕ). IsKnown (length c.args.head.now) (length c.args.tail.now) c.args.size (c.in_ok-start.start, n)) long known))) c.lack_of.ensures.known;
+      told = told_or_lack a.head.now a.tail.now a.size (λ _. entries_range a.sector_size (Ok h)) (IsArrayTold a.head.now a.tail.now a.size a.sector_size h)
+          c.in_ok-start.start (128 * c.from-len.result) c.lack_of.result (λ b ends. inl made)
+          (λ known. known_array a.head.now a.tail.now a.size c.requires a.sector_size h (subst (λ (r : ℕ × ℕ). IsKnown (length a.head.now) (length a.tail.now) a.size r) made known))
+          c.lack_of.ensures.known c.lack_of.ensures.asked;
     }
