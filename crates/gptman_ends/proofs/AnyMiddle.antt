@@ -10,10 +10,10 @@ use Rattle.gptman.specs.Stop.{HoldsOneOf}
 use Rattle.gptman.specs.Table.{Table}
 use Rattle.gptman.proofs.Held.{holds_local}
 use Rattle.gptman_ends.specs.Ends.{HasEnds, AreRangesKnown, ArePlacesKnown, disk_bytes}
-use Rattle.gptman_ends.specs.Plan.{Act, AreKnown, view_of, pending_of, LeftBy}
+use Rattle.gptman_ends.specs.Plan.{Act, view_of, pending_of, LeftBy}
 use Rattle.gptman_copy.proofs.Ranges.{Ranges, agrees_back}
 use Rattle.gptman_copy.proofs.Overlays.{length-overlay, overlay_below, overlay_above, overlay_inside}
-use Rattle.gptman_ends.proofs.Middle.{middle_of, ends_zero, same_ends, agrees_known, length-view, view_both, known_take, cases_middle, still_middle, clear_pending}
+use Rattle.gptman_ends.proofs.Middle.{AreKnown, middle_of, ends_zero, same_ends, agrees_known, length-view, view_both, known_take, cases_middle, still_middle, clear_pending}
 
 -- a side is held by all that agree outside of the middle, where its places are known
 pub holds_known : (first last size : ℕ) (a b : List ℕ) (ss : ℕ) (side : Side) (t : Table) → length a ≡ size → AgreesOutside (middle_of first last size) a b

@@ -13,13 +13,14 @@ use Rattle.gptman.proofs.ReadKept.{takes_in_form}
 use Rattle.gptman.proofs.SameTable.{contains_cases}
 use Rattle.gptman_ends.specs.Crossing.{four_ranges, with_partitions}
 use Rattle.gptman_ends.specs.Ends.{ArePlacesKnown, AreRangesKnown, HasEnds, disk_bytes}
-use Rattle.gptman_ends.specs.Plan.{Act, AreKnown}
+use Rattle.gptman_ends.specs.Plan.{Act, LeftBy}
 use Rattle.gptman_ends.specs.Planning.{IsPlan, IsSafePlan}
 use Rattle.gptman_ends.specs.Reading.{IsTable, side_of}
 use Rattle.gptman_ends.specs.declared.records.Partition.{Partition}
 use Rattle.gptman_ends.proofs.AnyMiddle.{after_any, others_any, stops_any}
 use Rattle.gptman_ends.proofs.Known.{length-disk_bytes}
-use Rattle.gptman_ends.proofs.Middle.{ends_zero}
+use Rattle.gptman_ends.proofs.KnownActs.{are_known}
+use Rattle.gptman_ends.proofs.Middle.{AreKnown, ends_zero}
 
 -- the two ranges at a side are known where all four are
 pub at_side : (first last size ss : ℕ) (t : Table) (side : Side) → AreRangesKnown first last size (four_ranges t ss size) → AreRangesKnown first last size (copy_ranges_at side t ss size)
@@ -61,7 +62,7 @@ module _ (head tail : List ℕ) (size : ℕ) (apart : length head + length tail 
   }
 
   module _ (told : IsTable head tail size g.sector_size g is_backup) (form : IsHeaderForm (side_of is_backup) g.header) (laid : IsLaidOut (table_in g) g.sector_size size)
-      (count : length partitions ≡ (table_in g).count) (known : AreKnown (length head) (length tail) size acts)
+      (count : length partitions ≡ (table_in g).count)
       (places : AreInside (four_ranges (table_in g) g.sector_size size) size → AreRangesKnown (length head) (length tail) size (four_ranges (table_in g) g.sector_size size))
       (safe_zero : IsReadInForm zero g → IsLaidOut next g.sector_size size → IsSafePlan zero g.sector_size (table_in g) next acts) (b : List ℕ) (ends : HasEnds b head tail size) where
     form_of : (x : List ℕ) → HasEnds x head tail size → IsHeaderForm (taken_from x g.sector_size) g.header
@@ -70,20 +71,32 @@ module _ (head tail : List ℕ) (size : ℕ) (apart : length head + length tail 
     in_form : IsReadInForm zero g
     in_form = let of_zero = ends_zero head tail size apart in takes_in_form zero g (told.reading zero of_zero) (form_of zero of_zero)
 
-    lift : AreRangesKnown (length head) (length tail) size (four_ranges (table_in g) g.sector_size size) → IsSafePlan zero g.sector_size (table_in g) next acts
-        → IsSafePlan b g.sector_size (table_in g) next acts
-    lift four plan =
-        let all : length zero ≡ size = length-disk_bytes head tail size apart in
-        let others : (y : List ℕ) → _ = λ y left. subst (λ (n : ℕ). AgreesOutside (four_ranges next g.sector_size n) zero y) all (plan.others y left) in
-        record {
-          stops = stops_any head tail b size apart ends acts known g.sector_size (table_in g ∷ next ∷ []) (both_places (length head) (length tail) size g.sector_size (table_in g) next four four) plan.stops;
-          others = λ x left.
-              subst (λ (n : ℕ). AgreesOutside (four_ranges next g.sector_size n) b x) (sym ends.long)
-              (others_any head tail b size apart ends acts known (four_ranges next g.sector_size size) others x left);
-          synced = plan.synced;
-          at_primary = after_any head tail b size apart ends acts known g.sector_size primary next (at_side (length head) (length tail) size g.sector_size next primary four) plan.at_primary;
-          at_backup = after_any head tail b size apart ends acts known g.sector_size backup next (at_side (length head) (length tail) size g.sector_size next backup four) plan.at_backup;
-        }
+    four : AreRangesKnown (length head) (length tail) size (four_ranges (table_in g) g.sector_size size)
+    four = places laid.inside
+
+    all : length zero ≡ size
+    all = length-disk_bytes head tail size apart
+
+    plan : IsSafePlan zero g.sector_size (table_in g) next acts
+    plan = safe_zero in_form (laid_too count laid)
+
+    others : (y : List ℕ) → LeftBy zero acts 0 y → AgreesOutside (four_ranges next g.sector_size size) zero y
+    others y left = subst (λ (n : ℕ). AgreesOutside (four_ranges next g.sector_size n) zero y) all (plan.others y left)
+
+    -- they leave all bytes outside of the four ranges alone
+    known : AreKnown (length head) (length tail) size acts
+    known = are_known (length head) (length tail) size apart zero all (four_ranges next g.sector_size size) four acts others
+
+    safe : IsSafePlan b g.sector_size (table_in g) next acts
+    safe = record {
+      stops = stops_any head tail b size apart ends acts known g.sector_size (table_in g ∷ next ∷ []) (both_places (length head) (length tail) size g.sector_size (table_in g) next four four) plan.stops;
+      others = λ x left.
+          subst (λ (n : ℕ). AgreesOutside (four_ranges next g.sector_size n) b x) (sym ends.long)
+          (others_any head tail b size apart ends acts known (four_ranges next g.sector_size size) others x left);
+      synced = plan.synced;
+      at_primary = after_any head tail b size apart ends acts known g.sector_size primary next (at_side (length head) (length tail) size g.sector_size next primary four) plan.at_primary;
+      at_backup = after_any head tail b size apart ends acts known g.sector_size backup next (at_side (length head) (length tail) size g.sector_size next backup four) plan.at_backup;
+    }
 
     pub plan_any : IsPlan b g.sector_size partitions acts
     plan_any = record {
@@ -91,5 +104,5 @@ module _ (head tail : List ℕ) (size : ℕ) (apart : length head + length tail 
       taken = told.reading b ends;
       form = form_of b ends;
       laid = subst (λ (n : ℕ). IsLaidOut (table_in g) g.sector_size n) (sym ends.long) laid;
-      safe = lift (places laid.inside) (safe_zero in_form (laid_too count laid));
+      safe = safe;
     }

@@ -1,8 +1,8 @@
 -- A plan that writes the backup copy and syncs, and then writes the primary copy.
 use Rattle.std.proofs.Common.{◌≡◌, ◌≢◌, ◌⊎◌, inl, inr, ⊎_elim, ◌≤◌, ◌<◌, true, false, Bool, ℕ, zero, suc, ◌+◌, ◌-◌, List, [], ◌∷◌, ◌++◌, length, take, drop, length-drop, refl, sym, ◌∙◌, ap, subst, arith}
 use Rattle.std.specs.List.{fold}
-use Rattle.std.specs.Prelude.{get_or, nat_eq, if◌then◌else◌}
-use Rattle.std.proofs.lemmas.Bool.{cases_lt, and_parts, eq-eqb}
+use Rattle.std.specs.Prelude.{get_or, leb, nat_eq, if◌then◌else◌}
+use Rattle.std.proofs.lemmas.Bool.{cases_lt, and_parts, eq-eqb, leb-true}
 use Rattle.std.proofs.lemmas.List.{drop_all, drop_more, get_or_at, length-take-le, map-append, take_all, take-append-drop, take-append-le, take_more}
 use Rattle.std.proofs.lemmas.List.Folds.{list_all-append}
 use Rattle.std.proofs.lemmas.List.Sums.{fold-append}
@@ -15,15 +15,14 @@ use Rattle.gptman.specs.Table.{Table}
 use Rattle.gptman.proofs.Apart.{agrees_in}
 use Rattle.gptman.proofs.FourRanges.{sides_clear}
 use Rattle.gptman.proofs.Held.{holds_local}
-use Rattle.gptman_copy.proofs.Overlays.{length-overlay, overlay_above, overlay_below}
+use Rattle.gptman_copy.proofs.Overlays.{length-overlay, overlay_above, overlay_below, overlay_nothing}
 use Rattle.gptman_copy.proofs.Ranges.{Ranges, agrees_back, agrees_self, agrees_then, contains_first, contains_later}
-use Rattle.gptman_ends.specs.Plan.{Act, AreKnown, IsActKnown, LeftBy, act_of, acts_of, pending_of, pending_step, step_fits, steps_fit, view_of, view_step}
+use Rattle.gptman_ends.specs.Plan.{Act, LeftBy, act_of, acts_of, pending_of, pending_step, step_fits, steps_fit, view_of, view_step}
 use Rattle.gptman_ends.specs.Plan.Act.{lay, store}
 use Rattle.gptman_ends.specs.Planning.{IsReplaced}
 use Rattle.gptman_ends.specs.Turns.{AreActsWithin, AreInTurns, AreStepsInTurns, AreStepsWithin, BeginsOutside, IsActWithin, IsInOneOf, IsRun, IsStepWithin}
 use Rattle.gptman_ends.specs.declared.records.Step.{Step}
-use Rattle.gptman_ends.proofs.KnownSteps.{first_fits}
-use Rattle.gptman_ends.proofs.Middle.{fits_known, known_take, length-view}
+use Rattle.gptman_ends.proofs.Middle.{AreKnown, IsActKnown, fits_known, known_take, length-view}
 
 -- ---- acts that write in some ranges
 
@@ -49,11 +48,12 @@ pending_within rs pending (e ∷ acts) k within out other = pending_within rs (p
 
 module _ (first last size : ℕ) (apart : first + last ≤ size) (rs : Ranges) where
   step_within : (a : List ℕ) (e : Act) → length a ≡ size → IsActKnown first last size e → IsActWithin rs e → AgreesOutside rs a (view_step a e)
-  step_within a (lay at bytes) long known within =
-      let fits : at + length bytes ≤ length a = omega (arith, long, fits_known first last size apart (at, length bytes) known) in
+  step_within a (lay at []) long known within = subst (λ (l : List ℕ). AgreesOutside rs a l) (sym (overlay_nothing a at)) (agrees_self rs a)
+  step_within a (lay at (x ∷ bytes)) long known within =
+      let fits : at + length (x ∷ bytes) ≤ length a = omega (arith, long, fits_known first last size apart (at, length (x ∷ bytes)) known) in
       record {
-        long = length-overlay a at bytes fits;
-        same = λ k out. ⊎_elim (overlay_below a at bytes fits k) (overlay_above a at bytes fits k) (outside_one rs (at, length bytes) k within out);
+        long = length-overlay a at (x ∷ bytes) fits;
+        same = λ k out. ⊎_elim (overlay_below a at (x ∷ bytes) fits k) (overlay_above a at (x ∷ bytes) fits k) (outside_one rs (at, length (x ∷ bytes)) k within out);
       }
   step_within a store long known within = agrees_self rs a
 
@@ -185,6 +185,13 @@ within_more rs (t ∷ steps) s within here = (within.0, within_more rs steps s w
 fewer_within : (rs : Ranges) (steps : List Step) (s : Step) → AreStepsWithin rs (steps ++ s ∷ []) → AreStepsWithin rs steps
 fewer_within rs [] s within = tt
 fewer_within rs (t ∷ steps) s within = (within.0, fewer_within rs steps s within.1)
+
+-- the first of steps that fit
+first_fits : (size n : ℕ) (s : Step) (rest : List Step) → steps_fit size n (s ∷ rest) ≡ true → (s.offset + s.length ≤ size) × (s.start + s.length ≤ n) × (steps_fit size n rest ≡ true)
+first_fits size n s rest fits =
+    let two = and_parts (step_fits size n s) (steps_fit size n rest) fits in
+    let one = and_parts (leb (s.offset + s.length) size) (leb (s.start + s.length) n) two.0 in
+    (leb-true (s.offset + s.length) size one.0, leb-true (s.start + s.length) n one.1, two.1)
 
 by_kind : (rs : Ranges) (bytes : List ℕ) (s : Step) (b : Bool) → nat_eq s.kind 2 ≡ b → s.start + s.length ≤ length bytes → IsStepWithin rs s
     → IsActWithin rs (if b then store else lay s.offset (part bytes s.start s.length))

@@ -7,7 +7,7 @@ pub mod Checked
 pub mod Fitted
 pub mod InTurns
 pub mod Known
-pub mod KnownSteps
+pub mod KnownActs
 pub mod Middle
 pub mod Numbered
 pub mod Planned

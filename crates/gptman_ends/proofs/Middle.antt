@@ -1,5 +1,5 @@
 -- The bytes between the ends of a disk, which acts in the ends leave alone.
-use Rattle.std.proofs.Common.{◌≡◌, ◌⊎◌, inl, inr, ⊎_elim, ◌<◌, ◌≤◌, ℕ, zero, suc, ◌+◌, ◌-◌, add-zero, List, [], ◌∷◌, length, get_or, take, drop, refl, sym, ◌∙◌, ap, arith}
+use Rattle.std.proofs.Common.{◌≡◌, ◌⊎◌, inl, inr, ⊎_elim, ◌<◌, ◌≤◌, ℕ, zero, suc, ◌+◌, ◌-◌, add-zero, List, [], ◌∷◌, length, get_or, take, drop, refl, sym, ◌∙◌, ap, subst, arith}
 use Rattle.std.specs.List.{fold}
 use Rattle.std.proofs.lemmas.List.{take_all, get_or-take, get_or-drop, get_or_past}
 use Rattle.std.proofs.lemmas.Bool.{cases_lt}
@@ -7,10 +7,10 @@ use Rattle.gptman.specs.Bytes.{part}
 use Rattle.gptman.specs.Disk.{Outside, AgreesOutside, overlay}
 use Rattle.gptman.specs.Ranges.{AgreesInside, Inside, IsApartFromAll}
 use Rattle.gptman_ends.specs.Ends.{HasEnds, IsKnown, AreRangesKnown, disk_bytes}
-use Rattle.gptman_ends.specs.Plan.{Act, IsActKnown, AreKnown, view_step, pending_step, view_of, pending_of}
+use Rattle.gptman_ends.specs.Plan.{Act, view_step, pending_step, view_of, pending_of}
 use Rattle.gptman_ends.specs.Plan.Act.{lay, store}
 use Rattle.gptman_copy.proofs.Ranges.{Ranges}
-use Rattle.gptman_copy.proofs.Overlays.{outside_apart, part_same, length-overlay, overlay_below, overlay_above, overlay_inside}
+use Rattle.gptman_copy.proofs.Overlays.{outside_apart, part_same, length-overlay, overlay_below, overlay_above, overlay_inside, overlay_nothing}
 use Rattle.gptman_ends.proofs.Known.{length-disk_bytes, known_head, known_tail}
 
 -- the bytes that the ends do not tell
@@ -90,6 +90,17 @@ agrees_known first last size rs a b known agrees = record { long = agrees.long; 
 
 -- ---- what acts in the ends do
 
+-- the bytes of the act, if it has any, lie in one of the ends of a disk of size bytes, of which the first has `first` bytes and the last `last`
+abbrev pub IsActKnown : ℕ → ℕ → ℕ → Act → Type 0
+IsActKnown first last size (lay at []) = Unit {0}
+IsActKnown first last size (lay at (x ∷ bytes)) = IsKnown first last size (at, length (x ∷ bytes))
+IsActKnown first last size store = Unit {0}
+
+-- those of each of the acts do
+abbrev pub AreKnown : ℕ → ℕ → ℕ → List Act → Type 0
+AreKnown first last size [] = Unit {0}
+AreKnown first last size (act ∷ acts) = IsActKnown first last size act × AreKnown first last size acts
+
 -- the same bytes laid over two lists
 overlay_both : (rs : Ranges) (a b : List ℕ) (at : ℕ) (bytes : List ℕ) → at + length bytes ≤ length a → AgreesOutside rs a b → AgreesOutside rs (overlay a at bytes) (overlay b at bytes)
 overlay_both rs a b at bytes fits agrees = record {
@@ -113,7 +124,8 @@ module _ (first last size : ℕ) (apart : first + last ≤ size) where
   fits_known r (inr (inr met)) = met.1
 
   length-step : (a : List ℕ) (e : Act) → length a ≡ size → IsActKnown first last size e → length (view_step a e) ≡ size
-  length-step a (lay at bytes) long known = length-overlay a at bytes (omega (arith, long, fits_known (at, length bytes) known)) ∙ long
+  length-step a (lay at []) long known = ap (λ (l : List ℕ). length l) (overlay_nothing a at) ∙ long
+  length-step a (lay at (x ∷ bytes)) long known = length-overlay a at (x ∷ bytes) (omega (arith, long, fits_known (at, length (x ∷ bytes)) known)) ∙ long
   length-step a store long known = long
 
   pub length-view : (a : List ℕ) (acts : List Act) → length a ≡ size → AreKnown first last size acts → length (view_of a acts) ≡ size
@@ -121,7 +133,9 @@ module _ (first last size : ℕ) (apart : first + last ≤ size) where
   length-view a (e ∷ acts) long known = length-view (view_step a e) acts (length-step a e long known.0) known.1
 
   step_both : (rs : Ranges) (a b : List ℕ) (e : Act) → length a ≡ size → IsActKnown first last size e → AgreesOutside rs a b → AgreesOutside rs (view_step a e) (view_step b e)
-  step_both rs a b (lay at bytes) long known agrees = overlay_both rs a b at bytes (omega (arith, long, fits_known (at, length bytes) known)) agrees
+  step_both rs a b (lay at []) long known agrees =
+      subst (λ (l : List ℕ). AgreesOutside rs l (overlay b at [])) (sym (overlay_nothing a at)) (subst (λ (l : List ℕ). AgreesOutside rs a l) (sym (overlay_nothing b at)) agrees)
+  step_both rs a b (lay at (x ∷ bytes)) long known agrees = overlay_both rs a b at (x ∷ bytes) (omega (arith, long, fits_known (at, length (x ∷ bytes)) known)) agrees
   step_both rs a b store long known agrees = agrees
 
   -- where two disks agreed they still do
@@ -142,15 +156,16 @@ module _ (first last size : ℕ) (apart : first + last ≤ size) where
       (cases_lt k first)
 
   module _ (k : ℕ) (low : first ≤ k) (high : k < first + (size - (first + last))) where
-    clear : (r : ℕ × ℕ) → IsKnown first last size r → (k < r.0) ⊎ (r.0 + r.1 ≤ k)
+    pub clear : (r : ℕ × ℕ) → IsKnown first last size r → (k < r.0) ⊎ (r.0 + r.1 ≤ k)
     clear r (inl before) = inr (omega (arith, before, low))
     clear r (inr (inl behind)) = inl (omega (arith, behind.0, high, apart))
     clear r (inr (inr met)) = absurd (omega (arith, met.0, low, high))
 
     still_step : (a : List ℕ) (e : Act) → length a ≡ size → IsActKnown first last size e → get_or (view_step a e) k 0 ≡ get_or a k 0
-    still_step a (lay at bytes) long known =
-        let fits : at + length bytes ≤ length a = omega (arith, long, fits_known (at, length bytes) known) in
-        ⊎_elim (overlay_below a at bytes fits k) (overlay_above a at bytes fits k) (clear (at, length bytes) known)
+    still_step a (lay at []) long known = ap (λ (l : List ℕ). get_or l k 0) (overlay_nothing a at)
+    still_step a (lay at (x ∷ bytes)) long known =
+        let fits : at + length (x ∷ bytes) ≤ length a = omega (arith, long, fits_known (at, length (x ∷ bytes)) known) in
+        ⊎_elim (overlay_below a at (x ∷ bytes) fits k) (overlay_above a at (x ∷ bytes) fits k) (clear (at, length (x ∷ bytes)) known)
     still_step a store long known = refl
 
     -- a byte of the middle is as it was
@@ -159,7 +174,8 @@ module _ (first last size : ℕ) (apart : first + last ≤ size) where
     still_middle a (e ∷ acts) long known = still_middle (view_step a e) acts (length-step a e long known.0) known.1 ∙ still_step a e long known.0
 
     clear_step : (pending : Ranges) (e : Act) → IsActKnown first last size e → Outside pending k → Outside (pending_step pending e) k
-    clear_step pending (lay at bytes) known out = (clear (at, length bytes) known, out)
+    clear_step pending (lay at []) known out = (⊎_elim (λ below. inl below) (λ above. inr (omega (arith, above))) (cases_lt k at), out)
+    clear_step pending (lay at (x ∷ bytes)) known out = (clear (at, length (x ∷ bytes)) known, out)
     clear_step pending store known out = tt
 
     clear_fold : (pending : Ranges) (acts : List Act) → AreKnown first last size acts → Outside pending k → Outside (fold pending_step pending acts) k

@@ -11,13 +11,15 @@ use Rattle.gptman.specs.TableWrites.{RefusesTable}
 use Rattle.gptman.specs.declared.table.GPT.{GPT}
 use Rattle.gptman_ends.specs.Crossing.{four_ranges}
 use Rattle.gptman_ends.specs.Ends.{AreRangesKnown, HasEnds, disk_bytes}
-use Rattle.gptman_ends.specs.Plan.{Act, AreKnown, LeftBy, plan_state}
+use Rattle.gptman_ends.specs.Plan.{Act, LeftBy, plan_state}
 use Rattle.gptman_ends.specs.Planning.{Cause, IsNewPlan, IsReplaced, IsTablePlan, IsWrittenPlan, StopsNew, StopsTable}
 use Rattle.gptman_ends.specs.Planning.Cause.{bad_argument, a_fault, other_length, other_layout}
 use Rattle.gptman_ends.specs.Turns.{AreInTurns, header_ranges}
 use Rattle.gptman_ends.proofs.AnyMiddle.{after_any, others_any}
 use Rattle.gptman_ends.proofs.AnyPlan.{at_side}
 use Rattle.gptman_ends.proofs.Known.{length-disk_bytes}
+use Rattle.gptman_ends.proofs.KnownActs.{are_known}
+use Rattle.gptman_ends.proofs.Middle.{AreKnown}
 use Rattle.gptman_ends.proofs.Planned.{IsAfter}
 use Rattle.gptman_ends.proofs.InTurns.{replaced}
 
@@ -58,7 +60,7 @@ module _ (start : List ℕ) (size : ℕ) (g : GPT) (acts : List Act) (old new : 
 
 -- ---- and to every disk with these ends
 
-module _ (head tail : List ℕ) (size : ℕ) (apart : length head + length tail ≤ size) (g : GPT) (acts : List Act) (known : AreKnown (length head) (length tail) size acts)
+module _ (head tail : List ℕ) (size : ℕ) (apart : length head + length tail ≤ size) (g : GPT) (acts : List Act)
     (places : AreInside (four_ranges (table_in g) g.sector_size size) size → AreRangesKnown (length head) (length tail) size (four_ranges (table_in g) g.sector_size size))
     (written : HasLayout g size → IsWrittenPlan (disk_bytes head tail size) g.sector_size (table_in g) acts)
     (turns : IsHeaderForm primary g.header → AreInTurns (header_ranges backup g.header g.sector_size size) (header_ranges primary g.header g.sector_size size) acts)
@@ -75,11 +77,16 @@ module _ (head tail : List ℕ) (size : ℕ) (apart : length head + length tail 
   four : AreRangesKnown (length head) (length tail) size (four_ranges (table_in g) g.sector_size size)
   four = places layout.table.inside
 
+  others : (y : List ℕ) → LeftBy zero acts 0 y → AgreesOutside (four_ranges (table_in g) g.sector_size size) zero y
+  others y left = subst (λ (n : ℕ). AgreesOutside (four_ranges (table_in g) g.sector_size n) zero y) all ((written layout).others y left)
+
+  -- they leave all bytes outside of the four ranges alone
+  known : AreKnown (length head) (length tail) size acts
+  known = are_known (length head) (length tail) size apart zero all (four_ranges (table_in g) g.sector_size size) four acts others
+
   written_any : IsWrittenPlan b g.sector_size (table_in g) acts
   written_any =
       let plan = written layout in
-      let others : (y : List ℕ) → LeftBy zero acts 0 y → AgreesOutside (four_ranges (table_in g) g.sector_size size) zero y =
-      λ y left. subst (λ (n : ℕ). AgreesOutside (four_ranges (table_in g) g.sector_size n) zero y) all (plan.others y left) in
       record {
         others = λ x left.
             subst (λ (n : ℕ). AgreesOutside (four_ranges (table_in g) g.sector_size n) b x) (sym ends.long)

@@ -3,7 +3,6 @@ use Rattle.std.specs.Prelude.{◌≡◌, ◌≤◌, ◌+◌, ◌&&◌, ◌||◌,
 use Rattle.std.specs.List.{fold, list_all}
 use Rattle.gptman.specs.Bytes.{part}
 use Rattle.gptman.specs.Disk.{DiskState, IsSound, AgreesOutside, overlay}
-use Rattle.gptman_ends.specs.Ends.{IsKnown}
 use Rattle.gptman_ends.specs.declared.records.Step.{Step}
 use Rattle.std.proofs.Common.{subst, sym, arith}
 use Rattle.std.proofs.lemmas.List.{take_all}
@@ -41,16 +40,6 @@ view_step view store = view
 abbrev pub pending_step : List (ℕ × ℕ) → Act → List (ℕ × ℕ)
 pending_step pending (lay at bytes) = (at, length bytes) ∷ pending
 pending_step pending store = []
-
--- the bytes of the act lie in one of the ends of a disk of size bytes, of which the first has `first` bytes and the last `last`
-abbrev pub IsActKnown : ℕ → ℕ → ℕ → Act → Type 0
-IsActKnown first last size (lay at bytes) = IsKnown first last size (at, length bytes)
-IsActKnown first last size store = Unit {0}
-
--- those of each of the acts do
-abbrev pub AreKnown : ℕ → ℕ → ℕ → List Act → Type 0
-AreKnown first last size [] = Unit {0}
-AreKnown first last size (act ∷ acts) = IsActKnown first last size act × AreKnown first last size acts
 
 -- the bytes that a read gives after these acts
 abbrev pub view_of : List ℕ → List Act → List ℕ

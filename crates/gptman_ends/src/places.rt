@@ -7,12 +7,9 @@ ghost use Rattle.gptman.specs.Reading.{primary, backup};
 ghost use Rattle.gptman.specs.Table.{table_in};
 ghost use Rattle.gptman_ends.specs.Crossing.{four_ranges};
 ghost use Rattle.gptman_ends.specs.Ends.{AreRangesKnown, IsKnown};
-ghost use Rattle.gptman_ends.specs.Plan.{acts_of, AreKnown};
 ghost use Rattle.gptman_ends.specs.Reading.{IsLack};
 
 use crate::reading::{Lack, lack_of};
-use crate::record::Record;
-use crate::records::Step;
 use gptman::GPT;
 use gptman::disk::passes_end;
 use gptman_copy::copy::last_sector;
@@ -43,39 +40,6 @@ pub fn lack_of_places(head: &[u8], tail: &[u8], size: u64, table: &GPT) -> Optio
         .checked_mul(sector_size)?;
     let header = last_sector(size, sector_size);
     lack_of_both(head, tail, size, header, start, array)
-}
-
-/// What the ends lack of the bytes that the steps write.
-#[tactic(auto, using(crate::proofs::KnownSteps::first_fits, crate::proofs::KnownSteps::known_more))]
-pub fn lack_of_steps(head: &[u8], tail: &[u8], plan: &Record) -> Option<Lack>
-    requires { length head.now + length tail.now ≤ plan.now.size }
-    ensures { MatchOption result
-        (AreKnown (length head.now) (length tail.now) plan.now.size
-        (acts_of plan.now.bytes.items plan.now.steps.items))
-        (IsLack head.now tail.now plan.now.size) }
-{
-    for step in &plan.steps {
-        let lack = lack_of_step(head, tail, plan.size, step);
-        if lack.is_some() {
-            return lack;
-        }
-    }
-    None
-}
-
-// What the ends lack of the bytes that the step writes.
-fn lack_of_step(head: &[u8], tail: &[u8], size: u64, step: &Step) -> Option<Lack>
-    requires apart { length head.now + length tail.now ≤ size }
-    requires inside { step.now.offset + step.now.length ≤ size }
-    ensures { MatchOption result
-        ((step.now.kind ≡ 2) ⊎ IsKnown (length head.now) (length tail.now) size
-        (step.now.offset, step.now.length))
-        (IsLack head.now tail.now size) }
-{
-    if step.kind == 2 {
-        return None;
-    }
-    lack_of(head, tail, size, step.offset, step.length)
 }
 
 // What the ends lack of a header and of an array of so many bytes, where these are on the disk.

@@ -14,7 +14,7 @@ ghost use Rattle.gptman_ends.specs.declared.records.Partition.{Partition};
 
 use crate::ends::Ends;
 use crate::layout::{is_made_for, is_stated};
-use crate::places::{lack_of_places, lack_of_steps};
+use crate::places::lack_of_places;
 use crate::reading::{Lack, Reading, read};
 use crate::record::Record;
 use crate::records::Partition;
@@ -53,15 +53,10 @@ pub fn plan(
     if count == 0 || partitions.len() as u64 != count || size < sector_size {
         return Err(Refusal::BadArgument);
     }
-    match lack_of_places(head, tail, size, &table) {
-        None => {}
-        Some(lack) => return Err(Refusal::Lacks(lack)),
+    if let Some(lack) = lack_of_places(head, tail, size, &table) {
+        return Err(Refusal::Lacks(lack));
     }
-    let plan = record_write(alloc, head, tail, size, &table, partitions)?;
-    match lack_of_steps(head, tail, &plan) {
-        None => Ok(plan),
-        Some(lack) => Err(Refusal::Lacks(lack)),
-    }
+    record_write(alloc, head, tail, size, &table, partitions)
 }
 
 // The table that the ends hold, where it has the stated layout.

@@ -9,7 +9,7 @@ ghost use Rattle.gptman_ends.specs.Plan.{acts_of};
 ghost use Rattle.gptman_ends.specs.Planning.{IsTablePlan, IsTableRefusal, IsWrittenPlan};
 
 use crate::ends::Ends;
-use crate::places::{lack_of_places, lack_of_steps};
+use crate::places::lack_of_places;
 use crate::planning::Refusal;
 use crate::record::Record;
 use crate::turns::is_in_turns;
@@ -48,10 +48,7 @@ pub fn plan_table(
     if !is_in_turns(&plan, &header, sector_size) {
         return Err(Refusal::Refused(Error::OutOfMemory));
     }
-    match lack_of_steps(head, tail, &plan) {
-        None => Ok(plan),
-        Some(lack) => Err(Refusal::Lacks(lack)),
-    }
+    Ok(plan)
 }
 
 // The steps that write this table to the disk with zeros between its ends.
