@@ -5,12 +5,13 @@
 #![tactic(auto)]
 
 ghost use Rattle.std.specs.Prelude.{◌≡◌, ◌≢◌, ◌≤◌, ◌<◌, ◌⊎◌, ◌+◌, ℕ, List, None, Some, length, take, true};
-ghost use Rattle.std.specs.Prelude.{drop, nat_eq};
+ghost use Rattle.std.specs.Prelude.{[], drop, nat_eq};
 ghost use Rattle.gptman.specs.Crc.{crc_of};
 ghost use Rattle.gptman.specs.Layout.{HasLayout};
 ghost use Rattle.gptman.specs.Mbr.{mbr_bytes, mbr_fault};
 ghost use Rattle.gptman.specs.Reading.{reading_of, taken_from};
 ghost use Rattle.gptman.specs.Table.{new_table_of};
+ghost use Rattle.gptman_ends.specs.Asking.{fit_ranges, plan_ranges, value_ranges};
 ghost use Rattle.gptman_ends.specs.Checking.{IsCheckTold};
 ghost use Rattle.gptman_ends.specs.Crossing.{HasCount, IsOffer, IsRefused, IsTold};
 ghost use Rattle.gptman_ends.specs.Dos.{IsDosDisk};
@@ -23,7 +24,7 @@ ghost use Rattle.gptman_ends.specs.Plan.{acts_of, are_writes_and_syncs, steps_fi
 ghost use Rattle.gptman_ends.specs.Planning.{AreNoEnds, HasPlan, IsFitPlan, IsMiscounted, IsNewPlan, IsNotStatedToFit};
 ghost use Rattle.gptman_ends.specs.Planning.{IsNumberOf, IsOfOtherLayout, IsOfOtherLength, IsPlan};
 ghost use Rattle.gptman_ends.specs.Planning.{needed_after, refusal_number, RefusesFit, RefusesNew, RefusesPlan};
-ghost use Rattle.gptman_ends.specs.Rounds.{reading_ranges, IsAmong};
+ghost use Rattle.gptman_ends.specs.Rounds.{first_sector, reading_ranges, IsAmong};
 
 use gptman::crc::crc32;
 use gptman_ends::checking::{Look, look_at_both};
@@ -230,6 +231,8 @@ pub extern "C" fn gptman_write(
         → ¬ IsKnown (length head.now) (length tail.now) disk_size (needed.new.from, needed.new.length) }
     ensures within { result ≡ 17 → needed.new.from + needed.new.length ≤ disk_size }
     ensures whole { result ≡ 17 → length head.now + length tail.now < disk_size }
+    ensures asked { result ≡ 17 → (b : List ℕ) → HasEnds b head.now tail.now disk_size
+        → IsAmong (needed.new.from, needed.new.length) (first_sector ∷ plan_ranges b sector_size) }
     ensures room { result ≡ 18
         → (length steps.old < needed.new.steps) ⊎ (length bytes.old < needed.new.bytes) }
     ensures suffices { result ≡ 18 → HasPlan (λ acts. (b : List ℕ) → HasEnds b head.now tail.now disk_size
@@ -301,6 +304,8 @@ pub extern "C" fn gptman_new(
         → ¬ IsKnown (length head.now) (length tail.now) disk_size (needed.new.from, needed.new.length) }
     ensures within { result ≡ 17 → needed.new.from + needed.new.length ≤ disk_size }
     ensures whole { result ≡ 17 → length head.now + length tail.now < disk_size }
+    ensures asked { result ≡ 17 → IsAmong (needed.new.from, needed.new.length) (first_sector ∷ value_ranges
+        (new_table_of table.now.entry_count table.now.disk_guid sector_size disk_size) disk_size) }
     ensures room { result ≡ 18
         → (length steps.old < needed.new.steps) ⊎ (length bytes.old < needed.new.bytes) }
     ensures suffices { result ≡ 18 → HasPlan (λ acts. (b : List ℕ) → HasEnds b head.now tail.now disk_size
@@ -394,6 +399,8 @@ pub extern "C" fn gptman_fit(
         → ¬ IsKnown (length head.now) (length tail.now) disk_size (needed.new.from, needed.new.length) }
     ensures within { result ≡ 17 → needed.new.from + needed.new.length ≤ disk_size }
     ensures whole { result ≡ 17 → length head.now + length tail.now < disk_size }
+    ensures asked { result ≡ 17 → (b : List ℕ) → HasEnds b head.now tail.now disk_size
+        → IsAmong (needed.new.from, needed.new.length) (first_sector ∷ fit_ranges b sector_size) }
     ensures room { result ≡ 18
         → (length steps.old < needed.new.steps) ⊎ (length bytes.old < needed.new.bytes) }
     ensures suffices { result ≡ 18 → HasPlan (λ acts. (b : List ℕ) → HasEnds b head.now tail.now disk_size
@@ -447,6 +454,7 @@ fn refuse_dos(
         → ¬ IsKnown (length head.now) (length tail.now) disk_size (needed.new.from, needed.new.length) }
     ensures within { result ≡ 17 → needed.new.from + needed.new.length ≤ disk_size }
     ensures whole { result ≡ 17 → length head.now + length tail.now < disk_size }
+    ensures asked { result ≡ 17 → IsAmong (needed.new.from, needed.new.length) (first_sector ∷ []) }
     ensures answers { (result ≡ 0) ⊎ ((result ≡ 17) ⊎ (result ≡ 102)) }
     ensures needed { result ≢ 17 → needed.new ≡ needed.old }
 {

@@ -3,6 +3,7 @@ pub mod Aligned
 pub mod AnyMiddle
 pub mod AnyPlan
 pub mod Asked
+pub mod AskedPlans
 pub mod Checked
 pub mod Fitted
 pub mod InTurns

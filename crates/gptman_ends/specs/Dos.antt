@@ -1,7 +1,8 @@
 -- An MBR with partitions of its own, as DOS had them: four entries of 16 bytes from byte 446 on.
-use Rattle.std.specs.Prelude.{◌≡◌, ◌≢◌, ◌⊎◌, ◌+◌, ℕ, List, get_or}
+use Rattle.std.specs.Prelude.{◌≡◌, ◌≢◌, ◌⊎◌, ◌+◌, ℕ, List, [], ◌∷◌, get_or}
 use Rattle.gptman.specs.Bytes.{part}
-use Rattle.gptman_ends.specs.Reading.{IsLack, OfEvery}
+use Rattle.gptman_ends.specs.Reading.{IsLackOf, OfEvery}
+use Rattle.gptman_ends.specs.Rounds.{first_sector}
 use Rattle.gptman_ends.specs.declared.dos.Seen.{Seen}
 use Rattle.gptman_ends.specs.declared.dos.Seen.TheVariants.{Clear, DosDisk, Unknown}
 
@@ -45,4 +46,4 @@ IsDosDisk b = IsDosSector (part b 0 512)
 abbrev pub IsSeen : List ℕ → List ℕ → ℕ → Seen → Type 0
 IsSeen head tail size Clear = OfEvery head tail size (λ b. ¬ IsDosDisk b)
 IsSeen head tail size DosDisk = OfEvery head tail size IsDosDisk
-IsSeen head tail size (Unknown lack) = IsLack head tail size lack
+IsSeen head tail size (Unknown lack) = IsLackOf (λ _. first_sector ∷ []) head tail size lack

@@ -1,3 +1,4 @@
+pub mod Asking
 pub mod Checking
 pub mod Crossing
 pub mod Dos

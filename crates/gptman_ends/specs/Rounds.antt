@@ -21,6 +21,10 @@ copy_ranges b ss p = (p, 92) ∷ entries_range ss (header_result b p)
 abbrev pub reading_ranges : List ℕ → ℕ → List (ℕ × ℕ)
 reading_ranges b ss = copy_ranges b ss (copy_start primary (length b) ss) ++ copy_ranges b ss (copy_start backup (length b) ss)
 
+-- the first 512 bytes, where a table of DOS would be
+abbrev pub first_sector : ℕ × ℕ
+first_sector = (0, 512)
+
 -- ---- rounds of calls
 
 -- the range is one of these

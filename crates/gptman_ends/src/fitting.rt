@@ -4,6 +4,7 @@ ghost use Rattle.std.specs.Prelude.{◌≡◌, ◌≤◌, ◌<◌, ◌+◌, ℕ,
 ghost use Rattle.gptman.specs.Copy.{IsCoherent};
 ghost use Rattle.gptman.specs.Fit.{fit_fault};
 ghost use Rattle.gptman.specs.Table.{entries_in, grow_to};
+ghost use Rattle.gptman_ends.specs.Asking.{fit_ranges, AsksAmong, AsksNothing};
 ghost use Rattle.gptman_ends.specs.Ends.{HasEnds};
 ghost use Rattle.gptman_ends.specs.Plan.{acts_of};
 ghost use Rattle.gptman_ends.specs.Planning.{IsFitPlan, IsFitRefusal, IsSizeRefusal};
@@ -31,6 +32,7 @@ pub fn plan_fit(
         → IsFitPlan b sector_size (acts_of plan.bytes.items plan.steps.items)) }
     ensures size { IfOk result (λ plan. plan.size ≡ size) }
     ensures refused { IfErr result (IsFitRefusal head.now tail.now size sector_size) }
+    ensures asked { IfErr result (AsksAmong (λ b. fit_ranges b sector_size) head.now tail.now size) }
 {
     let (table, is_backup) = match read(alloc, head, tail, size, sector_size) {
         Reading::Table { table, is_backup } => (table, is_backup),
@@ -51,6 +53,7 @@ fn fit(alloc: Global, head: &[u8], tail: &[u8], size: u64, mut table: GPT) -> Re
     ensures value { IfOk result (λ g. g ≡ grow_to table size) }
     ensures fits { IfOk result (λ _. fit_fault table.header table.sector_size size ≡ None) }
     ensures refused { IfErr result (IsSizeRefusal head.now tail.now size table) }
+    ensures asked { IfErr result AsksNothing }
 {
     let mut disk = Ends::new(alloc, head, tail, size);
     let sector_size = table.sector_size;

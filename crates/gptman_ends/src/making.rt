@@ -2,6 +2,7 @@
 
 ghost use Rattle.std.specs.Prelude.{◌≡◌, ◌≤◌, ◌<◌, ◌+◌, ℕ, List, length, IfErr, IfOk};
 ghost use Rattle.gptman.specs.Table.{new_table_of};
+ghost use Rattle.gptman_ends.specs.Asking.{value_ranges, AsksAmong, AsksNothing};
 ghost use Rattle.gptman_ends.specs.Ends.{HasEnds};
 ghost use Rattle.gptman_ends.specs.Plan.{acts_of};
 ghost use Rattle.gptman_ends.specs.Planning.{IsNewPlan, IsNewRefusal};
@@ -30,6 +31,8 @@ pub fn plan_new(
         (acts_of plan.bytes.items plan.steps.items)) }
     ensures size { IfOk result (λ plan. plan.size ≡ size) }
     ensures refused { IfErr result (IsNewRefusal head.now tail.now size sector_size count disk_guid) }
+    ensures asked { IfErr result (AsksAmong
+        (λ _. value_ranges (new_table_of count disk_guid sector_size size) size) head.now tail.now size) }
 {
     if count == 0 || size < sector_size {
         return Err(Refusal::BadArgument);
@@ -52,6 +55,7 @@ fn make(
     requires apart { length head.now + length tail.now ≤ size }
     ensures value { IfOk result (λ g. g ≡ new_table_of count disk_guid sector_size size) }
     ensures refused { IfErr result (IsNewRefusal head.now tail.now size sector_size count disk_guid) }
+    ensures asked { IfErr result AsksNothing }
 {
     let mut disk = Ends::new(alloc, head, tail, size);
     let table = GPT::with_entries(alloc, &mut disk, sector_size, disk_guid, count);

@@ -1,13 +1,15 @@
 //! What the ends have to show for a write.
 
-ghost use Rattle.std.specs.Prelude.{◌≡◌, ◌≤◌, ◌<◌, ◌⊎◌, ◌+◌, ◌++◌, length, MatchOption};
+ghost use Rattle.std.specs.Prelude.{◌≡◌, ◌≤◌, ◌<◌, ◌⊎◌, ◌+◌, ◌++◌, [], ◌∷◌, length, IfSome, MatchOption};
 ghost use Rattle.gptman.specs.Layout.{copy_ranges_at};
 ghost use Rattle.gptman.specs.Ranges.{AreInside};
 ghost use Rattle.gptman.specs.Reading.{primary, backup};
 ghost use Rattle.gptman.specs.Table.{table_in};
+ghost use Rattle.gptman_ends.specs.Asking.{value_ranges};
 ghost use Rattle.gptman_ends.specs.Crossing.{four_ranges};
 ghost use Rattle.gptman_ends.specs.Ends.{AreRangesKnown, IsKnown};
 ghost use Rattle.gptman_ends.specs.Reading.{IsLack};
+ghost use Rattle.gptman_ends.specs.Rounds.{IsAmong};
 
 use crate::reading::{Lack, lack_of};
 use gptman::GPT;
@@ -20,11 +22,12 @@ pub fn lack_of_places(head: &[u8], tail: &[u8], size: u64, table: &GPT) -> Optio
     requires room { table.now.sector_size ≤ size }
     requires count { 0 < table.now.header.number_of_partition_entries }
     requires apart { length head.now + length tail.now ≤ size }
-    ensures { MatchOption result
+    ensures known { MatchOption result
         (AreInside (four_ranges (table_in table.now) table.now.sector_size size) size
         → AreRangesKnown (length head.now) (length tail.now) size
         (four_ranges (table_in table.now) table.now.sector_size size))
         (IsLack head.now tail.now size) }
+    ensures asked { IfSome result (λ lack. IsAmong (lack.from, lack.length) (value_ranges table.now size)) }
 {
     let sector_size = table.sector_size;
     let array = 128 * u64::from(table.header.number_of_partition_entries);
@@ -52,10 +55,12 @@ fn lack_of_both(
     array: u64,
 ) -> Option<Lack>
     requires { length head.now + length tail.now ≤ size }
-    ensures { MatchOption result
+    ensures known { MatchOption result
         ((header + 92 ≤ size → IsKnown (length head.now) (length tail.now) size (header, 92))
         × (start + array ≤ size → IsKnown (length head.now) (length tail.now) size (start, array)))
         (IsLack head.now tail.now size) }
+    ensures asked { IfSome result
+        (λ lack. IsAmong (lack.from, lack.length) ((header, 92) ∷ (start, array) ∷ [])) }
 {
     let lack = lack_inside(head, tail, size, header, 92);
     if lack.is_some() {
@@ -67,9 +72,10 @@ fn lack_of_both(
 // What the ends lack of so many bytes, where these are on the disk.
 fn lack_inside(head: &[u8], tail: &[u8], size: u64, from: u64, len: u64) -> Option<Lack>
     requires { length head.now + length tail.now ≤ size }
-    ensures { MatchOption result
+    ensures known { MatchOption result
         (from + len ≤ size → IsKnown (length head.now) (length tail.now) size (from, len))
         (IsLack head.now tail.now size) }
+    ensures asked { IfSome result (λ lack. (lack.from ≡ from) × (lack.length ≡ len)) }
 {
     if passes_end(size, from, len) {
         return None;

@@ -5,11 +5,13 @@ ghost use Rattle.gptman.specs.Copy.{IsCoherent};
 ghost use Rattle.gptman.specs.Crash.{IsReadInForm};
 ghost use Rattle.gptman.specs.Layout.{IsLaidOut};
 ghost use Rattle.gptman.specs.Table.{entries_in, table_in};
+ghost use Rattle.gptman_ends.specs.Asking.{plan_ranges, AsksAmong, AsksNothing};
 ghost use Rattle.gptman_ends.specs.Crossing.{with_partitions};
 ghost use Rattle.gptman_ends.specs.Ends.{disk_bytes, HasEnds};
 ghost use Rattle.gptman_ends.specs.Plan.{acts_of};
 ghost use Rattle.gptman_ends.specs.Planning.{IsPlan, IsPlanRefusal, IsRewriteRefusal, IsSafePlan};
 ghost use Rattle.gptman_ends.specs.Reading.{IsStatedTable};
+ghost use Rattle.gptman_ends.specs.Rounds.{reading_ranges};
 ghost use Rattle.gptman_ends.specs.declared.records.Partition.{Partition};
 
 use crate::ends::Ends;
@@ -47,6 +49,7 @@ pub fn plan(
         → IsPlan b sector_size partitions.now (acts_of plan.bytes.items plan.steps.items)) }
     ensures size { IfOk result (λ plan. plan.size ≡ size) }
     ensures refused { IfErr result (IsPlanRefusal head.now tail.now size sector_size partitions.now) }
+    ensures asked { IfErr result (AsksAmong (λ b. plan_ranges b sector_size) head.now tail.now size) }
 {
     let table = read_stated(alloc, head, tail, size, sector_size)?;
     let count = u64::from(table.header.number_of_partition_entries);
@@ -72,6 +75,7 @@ fn read_stated(
     ensures table { IfOk result (IsStatedTable head.now tail.now size sector_size) }
     ensures refused { (partitions : List Partition)
         → IfErr result (IsPlanRefusal head.now tail.now size sector_size partitions) }
+    ensures asked { IfErr result (AsksAmong (λ b. reading_ranges b sector_size) head.now tail.now size) }
 {
     let (table, is_backup) = match read(alloc, head, tail, size, sector_size) {
         Reading::Table { table, is_backup } => (table, is_backup),
@@ -102,6 +106,7 @@ fn record_write(
     requires apart { length head.now + length tail.now ≤ size }
     ensures size { IfOk result (λ plan. plan.size ≡ size) }
     ensures refused { IfErr result (IsRewriteRefusal head.now tail.now size table.now partitions.now) }
+    ensures asked { IfErr result AsksNothing }
     ensures safe { IfOk result (λ plan. IsReadInForm (disk_bytes head.now tail.now size) table.now
         → IsLaidOut (with_partitions table.now partitions.now) table.now.sector_size size
         → IsSafePlan (disk_bytes head.now tail.now size) table.now.sector_size (table_in table.now)

@@ -4,6 +4,7 @@ ghost use Rattle.std.specs.Prelude.{◌≡◌, ◌≤◌, ◌<◌, ◌+◌, ℕ,
 ghost use Rattle.gptman.specs.Copy.{IsCoherent};
 ghost use Rattle.gptman.specs.Layout.{HasLayout};
 ghost use Rattle.gptman.specs.Table.{entries_in, table_in};
+ghost use Rattle.gptman_ends.specs.Asking.{value_ranges, AsksAmong, AsksNothing};
 ghost use Rattle.gptman_ends.specs.Ends.{disk_bytes, HasEnds};
 ghost use Rattle.gptman_ends.specs.Plan.{acts_of};
 ghost use Rattle.gptman_ends.specs.Planning.{IsTablePlan, IsTableRefusal, IsWrittenPlan};
@@ -33,6 +34,7 @@ pub fn plan_table(
         → IsTablePlan b table (acts_of plan.bytes.items plan.steps.items)) }
     ensures size { IfOk result (λ plan. plan.size ≡ size) }
     ensures refused { IfErr result (IsTableRefusal head.now tail.now size table) }
+    ensures asked { IfErr result (AsksAmong (λ _. value_ranges table size) head.now tail.now size) }
 {
     let lack = lack_of_places(head, tail, size, &table);
     let is_laid_out = table.has_layout(size);
@@ -64,6 +66,7 @@ fn record_table(
     requires apart { length head.now + length tail.now ≤ size }
     ensures size { IfOk result (λ plan. plan.size ≡ size) }
     ensures refused { IfErr result (IsTableRefusal head.now tail.now size table) }
+    ensures asked { IfErr result AsksNothing }
     ensures written { IfOk result (λ plan. HasLayout table size
         → IsWrittenPlan (disk_bytes head.now tail.now size) table.sector_size (table_in table)
         (acts_of plan.bytes.items plan.steps.items)) }

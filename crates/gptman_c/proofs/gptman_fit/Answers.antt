@@ -1,4 +1,6 @@
 use Rattle.std.proofs.Common.{⊎_elim, inl, inr, List, refl, sym, ◌∙◌, subst, arith}
+use Rattle.gptman_ends.specs.Asking.{fit_ranges}
+use Rattle.gptman_ends.proofs.AskedPlans.{answer_asked, sector_among}
 use Rattle.gptman_ends.proofs.Refused.{answer_above, answer_bad, answer_fault, answer_kept, answer_lacks, answer_layout, answer_length, answer_most, answer_not_102, answer_not_18, answer_whole}
 use Rattle.gptman_ends.specs.Ends.{disk_bytes}
 use Rattle.gptman_ends.specs.Plan.{Act}
@@ -103,3 +105,14 @@ returns-in-Ok-clause-no_dos_disk c = λ _ clear b ends. c.refuse_dos-seen.ensure
 
 pub returns-in-Ok-clause-plan : goal.returns-in-Ok-clause-plan
 returns-in-Ok-clause-plan c = λ zero b ends. subst (λ (acts : List Act). IsFitPlan b c.args.sector_size acts) (sym (c.give.ensures.given zero)) (c.in-Ok.ensures.plan b ends)
+
+pub returns-then-seen-ne0-clause-asked : goal.returns-then-seen-ne0-clause-asked
+returns-then-seen-ne0-clause-asked c = λ seventeen b ends.
+    let needed = c.refuse_dos-seen.new.needed in
+    sector_among (needed.from, needed.length) (fit_ranges b c.args.sector_size) (c.refuse_dos-seen.ensures.asked seventeen)
+
+pub returns-in-Err-clause-asked : goal.returns-in-Err-clause-asked
+returns-in-Err-clause-asked c = λ seventeen b ends.
+    let a = c.args in
+    inr (answer_asked a.head.now a.tail.now a.disk_size (λ b. fit_ranges b a.sector_size) c.in-Err.refusal c.in-Err.ensures.asked c.refuse.result c.refuse.ensures.answer
+    c.refuse_dos-seen.new.needed c.refuse.new.needed c.refuse.ensures.needed seventeen b ends)

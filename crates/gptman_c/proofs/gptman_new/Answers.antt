@@ -1,4 +1,9 @@
-use Rattle.std.proofs.Common.{⊎_elim, inl, inr, sym, ◌∙◌, arith}
+use Rattle.std.proofs.Common.{⊎_elim, inl, inr, ℕ, List, refl, sym, ◌∙◌, arith}
+use Rattle.gptman.specs.Table.{new_table_of}
+use Rattle.gptman_ends.specs.Asking.{value_ranges}
+use Rattle.gptman_ends.specs.Ends.{disk_bytes}
+use Rattle.gptman_ends.proofs.AskedPlans.{answer_asked, sector_among}
+use Rattle.gptman_ends.proofs.Middle.{ends_zero}
 use Rattle.gptman_ends.proofs.Refused.{answer_above, answer_bad, answer_fault, answer_kept, answer_lacks, answer_layout, answer_length, answer_most, answer_not_102, answer_not_18, answer_whole}
 use Rattle.gptman_ends.specs.Planning.{StopsNew}
 use Rattle.gptman_c.proofs.gptman_new.Goals as goal
@@ -94,3 +99,17 @@ returns-in-Err-clause-dos_disk c = λ number.
 
 pub returns-in-Ok-clause-no_dos_disk : goal.returns-in-Ok-clause-no_dos_disk
 returns-in-Ok-clause-no_dos_disk c = λ _ clear b ends. c.refuse_dos-seen.ensures.none c.if-seen-ne0.false clear b ends
+
+pub returns-then-seen-ne0-clause-asked : goal.returns-then-seen-ne0-clause-asked
+returns-then-seen-ne0-clause-asked c = λ seventeen.
+    let a = c.args in
+    let needed = c.refuse_dos-seen.new.needed in
+    sector_among (needed.from, needed.length) (value_ranges (new_table_of a.table.now.entry_count a.table.now.disk_guid a.sector_size a.disk_size) a.disk_size) (c.refuse_dos-seen.ensures.asked seventeen)
+
+pub returns-in-Err-clause-asked : goal.returns-in-Err-clause-asked
+returns-in-Err-clause-asked c = λ seventeen.
+    let a = c.args in
+    let places : List (ℕ × ℕ) = value_ranges (new_table_of a.table.now.entry_count a.table.now.disk_guid a.sector_size a.disk_size) a.disk_size in
+    inr (answer_asked a.head.now a.tail.now a.disk_size (λ _. places) c.in-Err.refusal c.in-Err.ensures.asked c.refuse.result c.refuse.ensures.answer
+    c.refuse_dos-seen.new.needed c.refuse.new.needed c.refuse.ensures.needed seventeen
+    (disk_bytes a.head.now a.tail.now a.disk_size) (ends_zero a.head.now a.tail.now a.disk_size (c.if-not-are_apart.ensures.apart.0 refl)))

@@ -1,4 +1,6 @@
 use Rattle.std.proofs.Common.{⊎_elim, inl, inr, sym, ◌∙◌, arith}
+use Rattle.gptman_ends.specs.Asking.{plan_ranges}
+use Rattle.gptman_ends.proofs.AskedPlans.{answer_asked, sector_among}
 use Rattle.gptman_ends.proofs.Refused.{answer_above, answer_bad, answer_fault, answer_kept, answer_lacks, answer_layout, answer_length, answer_most, answer_not_102, answer_not_18, answer_whole}
 use Rattle.gptman_ends.specs.Planning.{StopsPlan}
 use Rattle.gptman_ends.specs.Reading.{OfEvery}
@@ -101,3 +103,14 @@ returns-in-Err-clause-dos_disk c = λ number.
 
 pub returns-in-Ok-clause-no_dos_disk : goal.returns-in-Ok-clause-no_dos_disk
 returns-in-Ok-clause-no_dos_disk c = λ _ clear b ends. c.refuse_dos-seen.ensures.none c.if-seen-ne0.false clear b ends
+
+pub returns-then-seen-ne0-clause-asked : goal.returns-then-seen-ne0-clause-asked
+returns-then-seen-ne0-clause-asked c = λ seventeen b ends.
+    let needed = c.refuse_dos-seen.new.needed in
+    sector_among (needed.from, needed.length) (plan_ranges b c.args.sector_size) (c.refuse_dos-seen.ensures.asked seventeen)
+
+pub returns-in-Err-clause-asked : goal.returns-in-Err-clause-asked
+returns-in-Err-clause-asked c = λ seventeen b ends.
+    let a = c.args in
+    inr (answer_asked a.head.now a.tail.now a.disk_size (λ b. plan_ranges b a.sector_size) c.in-Err.refusal c.in-Err.ensures.asked c.refuse.result c.refuse.ensures.answer
+    c.refuse_dos-seen.new.needed c.refuse.new.needed c.refuse.ensures.needed seventeen b ends)

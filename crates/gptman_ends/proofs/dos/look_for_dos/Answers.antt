@@ -1,8 +1,10 @@
-use Rattle.std.proofs.Common.{length, sym, ◌∙◌, arith}
+use Rattle.std.proofs.Common.{[], ◌∷◌, inl, length, refl, sym, ◌∙◌, arith}
 use Rattle.std.proofs.lemmas.Bool.{false≢true}
 use Rattle.gptman.specs.Bytes.{part}
 use Rattle.gptman_ends.specs.Ends.{IsKnown, disk_bytes}
 use Rattle.gptman_ends.specs.Reading.{IsLack}
+use Rattle.gptman_ends.specs.Rounds.{first_sector}
+use Rattle.gptman_ends.proofs.Asked.{lack_at}
 use Rattle.gptman_ends.proofs.Seen.{is_clear, is_dos, none_short}
 use Rattle.gptman_ends.proofs.Told.{at_none}
 use Rattle.gptman_ends.proofs.dos.look_for_dos.Goals as goal
@@ -27,3 +29,9 @@ returns c =
     is_clear a.head.now a.tail.now a.size c.requires known c.fill.new.buf
     (c.fill.ensures ∙ (λ i. part (disk_bytes (made.head i) (made.tail i) (made.size i)) (made.position i) 512))
     (λ is. false≢true (sym c.if-is_dos_sector.false ∙ c.is_dos_sector.ensures.1 is))
+
+pub returns-in-Some : goal.returns-in-Some
+returns-in-Some c =
+    let a = c.args in
+    let asked = c.in-Some.ensures.asked in
+    lack_at a.head.now a.tail.now a.size (λ _. first_sector ∷ []) 0 512 c.in-Some.lack asked.0 asked.1 (λ b ends. inl refl) c.in-Some.ensures.known

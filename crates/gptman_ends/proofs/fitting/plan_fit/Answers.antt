@@ -1,4 +1,4 @@
-use Rattle.std.proofs.Common.{◌<◌, ⊎_elim, inl, inr, ℕ, List, sym, ◌∙◌, subst}
+use Rattle.std.proofs.Common.{◌<◌, ⊎_elim, inl, inr, ℕ, List, length, sym, ◌∙◌, subst}
 use Rattle.std.proofs.lemmas.Bool.{false≢true}
 use Rattle.std.proofs.lemmas.Result.{IfErr-weaker, IfOk-weaker, err_from_is_err_and}
 use Rattle.gptman.specs.declared.table.GPT.{GPT}
@@ -7,6 +7,11 @@ use Rattle.gptman_ends.specs.Plan.{acts_of}
 use Rattle.gptman_ends.specs.Planning.{IsFitPlan, IsFitRefusal, IsTablePlan, IsTableRefusal}
 use Rattle.gptman_ends.specs.Planning.RefusesFit.{is_not_read_to_fit}
 use Rattle.gptman_ends.specs.declared.record.Record.{Record}
+use Rattle.gptman.specs.Reading.{reading_of}
+use Rattle.gptman_ends.specs.Asking.{AsksAmong, fit_ranges, fitted_ranges, value_ranges}
+use Rattle.gptman_ends.specs.Rounds.{reading_ranges}
+use Rattle.gptman_ends.proofs.Asked.{among_left}
+use Rattle.gptman_ends.proofs.AskedPlans.{asks_as, asks_none, fit_place}
 use Rattle.gptman_ends.proofs.Fitted.{fit_plan, not_of_side, ready, size_refused, table_refused}
 use Rattle.gptman_ends.proofs.fitting.plan_fit.Goals as goal
 
@@ -52,3 +57,24 @@ returns-then-not-is_of_side-clause-refused c =
     let a = c.args in
     not_of_side a.head.now a.tail.now a.size a.sector_size c.in-Table.table c.in-Table.is_backup c.in-Table.ensures.reading
     (λ form. false≢true (sym c.if-not-is_of_side.true ∙ c.is_of_side.ensures.1 form))
+
+pub returns-in-Lacks-clause-asked : goal.returns-in-Lacks-clause-asked
+returns-in-Lacks-clause-asked c = λ b ends.
+    let ss = c.args.sector_size in
+    let lack = c.in-Lacks.lack in
+    among_left (reading_ranges b ss) (fitted_ranges ss (length b) (reading_of b ss)) (lack.from, lack.length) (c.in-Lacks.ensures.reading.among b ends)
+
+pub returns-in_err-fitted-clause-asked : goal.returns-in_err-fitted-clause-asked
+returns-in_err-fitted-clause-asked c =
+    let a = c.args in
+    let p = err_from_is_err_and c.from_residual.result c.from_residual.ensures.1 in
+    rw (p.1, p.2) (asks_none a.head.now a.tail.now a.size (λ b. fit_ranges b a.sector_size) c.in_err-fitted.field-0.0 c.in_err-fitted.ensures.asked)
+
+pub returns-clause-asked : goal.returns-clause-asked
+returns-clause-asked c =
+    let a = c.args in
+    let next : GPT = c.in_ok-fitted.fitted in
+    IfErr-weaker c.plan_table.result (AsksAmong (λ _. value_ranges next a.size) a.head.now a.tail.now a.size) (AsksAmong (λ b. fit_ranges b a.sector_size) a.head.now a.tail.now a.size)
+    (asks_as a.head.now a.tail.now a.size (λ _. value_ranges next a.size) (λ b. fit_ranges b a.sector_size)
+    (λ b ends range is. fit_place a.head.now a.tail.now a.size a.sector_size c.in-Table.table c.in-Table.is_backup c.in-Table.ensures.reading range next c.in_ok-fitted.ensures.value is b ends))
+    c.plan_table.ensures.asked

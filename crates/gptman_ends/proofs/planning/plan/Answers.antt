@@ -13,7 +13,12 @@ use Rattle.gptman_ends.specs.Planning.{IsOfFault, IsPlan, IsPlanRefusal, IsRewri
 use Rattle.gptman_ends.specs.Planning.RefusesPlan.{is_unfit}
 use Rattle.gptman_ends.specs.Reading.{IsLack, IsTable, OfEvery}
 use Rattle.gptman_ends.specs.declared.record.Record.{Record}
+use Rattle.gptman.specs.Reading.{reading_of}
+use Rattle.gptman_ends.specs.Asking.{AsksAmong, AsksNothing, plan_ranges, table_ranges}
+use Rattle.gptman_ends.specs.Rounds.{reading_ranges}
 use Rattle.gptman_ends.proofs.AnyPlan.{plan_any}
+use Rattle.gptman_ends.proofs.Asked.{among_left}
+use Rattle.gptman_ends.proofs.AskedPlans.{asks_as, asks_none, plan_place}
 use Rattle.gptman_ends.proofs.Refused.{fault_as, refused_as}
 use Rattle.gptman_ends.proofs.Told.{at_none}
 use Rattle.gptman_ends.proofs.planning.plan.Goals as goal
@@ -27,7 +32,7 @@ returns-clause-plan c =
     let same : g.sector_size ≡ a.sector_size = stated.read.sector in
     let all : List (ℕ × ℕ) = four_ranges (table_in g) g.sector_size a.size in
     let on_disk : Type 0 = AreInside all a.size → AreRangesKnown (length a.head.now) (length a.tail.now) a.size all in
-    let places : on_disk = at_none on_disk (IsLack a.head.now a.tail.now a.size) c.lack_of_places.result c.in_default.is c.lack_of_places.ensures in
+    let places : on_disk = at_none on_disk (IsLack a.head.now a.tail.now a.size) c.lack_of_places.result c.in_default.is c.lack_of_places.ensures.known in
     let next : Table = with_partitions g a.partitions.now in
     let read : IsTable a.head.now a.tail.now a.size g.sector_size g stated.is_backup = subst (λ (ss : ℕ). IsTable a.head.now a.tail.now a.size ss g stated.is_backup) (sym same) stated.read in
     let laid : IsLaidOut (table_in g) g.sector_size a.size = subst (λ (ss : ℕ). IsLaidOut (table_in g) ss a.size) (sym same) stated.laid in
@@ -73,3 +78,24 @@ returns-then-count-eq0-clause-refused c = λ b ends.
           inr (inr (subst (λ (k : ℕ). k < a.sector_size) (sym ends.long) w.if-size-sector_size.true))
     ] in
     record { copy = copy_of g; taken = c.in_ok-table.ensures.table.read.reading b ends; count = count }
+
+pub returns-in_err-table-clause-asked : goal.returns-in_err-table-clause-asked
+returns-in_err-table-clause-asked c =
+    let a = c.args in
+    let ss = a.sector_size in
+    let p = err_from_is_err_and c.from_residual.result c.from_residual.ensures.1 in
+    rw (p.1, p.2) (asks_as a.head.now a.tail.now a.size (λ b. reading_ranges b ss) (λ b. plan_ranges b ss)
+    (λ b ends range is. among_left (reading_ranges b ss) (table_ranges ss (length b) (reading_of b ss)) range is)
+    c.in_err-table.field-0.0 c.in_err-table.ensures.asked)
+
+pub returns-in-Some-clause-asked : goal.returns-in-Some-clause-asked
+returns-in-Some-clause-asked c =
+    let a = c.args in
+    let stated = c.in_ok-table.ensures.table in
+    plan_place a.head.now a.tail.now a.size a.sector_size c.in_ok-table.table stated.is_backup stated.read (c.in-Some.lack.from, c.in-Some.lack.length) c.in-Some.ensures.asked
+
+pub returns-clause-asked : goal.returns-clause-asked
+returns-clause-asked c =
+    let a = c.args in
+    let places : List ℕ → List (ℕ × ℕ) = λ b. plan_ranges b a.sector_size in
+    IfErr-weaker c.record_write.result AsksNothing (AsksAmong places a.head.now a.tail.now a.size) (asks_none a.head.now a.tail.now a.size places) c.record_write.ensures.asked
