@@ -215,6 +215,14 @@ uint32_t gptman_fit(const uint8_t *head, size_t head_length, const uint8_t *tail
                     uint64_t disk_size, uint64_t sector_size, gptman_step *steps, size_t step_count, uint8_t *bytes,
                     size_t byte_count, gptman_needed *needed, uint32_t flags);
 
+/* Tells whether the first 512 bytes of a disk are an MBR with partitions of its own: signed, with a boot mark in each
+ * of its four entries, one of them used, and none of a protective MBR. A protective MBR over it would lose these.
+ *
+ * GPTMAN_OK: they are not, or the disk is shorter. GPTMAN_DOS_DISK: they are. GPTMAN_LACKS_BYTES: as of gptman_read.
+ * GPTMAN_BAD_ARGUMENT: the ends are together longer than the disk. */
+uint32_t gptman_dos(const uint8_t *head, size_t head_length, const uint8_t *tail, size_t tail_length,
+                    uint64_t disk_size, gptman_needed *needed);
+
 /* Where the protective MBR stands on a disk, and how many bytes it has. */
 enum { GPTMAN_MBR_START = 446, GPTMAN_MBR_LENGTH = 66 };
 

@@ -2,7 +2,9 @@
  *
  * Each call answers 0, a number of gptman.h, or GPTMAN_IO where the system refused, which errno tells. It reads the
  * length and the ends of the disk anew, and a change first syncs the disk, so that it is planned from what is stored.
- * So after a call that failed the next one may be made over the same ends. The position of the file is moved. */
+ * So after a call that failed the next one may be made over the same ends. The position of the file is moved.
+ *
+ * Under -std=c99 and the like define _XOPEN_SOURCE as 700 before the first header, for pread and pwrite. */
 #ifndef GPTMAN_FD_H
 #define GPTMAN_FD_H
 
@@ -17,12 +19,15 @@
 /* An end is made no longer than this, as a table that asks for more is none that a system reads. */
 #define GPTMAN_MOST_BYTES (1u << 28)
 
-/* A call asks no more often than this for longer ends or arrays; most ask twice. */
-enum { GPTMAN_MOST_ROUNDS = 32 };
+/* A call asks no more often than this for longer ends or arrays: a plan for bytes at most nine times, and once for
+ * room. Most calls ask twice. */
+enum { GPTMAN_MOST_ROUNDS = 12 };
 
-/* The ends of a disk. `size` and `sector_size` are in bytes. */
+/* The ends of a disk. `size` and `sector_size` are in bytes. `flags` is 0 once they are open; a caller who means to
+ * write over a disk of DOS sets it to GPTMAN_OVER_DOS. */
 typedef struct gptman_ends {
     int fd;
+    uint32_t flags;
     uint64_t size, sector_size;
     uint8_t *head, *tail;
     size_t head_length, tail_length;
@@ -84,7 +89,7 @@ static inline uint32_t gptman_ends_renew(gptman_ends *ends) {
 
 /* Begins with the ends that most tables need, and takes no lock. A sector has 512, 1024, 2048 or 4096 bytes. */
 static inline uint32_t gptman_ends_open_unlocked(gptman_ends *ends, int fd, uint64_t sector_size) {
-    ends->fd = fd, ends->size = 0, ends->sector_size = sector_size;
+    ends->fd = fd, ends->flags = 0, ends->size = 0, ends->sector_size = sector_size;
     ends->head = ends->tail = NULL;
     ends->head_length = ends->tail_length = 0;
     return gptman_ends_renew(ends);
@@ -184,14 +189,15 @@ static inline uint32_t gptman_plan_fd(const gptman_ends *ends, const gptman_want
                                       size_t step_count, uint8_t *bytes, size_t byte_count, gptman_needed *needed) {
     if (wanted->table != NULL) {
         return gptman_new(ends->head, ends->head_length, ends->tail, ends->tail_length, ends->size,
-                          ends->sector_size, wanted->table, steps, step_count, bytes, byte_count, needed, 0);
+                          ends->sector_size, wanted->table, steps, step_count, bytes, byte_count, needed, ends->flags);
     }
     if (wanted->fits) {
         return gptman_fit(ends->head, ends->head_length, ends->tail, ends->tail_length, ends->size,
-                          ends->sector_size, steps, step_count, bytes, byte_count, needed, 0);
+                          ends->sector_size, steps, step_count, bytes, byte_count, needed, ends->flags);
     }
     return gptman_write(ends->head, ends->head_length, ends->tail, ends->tail_length, ends->size, ends->sector_size,
-                        wanted->partitions, wanted->count, steps, step_count, bytes, byte_count, needed, 0);
+                        wanted->partitions, wanted->count, steps, step_count, bytes, byte_count, needed,
+                        ends->flags);
 }
 
 /* Begins a change: what was written before is synced, and then read. */
@@ -261,12 +267,27 @@ static inline uint32_t gptman_new_fd(gptman_ends *ends, const uint8_t *disk_guid
     return gptman_make_fd(ends, &wanted);
 }
 
+/* Answers 0, or GPTMAN_DOS_DISK where the first sector has partitions of its own, and no flag lets them be lost. */
+static inline uint32_t gptman_refuse_dos_fd(gptman_ends *ends) {
+    gptman_needed needed = {0, 0, 0, 0};
+    uint32_t answer = GPTMAN_OK;
+    if (ends->flags == GPTMAN_OVER_DOS) return answer;
+    for (int round = 0; answer == GPTMAN_OK && round < GPTMAN_MOST_ROUNDS; round++) {
+        answer = gptman_dos(ends->head, ends->head_length, ends->tail, ends->tail_length, ends->size, &needed);
+        if (answer != GPTMAN_LACKS_BYTES) return answer;
+        answer = gptman_ends_add(ends, &needed);
+    }
+    if (answer == GPTMAN_OK) answer = GPTMAN_FD_ASKS_AGAIN;
+    return answer;
+}
+
 /* Writes a protective MBR and syncs it, and reads the ends anew. */
 static inline uint32_t gptman_mbr_fd(gptman_ends *ends, int bootable) {
     static const gptman_step steps[] = {{GPTMAN_WRITE, GPTMAN_MBR_START, GPTMAN_MBR_LENGTH, 0},
                                         {GPTMAN_SYNC, 0, 0, 0}};
     uint8_t bytes[GPTMAN_MBR_LENGTH];
     uint32_t answer = gptman_begin_fd(ends);
+    if (answer == GPTMAN_OK) answer = gptman_refuse_dos_fd(ends);
     if (answer == GPTMAN_OK) answer = gptman_mbr(ends->size, ends->sector_size, bootable != 0, bytes, sizeof bytes);
     return answer == GPTMAN_OK ? gptman_end_fd(ends, steps, 2, bytes) : answer;
 }

@@ -25,11 +25,12 @@ FAULTS = ("Io InvalidSignature InvalidRevision InvalidHeaderSize InvalidChecksum
           "InvalidPartitionBoundaries InvalidPartitionNumber UnusedPartition PartitionNotFound Overflow "
           "OutOfMemory InvalidPartitionEntrySize LacksBytes LacksRoom BadArgument").split()
 NO_SPACE_LEFT, LACKS_BYTES, LACKS_ROOM, BAD_ARGUMENT = 8, 17, 18, 19
+OVER_DOS = 1
 ASKS_AGAIN = 150  # a call asked for bytes or room that it had, for bytes that no disk of that size has, or too often
 MORE_FAULTS = {100: "OtherLength", 101: "OtherLayout", 102: "DosDisk", ASKS_AGAIN: "AsksAgain"}
 SYNC = 2
 MBR_START, MBR_LENGTH = 446, 66
-MOST_ENTRIES, MOST_BYTES, MOST_ROUNDS = 1 << 20, 1 << 28, 32
+MOST_ENTRIES, MOST_BYTES, MOST_ROUNDS = 1 << 20, 1 << 28, 12
 SECTOR_SIZES = 512, 1024, 2048, 4096
 UNUSED = bytes(16)
 
@@ -102,13 +103,14 @@ def _load():
     library.gptman_fit.argtypes = ends + [POINTER(_Step), c_size_t, POINTER(c_uint8), c_size_t, POINTER(_Needed),
                                           c_uint32]
     library.gptman_check.argtypes = ends + [POINTER(_Copies), POINTER(_Needed)]
+    library.gptman_dos.argtypes = [c_char_p, c_size_t, c_char_p, c_size_t, c_uint64, POINTER(_Needed)]
     library.gptman_mbr.argtypes = [c_uint64, c_uint64, c_uint32, POINTER(c_uint8), c_size_t]
     library.gptman_place.argtypes = [POINTER(_Table)] + partitions + [c_uint64, c_uint32, POINTER(c_uint64)]
     library.gptman_crc32.argtypes = [c_char_p, c_size_t]
     library.gptman_version.argtypes = []
     for call in (library.gptman_read, library.gptman_write, library.gptman_new, library.gptman_fit,
-                 library.gptman_check, library.gptman_mbr, library.gptman_place, library.gptman_crc32,
-                 library.gptman_version):
+                 library.gptman_check, library.gptman_dos, library.gptman_mbr, library.gptman_place,
+                 library.gptman_crc32, library.gptman_version):
         call.restype = c_uint32
     return library
 
@@ -192,8 +194,9 @@ def _partition_of(entry):
 class _File:
     """A disk image or block device, of which the two ends are read."""
 
-    def __init__(self, path, sector_size, writable=False, lock=True):
+    def __init__(self, path, sector_size, writable=False, lock=True, over_dos=False):
         self.sector_size = sector_size
+        self._flags = OVER_DOS if over_dos else 0
         self._fd = os.open(path, os.O_RDWR if writable else os.O_RDONLY)
         self._lengths = 0, 0
         try:
@@ -233,13 +236,27 @@ class _File:
         """Writes a protective MBR, which shows the whole disk as one partition to programs that know no GUID partition
         tables. The partition may be marked as bootable."""
         data = (c_uint8 * MBR_LENGTH)()
+        os.fsync(self._fd)
+        if not self._flags:
+            self._refuse_dos()
         self._renew()
         answer = _library.gptman_mbr(self.size, self.sector_size, bool(bootable), data, MBR_LENGTH)
         if answer:
             raise Fault(answer)
-        os.fsync(self._fd)
         self._write_all(bytes(data), MBR_START)
         os.fsync(self._fd)
+
+    def _refuse_dos(self):
+        """Refuses a disk whose first sector has partitions of its own."""
+        needed = _Needed()
+        for head, first, tail, last, size, _ in self._rounds():
+            answer = _library.gptman_dos(head, first, tail, last, size, byref(needed))
+            if not answer:
+                return
+            if answer != LACKS_BYTES:
+                raise Fault(answer)
+            self._add((head, first, tail, last, size, _), needed)
+        raise Fault(ASKS_AGAIN)
 
     def _lock(self):
         """Waits until no other program holds the advisory lock on the file, and goes on without where there is none."""
@@ -314,12 +331,12 @@ class Disk(_File):
     `OSError`; and a number, name or type that no entry can have, `ValueError`.
 
     A disk that is opened to be written waits until no other program holds the advisory lock of flock on it, and holds
-    it until it is closed; with `lock=False` it takes none. After a call that failed the next one may be made: each
-    reads the disk anew.
+    it until it is closed; with `lock=False` it takes none. A disk of DOS is written over with `over_dos=True` alone.
+    After a call that failed the next one may be made: each reads the disk anew.
     """
 
-    def __init__(self, path, sector_size=512, writable=False, new=None, lock=True):
-        super().__init__(path, sector_size, writable or new, lock)
+    def __init__(self, path, sector_size=512, writable=False, new=None, lock=True, over_dos=False):
+        super().__init__(path, sector_size, writable or new, lock, over_dos)
         try:
             if new:
                 self._make(lambda: self._plan_new(*new))
@@ -329,10 +346,10 @@ class Disk(_File):
             raise
 
     @classmethod
-    def create(cls, path, sector_size=512, disk_guid=None, entry_count=128, lock=True):
+    def create(cls, path, sector_size=512, disk_guid=None, entry_count=128, lock=True, over_dos=False):
         """Writes a new table of so many unused entries, over any that is there, and gives the disk. The GUID is a
         random one where none is given. No protective MBR is written."""
-        return cls(path, sector_size, True, (disk_guid or uuid.uuid4(), entry_count), lock)
+        return cls(path, sector_size, True, (disk_guid or uuid.uuid4(), entry_count), lock, over_dos)
 
     def read(self):
         """Reads the table anew."""
@@ -428,7 +445,7 @@ class Disk(_File):
         needed, step_count, byte_count = _Needed(), 0, 0
         for ends in self._rounds():
             steps, data = (_Step * max(step_count, 1))(), (c_uint8 * max(byte_count, 1))()
-            answer = call(*ends, *what, steps, step_count, data, byte_count, byref(needed), 0)
+            answer = call(*ends, *what, steps, step_count, data, byte_count, byref(needed), self._flags)
             if answer == LACKS_BYTES:
                 self._add(ends, needed)
             elif answer == LACKS_ROOM:

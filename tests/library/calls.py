@@ -3,6 +3,8 @@ import ctypes
 import importlib
 import os
 import random
+import re
+import shutil
 import subprocess
 import sys
 import uuid
@@ -70,12 +72,35 @@ def told(gptman, path):
 
 
 def read_left(tally, gptman, program):
-    """What the module tells of what a stop left, without its form; and that gptimg tells the same."""
+    """What the module tells of what a stop left, without its form; and that gptimg and sfdisk tell the same."""
     found = without_form(told(gptman, program.file("left.img")))
     status, out, _ = program.run("left.img", "512", "show")
     theirs = "".join(f"{line.rstrip()}\n" for line in out.splitlines()) if status == 0 else fault_in(out)
     tally.equals("what gptimg reads of it", without_form(theirs), found)
+    if is_there("sfdisk"):
+        tally.equals("what sfdisk reads of it", places_in(found), read_by_sfdisk(program))
     return found
+
+
+def places_in(lines):
+    """The number, first and last sector of each partition, of the lines of a table."""
+    rows = [line.split(" ") for line in lines.splitlines()[1:]]
+    return {(int(row[0]), *map(int, row[3].split(".."))) for row in rows}
+
+
+def read_by_sfdisk(program):
+    """The same of what sfdisk dumps of what a stop left, with a protective MBR, without which it looks for no table."""
+    path = program.file("judged.img")
+    shutil.copyfile(program.file("left.img"), path)
+    program.run("judged.img", "512", "mbr", "plain")
+    text = subprocess.run(["sfdisk", "-d", path], capture_output=True, text=True).stdout
+    rows = re.findall(r"^%s(\d+) : start= *(\d+), size= *(\d+)," % re.escape(path), text, re.MULTILINE)
+    return {(int(number), int(first), int(first) + int(size) - 1) for number, first, size in rows}
+
+
+def states_in(count):
+    """What is told of so many states, and who did not judge them."""
+    return f"{count} states" + ("" if is_there("sfdisk") else "; sfdisk is not there to judge them")
 
 
 def shown(disk):
@@ -251,7 +276,7 @@ def try_stops(tally, library, program):
         program.write("left.img", bytes(left(random_, image, steps, data, len(steps), 0)))
         copies = table.read_copies(program.file("left.img"))
         tally.holds(f"both copies hold the new table at the end, from {what}", copies[0] and copies[0] == copies[1])
-    return f"{states} states"
+    return states_in(states)
 
 
 def syncs_in(steps):
@@ -365,7 +390,7 @@ def try_fits(tally, library, program):
                 states += 1
                 tally.holds(f"the old table or the fitted one on {size} bytes, stop {after}.{torn}: {found}",
                             found in (old, new))
-    return f"{states} states"
+    return states_in(states)
 
 
 def try_fit_refusals(tally, library, program):
@@ -643,7 +668,7 @@ def try_long(tally, library, program):
 
 
 def try_flags(tally, library, program):
-    """A disk of DOS is planned with the flag, and no other flag is known."""
+    """A disk of DOS is planned with the flag, and no other flag is known. A call tells which disk is one of DOS."""
     gptman = module()
     start(program)
     good = program.bytes_of("disk.img")
@@ -653,6 +678,15 @@ def try_flags(tally, library, program):
     for flags, answer in (0, 102), (1, 18), (2, 19), (1 << 31, 19):
         tally.equals(f"fitting a disk of DOS with the flags {flags}", answer, gptman._library.gptman_fit(
             head, len(head), tail, len(tail), SIZE, 512, None, 0, None, 0, ctypes.byref(needed), flags))
+    for what, first, last, size, answer in (
+            ("of DOS", data[:512], b"", SIZE, 102), ("of DOS, all of it at its end", b"", data, SIZE, 102),
+            ("with a protective MBR", good[:512], b"", SIZE, 0), ("of 511 bytes", data[:511], b"", 511, 0),
+            ("of which 511 bytes are known", data[:511], b"", SIZE, 17),
+            ("shorter than its ends", data[:512], data[:1], 512, 19)):
+        needed = gptman._Needed()
+        tally.equals(f"a disk {what}", (answer, 0, 512 if answer == 17 else 0), (
+            gptman._library.gptman_dos(first, len(first), last, len(last), size, ctypes.byref(needed)),
+            needed.from_, needed.length))
 
 
 SUBJECTS = {"damaged images": try_damaged, "both copies": try_copies, "protective MBRs": try_mbr,

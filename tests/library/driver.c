@@ -6,6 +6,7 @@
  *                               nothing is made, a part, all, or garbage. A write or read that is short is no
  *                               failure, nor is a sync that drops: sector 1 is garbage then, and the next write fails
  * calls                         how many writes, syncs and requests for memory there were since then
+ * flags NUMBER                  the flags of the writes from now on, until a file is opened
  * read | check | fit | free | plain | bootable | new GUID COUNT
  * write NUMBER TYPE UNIQUE FIRST LAST      writes what was read last, with this entry
  * same                          writes what was read last */
@@ -157,6 +158,7 @@ static uint32_t do_line(char words[6][4096]) {
     if (strcmp(name, "calls") == 0) {
         return printf("%ld %ld %ld\n", failing.writes, failing.syncs, failing.requests) < 0;
     }
+    if (strcmp(name, "flags") == 0) return ends.flags = (uint32_t)strtoull(words[1], NULL, 10), 0u;
     if (strcmp(name, "read") == 0) return read_table();
     if (strcmp(name, "check") == 0) return check_both();
     if (strcmp(name, "fit") == 0) return gptman_fit_fd(&ends);

@@ -116,8 +116,8 @@ def try_headers(tally, library, program):
         lines = run("nm", "-D", "--defined-only", program.file("libgptman.so.1")).split("\n")
         names = {line.split()[-1] for line in lines if line}
         tally.equals("the names of libgptman.so.1", {"gptman_read", "gptman_write", "gptman_new", "gptman_fit",
-                                                     "gptman_check", "gptman_mbr", "gptman_place", "gptman_get_name",
-                                                     "gptman_set_name", "gptman_crc32",
+                                                     "gptman_check", "gptman_dos", "gptman_mbr", "gptman_place",
+                                                     "gptman_get_name", "gptman_set_name", "gptman_crc32",
                                                      "gptman_version"},
                      {name for name in names if not name.startswith("_")})
 

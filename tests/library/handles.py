@@ -59,8 +59,9 @@ class OverC:
         *lines, name = told.decode().split("\n")
         return lines, name
 
-    def open(self, path, sector=512, mode="locked"):
-        return self.ask("open", path, sector, mode)[1]
+    def open(self, path, sector=512, mode="locked", over_dos=False):
+        name = self.ask("open", path, sector, mode)[1]
+        return self.ask("flags", int(over_dos))[1] if name == "Ok" else name
 
     def fail(self, kind="", number=-1, how="nothing"):
         """Has that call of write, sync, read or alloc fail, from now on. With no words none does."""
@@ -153,6 +154,7 @@ class OverPython:
 
     def __init__(self, gptman):
         self.gptman, self.system, self.disk, self.place = gptman, System(), None, None
+        self.over_dos = False
         gptman.os = self.system
 
     def answer(self, call, *words):
@@ -174,16 +176,16 @@ class OverPython:
             signal.signal(signal.SIGALRM, was)
         return "Ok"
 
-    def open(self, path, sector=512, mode="locked"):
+    def open(self, path, sector=512, mode="locked", over_dos=False):
         """Notes the disk, which a call opens that needs it; the module reads a table as it opens a disk."""
         self.shut()
-        self.place = path, sector, mode
+        self.place, self.over_dos = (path, sector, mode), over_dos
         return "Ok"
 
     def opened(self):
         if self.disk is None:
             path, sector, mode = self.place
-            self.disk = self.gptman.Disk(path, sector, mode != "reading", lock=mode == "locked")
+            self.disk = self.gptman.Disk(path, sector, mode != "reading", lock=mode == "locked", over_dos=self.over_dos)
             return True
         return False
 
@@ -228,13 +230,13 @@ class OverPython:
         self.shut()
 
         def call():
-            self.disk = self.gptman.Disk.create(path, sector, uuid.UUID(guid), count)
+            self.disk = self.gptman.Disk.create(path, sector, uuid.UUID(guid), count, over_dos=self.over_dos)
         return self.answer(call)
 
     def mbr(self):
         def call():
             path, sector, _ = self.place
-            with self.gptman._File(path, sector, True, False) as file:
+            with self.gptman._File(path, sector, True, False, self.over_dos) as file:
                 file.write_mbr()
         return self.answer(call)
 

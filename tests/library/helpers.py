@@ -252,28 +252,42 @@ def refusals_of():
     yield "one without 55 AA", mbr_of((0, 0x83, 100))[:510] + bytes(2) + usual[512:], ("Ok",) * 3
 
 
+def changes_of(handle, path):
+    """Each change by its name."""
+    return {"a write": lambda: handle.write(2, entry_at(90, 99, 2)), "a fit": handle.fit,
+            "a new table": lambda: handle.new(path, 512, OTHER, 128), "an MBR": handle.mbr}
+
+
 def try_stated(tally, library, program):
     """Disks of another length than the table's, other layouts, and disks of DOS: a change is refused with the name of
-    that, and writes nothing; and what is none of these is changed."""
+    that, and writes nothing; and what is none of these is changed. A protective MBR goes over no disk of DOS. With
+    the flag for it each change goes over one, and only the MBR changes the first sector."""
     disks = 0
     with quick_folder(program) as folder:
         path = os.path.join(folder, "stated.img")
         for handle in both(library, module()):
             for what, data, answers in refusals_of():
-                calls = (lambda: handle.write(2, entry_at(90, 99, 2)), handle.fit,
-                         lambda: handle.new(path, 512, OTHER, 128))
-                for name, call, answer in zip(("a write", "a fit", "a new table"), calls, answers):
-                    put_file(path, data)
-                    handle.open(path)
-                    handle.read()
-                    tally.equals(f"{name}, {what}, {handle.name}", answer, call())
-                    tally.holds(f"whether {name} changes {what}, {handle.name}",
-                                name == "a fit" or (data_of(path) == data) == (answer != "Ok"))
-                    tally.holds(f"{name} leaves the first sector of {what}, {handle.name}",
-                                data_of(path)[:512] == data[:512])
+                answers += ("DosDisk" if "DosDisk" in answers else "Ok",)
+                for over_dos in (False, True):
+                    for (name, call), answer in zip(changes_of(handle, path).items(), answers):
+                        answer = "Ok" if over_dos and answer == "DosDisk" else answer
+                        try_one(tally, handle, path, data, f"{name}, {what}, {handle.name}, {over_dos}", name, call,
+                                answer, over_dos)
                 disks += 1
             tally.equals(f"the status of {handle.name}", 0, handle.close())
     return f"{disks} disks"
+
+
+def try_one(tally, handle, path, data, what, name, call, answer, over_dos):
+    """One change of one disk."""
+    put_file(path, data)
+    handle.open(path, over_dos=over_dos)
+    handle.read()
+    tally.equals(what, answer, call())
+    may_stay = name in ("a fit", "an MBR") and answer == "Ok"
+    tally.holds(f"whether it changes, {what}", may_stay or (data_of(path) == data) == (answer != "Ok"))
+    kept = 446 if name == "an MBR" else 512
+    tally.holds(f"what it leaves of the first sector, {what}", data_of(path)[:kept] == data[:kept])
 
 
 def astray_answers(handle, path, data):

@@ -75,9 +75,9 @@ static uint64_t mostly(uint64_t usual, uint64_t odd) { return draw(12) == 0 ? od
 /* The pointer of an array, or null where there may be one. */
 static void *at(room r, size_t count) { return count == 0 && draw(2) ? NULL : r.at; }
 
-enum { READ, CHECK, WRITE, NEW, FIT, MBR, PLACE, GET_NAME, SET_NAME, CALLS };
-static const char *const names[CALLS] = {"read", "check", "write", "new", "fit", "mbr", "place", "get_name",
-                                         "set_name"};
+enum { READ, CHECK, WRITE, NEW, FIT, DOS, MBR, PLACE, GET_NAME, SET_NAME, CALLS };
+static const char *const names[CALLS] = {"read", "check", "write", "new", "fit", "dos", "mbr", "place",
+                                         "get_name", "set_name"};
 static long done[CALLS];
 
 /* The answers from 100 on have the bits from 32 on. */
@@ -111,8 +111,9 @@ typedef struct arguments {
     gptman_needed needed;
 } arguments;
 
-#define ENDS(a) (const uint8_t *)at((a)->head, (a)->first), (a)->first, (const uint8_t *)at((a)->tail, (a)->last), \
-                (a)->last, (a)->size, (a)->sector
+#define DISK(a) (const uint8_t *)at((a)->head, (a)->first), (a)->first, (const uint8_t *)at((a)->tail, (a)->last), \
+                (a)->last, (a)->size
+#define ENDS(a) DISK(a), (a)->sector
 #define PLAN(a) (gptman_step *)at((a)->steps, (a)->step_count), (a)->step_count, \
                 (uint8_t *)at((a)->bytes, (a)->byte_count), (a)->byte_count, &(a)->needed, (a)->flags
 #define ENTRIES(a) (gptman_partition *)at((a)->partitions, (a)->partition_count), (a)->partition_count
@@ -151,6 +152,9 @@ static void call_others(arguments *a) {
     answered(CHECK, looked, BIT(17) | BIT(19));
     expect(CHECK, looked == 0 || (copies.primary_fault == 77 && copies.backup_fault == 77 && copies.are_same == 77));
     expect(CHECK, looked != 0 || (copies.primary_fault <= 16 && copies.backup_fault <= 16 && copies.are_same <= 1));
+    uint32_t dos = gptman_dos(DISK(a), &a->needed);
+    answered(DOS, dos, BIT(17) | BIT(19) | BIT(102));
+    expect(DOS, dos != 17 || (a->needed.from == 0 && a->needed.length == 512 && a->size >= 512));
     size_t count = a->byte_count < 130 ? a->byte_count : mostly(a->byte_count, draw(130));
     uint8_t *last = a->bytes.at + (a->byte_count - count);
     uint32_t mbr = gptman_mbr(a->size, a->sector, (uint32_t)mostly(draw(2), 2), last, count);
@@ -233,6 +237,7 @@ static uint32_t call_each(const uint8_t *head, const uint8_t *tail) {
         answer = gptman_new(head, 17408, tail, 16896, image_size, 512, &table, steps, 64, bytes, sizeof bytes, &needed, 0);
     }
     if (answer == 0) answer = gptman_check(head, 17408, tail, 16896, image_size, 512, &copies, &needed);
+    if (answer == 0) answer = gptman_dos(head, 17408, tail, 16896, image_size, &needed);
     if (answer == 0) answer = gptman_mbr(image_size, 512, 0, bytes, sizeof bytes);
     table.align = 1;
     if (answer == 0) answer = gptman_place(&table, partitions, 128, 1, GPTMAN_BEST, &lba);

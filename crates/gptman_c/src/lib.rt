@@ -515,6 +515,43 @@ fn give(plan: &Record, steps: &mut [Step], bytes: &mut [u8], needed: &mut Needed
     }
 }
 
+/// Tells whether the first 512 bytes of a disk are an MBR with partitions of its own, as of 102 of `gptman_write`. A
+/// protective MBR over it would lose these.
+///
+/// `head`, `tail` and `disk_size` are as for `gptman_read`.
+///
+/// 0: they are not, or the disk is shorter. 102: they are.
+///
+/// 17: neither `head` nor `tail` has all of the `needed.length` bytes of the disk from byte `needed.from` on.
+///
+/// 19: the two ends together are longer than the disk.
+#[unsafe(no_mangle)]
+pub extern "C" fn gptman_dos(
+    alloc: Global,
+    head: &[u8],
+    tail: &[u8],
+    disk_size: u64,
+    needed: &mut Needed,
+) -> u32
+    ensures none { result ≡ 0 → (b : List ℕ) → HasEnds b head.now tail.now disk_size → ¬ IsDosDisk b }
+    ensures dos_disk { result ≡ 102 → (b : List ℕ) → HasEnds b head.now tail.now disk_size → IsDosDisk b }
+    ensures lacks { result ≡ 17
+        → ¬ IsKnown (length head.now) (length tail.now) disk_size (needed.new.from, needed.new.length) }
+    ensures within { result ≡ 17 → needed.new.from + needed.new.length ≤ disk_size }
+    ensures whole { result ≡ 17 → length head.now + length tail.now < disk_size }
+    ensures asked { result ≡ 17 → IsAmong (needed.new.from, needed.new.length) (first_sector ∷ []) }
+    ensures bad { result ≡ 19 → disk_size < length head.now + length tail.now }
+    ensures answers { (result ≡ 0) ⊎ ((result ≡ 17) ⊎ ((result ≡ 19) ⊎ (result ≡ 102))) }
+
+    // What is not told stays as it was.
+    ensures needed { result ≢ 17 → needed.new ≡ needed.old }
+{
+    if !are_apart(head, tail, disk_size) {
+        return BAD_ARGUMENT;
+    }
+    refuse_dos(alloc, head, tail, disk_size, 0, needed)
+}
+
 /// Lays the protective MBR of a disk of so many bytes into the first 66 places of `bytes`. They stand on the disk from
 /// byte 446 on, and show the whole disk as one partition to a program that knows no GUID partition tables. Where
 /// `bootable` is 1, that partition is marked as bootable; else it is 0.
