@@ -43,7 +43,7 @@ module _ (head tail : List ℕ) (size : ℕ) where
   told_or_lack places Q from len (Some lack) among tells known asked = lack_at places from len lack asked.0 asked.1 among known
 
   -- places among others
-  pub lack_as : (places more : Places) → ((b : List ℕ) → HasEnds b head tail size → (range : ℕ × ℕ) → IsAmong range (places b) → IsAmong range (more b))
+  lack_as : (places more : Places) → ((b : List ℕ) → HasEnds b head tail size → (range : ℕ × ℕ) → IsAmong range (places b) → IsAmong range (more b))
       → (lack : Lack) → IsLackOf places head tail size lack → IsLackOf more head tail size lack
   lack_as places more wider lack is = record { lacking = is.lacking; among = λ b ends. wider b ends (lack.from, lack.length) (is.among b ends) }
 

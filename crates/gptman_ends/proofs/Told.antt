@@ -19,10 +19,6 @@ use Rattle.gptman_ends.proofs.Known.{length-disk_bytes, known_head, known_tail}
 use Rattle.gptman_ends.proofs.Middle.{agree_in_ends}
 
 -- what holds of an option, a case at a time
-pub matched : {T : Type 0} (P Q : Type 0) (R : T → Type 0) (o : Option T) → (P → Q) → MatchOption o P R → MatchOption o Q R
-matched P Q R None f m = f m
-matched P Q R (Some x) f m = m
-
 pub at_none : {T : Type 0} (P : Type 0) (R : T → Type 0) (o : Option T) → o ≡ None → MatchOption o P R → P
 at_none P R None is m = m
 at_none P R (Some x) is m = absurd (cc)
