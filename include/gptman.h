@@ -126,7 +126,9 @@ static inline const char *gptman_fault_name(uint32_t answer) {
  *     shows a signature, or the disk is shorter than a sector.
  * GPTMAN_OUT_OF_MEMORY: there is no memory. This says nothing of the disk.
  * GPTMAN_LACKS_BYTES: make an end longer, so that it has the bytes that `needed` names, and call again. They lie on
- *     the disk. Ends that meet have all of it, and this is not answered.
+ *     the disk. Ends that meet have all of it, and this is not answered. Where the ends of each later call have the
+ *     bytes that were named before, gptman_read and gptman_check name bytes four times at most, gptman_new five
+ *     times, and gptman_write and gptman_fit nine times.
  * GPTMAN_LACKS_ROOM: `partitions` is shorter than table->entry_count, which is set.
  * GPTMAN_BAD_ARGUMENT: `sector_size` is 0, or the ends are together longer than the disk.
  *
