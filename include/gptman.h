@@ -159,7 +159,8 @@ uint32_t gptman_check(const uint8_t *head, size_t head_length, const uint8_t *ta
  * their order, each only after the one before has succeeded: for GPTMAN_WRITE write `length` bytes from bytes +
  * `start` on to byte `offset` of the disk, for GPTMAN_SYNC store all that was written, as fsync does. There are no
  * other kinds of steps. The copy that was not read is written and synced first, and then the other, so that where you
- * stop, or the power fails, the disk holds the old table or the new one.
+ * stop, or the power fails, the disk holds the old table or the new one. The backup entries are written directly
+ * behind the last usable sector, whatever stands there: where it is lower than usual, look before (gptman_fd.h does).
  * After a step that failed the ends are no longer those of the disk: make no step of this plan again, but sync,
  * read the ends and the table, and plan anew.
  *

@@ -207,6 +207,28 @@ static inline uint32_t gptman_begin_fd(gptman_ends *ends) {
     return GPTMAN_IO;
 }
 
+/* Refuses a table of so many entries whose last usable sector is lower than usual, unless the backup entries stand
+ * directly behind it: a write puts them there, over what another program may have there. */
+static inline uint32_t gptman_refuse_gap_fd(const gptman_ends *ends, size_t count) {
+    gptman_needed needed = {0, 0, 0, 0};
+    gptman_copies copies;
+    gptman_table table;
+    gptman_partition *room = (gptman_partition *)malloc((count + 1) * sizeof *room);
+    if (room == NULL) return GPTMAN_OUT_OF_MEMORY;
+    uint32_t answer = gptman_read(ends->head, ends->head_length, ends->tail, ends->tail_length, ends->size,
+                                  ends->sector_size, &table, room, count, &needed);
+    free(room);
+    if (answer != GPTMAN_OK || table.is_backup) return answer;
+    uint64_t last = ends->size / ends->sector_size - 1;
+    uint64_t array = (128 * (uint64_t)count + ends->sector_size - 1) / ends->sector_size;
+    if (table.last_usable_lba >= last || last - table.last_usable_lba - 1 <= array) return GPTMAN_OK;
+    answer = gptman_check(ends->head, ends->head_length, ends->tail, ends->tail_length, ends->size, ends->sector_size,
+                          &copies, &needed);
+    if (answer == GPTMAN_OK && copies.are_same) return answer;
+    if (answer == GPTMAN_OK || answer == GPTMAN_LACKS_BYTES) answer = GPTMAN_OTHER_LAYOUT;
+    return answer;
+}
+
 /* Makes the steps of a change, and reads the ends anew. These are empty where a step failed, and where they cannot be
  * read, which does not undo the change. */
 static inline uint32_t gptman_end_fd(gptman_ends *ends, const gptman_step *steps, uint64_t count,
@@ -229,6 +251,7 @@ static inline uint32_t gptman_make_fd(gptman_ends *ends, const gptman_wanted *wa
         answer = GPTMAN_OUT_OF_MEMORY;
         if (steps != NULL && bytes != NULL) {
             answer = gptman_plan_fd(ends, wanted, steps, step_count, bytes, byte_count, &needed);
+            if (answer == GPTMAN_OK && wanted->partitions != NULL) answer = gptman_refuse_gap_fd(ends, wanted->count);
             is_planned = answer == GPTMAN_OK;
         }
         if (is_planned) answer = gptman_end_fd(ends, steps, needed.steps, bytes);

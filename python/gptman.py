@@ -25,6 +25,7 @@ FAULTS = ("Io InvalidSignature InvalidRevision InvalidHeaderSize InvalidChecksum
           "InvalidPartitionBoundaries InvalidPartitionNumber UnusedPartition PartitionNotFound Overflow "
           "OutOfMemory InvalidPartitionEntrySize LacksBytes LacksRoom BadArgument").split()
 NO_SPACE_LEFT, LACKS_BYTES, LACKS_ROOM, BAD_ARGUMENT = 8, 17, 18, 19
+OTHER_LAYOUT = 101
 OVER_DOS = 1
 ASKS_AGAIN = 150  # a call asked for bytes or room that it had, for bytes that no disk of that size has, or too often
 MORE_FAULTS = {100: "OtherLength", 101: "OtherLayout", 102: "DosDisk", ASKS_AGAIN: "AsksAgain"}
@@ -435,6 +436,22 @@ class Disk(_File):
             entries[number - 1] = _entry_of(partition) if partition is not None else _Partition()
         return entries
 
+    def _refuse_gap(self, ends):
+        """Refuses a table whose last usable sector is lower than usual, unless the backup entries stand directly behind
+        it: a write puts them there, over what another program may have there."""
+        table, copies, needed, count = _Table(), _Copies(), _Needed(), self.entry_count
+        answer = _library.gptman_read(*ends, byref(table), (_Partition * count)(), count, byref(needed))
+        if answer:
+            raise Fault(answer)
+        last, array = self.size // self.sector_size - 1, -(-128 * count // self.sector_size)
+        if table.is_backup or last - table.last_usable_lba - 1 <= array:
+            return
+        answer = _library.gptman_check(*ends, byref(copies), byref(needed))
+        if answer == LACKS_BYTES or not answer and not copies.are_same:
+            answer = OTHER_LAYOUT
+        if answer:
+            raise Fault(answer)
+
     def _plan_new(self, disk_guid, entry_count):
         """The steps that write a new table."""
         table = _Table(disk_guid=_bytes_of(disk_guid), entry_count=_fitting(entry_count, 32, "entry_count"))
@@ -455,6 +472,8 @@ class Disk(_File):
             elif answer:
                 raise Fault(answer)
             else:
+                if call is _library.gptman_write:
+                    self._refuse_gap(ends)
                 made = steps[:needed.steps]
                 return [(s.kind, s.offset, s.start, s.start + s.length) for s in made], bytes(data)
         raise Fault(ASKS_AGAIN)

@@ -224,11 +224,16 @@ def mbr_of(*entries):
 
 
 def image_of(found, size, **places):
-    """The bytes of a disk with this table and no MBR."""
+    """The bytes of a disk with this table and a protective MBR."""
     image = bytearray(size)
     for at, piece in table.pieces_of(found, size, **places):
         image[at:at + len(piece)] = piece
     return bytes(image)
+
+
+def with_data(image):
+    """The image with bytes of somebody in sectors 401 to 450."""
+    return image[:401 * 512] + b"\x5a" * (50 * 512) + image[451 * 512:]
 
 
 def refusals_of():
@@ -240,6 +245,12 @@ def refusals_of():
     yield "a disk that has grown", usual + bytes(100 * 512), ("OtherLength", "Ok", "Ok")
     yield "a disk that was cut", usual[:-10 * 512], ("OtherLength", "Ok", "Ok")
     yield "entries that were moved", moved, ("OtherLayout", "OtherLayout", "Ok")
+    low = table.Table(GUID, 34, 400, 128, {1: entry_at(70, 79)})
+    theirs, alike = image_of(low, size, backup_at=479), image_of(low, size)
+    yield "data behind a low last sector", with_data(theirs), ("OtherLayout", "Ok", "Ok")
+    yield "the same and a broken backup copy", with_data(theirs)[:-512] + bytes(512), ("OtherLayout", "Ok", "Ok")
+    yield "backup entries behind a low last sector", alike, ("Ok", "Ok", "Ok")
+    yield "the backup copy of these alone", alike[:512] + bytes(512) + alike[1024:], ("Ok", "Ok", "Ok")
     yield "the backup copy of these", moved[:512] + bytes(512) + moved[1024:], ("Ok", "Ok", "Ok")
     for what, entries, is_dos in (
             ("a partition of DOS", [(0, 0x83, 100)], True), ("one that is bootable", [(0x80, 7, 1)], True),
