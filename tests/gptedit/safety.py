@@ -517,7 +517,8 @@ def try_reproductions(tally, program):
         goes(tally, program, ["resize", IMAGE, "1", "max"])
         after = table.read(program.file(IMAGE)).entries[1]
         tally.holds(f"the end is not lower after growth: {after}", after.last >= before.last)
-    return ", ".join(name for name in makers if there(name))
+    left = [name for name in makers if not there(name)]
+    return f"{' and '.join(left)} not installed: left out" if left else ", ".join(makers)
 
 
 def try_grow_stops(tally, program):
