@@ -26,8 +26,7 @@ leaves_ranges there a b run synced = λ x left.
 pending_within : (there : Ranges) (a b : DiskState) → Wrote there a b → a.pending ≡ [] → Within b.pending there
 pending_within there a b run synced = subst (Within b.pending) (ap (λ (ps : Ranges). there ++ ps) synced ∙ append-nil there) run.pending
 
--- Step 2, and step 3. From a disk with nothing pending that holds a table, a stop at any moment leaves it, while only ranges clear of it are written: the old
--- table until the first sync, and the new one, which the other side holds, from then on.
+-- Step 3. From a disk with nothing pending that holds a table, a stop at any moment leaves it, while only ranges clear of it are written.
 pub held_while : (P : List ℕ → Type 0) (place there : Ranges) (a b : DiskState) → IsToldBy P place → AreClear place there → a.pending ≡ [] → P a.view → Wrote there a b
     → LeavesOnly a b P
 held_while P place there a b told clear synced held run = λ x left.
@@ -46,20 +45,18 @@ module _ (own other : Ranges) (own_header other_header : ℕ × ℕ) (at_own at_
   abbrev Comes : Type 1
   Comes = Came own other own_header other_header at_own at_other a c
 
-  -- Step 4. At any moment the old table is held, or the new one at the other side.
-  pub at_any_moment : (was : List ℕ → Type 0) (place : Ranges) → IsToldBy was place → AreClear place other → IsToldBy at_other other → AreClear other own
-      → a.pending ≡ [] → was a.view → Comes → LeavesOnly a c (λ x. was x ⊎ at_other x)
-  at_any_moment was place told clear told_other apart synced held (only_read read) = λ x left.
-      inl (held_while was place other a c told clear synced held (wrote_wider within_none read.wrote) x left)
-  at_any_moment was place told clear told_other apart synced held (other_begun run begun) = λ x left. inl (held_while was place other a c told clear synced held run x left)
-  at_any_moment was place told clear told_other apart synced held (own_begun b first stored new second begun) =
-      leaves_then (λ x. was x ⊎ at_other x) first.time second.time
-      (λ x left. inl (held_while was place other a b told clear synced held first x left))
-      (λ x left. inr (held_while at_other other own b c told_other apart stored new second x left))
-  at_any_moment was place told clear told_other apart synced held (written b first stored new second done here) =
-      leaves_then (λ x. was x ⊎ at_other x) first.time second.time
-      (λ x left. inl (held_while was place other a b told clear synced held first x left))
-      (λ x left. inr (held_while at_other other own b c told_other apart stored new second x left))
+  -- Step 4. At any moment only the other side's ranges have changed, or the new table is held there.
+  pub at_any_moment : IsToldBy at_other other → AreClear other own → a.pending ≡ [] → Comes → LeavesOnly a c (λ x. AgreesOutside other a.view x ⊎ at_other x)
+  at_any_moment told apart synced (only_read read) = λ x left. inl (leaves_ranges other a c (wrote_wider within_none read.wrote) synced x left)
+  at_any_moment told apart synced (other_begun run begun) = λ x left. inl (leaves_ranges other a c run synced x left)
+  at_any_moment told apart synced (own_begun b first stored new second begun) =
+      leaves_then (λ x. AgreesOutside other a.view x ⊎ at_other x) first.time second.time
+      (λ x left. inl (leaves_ranges other a b first synced x left))
+      (λ x left. inr (held_while at_other other own b c told apart stored new second x left))
+  at_any_moment told apart synced (written b first stored new second done here) =
+      leaves_then (λ x. AgreesOutside other a.view x ⊎ at_other x) first.time second.time
+      (λ x left. inl (leaves_ranges other a b first synced x left))
+      (λ x left. inr (held_while at_other other own b c told apart stored new second x left))
 
 -- ---- where a call failed
 

@@ -1,6 +1,6 @@
 -- One good copy of a table, and two.
 use Rattle.std.proofs.Common.{◌≡◌, List, sym, subst}
-use Rattle.gptman.specs.Crash.{HasRangesOf, IsKeptFor, other_side, StartsFromOne, StartsStored}
+use Rattle.gptman.specs.Crash.{HasRangesOf, IsKeptFor, other_side, StartsFromOne, StartsStored, StartsSynced}
 use Rattle.gptman_copy.specs.Disk.{AgreesOutside, DiskState, IsSound, LeavesOnly, Wrote}
 use Rattle.gptman_copy.specs.Ranges.{AreClear}
 use Rattle.gptman.specs.Layout.{HasLayout, Holds, copy_ranges_at}
@@ -56,3 +56,7 @@ one_of_stored disk g old from = record {
   start = record { honest = from.honest; layout = from.layout };
   kept = stored_is_kept disk g old from.stored from.layout (record { count = from.count; last = from.last });
 }
+
+-- One good copy leaves nothing pending.
+pub one_is_synced : (disk : DiskState) (g : GPT) (old : Table) → StartsFromOne disk g old → StartsSynced disk g
+one_is_synced disk g old from = record { start = from.start; synced = from.kept.synced }

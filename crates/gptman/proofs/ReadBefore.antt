@@ -1,18 +1,17 @@
 -- A write after calls that only read: what it begins with, and what it leaves, are as if these calls were not.
-use Rattle.std.proofs.Common.{◌≡◌, true, ℕ, List, [], ◌∷◌, length, sym, ◌∙◌, subst}
-use Rattle.gptman_copy.specs.Disk.{DiskState, IsPending, Reads, Wrote}
-use Rattle.gptman_copy.specs.Ranges.{AgreesInside, AreClear}
-use Rattle.gptman.specs.Crash.{BothSidesAfter, IsLeftAlone, SideAfter, StartsFromOne, StartsLaidOut, StartsSynced, other_side}
+use Rattle.std.proofs.Common.{◌≡◌, ◌⊎◌, true, ℕ, List, length, sym, ◌∙◌, subst}
+use Rattle.gptman_copy.specs.Disk.{AgreesOutside, DiskState, IsPending, Reads, Wrote}
+use Rattle.gptman_copy.specs.Ranges.{AgreesInside}
+use Rattle.gptman.specs.Crash.{BothSidesAfter, IsLeftAlone, SideAfter, StartsLaidOut, StartsSynced, StopsComeInTurns, other_side}
 use Rattle.gptman.specs.Crash.SideAfter.{left_alone, written, torn}
 use Rattle.gptman.specs.Layout.{HasLayout, Holds, copy_ranges_at}
 use Rattle.gptman.specs.Reading.{Side, copy_start}
-use Rattle.gptman.specs.Stop.{HoldsOneOf, StopsHold}
 use Rattle.gptman.specs.Table.{Table, table_in}
 use Rattle.gptman.specs.declared.table.GPT.{GPT}
 use Rattle.gptman_copy.proofs.Ranges.{Ranges, within_none, within_self}
 use Rattle.gptman_copy.proofs.Runs.{leaves_then, wrote_then, wrote_wider}
 use Rattle.gptman.proofs.Argument.{only_read}
-use Rattle.gptman.proofs.TwoSides.{good_of}
+use Rattle.gptman.proofs.TwoSides.{turns_of}
 
 module _ (g : GPT) (a b : DiskState) (read : Reads a b) where
   pub laid_out_still : StartsLaidOut a g → StartsLaidOut b g
@@ -24,30 +23,20 @@ module _ (g : GPT) (a b : DiskState) (read : Reads a b) where
   pub synced_still : StartsSynced a g → StartsSynced b g
   synced_still from = record { start = laid_out_still from.start; synced = (read.only from.start.honest).pending ∙ from.synced }
 
-  pub one_still : (was : Table) → StartsFromOne a g was → StartsFromOne b g was
-  one_still was from =
+  -- a stop while they read leaves all bytes as they were
+  pub turns_still : length a.view ≡ a.size → StartsSynced a g → StopsComeInTurns a b g
+  turns_still long from = turns_of g a b long from (λ side form laid. only_read (read.only from.start.honest))
+
+  -- so where a stop in the write leaves the other copy whole, or the bytes outside of it as they were, a stop in both does
+  pub turns_then : (c : DiskState) (ranges : Ranges) → length a.view ≡ a.size → StartsSynced a g → Wrote ranges b c → StopsComeInTurns b c g → StopsComeInTurns a c g
+  turns_then c ranges long from wrote next = λ side form.
       let only = read.only from.start.honest in
-      let kept = from.kept in
-      record {
-        start = laid_out_still from.start;
-        kept = record {
-          synced = only.pending ∙ kept.synced;
-          side = kept.side;
-          form = kept.form;
-          held = subst (λ (v : List ℕ). Holds v g.sector_size kept.side was) (sym only.view) kept.held;
-          clear = subst (λ (n : ℕ). AreClear (copy_ranges_at kept.side was g.sector_size n) (copy_ranges_at (other_side kept.side) (table_in g) g.sector_size n)) (sym read.keeps.size) kept.clear;
-        };
-      }
-
-  -- a stop while they read leaves the old table
-  pub good_still : (was : Table) → length a.view ≡ a.size → StartsFromOne a g was → StopsHold a b g.sector_size (was ∷ table_in g ∷ [])
-  good_still was long from = good_of g a b long was from (λ side form laid. only_read (read.only from.start.honest))
-
-  -- so where a stop in the write leaves the old table or the new one, a stop in both does
-  pub good_then : (c : DiskState) (ranges : Ranges) (was : Table) → length a.view ≡ a.size → StartsFromOne a g was → Wrote ranges b c → StopsHold b c g.sector_size (was ∷ table_in g ∷ [])
-      → StopsHold a c g.sector_size (was ∷ table_in g ∷ [])
-  good_then c ranges was long from wrote next =
-      leaves_then (λ x. HoldsOneOf x g.sector_size (was ∷ table_in g ∷ [])) (read.only from.start.honest).wrote.time wrote.time (good_still was long from) next
+      let here : DiskState → List ℕ → Type 0 = λ d x.
+          AgreesOutside (copy_ranges_at (other_side side) (table_in g) g.sector_size d.size) d.view x ⊎ Holds x g.sector_size (other_side side) (table_in g) in
+      let same : (x : List ℕ) → here b x → here a x = λ x is.
+          subst (λ (v : List ℕ). AgreesOutside (copy_ranges_at (other_side side) (table_in g) g.sector_size a.size) v x ⊎ Holds x g.sector_size (other_side side) (table_in g)) only.view
+          (subst (λ (n : ℕ). AgreesOutside (copy_ranges_at (other_side side) (table_in g) g.sector_size n) b.view x ⊎ Holds x g.sector_size (other_side side) (table_in g)) read.keeps.size is) in
+      leaves_then (here a) only.wrote.time wrote.time (turns_still long from side form) (λ x left. same x (next side form x left))
 
   -- what is written is the same
   pub wrote_still : (c : DiskState) (ranges : Ranges) → a.is_honest ≡ true → Wrote ranges b c → Wrote ranges a c

@@ -4,10 +4,10 @@ use Rattle.std.specs.List.{All}
 use Rattle.std.proofs.lemmas.List.{length-map}
 use Rattle.gptman_copy.specs.Coding.{FitsHeader, FitsEntry}
 use Rattle.gptman_copy.specs.Copy.{with_checksums}
-use Rattle.gptman_copy.specs.Disk.{DiskState, Image, IsPending, LeavesOnly, Outside, Untouched, Wrote, Within}
+use Rattle.gptman_copy.specs.Disk.{AgreesOutside, DiskState, Image, IsPending, LeavesOnly, Outside, Untouched, Wrote, Within}
 use Rattle.gptman_copy.specs.Ranges.{AgreesInside, AreApart, AreClear, AreInside}
 use Rattle.gptman_copy.specs.Write.{other_header, header_range, copy_ranges, FitsCopy, HasBytes, IsCopyLaid}
-use Rattle.gptman.specs.Crash.{other_side, BothSidesAfter, IsLeftAlone, SideAfter, StartsFromOne, StartsLaidOut, StartsSynced}
+use Rattle.gptman.specs.Crash.{other_side, BothSidesAfter, IsLeftAlone, SideAfter, StartsFromOne, StartsLaidOut, StartsSynced, StopsComeInTurns}
 use Rattle.gptman.specs.Crash.SideAfter.{left_alone, written as holds_new, torn}
 use Rattle.gptman.specs.Layout.{Holds, IsLaidOut, copy_ranges_at}
 use Rattle.gptman.specs.Reading.{Side, primary, backup, copy_start}
@@ -164,16 +164,26 @@ module _ (side : Side) (h : GPTHeader) (es : List GPTPartitionEntry) (ss len : �
       let first = other_held a b small long copy in
       written b (other_run a b run) copy.synced first (own_run b c second) done.synced (copied_held side h es t ss len b c refl form laid small first.0 done)
 
-  -- ---- so from one good copy, a stop at any moment leaves the old table or the new one
+  -- ---- so at any moment only the other copy's bytes have changed, or its side holds the new table
 
-  pub one_good : (was : Table) (a c : DiskState) → length a.view ≡ len → a.pending ≡ [] → Holds a.view ss side was → AreClear (copy_ranges_at side was ss len) other → Comes a c
-      → LeavesOnly a c (λ x. HoldsOneOf x ss (was ∷ t ∷ []))
-  one_good was a c long synced held clear come = λ x left. ⊎_elim
-      (λ old. record { side = side; table = was; listed = contains_first was (t ∷ []); holds = old.1 })
-      (λ new. record { side = other_side side; table = t; listed = contains_later t was (t ∷ []) (contains_first t []); holds = new.1 })
+  pub in_turns : (a c : DiskState) → a.pending ≡ [] → Comes a c → LeavesOnly a c (λ x. AgreesOutside other a.view x ⊎ Holds x ss (other_side side) t)
+  in_turns a c synced come = λ x left. ⊎_elim (λ few. inl few) (λ new. inr new.1)
       (at_any_moment own other (copy_start side len ss, 92) (copy_start (other_side side) len ss, 92) (HeldAt len ss side t) (HeldAt len ss (other_side side) t) a c
-      (HeldAt len ss side was) (copy_ranges_at side was ss len) (held_told len ss side was) clear (held_told len ss (other_side side) t) (sides_clear side t ss len laid)
-      synced (long, held) come x left)
+      (held_told len ss (other_side side) t) (sides_clear side t ss len laid) synced come x left)
+
+  -- ---- and from one good copy, a stop leaves the old table or the new one
+
+  pub one_good : (was : Table) (a x : List ℕ) → length a ≡ len → Holds a ss side was → AreClear (copy_ranges_at side was ss len) other
+      → AgreesOutside other a x ⊎ Holds x ss (other_side side) t → HoldsOneOf x ss (was ∷ t ∷ [])
+  one_good was a x long held clear come = ⊎_elim
+      (λ few. record {
+        side = side;
+        table = was;
+        listed = contains_first was (t ∷ []);
+        holds = (stays (HeldAt len ss side was) (copy_ranges_at side was ss len) other a x (held_told len ss side was) clear (long, held) few).1;
+      })
+      (λ new. record { side = other_side side; table = t; listed = contains_later t was (t ∷ []) (contains_first t []); holds = new })
+      come
 
   -- ---- and after an error each side is as it was, or holds the new table in whatever a stop may leave, or has its header pending
 
@@ -235,11 +245,14 @@ module _ (g : GPT) (a c : DiskState) (long : length a.view ≡ a.size) where
   abbrev pub ComesFor : Type 1
   ComesFor = (side : Side) (form : IsHeaderForm side g.header) (laid : IsLaidOut (table_in g) g.sector_size a.size) → Comes side g.header (entries_in g) g.sector_size a.size form laid a c
 
-  pub good_of : (was : Table) → StartsFromOne a g was → ComesFor → StopsHold a c g.sector_size (was ∷ table_in g ∷ [])
-  good_of was from come =
+  pub turns_of : StartsSynced a g → ComesFor → StopsComeInTurns a c g
+  turns_of from come = λ side form. let laid = from.start.layout.table in
+      in_turns side g.header (entries_in g) g.sector_size a.size form laid a c from.synced (come side form laid)
+
+  pub good_of : (was : Table) → StartsFromOne a g was → StopsComeInTurns a c g → StopsHold a c g.sector_size (was ∷ table_in g ∷ [])
+  good_of was from turns = λ x left.
       let kept = from.kept in
-      let laid = from.start.layout.table in
-      one_good kept.side g.header (entries_in g) g.sector_size a.size kept.form laid was a c long kept.synced kept.held kept.clear (come kept.side kept.form laid)
+      one_good kept.side g.header (entries_in g) g.sector_size a.size kept.form from.start.layout.table was a.view x long kept.held kept.clear (turns kept.side kept.form x left)
 
   pub after_of : StartsSynced a g → ComesFor → BothSidesAfter g a c
   after_of from come =

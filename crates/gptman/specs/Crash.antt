@@ -1,5 +1,5 @@
 -- What a write of a table starts from, and what it leaves where it is stopped or fails.
-use Rattle.std.specs.Prelude.{◌≡◌, ℕ, List, [], ◌++◌, length, Ok, IsErr, IsTrue}
+use Rattle.std.specs.Prelude.{◌≡◌, ◌⊎◌, ℕ, List, [], ◌++◌, length, Ok, IsErr, IsTrue}
 use Rattle.gptman_copy.specs.Copy.{IsCoherent}
 use Rattle.gptman_copy.specs.Disk.{AgreesOutside, DiskState, Image, IsHonest, IsPending, LeavesOnly, Outside}
 use Rattle.gptman_copy.specs.Fit.{fit_header}
@@ -58,6 +58,11 @@ pub record StartsStored (disk : DiskState) (g : GPT) (old : Table) : Type 0 wher
 -- A stop at any moment since old leaves all bytes outside of the value's four ranges as they were.
 abbrev pub StopsKeepOthers : DiskState → DiskState → GPT → Type 0
 StopsKeepOthers old new g = LeavesOnly old new (AgreesOutside (copy_ranges_at primary (table_in g) g.sector_size old.size ++ copy_ranges_at backup (table_in g) g.sector_size old.size) old.view)
+
+-- At any moment since old a stop leaves all bytes but those of the value's other copy as they were, or that copy is whole: its side holds the value's table.
+abbrev pub StopsComeInTurns : DiskState → DiskState → GPT → Type 0
+StopsComeInTurns old new g = (side : Side) → IsHeaderForm side g.header
+    → LeavesOnly old new (λ b. AgreesOutside (copy_ranges_at (other_side side) (table_in g) g.sector_size old.size) old.view b ⊎ Holds b g.sector_size (other_side side) (table_in g))
 
 -- No byte of the ranges is pending, and each is as it was.
 pub record IsLeftAlone (ranges : List (ℕ × ℕ)) (old new : DiskState) : Type 0 where

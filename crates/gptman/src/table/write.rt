@@ -14,7 +14,7 @@ ghost use Rattle.gptman_copy.specs.Fault.{fault_of, io as io_fault, overflow};
 ghost use Rattle.gptman_copy.specs.Ranges.{AreApart};
 ghost use Rattle.gptman_copy.specs.Write.{copy_write_fault, header_range, other_header, copy_ranges};
 ghost use Rattle.gptman_copy.specs.Write.{FitsCopy, LaysCopy, SameButSums};
-ghost use Rattle.gptman.specs.Crash.{AreReadAlone, BothSidesAfter, StopsKeepOthers};
+ghost use Rattle.gptman.specs.Crash.{AreReadAlone, BothSidesAfter, StopsComeInTurns, StopsKeepOthers};
 ghost use Rattle.gptman.specs.Crash.{StartsFromOne, StartsLaidOut, StartsStored, StartsSynced};
 ghost use Rattle.gptman.specs.Layout.{HasLayout};
 ghost use Rattle.gptman.specs.Stop.{IsStored, StopsAreReadAs, StopsHold};
@@ -87,8 +87,11 @@ impl GPT {
         ensures alone { StartsLaidOut (D.state disk.old) self.old
             → OnOk result (AreReadAlone (D.state disk.new).view self.old) }
 
-        // From one good copy, a stop at any moment leaves the old table or the new one at one place at
-        // least, and all bytes outside the four ranges as they were.
+        // A stop at any moment leaves all bytes but the other copy's as they were, or that copy whole. So
+        // from one good copy it leaves the old table or the new one at one place at least, and all bytes
+        // outside the four ranges as they were.
+        ensures turns { StartsSynced (D.state disk.old) self.old
+            → StopsComeInTurns (D.state disk.old) (D.state disk.new) self.old }
         ensures one_good { (was : Table) → StartsFromOne (D.state disk.old) self.old was
             → StopsHold (D.state disk.old) (D.state disk.new) self.old.sector_size
             (was ∷ table_in self.old ∷ []) }
@@ -158,9 +161,8 @@ impl GPT {
             → IfOk result (HasBothCopies (D.state disk.new).view self.new) }
         ensures stored { StartsLaidOut (D.state disk.old) self.old
             → OnOk result (IsStored (D.state disk.new) self.old.sector_size (table_in self.old)) }
-        ensures one_good { (was : Table) → StartsFromOne (D.state disk.old) self.old was
-            → StopsHold (D.state disk.old) (D.state disk.new) self.old.sector_size
-            (was ∷ table_in self.old ∷ []) }
+        ensures turns { StartsSynced (D.state disk.old) self.old
+            → StopsComeInTurns (D.state disk.old) (D.state disk.new) self.old }
         ensures after { StartsSynced (D.state disk.old) self.old
             → OnErr result (BothSidesAfter self.old (D.state disk.old) (D.state disk.new)) }
     {

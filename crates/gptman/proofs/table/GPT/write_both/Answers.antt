@@ -9,7 +9,7 @@ use Rattle.gptman_copy.specs.declared.codec.header.GPTHeader.{GPTHeader}
 use Rattle.gptman_copy.proofs.Outcomes.{on_err_of}
 use Rattle.gptman_copy.proofs.Runs.{rose_since}
 use Rattle.gptman.proofs.TwoCopies.{both_allowed, copied_stand, room_inside, wrote_other, wrote_own}
-use Rattle.gptman.proofs.TwoSides.{ComesFor, IsCopied, after_of, both_done, copied, first_fails, good_of, second_fails, stored_of}
+use Rattle.gptman.proofs.TwoSides.{ComesFor, IsCopied, after_of, both_done, copied, first_fails, second_fails, stored_of, turns_of}
 use Rattle.gptman.proofs.table.GPT.write_both.Given.{Over}
 use Rattle.gptman.proofs.table.GPT.write_both.Goals as goal
 
@@ -47,9 +47,9 @@ come_first g c honest side form laid =
     (subst (λ (h : GPTHeader). LeavesPending (header_range h c.args.self.now.sector_size) (g.D.Disk.state c.args.disk.now) new) c.requires.other
     (c.in_err-write_and_sync.ensures.failed honest))
 
-pub returns-in_err-write_and_sync-clause-one_good : goal.returns-in_err-write_and_sync-clause-one_good
-returns-in_err-write_and_sync-clause-one_good g c = λ was from.
-    good_of c.args.self.now (g.D.Disk.state c.args.disk.now) (g.D.Disk.state c.write_and_sync.new.disk) (g.met.D.Disk.sound c.args.disk.now from.start.honest).size was from
+pub returns-in_err-write_and_sync-clause-turns : goal.returns-in_err-write_and_sync-clause-turns
+returns-in_err-write_and_sync-clause-turns g c = λ from.
+    turns_of c.args.self.now (g.D.Disk.state c.args.disk.now) (g.D.Disk.state c.write_and_sync.new.disk) (g.met.D.Disk.sound c.args.disk.now from.start.honest).size from
     (come_first g c from.start.honest)
 
 pub returns-in_err-write_and_sync-clause-after : goal.returns-in_err-write_and_sync-clause-after
@@ -73,9 +73,9 @@ come_second g c honest side form laid =
     (subst (λ (h : GPTHeader). Wrote (copy_ranges h c.args.self.now.sector_size) (g.D.Disk.state c.args.disk.now) (g.D.Disk.state c.write_and_sync.new.disk)) c.requires.other first)
     (other_then g c honest) (c.write_and_sync-2.ensures.wrote first.honest) (c.in_err-write_and_sync-2.ensures.failed first.honest)
 
-pub returns-in_err-write_and_sync-2-clause-one_good : goal.returns-in_err-write_and_sync-2-clause-one_good
-returns-in_err-write_and_sync-2-clause-one_good g c = λ was from.
-    good_of c.args.self.now (g.D.Disk.state c.args.disk.now) (g.D.Disk.state c.write_and_sync-2.new.disk) (g.met.D.Disk.sound c.args.disk.now from.start.honest).size was from
+pub returns-in_err-write_and_sync-2-clause-turns : goal.returns-in_err-write_and_sync-2-clause-turns
+returns-in_err-write_and_sync-2-clause-turns g c = λ from.
+    turns_of c.args.self.now (g.D.Disk.state c.args.disk.now) (g.D.Disk.state c.write_and_sync-2.new.disk) (g.met.D.Disk.sound c.args.disk.now from.start.honest).size from
     (come_second g c from.start.honest)
 
 pub returns-in_err-write_and_sync-2-clause-after : goal.returns-in_err-write_and_sync-2-clause-after
@@ -114,9 +114,9 @@ come_both g c honest side form laid =
     (subst (λ (h : GPTHeader). Wrote (copy_ranges h c.args.self.now.sector_size) (g.D.Disk.state c.args.disk.now) (g.D.Disk.state c.write_and_sync.new.disk)) c.requires.other first)
     (other_done g c honest) (c.write_and_sync-2.ensures.wrote first.honest) (own_done g c honest)
 
-pub returns-clause-one_good : goal.returns-clause-one_good
-returns-clause-one_good g c = λ was from.
-    good_of c.args.self.now (g.D.Disk.state c.args.disk.now) (g.D.Disk.state c.write_and_sync-2.new.disk) (g.met.D.Disk.sound c.args.disk.now from.start.honest).size was from
+pub returns-clause-turns : goal.returns-clause-turns
+returns-clause-turns g c = λ from.
+    turns_of c.args.self.now (g.D.Disk.state c.args.disk.now) (g.D.Disk.state c.write_and_sync-2.new.disk) (g.met.D.Disk.sound c.args.disk.now from.start.honest).size from
     (come_both g c from.start.honest)
 
 pub returns-clause-wrote : goal.returns-clause-wrote

@@ -4,7 +4,7 @@ use Rattle.std.proofs.lemmas.Result.{err_from_is_err_and, on_err_weaker, on_ok_w
 use Rattle.gptman_copy.specs.Answers.{IsFailure}
 use Rattle.gptman_copy.specs.Disk.{Wrote}
 use Rattle.gptman_copy.specs.Fault.{fault_of}
-use Rattle.gptman.specs.Crash.{AreReadAlone, StartsFromOne, StartsLaidOut}
+use Rattle.gptman.specs.Crash.{AreReadAlone, StartsFromOne, StartsLaidOut, StartsSynced, StopsComeInTurns}
 use Rattle.gptman.specs.Stop.{IsStored, StopsHold}
 use Rattle.gptman.specs.Table.{Table, entries_in, table_in}
 use Rattle.gptman.specs.TableWrites.{table_ranges, table_write_fault, HasRoomOn, MayBeWritten}
@@ -16,11 +16,11 @@ use Rattle.gptman_copy.proofs.Readers.{reads_not}
 use Rattle.gptman_copy.proofs.Runs.{rose_since}
 use Rattle.gptman.proofs.Accepted.{checked_valid, failed_or_memory, failure_rose, layout_fits, write_refused}
 use Rattle.gptman.proofs.Argument.{only_read}
-use Rattle.gptman.proofs.OneGood.{leaves_outside, one_of_stored}
+use Rattle.gptman.proofs.OneGood.{leaves_outside, one_is_synced, one_of_stored}
 use Rattle.gptman.proofs.ReadAlone.{stored_alone}
-use Rattle.gptman.proofs.ReadBefore.{after_still, good_still, good_then, laid_out_still, one_still, synced_still, wrote_still}
+use Rattle.gptman.proofs.ReadBefore.{after_still, laid_out_still, synced_still, turns_still, turns_then, wrote_still}
 use Rattle.gptman.proofs.ReadingLaw.{reads_one_of}
-use Rattle.gptman.proofs.TwoSides.{ComesFor, good_of}
+use Rattle.gptman.proofs.TwoSides.{ComesFor, good_of, turns_of}
 use Rattle.gptman.proofs.table.GPT.write_into.Given.{Over}
 use Rattle.gptman.proofs.table.GPT.write_into.Goals as goal
 
@@ -30,29 +30,48 @@ come_check : (g : Over) (c : goal.After-from_residual g) (honest : IsTrue (g.D.D
     → ComesFor c.args.self.now (g.D.Disk.state c.args.disk.now) (g.D.Disk.state c.args.disk.now) (g.met.D.Disk.sound c.args.disk.now honest).size
 come_check g c honest side form laid = only_read (reads_not (g.D.Disk.state c.args.disk.now) honest (g.met.D.Disk.sound c.args.disk.now honest))
 
-pub returns-in_err-check-clause-one_good : goal.returns-in_err-check-clause-one_good
-returns-in_err-check-clause-one_good g c = λ was from.
+turns_check : (g : Over) (c : goal.After-from_residual g) → StartsSynced (g.D.Disk.state c.args.disk.now) c.args.self.now
+    → StopsComeInTurns (g.D.Disk.state c.args.disk.now) (g.D.Disk.state c.args.disk.now) c.args.self.now
+turns_check g c from =
     let old = g.D.Disk.state c.args.disk.now in
-    good_of c.args.self.now old old (g.met.D.Disk.sound c.args.disk.now from.start.honest).size was from (come_check g c from.start.honest)
+    turns_of c.args.self.now old old (g.met.D.Disk.sound c.args.disk.now from.start.honest).size from (come_check g c from.start.honest)
+
+good_check : (g : Over) (c : goal.After-from_residual g) (was : Table) → StartsFromOne (g.D.Disk.state c.args.disk.now) c.args.self.now was
+    → StopsHold (g.D.Disk.state c.args.disk.now) (g.D.Disk.state c.args.disk.now) c.args.self.now.sector_size (was ∷ table_in c.args.self.now ∷ [])
+good_check g c was from =
+    let old = g.D.Disk.state c.args.disk.now in
+    good_of c.args.self.now old old (g.met.D.Disk.sound c.args.disk.now from.start.honest).size was from (turns_check g c (one_is_synced old c.args.self.now was from))
+
+pub returns-in_err-check-clause-turns : goal.returns-in_err-check-clause-turns
+returns-in_err-check-clause-turns g c = turns_check g c
+
+pub returns-in_err-check-clause-one_good : goal.returns-in_err-check-clause-one_good
+returns-in_err-check-clause-one_good g c = good_check g c
 
 pub returns-in_err-check-clause-read : goal.returns-in_err-check-clause-read
-returns-in_err-check-clause-read g c = λ was from x left known.
-    let old = g.D.Disk.state c.args.disk.now in
-    reads_one_of x _ _ (good_of c.args.self.now old old (g.met.D.Disk.sound c.args.disk.now from.start.honest).size was from (come_check g c from.start.honest) x left) known
+returns-in_err-check-clause-read g c = λ was from x left known. reads_one_of x _ _ (good_check g c was from x left) known
 
 pub returns-in_err-check-clause-crash_safe : goal.returns-in_err-check-clause-crash_safe
 returns-in_err-check-clause-crash_safe g c = λ was from x left known.
-    let old = g.D.Disk.state c.args.disk.now in
-    reads_one_of x _ _ (good_of c.args.self.now old old (g.met.D.Disk.sound c.args.disk.now from.honest).size was (one_of_stored old c.args.self.now was from)
-    (come_check g c from.honest) x left) known
+    reads_one_of x _ _ (good_check g c was (one_of_stored (g.D.Disk.state c.args.disk.now) c.args.self.now was from) x left) known
 
 -- ---- the disk's length is taken, or the other header refused: the disk was only read
+
+turns_read : (g : Over) (c : goal.After-from_residual-in_err-other g) → StartsSynced (g.D.Disk.state c.args.disk.now) c.args.self.now
+    → StopsComeInTurns (g.D.Disk.state c.args.disk.now) (g.D.Disk.state c.writable_other.new.disk) c.args.self.now
+turns_read g c from =
+    turns_still c.args.self.now (g.D.Disk.state c.args.disk.now) (g.D.Disk.state c.writable_other.new.disk) c.in_err-other.ensures.reads
+    (g.met.D.Disk.sound c.args.disk.now from.start.honest).size from
 
 still : (g : Over) (c : goal.After-from_residual-in_err-other g) (was : Table) → StartsFromOne (g.D.Disk.state c.args.disk.now) c.args.self.now was
     → StopsHold (g.D.Disk.state c.args.disk.now) (g.D.Disk.state c.writable_other.new.disk) c.args.self.now.sector_size (was ∷ table_in c.args.self.now ∷ [])
 still g c was from =
-    good_still c.args.self.now (g.D.Disk.state c.args.disk.now) (g.D.Disk.state c.writable_other.new.disk) c.in_err-other.ensures.reads was
-    (g.met.D.Disk.sound c.args.disk.now from.start.honest).size from
+    let old = g.D.Disk.state c.args.disk.now in
+    good_of c.args.self.now old (g.D.Disk.state c.writable_other.new.disk) (g.met.D.Disk.sound c.args.disk.now from.start.honest).size was from
+    (turns_read g c (one_is_synced old c.args.self.now was from))
+
+pub returns-in_err-other-clause-turns : goal.returns-in_err-other-clause-turns
+returns-in_err-other-clause-turns g c = turns_read g c
 
 pub returns-in_err-other-clause-one_good : goal.returns-in_err-other-clause-one_good
 returns-in_err-other-clause-one_good g c = still g c
@@ -129,14 +148,24 @@ pub returns-clause-outside : goal.returns-clause-outside
 returns-clause-outside g c = λ from.
     leaves_outside c.args.self.now _ (g.D.Disk.state c.write_both.new.disk) from.synced from.start.layout (wrote g c from.start.honest)
 
+turns : (g : Over) (c : goal.After-write_both g) → StartsSynced (g.D.Disk.state c.args.disk.now) c.args.self.now
+    → StopsComeInTurns (g.D.Disk.state c.args.disk.now) (g.D.Disk.state c.write_both.new.disk) c.args.self.now
+turns g c from =
+    let old = g.D.Disk.state c.args.disk.now in
+    let mid = g.D.Disk.state c.writable_other.new.disk in
+    let reads = c.in_ok-other.ensures.reads in
+    turns_then c.args.self.now old mid reads (g.D.Disk.state c.write_both.new.disk) (table_ranges c.args.self.now) (g.met.D.Disk.sound c.args.disk.now from.start.honest).size from
+    (c.write_both.ensures.wrote (reads.only from.start.honest).wrote.honest) (c.write_both.ensures.turns (synced_still c.args.self.now old mid reads from))
+
+pub returns-clause-turns : goal.returns-clause-turns
+returns-clause-turns g c = turns g c
+
 good : (g : Over) (c : goal.After-write_both g) (was : Table) → StartsFromOne (g.D.Disk.state c.args.disk.now) c.args.self.now was
     → StopsHold (g.D.Disk.state c.args.disk.now) (g.D.Disk.state c.write_both.new.disk) c.args.self.now.sector_size (was ∷ table_in c.args.self.now ∷ [])
 good g c was from =
     let old = g.D.Disk.state c.args.disk.now in
-    let mid = g.D.Disk.state c.writable_other.new.disk in
-    let reads = c.in_ok-other.ensures.reads in
-    good_then c.args.self.now old mid reads (g.D.Disk.state c.write_both.new.disk) (table_ranges c.args.self.now) was (g.met.D.Disk.sound c.args.disk.now from.start.honest).size from
-    (c.write_both.ensures.wrote (reads.only from.start.honest).wrote.honest) (c.write_both.ensures.one_good was (one_still c.args.self.now old mid reads was from))
+    good_of c.args.self.now old (g.D.Disk.state c.write_both.new.disk) (g.met.D.Disk.sound c.args.disk.now from.start.honest).size was from
+    (turns g c (one_is_synced old c.args.self.now was from))
 
 pub returns-clause-one_good : goal.returns-clause-one_good
 returns-clause-one_good g c = good g c
