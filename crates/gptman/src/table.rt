@@ -20,7 +20,7 @@ mod entries;
 pub mod iter;
 pub mod laws;
 mod layout;
-mod mbr;
+pub mod mbr;
 mod numbers;
 mod read;
 mod sort;

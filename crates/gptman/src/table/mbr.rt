@@ -1,10 +1,10 @@
 //! The protective MBR: 66 bytes in the first 512, which show the whole disk as one partition to a
 //! program that knows no GUID partition tables.
 
-ghost use Rattle.std.specs.Prelude.{◌≡◌, ◌≤◌, ◌<◌, ◌∷◌, [], true, false};
-ghost use Rattle.gptman_copy.specs.Answers.{CountsFailure, FailsPending, HasCause, RefusesUntouched};
+ghost use Rattle.std.specs.Prelude.{◌≡◌, ◌≤◌, ◌<◌, ◌∷◌, [], true, false, IfOk};
+ghost use Rattle.gptman_copy.specs.Answers.{refusal_of, CountsFailure, FailsPending, HasCause, RefusesUntouched};
 ghost use Rattle.gptman_copy.specs.Disk.{HasFailedOnceAtMost, Keeps, Writes};
-ghost use Rattle.gptman.specs.Mbr.{mbr_bytes, mbr_range, AnswersMbr, LaysMbr};
+ghost use Rattle.gptman.specs.Mbr.{mbr_bytes, mbr_fault, mbr_range, AnswersMbr, LaysMbr};
 
 use crate::table::GPT;
 use gptman_copy::cells::{put, put_u32};
@@ -78,15 +78,29 @@ fn write_mbr<D: Disk>(disk: &mut D, sector_size: u64, bootable: bool) -> Result<
     ensures failed { FailsPending mbr_range result (D.state disk.old) (D.state disk.new) }
 {
     let size = disk.seek_end()?;
+    let bytes = protective_mbr(sector_size, size, bootable)?;
+    disk.seek_start(MBR_START)?;
+    disk.write_all(&bytes)?;
+    Ok(())
+}
+
+/// The 66 bytes of a protective MBR for a disk of so many bytes, which stand from byte 446 on. Its
+/// partition is marked as bootable or not. The sector size is in bytes, and above 0.
+///
+/// `Overflow` where the disk is shorter than a sector, then `NoSpaceLeft` where it is shorter than 512
+/// bytes.
+pub fn protective_mbr(sector_size: u64, size: u64, bootable: bool) -> Result<[u8; 66]>
+    requires { 0 < sector_size }
+    ensures answer { refusal_of result ≡ mbr_fault sector_size size }
+    ensures bytes { IfOk result (λ bytes. bytes ≡ mbr_bytes bootable sector_size size) }
+{
     if size < sector_size {
         return Err(Error::Overflow);
     }
     if size < MBR_END {
         return Err(Error::NoSpaceLeft);
     }
-    disk.seek_start(MBR_START)?;
-    disk.write_all(&mbr_bytes(bootable, sector_size, size))?;
-    Ok(())
+    Ok(mbr_bytes(bootable, sector_size, size))
 }
 
 // The bytes of a protective MBR for a disk of so many bytes.
