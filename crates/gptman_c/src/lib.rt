@@ -27,6 +27,7 @@ ghost use Rattle.gptman_ends.specs.Planning.{needed_after, refusal_number, Refus
 ghost use Rattle.gptman_ends.specs.Rounds.{first_sector, reading_ranges, IsAmong};
 
 use gptman::crc::crc32;
+use gptman::table::mbr::protective_mbr;
 use gptman_ends::checking::{Look, look_at_both};
 use gptman_ends::dos::{Seen, look_for_dos};
 use gptman_ends::ends::are_apart;
@@ -39,7 +40,6 @@ use gptman_ends::making::plan_new;
 use gptman_ends::naming::{lay_text, name_of, units_for};
 use gptman_ends::offers::find_place;
 use gptman_ends::planning::{Refusal, plan};
-use gptman_ends::protective::plan_mbr;
 use gptman_ends::reading::{Reading, read};
 use gptman_ends::record::Record;
 pub use gptman_ends::records::{Check, Needed, Partition, Step, Table};
@@ -558,12 +558,11 @@ pub extern "C" fn gptman_dos(
 ///
 /// 0: the 66 bytes are there, and those behind them as they were.
 ///
-/// 14: the disk is shorter than a sector. 8: it is not, but shorter than 512 bytes. 15: there is no memory.
+/// 14: the disk is shorter than a sector. 8: it is not, but shorter than 512 bytes.
 ///
 /// 18: `bytes` is shorter than 66. 19: `sector_size` is 0, or `bootable` above 1.
 #[unsafe(no_mangle)]
 pub extern "C" fn gptman_mbr(
-    alloc: Global,
     disk_size: u64,
     sector_size: u64,
     bootable: u32,
@@ -577,7 +576,7 @@ pub extern "C" fn gptman_mbr(
     ensures room { result ≡ 18 → length bytes.old < 66 }
     ensures bad { result ≡ 19 → (sector_size ≡ 0) ⊎ (1 < bootable) }
     ensures answers { (result ≡ 0) ⊎ ((result ≡ 8) ⊎ ((result ≡ 14)
-        ⊎ ((result ≡ 15) ⊎ ((result ≡ 18) ⊎ (result ≡ 19))))) }
+        ⊎ ((result ≡ 18) ⊎ (result ≡ 19)))) }
     ensures kept { result ≢ 0 → bytes.new ≡ bytes.old }
 {
     if sector_size == 0 || bootable > 1 {
@@ -586,9 +585,9 @@ pub extern "C" fn gptman_mbr(
     if bytes.len() < 66 {
         return LACKS_ROOM;
     }
-    match plan_mbr(alloc, disk_size, sector_size, bootable == 1) {
-        Ok(plan) => {
-            bytes[..66].copy_from_slice(&plan.bytes);
+    match protective_mbr(sector_size, disk_size, bootable == 1) {
+        Ok(mbr) => {
+            bytes[..66].copy_from_slice(&mbr);
             0
         }
         Err(fault) => number_of(&fault),

@@ -1,10 +1,10 @@
 -- One more act of a plan.
-use Rattle.std.proofs.Common.{◌≡◌, inl, inr, ⊎_elim, ◌≤◌, ℕ, ◌+◌, List, [], ◌∷◌, ◌++◌, length, take, refl, sym, ◌∙◌, ap, subst, arith}
+use Rattle.std.proofs.Common.{◌≡◌, ◌⊎◌, inl, inr, ⊎_elim, ◌≤◌, ℕ, suc, ◌+◌, ◌-◌, List, [], ◌∷◌, ◌++◌, length, take, refl, sym, ◌∙◌, ap, subst, arith}
 use Rattle.std.proofs.lemmas.List.{take_all, take-append-le, length_push}
 use Rattle.std.proofs.lemmas.List.Sums.{fold_push}
 use Rattle.std.proofs.lemmas.Bool.{cases_lt}
 use Rattle.gptman.specs.Disk.{AgreesOutside, Within, Elapses, Wrote, overlay}
-use Rattle.gptman_ends.specs.Plan.{Act, view_step, pending_step, view_of, pending_of, LeftBy, plan_state}
+use Rattle.gptman_ends.specs.Plan.{Act, view_step, pending_step, view_of, pending_of, LeftBy, LeftSince, left_earlier, plan_state}
 use Rattle.gptman_ends.specs.Plan.Act.{lay, store}
 use Rattle.gptman_copy.proofs.Ranges.{Ranges, agrees_self, agrees_then, agrees_wider, within_self, within_left, within_right, within_none}
 use Rattle.gptman_copy.proofs.Overlays.{agrees_overlay}
@@ -35,33 +35,39 @@ module _ (start : List ℕ) (acts after_acts : List Act) (e : Act) (ranges : Ran
   elapses : (s p f p' f' : ℕ) → Elapses (plan_state start acts s p f) (plan_state start after_acts s p' f')
   elapses s p f p' f' = record {
     later = omega (arith, longer);
-    nothing_else = λ t b le left. ⊎_elim
-        (λ new. inr (record { after = left.after; since = omega (arith, new); until = left.until; image = left.image }))
-        (λ old. inl (record { after = left.after; since = left.since; until = old; image = earlier_image left.after b old left.image }))
-        (cases_lt (length acts) left.after);
-    keeps = λ t b le left. record {
-      after = left.after;
-      since = left.since;
-      until = omega (arith, left.until, longer);
-      image = subst (λ (l : List Act). AgreesOutside (pending_of l) (view_of start l) b) (sym (still left.after left.until)) left.image;
-    };
-    earlier = λ t u b le left. record { after = left.after; since = omega (arith, le, left.since); until = left.until; image = left.image };
+    nothing_else = λ t b le left. ⊎_elim (λ first. inl (inl first)) (λ is. old_or_new t b is) left;
+    keeps = λ t b le left. ⊎_elim (λ first. inl first) (λ is. inr (kept t b is)) left;
+    earlier = left_earlier start after_acts;
   }
+    where
+      old_or_new : (t : ℕ) (b : List ℕ) → LeftBy start after_acts (t - 1) b → LeftSince start acts t b ⊎ LeftSince start after_acts (suc (length acts)) b
+      old_or_new t b left = ⊎_elim
+          (λ new. inr (inr (record { after = left.after; since = omega (arith, new); until = left.until; image = left.image })))
+          (λ old. inl (inr (record { after = left.after; since = left.since; until = old; image = earlier_image left.after b old left.image })))
+          (cases_lt (length acts) left.after)
 
-  leaves : (b : List ℕ) → LeftBy start after_acts (length acts) b → AgreesOutside (ranges ++ pending_of acts) (view_of start acts) b
+      kept : (t : ℕ) (b : List ℕ) → LeftBy start acts (t - 1) b → LeftBy start after_acts (t - 1) b
+      kept t b left = record {
+        after = left.after;
+        since = left.since;
+        until = omega (arith, left.until, longer);
+        image = subst (λ (l : List Act). AgreesOutside (pending_of l) (view_of start l) b) (sym (still left.after left.until)) left.image;
+      }
+
+  leaves : (b : List ℕ) → LeftBy start after_acts (suc (length acts) - 1) b → AgreesOutside (ranges ++ pending_of acts) (view_of start acts) b
   leaves b left = ⊎_elim
       (λ new.
       let all : take left.after after_acts ≡ after_acts = take_all left.after after_acts (omega (arith, new, longer)) in
       let image : AgreesOutside (pending_of after_acts) (view_of start after_acts) b = subst (λ (l : List Act). AgreesOutside (pending_of l) (view_of start l) b) all left.image in
       agrees_then (agrees_wider (within_left ranges (pending_of acts)) agrees) (agrees_wider within image))
       (λ old.
-      let all : take left.after acts ≡ acts = take_all left.after acts left.since in
+      let all : take left.after acts ≡ acts = take_all left.after acts (omega (arith, left.since)) in
       let image : AgreesOutside (pending_of acts) (view_of start acts) b = subst (λ (l : List Act). AgreesOutside (pending_of l) (view_of start l) b) all (earlier_image left.after b old left.image) in
       agrees_wider (within_right ranges (pending_of acts)) image)
       (cases_lt (length acts) left.after)
 
   pub recorded : (s p f p' f' : ℕ) → Wrote ranges (plan_state start acts s p f) (plan_state start after_acts s p' f')
-  recorded s p f p' f' = record { honest = refl; view = agrees; pending = within; crash = leaves; time = elapses s p f p' f' }
+  recorded s p f p' f' = record { honest = refl; view = agrees; pending = within; crash = λ b left. ⊎_elim (λ first. absurd (omega (arith, first.0))) (λ is. leaves b is) left; time = elapses s p f p' f' }
 
 module _ (start : List ℕ) (acts after_acts : List Act) where
   pub stored : after_acts ≡ acts ++ store ∷ [] → (s p f p' f' : ℕ) → Wrote [] (plan_state start acts s p f) (plan_state start after_acts s p' f')
@@ -92,13 +98,16 @@ nothing_more start acts after_acts ranges same s p f p' f' =
       honest = refl;
       view = agrees_self ranges (view_of start acts);
       pending = within_right ranges (pending_of acts);
-      crash = λ b left.
-          let all : take left.after acts ≡ acts = take_all left.after acts left.since in
-          agrees_wider (within_right ranges (pending_of acts)) (subst (λ (l : List Act). AgreesOutside (pending_of l) (view_of start l) b) all left.image);
+      crash = λ b left. ⊎_elim (λ first. absurd (omega (arith, first.0))) (λ is. same_image b is) left;
       time = record {
         later = omega arith;
         nothing_else = λ t b le left. inl left;
         keeps = λ t b le left. left;
-        earlier = λ t u b le left. record { after = left.after; since = omega (arith, le, left.since); until = left.until; image = left.image };
+        earlier = left_earlier start acts;
       };
     })
+  where
+    same_image : (b : List ℕ) → LeftBy start acts (suc (length acts) - 1) b → AgreesOutside (ranges ++ pending_of acts) (view_of start acts) b
+    same_image b left =
+        let all : take left.after acts ≡ acts = take_all left.after acts (omega (arith, left.since)) in
+        agrees_wider (within_right ranges (pending_of acts)) (subst (λ (l : List Act). AgreesOutside (pending_of l) (view_of start l) b) all left.image)

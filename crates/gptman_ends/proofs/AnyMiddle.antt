@@ -1,5 +1,5 @@
 -- What is proved of the disk with zeros between its ends, of any disk with these ends.
-use Rattle.std.proofs.Common.{◌≡◌, ⊎_elim, ◌<◌, ◌≤◌, ℕ, ◌+◌, ◌-◌, List, length, get_or, take, drop, sym, ◌∙◌, ap, subst, arith, length-drop}
+use Rattle.std.proofs.Common.{◌≡◌, ◌⊎◌, inl, inr, ⊎_elim, ◌<◌, ◌≤◌, ℕ, ◌+◌, ◌-◌, List, length, get_or, take, drop, sym, ◌∙◌, ap, subst, arith, length-drop}
 use Rattle.std.proofs.lemmas.List.{get_or-take, get_or-drop, length-take-le}
 use Rattle.gptman.specs.Bytes.{part}
 use Rattle.gptman.specs.Disk.{Outside, AgreesOutside, overlay}
@@ -90,12 +90,15 @@ module _ (first last size : ℕ) (apart : first + last ≤ size) (b c : List ℕ
         (λ mid. left.image.same k (clear_pending first last size apart k mid.0 mid.1 made made_known) ∙ still_middle first last size apart k mid.0 mid.1 b made long_b made_known)
         (cases_middle first last size apart k)
 
+    held_there : (ss : ℕ) (side : Side) (table : Table) → AreRangesKnown first last size (copy_ranges_at side table ss size) → Holds (mirrored x) ss side table → Holds x ss side table
+    held_there ss side table places holds = holds_known first last size (mirrored x) x ss side table length-mirrored mirrored_same places holds
+
     held_then : (ss : ℕ) (tables : List Table) → ArePlacesKnown first last size ss tables → HoldsOneOf (mirrored x) ss tables → HoldsOneOf x ss tables
     held_then ss tables places holds = record {
       side = holds.side;
       table = holds.table;
       listed = holds.listed;
-      holds = holds_known first last size (mirrored x) x ss holds.side holds.table length-mirrored mirrored_same (places holds.table holds.listed holds.side) holds.holds;
+      holds = held_there ss holds.side holds.table (places holds.table holds.listed holds.side) holds.holds;
     }
 
   -- where each stop leaves one of the tables on the other disk, each stop does on this one
@@ -106,6 +109,14 @@ module _ (first last size : ℕ) (apart : first + last ≤ size) (b c : List ℕ
   -- and where each stop leaves all bytes outside of ranges as they were there, each stop does here
   stops_keep : (ranges : Ranges) → ((y : List ℕ) → LeftBy c acts 0 y → AgreesOutside ranges c y) → (x : List ℕ) → LeftBy b acts 0 x → AgreesOutside ranges b x
   stops_keep ranges stops x left = record { long = long x 0 left ∙ sym long_b; same = outside_then x 0 left ranges (stops (mirrored x) (left_mirrored x 0 left)) }
+
+  -- Where each stop leaves a table at a side there, or all bytes outside of ranges as they were, each stop does here.
+  stops_turn : (ranges : Ranges) (ss : ℕ) (side : Side) (t : Table) → AreRangesKnown first last size (copy_ranges_at side t ss size)
+      → ((y : List ℕ) → LeftBy c acts 0 y → AgreesOutside ranges c y ⊎ Holds y ss side t) → (x : List ℕ) → LeftBy b acts 0 x → AgreesOutside ranges b x ⊎ Holds x ss side t
+  stops_turn ranges ss side t places stops x left = ⊎_elim
+      (λ kept. inl (record { long = long x 0 left ∙ sym long_b; same = outside_then x 0 left ranges kept }))
+      (λ held. inr (held_there x 0 left ss side t places held))
+      (stops (mirrored x) (left_mirrored x 0 left))
 
   -- a table that this one holds after the acts is held after them there
   after_holds : (ss : ℕ) (side : Side) (t : Table) → AreRangesKnown first last size (copy_ranges_at side t ss size) → Holds (view_of b acts) ss side t → Holds (view_of c acts) ss side t
@@ -143,3 +154,10 @@ module _ (head tail b : List ℕ) (size : ℕ) (apart : length head + length tai
         → (x : List ℕ) → LeftBy b acts 0 x → AgreesOutside ranges b x
     others_any ranges stops x left =
         stops_keep (length head) (length tail) size apart b (disk_bytes head tail size) ends.long of_zeros.long (agrees_back from_zeros) acts known ranges stops x left
+
+    -- or holds at a side what each stop holds there
+    pub turns_any : (ranges : Ranges) (ss : ℕ) (side : Side) (t : Table) → AreRangesKnown (length head) (length tail) size (copy_ranges_at side t ss size)
+        → ((y : List ℕ) → LeftBy (disk_bytes head tail size) acts 0 y → AgreesOutside ranges (disk_bytes head tail size) y ⊎ Holds y ss side t)
+        → (x : List ℕ) → LeftBy b acts 0 x → AgreesOutside ranges b x ⊎ Holds x ss side t
+    turns_any ranges ss side t places stops x left =
+        stops_turn (length head) (length tail) size apart b (disk_bytes head tail size) ends.long of_zeros.long (agrees_back from_zeros) acts known ranges ss side t places stops x left

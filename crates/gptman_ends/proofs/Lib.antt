@@ -6,13 +6,11 @@ pub mod Asked
 pub mod AskedPlans
 pub mod Checked
 pub mod Fitted
-pub mod InTurns
 pub mod Known
 pub mod KnownActs
 pub mod Middle
 pub mod Numbered
 pub mod Planned
-pub mod RecordedMbr
 pub mod Refused
 pub mod Rewriting
 pub mod Rounded

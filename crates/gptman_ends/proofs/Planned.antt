@@ -1,7 +1,8 @@
 -- What is proved of the disk that records a write, said of its acts.
-use Rattle.std.proofs.Common.{◌≡◌, ℕ, List, [], ◌∷◌, length, refl, sym, ap, ◌∙◌, subst}
+use Rattle.std.proofs.Common.{◌≡◌, inl, inr, ⊎_elim, true, ℕ, zero, suc, List, [], ◌∷◌, length, take, refl, sym, ap, ◌∙◌, subst, arith}
+use Rattle.std.proofs.lemmas.List.{take_all}
 use Rattle.gptman.specs.Crash.{IsReadInForm}
-use Rattle.gptman.specs.Disk.{AgreesOutside, DiskState, IsHonest, LeavesOnly}
+use Rattle.gptman.specs.Disk.{AgreesOutside, DiskState, Elapses, IsHonest, LeavesOnly}
 use Rattle.gptman.specs.Layout.{Holds, IsLaidOut}
 use Rattle.gptman.specs.Reading.{primary, backup}
 use Rattle.gptman.specs.Stop.{IsStored, StopsHold}
@@ -9,22 +10,24 @@ use Rattle.gptman.specs.Table.{Table, table_in}
 use Rattle.gptman.specs.declared.table.GPT.{GPT}
 use Rattle.gptman_ends.specs.Crossing.{four_ranges, with_partitions}
 use Rattle.gptman_ends.specs.Ends.{disk_bytes}
-use Rattle.gptman_ends.specs.Plan.{Act, LeftBy, acts_of, pending_of, plan_state, view_of}
+use Rattle.gptman_ends.specs.Plan.{Act, LeftBy, acts_of, pending_of, plan_state, steps_fit, view_of}
 use Rattle.gptman_ends.specs.Planning.{IsSafePlan}
 use Rattle.gptman_ends.specs.declared.ends.Ends.{Ends}
 use Rattle.gptman_ends.specs.declared.record.Record.{Record}
 use Rattle.gptman_ends.specs.declared.records.Partition.{Partition}
+use Rattle.gptman_ends.proofs.Known.{length-disk_bytes}
+use Rattle.gptman_ends.proofs.Steps.{length-steps}
 
 -- the disk is one of these bytes after the acts
 pub record IsAfter (start : List ℕ) (acts : List Act) (disk : DiskState) : Type 0 where
   pub view : disk.view ≡ view_of start acts
   pub pending : disk.pending ≡ pending_of acts
-  pub left : (t : ℕ) (b : List ℕ) → LeftBy start acts t b → disk.left_since t b
+  pub left : (b : List ℕ) → LeftBy start acts 0 b → disk.left_since 1 b
 
 -- a disk that was made with these bytes is
 is_after : (start start_too : List ℕ) (acts acts_too : List Act) (s p f : ℕ) → start_too ≡ start → acts ≡ acts_too → IsAfter start acts (plan_state start_too acts_too s p f)
 is_after start start_too acts acts_too s p f same same_acts =
-    let one : IsAfter start acts (plan_state start acts s p f) = record { view = refl; pending = refl; left = λ t b left. left } in
+    let one : IsAfter start acts (plan_state start acts s p f) = record { view = refl; pending = refl; left = λ b left. inr left } in
     subst (λ (x : List ℕ). IsAfter start acts (plan_state x acts_too s p f)) (sym same)
     (subst (λ (l : List Act). IsAfter start acts (plan_state start l s p f)) same_acts one)
 
@@ -37,11 +40,48 @@ pub begins_at : (d : Ends) (head tail : List ℕ) (size : ℕ) → d.head.now �
     → d.position ≡ 0 → d.failures ≡ 0 → state_of d ≡ plan_state (disk_bytes head tail size) [] size 0 0
 begins_at d head tail size h t s acts position failures = λ i. plan_state (disk_bytes (h i) (t i) (s i)) (acts i) (s i) (position i) (failures i)
 
-pub ends_after : (e : Ends) (plan : Record) (head tail : List ℕ) (size : ℕ) → e.head.now ≡ head → e.tail.now ≡ tail → e.plan.size ≡ size → plan ≡ e.plan
-    → IsAfter (disk_bytes head tail size) (acts_of plan.bytes.items plan.steps.items) (state_of e)
-ends_after e plan head tail size h t s taken =
-    is_after (disk_bytes head tail size) (disk_bytes e.head.now e.tail.now e.plan.size) (acts_of plan.bytes.items plan.steps.items) (acts_of e.plan.bytes.items e.plan.steps.items)
-    e.plan.size e.position e.failures (λ i. disk_bytes (h i) (t i) (s i)) (λ i. acts_of (taken i).bytes.items (taken i).steps.items)
+pub ends_after : (e : Ends) (plan : Record) (start : List ℕ) → disk_bytes e.head.now e.tail.now e.plan.size ≡ start → plan ≡ e.plan
+    → IsAfter start (acts_of plan.bytes.items plan.steps.items) (state_of e)
+ends_after e plan start same taken =
+    is_after start (disk_bytes e.head.now e.tail.now e.plan.size) (acts_of plan.bytes.items plan.steps.items) (acts_of e.plan.bytes.items e.plan.steps.items)
+    e.plan.size e.position e.failures same (λ i. acts_of (taken i).bytes.items (taken i).steps.items)
+
+-- ---- the start stays the same while calls are made
+
+tail_of : List ℕ → List ℕ
+tail_of [] = []
+tail_of (x ∷ xs) = xs
+
+abbrev no_acts : List Act
+no_acts = []
+
+module _ (start : List ℕ) (size : ℕ) (old : DiskState) (e : Ends) (long : length start ≡ size) (begins : old ≡ plan_state start [] size 0 0) (sized : e.plan.size ≡ size) where
+  abbrev now : List ℕ
+  now = disk_bytes e.head.now e.tail.now e.plan.size
+
+  length-now : length now ≡ e.plan.size
+  length-now = length-disk_bytes e.head.now e.tail.now e.plan.size e.apart
+
+  fits : steps_fit (length now) (length e.plan.bytes.items) e.plan.steps.items ≡ true
+  fits = subst (λ (n : ℕ). steps_fit n (length e.plan.bytes.items) e.plan.steps.items ≡ true) (sym length-now) e.plan.held
+
+  -- no stop leaves a byte more than the disk has
+  none_after : LeftBy now (acts_of e.plan.bytes.items e.plan.steps.items) 0 (0 ∷ now) → ⊥
+  none_after left = omega (arith, left.image.long, length-steps now e.plan.bytes.items left.after e.plan.steps.items fits)
+
+  none_before : LeftBy start [] 0 (0 ∷ now) → ⊥
+  none_before left =
+      let view : view_of start (take left.after []) ≡ start = ap (λ (l : List Act). view_of start l) (take_all left.after no_acts (omega arith)) in
+      omega (arith, left.image.long, ap (λ (l : List ℕ). length l) view, long, length-now, sized)
+
+  pub start_stays : Elapses old (state_of e) → now ≡ start
+  unfolding tail_of
+  start_stays time =
+      let run : Elapses (plan_state start [] size 0 0) (state_of e) = subst (λ (d : DiskState). Elapses d (state_of e)) begins time in
+      ⊎_elim
+      (λ was. ⊎_elim (λ first. ap tail_of first.1) (λ left. absurd (none_before left)) was)
+      (λ later. ⊎_elim (λ first. absurd (omega (arith, first.0))) (λ left. absurd (none_after left)) later)
+      (run.nothing_else 0 (0 ∷ now) (omega arith) (inl (refl, refl)))
 
 module _ (start : List ℕ) (size : ℕ) (g : GPT) (partitions : List Partition) (acts : List Act) (old new : DiskState) (long : length start ≡ size) (begins : old ≡ plan_state start [] size 0 0)
     (after : IsAfter start acts new) where
@@ -59,8 +99,8 @@ module _ (start : List ℕ) (size : ℕ) (g : GPT) (partitions : List Partition)
       let synced : old.pending ≡ [] = ap (λ (d : DiskState). d.pending) begins in
       let read : IsReadInForm old.view g = subst (λ (d : DiskState). IsReadInForm d.view g) (sym begins) read in
       let laid : IsLaidOut next g.sector_size old.size = subst (λ (d : DiskState). IsLaidOut next g.sector_size d.size) (sym begins) laid in
-      let clock : old.clock ≡ 0 = ap (λ (d : DiskState). d.clock) begins in
-      let left : (x : List ℕ) → LeftBy start acts 0 x → new.left_since old.clock x = λ x was. subst (λ (t : ℕ). new.left_since t x) (sym clock) (after.left 0 x was) in
+      let clock : old.clock ≡ 1 = ap (λ (d : DiskState). d.clock) begins in
+      let left : (x : List ℕ) → LeftBy start acts 0 x → new.left_since old.clock x = λ x was. subst (λ (t : ℕ). new.left_since t x) (sym clock) (after.left x was) in
       let done = stored honest synced read laid in
       record {
         stops = λ x was. holds honest synced read laid x (left x was);

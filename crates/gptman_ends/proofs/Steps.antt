@@ -1,12 +1,13 @@
 -- The steps of a plan, as their bytes grow.
-use Rattle.std.proofs.Common.{◌≡◌, ◌≤◌, true, ℕ, ◌+◌, List, [], ◌∷◌, ◌++◌, length, take, refl, ◌∙◌, ap, arith, length-append}
+use Rattle.std.proofs.Common.{◌≡◌, ◌≤◌, Bool, true, false, ℕ, zero, suc, ◌+◌, List, [], ◌∷◌, ◌++◌, length, take, drop, refl, sym, ◌∙◌, ap, subst, arith, length-append, length-drop}
 use Rattle.std.specs.Prelude.{leb, nat_eq, if◌then◌else◌}
 use Rattle.std.proofs.lemmas.Bool.{and_from, and_parts, le-leb, leb-true}
-use Rattle.std.proofs.lemmas.List.{map_push, take_all}
+use Rattle.std.proofs.lemmas.List.{length-take-le, map_push, take_all}
 use Rattle.std.proofs.lemmas.List.Folds.{list_all-append}
 use Rattle.std.proofs.Math.Seq.{drop-append_seam}
 use Rattle.gptman.specs.Bytes.{part}
-use Rattle.gptman_ends.specs.Plan.{Act, act_of, acts_of, are_writes_and_syncs, is_write_or_sync, step_fits, steps_fit}
+use Rattle.gptman_copy.proofs.Overlays.{length-overlay}
+use Rattle.gptman_ends.specs.Plan.{Act, act_of, acts_of, are_writes_and_syncs, is_write_or_sync, step_fits, steps_fit, view_of, view_step}
 use Rattle.gptman_ends.specs.Plan.Act.{lay, store}
 use Rattle.gptman_ends.specs.declared.records.Step.{Step}
 use Rattle.gptman_ends.proofs.Known.{part_left}
@@ -74,3 +75,29 @@ acts_sync bytes steps s kind = map_push (act_of bytes) steps s ∙ (λ i. acts_o
   where
     last : act_of bytes s ≡ store
     last = (λ i. if nat_eq (kind i) 2 then store else lay s.offset (part bytes s.start s.length))
+
+-- ---- the length of a disk
+
+-- the first of steps that fit
+first_fits : (size n : ℕ) (s : Step) (rest : List Step) → steps_fit size n (s ∷ rest) ≡ true → (s.offset + s.length ≤ size) × (s.start + s.length ≤ n) × (steps_fit size n rest ≡ true)
+first_fits size n s rest fits =
+    let two = and_parts (step_fits size n s) (steps_fit size n rest) fits in
+    let one = and_parts (leb (s.offset + s.length) size) (leb (s.start + s.length) n) two.0 in
+    (leb-true (s.offset + s.length) size one.0, leb-true (s.start + s.length) n one.1, two.1)
+
+length-by_kind : (view bytes : List ℕ) (s : Step) (b : Bool) → s.offset + s.length ≤ length view → s.start + s.length ≤ length bytes
+    → length (view_step view (if b then store else lay s.offset (part bytes s.start s.length))) ≡ length view
+length-by_kind view bytes s true there held = refl
+length-by_kind view bytes s false there held =
+    let long : length (part bytes s.start s.length) ≡ s.length = length-take-le s.length (drop s.start bytes) (omega (arith, held, length-drop s.start bytes)) in
+    length-overlay view s.offset (part bytes s.start s.length) (omega (arith, there, long))
+
+-- Some of the steps leave a disk as long as it was, where all of them fit.
+pub length-steps : (view bytes : List ℕ) (n : ℕ) (steps : List Step) → steps_fit (length view) (length bytes) steps ≡ true → length (view_of view (take n (acts_of bytes steps))) ≡ length view
+length-steps view bytes zero steps fits = refl
+length-steps view bytes (suc n) [] fits = refl
+length-steps view bytes (suc n) (s ∷ steps) fits =
+    let parts = first_fits (length view) (length bytes) s steps fits in
+    let next : List ℕ = view_step view (act_of bytes s) in
+    let long : length next ≡ length view = length-by_kind view bytes s (nat_eq s.kind 2) parts.0 parts.1 in
+    length-steps next bytes n steps (subst (λ (m : ℕ). steps_fit m (length bytes) steps ≡ true) (sym long) parts.2) ∙ long

@@ -1,27 +1,28 @@
 -- The plan of a table's write.
-use Rattle.std.proofs.Common.{◌≡◌, ◌≤◌, inr, ℕ, ◌+◌, List, [], length, refl, sym, ap, ◌∙◌, subst}
-use Rattle.gptman.specs.Crash.{StartsLaidOut, StartsSynced, StopsKeepOthers}
+use Rattle.std.proofs.Common.{◌≡◌, ◌≤◌, ◌⊎◌, ⊎_elim, inr, ℕ, ◌+◌, List, [], ◌∷◌, length, refl, sym, ap, ◌∙◌, subst}
+use Rattle.gptman.specs.Crash.{StartsLaidOut, StartsSynced, StopsComeInTurns, StopsKeepOthers}
 use Rattle.gptman.specs.Disk.{AgreesOutside, DiskState, IsHonest}
-use Rattle.gptman.specs.Layout.{HasLayout, Holds}
+use Rattle.gptman.specs.Layout.{HasLayout, Holds, copy_ranges_at}
 use Rattle.gptman.specs.Ranges.{AreInside}
 use Rattle.gptman.specs.Reading.{primary, backup}
 use Rattle.gptman.specs.Stop.{IsStored}
 use Rattle.gptman.specs.Table.{Table, new_table_of, table_in, IsHeaderForm}
 use Rattle.gptman.specs.TableWrites.{RefusesTable}
 use Rattle.gptman.specs.declared.table.GPT.{GPT}
+use Rattle.gptman.proofs.Apart.{agrees_in}
+use Rattle.gptman.proofs.Held.{holds_local}
+use Rattle.gptman_copy.proofs.Ranges.{Ranges, contains_first, contains_later}
 use Rattle.gptman_ends.specs.Crossing.{four_ranges}
 use Rattle.gptman_ends.specs.Ends.{AreRangesKnown, HasEnds, disk_bytes}
 use Rattle.gptman_ends.specs.Plan.{Act, LeftBy, plan_state}
-use Rattle.gptman_ends.specs.Planning.{Cause, IsNewPlan, IsReplaced, IsTablePlan, IsWrittenPlan, StopsNew, StopsTable}
+use Rattle.gptman_ends.specs.Planning.{Cause, ComesInTurns, IsNewPlan, IsReplaced, IsTablePlan, IsWrittenPlan, StopsNew, StopsTable}
 use Rattle.gptman_ends.specs.Planning.Cause.{bad_argument, a_fault, other_length, other_layout}
-use Rattle.gptman_ends.specs.Turns.{AreInTurns, header_ranges}
-use Rattle.gptman_ends.proofs.AnyMiddle.{after_any, others_any}
+use Rattle.gptman_ends.proofs.AnyMiddle.{after_any, others_any, turns_any}
 use Rattle.gptman_ends.proofs.AnyPlan.{at_side}
 use Rattle.gptman_ends.proofs.Known.{length-disk_bytes}
 use Rattle.gptman_ends.proofs.KnownActs.{are_known}
 use Rattle.gptman_ends.proofs.Middle.{AreKnown}
 use Rattle.gptman_ends.proofs.Planned.{IsAfter}
-use Rattle.gptman_ends.proofs.InTurns.{replaced}
 
 -- ---- what the write of a value does to the disk that records it
 
@@ -43,7 +44,7 @@ module _ (start : List ℕ) (size : ℕ) (g : GPT) (acts : List Act) (old new : 
   laid = record { honest = honest; layout = subst (λ (n : ℕ). HasLayout g n) (sym sized) layout }
 
   left : (x : List ℕ) → LeftBy start acts 0 x → new.left_since old.clock x
-  left x was = subst (λ (t : ℕ). new.left_since t x) (sym (ap (λ (d : DiskState). d.clock) begins)) (after.left 0 x was)
+  left x was = subst (λ (t : ℕ). new.left_since t x) (sym (ap (λ (d : DiskState). d.clock) begins)) (after.left x was)
 
   pub written_zero : (StartsSynced old g → StopsKeepOthers old new g) → (StartsLaidOut old g → IsStored new g.sector_size (table_in g)) → IsWrittenPlan start g.sector_size (table_in g) acts
   written_zero outside stored =
@@ -58,12 +59,18 @@ module _ (start : List ℕ) (size : ℕ) (g : GPT) (acts : List Act) (old new : 
         at_backup = subst (λ (v : List ℕ). Holds v g.sector_size backup (table_in g)) after.view done.at_backup;
       }
 
+  pub turns_zero : IsHeaderForm primary g.header → (StartsSynced old g → StopsComeInTurns old new g) → ComesInTurns start g.sector_size (table_in g) acts
+  turns_zero form turns = λ x was.
+      subst (λ (b : List ℕ). AgreesOutside (copy_ranges_at backup (table_in g) g.sector_size (length start)) b x ⊎ Holds x g.sector_size backup (table_in g)) view
+      (subst (λ (n : ℕ). AgreesOutside (copy_ranges_at backup (table_in g) g.sector_size n) old.view x ⊎ Holds x g.sector_size backup (table_in g)) (sized ∙ sym long)
+      (turns (record { start = laid; synced = synced }) primary form x (left x was)))
+
 -- ---- and to every disk with these ends
 
 module _ (head tail : List ℕ) (size : ℕ) (apart : length head + length tail ≤ size) (g : GPT) (acts : List Act)
     (places : AreInside (four_ranges (table_in g) g.sector_size size) size → AreRangesKnown (length head) (length tail) size (four_ranges (table_in g) g.sector_size size))
     (written : HasLayout g size → IsWrittenPlan (disk_bytes head tail size) g.sector_size (table_in g) acts)
-    (turns : IsHeaderForm primary g.header → AreInTurns (header_ranges backup g.header g.sector_size size) (header_ranges primary g.header g.sector_size size) acts)
+    (turns : HasLayout g size → IsHeaderForm primary g.header → ComesInTurns (disk_bytes head tail size) g.sector_size (table_in g) acts)
     (layout : HasLayout g size) (b : List ℕ) (ends : HasEnds b head tail size) where
   abbrev zero : List ℕ
   zero = disk_bytes head tail size
@@ -96,9 +103,25 @@ module _ (head tail : List ℕ) (size : ℕ) (apart : length head + length tail 
         at_backup = after_any head tail b size apart ends acts known g.sector_size backup (table_in g) (at_side (length head) (length tail) size g.sector_size (table_in g) backup four) plan.at_backup;
       }
 
+  abbrev other : ℕ → Ranges
+  other n = copy_ranges_at backup (table_in g) g.sector_size n
+
+  turns_here : IsHeaderForm primary g.header → ComesInTurns b g.sector_size (table_in g) acts
+  turns_here form = subst (λ (n : ℕ). (x : List ℕ) → LeftBy b acts 0 x → AgreesOutside (other n) b x ⊎ Holds x g.sector_size backup (table_in g)) (sym ends.long)
+      (turns_any head tail b size apart ends acts known (other size) g.sector_size backup (table_in g) (at_side (length head) (length tail) size g.sector_size (table_in g) backup four)
+      (subst (λ (n : ℕ). (y : List ℕ) → LeftBy zero acts 0 y → AgreesOutside (other n) zero y ⊎ Holds y g.sector_size backup (table_in g)) all (turns layout form)))
+
+  -- so one of the two places holds one of the two tables
   replaced_any : IsHeaderForm primary g.header → (was : Table) → IsReplaced b g.sector_size was (table_in g) acts
-  replaced_any form was = replaced b (length head) (length tail) size g.sector_size apart ends.long (table_in g) acts known
-      layout.table (turns form) written_any.at_backup was
+  replaced_any form was held clear x left = ⊎_elim
+      (λ few. record {
+        side = primary;
+        table = was;
+        listed = contains_first was (table_in g ∷ []);
+        holds = holds_local b x g.sector_size primary was held (agrees_in (copy_ranges_at primary was g.sector_size (length b)) (other (length b)) b x clear few);
+      })
+      (λ new. record { side = backup; table = table_in g; listed = contains_later (table_in g) was (table_in g ∷ []) (contains_first (table_in g) []); holds = new })
+      (turns_here form x left)
 
   pub table_any : IsTablePlan b g acts
   table_any = record { layout = here; written = written_any; replaced = replaced_any }

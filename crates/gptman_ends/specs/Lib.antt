@@ -7,7 +7,5 @@ pub mod Faults
 pub mod Naming
 pub mod Plan
 pub mod Planning
-pub mod Protective
 pub mod Reading
 pub mod Rounds
-pub mod Turns

@@ -1,10 +1,10 @@
 -- What the steps of a plan do to the bytes of a disk, and what a stop among them may leave.
-use Rattle.std.specs.Prelude.{◌≡◌, ◌≤◌, ◌+◌, ◌&&◌, ◌||◌, ℕ, Bool, true, nat_eq, leb, List, [], ◌∷◌, length, take, map, if◌then◌else◌}
+use Rattle.std.specs.Prelude.{◌≡◌, ◌≤◌, ◌⊎◌, ◌+◌, ◌-◌, ◌&&◌, ◌||◌, ℕ, Bool, true, nat_eq, leb, List, [], ◌∷◌, length, take, map, if◌then◌else◌}
 use Rattle.std.specs.List.{fold, list_all}
 use Rattle.gptman.specs.Bytes.{part}
 use Rattle.gptman.specs.Disk.{DiskState, IsSound, AgreesOutside, overlay}
 use Rattle.gptman_ends.specs.declared.records.Step.{Step}
-use Rattle.std.proofs.Common.{subst, sym, arith}
+use Rattle.std.proofs.Common.{inl, inr, ⊎_elim, suc, subst, sym, arith}
 use Rattle.std.proofs.lemmas.List.{take_all}
 
 -- bytes that are laid from a byte of the disk on, or a sync
@@ -56,6 +56,10 @@ pub record LeftBy (start : List ℕ) (acts : List Act) (t : ℕ) (b : List ℕ) 
   pub until : after ≤ length acts
   pub image : AgreesOutside (pending_of (take after acts)) (view_of start (take after acts)) b
 
+-- What a stop may leave since a moment of a clock that begins at 1. At moment 0 stands the start, behind a byte, which no stop leaves: so two starts differ there.
+abbrev pub LeftSince : List ℕ → List Act → ℕ → List ℕ → Type 0
+LeftSince start acts t b = ((t ≡ 0) × (b ≡ 0 ∷ start)) ⊎ LeftBy start acts (t - 1) b
+
 -- an honest disk of these bytes after the acts
 abbrev pub plan_state : List ℕ → List Act → ℕ → ℕ → ℕ → DiskState
 plan_state start acts size position failures = record {
@@ -64,27 +68,34 @@ plan_state start acts size position failures = record {
   view = view_of start acts;
   pending = pending_of acts;
   failures = failures;
-  clock = length acts;
-  left_since = LeftBy start acts;
+  clock = suc (length acts);
+  left_since = LeftSince start acts;
   is_honest = true;
 }
+
+-- a list that a stop may leave was left since each moment before
+pub left_earlier : (start : List ℕ) (acts : List Act) (t u : ℕ) (b : List ℕ) → t ≤ u → LeftSince start acts u b → LeftSince start acts t b
+left_earlier start acts t u b le (inl first) = inl (omega (arith, le, first.0), first.1)
+left_earlier start acts t u b le (inr left) = inr (record { after = left.after; since = omega (arith, le, left.since); until = left.until; image = left.image })
 
 -- the laws of an honest disk
 pub plan_sound : (start : List ℕ) (acts : List Act) (s p f : ℕ) → length (view_of start acts) ≡ s → IsSound (plan_state start acts s p f)
 plan_sound start acts s p f long = record {
   size = λ i. long i;
-  counts_now = λ t b le image. record {
+  counts_now = λ t b le image. inr (record {
     after = length acts;
-    since = le;
+    since = omega (arith, le);
     until = omega arith;
     image = subst (λ (l : List Act). AgreesOutside (pending_of l) (view_of start l) b) (sym whole) image;
-  };
-  only_now = λ b left.
-      let last : length acts ≤ left.after = left.since in
-      let all : take left.after acts ≡ acts = take_all left.after acts last in
-      subst (λ (l : List Act). AgreesOutside (pending_of l) (view_of start l) b) all left.image;
-  earlier = λ t u b le left. record { after = left.after; since = omega (arith, le, left.since); until = left.until; image = left.image };
+  });
+  only_now = λ b left. ⊎_elim (λ first. absurd (omega (arith, first.0))) (λ is. last_image b is) left;
+  earlier = left_earlier start acts;
 }
   where
     whole : take (length acts) acts ≡ acts
     whole = take_all (length acts) acts (omega arith)
+
+    last_image : (b : List ℕ) → LeftBy start acts (suc (length acts) - 1) b → AgreesOutside (pending_of acts) (view_of start acts) b
+    last_image b left =
+        let last : length acts ≤ left.after = omega (arith, left.since) in
+        subst (λ (l : List Act). AgreesOutside (pending_of l) (view_of start l) b) (take_all left.after acts last) left.image

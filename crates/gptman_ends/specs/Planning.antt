@@ -186,6 +186,10 @@ pub record IsWrittenPlan (start : List ℕ) (ss : ℕ) (next : Table) (acts : Li
   pub at_primary : Holds (view_of start acts) ss primary next
   pub at_backup : Holds (view_of start acts) ss backup next
 
+-- A stop among or within these acts leaves all bytes but those of the table's backup copy as they were, or that copy whole.
+abbrev pub ComesInTurns : List ℕ → ℕ → Table → List Act → Type 0
+ComesInTurns start ss next acts = (x : List ℕ) → LeftBy start acts 0 x → AgreesOutside (copy_ranges_at backup next ss (length start)) start x ⊎ Holds x ss backup next
+
 -- A table that the primary place holds, clear of the other copy of the new one, is not lost before that one is there.
 abbrev pub IsReplaced : List ℕ → ℕ → Table → Table → List Act → Type 0
 IsReplaced start ss was next acts = Holds start ss primary was → AreClear (copy_ranges_at primary was ss (length start)) (copy_ranges_at backup next ss (length start))

@@ -47,17 +47,6 @@ impl<'a> Ends<'a> {
         }
     }
 
-    /// Whether these are its ends and its length. They are, and no call changes them: this tells it to the proof.
-    pub fn is_over(&self, head: &[u8], tail: &[u8], size: u64) -> bool
-        ensures head { IsTrue result → self.now.head.now ≡ head.now }
-        ensures tail { IsTrue result → self.now.tail.now ≡ tail.now }
-        ensures size { IsTrue result → self.now.plan.size ≡ size }
-        ensures over { self.now.head.now ≡ head.now → self.now.tail.now ≡ tail.now → self.now.plan.size ≡ size
-            → IsTrue result }
-    {
-        self.head == head && self.tail == tail && self.plan.size == size
-    }
-
     /// What was recorded.
     pub fn into_plan(self) -> Record
         ensures { result ≡ self.entry.plan }

@@ -114,7 +114,7 @@ fn record_write(
 {
     let mut disk = Ends::new(alloc, head, tail, size);
     let written = rewrite(alloc, &mut disk, table, partitions);
-    if disk.failures != 0 || !disk.is_over(head, tail, size) {
+    if disk.failures != 0 {
         return Err(Refusal::Refused(Error::OutOfMemory));
     }
     match written {

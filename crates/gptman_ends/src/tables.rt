@@ -3,17 +3,17 @@
 ghost use Rattle.std.specs.Prelude.{◌≡◌, ◌≤◌, ◌<◌, ◌+◌, ℕ, List, length, IfErr, IfOk};
 ghost use Rattle.gptman.specs.Copy.{IsCoherent};
 ghost use Rattle.gptman.specs.Layout.{HasLayout};
-ghost use Rattle.gptman.specs.Table.{entries_in, table_in};
+ghost use Rattle.gptman.specs.Reading.{primary};
+ghost use Rattle.gptman.specs.Table.{entries_in, table_in, IsHeaderForm};
 ghost use Rattle.gptman_ends.specs.Asking.{value_ranges, AsksAmong, AsksNothing};
 ghost use Rattle.gptman_ends.specs.Ends.{disk_bytes, HasEnds};
 ghost use Rattle.gptman_ends.specs.Plan.{acts_of};
-ghost use Rattle.gptman_ends.specs.Planning.{IsTablePlan, IsTableRefusal, IsWrittenPlan};
+ghost use Rattle.gptman_ends.specs.Planning.{ComesInTurns, IsTablePlan, IsTableRefusal, IsWrittenPlan};
 
 use crate::ends::Ends;
 use crate::places::lack_of_places;
 use crate::planning::Refusal;
 use crate::record::Record;
-use crate::turns::is_in_turns;
 use gptman::{Error, GPT};
 use std::alloc::Global;
 
@@ -38,17 +38,12 @@ pub fn plan_table(
 {
     let lack = lack_of_places(head, tail, size, &table);
     let is_laid_out = table.has_layout(size);
-    let sector_size = table.sector_size;
-    let header = table.header;
     let plan = record_table(alloc, head, tail, size, table)?;
     if !is_laid_out {
         return Err(Refusal::OtherLayout);
     }
     if let Some(lack) = lack {
         return Err(Refusal::Lacks(lack));
-    }
-    if !is_in_turns(&plan, &header, sector_size) {
-        return Err(Refusal::Refused(Error::OutOfMemory));
     }
     Ok(plan)
 }
@@ -70,10 +65,13 @@ fn record_table(
     ensures written { IfOk result (λ plan. HasLayout table size
         → IsWrittenPlan (disk_bytes head.now tail.now size) table.sector_size (table_in table)
         (acts_of plan.bytes.items plan.steps.items)) }
+    ensures turns { IfOk result (λ plan. HasLayout table size → IsHeaderForm primary table.header
+        → ComesInTurns (disk_bytes head.now tail.now size) table.sector_size (table_in table)
+        (acts_of plan.bytes.items plan.steps.items)) }
 {
     let mut disk = Ends::new(alloc, head, tail, size);
     let written = table.write_into(&mut disk);
-    if disk.failures != 0 || !disk.is_over(head, tail, size) {
+    if disk.failures != 0 {
         return Err(Refusal::Refused(Error::OutOfMemory));
     }
     match written {

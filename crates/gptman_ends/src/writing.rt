@@ -3,7 +3,7 @@
 ghost use Rattle.std.specs.Prelude.{◌≡◌, ◌<◌, ◌⊎◌, [], ◌∷◌, length, IfErr, IfOk, OnOk};
 ghost use Rattle.gptman.specs.Copy.{IsCoherent};
 ghost use Rattle.gptman.specs.Crash.{IsReadInForm};
-ghost use Rattle.gptman.specs.Disk.{AgreesOutside, IsHonest, LeavesOnly};
+ghost use Rattle.gptman.specs.Disk.{AgreesOutside, Elapses, IsHonest, LeavesOnly};
 ghost use Rattle.gptman.specs.Fault.{fault_of, out_of_memory};
 ghost use Rattle.gptman.specs.Layout.{IsLaidOut};
 ghost use Rattle.gptman.specs.Stop.{IsStored, StopsHold};
@@ -34,6 +34,9 @@ pub fn rewrite<D: Disk>(
     ensures sector { IfOk result (λ next. next.sector_size ≡ table.now.sector_size) }
     ensures refused { IfErr result (λ e. (fault_of e ≡ out_of_memory)
         ⊎ RefusesRewrite table.now partitions.now (fault_of e) (D.state disk.old) (D.state disk.new)) }
+    ensures size { (D.state disk.new).size ≡ (D.state disk.old).size }
+    ensures time { IsHonest (D.state disk.old)
+        → OnOk result (Elapses (D.state disk.old) (D.state disk.new)) }
     ensures synced { IsHonest (D.state disk.old) → OnOk result ((D.state disk.new).pending ≡ []) }
 
     // From one good copy.

@@ -1,9 +1,10 @@
-use Rattle.std.proofs.Common.{refl}
+use Rattle.std.proofs.Common.{◌≡◌, refl, ◌∙◌}
 use Rattle.gptman.specs.Fault.{fault_of}
 use Rattle.gptman_ends.specs.Ends.{disk_bytes}
 use Rattle.gptman_ends.specs.Plan.{acts_of}
+use Rattle.gptman_ends.specs.declared.ends.Ends.{Ends}
 use Rattle.gptman_ends.proofs.Known.{length-disk_bytes}
-use Rattle.gptman_ends.proofs.Planned.{begins_at, ends_after, safe_zero}
+use Rattle.gptman_ends.proofs.Planned.{begins_at, ends_after, safe_zero, start_stays}
 use Rattle.gptman_ends.proofs.Refused.{unfit}
 use Rattle.gptman_ends.proofs.planning.record_write.Goals as goal
 
@@ -12,10 +13,13 @@ returns-in-Ok-clause-safe c =
     let a = c.args in
     let made = c.new-disk.ensures in
     let begins = begins_at c.new-disk.result a.head.now a.tail.now a.size made.head made.tail made.size made.acts made.position made.failures in
-    let over = c.if-not-is_over.ensures in
-    let after = ends_after c.rewrite-written.new.disk c.into_plan.result a.head.now a.tail.now a.size (over.head refl) (over.tail refl) (over.size refl) c.into_plan.ensures in
+    let long = length-disk_bytes a.head.now a.tail.now a.size c.requires.apart in
+    let e : Ends = c.rewrite-written.new.disk in
+    let sized : e.plan.size ≡ a.size = c.rewrite-written.ensures.size ∙ made.size in
+    let same = start_stays (disk_bytes a.head.now a.tail.now a.size) a.size _ e long begins sized (c.in-Ok.ensures.time refl) in
+    let after = ends_after e c.into_plan.result (disk_bytes a.head.now a.tail.now a.size) same c.into_plan.ensures in
     safe_zero (disk_bytes a.head.now a.tail.now a.size) a.size a.table.now a.partitions.now (acts_of c.into_plan.result.bytes.items c.into_plan.result.steps.items) _ _
-    (length-disk_bytes a.head.now a.tail.now a.size c.requires.apart) begins after c.in-Ok.ensures.holds c.in-Ok.ensures.others c.in-Ok.ensures.stored
+    long begins after c.in-Ok.ensures.holds c.in-Ok.ensures.others c.in-Ok.ensures.stored
 
 pub returns-in-Err-clause-refused : goal.returns-in-Err-clause-refused
 returns-in-Err-clause-refused c =

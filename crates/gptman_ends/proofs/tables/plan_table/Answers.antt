@@ -1,19 +1,16 @@
-use Rattle.std.proofs.Common.{◌≡◌, ℕ, List, length, subst}
+use Rattle.std.proofs.Common.{List, length}
 use Rattle.gptman.specs.Ranges.{AreInside}
-use Rattle.gptman.specs.Reading.{primary, backup}
-use Rattle.gptman.specs.Table.{table_in, IsHeaderForm}
+use Rattle.gptman.specs.Table.{table_in}
 use Rattle.gptman.specs.declared.table.GPT.{GPT}
 use Rattle.gptman_ends.specs.Crossing.{four_ranges}
 use Rattle.gptman_ends.specs.Ends.{AreRangesKnown}
 use Rattle.gptman_ends.specs.Plan.{Act, acts_of}
-use Rattle.gptman_ends.specs.Turns.{AreInTurns, header_ranges}
 use Rattle.gptman_ends.specs.Reading.{IsLack}
 use Rattle.gptman_ends.specs.Asking.{value_ranges}
 use Rattle.gptman_ends.specs.Rounds.{IsAmong}
 use Rattle.std.proofs.lemmas.Result.{err_from_is_err_and}
 use Rattle.gptman_ends.proofs.AskedPlans.{asks_none, if_some}
 use Rattle.gptman_ends.proofs.Told.{at_none}
-use Rattle.gptman_ends.proofs.InTurns.{acts_in_turns}
 use Rattle.gptman_ends.proofs.TablePlans.{table_any}
 use Rattle.gptman_ends.proofs.tables.plan_table.Goals as goal
 
@@ -22,12 +19,9 @@ returns-clause-plan c = λ b ends.
     let a = c.args in
     let g : GPT = a.table in
     let acts : List Act = acts_of c.in_ok-plan.plan.bytes.items c.in_ok-plan.plan.steps.items in
-    let sized : c.in_ok-plan.plan.size ≡ a.size = c.in_ok-plan.ensures.size in
     let on_disk : Type 0 = AreInside (four_ranges (table_in g) g.sector_size a.size) a.size → AreRangesKnown (length a.head.now) (length a.tail.now) a.size (four_ranges (table_in g) g.sector_size a.size) in
     let places : on_disk = at_none on_disk (IsLack a.head.now a.tail.now a.size) c.lack_of_places-lack.result c.in_default.is c.lack_of_places-lack.ensures.known in
-    let turns : IsHeaderForm primary g.header → AreInTurns (header_ranges backup g.header g.sector_size a.size) (header_ranges primary g.header g.sector_size a.size) acts =
-    λ form. subst (λ (n : ℕ). AreInTurns (header_ranges backup g.header g.sector_size n) (header_ranges primary g.header g.sector_size n) acts) sized (acts_in_turns (header_ranges backup g.header g.sector_size c.in_ok-plan.plan.size) (header_ranges primary g.header g.sector_size c.in_ok-plan.plan.size) c.in_ok-plan.plan.size c.in_ok-plan.plan.bytes.items c.in_ok-plan.plan.steps.items c.in_ok-plan.plan.held (c.is_in_turns.ensures.0 c.if-not-is_in_turns.false form).turns) in
-    table_any a.head.now a.tail.now a.size c.requires.apart g acts places c.in_ok-plan.ensures.written turns (c.has_layout-is_laid_out.ensures.0 c.if-not-is_laid_out.false) b ends
+    table_any a.head.now a.tail.now a.size c.requires.apart g acts places c.in_ok-plan.ensures.written c.in_ok-plan.ensures.turns (c.has_layout-is_laid_out.ensures.0 c.if-not-is_laid_out.false) b ends
 
 pub returns-in_err-plan-clause-asked : goal.returns-in_err-plan-clause-asked
 returns-in_err-plan-clause-asked c =
