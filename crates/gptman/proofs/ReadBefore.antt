@@ -32,10 +32,10 @@ module _ (g : GPT) (a b : DiskState) (read : Reads a b) where
   turns_then c ranges long from wrote next = λ side form.
       let only = read.only from.start.honest in
       let here : DiskState → List ℕ → Type 0 = λ d x.
-          AgreesOutside (copy_ranges_at (other_side side) (table_in g) g.sector_size d.size) d.view x ⊎ Holds x g.sector_size (other_side side) (table_in g) in
+      AgreesOutside (copy_ranges_at (other_side side) (table_in g) g.sector_size d.size) d.view x ⊎ Holds x g.sector_size (other_side side) (table_in g) in
       let same : (x : List ℕ) → here b x → here a x = λ x is.
-          subst (λ (v : List ℕ). AgreesOutside (copy_ranges_at (other_side side) (table_in g) g.sector_size a.size) v x ⊎ Holds x g.sector_size (other_side side) (table_in g)) only.view
-          (subst (λ (n : ℕ). AgreesOutside (copy_ranges_at (other_side side) (table_in g) g.sector_size n) b.view x ⊎ Holds x g.sector_size (other_side side) (table_in g)) read.keeps.size is) in
+      subst (λ (v : List ℕ). AgreesOutside (copy_ranges_at (other_side side) (table_in g) g.sector_size a.size) v x ⊎ Holds x g.sector_size (other_side side) (table_in g)) only.view
+      (subst (λ (n : ℕ). AgreesOutside (copy_ranges_at (other_side side) (table_in g) g.sector_size n) b.view x ⊎ Holds x g.sector_size (other_side side) (table_in g)) read.keeps.size is) in
       leaves_then (here a) only.wrote.time wrote.time (turns_still long from side form) (λ x left. same x (next side form x left))
 
   -- what is written is the same

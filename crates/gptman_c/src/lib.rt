@@ -257,7 +257,7 @@ pub extern "C" fn gptman_write(
     if sector_size == 0 || flags > OVER_DOS || !are_apart(head, tail, disk_size) {
         return BAD_ARGUMENT;
     }
-    let seen = refuse_dos(alloc, head, tail, disk_size, flags, needed);
+    let seen = refuse_dos(head, tail, disk_size, flags, needed);
     if seen != 0 {
         return seen;
     }
@@ -329,7 +329,7 @@ pub extern "C" fn gptman_new(
     if sector_size == 0 || flags > OVER_DOS || !are_apart(head, tail, disk_size) {
         return BAD_ARGUMENT;
     }
-    let seen = refuse_dos(alloc, head, tail, disk_size, flags, needed);
+    let seen = refuse_dos(head, tail, disk_size, flags, needed);
     if seen != 0 {
         return seen;
     }
@@ -422,7 +422,7 @@ pub extern "C" fn gptman_fit(
     if sector_size == 0 || flags > OVER_DOS || !are_apart(head, tail, disk_size) {
         return BAD_ARGUMENT;
     }
-    let seen = refuse_dos(alloc, head, tail, disk_size, flags, needed);
+    let seen = refuse_dos(head, tail, disk_size, flags, needed);
     if seen != 0 {
         return seen;
     }
@@ -437,14 +437,7 @@ const OVER_DOS: u32 = 1;
 
 // The answer where the first sector of the disk has partitions of its own, or is not known, unless the flag says
 // that it may be written over; else 0.
-fn refuse_dos(
-    alloc: Global,
-    head: &[u8],
-    tail: &[u8],
-    disk_size: u64,
-    flags: u32,
-    needed: &mut Needed,
-) -> u32
+fn refuse_dos(head: &[u8], tail: &[u8], disk_size: u64, flags: u32, needed: &mut Needed) -> u32
     requires apart { length head.now + length tail.now ≤ disk_size }
     requires flags { flags ≤ 1 }
     ensures none { result ≡ 0 → flags ≡ 0 → (b : List ℕ) → HasEnds b head.now tail.now disk_size → ¬ IsDosDisk b }
@@ -461,7 +454,7 @@ fn refuse_dos(
     if flags == OVER_DOS {
         return 0;
     }
-    match look_for_dos(alloc, head, tail, disk_size) {
+    match look_for_dos(head, tail, disk_size) {
         Seen::Clear => 0,
         Seen::DosDisk => DOS_DISK,
         Seen::Unknown(lack) => {
@@ -526,13 +519,7 @@ fn give(plan: &Record, steps: &mut [Step], bytes: &mut [u8], needed: &mut Needed
 ///
 /// 19: the two ends together are longer than the disk.
 #[unsafe(no_mangle)]
-pub extern "C" fn gptman_dos(
-    alloc: Global,
-    head: &[u8],
-    tail: &[u8],
-    disk_size: u64,
-    needed: &mut Needed,
-) -> u32
+pub extern "C" fn gptman_dos(head: &[u8], tail: &[u8], disk_size: u64, needed: &mut Needed) -> u32
     ensures none { result ≡ 0 → (b : List ℕ) → HasEnds b head.now tail.now disk_size → ¬ IsDosDisk b }
     ensures dos_disk { result ≡ 102 → (b : List ℕ) → HasEnds b head.now tail.now disk_size → IsDosDisk b }
     ensures lacks { result ≡ 17
@@ -549,7 +536,7 @@ pub extern "C" fn gptman_dos(
     if !are_apart(head, tail, disk_size) {
         return BAD_ARGUMENT;
     }
-    refuse_dos(alloc, head, tail, disk_size, 0, needed)
+    refuse_dos(head, tail, disk_size, 0, needed)
 }
 
 /// Lays the protective MBR of a disk of so many bytes into the first 66 places of `bytes`. They stand on the disk from

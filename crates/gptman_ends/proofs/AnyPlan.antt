@@ -12,13 +12,12 @@ use Rattle.gptman.specs.declared.table.GPT.{GPT}
 use Rattle.gptman.proofs.ReadKept.{takes_in_form}
 use Rattle.gptman.proofs.SameTable.{contains_cases}
 use Rattle.gptman_ends.specs.Crossing.{four_ranges, with_partitions}
-use Rattle.gptman_ends.specs.Ends.{ArePlacesKnown, AreRangesKnown, HasEnds, disk_bytes}
+use Rattle.gptman_ends.specs.Ends.{disk_bytes, length-disk_bytes, ArePlacesKnown, AreRangesKnown, HasEnds}
 use Rattle.gptman_ends.specs.Plan.{Act, LeftBy}
 use Rattle.gptman_ends.specs.Planning.{IsPlan, IsSafePlan}
 use Rattle.gptman_ends.specs.Reading.{IsTable, side_of}
 use Rattle.gptman_ends.specs.declared.records.Partition.{Partition}
 use Rattle.gptman_ends.proofs.AnyMiddle.{after_any, others_any, stops_any}
-use Rattle.gptman_ends.proofs.Known.{length-disk_bytes}
 use Rattle.gptman_ends.proofs.KnownActs.{are_known}
 use Rattle.gptman_ends.proofs.Middle.{AreKnown, ends_zero}
 

@@ -1,5 +1,5 @@
 -- The bytes of a disk that its ends tell.
-use Rattle.std.proofs.Common.{◌≡◌, ◌≤◌, ◌<◌, ℕ, ◌+◌, ◌-◌, List, [], ◌∷◌, ◌++◌, length, take, drop, get_or, replicate, ◌∙◌, ap, arith, length-append}
+use Rattle.std.proofs.Common.{◌≡◌, ◌≤◌, ◌<◌, ℕ, ◌+◌, ◌-◌, List, [], ◌∷◌, ◌++◌, length, take, drop, get_or, replicate, ◌∙◌, ap, arith}
 use Rattle.std.proofs.lemmas.List.{take-append-le, drop-append-le, get_or-drop, length-replicate, take_more}
 use Rattle.std.proofs.Math.Seq.{drop-append-add}
 use Rattle.std.proofs.Math.ListN.{length-drop}
@@ -25,9 +25,6 @@ part_more b at n lt =
 module _ (head tail : List ℕ) (size : ℕ) (apart : length head + length tail ≤ size) where
   abbrev middle : List ℕ
   middle = replicate (size - (length head + length tail)) 0
-
-  pub length-disk_bytes : length (disk_bytes head tail size) ≡ size
-  length-disk_bytes = simp (length-append, length-replicate) (omega (arith, apart))
 
   pub known_head : (at n : ℕ) → at + n ≤ length head → part (disk_bytes head tail size) at n ≡ part head at n
   known_head at n le = part_left head (middle ++ tail) at n le

@@ -19,3 +19,4 @@ pub mod Stated
 pub mod Steps
 pub mod TablePlans
 pub mod Told
+pub mod Unfailed

@@ -6,12 +6,12 @@ use Rattle.std.proofs.lemmas.Bool.{cases_lt}
 use Rattle.gptman.specs.Bytes.{part}
 use Rattle.gptman.specs.Disk.{Outside, AgreesOutside, overlay}
 use Rattle.gptman.specs.Ranges.{AgreesInside, Inside, IsApartFromAll}
-use Rattle.gptman_ends.specs.Ends.{HasEnds, IsKnown, AreRangesKnown, disk_bytes}
+use Rattle.gptman_ends.specs.Ends.{disk_bytes, length-disk_bytes, AreRangesKnown, HasEnds, IsKnown}
 use Rattle.gptman_ends.specs.Plan.{Act, view_step, pending_step, view_of, pending_of}
 use Rattle.gptman_ends.specs.Plan.Act.{lay, store}
 use Rattle.gptman_copy.proofs.Ranges.{Ranges}
 use Rattle.gptman_copy.proofs.Overlays.{outside_apart, part_same, length-overlay, overlay_below, overlay_above, overlay_inside, overlay_nothing}
-use Rattle.gptman_ends.proofs.Known.{length-disk_bytes, known_head, known_tail}
+use Rattle.gptman_ends.proofs.Known.{known_head, known_tail}
 
 -- the bytes that the ends do not tell
 abbrev pub middle_of : ℕ → ℕ → ℕ → Ranges

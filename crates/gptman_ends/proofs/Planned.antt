@@ -1,5 +1,5 @@
 -- What is proved of the disk that records a write, said of its acts.
-use Rattle.std.proofs.Common.{◌≡◌, inl, inr, ⊎_elim, true, ℕ, zero, suc, List, [], ◌∷◌, length, take, refl, sym, ap, ◌∙◌, subst, arith}
+use Rattle.std.proofs.Common.{◌≡◌, inl, inr, ⊎_elim, true, ℕ, List, [], ◌∷◌, length, take, refl, sym, ap, ◌∙◌, subst, arith}
 use Rattle.std.proofs.lemmas.List.{take_all}
 use Rattle.gptman.specs.Crash.{IsReadInForm}
 use Rattle.gptman.specs.Disk.{AgreesOutside, DiskState, Elapses, IsHonest, LeavesOnly}
@@ -9,13 +9,12 @@ use Rattle.gptman.specs.Stop.{IsStored, StopsHold}
 use Rattle.gptman.specs.Table.{Table, table_in}
 use Rattle.gptman.specs.declared.table.GPT.{GPT}
 use Rattle.gptman_ends.specs.Crossing.{four_ranges, with_partitions}
-use Rattle.gptman_ends.specs.Ends.{disk_bytes}
+use Rattle.gptman_ends.specs.Ends.{disk_bytes, length-disk_bytes}
 use Rattle.gptman_ends.specs.Plan.{Act, LeftBy, acts_of, pending_of, plan_state, steps_fit, view_of}
 use Rattle.gptman_ends.specs.Planning.{IsSafePlan}
-use Rattle.gptman_ends.specs.declared.ends.Ends.{Ends}
+use Rattle.gptman_ends.specs.declared.recording.Recorder.{Recorder}
 use Rattle.gptman_ends.specs.declared.record.Record.{Record}
 use Rattle.gptman_ends.specs.declared.records.Partition.{Partition}
-use Rattle.gptman_ends.proofs.Known.{length-disk_bytes}
 use Rattle.gptman_ends.proofs.Steps.{length-steps}
 
 -- the disk is one of these bytes after the acts
@@ -33,14 +32,14 @@ is_after start start_too acts acts_too s p f same same_acts =
 
 -- ---- the disk that records, before the first step and after the last
 
-abbrev pub state_of : Ends → DiskState
+abbrev pub state_of : Recorder → DiskState
 state_of d = plan_state (disk_bytes d.head.now d.tail.now d.plan.size) (acts_of d.plan.bytes.items d.plan.steps.items) d.plan.size d.position d.failures
 
-pub begins_at : (d : Ends) (head tail : List ℕ) (size : ℕ) → d.head.now ≡ head → d.tail.now ≡ tail → d.plan.size ≡ size → acts_of d.plan.bytes.items d.plan.steps.items ≡ []
+pub begins_at : (d : Recorder) (head tail : List ℕ) (size : ℕ) → d.head.now ≡ head → d.tail.now ≡ tail → d.plan.size ≡ size → acts_of d.plan.bytes.items d.plan.steps.items ≡ []
     → d.position ≡ 0 → d.failures ≡ 0 → state_of d ≡ plan_state (disk_bytes head tail size) [] size 0 0
 begins_at d head tail size h t s acts position failures = λ i. plan_state (disk_bytes (h i) (t i) (s i)) (acts i) (s i) (position i) (failures i)
 
-pub ends_after : (e : Ends) (plan : Record) (start : List ℕ) → disk_bytes e.head.now e.tail.now e.plan.size ≡ start → plan ≡ e.plan
+pub ends_after : (e : Recorder) (plan : Record) (start : List ℕ) → disk_bytes e.head.now e.tail.now e.plan.size ≡ start → plan ≡ e.plan
     → IsAfter start (acts_of plan.bytes.items plan.steps.items) (state_of e)
 ends_after e plan start same taken =
     is_after start (disk_bytes e.head.now e.tail.now e.plan.size) (acts_of plan.bytes.items plan.steps.items) (acts_of e.plan.bytes.items e.plan.steps.items)
@@ -55,7 +54,7 @@ tail_of (x ∷ xs) = xs
 abbrev no_acts : List Act
 no_acts = []
 
-module _ (start : List ℕ) (size : ℕ) (old : DiskState) (e : Ends) (long : length start ≡ size) (begins : old ≡ plan_state start [] size 0 0) (sized : e.plan.size ≡ size) where
+module _ (start : List ℕ) (size : ℕ) (old : DiskState) (e : Recorder) (long : length start ≡ size) (begins : old ≡ plan_state start [] size 0 0) (sized : e.plan.size ≡ size) where
   abbrev now : List ℕ
   now = disk_bytes e.head.now e.tail.now e.plan.size
 

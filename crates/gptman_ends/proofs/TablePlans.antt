@@ -13,13 +13,12 @@ use Rattle.gptman.proofs.Apart.{agrees_in}
 use Rattle.gptman.proofs.Held.{holds_local}
 use Rattle.gptman_copy.proofs.Ranges.{Ranges, contains_first, contains_later}
 use Rattle.gptman_ends.specs.Crossing.{four_ranges}
-use Rattle.gptman_ends.specs.Ends.{AreRangesKnown, HasEnds, disk_bytes}
+use Rattle.gptman_ends.specs.Ends.{disk_bytes, length-disk_bytes, AreRangesKnown, HasEnds}
 use Rattle.gptman_ends.specs.Plan.{Act, LeftBy, plan_state}
 use Rattle.gptman_ends.specs.Planning.{Cause, ComesInTurns, IsNewPlan, IsReplaced, IsTablePlan, IsWrittenPlan, StopsNew, StopsTable}
 use Rattle.gptman_ends.specs.Planning.Cause.{bad_argument, a_fault, other_length, other_layout}
 use Rattle.gptman_ends.proofs.AnyMiddle.{after_any, others_any, turns_any}
 use Rattle.gptman_ends.proofs.AnyPlan.{at_side}
-use Rattle.gptman_ends.proofs.Known.{length-disk_bytes}
 use Rattle.gptman_ends.proofs.KnownActs.{are_known}
 use Rattle.gptman_ends.proofs.Middle.{AreKnown}
 use Rattle.gptman_ends.proofs.Planned.{IsAfter}

@@ -12,10 +12,10 @@ use Rattle.gptman_copy.specs.declared.codec.entry.GPTPartitionEntry.{GPTPartitio
 use Rattle.gptman_copy.proofs.CopyParts.{header_refused, array_refused, both_pass}
 use Rattle.gptman_copy.proofs.CopyTests.{entries_start, entries_length, header_short, array_size_wrong, array_beyond, array_short}
 use Rattle.gptman.specs.Reading.{Side, primary, backup, both, copy_start, copy_in, reading_of, taken_from}
-use Rattle.gptman_ends.specs.Ends.{HasEnds, IsKnown, disk_bytes}
+use Rattle.gptman_ends.specs.Ends.{disk_bytes, length-disk_bytes, HasEnds, IsKnown}
 use Rattle.gptman_ends.specs.Faults.{fault_number}
 use Rattle.gptman_ends.specs.Reading.{OfEvery, IsHeaderTold, IsArrayTold, IsCopyTold, IsToldAt}
-use Rattle.gptman_ends.proofs.Known.{length-disk_bytes, known_head, known_tail}
+use Rattle.gptman_ends.proofs.Known.{known_head, known_tail}
 use Rattle.gptman_ends.proofs.Middle.{agree_in_ends}
 
 -- what holds of an option, a case at a time

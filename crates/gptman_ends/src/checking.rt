@@ -15,7 +15,7 @@ use crate::faults::number_of;
 use crate::reading::{Lack, lack_of_copy};
 use crate::records::Check;
 use gptimg_core::BothCopies;
-use gptman::{Error, Result};
+use gptman::Result;
 use gptman_copy::copy::{WholeCopy, last_sector};
 use std::alloc::Global;
 
@@ -42,38 +42,28 @@ pub fn look_at_both(
     ensures look { IfOk result (IsLook head.now tail.now size sector_size) }
     ensures refused { IfErr result (λ e. fault_of e ≡ out_of_memory) }
 {
-    if let Some(lack) = lack_of_copies(alloc, head, tail, size, sector_size)? {
+    if let Some(lack) = lack_of_copies(head, tail, size, sector_size) {
         return Ok(Look::Unknown(lack));
     }
     let copies = find_both(alloc, head, tail, size, sector_size)?;
     Ok(Look::Told(check_of(&copies)))
 }
 
-// What the ends lack of the two copies. There may be no memory.
-fn lack_of_copies(
-    alloc: Global,
-    head: &[u8],
-    tail: &[u8],
-    size: u64,
-    sector_size: u64,
-) -> Result<Option<Lack>>
+// What the ends lack of the two copies.
+fn lack_of_copies(head: &[u8], tail: &[u8], size: u64, sector_size: u64) -> Option<Lack>
     requires sector { 0 < sector_size }
     requires apart { length head.now + length tail.now ≤ size }
-    ensures told { IfOk result (λ o. MatchOption o (AreCopiesTold head.now tail.now size sector_size)
-        (IsLackOf (λ b. reading_ranges b sector_size) head.now tail.now size)) }
-    ensures refused { IfErr result (λ e. fault_of e ≡ out_of_memory) }
+    ensures told { MatchOption result (AreCopiesTold head.now tail.now size sector_size)
+        (IsLackOf (λ b. reading_ranges b sector_size) head.now tail.now size) }
 {
-    if let Some(lack) = lack_of_copy(alloc, head, tail, size, sector_size, sector_size)? {
-        return Ok(Some(lack));
+    if let Some(lack) = lack_of_copy(head, tail, size, sector_size, sector_size) {
+        return Some(lack);
     }
     if size < sector_size {
-        return Ok(None);
+        return None;
     }
     let at = last_sector(size, sector_size);
-    match lack_of_copy(alloc, head, tail, size, at, sector_size)? {
-        Some(lack) => Ok(Some(lack)),
-        None => Ok(None),
-    }
+    lack_of_copy(head, tail, size, at, sector_size)
 }
 
 // Both copies of the disk with zeros between the ends. There may be no memory.
@@ -89,12 +79,8 @@ fn find_both(
     ensures found { IfOk result (AreFoundIn (disk_bytes head.now tail.now size) sector_size) }
     ensures refused { IfErr result (λ e. fault_of e ≡ out_of_memory) }
 {
-    let mut disk = Ends::new(alloc, head, tail, size);
-    let copies = gptimg_core::check(alloc, &mut disk, sector_size);
-    if disk.failures != 0 {
-        return Err(Error::OutOfMemory);
-    }
-    copies
+    let mut disk = Ends::new(head, tail, size);
+    gptimg_core::check(alloc, &mut disk, sector_size)
 }
 
 // What is told of them.

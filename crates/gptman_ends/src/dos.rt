@@ -6,7 +6,6 @@ ghost use Rattle.gptman_ends.specs.Dos.{IsDosSector, IsSeen, IsUsedAt};
 
 use crate::ends::Ends;
 use crate::reading::{Lack, lack_of};
-use std::alloc::Global;
 
 /// What the ends tell of the first sector.
 #[derive(Clone, Copy)]
@@ -17,7 +16,7 @@ pub enum Seen {
 }
 
 /// Whether the first sector of every disk of that size with these ends has partitions of its own, or of none has.
-pub fn look_for_dos(alloc: Global, head: &[u8], tail: &[u8], size: u64) -> Seen
+pub fn look_for_dos(head: &[u8], tail: &[u8], size: u64) -> Seen
     requires { length head.now + length tail.now ≤ size }
     ensures { IsSeen head.now tail.now size result }
 {
@@ -28,7 +27,7 @@ pub fn look_for_dos(alloc: Global, head: &[u8], tail: &[u8], size: u64) -> Seen
         return Seen::Unknown(lack);
     }
     let mut sector = [0u8; 512];
-    let disk = Ends::new(alloc, head, tail, size);
+    let disk = Ends::new(head, tail, size);
     disk.fill(&mut sector);
     if is_dos_sector(&sector) {
         Seen::DosDisk

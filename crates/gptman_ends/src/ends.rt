@@ -1,65 +1,62 @@
-//! A disk of which the first and the last bytes are known. Between them it has zeros. It records what is to be
-//! written to it.
+//! A disk of which the first and the last bytes are known, for reading. Between them it has zeros.
 
-ghost use Rattle.std.specs.Prelude.{◌≡◌, ◌≤◌, ◌<◌, ◌+◌, ◌^◌, ◌↔◌, [], length, get_or, IsTrue};
+ghost use Rattle.std.specs.Prelude.{◌≡◌, ◌≤◌, ◌<◌, ◌+◌, ◌^◌, ◌↔◌, [], length, get_or, IsTrue, None};
 ghost use Rattle.gptman.specs.Bytes.{part};
-ghost use Rattle.gptman_ends.specs.Ends.{disk_bytes};
-ghost use Rattle.gptman_ends.specs.Plan.{acts_of, plan_sound, plan_state, view_of};
+ghost use Rattle.gptman_ends.specs.Ends.{disk_bytes, known_sound, known_state, length-disk_bytes, torn_ranges};
 
-use crate::record::Record;
 use gptman::Disk;
 use gptman::disk::{count_failure, passes_end, past_end};
-use std::alloc::Global;
 use std::io;
 
-/// A disk of which the ends are known.
+/// Bytes that a write left torn.
+#[derive(Clone, Copy)]
+pub struct Torn {
+    pub at: u64,
+    pub length: u64,
+}
+
+/// A disk of which the ends are known. It is for reading: a write that is tried leaves its bytes torn, and each write and
+/// sync from then on fails. Of one that was only read no call has failed.
 #[derive(Drop)]
 pub struct Ends<'a> {
     pub head: &'a [u8],
     pub tail: &'a [u8],
-    pub plan: Record,
+    pub size: u64,
     pub position: u64,
-    // How often there was no memory for a step.
+    // The bytes of the first write that was tried.
+    pub torn: Option<Torn>,
     pub failures: u64,
-    ghost long: { length (view_of (disk_bytes head.now tail.now plan.size)
-        (acts_of plan.bytes.items plan.steps.items)) ≡ plan.size },
-    ghost apart: { length head.now + length tail.now ≤ plan.size },
-    ghost small: { plan.size < 2 ^ 64 },
+    ghost apart: { length head.now + length tail.now ≤ size },
+    ghost small: { size < 2 ^ 64 },
+    ghost unfailed: { torn_ranges torn ≡ [] → failures ≡ 0 },
 }
 
 impl<'a> Ends<'a> {
-    /// A disk of so many bytes, with these ends, to which nothing was written.
-    pub fn new(alloc: Global, head: &'a [u8], tail: &'a [u8], size: u64) -> Self
+    /// A disk of so many bytes, with these ends.
+    pub fn new(head: &'a [u8], tail: &'a [u8], size: u64) -> Self
         requires { length head.now + length tail.now ≤ size }
         ensures head { result.head.now ≡ head.now }
         ensures tail { result.tail.now ≡ tail.now }
-        ensures size { result.plan.size ≡ size }
-        ensures acts { acts_of result.plan.bytes.items result.plan.steps.items ≡ [] }
+        ensures size { result.size ≡ size }
         ensures position { result.position ≡ 0 }
-        ensures failures { result.failures ≡ 0 }
+        ensures torn { result.torn ≡ None }
     {
         Ends {
             head,
             tail,
-            plan: Record::new(alloc, size),
+            size,
             position: 0,
+            torn: None,
             failures: 0,
         }
     }
 
-    /// What was recorded.
-    pub fn into_plan(self) -> Record
-        ensures { result ≡ self.entry.plan }
-    {
-        self.plan
-    }
-
-    // The byte at this place, before anything was written.
+    // The byte at this place.
     fn byte_at(&self, at: u64) -> u8
-        requires { at < self.now.plan.size }
-        ensures { result ≡ get_or (disk_bytes self.now.head.now self.now.tail.now self.now.plan.size) at 0 }
+        requires { at < self.now.size }
+        ensures { result ≡ get_or (disk_bytes self.now.head.now self.now.tail.now self.now.size) at 0 }
     {
-        let behind = self.plan.size - self.tail.len() as u64;
+        let behind = self.size - self.tail.len() as u64;
         if at < self.head.len() as u64 {
             self.head[at as usize]
         } else if at < behind {
@@ -69,10 +66,10 @@ impl<'a> Ends<'a> {
         }
     }
 
-    /// Fills the buffer from the position on, with what was there before anything was written.
+    /// Fills the buffer from the position on.
     pub fn fill(&self, buf: &mut [u8])
-        requires { self.now.position + length buf.old ≤ self.now.plan.size }
-        ensures { buf.new ≡ part (disk_bytes self.now.head.now self.now.tail.now self.now.plan.size)
+        requires { self.now.position + length buf.old ≤ self.now.size }
+        ensures { buf.new ≡ part (disk_bytes self.now.head.now self.now.tail.now self.now.size)
             self.now.position (length buf.old) }
     {
         for i in 0..buf.len() {
@@ -91,8 +88,7 @@ pub fn are_apart(head: &[u8], tail: &[u8], size: u64) -> bool
 }
 
 impl<'a> Disk for Ends<'a> {
-    ghost state = { λ d. plan_state (disk_bytes d.head.now d.tail.now d.plan.size)
-        (acts_of d.plan.bytes.items d.plan.steps.items) d.plan.size d.position d.failures };
+    ghost state = { λ d. known_state (disk_bytes d.head.now d.tail.now d.size) d.torn d.size d.position d.failures };
 
     fn seek_start(&mut self, at: u64) -> io::Result<u64> {
         self.position = at;
@@ -100,17 +96,13 @@ impl<'a> Disk for Ends<'a> {
     }
 
     fn seek_end(&mut self) -> io::Result<u64> {
-        self.position = self.plan.size;
-        Ok(self.plan.size)
+        self.position = self.size;
+        Ok(self.size)
     }
 
     fn read_exact(&mut self, buf: &mut [u8]) -> io::Result<()> {
-        if passes_end(self.plan.size, self.position, buf.len() as u64) {
+        if passes_end(self.size, self.position, buf.len() as u64) {
             return Err(past_end());
-        }
-        if !self.plan.steps.is_empty() {
-            count_failure(&mut self.failures);
-            return Err(io::Error::other("a read behind a write"));
         }
         self.fill(buf);
         self.position += buf.len() as u64;
@@ -118,25 +110,27 @@ impl<'a> Disk for Ends<'a> {
     }
 
     fn write_all(&mut self, buf: &[u8]) -> io::Result<()> {
-        if !self.plan.write(self.position, buf) {
-            count_failure(&mut self.failures);
-            return Err(io::Error::other("no memory for a step"));
+        if self.torn.is_none() {
+            self.torn = Some(Torn {
+                at: self.position,
+                length: buf.len() as u64,
+            });
         }
-        self.position += buf.len() as u64;
-        Ok(())
+        count_failure(&mut self.failures);
+        Err(io::Error::other("a write to what is read"))
     }
 
     fn sync(&mut self) -> io::Result<()> {
-        if !self.plan.sync() {
-            count_failure(&mut self.failures);
-            return Err(io::Error::other("no memory for a step"));
+        if self.torn.is_none() {
+            return Ok(());
         }
-        Ok(())
+        count_failure(&mut self.failures);
+        Err(io::Error::other("a sync of what is read"))
     }
 
     ghost bounded = { λ d. d.small };
 
     ghost sound = { λ d honest.
-        plan_sound (disk_bytes d.head.now d.tail.now d.plan.size) (acts_of d.plan.bytes.items d.plan.steps.items) d.plan.size d.position
-        d.failures d.long };
+        known_sound (disk_bytes d.head.now d.tail.now d.size) d.torn d.size d.position d.failures
+        (length-disk_bytes d.head.now d.tail.now d.size d.apart) };
 }

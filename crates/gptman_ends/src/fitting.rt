@@ -15,7 +15,7 @@ use crate::planning::Refusal;
 use crate::reading::{Reading, read};
 use crate::record::Record;
 use crate::tables::plan_table;
-use gptman::{Error, GPT};
+use gptman::GPT;
 use std::alloc::Global;
 
 /// The steps that write the table that the ends hold, fitted to a disk of that size. The sector size is in bytes.
@@ -42,12 +42,12 @@ pub fn plan_fit(
     if !is_of_side(&table.header, is_backup) {
         return Err(Refusal::OtherLayout);
     }
-    let fitted = fit(alloc, head, tail, size, table)?;
+    let fitted = fit(head, tail, size, table)?;
     plan_table(alloc, head, tail, size, fitted)
 }
 
 // The table with its header fitted to a disk of that size.
-fn fit(alloc: Global, head: &[u8], tail: &[u8], size: u64, mut table: GPT) -> Result<GPT, Refusal>
+fn fit(head: &[u8], tail: &[u8], size: u64, mut table: GPT) -> Result<GPT, Refusal>
     requires sector { 0 < table.sector_size }
     requires apart { length head.now + length tail.now ≤ size }
     ensures value { IfOk result (λ g. g ≡ grow_to table size) }
@@ -55,13 +55,9 @@ fn fit(alloc: Global, head: &[u8], tail: &[u8], size: u64, mut table: GPT) -> Re
     ensures refused { IfErr result (IsSizeRefusal head.now tail.now size table) }
     ensures asked { IfErr result AsksNothing }
 {
-    let mut disk = Ends::new(alloc, head, tail, size);
+    let mut disk = Ends::new(head, tail, size);
     let sector_size = table.sector_size;
-    let fitted = table.header.update_from(&mut disk, sector_size);
-    if disk.failures != 0 {
-        return Err(Refusal::Refused(Error::OutOfMemory));
-    }
-    match fitted {
+    match table.header.update_from(&mut disk, sector_size) {
         Ok(()) => Ok(table),
         Err(fault) => Err(Refusal::Refused(fault)),
     }

@@ -19,6 +19,7 @@ pub mod places;
 pub mod planning;
 pub mod reading;
 pub mod record;
+pub mod recording;
 pub mod records;
 pub mod rounds;
 pub mod tables;

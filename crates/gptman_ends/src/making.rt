@@ -11,7 +11,7 @@ use crate::ends::Ends;
 use crate::planning::Refusal;
 use crate::record::Record;
 use crate::tables::plan_table;
-use gptman::{Error, GPT};
+use gptman::GPT;
 use std::alloc::Global;
 
 /// The steps that write a new table of so many unused entries to a disk with these ends.
@@ -57,12 +57,8 @@ fn make(
     ensures refused { IfErr result (IsNewRefusal head.now tail.now size sector_size count disk_guid) }
     ensures asked { IfErr result AsksNothing }
 {
-    let mut disk = Ends::new(alloc, head, tail, size);
-    let table = GPT::with_entries(alloc, &mut disk, sector_size, disk_guid, count);
-    if disk.failures != 0 {
-        return Err(Refusal::Refused(Error::OutOfMemory));
-    }
-    match table {
+    let mut disk = Ends::new(head, tail, size);
+    match GPT::with_entries(alloc, &mut disk, sector_size, disk_guid, count) {
         Ok(table) => Ok(table),
         Err(fault) => Err(Refusal::Refused(fault)),
     }

@@ -14,11 +14,11 @@ ghost use Rattle.gptman_ends.specs.Reading.{IsStatedTable};
 ghost use Rattle.gptman_ends.specs.Rounds.{reading_ranges};
 ghost use Rattle.gptman_ends.specs.declared.records.Partition.{Partition};
 
-use crate::ends::Ends;
 use crate::layout::{is_made_for, is_stated};
 use crate::places::lack_of_places;
 use crate::reading::{Lack, Reading, read};
 use crate::record::Record;
+use crate::recording::Recorder;
 use crate::records::Partition;
 use crate::writing::rewrite;
 use gptman::{Error, GPT};
@@ -112,7 +112,7 @@ fn record_write(
         → IsSafePlan (disk_bytes head.now tail.now size) table.now.sector_size (table_in table.now)
         (with_partitions table.now partitions.now) (acts_of plan.bytes.items plan.steps.items)) }
 {
-    let mut disk = Ends::new(alloc, head, tail, size);
+    let mut disk = Recorder::new(alloc, head, tail, size);
     let written = rewrite(alloc, &mut disk, table, partitions);
     if disk.failures != 0 {
         return Err(Refusal::Refused(Error::OutOfMemory));

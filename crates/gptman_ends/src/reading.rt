@@ -66,7 +66,7 @@ fn find_place(alloc: Global, head: &[u8], tail: &[u8], size: u64, sector_size: u
     ensures place { IfOk result (IsPlace head.now tail.now size sector_size) }
     ensures refused { IfErr result (λ e. fault_of e ≡ out_of_memory) }
 {
-    if let Some(lack) = lack_of_copy(alloc, head, tail, size, sector_size, sector_size)? {
+    if let Some(lack) = lack_of_copy(head, tail, size, sector_size, sector_size) {
         return Ok(Place::Unknown(lack));
     }
     if has_primary(alloc, head, tail, size, sector_size)? {
@@ -76,7 +76,7 @@ fn find_place(alloc: Global, head: &[u8], tail: &[u8], size: u64, sector_size: u
         return Ok(Place::At { is_backup: true });
     }
     let at = last_sector(size, sector_size);
-    match lack_of_copy(alloc, head, tail, size, at, sector_size)? {
+    match lack_of_copy(head, tail, size, at, sector_size) {
         Some(lack) => Ok(Place::Unknown(lack)),
         None => Ok(Place::At { is_backup: true }),
     }
@@ -92,12 +92,8 @@ fn read_table(alloc: Global, head: &[u8], tail: &[u8], size: u64, sector_size: u
     ensures value { IfOk result IsAsRead }
     ensures align { IfOk result (λ g. 0 < g.align) }
 {
-    let mut disk = Ends::new(alloc, head, tail, size);
-    let table = GPT::read_from(alloc, &mut disk, sector_size);
-    if disk.failures != 0 {
-        return Err(Error::OutOfMemory);
-    }
-    table
+    let mut disk = Ends::new(head, tail, size);
+    GPT::read_from(alloc, &mut disk, sector_size)
 }
 
 // Whether that disk has a copy without fault at the primary place. There may be no memory.
@@ -108,69 +104,40 @@ fn has_primary(alloc: Global, head: &[u8], tail: &[u8], size: u64, sector_size: 
         ≡ is_ok (copy_at (disk_bytes head.now tail.now size) sector_size sector_size)) }
     ensures refused { IfErr result (λ e. fault_of e ≡ out_of_memory) }
 {
-    let mut disk = Ends::new(alloc, head, tail, size);
+    let mut disk = Ends::new(head, tail, size);
     disk.position = sector_size;
-    let copy = read_copy(alloc, &mut disk, sector_size);
-    if disk.failures != 0 {
-        return Err(Error::OutOfMemory);
-    }
-    match copy {
+    match read_copy(alloc, &mut disk, sector_size) {
         Ok(_) => Ok(true),
         Err(Error::OutOfMemory) => Err(Error::OutOfMemory),
         Err(_) => Ok(false),
     }
 }
 
-/// What the ends lack of the copy whose header is at this byte. There may be no memory.
-pub fn lack_of_copy(
-    alloc: Global,
-    head: &[u8],
-    tail: &[u8],
-    size: u64,
-    at: u64,
-    sector_size: u64,
-) -> Result<Option<Lack>>
+/// What the ends lack of the copy whose header is at this byte.
+pub fn lack_of_copy(head: &[u8], tail: &[u8], size: u64, at: u64, sector_size: u64) -> Option<Lack>
     requires { length head.now + length tail.now ≤ size }
-    ensures told { IfOk result (λ o. MatchOption o (IsCopyTold head.now tail.now size at sector_size)
-        (IsLackOf (λ b. copy_ranges b sector_size at) head.now tail.now size)) }
-    ensures refused { IfErr result (λ e. fault_of e ≡ out_of_memory) }
+    ensures told { MatchOption result (IsCopyTold head.now tail.now size at sector_size)
+        (IsLackOf (λ b. copy_ranges b sector_size at) head.now tail.now size) }
 {
     if passes_end(size, at, 92) {
-        return Ok(None);
+        return None;
     }
     if let Some(lack) = lack_of(head, tail, size, at, 92) {
-        return Ok(Some(lack));
+        return Some(lack);
     }
-    match header_at(alloc, head, tail, size, at)? {
-        None => Ok(None),
-        Some(header) => Ok(lack_of_entries(&header, head, tail, size, sector_size)),
-    }
+    let header = header_at(head, tail, size, at)?;
+    lack_of_entries(&header, head, tail, size, sector_size)
 }
 
-// The header at this byte of that disk, if it has no fault. There may be no memory.
-fn header_at(
-    alloc: Global,
-    head: &[u8],
-    tail: &[u8],
-    size: u64,
-    at: u64,
-) -> Result<Option<GPTHeader>>
+// The header at this byte of that disk, if it has no fault.
+fn header_at(head: &[u8], tail: &[u8], size: u64, at: u64) -> Option<GPTHeader>
     requires { length head.now + length tail.now ≤ size }
-    ensures answer { IfOk result (λ o. MatchOption o
-        (IsErr (header_result (disk_bytes head.now tail.now size) at))
-        (λ h. header_result (disk_bytes head.now tail.now size) at ≡ Ok h)) }
-    ensures refused { IfErr result (λ e. fault_of e ≡ out_of_memory) }
+    ensures answer { MatchOption result (IsErr (header_result (disk_bytes head.now tail.now size) at))
+        (λ h. header_result (disk_bytes head.now tail.now size) at ≡ Ok h) }
 {
-    let mut disk = Ends::new(alloc, head, tail, size);
+    let mut disk = Ends::new(head, tail, size);
     disk.position = at;
-    let header = GPTHeader::read_from(&mut disk);
-    if disk.failures != 0 {
-        return Err(Error::OutOfMemory);
-    }
-    match header {
-        Ok(header) => Ok(Some(header)),
-        Err(_) => Ok(None),
-    }
+    GPTHeader::read_from(&mut disk).ok()
 }
 
 // What the ends lack of the entries of this header.

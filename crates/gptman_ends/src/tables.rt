@@ -10,10 +10,10 @@ ghost use Rattle.gptman_ends.specs.Ends.{disk_bytes, HasEnds};
 ghost use Rattle.gptman_ends.specs.Plan.{acts_of};
 ghost use Rattle.gptman_ends.specs.Planning.{ComesInTurns, IsTablePlan, IsTableRefusal, IsWrittenPlan};
 
-use crate::ends::Ends;
 use crate::places::lack_of_places;
 use crate::planning::Refusal;
 use crate::record::Record;
+use crate::recording::Recorder;
 use gptman::{Error, GPT};
 use std::alloc::Global;
 
@@ -69,7 +69,7 @@ fn record_table(
         → ComesInTurns (disk_bytes head.now tail.now size) table.sector_size (table_in table)
         (acts_of plan.bytes.items plan.steps.items)) }
 {
-    let mut disk = Ends::new(alloc, head, tail, size);
+    let mut disk = Recorder::new(alloc, head, tail, size);
     let written = table.write_into(&mut disk);
     if disk.failures != 0 {
         return Err(Refusal::Refused(Error::OutOfMemory));

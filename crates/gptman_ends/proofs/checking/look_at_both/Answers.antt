@@ -12,6 +12,6 @@ returns-clause-look c = λ b ends.
     let tail = c.args.tail.now in
     let size = c.args.size in
     let ss = c.args.sector_size in
-    let told = at_none (AreCopiesTold head tail size ss) (IsLackOf (λ b. reading_ranges b ss) head tail size) c.in_ok-lack.field-0 c.in_default.is c.in_ok-lack.ensures.told in
+    let told = at_none (AreCopiesTold head tail size ss) (IsLackOf (λ b. reading_ranges b ss) head tail size) c.lack_of_copies.result c.in_default.is c.lack_of_copies.ensures.told in
     let made = c.check_of.ensures in
     check_told (disk_bytes head tail size) b ss c.in_ok-copies.copies c.check_of.result (λ side. told side b ends) c.in_ok-copies.ensures.found made.primary made.backup made.same made.flag

@@ -21,8 +21,8 @@ returns-then-is_dos_sector c =
     (c.fill.ensures ∙ (λ i. part (disk_bytes (made.head i) (made.tail i) (made.size i)) (made.position i) 512))
     (c.is_dos_sector.ensures.0 c.if-is_dos_sector.true)
 
-pub returns : goal.returns
-returns c =
+pub returns-else-is_dos_sector : goal.returns-else-is_dos_sector
+returns-else-is_dos_sector c =
     let a = c.args in
     let made = c.new-disk.ensures in
     let known = at_none (IsKnown (length a.head.now) (length a.tail.now) a.size (0, 512)) (IsLack a.head.now a.tail.now a.size) c.lack_of.result c.in_default.is c.lack_of.ensures.known in

@@ -3,6 +3,7 @@ use Rattle.std.specs.Prelude.{None, Some}
 use Rattle.gptman.specs.Fault.{fault_of}
 use Rattle.gptman.specs.Fit.{fit_fault}
 use Rattle.gptman_ends.proofs.Fitted.{settled_err}
+use Rattle.gptman_ends.proofs.Unfailed.{unfailed}
 use Rattle.gptman_ends.proofs.fitting.fit.Goals as goal
 
 pub returns-in-Ok-clause-fits : goal.returns-in-Ok-clause-fits
@@ -14,4 +15,4 @@ pub returns-in-Err-clause-refused : goal.returns-in-Err-clause-refused
 returns-in-Err-clause-refused c =
     let g = c.args.table in
     inr (subst (λ (n : ℕ). fit_fault g.header g.sector_size n ≡ Some (fault_of c.in-Err.fault)) c.new-disk.ensures.size
-    (settled_err (fit_fault g.header g.sector_size c.new-disk.result.plan.size) c.in-Err.fault _ _ c.if-disk-ne0.false c.in-Err.ensures.answer))
+    (settled_err (fit_fault g.header g.sector_size c.new-disk.result.size) c.in-Err.fault _ _ (unfailed c.new-disk.result c.update_from.new.disk c.new-disk.ensures.torn c.in-Err.ensures.reads) c.in-Err.ensures.answer))

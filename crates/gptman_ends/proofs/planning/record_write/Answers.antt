@@ -1,9 +1,8 @@
 use Rattle.std.proofs.Common.{◌≡◌, refl, ◌∙◌}
 use Rattle.gptman.specs.Fault.{fault_of}
-use Rattle.gptman_ends.specs.Ends.{disk_bytes}
+use Rattle.gptman_ends.specs.Ends.{disk_bytes, length-disk_bytes}
 use Rattle.gptman_ends.specs.Plan.{acts_of}
-use Rattle.gptman_ends.specs.declared.ends.Ends.{Ends}
-use Rattle.gptman_ends.proofs.Known.{length-disk_bytes}
+use Rattle.gptman_ends.specs.declared.recording.Recorder.{Recorder}
 use Rattle.gptman_ends.proofs.Planned.{begins_at, ends_after, safe_zero, start_stays}
 use Rattle.gptman_ends.proofs.Refused.{unfit}
 use Rattle.gptman_ends.proofs.planning.record_write.Goals as goal
@@ -14,7 +13,7 @@ returns-in-Ok-clause-safe c =
     let made = c.new-disk.ensures in
     let begins = begins_at c.new-disk.result a.head.now a.tail.now a.size made.head made.tail made.size made.acts made.position made.failures in
     let long = length-disk_bytes a.head.now a.tail.now a.size c.requires.apart in
-    let e : Ends = c.rewrite-written.new.disk in
+    let e : Recorder = c.rewrite-written.new.disk in
     let sized : e.plan.size ≡ a.size = c.rewrite-written.ensures.size ∙ made.size in
     let same = start_stays (disk_bytes a.head.now a.tail.now a.size) a.size _ e long begins sized (c.in-Ok.ensures.time refl) in
     let after = ends_after e c.into_plan.result (disk_bytes a.head.now a.tail.now a.size) same c.into_plan.ensures in

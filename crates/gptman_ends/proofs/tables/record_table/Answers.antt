@@ -1,8 +1,7 @@
 use Rattle.std.proofs.Common.{◌≡◌, refl, ◌∙◌}
-use Rattle.gptman_ends.specs.Ends.{disk_bytes}
+use Rattle.gptman_ends.specs.Ends.{disk_bytes, length-disk_bytes}
 use Rattle.gptman_ends.specs.Plan.{acts_of}
-use Rattle.gptman_ends.specs.declared.ends.Ends.{Ends}
-use Rattle.gptman_ends.proofs.Known.{length-disk_bytes}
+use Rattle.gptman_ends.specs.declared.recording.Recorder.{Recorder}
 use Rattle.gptman_ends.proofs.Planned.{begins_at, ends_after, start_stays}
 use Rattle.gptman_ends.proofs.TablePlans.{turns_zero, written_zero}
 use Rattle.gptman_ends.proofs.tables.record_table.Goals as goal
@@ -13,7 +12,7 @@ returns-in-Ok-clause-written c = λ layout.
     let made = c.new-disk.ensures in
     let begins = begins_at c.new-disk.result a.head.now a.tail.now a.size made.head made.tail made.size made.acts made.position made.failures in
     let long = length-disk_bytes a.head.now a.tail.now a.size c.requires.apart in
-    let e : Ends = c.write_into-written.new.disk in
+    let e : Recorder = c.write_into-written.new.disk in
     let sized : e.plan.size ≡ a.size = c.in-Ok.ensures.keeps.size ∙ made.size in
     let same = start_stays (disk_bytes a.head.now a.tail.now a.size) a.size _ e long begins sized (c.in-Ok.ensures.wrote refl).time in
     let after = ends_after e c.into_plan.result (disk_bytes a.head.now a.tail.now a.size) same c.into_plan.ensures in
@@ -26,7 +25,7 @@ returns-in-Ok-clause-turns c = λ layout form.
     let made = c.new-disk.ensures in
     let begins = begins_at c.new-disk.result a.head.now a.tail.now a.size made.head made.tail made.size made.acts made.position made.failures in
     let long = length-disk_bytes a.head.now a.tail.now a.size c.requires.apart in
-    let e : Ends = c.write_into-written.new.disk in
+    let e : Recorder = c.write_into-written.new.disk in
     let sized : e.plan.size ≡ a.size = c.in-Ok.ensures.keeps.size ∙ made.size in
     let same = start_stays (disk_bytes a.head.now a.tail.now a.size) a.size _ e long begins sized (c.in-Ok.ensures.wrote refl).time in
     let after = ends_after e c.into_plan.result (disk_bytes a.head.now a.tail.now a.size) same c.into_plan.ensures in

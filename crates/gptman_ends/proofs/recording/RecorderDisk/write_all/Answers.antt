@@ -3,7 +3,7 @@ use Rattle.gptman.specs.Disk.{Wrote}
 use Rattle.gptman_ends.specs.Ends.{disk_bytes}
 use Rattle.gptman_ends.specs.Plan.{Act, acts_of, plan_state, view_of}
 use Rattle.gptman_ends.proofs.Acts.{laid}
-use Rattle.gptman_ends.proofs.ends.EndsDisk.write_all.Goals as goal
+use Rattle.gptman_ends.proofs.recording.RecorderDisk.write_all.Goals as goal
 
 pub returns-clause-wrote : goal.returns-clause-wrote
 returns-clause-wrote c = λ honest.
