@@ -234,8 +234,8 @@ enum { GPTMAN_MBR_START = 446, GPTMAN_MBR_LENGTH = 66 };
  * GPTMAN_MBR_START on; gptman_new does not. `bootable` is 1 where the partition is to be marked as bootable, else 0.
  *
  * GPTMAN_OVERFLOW: the disk is shorter than a sector. GPTMAN_NO_SPACE_LEFT: it is not, but shorter than 512 bytes.
- * GPTMAN_OUT_OF_MEMORY: there is no memory. GPTMAN_LACKS_ROOM: `byte_count` is below GPTMAN_MBR_LENGTH.
- * GPTMAN_BAD_ARGUMENT: `sector_size` is 0, or `bootable` above 1.
+ * GPTMAN_LACKS_ROOM: `byte_count` is below GPTMAN_MBR_LENGTH. GPTMAN_BAD_ARGUMENT: `sector_size` is 0, or `bootable`
+ * above 1.
  *
  * What stands behind these bytes stays as it was, and all of `bytes` where there is another answer. */
 uint32_t gptman_mbr(uint64_t disk_size, uint64_t sector_size, uint32_t bootable, uint8_t *bytes, size_t byte_count);

@@ -1,7 +1,9 @@
 -- What is cleared, so that a disk looks no longer like one with a table.
 use Rattle.std.specs.Prelude.{◌≡◌, ◌≢◌, ◌≤◌, ◌<◌, ◌⊎◌, ◌+◌, ◌-◌, ◌*◌, ◌/◌, ℕ, List, [], ◌∷◌, length, get_or, nat_lt, Option, Some, None, Result, Ok, Err, if◌then◌else◌}
 use Rattle.std.specs.Result.{result_ok}
-use Rattle.gptman_copy.specs.Disk.{DiskState, Writes}
+use Rattle.gptman_copy.specs.Answers.{IsFailure}
+use Rattle.gptman_copy.specs.Disk.{DiskState, Untouched, Writes}
+use Rattle.gptman_copy.specs.Fault.{Fault, out_of_memory}
 use Rattle.gptman_copy.specs.Ranges.{Inside}
 use Rattle.gptman_copy.specs.declared.codec.header.GPTHeader.{GPTHeader}
 use Rattle.gptman_copy.specs.declared.copy.WholeCopy.{WholeCopy}
@@ -22,6 +24,10 @@ pub record WritesOnly (P : ℕ → Type 0) (old new : DiskState) : Type 0 where
   pub ranges : List (ℕ × ℕ)
   pub within : (k : ℕ) → Inside ranges k → P k
   pub wrote : Writes ranges old new
+
+-- there was no memory, and nothing is written; or the disk failed
+abbrev pub IsFailureOrUnbegun : Fault → DiskState → DiskState → Type 0
+IsFailureOrUnbegun fault old new = ((fault ≡ out_of_memory) × Untouched old new) ⊎ IsFailure fault old new
 
 -- so many bytes from this one on are zero
 abbrev pub AreZeros : ℕ → ℕ → List ℕ → Type 0

@@ -1,12 +1,12 @@
 //! Clearing what makes a disk look like one with a table.
 
-ghost use Rattle.std.specs.Prelude.{◌≡◌, ◌≤◌, ◌<◌, ◌+◌, ◌*◌, ◌↔◌, ℕ, [], IfOk, IsTrue, OnOk, Some as Present};
-ghost use Rattle.gptman.specs.Answers.{HasCause, Refuses};
+ghost use Rattle.std.specs.Prelude.{◌≡◌, ◌≤◌, ◌<◌, ◌+◌, ◌*◌, ◌↔◌, ℕ, [], IfErr, IfOk, IsTrue, OnOk, Some as Present};
+ghost use Rattle.gptman.specs.Answers.{IsFailure};
 ghost use Rattle.gptman.specs.Disk.{IsHonest, Keeps, Reads, Writes};
-ghost use Rattle.gptman_copy.specs.Fault.{fault_of, io};
+ghost use Rattle.gptman_copy.specs.Fault.{fault_of, io, out_of_memory};
 ghost use Rattle.gptman_copy.specs.Ranges.{Inside};
 ghost use Rattle.gptedit_look.specs.Guard.{last_of, IsIn};
-ghost use Rattle.gptedit_look.specs.Wiped.{header_found, header_in, ranges_in, Adds, AreZeros, HasUsualEntries, IsApartFrom, IsBeside, IsCleared, IsClearOf, IsOfBeside, IsOfCopies, IsOfMbr, IsOfOld, IsOfOther, IsOfOwn, IsOfPlace, IsOfRaw, IsOfSignature, IsOfWhole, IsWiped, WritesOnly};
+ghost use Rattle.gptedit_look.specs.Wiped.{header_found, header_in, ranges_in, Adds, AreZeros, HasUsualEntries, IsApartFrom, IsBeside, IsCleared, IsClearOf, IsFailureOrUnbegun, IsOfBeside, IsOfCopies, IsOfMbr, IsOfOld, IsOfOther, IsOfOwn, IsOfPlace, IsOfRaw, IsOfSignature, IsOfWhole, IsWiped, WritesOnly};
 
 use crate::bytes::start_of;
 use crate::first_sector::MbrKind;
@@ -43,7 +43,7 @@ const MBR_SIZE: u64 = 66;
 /// `Io` if the disk failed.
 pub fn clear_signatures<D: Disk>(disk: &mut D, look: &Look, sector_size: u64) -> Result<()>
     ensures keeps { Keeps (D.state disk.old) (D.state disk.new) }
-    ensures cause { HasCause result (D.state disk.old) (D.state disk.new) }
+    ensures failed { IfErr result (λ e. IsFailure (fault_of e) (D.state disk.old) (D.state disk.new)) }
 
     // No byte changes at any moment but those of signatures of another sector size.
     ensures only { WritesOnly (λ k. IsOfOther sector_size k look.now.signatures.items)
@@ -69,7 +69,7 @@ fn clear_beside<D: Disk>(
     sector_size: u64,
 ) -> Result<()>
     ensures keeps { Keeps (D.state disk.old) (D.state disk.new) }
-    ensures cause { HasCause result (D.state disk.old) (D.state disk.new) }
+    ensures failed { IfErr result (λ e. IsFailure (fault_of e) (D.state disk.old) (D.state disk.new)) }
     ensures only { WritesOnly (λ k. IsOfBeside primary backup sector_size k signatures.now)
         (D.state disk.old) (D.state disk.new) }
     ensures cleared { IsHonest (D.state disk.old) → OnOk result (IsCleared
@@ -91,7 +91,7 @@ fn clear_one<D: Disk>(
     sector_size: u64,
 ) -> Result<()>
     ensures keeps { Keeps (D.state disk.old) (D.state disk.new) }
-    ensures cause { HasCause result (D.state disk.old) (D.state disk.new) }
+    ensures failed { IfErr result (λ e. IsFailure (fault_of e) (D.state disk.old) (D.state disk.new)) }
     ensures only { WritesOnly (λ k. IsBeside primary backup sector_size signature.now × IsIn signature.now.at 8 k)
         (D.state disk.old) (D.state disk.new) }
     ensures cleared { IsHonest (D.state disk.old)
@@ -121,7 +121,7 @@ fn is_beside(
 // The header at this place, if it is good.
 fn read_header<D: Disk>(disk: &mut D, place: Place, sector_size: u64) -> Result<Option<GPTHeader>>
     ensures reads { Reads (D.state disk.old) (D.state disk.new) }
-    ensures cause { HasCause result (D.state disk.old) (D.state disk.new) }
+    ensures failed { IfErr result (λ e. IsFailure (fault_of e) (D.state disk.old) (D.state disk.new)) }
     ensures found { IsHonest (D.state disk.old) → IfOk result (λ header. header
         ≡ header_in place sector_size (D.state disk.old).view) }
 {
@@ -140,7 +140,7 @@ fn read_header<D: Disk>(disk: &mut D, place: Place, sector_size: u64) -> Result<
 fn read_header_at<D: Disk>(disk: &mut D, at: u64) -> Result<Option<GPTHeader>>
     requires { at + 92 ≤ (D.state disk.old).size }
     ensures reads { Reads (D.state disk.old) (D.state disk.new) }
-    ensures cause { HasCause result (D.state disk.old) (D.state disk.new) }
+    ensures failed { IfErr result (λ e. IsFailure (fault_of e) (D.state disk.old) (D.state disk.new)) }
     ensures found { IsHonest (D.state disk.old) → IfOk result (λ header. header
         ≡ header_found (D.state disk.old).view at) }
 {
@@ -210,7 +210,7 @@ fn is_apart(at: u64, sector: u64, sector_size: u64, length: u64) -> bool
 /// `Io` if the disk failed, `OutOfMemory` if there was no memory: then nothing is written.
 pub fn wipe<D: Disk>(alloc: Global, disk: &mut D, look: &Look) -> Result<()>
     ensures keeps { Keeps (D.state disk.old) (D.state disk.new) }
-    ensures cause { HasCause result (D.state disk.old) (D.state disk.new) }
+    ensures failed { IfErr result (λ e. IsFailureOrUnbegun (fault_of e) (D.state disk.old) (D.state disk.new)) }
 
     // No other byte changes at any moment.
     ensures only { WritesOnly (IsWiped look.now) (D.state disk.old) (D.state disk.new) }
@@ -224,7 +224,7 @@ pub fn wipe<D: Disk>(alloc: Global, disk: &mut D, look: &Look) -> Result<()>
 // Clears the ranges, and syncs them.
 fn clear_all<D: Disk>(disk: &mut D, ranges: &[Zeroed]) -> Result<()>
     ensures keeps { Keeps (D.state disk.old) (D.state disk.new) }
-    ensures cause { HasCause result (D.state disk.old) (D.state disk.new) }
+    ensures failed { IfErr result (λ e. IsFailure (fault_of e) (D.state disk.old) (D.state disk.new)) }
     ensures wrote { Writes (ranges_in ranges.now) (D.state disk.old) (D.state disk.new) }
     ensures cleared { IsHonest (D.state disk.old)
         → OnOk result (IsCleared (Inside (ranges_in ranges.now)) (D.state disk.new)) }
@@ -238,7 +238,7 @@ fn clear_all<D: Disk>(disk: &mut D, ranges: &[Zeroed]) -> Result<()>
 
 // All ranges that a wipe clears.
 fn ranges_of(alloc: Global, look: &Look) -> Result<Vec<Zeroed>>
-    ensures io { ¬ Refuses result io }
+    ensures refused { IfErr result (λ e. fault_of e ≡ out_of_memory) }
     ensures adds { IfOk result (λ ranges. Adds (IsWiped look.now) [] ranges.items) }
 {
     let mut ranges = Vec::new(alloc);
@@ -251,7 +251,7 @@ fn ranges_of(alloc: Global, look: &Look) -> Result<Vec<Zeroed>>
 
 // Both copies.
 fn push_copies(ranges: &mut Vec<Zeroed>, look: &Look) -> Result<()>
-    ensures io { ¬ Refuses result io }
+    ensures refused { IfErr result (λ e. fault_of e ≡ out_of_memory) }
     ensures adds { OnOk result (Adds (IsOfCopies look.now) ranges.old.items ranges.new.items) }
 {
     let size = look.sector_size;
@@ -281,7 +281,7 @@ fn push_place(
     sector_size: u64,
 ) -> Result<()>
     requires { 0 < sector_size }
-    ensures io { ¬ Refuses result io }
+    ensures refused { IfErr result (λ e. fault_of e ≡ out_of_memory) }
     ensures adds { OnOk result
         (Adds (λ k. IsOfPlace sector sector_size k seen copy.now) ranges.old.items ranges.new.items) }
 {
@@ -300,7 +300,7 @@ fn push_own(
     sector_size: u64,
 ) -> Result<()>
     requires { 0 < sector_size }
-    ensures io { ¬ Refuses result io }
+    ensures refused { IfErr result (λ e. fault_of e ≡ out_of_memory) }
     ensures adds { OnOk result
         (Adds (IsOfOwn header.now sector sector_size seen) ranges.old.items ranges.new.items) }
 {
@@ -313,7 +313,7 @@ fn push_own(
 
 // The signatures.
 fn push_signatures(ranges: &mut Vec<Zeroed>, signatures: &[Signature]) -> Result<()>
-    ensures io { ¬ Refuses result io }
+    ensures refused { IfErr result (λ e. fault_of e ≡ out_of_memory) }
     ensures adds { OnOk result
         (Adds (λ k. IsOfSignature k signatures.now) ranges.old.items ranges.new.items) }
 {
@@ -325,7 +325,7 @@ fn push_signatures(ranges: &mut Vec<Zeroed>, signatures: &[Signature]) -> Result
 
 // The entries and the end of a protective MBR.
 fn push_mbr(ranges: &mut Vec<Zeroed>, kind: MbrKind) -> Result<()>
-    ensures io { ¬ Refuses result io }
+    ensures refused { IfErr result (λ e. fault_of e ≡ out_of_memory) }
     ensures adds { OnOk result (Adds (IsOfMbr kind) ranges.old.items ranges.new.items) }
 {
     if kind != MbrKind::Protective {
@@ -336,7 +336,7 @@ fn push_mbr(ranges: &mut Vec<Zeroed>, kind: MbrKind) -> Result<()>
 
 // The header and the entries of a copy.
 fn push_copy(ranges: &mut Vec<Zeroed>, header: &GPTHeader, sector_size: u64) -> Result<()>
-    ensures io { ¬ Refuses result io }
+    ensures refused { IfErr result (λ e. fault_of e ≡ out_of_memory) }
     ensures adds { OnOk result
         (Adds (IsOfWhole header.now sector_size) ranges.old.items ranges.new.items) }
 {
@@ -350,7 +350,7 @@ fn push_copy(ranges: &mut Vec<Zeroed>, header: &GPTHeader, sector_size: u64) -> 
 
 // So many bytes from this sector on.
 fn push(ranges: &mut Vec<Zeroed>, sector: u64, sector_size: u64, length: u64) -> Result<()>
-    ensures io { ¬ Refuses result io }
+    ensures refused { IfErr result (λ e. fault_of e ≡ out_of_memory) }
     ensures adds { OnOk result
         (Adds (IsIn (sector * sector_size) length) ranges.old.items ranges.new.items) }
 {
@@ -362,7 +362,7 @@ fn push(ranges: &mut Vec<Zeroed>, sector: u64, sector_size: u64, length: u64) ->
 
 // So many bytes from this one on.
 fn push_range(ranges: &mut Vec<Zeroed>, start: u64, length: u64) -> Result<()>
-    ensures io { ¬ Refuses result io }
+    ensures refused { IfErr result (λ e. fault_of e ≡ out_of_memory) }
     ensures adds { OnOk result (Adds (IsIn start length) ranges.old.items ranges.new.items) }
 {
     ranges.push(Zeroed { start, length })?;
@@ -372,7 +372,7 @@ fn push_range(ranges: &mut Vec<Zeroed>, start: u64, length: u64) -> Result<()>
 // A header that may be broken, and its entries if they are where they usually are.
 fn push_raw(ranges: &mut Vec<Zeroed>, header: Option<RawHeader>, sector_size: u64) -> Result<()>
     requires { 0 < sector_size }
-    ensures io { ¬ Refuses result io }
+    ensures refused { IfErr result (λ e. fault_of e ≡ out_of_memory) }
     ensures adds { OnOk result
         (Adds (λ k. IsOfRaw sector_size k header) ranges.old.items ranges.new.items) }
 {
@@ -385,7 +385,7 @@ fn push_raw(ranges: &mut Vec<Zeroed>, header: Option<RawHeader>, sector_size: u6
 // The same of one that was seen.
 fn push_seen(ranges: &mut Vec<Zeroed>, header: &RawHeader, sector_size: u64) -> Result<()>
     requires { 0 < sector_size }
-    ensures io { ¬ Refuses result io }
+    ensures refused { IfErr result (λ e. fault_of e ≡ out_of_memory) }
     ensures adds { OnOk result
         (Adds (λ k. IsOfRaw sector_size k (Present header.now)) ranges.old.items ranges.new.items) }
 {

@@ -1,8 +1,9 @@
 //! Writing zeros.
 
-ghost use Rattle.std.specs.Prelude.{◌≤◌, ◌+◌, [], ◌∷◌, OnOk};
-ghost use Rattle.gptman.specs.Answers.{HasCause};
+ghost use Rattle.std.specs.Prelude.{◌≤◌, ◌+◌, [], ◌∷◌, IfErr, OnOk};
+ghost use Rattle.gptman.specs.Answers.{IsFailure};
 ghost use Rattle.gptman.specs.Disk.{IsHonest, Keeps, Writes};
+ghost use Rattle.gptman.specs.Fault.{fault_of};
 ghost use Rattle.gptedit_look.specs.Wiped.{AreZeros};
 
 use gptman::{Disk, Result};
@@ -25,7 +26,7 @@ pub struct Zeroed {
 /// `Io` if the disk failed.
 pub fn put_zeros<D: Disk>(disk: &mut D, range: Zeroed) -> Result<()>
     ensures keeps { Keeps (D.state disk.old) (D.state disk.new) }
-    ensures cause { HasCause result (D.state disk.old) (D.state disk.new) }
+    ensures failed { IfErr result (λ e. IsFailure (fault_of e) (D.state disk.old) (D.state disk.new)) }
     ensures wrote { Writes ((range.start, range.length) ∷ []) (D.state disk.old) (D.state disk.new) }
     ensures zeros { IsHonest (D.state disk.old)
         → OnOk result (AreZeros range.start range.length (D.state disk.new).view) }
@@ -46,7 +47,7 @@ fn put_block<D: Disk>(disk: &mut D, at: u64, count: u64) -> Result<()>
     requires few { count ≤ 512 }
     requires room { at + count ≤ (D.state disk.old).size }
     ensures keeps { Keeps (D.state disk.old) (D.state disk.new) }
-    ensures cause { HasCause result (D.state disk.old) (D.state disk.new) }
+    ensures failed { IfErr result (λ e. IsFailure (fault_of e) (D.state disk.old) (D.state disk.new)) }
     ensures wrote { Writes ((at, count) ∷ []) (D.state disk.old) (D.state disk.new) }
     ensures zeros { IsHonest (D.state disk.old) → OnOk result (AreZeros at count (D.state disk.new).view) }
 {
