@@ -1,15 +1,8 @@
-//! Worked examples, and values of the format and of other programs.
+//! What `gptman_rows` has no rows of: texts of errors, files, disks longer than memory, and sweeps against a second
+//! body of a call.
 
-mod codec;
 mod damage;
-mod edits;
-mod entries;
+mod debug;
 mod errors;
 mod files;
-mod fitting;
-pub(crate) mod mbr;
-mod names;
-mod reading;
 mod slow_places;
-mod stopped;
-mod writing;

@@ -1,6 +1,6 @@
 -- A call of the disk below, seen through a disk with failures of its own.
 use Rattle.std.proofs.Common.{arith, ◌≤◌, ℕ, [], List}
-use Rattle.gptman.specs.Disk.{DiskState, Elapses, IsCountedOnce, Reads, Writes, Wrote}
+use Rattle.gptman.specs.Disk.{DiskState, Elapses, Reads, Writes, Wrote}
 use Rattle.gptman_fixtures.specs.Faulty.{faulty_state}
 
 elapses_over : {a b : DiskState} (n m : ℕ) → Elapses a b → Elapses (faulty_state a n) (faulty_state b m)
@@ -19,10 +19,6 @@ reads_over n m more reads = record {
   keeps = record { size = reads.keeps.size; honest = reads.keeps.honest; failures = omega (arith, more, reads.keeps.failures) };
   only = λ honest. record { view = (reads.only honest).view; pending = (reads.only honest).pending; wrote = wrote_over n m [] (reads.only honest).wrote };
 }
-
--- a count is no less than it was
-pub counted_more : (n m : ℕ) → IsCountedOnce n m → n ≤ m
-counted_more n m once = omega (arith, once)
 
 -- no failure of its own
 pub reads_as_often : {a b : DiskState} (n : ℕ) → Reads a b → Reads (faulty_state a n) (faulty_state b n)

@@ -1,30 +1,38 @@
 //! A disk of which one call fails.
 
+ghost use Rattle.std.specs.Prelude.{◌≡◌};
 ghost use Rattle.gptman_copy.specs.Disk.{IsCountedOnce};
+ghost use Rattle.gptman_copy.specs.Memory.{memory_sound};
 ghost use Rattle.gptman_fixtures.specs.Faulty.{faulty_sound, faulty_state};
 
-use crate::calls::holding;
+use gptman::disk::passes_end;
 use gptman::{Disk, MemoryDisk, Result};
 use std::alloc::Global;
 use std::io;
 
-/// A disk that passes its calls on to another one, but for one of them, which fails. A read or a write
-/// that fails so is passed on all the same. A read that passes the end fails there: that is no failure of
+/// A disk that passes its calls on to one in memory, but for one of them, which fails. A write that fails so is
+/// passed on all the same, and no other call is. A read that passes the end fails below: that is no failure of
 /// the disk, and is not counted as one.
 #[derive(Drop)]
-pub struct FaultyDisk<D> {
-    below: D,
-    // How many calls come before the one that fails. None once it was made.
+pub struct FaultyDisk {
+    below: MemoryDisk,
+    position: u64,
+    // How many calls come before the one that fails. None once it was made, or where none fails.
     calls_left: Option<u64>,
     failures: u64,
+    ghost stands: { position ≡ (⟦<MemoryDisk as Disk>⟧.state below).position },
 }
 
-impl<D> FaultyDisk<D> {
-    /// Over this disk, with the failure at the call of this number, counted from 0.
-    pub fn new(below: D, failing: u64) -> FaultyDisk<D> {
+impl FaultyDisk {
+    /// Over this disk, whose position is 0, with the failure at the call of this number, counted from 0, if one
+    /// is to fail.
+    pub fn new(below: MemoryDisk, failing: Option<u64>) -> FaultyDisk
+        requires { (⟦<MemoryDisk as Disk>⟧.state below).position ≡ 0 }
+    {
         FaultyDisk {
             below,
-            calls_left: Some(failing),
+            position: 0,
+            calls_left: failing,
             failures: 0,
         }
     }
@@ -34,8 +42,13 @@ impl<D> FaultyDisk<D> {
         self.calls_left
     }
 
+    /// The bytes that a read gives.
+    pub fn bytes(&self) -> &[u8] {
+        self.below.bytes()
+    }
+
     /// The disk below, with all that was passed on to it.
-    pub fn into_inner(self) -> D {
+    pub fn into_inner(self) -> MemoryDisk {
         self.below
     }
 }
@@ -63,35 +76,41 @@ fn fail(failures: &mut u64) -> io::Error
     io::Error::other("the call was chosen to fail")
 }
 
-impl<D: Disk> Disk for FaultyDisk<D> {
-    ghost state = { λ d. faulty_state (D.state d.below) d.failures };
+impl Disk for FaultyDisk {
+    ghost state = { λ d. faulty_state (⟦<MemoryDisk as Disk>⟧.state d.below) d.failures };
 
     fn seek_start(&mut self, at: u64) -> io::Result<u64> {
         if is_chosen(&mut self.calls_left) {
             return Err(fail(&mut self.failures));
         }
-        self.below.seek_start(at)
+        self.position = self.below.seek_start(at)?;
+        Ok(self.position)
     }
 
     fn seek_end(&mut self) -> io::Result<u64> {
         if is_chosen(&mut self.calls_left) {
             return Err(fail(&mut self.failures));
         }
-        self.below.seek_end()
+        self.position = self.below.seek_end()?;
+        Ok(self.position)
     }
 
     fn read_exact(&mut self, buf: &mut [u8]) -> io::Result<()> {
         let is_chosen = is_chosen(&mut self.calls_left);
-        self.below.read_exact(buf)?;
-        if is_chosen {
+        let size = self.below.bytes().len() as u64;
+        let len = buf.len() as u64;
+        if is_chosen && !passes_end(size, self.position, len) {
             return Err(fail(&mut self.failures));
         }
+        self.below.read_exact(buf)?;
+        self.position += len;
         Ok(())
     }
 
     fn write_all(&mut self, buf: &[u8]) -> io::Result<()> {
         let is_chosen = is_chosen(&mut self.calls_left);
         self.below.write_all(buf)?;
+        self.position += buf.len() as u64;
         if is_chosen {
             return Err(fail(&mut self.failures));
         }
@@ -105,12 +124,15 @@ impl<D: Disk> Disk for FaultyDisk<D> {
         self.below.sync()
     }
 
-    ghost bounded = { λ d. D.bounded d.below };
+    ghost bounded = { λ d. d.below.small };
 
-    ghost sound = { λ d honest. faulty_sound (D.state d.below) d.failures (D.sound d.below honest) };
+    ghost sound = { λ d honest. faulty_sound (⟦<MemoryDisk as Disk>⟧.state d.below) d.failures
+        (memory_sound d.below.start.items d.below.bytes.items d.below.events.items d.below.position
+        d.below.failures d.below.replays) };
 }
 
-/// A disk in memory of these bytes of which one call fails.
-pub fn failing_once(alloc: Global, bytes: &[u8], call: u64) -> Result<FaultyDisk<MemoryDisk>> {
-    Ok(FaultyDisk::new(holding(alloc, bytes)?, call))
+/// A disk of these bytes of which one call fails.
+pub fn failing_once(alloc: Global, bytes: &[u8], call: u64) -> Result<FaultyDisk> {
+    let below = MemoryDisk::new(alloc, bytes.to_vec(alloc)?)?;
+    Ok(FaultyDisk::new(below, Some(call)))
 }

@@ -52,6 +52,6 @@ pub(crate) fn fused(rt: &impl Host, bytes: &[u8], calls: u64) -> MemoryDisk {
 }
 
 /// A disk of these bytes of which one call fails.
-pub(crate) fn failing_once(rt: &impl Host, bytes: &[u8], call: u64) -> FaultyDisk<MemoryDisk> {
+pub(crate) fn failing_once(rt: &impl Host, bytes: &[u8], call: u64) -> FaultyDisk {
     got(rt, faulty::failing_once(rt.alloc(), bytes, call))
 }

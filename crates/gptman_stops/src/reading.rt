@@ -143,7 +143,7 @@ fn a_failed_call_finds_no_other_sector_size(rt: HostRuntime) {
 const MANY: u64 = 1000;
 
 // The disk, which began with many calls, has served so many.
-fn assert_calls(rt: &impl Abort, disk: &FaultyDisk<MemoryDisk>, calls: u64) {
+fn assert_calls(rt: &impl Abort, disk: &FaultyDisk, calls: u64) {
     assert!(rt; disk.calls_left() == Some(MANY - calls.min(MANY)));
 }
 

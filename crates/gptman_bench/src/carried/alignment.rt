@@ -22,6 +22,7 @@ fn assert_none(rt: &impl Host, mut table: GPT) {
 fn determine_partition_alignment_no_partition(rt: HostRuntime) {
     assert_none(&rt, first(&rt));
     assert_none(&rt, second(&rt));
+    assert!(rt; new_table(&rt, &mut blank(&rt, 0, 51_200), 512).align == 2048);
 }
 
 // The table with entries from 5 to 6 and from 8 to 16 times the alignment is written to the disk.

@@ -50,10 +50,10 @@ fn add_partition_optimal_aligned(rt: HostRuntime) {
     assert_found(&rt, second(&rt), Search::Optimal, &rows);
 }
 
-// The first disk's table with "Baz" where there is a place for it.
-fn with_baz(rt: &impl Host) -> GPT {
+// The first disk's table with "Baz", under this number, where there is a place for it.
+fn with_baz(rt: &impl Host, number: u32) -> GPT {
     let mut table = first(rt);
-    put_entry(rt, &mut table, 10, ("Baz", 1), (44, 47));
+    put_entry(rt, &mut table, number, ("Baz", 1), (44, 47));
     table
 }
 
@@ -68,12 +68,12 @@ fn write_and_sort(rt: &impl Host, table: &mut GPT) {
 #[test]
 fn sort_partitions(rt: HostRuntime) {
     assert_found(&rt, first(&rt), Search::First, &[(1, 4, Some(44))]);
-    write_and_sort(&rt, &mut with_baz(&rt));
+    write_and_sort(&rt, &mut with_baz(&rt, 10));
 }
 
 #[test]
 fn add_partition_on_unsorted_table(rt: HostRuntime) {
-    assert_found(&rt, with_baz(&rt), Search::First, &[(1, 8, Some(53))]);
+    assert_found(&rt, with_baz(&rt, 11), Search::First, &[(1, 8, Some(53))]);
 }
 
 // The first disk's table with each entry removed.

@@ -5,9 +5,9 @@ use crate::asserts::{BOUNDARIES, Host, assert_said, assert_same, got};
 use crate::fixtures::{
     assert_all, assert_reads, blank, bytes_of, holding, image_of, put_entry, read, remove, write,
 };
-use crate::rows::mbr::assert_mbr;
 use gptman::GPT;
-use gptman_fixtures::samples::image_on;
+use gptman_fixtures::calls::has_bytes;
+use gptman_fixtures::samples::{image_on, put_mbr, write_mbr};
 use gptman_fixtures::tables;
 use std::process::Abort;
 
@@ -97,6 +97,8 @@ fn write_invalid_boundaries(rt: HostRuntime) {
     for (number, sectors) in [(1, (5, 15)), (1, (15, 6)), (1, (6, 70)), (2, (70, 95))] {
         assert_not_written(&rt, second(&rt), number, sectors);
     }
+    assert_written(&rt, &first(&rt), (DISK_1, BACKUP_1));
+    assert_written(&rt, &second(&rt), (DISK_2, BACKUP_2));
 }
 
 // The table is written to a disk of so many bytes, and read back equal.
@@ -111,8 +113,17 @@ fn read_from_smaller_disk_and_write_to_bigger_disk(rt: HostRuntime) {
     assert_on_bigger_disk(&rt, second(&rt), 819_200);
 }
 
+// A protective MBR that is written over 100 sectors of bytes 2 changes its 66 bytes alone.
+fn assert_mbr(rt: &impl Host, sector_size: u16) {
+    let mut disk = blank(rt, 2, 100 * usize::from(sector_size));
+    let mut wanted = bytes_of(rt, &disk);
+    got(rt, put_mbr(&mut wanted, false, 99));
+    got(rt, write_mbr(&mut disk, u64::from(sector_size), false));
+    assert!(rt; has_bytes(&disk, &wanted));
+}
+
 #[test]
 fn writing_protective_mbr(rt: HostRuntime) {
-    assert_mbr(&rt, 512, false);
-    assert_mbr(&rt, 4096, false);
+    assert_mbr(&rt, 512);
+    assert_mbr(&rt, 4096);
 }

@@ -3,4 +3,4 @@ use Rattle.gptman_fixtures.proofs.PassedOn.{writes_over}
 use Rattle.gptman_fixtures.proofs.faulty.FaultyDiskDisk.sync.Goals as goal
 
 pub returns-clause-wrote : goal.returns-clause-wrote
-returns-clause-wrote g c = writes_over c.args.self.now.failures c.args.self.now.failures [] c.sync.ensures.wrote
+returns-clause-wrote c = writes_over c.args.self.now.failures c.args.self.now.failures [] c.sync.ensures.wrote
