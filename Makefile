@@ -70,9 +70,11 @@ check:
 test:
 	@scripts/gate
 
-# Has the prover make wrong bodies of its own for each function, and tells which of them still prove and are
-# not on the list of docs/PLANTS.md.
+# Has the prover take a right body in the place of must-fail edits, for the crates whose edits have such a control
+# (trials/controls). Then it makes wrong bodies of its own for each function, and tells which of them still prove and
+# are not on the list of docs/PLANTS.md.
 plants:
+	@scripts/controls
 	@scripts/plants
 
 # Tells how long calls of the library take, and what the program costs beside others. Looks at those of
@@ -103,3 +105,4 @@ trials: gptimg gptedit
 	@python3 -B tests/gptedit ./gptedit uses sources locks holders
 	@python3 -B tests/gptedit/model.py ./gptedit $(SEED) $(COMMANDS)
 	@python3 -B trials/planted
+	@trials/packages.sh

@@ -1,6 +1,7 @@
 #!/usr/bin/env bash
-# Tries the library for C: tests/library.sh [--proved] [GPTIMG], where GPTIMG is the program, ./gptimg at the top
-# where it is left out. It proves and builds the library first; with --proved it takes it from what `rt ci` proved.
+# Tries the library for C: tests/library.sh [--proved | --proved-in FOLDER] [GPTIMG], where GPTIMG is the program,
+# ./gptimg at the top where it is left out. It proves and builds the library first; with --proved it takes it from what
+# `rt ci` proved, here or in the folder.
 # The last line is 'N passed, M failed', and the status is 1 where something failed.
 top=$(cd "$(dirname "$0")/.." && pwd) || exit
 archive=$top/crates/gptman_c/out/libgptman_c.a
@@ -8,6 +9,10 @@ build=(rt lib)
 if [ "$1" = --proved ]; then
     build=("$top/scripts/archive" "$archive")
     shift
+elif [ "$1" = --proved-in ]; then
+    archive=$2/crates/gptman_c/out/libgptman_c.a
+    build=("$top/scripts/archive" "$archive" "$2")
+    shift 2
 fi
 program=$(realpath "${1:-$top/gptimg}") || exit
 

@@ -65,7 +65,7 @@ impl Bench {
             | "sort"
             | "read_entry" => entries::change(self, row),
             "free" | "first" | "last" | "best" | "maximum" => places::answer(self, row),
-            "edit" | "apply" | "commit" => edits::answer(self, row),
+            "edit" | "make" | "apply" | "commit" => edits::answer(self, row),
             _ => Err(Fault::Row),
         }
     }

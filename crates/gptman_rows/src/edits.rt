@@ -7,7 +7,7 @@ use crate::row::Row;
 use gptman::{Edit, GPT, Progress};
 use std::alloc::Global;
 
-/// edit put number= KEY= ..; edit remove number=; edit sort; edit guid guid=; apply T; commit T on=
+/// edit put number= KEY= ..; edit remove number=; edit sort; edit guid guid=; make T; apply T; commit T on=
 pub(crate) fn answer(bench: &mut Bench, row: Row) -> Answered {
     match row.call() {
         "edit" => {
@@ -16,6 +16,7 @@ pub(crate) fn answer(bench: &mut Bench, row: Row) -> Answered {
             Ok(Answer::Done)
         }
         "apply" => apply(bench, row),
+        "make" => make(bench, row),
         _ => commit(bench, row),
     }
 }
@@ -30,7 +31,17 @@ fn edit_of(alloc: Global, row: Row) -> Result<Edit, Fault> {
     }
 }
 
-// Makes all edits that are listed, or none. The list is empty then.
+// Makes the edits that are listed, up to the first that is refused. The list is empty then.
+fn make(bench: &mut Bench, row: Row) -> Answered {
+    let edits = listed(bench);
+    let table = bench.table(row)?;
+    for edit in edits {
+        table.apply(edit)?;
+    }
+    Ok(Answer::Done)
+}
+
+// Makes all of them, or none.
 fn apply(bench: &mut Bench, row: Row) -> Answered {
     let edits = listed(bench);
     bench.table(row)?.apply_all(edits.as_slice())?;
