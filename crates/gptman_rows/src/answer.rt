@@ -1,10 +1,10 @@
-//! What a row answers, as text.
+//! The answers of rows, as text.
 
 use gptman::Error;
 use std::alloc::{AllocError, AllocFailed, Global};
 use std::fmt;
 
-/// What a call answered.
+/// The answer of a call.
 #[derive(Drop)]
 pub(crate) enum Answer {
     Done,
@@ -17,12 +17,12 @@ pub(crate) enum Answer {
     Text(String),
 }
 
-/// Why there is none.
+/// The reason why there is no answer.
 #[derive(Drop)]
 pub(crate) enum Fault {
     /// The row has a wrong word, or lacks one.
     Row,
-    /// What the call requires does not hold.
+    /// A requirement of the call does not hold.
     Requires,
     /// The call refused.
     Refused(Error),

@@ -32,7 +32,7 @@ impl Bench {
         Ok(bench)
     }
 
-    /// What the row of this line answers.
+    /// Returns the answer to the row of this line.
     pub(crate) fn answer(&mut self, line: &str) -> Answered {
         let row = Row::new(line);
         match row.call() {

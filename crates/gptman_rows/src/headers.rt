@@ -200,7 +200,7 @@ fn write_header<D: Disk>(alloc: Global, disk: &mut D, table: &mut GPT) -> Answer
     Ok(Answer::Done)
 }
 
-// The entries that the header tells of become those of the table.
+// Replaces the entries of the table by those that its header names on the disk.
 fn read_entries<D: Disk>(alloc: Global, disk: &mut D, table: &mut GPT) -> Answered {
     let sector_size = table.sector_size;
     if sector_size == 0 {

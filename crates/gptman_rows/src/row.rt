@@ -1,6 +1,6 @@
 //! The words of a row: the call, the thing that it is made on, a letter, and what it takes, as `KEY=VALUE`.
 //!
-//! A number is decimal, or hex behind `0x`, or `max` for the greatest of 64 bits. Bytes are hex digits, and `*N` behind them repeats
+//! A number is decimal, hex after `0x`, or `max`, the greatest of 64 bits. Bytes are hex digits, and `*N` behind them repeats
 //! them. A GUID is 32 hex digits, or `@` and the two that it has 16 times. `text=` comes last and takes the rest of
 //! the line, in which `\0` is a zero.
 
@@ -24,7 +24,7 @@ impl<'a> Row<'a> {
         self.line.split_whitespace().next().unwrap_or("")
     }
 
-    /// The word behind it.
+    /// The second word.
     pub(crate) fn kind(&self) -> &'a str {
         self.line.split_whitespace().nth(1).unwrap_or("")
     }

@@ -39,7 +39,7 @@ fn on_disk<D: Disk>(alloc: Global, disk: &mut D, row: Row) -> Result<GPT, Fault>
     Ok(GPT::with_entries(alloc, disk, sector_size, guid, row.short("count")?)?)
 }
 
-// The header of this table, with so many empty entries.
+// Makes a table of this header and `length` empty entries.
 fn parts(alloc: Global, table: &GPT, row: Row) -> Result<GPT, Fault> {
     let length = row.short("length")?;
     let mut entries = Vec::new(alloc);
@@ -78,7 +78,7 @@ fn equal(bench: &mut Bench, row: Row) -> Answered {
     Ok(Answer::Truth(one == *other))
 }
 
-// The sectors of the other header, of the own one and of the other entries, as they were written.
+// Writes the table. Returns the sectors of the other header, the own header and the other entries.
 fn write(bench: &mut Bench, row: Row) -> Answered {
     let alloc = bench.alloc;
     let disk = held(&mut bench.disks, row.slot_of("on")?)?;

@@ -8,7 +8,12 @@ use gptman::{Edit, Fate};
 fn assert_put_printed(rt: &impl Host) {
     let start = "Put(1, GPTPartitionEntry { partition_type_guid: [10, 10, ";
     let sectors = "starting_lba: 34, ending_lba: 43, attribute_bits: 0";
-    assert_printed(rt, &Edit::Put(1, partition(rt, ("Foo", 0x0b), (34, 43))), start, sectors);
+    assert_printed(
+        rt,
+        &Edit::Put(1, partition(rt, ("Foo", 0x0b), (34, 43))),
+        start,
+        sectors,
+    );
 }
 
 // A table is printed so.
