@@ -41,6 +41,12 @@ tell("auto sort", lay(wide, {1: bar_4096}, 4096))
 
 tell("512 add 0128 .. X", lay(new, {1: foo, 128: entry(bytes(16), 66, 66, "X")}))
 tell("00512 new 0011..", lay(bytes(51200), {}, disk=bytes.fromhex("00112233445566778899aabbccddeeff")))
+other = bytes([0x0D]) * 16
+pair = {number: bytes([0x0A]) * 16 + entry(bytes([guid]) * 16, first, last, name)[16:]
+        for number, guid, first, last, name in ((1, 0x0B, 34, 43, "Foo"), (2, 0x0C, 48, 52, "Bar"))}
+tell("512 new 0d0d..", lay(bytes(51200), {}, disk=other))
+tell("512 add 1 .. Foo, its type 0a0a..", lay(bytes(51200), {1: pair[1]}, disk=other))
+tell("512 add 2 .. Bar, its type 0a0a..", lay(bytes(51200), pair, disk=other))
 tell("512 add 2 .. a\\tb", lay(new, {2: entry(TWO, 34, 43, "a\tb")}))
 tell("512 add 1 .. abXcd", lay(new, {1: entry(TWO, 34, 43, "abXcd")}))
 tell("512 new $three", lay(with_foo, {}, disk=THREE))
