@@ -2,6 +2,7 @@
 import os
 import subprocess
 import sys
+import tempfile
 import textwrap
 
 import table
@@ -37,6 +38,14 @@ def by_cgpt(_, path):
         subprocess.run(["cgpt", *words, path], check=True, stdout=subprocess.DEVNULL, stderr=subprocess.DEVNULL)
 
 
+def by_repart(_, path):
+    with tempfile.TemporaryDirectory() as folder:
+        with open(f"{folder}/10-efi.conf", "w", encoding="ascii") as file:
+            file.write("[Partition]\nType=esp\nLabel=EFI\nSizeMinBytes=8M\nSizeMaxBytes=8M\n")
+        subprocess.run(["systemd-repart", f"--definitions={folder}", "--dry-run=no", "--empty=force", path], check=True,
+                       stdout=subprocess.DEVNULL, stderr=subprocess.DEVNULL)
+
+
 MAKERS = {
     "gptimg": by_gptimg,
     "sgdisk": by_words("sgdisk", "-n", "1:2048:18431", "-t", "1:ef00", "-c", "1:EFI", "IMAGE"),
@@ -44,6 +53,7 @@ MAKERS = {
     "parted": by_words("parted", "-s", "IMAGE", "mklabel", "gpt", "mkpart", "EFI", "2048s", "18431s", "set", "1",
                        "esp", "on"),
     "cgpt": by_cgpt,
+    "systemd-repart": by_repart,
 }
 
 
