@@ -70,11 +70,13 @@ check:
 test:
 	@scripts/gate
 
-# Has the prover take a right body in the place of must-fail edits, for the crates whose edits have such a control
-# (trials/controls). Then it makes wrong bodies of its own for each function, and tells which of them still prove and
-# are not on the list of docs/PLANTS.md.
+# Has the prover take a right body in the place of each must-fail edit (trials/controls), the rows see wrong bodies that
+# no clause refuses (trials/caught), and the clauses refuse those that the gate leaves out (trials/wrong). Then it makes
+# wrong bodies for each function, and tells which of them still prove and are not on the list of docs/PLANTS.md.
 plants:
 	@scripts/controls
+	@scripts/caught
+	@scripts/wrong
 	@scripts/plants
 
 # Tells how long calls of the library take, and what the program costs beside others. Looks at those of

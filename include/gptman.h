@@ -8,7 +8,7 @@
  * its type asks. Where the count is 0 it may be null, and no other may. Arrays that a call writes to are not to
  * overlap others. The caller owns all of them. A call may be made by several threads at once.
  *
- * What the calls answer is proved: docs/PROMISES.md, "The library for C". That a caller makes the steps in their
+ * What the calls answer is proved: docs/generated/promises/gptman_c.md. That a caller makes the steps in their
  * order is not.
  */
 #ifndef GPTMAN_H
