@@ -1,1 +1,6 @@
+pub mod Changed
 pub mod Edited
+pub mod Fitted
+pub mod Restored
+pub mod Shown
+pub mod Twice

@@ -3,3 +3,6 @@
 #![tactic(auto)]
 
 pub mod edits;
+pub mod growths;
+pub mod images;
+pub mod layouts;

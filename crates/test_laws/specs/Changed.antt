@@ -1,0 +1,45 @@
+-- What a layout makes of one entry, and of the others; and a layout that is asked for twice.
+use Rattle.std.specs.Prelude.{◌≡◌, ◌≢◌, ◌≤◌, ℕ, [], ◌∷◌, None}
+use Rattle.gptman.specs.Number.{entry_at}
+use Rattle.gptman_copy.specs.declared.codec.entry.GPTPartitionEntry.{GPTPartitionEntry}
+use Rattle.gptman_copy.specs.declared.codec.name.PartitionName.{PartitionName}
+use Rattle.gptman.specs.declared.table.GPT.{GPT}
+use Rattle.gptedit_core.specs.Laying.{IsStopOf}
+use Rattle.gptedit_core.specs.Named.{AreNumbered, IsAgain, IsWhole}
+use Rattle.gptedit_core.specs.declared.amount.Amount.TheVariants.{Sectors}
+use Rattle.gptedit_core.specs.declared.asked.Asked.{Asked}
+use Rattle.gptedit_core.specs.declared.asked.Layout.{Layout}
+use Rattle.gptedit_core.specs.declared.asked.Mode.TheVariants.{Change}
+use Rattle.gptedit_core.specs.declared.plan.Job.TheVariants.{Lay}
+use Rattle.gptedit_core.specs.declared.plan.Request.{Request}
+use Rattle.gptedit_core.specs.declared.refusal.Stop.{Stop}
+
+-- the entry with another name
+abbrev pub with_name : PartitionName → GPTPartitionEntry → GPTPartitionEntry
+with_name name e = record e { partition_name = name }
+
+-- each entry stays, but for the one of number i
+abbrev pub OthersStay : ℕ → GPT → GPT → Type 0
+OthersStay i g next = (j : ℕ) → 1 ≤ j → j ≢ i → entry_at next j ≡ entry_at g j
+
+-- The layout asks this of a used entry, with places at multiples of so many sectors, and nothing else.
+pub record IsChangeOf (a : Asked) (sectors : ℕ) (layout : Layout) : Type 0 where
+  pub mode : layout.mode ≡ Change
+  pub disk_guid : layout.disk_guid ≡ None
+  pub align : layout.align ≡ Sectors sectors
+  pub removed : layout.removed.items ≡ []
+  pub asked : layout.asked.items ≡ a ∷ []
+
+-- Both requests put layouts: the second asks for the same as the first, and of the table nothing else is left.
+pub record AsksAgain (first again : Request) (g : GPT) : Type 0 where
+  pub layout : Layout
+  pub same : Layout
+  pub first_job : first.job ≡ Lay layout
+  pub again_job : again.job ≡ Lay same
+  pub numbered : AreNumbered layout.asked.items
+  pub is_again : IsAgain layout same
+  pub whole : IsWhole layout g
+
+-- it stopped for want of memory alone
+abbrev pub IsForMemory : Stop → Type 0
+IsForMemory stop = IsStopOf (λ r. ⊥) stop

@@ -1,0 +1,87 @@
+//! A table is fitted to the length of its disk.
+
+ghost use Rattle.std.specs.Prelude.{◌≡◌, ◌<◌, IfNone, IfOk, IfSome, OnSome};
+ghost use Rattle.gptman.specs.Copy.{IsCoherent};
+ghost use Rattle.gptman.specs.Disk.{IsHonest};
+ghost use Rattle.gptman.specs.Table.{entries_in};
+ghost use Rattle.gptedit_core.specs.Growing.{IsGrown, IsLeftGrown};
+ghost use Rattle.gptedit_core.specs.declared.plan.Outcome.{Outcome};
+ghost use Rattle.gptedit_core.specs.declared.plan.Outcome.TheVariants.{Unchanged};
+ghost use Rattle.test_laws.specs.Told.{IsOnDisk, TellsFit, TellsWide};
+
+use gptedit_core::growth_laws::{
+    growths_again_change_nothing, growths_follow_the_end, usual_bounds_reach_the_end,
+};
+use gptedit_core::{Bounds, Growth, Outcome, grow};
+use gptman::{Disk, GPT, Result};
+use gptman_change::{Plan, Planned};
+use std::alloc::Global;
+
+/// Fits the table on the disk to its length. Its partitions stay.
+///
+/// The errors are those of `grow`.
+pub fn fit<D: Disk>(alloc: Global, disk: &mut D, sector_size: Option<u64>) -> Result<Outcome>
+    requires { IfSome sector_size (λ size. 0 < size) }
+
+    // The table ends where the disk does, unless it is refused, and is on the disk.
+    ensures fitted { IsHonest (D.state disk.old) → IfOk result (TellsFit (D.state disk.old).size) }
+    ensures stored { IsHonest (D.state disk.old) → IfOk result (IsOnDisk (D.state disk.new)) }
+{
+    growths_follow_the_end();
+    let growth = Growth {
+        bounds: Bounds::Kept,
+        is_dry: false,
+    };
+    grow(alloc, disk, sector_size, &growth)
+}
+
+/// Makes all sectors between the two copies of the table on the disk usable.
+///
+/// The errors are those of `grow`.
+pub fn widen<D: Disk>(alloc: Global, disk: &mut D, sector_size: Option<u64>) -> Result<Outcome>
+    requires { IfSome sector_size (λ size. 0 < size) }
+    ensures wide { IsHonest (D.state disk.old) → IfOk result (TellsWide (D.state disk.old).size) }
+    ensures stored { IsHonest (D.state disk.old) → IfOk result (IsOnDisk (D.state disk.new)) }
+{
+    usual_bounds_reach_the_end();
+    let growth = Growth {
+        bounds: Bounds::Usual,
+        is_dry: false,
+    };
+    grow(alloc, disk, sector_size, &growth)
+}
+
+/// Has the table grow, and asks for the same of a clone of it. Answers what is told of the clone, or `None` where
+/// the table did not grow.
+///
+/// The errors are those of the growth, and `OutOfMemory`.
+pub fn grow_twice<D: Disk>(
+    alloc: Global,
+    disk: &mut D,
+    table: &mut GPT,
+    growth: &Growth,
+) -> Result<Option<Outcome>>
+    requires sector { 0 < table.old.sector_size }
+    requires coherent { IsCoherent table.old.header (entries_in table.old) }
+    requires aligned { 0 < table.old.align }
+
+    // The table is what the growth made of it, and of the clone it is told that there is nothing to change.
+    ensures once { IfOk result (λ told.
+        OnSome told (IsGrown growth.now.bounds (D.state disk.old).size table.old table.new)) }
+    ensures again { IfOk result (λ told. IfSome told (λ outcome. outcome ≡ Unchanged table.new)) }
+
+    // Where it did not grow, it was refused, was only to be told, or was so already.
+    ensures left { IfOk result (λ told. IfNone told ((outcome : Outcome)
+        × IsLeftGrown growth.now (D.state disk.old).size table.old outcome)) }
+{
+    growths_again_change_nothing();
+    match growth.change(alloc, disk, table)? {
+        Planned::Write(_) => {}
+        Planned::Leave(_) => return Ok(None),
+    }
+    let mut clone = table.clone()?;
+    match growth.change(alloc, disk, &mut clone)? {
+        Planned::Write(told) => Ok(Some(told)),
+        Planned::Leave(told) => Ok(Some(told)),
+    }
+}

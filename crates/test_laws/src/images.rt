@@ -1,0 +1,37 @@
+//! The image program is run with the words of a command.
+
+ghost use Rattle.std.specs.Prelude.{◌<◌, Some, OnOk};
+ghost use Rattle.gptman.specs.Disk.{IsHonest, OnlyRead};
+ghost use Rattle.gptimg_core.specs.Prints.{Runs};
+ghost use Rattle.gptimg_core.specs.declared.words.Command.TheVariants.{Show};
+
+use gptimg_core::{run, usual_words_spell, words_spell_one};
+use gptman::{Disk, Result};
+use std::alloc::Global;
+use std::io::Write;
+
+/// Prints what the table on an image is, with sectors of so many bytes, as the command `show` does. Answers its
+/// status.
+///
+/// `Io` where `out` failed, and `OutOfMemory`.
+pub fn show<D: Disk, W: Write>(
+    alloc: Global,
+    sector_size: u64,
+    disk: &mut D,
+    out: &mut W,
+) -> Result<u8>
+    requires { 0 < sector_size }
+
+    // The words are those of this command, and of no other: so nothing is written.
+    ensures shows { OnOk result (Runs (Show (Some sector_size)) result (D.state disk.old) (D.state disk.new)
+        (W.contents out.old) (W.contents out.new)) }
+    ensures reads { IsHonest (D.state disk.old) → OnlyRead (D.state disk.old) (D.state disk.new) }
+{
+    usual_words_spell();
+    words_spell_one();
+    let words = [
+        format!(in alloc; "{sector_size}")?,
+        String::from_str(alloc, "show")?,
+    ];
+    run(alloc, &words, disk, out)
+}

@@ -1,0 +1,157 @@
+//! What is asked of entries is put into a table in memory. After an error nothing is known of that table.
+
+ghost use Rattle.std.specs.Prelude.{◌≡◌, ◌<◌, ℕ, vec_len, IfErr, IfNone, IfOk, IfSome, OnOk, OnSome};
+ghost use Rattle.gptman.specs.Coding.{empty_entry};
+ghost use Rattle.gptman.specs.Copy.{IsCoherent};
+ghost use Rattle.gptman.specs.Fault.{fault_of, out_of_memory};
+ghost use Rattle.gptman.specs.Layout.{HasLayout};
+ghost use Rattle.gptman.specs.Number.{entry_at, with_entry};
+ghost use Rattle.gptman.specs.Place.{IsFreeIn};
+ghost use Rattle.gptman.specs.Table.{entries_in, table_in};
+ghost use Rattle.gptman.specs.Valid.{IsValid};
+ghost use Rattle.gptedit_core.specs.Named.{IsLengthened};
+ghost use Rattle.gptedit_core.specs.Planning.{has_random, IsLeft, IsPlanned};
+ghost use Rattle.gptedit_core.specs.declared.plan.Outcome.{Outcome};
+ghost use Rattle.gptedit_core.specs.declared.plan.Outcome.TheVariants.{Unchanged};
+ghost use Rattle.test_laws.specs.Changed.{with_name, AsksAgain, IsChangeOf, IsForMemory, OthersStay};
+
+use gptedit_core::laws::{
+    layouts_again_are_taken, layouts_again_change_nothing, layouts_change_what_they_name,
+    layouts_of_tables_are_taken, layouts_of_tables_give_them, layouts_only_lengthen,
+};
+use gptedit_core::laying::lay;
+use gptedit_core::{Amount, Asked, Layout, Mode, Outcome, Request, Size, Stop, layout_of};
+use gptman::{Disk, GPT, PartitionName, Result};
+use gptman_change::{Plan, Planned};
+use std::alloc::Global;
+
+/// Gives the partition of this number another name. All else of it stays, and all other entries.
+///
+/// The errors are those of `lay`.
+pub fn rename(
+    alloc: Global,
+    table: &mut GPT,
+    number: u32,
+    name: PartitionName,
+) -> std::result::Result<(), Stop>
+    requires { 0 < table.old.sector_size }
+    ensures renamed { OnOk result
+        (entry_at table.new number ≡ with_name name (entry_at table.old number)) }
+    ensures others { OnOk result (OthersStay number table.old table.new) }
+{
+    layouts_change_what_they_name();
+    let asked = Asked {
+        name: Some(name),
+        ..Asked::nothing(Some(number))
+    };
+    let layout = change_of(alloc, 1, asked)?;
+    lay(alloc, table, &layout, &[[0; 16]])
+}
+
+/// Gives the partition of this number the free sectors behind it, up to the last multiple of so many sectors.
+/// All other entries stay.
+///
+/// The errors are those of `lay`.
+pub fn lengthen(
+    alloc: Global,
+    table: &mut GPT,
+    number: u32,
+    align: u64,
+) -> std::result::Result<(), Stop>
+    requires { 0 < table.old.sector_size }
+
+    // It begins where it began, ends no earlier, and gets sectors that were free: as many as may be.
+    ensures lengthened { OnOk result (IsLengthened align
+        (entry_at table.old number) (entry_at table.new number)
+        (IsFreeIn table.old) (IsFreeIn (with_entry table.new number empty_entry))) }
+    ensures others { OnOk result (OthersStay number table.old table.new) }
+{
+    layouts_change_what_they_name();
+    layouts_only_lengthen();
+    let asked = Asked {
+        size: Some(Size::Rest),
+        ..Asked::nothing(Some(number))
+    };
+    let layout = change_of(alloc, align, asked)?;
+    lay(alloc, table, &layout, &[[0; 16]])
+}
+
+// The layout that changes a used entry, as is asked, with places at multiples of so many sectors.
+fn change_of(alloc: Global, align: u64, asked: Asked) -> Result<Layout>
+    ensures { IfOk result (IsChangeOf asked align) }
+{
+    Ok(Layout {
+        mode: Mode::Change,
+        disk_guid: None,
+        align: Amount::Sectors(align),
+        removed: Vec::new(alloc),
+        asked: vec![in alloc; asked]?,
+    })
+}
+
+/// Puts a table's own layout into it, as it is put back from a dump. The table is the same then.
+///
+/// The errors are those of `lay`.
+pub fn put_back(alloc: Global, table: &mut GPT) -> std::result::Result<(), Stop>
+    requires { 0 < table.old.sector_size }
+    ensures same { OnOk result (table_in table.new ≡ table_in table.old) }
+
+    // Where the table may be written, it is not refused.
+    ensures taken { (len : ℕ) → 0 < table.old.align → HasLayout table.old len
+        → IsValid table.old.header (entries_in table.old) → IfErr result IsForMemory }
+{
+    layouts_of_tables_give_them();
+    layouts_of_tables_are_taken();
+    let layout = layout_of(alloc, table)?;
+    let random = zeros(alloc, layout.asked.len())?;
+    lay(alloc, table, &layout, &random)
+}
+
+// So many GUIDs of zeros, in the stead of random ones that are not used.
+fn zeros(alloc: Global, count: usize) -> Result<Vec<[u8; 16]>>
+    ensures count { IfOk result (λ guids. vec_len guids ≡ count) }
+    ensures refused { IfErr result (λ e. fault_of e ≡ out_of_memory) }
+{
+    Ok(vec![in alloc; [0; 16]; count]?)
+}
+
+/// Has the first request change the table, and asks by the other one of a clone of it. Answers what is told of the
+/// clone, or `None` where the first one did not change the table.
+///
+/// The errors are those of the two requests, and `OutOfMemory`.
+pub fn ask_twice<D: Disk>(
+    alloc: Global,
+    disk: &mut D,
+    table: &mut GPT,
+    first: &Request,
+    again: &Request,
+) -> Result<Option<Outcome>>
+    requires first { has_random first.now }
+    requires again { has_random again.now }
+    requires sector { 0 < table.old.sector_size }
+    requires coherent { IsCoherent table.old.header (entries_in table.old) }
+    requires aligned { 0 < table.old.align }
+
+    // The table is what the first one made of it. Where the other one asks for the same, it is not refused,
+    // and it is told that there is nothing to change.
+    ensures once { IfOk result (λ told.
+        OnSome told (IsPlanned first.now (D.state disk.old).size table.old table.new)) }
+    ensures again { AsksAgain first.now again.now table.old → IfOk result (λ told.
+        IfSome told (λ outcome. outcome ≡ Unchanged table.new)) }
+
+    // Where it changed nothing, it was refused, was only to be told, or asks for what is there.
+    ensures left { IfOk result (λ told. IfNone told ((outcome : Outcome)
+        × IsLeft first.now (D.state disk.old).size table.old outcome)) }
+{
+    layouts_again_change_nothing();
+    layouts_again_are_taken();
+    match first.change(alloc, disk, table)? {
+        Planned::Write(_) => {}
+        Planned::Leave(_) => return Ok(None),
+    }
+    let mut clone = table.clone()?;
+    match again.change(alloc, disk, &mut clone)? {
+        Planned::Write(told) => Ok(Some(told)),
+        Planned::Leave(told) => Ok(Some(told)),
+    }
+}
