@@ -39,3 +39,24 @@ pub fn write_edited<D: Disk>(table: &mut GPT, disk: &mut D, edits: &[Edit]) -> R
     table.apply_all(edits)?;
     table.write_into(disk)
 }
+
+#[cfg(test)]
+mod tests {
+    use super::*;
+    use gptman_fixtures::{samples, tables, told};
+    use std::test::Fail;
+
+    #[test]
+    fn a_list_of_edits_is_written(rt: HostRuntime) -> std::result::Result<(), Fail> {
+        let alloc = rt.alloc();
+        let mut disk = samples::disk_of(alloc, 0, 51_200)?;
+        let mut table = samples::disk_1(alloc)?;
+        tables::write(&mut table, &mut disk)?;
+        assert!(rt; table.sector_size > 0 && table.is_coherent());
+        let edits = [Edit::Remove(1), Edit::SortEntries];
+        write_edited(&mut table, &mut disk, &edits)?;
+        let read = tables::read(alloc, &mut disk, 512)?;
+        assert_eq!(rt; told::used(alloc, &read)?.as_str(), ", 1 Bar 48..52");
+        Ok(())
+    }
+}

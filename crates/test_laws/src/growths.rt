@@ -85,3 +85,47 @@ pub fn grow_twice<D: Disk>(
         Planned::Leave(told) => Ok(Some(told)),
     }
 }
+
+#[cfg(test)]
+mod tests {
+    use super::*;
+    use gptman::MemoryDisk;
+    use gptman_fixtures::{calls, samples, tables, told};
+    use std::test::Fail;
+
+    // A disk of 200 sectors that holds a table for 100.
+    fn longer_disk(alloc: Global) -> Result<MemoryDisk> {
+        let mut image = samples::image_of_new(alloc, 0)?;
+        image.resize(102_400, 0)?;
+        calls::holding(alloc, &image)
+    }
+
+    #[test]
+    fn a_table_is_fitted(rt: HostRuntime) -> std::result::Result<(), Fail> {
+        let mut disk = longer_disk(rt.alloc())?;
+        let outcome = fit(rt.alloc(), &mut disk, Some(512))?;
+        assert!(rt; matches!(outcome, Outcome::Changed { .. }));
+        let outcome = widen(rt.alloc(), &mut disk, Some(512))?;
+        assert!(rt; matches!(outcome, Outcome::Unchanged { .. }));
+        let table = tables::read(rt.alloc(), &mut disk, 512)?;
+        assert_eq!(rt;
+            told::shown(rt.alloc(), &table)?.as_str(),
+            "512 1/199/2 34..166 align 2048"
+        );
+        Ok(())
+    }
+
+    #[test]
+    fn a_table_grows_once(rt: HostRuntime) -> std::result::Result<(), Fail> {
+        let mut disk = longer_disk(rt.alloc())?;
+        let mut table = tables::read(rt.alloc(), &mut disk, 512)?;
+        assert!(rt; table.sector_size > 0 && table.is_coherent() && table.align > 0);
+        let growth = Growth {
+            bounds: Bounds::Kept,
+            is_dry: false,
+        };
+        let told = grow_twice(rt.alloc(), &mut disk, &mut table, &growth)?;
+        assert!(rt; matches!(told, Some(Outcome::Unchanged { .. })));
+        Ok(())
+    }
+}

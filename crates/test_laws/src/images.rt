@@ -35,3 +35,21 @@ pub fn show<D: Disk, W: Write>(
     ];
     run(alloc, &words, disk, out)
 }
+
+#[cfg(test)]
+mod tests {
+    use super::*;
+    use gptman_fixtures::{calls, samples};
+    use std::test::Fail;
+
+    #[test]
+    fn a_table_is_shown(rt: HostRuntime) -> std::result::Result<(), Fail> {
+        let image = samples::image_of_new(rt.alloc(), 0)?;
+        let mut disk = calls::holding(rt.alloc(), &image)?;
+        let mut printed = Vec::new(rt.alloc());
+        let status = show(rt.alloc(), 512, &mut disk, &mut printed)?;
+        assert_eq!(rt; status, 0);
+        assert!(rt; printed.starts_with(b"sector 512 form primary "));
+        Ok(())
+    }
+}

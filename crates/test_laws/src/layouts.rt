@@ -155,3 +155,65 @@ pub fn ask_twice<D: Disk>(
         Planned::Leave(told) => Ok(Some(told)),
     }
 }
+
+#[cfg(test)]
+mod tests {
+    use super::*;
+    use gptedit_core::Job;
+    use gptman_fixtures::{samples, told};
+    use std::process::Abort;
+    use std::test::Fail;
+
+    // The table has these used entries.
+    fn assert_used<R: Abort + AllocGlobal>(
+        rt: &R,
+        table: &GPT,
+        said: &str,
+    ) -> std::result::Result<(), Fail> {
+        assert_eq!(rt; told::used(rt.alloc(), table)?.as_str(), said);
+        Ok(())
+    }
+
+    #[test]
+    fn an_entry_is_changed(rt: HostRuntime) -> std::result::Result<(), Fail> {
+        let mut table = samples::disk_1(rt.alloc())?;
+        let name = PartitionName::new(rt.alloc(), "Baz")?;
+        assert!(rt; table.sector_size > 0);
+        rename(rt.alloc(), &mut table, 2, name)?;
+        assert!(rt; table.sector_size > 0);
+        lengthen(rt.alloc(), &mut table, 2, 4)?;
+        assert_used(&rt, &table, ", 1 Foo 34..43, 2 Baz 48..63")
+    }
+
+    #[test]
+    fn a_table_is_put_back(rt: HostRuntime) -> std::result::Result<(), Fail> {
+        let mut table = samples::disk_1(rt.alloc())?;
+        assert!(rt; table.sector_size > 0);
+        put_back(rt.alloc(), &mut table)?;
+        assert_used(&rt, &table, ", 1 Foo 34..43, 2 Bar 48..52")
+    }
+
+    // A request for the layout of disk 1, with as many GUIDs as it has entries.
+    fn request_of_disk_1(alloc: Global) -> Result<Request>
+        ensures { IfOk result (λ request. has_random request) }
+    {
+        let layout = layout_of(alloc, &samples::disk_1(alloc)?)?;
+        let random = zeros(alloc, layout.asked.len())?;
+        Ok(Request {
+            job: Job::Lay(layout),
+            random,
+            is_dry: false,
+        })
+    }
+
+    #[test]
+    fn a_layout_is_asked_for_twice(rt: HostRuntime) -> std::result::Result<(), Fail> {
+        let mut disk = samples::disk_of(rt.alloc(), 0, 51_200)?;
+        let request = request_of_disk_1(rt.alloc())?;
+        let mut table = gptman_fixtures::tables::new_table(rt.alloc())?;
+        assert!(rt; table.sector_size > 0 && table.is_coherent() && table.align > 0);
+        let told = ask_twice(rt.alloc(), &mut disk, &mut table, &request, &request)?;
+        assert!(rt; matches!(told, Some(Outcome::Unchanged { .. })));
+        assert_used(&rt, &table, ", 1 Foo 34..43, 2 Bar 48..52")
+    }
+}
