@@ -4,8 +4,8 @@
 //! Nothing is kept between two calls. No argument makes a call read or write outside of what it was given.
 #![tactic(auto)]
 
-ghost use Rattle.std.specs.Prelude.{◌≡◌, ◌≢◌, ◌≤◌, ◌<◌, ◌⊎◌, ◌+◌, ℕ, List, None, Some, length, take, true};
-ghost use Rattle.std.specs.Prelude.{[], drop, nat_eq};
+ghost use Rattle.std.specs.Prelude.{◌≡◌, ◌≢◌, ◌≤◌, ◌<◌, ◌⊎◌, ◌+◌, ℕ, List, None, Some, length, take};
+ghost use Rattle.std.specs.Prelude.{[], All, drop, nat_eq};
 ghost use Rattle.gptman.specs.Crc.{crc_of};
 ghost use Rattle.gptman.specs.Layout.{HasLayout};
 ghost use Rattle.gptman.specs.Mbr.{mbr_bytes, mbr_fault};
@@ -20,7 +20,7 @@ ghost use Rattle.gptman.specs.Name.{units_of};
 ghost use Rattle.std.specs.Prelude.{◌∷◌, ◌++◌, IsUtf8};
 ghost use Rattle.std.specs.Str.{chars};
 ghost use Rattle.gptman_ends.specs.Naming.{name_text};
-ghost use Rattle.gptman_ends.specs.Plan.{acts_of, are_writes_and_syncs, steps_fit};
+ghost use Rattle.gptman_ends.specs.Plan.{acts_of, IsWriteOrSync, StepFits};
 ghost use Rattle.gptman_ends.specs.Planning.{AreNoEnds, HasPlan, IsFitPlan, IsMiscounted, IsNewPlan, IsNotStatedToFit};
 ghost use Rattle.gptman_ends.specs.Planning.{IsNumberOf, IsOfOtherLayout, IsOfOtherLength, IsPlan};
 ghost use Rattle.gptman_ends.specs.Planning.{needed_after, refusal_number, RefusesFit, RefusesNew, RefusesPlan};
@@ -222,8 +222,8 @@ pub extern "C" fn gptman_write(
         → IsPlan b sector_size partitions.now (acts_of bytes.new (take needed.new.steps steps.new)) }
     ensures fits { result ≡ 0 → (needed.new.steps ≤ length steps.new) × (needed.new.bytes ≤ length bytes.new) }
     ensures steps_fit { result ≡ 0
-        → steps_fit disk_size needed.new.bytes (take needed.new.steps steps.new) ≡ true }
-    ensures kinds { result ≡ 0 → are_writes_and_syncs (take needed.new.steps steps.new) ≡ true }
+        → All (StepFits disk_size needed.new.bytes) (take needed.new.steps steps.new) }
+    ensures kinds { result ≡ 0 → All IsWriteOrSync (take needed.new.steps steps.new) }
     ensures refused { 0 < result → result ≤ 16 → result ≢ 15 → (b : List ℕ)
         → HasEnds b head.now tail.now disk_size
         → IsNumberOf (RefusesPlan b sector_size partitions.now) result }
@@ -296,8 +296,8 @@ pub extern "C" fn gptman_new(
         (acts_of bytes.new (take needed.new.steps steps.new)) }
     ensures fits { result ≡ 0 → (needed.new.steps ≤ length steps.new) × (needed.new.bytes ≤ length bytes.new) }
     ensures steps_fit { result ≡ 0
-        → steps_fit disk_size needed.new.bytes (take needed.new.steps steps.new) ≡ true }
-    ensures kinds { result ≡ 0 → are_writes_and_syncs (take needed.new.steps steps.new) ≡ true }
+        → All (StepFits disk_size needed.new.bytes) (take needed.new.steps steps.new) }
+    ensures kinds { result ≡ 0 → All IsWriteOrSync (take needed.new.steps steps.new) }
     ensures refused { 0 < result → result ≤ 16 → result ≢ 15
         → IsNumberOf (RefusesNew table.now.entry_count table.now.disk_guid sector_size disk_size) result }
     ensures lacks { result ≡ 17
@@ -391,8 +391,8 @@ pub extern "C" fn gptman_fit(
         → IsFitPlan b sector_size (acts_of bytes.new (take needed.new.steps steps.new)) }
     ensures fits { result ≡ 0 → (needed.new.steps ≤ length steps.new) × (needed.new.bytes ≤ length bytes.new) }
     ensures steps_fit { result ≡ 0
-        → steps_fit disk_size needed.new.bytes (take needed.new.steps steps.new) ≡ true }
-    ensures kinds { result ≡ 0 → are_writes_and_syncs (take needed.new.steps steps.new) ≡ true }
+        → All (StepFits disk_size needed.new.bytes) (take needed.new.steps steps.new) }
+    ensures kinds { result ≡ 0 → All IsWriteOrSync (take needed.new.steps steps.new) }
     ensures refused { 0 < result → result ≤ 16 → result ≢ 15 → (b : List ℕ)
         → HasEnds b head.now tail.now disk_size → IsNumberOf (RefusesFit b sector_size) result }
     ensures lacks { result ≡ 17
@@ -489,8 +489,8 @@ fn give(plan: &Record, steps: &mut [Step], bytes: &mut [u8], needed: &mut Needed
         ≡ acts_of plan.now.bytes.items plan.now.steps.items }
     ensures fits { result ≡ 0 → (needed.new.steps ≤ length steps.new) × (needed.new.bytes ≤ length bytes.new) }
     ensures steps_fit { result ≡ 0
-        → steps_fit plan.now.size needed.new.bytes (take needed.new.steps steps.new) ≡ true }
-    ensures kinds { result ≡ 0 → are_writes_and_syncs (take needed.new.steps steps.new) ≡ true }
+        → All (StepFits plan.now.size needed.new.bytes) (take needed.new.steps steps.new) }
+    ensures kinds { result ≡ 0 → All IsWriteOrSync (take needed.new.steps steps.new) }
     ensures count { needed.new.steps ≡ length plan.now.steps.items }
     ensures filled { needed.new.bytes ≡ length plan.now.bytes.items }
     ensures room { result ≡ 18

@@ -1,113 +1,83 @@
--- One more act of a plan.
-use Rattle.std.proofs.Common.{◌≡◌, ◌⊎◌, inl, inr, ⊎_elim, ◌≤◌, ℕ, suc, ◌+◌, ◌-◌, List, [], ◌∷◌, ◌++◌, length, take, refl, sym, ◌∙◌, ap, subst, arith}
-use Rattle.std.proofs.lemmas.List.{take_all, take-append-le, length_push}
+-- One more act of a plan: what it does to the disk, and to the history of what was left.
+use Rattle.std.proofs.Common.{◌≡◌, inl, inr, ⊎_elim, ◌<◌, ◌≤◌, ℕ, zero, suc, ◌+◌, List, [], ◌∷◌, ◌++◌, length, refl, sym, subst, arith}
+use Rattle.std.proofs.lemmas.List.{take-append-le, length_push}
 use Rattle.std.proofs.lemmas.List.Sums.{fold_push}
 use Rattle.std.proofs.lemmas.Bool.{cases_lt}
-use Rattle.gptman.specs.Disk.{AgreesOutside, Within, Elapses, Wrote, overlay}
-use Rattle.gptman_ends.specs.Plan.{Act, view_step, pending_step, view_of, pending_of, LeftBy, LeftSince, left_earlier, plan_state}
+use Rattle.gptman.specs.Disk.{AgreesOutside, Within, Elapses, Wrote}
+use Rattle.gptman_ends.specs.Plan.{Act, IsImage, IsLeftAt, bytes_with, pending_with, bytes_after, pending_after, left_now, plan_state}
 use Rattle.gptman_ends.specs.Plan.Act.{lay, store}
 use Rattle.gptman_copy.proofs.Ranges.{Ranges, agrees_self, agrees_then, agrees_wider, within_self, within_left, within_right, within_none}
 use Rattle.gptman_copy.proofs.Overlays.{agrees_overlay}
 
-module _ (start : List ℕ) (acts after_acts : List Act) (e : Act) (ranges : Ranges) (one_more : after_acts ≡ acts ++ e ∷ [])
-    (here : AgreesOutside ranges (view_of start acts) (view_step (view_of start acts) e)) (joins : Within (pending_step (pending_of acts) e) (ranges ++ pending_of acts)) where
-  longer : length after_acts ≡ length acts + 1
-  longer = ap (λ (l : List Act). length l) one_more ∙ length_push acts e
+-- On the way from these acts to those a disk was written in the ranges alone, wherever it stood and however often it had failed.
+abbrev pub Continues : List ℕ → Ranges → List Act → List Act → Type 0
+Continues start ranges acts after = (size at failed at_then failed_then : ℕ) → Wrote ranges (plan_state start acts size at failed) (plan_state start after size at_then failed_then)
 
-  still : (n : ℕ) → n ≤ length acts → take n after_acts ≡ take n acts
-  still n le = ap (λ (l : List Act). take n l) one_more ∙ take-append-le n acts (e ∷ []) le
+module _ (start : List ℕ) (acts : List Act) (act : Act) where
+  abbrev more : List Act
+  more = acts ++ act ∷ []
 
-  view_after : view_of start after_acts ≡ view_step (view_of start acts) e
-  view_after = ap (λ (l : List Act). view_of start l) one_more ∙ fold_push view_step start acts e
+  length-more : length more ≡ length acts + 1
+  length-more = length_push acts act
 
-  pending_after : pending_of after_acts ≡ pending_step (pending_of acts) e
-  pending_after = ap (λ (l : List Act). pending_of l) one_more ∙ fold_push pending_step [] acts e
+  -- Until now the history with the act is the one without it: it has each moment of that,
+  has : (moment : ℕ) (b : List ℕ) → IsLeftAt start acts moment b → IsLeftAt start more moment b
+  has zero b left = left
+  has (suc n) b left = (omega (arith, left.0, length-more), subst (λ (l : List Act). IsImage start l b) (sym (take-append-le n acts (act ∷ []) left.0)) left.1)
 
-  agrees : AgreesOutside ranges (view_of start acts) (view_of start after_acts)
-  agrees = subst (λ v. AgreesOutside ranges (view_of start acts) v) (sym view_after) here
+  -- and no other one.
+  had : (moment : ℕ) (b : List ℕ) → moment ≤ suc (length acts) → IsLeftAt start more moment b → IsLeftAt start acts moment b
+  had zero b until left = left
+  had (suc n) b until left =
+      let few : n ≤ length acts = omega (arith, until) in
+      (few, subst (λ (l : List Act). IsImage start l b) (take-append-le n acts (act ∷ []) few) left.1)
 
-  within : Within (pending_of after_acts) (ranges ++ pending_of acts)
-  within = subst (λ ps. Within ps (ranges ++ pending_of acts)) (sym pending_after) joins
-
-  earlier_image : (n : ℕ) (b : List ℕ) → n ≤ length acts → AgreesOutside (pending_of (take n after_acts)) (view_of start (take n after_acts)) b → AgreesOutside (pending_of (take n acts)) (view_of start (take n acts)) b
-  earlier_image n b le image = subst (λ (l : List Act). AgreesOutside (pending_of l) (view_of start l) b) (still n le) image
-
-  elapses : (s p f p' f' : ℕ) → Elapses (plan_state start acts s p f) (plan_state start after_acts s p' f')
-  elapses s p f p' f' = record {
-    later = omega (arith, longer);
-    nothing_else = λ t b le left. ⊎_elim (λ first. inl (inl first)) (λ is. old_or_new t b is) left;
-    keeps = λ t b le left. ⊎_elim (λ first. inl first) (λ is. inr (kept t b is)) left;
-    earlier = left_earlier start after_acts;
+  elapses : (size at failed at_then failed_then : ℕ) → Elapses (plan_state start acts size at failed) (plan_state start more size at_then failed_then)
+  elapses size at failed at_then failed_then = record {
+    later = omega (arith, length-more);
+    nothing_else = λ t b until was. ⊎_elim
+        (λ before. inl (record { moment = was.moment; since = was.since; left = had was.moment b (omega (arith, before)) was.left }))
+        (λ since. inr (record { moment = was.moment; since = since; left = was.left }))
+        (cases_lt was.moment (suc (length acts)));
+    keeps = λ t b until was. record { moment = was.moment; since = was.since; left = has was.moment b was.left };
+    earlier = λ t u b le was. record { moment = was.moment; since = omega (arith, le, was.since); left = was.left };
   }
-    where
-      old_or_new : (t : ℕ) (b : List ℕ) → LeftBy start after_acts (t - 1) b → LeftSince start acts t b ⊎ LeftSince start after_acts (suc (length acts)) b
-      old_or_new t b left = ⊎_elim
-          (λ new. inr (inr (record { after = left.after; since = omega (arith, new); until = left.until; image = left.image })))
-          (λ old. inl (inr (record { after = left.after; since = left.since; until = old; image = earlier_image left.after b old left.image })))
-          (cases_lt (length acts) left.after)
 
-      kept : (t : ℕ) (b : List ℕ) → LeftBy start acts (t - 1) b → LeftBy start after_acts (t - 1) b
-      kept t b left = record {
-        after = left.after;
-        since = left.since;
-        until = omega (arith, left.until, longer);
-        image = subst (λ (l : List Act). AgreesOutside (pending_of l) (view_of start l) b) (sym (still left.after left.until)) left.image;
-      }
+  module _ (ranges : Ranges) (lays : AgreesOutside ranges (bytes_after start acts) (bytes_with (bytes_after start acts) act))
+      (adds : Within (pending_with (pending_after acts) act) (ranges ++ pending_after acts)) where
+    -- b is the disk before the act, but for the ranges and for what was not stored
+    abbrev IsNear : List ℕ → Type 0
+    IsNear b = AgreesOutside (ranges ++ pending_after acts) (bytes_after start acts) b
 
-  leaves : (b : List ℕ) → LeftBy start after_acts (suc (length acts) - 1) b → AgreesOutside (ranges ++ pending_of acts) (view_of start acts) b
-  leaves b left = ⊎_elim
-      (λ new.
-      let all : take left.after after_acts ≡ after_acts = take_all left.after after_acts (omega (arith, new, longer)) in
-      let image : AgreesOutside (pending_of after_acts) (view_of start after_acts) b = subst (λ (l : List Act). AgreesOutside (pending_of l) (view_of start l) b) all left.image in
-      agrees_then (agrees_wider (within_left ranges (pending_of acts)) agrees) (agrees_wider within image))
-      (λ old.
-      let all : take left.after acts ≡ acts = take_all left.after acts (omega (arith, left.since)) in
-      let image : AgreesOutside (pending_of acts) (view_of start acts) b = subst (λ (l : List Act). AgreesOutside (pending_of l) (view_of start l) b) all (earlier_image left.after b old left.image) in
-      agrees_wider (within_right ranges (pending_of acts)) image)
-      (cases_lt (length acts) left.after)
+    view : AgreesOutside ranges (bytes_after start acts) (bytes_after start more)
+    view = subst (λ (b : List ℕ). AgreesOutside ranges (bytes_after start acts) b) (sym (fold_push bytes_with start acts act)) lays
 
-  pub recorded : (s p f p' f' : ℕ) → Wrote ranges (plan_state start acts s p f) (plan_state start after_acts s p' f')
-  recorded s p f p' f' = record { honest = refl; view = agrees; pending = within; crash = λ b left. ⊎_elim (λ first. absurd (omega (arith, first.0))) (λ is. leaves b is) left; time = elapses s p f p' f' }
+    pending : Within (pending_after more) (ranges ++ pending_after acts)
+    pending = subst (λ (rs : Ranges). Within rs (ranges ++ pending_after acts)) (sym (fold_push pending_with [] acts act)) adds
 
-module _ (start : List ℕ) (acts after_acts : List Act) where
-  pub stored : after_acts ≡ acts ++ store ∷ [] → (s p f p' f' : ℕ) → Wrote [] (plan_state start acts s p f) (plan_state start after_acts s p' f')
-  stored one_more = recorded start acts after_acts store [] one_more (agrees_self [] (view_of start acts)) within_none
+    -- What is left since then is an image of before the act or of after it.
+    near : (moment : ℕ) (b : List ℕ) → length acts < moment → IsLeftAt start more moment b → IsNear b
+    near moment b since left = ⊎_elim
+        (λ after. agrees_then (agrees_wider (within_left ranges (pending_after acts)) view) (agrees_wider pending (left_now start more moment b (omega (arith, after, length-more)) left)))
+        (λ before. agrees_wider (within_right ranges (pending_after acts)) (left_now start acts moment b since (had moment b before left)))
+        (cases_lt (suc (length acts)) moment)
 
-  pub laid : (at : ℕ) (buf : List ℕ) → at + length buf ≤ length (view_of start acts) → after_acts ≡ acts ++ lay at buf ∷ []
-      → (s p f p' f' : ℕ) → Wrote ((at, length buf) ∷ []) (plan_state start acts s p f) (plan_state start after_acts s p' f')
-  laid at buf fits one_more = recorded start acts after_acts (lay at buf) ((at, length buf) ∷ []) one_more
-      (agrees_overlay (view_of start acts) at buf fits)
-      (within_self ((at, length buf) ∷ pending_of acts))
+    pub one_more : (after : List Act) → after ≡ more → Continues start ranges acts after
+    one_more after is size at failed at_then failed_then =
+        subst (λ (l : List Act). Wrote ranges (plan_state start acts size at failed) (plan_state start l size at_then failed_then)) (sym is) (record {
+          honest = refl;
+          view = view;
+          pending = pending;
+          crash = λ b was. near was.moment b (omega (arith, was.since)) was.left;
+          time = elapses size at failed at_then failed_then;
+        })
 
-  pub laid_view : (at : ℕ) (buf : List ℕ) → after_acts ≡ acts ++ lay at buf ∷ [] → view_of start after_acts ≡ overlay (view_of start acts) at buf
-  laid_view at buf one_more = ap (λ (l : List Act). view_of start l) one_more ∙ fold_push view_step start acts (lay at buf)
+-- a sync
+pub stored : (start : List ℕ) (acts after : List Act) → after ≡ acts ++ store ∷ [] → Continues start [] acts after
+stored start acts after = one_more start acts store [] (agrees_self [] (bytes_after start acts)) within_none after
 
-  pub laid_pending : (at : ℕ) (buf : List ℕ) → after_acts ≡ acts ++ lay at buf ∷ [] → pending_of after_acts ≡ ((at, length buf) ∷ pending_of acts)
-  laid_pending at buf one_more = ap (λ (l : List Act). pending_of l) one_more ∙ fold_push pending_step [] acts (lay at buf)
-
-  pub stored_view : after_acts ≡ acts ++ store ∷ [] → view_of start after_acts ≡ view_of start acts
-  stored_view one_more = ap (λ (l : List Act). view_of start l) one_more ∙ fold_push view_step start acts store
-
-  pub stored_pending : after_acts ≡ acts ++ store ∷ [] → pending_of after_acts ≡ []
-  stored_pending one_more = ap (λ (l : List Act). pending_of l) one_more ∙ fold_push pending_step [] acts store
-
--- no act more
-pub nothing_more : (start : List ℕ) (acts after_acts : List Act) (ranges : Ranges) → after_acts ≡ acts → (s p f p' f' : ℕ) → Wrote ranges (plan_state start acts s p f) (plan_state start after_acts s p' f')
-nothing_more start acts after_acts ranges same s p f p' f' =
-    subst (λ (l : List Act). Wrote ranges (plan_state start acts s p f) (plan_state start l s p' f')) (sym same) (record {
-      honest = refl;
-      view = agrees_self ranges (view_of start acts);
-      pending = within_right ranges (pending_of acts);
-      crash = λ b left. ⊎_elim (λ first. absurd (omega (arith, first.0))) (λ is. same_image b is) left;
-      time = record {
-        later = omega arith;
-        nothing_else = λ t b le left. inl left;
-        keeps = λ t b le left. left;
-        earlier = left_earlier start acts;
-      };
-    })
-  where
-    same_image : (b : List ℕ) → LeftBy start acts (suc (length acts) - 1) b → AgreesOutside (ranges ++ pending_of acts) (view_of start acts) b
-    same_image b left =
-        let all : take left.after acts ≡ acts = take_all left.after acts (omega (arith, left.since)) in
-        agrees_wider (within_right ranges (pending_of acts)) (subst (λ (l : List Act). AgreesOutside (pending_of l) (view_of start l) b) all left.image)
+-- a write
+pub laid : (start : List ℕ) (acts after : List Act) (at : ℕ) (bytes : List ℕ) → at + length bytes ≤ length (bytes_after start acts) → after ≡ acts ++ lay at bytes ∷ []
+    → Continues start ((at, length bytes) ∷ []) acts after
+laid start acts after at bytes fits = one_more start acts (lay at bytes) ((at, length bytes) ∷ []) (agrees_overlay (bytes_after start acts) at bytes fits)
+    (within_self ((at, length bytes) ∷ pending_after acts)) after

@@ -10,7 +10,7 @@ use Rattle.gptman.specs.Stop.{HoldsOneOf}
 use Rattle.gptman.specs.Table.{Table}
 use Rattle.gptman.proofs.Held.{holds_local}
 use Rattle.gptman_ends.specs.Ends.{HasEnds, AreRangesKnown, ArePlacesKnown, disk_bytes}
-use Rattle.gptman_ends.specs.Plan.{Act, view_of, pending_of, LeftBy}
+use Rattle.gptman_ends.specs.Plan.{Act, bytes_after, pending_after, LeftBy}
 use Rattle.gptman_copy.proofs.Ranges.{Ranges, agrees_back}
 use Rattle.gptman_copy.proofs.Overlays.{length-overlay, overlay_below, overlay_above, overlay_inside}
 use Rattle.gptman_ends.proofs.Middle.{AreKnown, middle_of, ends_zero, same_ends, agrees_known, length-view, view_both, known_take, cases_middle, still_middle, clear_pending}
@@ -33,7 +33,7 @@ module _ (first last size : ℕ) (apart : first + last ≤ size) (b c : List ℕ
   abbrev mirrored : List ℕ → List ℕ
   mirrored x = overlay x first between
 
-  module _ (x : List ℕ) (t : ℕ) (left : LeftBy b acts t x) where
+  module _ (x : List ℕ) (left : LeftBy b acts x) where
     abbrev made : List Act
     made = take left.after acts
 
@@ -66,18 +66,17 @@ module _ (first last size : ℕ) (apart : first + last ≤ size) (b c : List ℕ
     mirrored_same : AgreesOutside (middle_of first last size) (mirrored x) x
     mirrored_same = record { long = long ∙ sym length-mirrored; same = λ k out. sym (mirrored_outside k out) }
 
-    image_same : (k : ℕ) → Outside (pending_of made) k → get_or (mirrored x) k 0 ≡ get_or (view_of c made) k 0
+    image_same : (k : ℕ) → Outside (pending_after made) k → get_or (mirrored x) k 0 ≡ get_or (bytes_after c made) k 0
     image_same k out = ⊎_elim
         (λ known_byte. mirrored_outside k known_byte ∙ left.image.same k out ∙ sym ((view_both first last size apart (middle_of first last size) b c made long_b made_known agrees).same k known_byte))
         (λ mid. mirrored_inside k mid.0 mid.1 ∙ sym (still_middle first last size apart k mid.0 mid.1 c made long_c made_known))
         (cases_middle first last size apart k)
 
     -- and a stop may leave it of the other disk
-    left_mirrored : LeftBy c acts t (mirrored x)
+    left_mirrored : LeftBy c acts (mirrored x)
     left_mirrored = record {
       after = left.after;
-      since = left.since;
-      until = left.until;
+      among = left.among;
       image = record {
         long = length-mirrored ∙ sym (length-view first last size apart c made long_c made_known);
         same = image_same;
@@ -103,24 +102,24 @@ module _ (first last size : ℕ) (apart : first + last ≤ size) (b c : List ℕ
 
   -- where each stop leaves one of the tables on the other disk, each stop does on this one
   stops_hold : (ss : ℕ) (tables : List Table) → ArePlacesKnown first last size ss tables
-      → ((y : List ℕ) → LeftBy c acts 0 y → HoldsOneOf y ss tables) → (x : List ℕ) → LeftBy b acts 0 x → HoldsOneOf x ss tables
-  stops_hold ss tables places stops x left = held_then x 0 left ss tables places (stops (mirrored x) (left_mirrored x 0 left))
+      → ((y : List ℕ) → LeftBy c acts y → HoldsOneOf y ss tables) → (x : List ℕ) → LeftBy b acts x → HoldsOneOf x ss tables
+  stops_hold ss tables places stops x left = held_then x left ss tables places (stops (mirrored x) (left_mirrored x left))
 
   -- and where each stop leaves all bytes outside of ranges as they were there, each stop does here
-  stops_keep : (ranges : Ranges) → ((y : List ℕ) → LeftBy c acts 0 y → AgreesOutside ranges c y) → (x : List ℕ) → LeftBy b acts 0 x → AgreesOutside ranges b x
-  stops_keep ranges stops x left = record { long = long x 0 left ∙ sym long_b; same = outside_then x 0 left ranges (stops (mirrored x) (left_mirrored x 0 left)) }
+  stops_keep : (ranges : Ranges) → ((y : List ℕ) → LeftBy c acts y → AgreesOutside ranges c y) → (x : List ℕ) → LeftBy b acts x → AgreesOutside ranges b x
+  stops_keep ranges stops x left = record { long = long x left ∙ sym long_b; same = outside_then x left ranges (stops (mirrored x) (left_mirrored x left)) }
 
   -- Where each stop leaves a table at a side there, or all bytes outside of ranges as they were, each stop does here.
   stops_turn : (ranges : Ranges) (ss : ℕ) (side : Side) (t : Table) → AreRangesKnown first last size (copy_ranges_at side t ss size)
-      → ((y : List ℕ) → LeftBy c acts 0 y → AgreesOutside ranges c y ⊎ Holds y ss side t) → (x : List ℕ) → LeftBy b acts 0 x → AgreesOutside ranges b x ⊎ Holds x ss side t
+      → ((y : List ℕ) → LeftBy c acts y → AgreesOutside ranges c y ⊎ Holds y ss side t) → (x : List ℕ) → LeftBy b acts x → AgreesOutside ranges b x ⊎ Holds x ss side t
   stops_turn ranges ss side t places stops x left = ⊎_elim
-      (λ kept. inl (record { long = long x 0 left ∙ sym long_b; same = outside_then x 0 left ranges kept }))
-      (λ held. inr (held_there x 0 left ss side t places held))
-      (stops (mirrored x) (left_mirrored x 0 left))
+      (λ kept. inl (record { long = long x left ∙ sym long_b; same = outside_then x left ranges kept }))
+      (λ held. inr (held_there x left ss side t places held))
+      (stops (mirrored x) (left_mirrored x left))
 
   -- a table that this one holds after the acts is held after them there
-  after_holds : (ss : ℕ) (side : Side) (t : Table) → AreRangesKnown first last size (copy_ranges_at side t ss size) → Holds (view_of b acts) ss side t → Holds (view_of c acts) ss side t
-  after_holds ss side t places holds = holds_known first last size (view_of b acts) (view_of c acts) ss side t
+  after_holds : (ss : ℕ) (side : Side) (t : Table) → AreRangesKnown first last size (copy_ranges_at side t ss size) → Holds (bytes_after b acts) ss side t → Holds (bytes_after c acts) ss side t
+  after_holds ss side t places holds = holds_known first last size (bytes_after b acts) (bytes_after c acts) ss side t
       (length-view first last size apart b acts long_b known)
       (view_both first last size apart (middle_of first last size) b c acts long_b known agrees)
       places holds
@@ -139,25 +138,25 @@ module _ (head tail b : List ℕ) (size : ℕ) (apart : length head + length tai
   module _ (acts : List Act) (known : AreKnown (length head) (length tail) size acts) where
     -- after the same acts too,
     pub after_any : (ss : ℕ) (side : Side) (t : Table) → AreRangesKnown (length head) (length tail) size (copy_ranges_at side t ss size)
-        → Holds (view_of (disk_bytes head tail size) acts) ss side t → Holds (view_of b acts) ss side t
+        → Holds (bytes_after (disk_bytes head tail size) acts) ss side t → Holds (bytes_after b acts) ss side t
     after_any ss side t places holds =
         after_holds (length head) (length tail) size apart (disk_bytes head tail size) b of_zeros.long ends.long from_zeros acts known ss side t places holds
 
     -- and where each stop leaves one of the tables, each stop does,
     pub stops_any : (ss : ℕ) (tables : List Table) → ArePlacesKnown (length head) (length tail) size ss tables
-        → ((y : List ℕ) → LeftBy (disk_bytes head tail size) acts 0 y → HoldsOneOf y ss tables) → (x : List ℕ) → LeftBy b acts 0 x → HoldsOneOf x ss tables
+        → ((y : List ℕ) → LeftBy (disk_bytes head tail size) acts y → HoldsOneOf y ss tables) → (x : List ℕ) → LeftBy b acts x → HoldsOneOf x ss tables
     stops_any ss tables places stops x left =
         stops_hold (length head) (length tail) size apart b (disk_bytes head tail size) ends.long of_zeros.long (agrees_back from_zeros) acts known ss tables places stops x left
 
     -- and leaves alone what each stop leaves alone there
-    pub others_any : (ranges : Ranges) → ((y : List ℕ) → LeftBy (disk_bytes head tail size) acts 0 y → AgreesOutside ranges (disk_bytes head tail size) y)
-        → (x : List ℕ) → LeftBy b acts 0 x → AgreesOutside ranges b x
+    pub others_any : (ranges : Ranges) → ((y : List ℕ) → LeftBy (disk_bytes head tail size) acts y → AgreesOutside ranges (disk_bytes head tail size) y)
+        → (x : List ℕ) → LeftBy b acts x → AgreesOutside ranges b x
     others_any ranges stops x left =
         stops_keep (length head) (length tail) size apart b (disk_bytes head tail size) ends.long of_zeros.long (agrees_back from_zeros) acts known ranges stops x left
 
     -- or holds at a side what each stop holds there
     pub turns_any : (ranges : Ranges) (ss : ℕ) (side : Side) (t : Table) → AreRangesKnown (length head) (length tail) size (copy_ranges_at side t ss size)
-        → ((y : List ℕ) → LeftBy (disk_bytes head tail size) acts 0 y → AgreesOutside ranges (disk_bytes head tail size) y ⊎ Holds y ss side t)
-        → (x : List ℕ) → LeftBy b acts 0 x → AgreesOutside ranges b x ⊎ Holds x ss side t
+        → ((y : List ℕ) → LeftBy (disk_bytes head tail size) acts y → AgreesOutside ranges (disk_bytes head tail size) y ⊎ Holds y ss side t)
+        → (x : List ℕ) → LeftBy b acts x → AgreesOutside ranges b x ⊎ Holds x ss side t
     turns_any ranges ss side t places stops x left =
         stops_turn (length head) (length tail) size apart b (disk_bytes head tail size) ends.long of_zeros.long (agrees_back from_zeros) acts known ranges ss side t places stops x left

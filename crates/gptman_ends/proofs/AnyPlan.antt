@@ -79,7 +79,7 @@ module _ (head tail : List ℕ) (size : ℕ) (apart : length head + length tail 
     plan : IsSafePlan zero g.sector_size (table_in g) next acts
     plan = safe_zero in_form (laid_too count laid)
 
-    others : (y : List ℕ) → LeftBy zero acts 0 y → AgreesOutside (four_ranges next g.sector_size size) zero y
+    others : (y : List ℕ) → LeftBy zero acts y → AgreesOutside (four_ranges next g.sector_size size) zero y
     others y left = subst (λ (n : ℕ). AgreesOutside (four_ranges next g.sector_size n) zero y) all (plan.others y left)
 
     -- they leave all bytes outside of the four ranges alone

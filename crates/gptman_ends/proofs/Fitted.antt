@@ -95,7 +95,7 @@ module _ (b : List ℕ) (g : GPT) (acts : List Act) (taken : reading_of b g.sect
   held from = subst (λ (side : Side). Holds b g.sector_size side (table_in g)) from (holds_what_is_read b g.sector_size (copy_of g) taken form)
 
   -- the primary copy is in the same place, which the backup copy does not touch
-  stops : taken_from b g.sector_size ≡ primary → (x : List ℕ) → LeftBy b acts 0 x → HoldsOneOf x g.sector_size (table_in g ∷ table_in grown ∷ [])
+  stops : taken_from b g.sector_size ≡ primary → (x : List ℕ) → LeftBy b acts x → HoldsOneOf x g.sector_size (table_in g ∷ table_in grown ∷ [])
   stops from x left =
       let at : IsHeaderForm primary g.header = subst (λ (side : Side). IsHeaderForm side g.header) from form in
       plan.replaced (form_fitted g.header g.sector_size (length b) at) (table_in g) (held from) (sides_clear backup (table_in grown) g.sector_size (length b) plan.layout.table) x left

@@ -6,7 +6,7 @@ use Rattle.gptman.specs.Disk.{Outside, AgreesOutside, overlay}
 use Rattle.gptman_copy.proofs.Ranges.{Ranges, agrees_self}
 use Rattle.gptman_copy.proofs.Overlays.{length-overlay, overlay_above, overlay_below, overlay_inside}
 use Rattle.gptman_ends.specs.Ends.{IsKnown, AreRangesKnown}
-use Rattle.gptman_ends.specs.Plan.{Act, LeftBy, pending_step, view_step}
+use Rattle.gptman_ends.specs.Plan.{Act, LeftBy, pending_with, bytes_with}
 use Rattle.gptman_ends.specs.Plan.Act.{lay, store}
 use Rattle.gptman_ends.proofs.Middle.{AreKnown, IsActKnown, cases_middle, clear, middle_of}
 
@@ -73,8 +73,8 @@ module _ (first last size : ℕ) (apart : first + last ≤ size) where
         absurd (omega (arith, is, was)))
         (cases_middle first last size apart k)
 
-    act_known : (view : List ℕ) (pending : Ranges) (e : Act) → length view ≡ size → length (view_step view e) ≡ size
-        → ((x : List ℕ) → AgreesOutside (pending_step pending e) (view_step view e) x → AgreesOutside ranges start x) → IsActKnown first last size e
+    act_known : (view : List ℕ) (pending : Ranges) (e : Act) → length view ≡ size → length (bytes_with view e) ≡ size
+        → ((x : List ℕ) → AgreesOutside (pending_with pending e) (bytes_with view e) x → AgreesOutside ranges start x) → IsActKnown first last size e
     act_known view pending (lay at []) whole after keeps = tt
     act_known view pending (lay at (y ∷ bytes)) whole after keeps =
         let fits : at + length (y ∷ bytes) ≤ length view = fits_laid view at (y ∷ bytes) (after ∙ sym whole) (omega arith) in
@@ -83,15 +83,15 @@ module _ (first last size : ℕ) (apart : first + last ≤ size) where
     act_known view pending store whole after keeps = tt
 
     acts_known : (view : List ℕ) (pending : Ranges) (acts : List Act)
-        → ((n : ℕ) (x : List ℕ) → n ≤ length acts → AgreesOutside (fold pending_step pending (take n acts)) (fold view_step view (take n acts)) x → AgreesOutside ranges start x)
+        → ((n : ℕ) (x : List ℕ) → n ≤ length acts → AgreesOutside (fold pending_with pending (take n acts)) (fold bytes_with view (take n acts)) x → AgreesOutside ranges start x)
         → AreKnown first last size acts
     acts_known view pending [] keeps = tt
     acts_known view pending (e ∷ acts) keeps =
         let before : AgreesOutside ranges start view = keeps 0 view (omega arith) (agrees_self pending view) in
-        let after : AgreesOutside ranges start (view_step view e) = keeps 1 (view_step view e) (omega arith) (agrees_self (pending_step pending e) (view_step view e)) in (
+        let after : AgreesOutside ranges start (bytes_with view e) = keeps 1 (bytes_with view e) (omega arith) (agrees_self (pending_with pending e) (bytes_with view e)) in (
           act_known view pending e (before.long ∙ long) (after.long ∙ long) (λ x image. keeps 1 x (omega arith) image),
-          acts_known (view_step view e) (pending_step pending e) acts (λ n x le image. keeps (suc n) x (omega (arith, le)) image),
+          acts_known (bytes_with view e) (pending_with pending e) acts (λ n x le image. keeps (suc n) x (omega (arith, le)) image),
         )
 
-    pub are_known : (acts : List Act) → ((x : List ℕ) → LeftBy start acts 0 x → AgreesOutside ranges start x) → AreKnown first last size acts
-    are_known acts keeps = acts_known start [] acts (λ n x le image. keeps x (record { after = n; since = omega arith; until = le; image = image }))
+    pub are_known : (acts : List Act) → ((x : List ℕ) → LeftBy start acts x → AgreesOutside ranges start x) → AreKnown first last size acts
+    are_known acts keeps = acts_known start [] acts (λ n x le image. keeps x (record { after = n; among = le; image = image }))

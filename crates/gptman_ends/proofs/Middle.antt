@@ -7,7 +7,7 @@ use Rattle.gptman.specs.Bytes.{part}
 use Rattle.gptman.specs.Disk.{Outside, AgreesOutside, overlay}
 use Rattle.gptman.specs.Ranges.{AgreesInside, Inside, IsApartFromAll}
 use Rattle.gptman_ends.specs.Ends.{disk_bytes, length-disk_bytes, AreRangesKnown, HasEnds, IsKnown}
-use Rattle.gptman_ends.specs.Plan.{Act, view_step, pending_step, view_of, pending_of}
+use Rattle.gptman_ends.specs.Plan.{Act, bytes_with, pending_with, bytes_after, pending_after}
 use Rattle.gptman_ends.specs.Plan.Act.{lay, store}
 use Rattle.gptman_copy.proofs.Ranges.{Ranges}
 use Rattle.gptman_copy.proofs.Overlays.{outside_apart, part_same, length-overlay, overlay_below, overlay_above, overlay_inside, overlay_nothing}
@@ -123,25 +123,25 @@ module _ (first last size : ℕ) (apart : first + last ≤ size) where
   fits_known r (inr (inl behind)) = behind.1
   fits_known r (inr (inr met)) = met.1
 
-  length-step : (a : List ℕ) (e : Act) → length a ≡ size → IsActKnown first last size e → length (view_step a e) ≡ size
+  length-step : (a : List ℕ) (e : Act) → length a ≡ size → IsActKnown first last size e → length (bytes_with a e) ≡ size
   length-step a (lay at []) long known = ap (λ (l : List ℕ). length l) (overlay_nothing a at) ∙ long
   length-step a (lay at (x ∷ bytes)) long known = length-overlay a at (x ∷ bytes) (omega (arith, long, fits_known (at, length (x ∷ bytes)) known)) ∙ long
   length-step a store long known = long
 
-  pub length-view : (a : List ℕ) (acts : List Act) → length a ≡ size → AreKnown first last size acts → length (view_of a acts) ≡ size
+  pub length-view : (a : List ℕ) (acts : List Act) → length a ≡ size → AreKnown first last size acts → length (bytes_after a acts) ≡ size
   length-view a [] long known = long
-  length-view a (e ∷ acts) long known = length-view (view_step a e) acts (length-step a e long known.0) known.1
+  length-view a (e ∷ acts) long known = length-view (bytes_with a e) acts (length-step a e long known.0) known.1
 
-  step_both : (rs : Ranges) (a b : List ℕ) (e : Act) → length a ≡ size → IsActKnown first last size e → AgreesOutside rs a b → AgreesOutside rs (view_step a e) (view_step b e)
+  step_both : (rs : Ranges) (a b : List ℕ) (e : Act) → length a ≡ size → IsActKnown first last size e → AgreesOutside rs a b → AgreesOutside rs (bytes_with a e) (bytes_with b e)
   step_both rs a b (lay at []) long known agrees =
       subst (λ (l : List ℕ). AgreesOutside rs l (overlay b at [])) (sym (overlay_nothing a at)) (subst (λ (l : List ℕ). AgreesOutside rs a l) (sym (overlay_nothing b at)) agrees)
   step_both rs a b (lay at (x ∷ bytes)) long known agrees = overlay_both rs a b at (x ∷ bytes) (omega (arith, long, fits_known (at, length (x ∷ bytes)) known)) agrees
   step_both rs a b store long known agrees = agrees
 
   -- where two disks agreed they still do
-  pub view_both : (rs : Ranges) (a b : List ℕ) (acts : List Act) → length a ≡ size → AreKnown first last size acts → AgreesOutside rs a b → AgreesOutside rs (view_of a acts) (view_of b acts)
+  pub view_both : (rs : Ranges) (a b : List ℕ) (acts : List Act) → length a ≡ size → AreKnown first last size acts → AgreesOutside rs a b → AgreesOutside rs (bytes_after a acts) (bytes_after b acts)
   view_both rs a b [] long known agrees = agrees
-  view_both rs a b (e ∷ acts) long known agrees = view_both rs (view_step a e) (view_step b e) acts (length-step a e long known.0) known.1 (step_both rs a b e long known.0 agrees)
+  view_both rs a b (e ∷ acts) long known agrees = view_both rs (bytes_with a e) (bytes_with b e) acts (length-step a e long known.0) known.1 (step_both rs a b e long known.0 agrees)
 
   pub known_take : (n : ℕ) (acts : List Act) → AreKnown first last size acts → AreKnown first last size (take n acts)
   known_take zero acts known = tt
@@ -161,7 +161,7 @@ module _ (first last size : ℕ) (apart : first + last ≤ size) where
     clear r (inr (inl behind)) = inl (omega (arith, behind.0, high, apart))
     clear r (inr (inr met)) = absurd (omega (arith, met.0, low, high))
 
-    still_step : (a : List ℕ) (e : Act) → length a ≡ size → IsActKnown first last size e → get_or (view_step a e) k 0 ≡ get_or a k 0
+    still_step : (a : List ℕ) (e : Act) → length a ≡ size → IsActKnown first last size e → get_or (bytes_with a e) k 0 ≡ get_or a k 0
     still_step a (lay at []) long known = ap (λ (l : List ℕ). get_or l k 0) (overlay_nothing a at)
     still_step a (lay at (x ∷ bytes)) long known =
         let fits : at + length (x ∷ bytes) ≤ length a = omega (arith, long, fits_known (at, length (x ∷ bytes)) known) in
@@ -169,19 +169,19 @@ module _ (first last size : ℕ) (apart : first + last ≤ size) where
     still_step a store long known = refl
 
     -- a byte of the middle is as it was
-    pub still_middle : (a : List ℕ) (acts : List Act) → length a ≡ size → AreKnown first last size acts → get_or (view_of a acts) k 0 ≡ get_or a k 0
+    pub still_middle : (a : List ℕ) (acts : List Act) → length a ≡ size → AreKnown first last size acts → get_or (bytes_after a acts) k 0 ≡ get_or a k 0
     still_middle a [] long known = refl
-    still_middle a (e ∷ acts) long known = still_middle (view_step a e) acts (length-step a e long known.0) known.1 ∙ still_step a e long known.0
+    still_middle a (e ∷ acts) long known = still_middle (bytes_with a e) acts (length-step a e long known.0) known.1 ∙ still_step a e long known.0
 
-    clear_step : (pending : Ranges) (e : Act) → IsActKnown first last size e → Outside pending k → Outside (pending_step pending e) k
+    clear_step : (pending : Ranges) (e : Act) → IsActKnown first last size e → Outside pending k → Outside (pending_with pending e) k
     clear_step pending (lay at []) known out = (⊎_elim (λ below. inl below) (λ above. inr (omega (arith, above))) (cases_lt k at), out)
     clear_step pending (lay at (x ∷ bytes)) known out = (clear (at, length (x ∷ bytes)) known, out)
     clear_step pending store known out = tt
 
-    clear_fold : (pending : Ranges) (acts : List Act) → AreKnown first last size acts → Outside pending k → Outside (fold pending_step pending acts) k
+    clear_fold : (pending : Ranges) (acts : List Act) → AreKnown first last size acts → Outside pending k → Outside (fold pending_with pending acts) k
     clear_fold pending [] known out = out
-    clear_fold pending (e ∷ acts) known out = clear_fold (pending_step pending e) acts known.1 (clear_step pending e known.0 out)
+    clear_fold pending (e ∷ acts) known out = clear_fold (pending_with pending e) acts known.1 (clear_step pending e known.0 out)
 
     -- and is not pending
-    pub clear_pending : (acts : List Act) → AreKnown first last size acts → Outside (pending_of acts) k
+    pub clear_pending : (acts : List Act) → AreKnown first last size acts → Outside (pending_after acts) k
     clear_pending acts known = clear_fold [] acts known tt

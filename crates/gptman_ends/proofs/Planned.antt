@@ -1,6 +1,5 @@
 -- What is proved of the disk that records a write, said of its acts.
-use Rattle.std.proofs.Common.{◌≡◌, inl, inr, ⊎_elim, true, ℕ, List, [], ◌∷◌, length, take, refl, sym, ap, ◌∙◌, subst, arith}
-use Rattle.std.proofs.lemmas.List.{take_all}
+use Rattle.std.proofs.Common.{◌≡◌, ⊎_elim, ◌<◌, ℕ, zero, suc, List, [], ◌∷◌, length, refl, sym, ap, ◌∙◌, subst, arith}
 use Rattle.gptman.specs.Crash.{IsReadInForm}
 use Rattle.gptman.specs.Disk.{AgreesOutside, DiskState, Elapses, IsHonest, LeavesOnly}
 use Rattle.gptman.specs.Layout.{Holds, IsLaidOut}
@@ -10,23 +9,24 @@ use Rattle.gptman.specs.Table.{Table, table_in}
 use Rattle.gptman.specs.declared.table.GPT.{GPT}
 use Rattle.gptman_ends.specs.Crossing.{four_ranges, with_partitions}
 use Rattle.gptman_ends.specs.Ends.{disk_bytes, length-disk_bytes}
-use Rattle.gptman_ends.specs.Plan.{Act, LeftBy, acts_of, pending_of, plan_state, steps_fit, view_of}
+use Rattle.std.specs.Prelude.{All}
+use Rattle.gptman_ends.specs.Plan.{Act, IsLeftAt, LeftBy, StepFits, acts_of, bytes_after, left_now, pending_after, plan_state}
 use Rattle.gptman_ends.specs.Planning.{IsSafePlan}
 use Rattle.gptman_ends.specs.declared.recording.Recorder.{Recorder}
 use Rattle.gptman_ends.specs.declared.record.Record.{Record}
 use Rattle.gptman_ends.specs.declared.records.Partition.{Partition}
-use Rattle.gptman_ends.proofs.Steps.{length-steps}
+use Rattle.gptman_ends.proofs.Steps.{length-stopped}
 
 -- the disk is one of these bytes after the acts
 pub record IsAfter (start : List ℕ) (acts : List Act) (disk : DiskState) : Type 0 where
-  pub view : disk.view ≡ view_of start acts
-  pub pending : disk.pending ≡ pending_of acts
-  pub left : (b : List ℕ) → LeftBy start acts 0 b → disk.left_since 1 b
+  pub view : disk.view ≡ bytes_after start acts
+  pub pending : disk.pending ≡ pending_after acts
+  pub left : (b : List ℕ) → LeftBy start acts b → disk.left_since 1 b
 
 -- a disk that was made with these bytes is
 is_after : (start start_too : List ℕ) (acts acts_too : List Act) (s p f : ℕ) → start_too ≡ start → acts ≡ acts_too → IsAfter start acts (plan_state start_too acts_too s p f)
 is_after start start_too acts acts_too s p f same same_acts =
-    let one : IsAfter start acts (plan_state start acts s p f) = record { view = refl; pending = refl; left = λ b left. inr left } in
+    let one : IsAfter start acts (plan_state start acts s p f) = record { view = refl; pending = refl; left = λ b left. record { moment = suc left.after; since = omega arith; left = (left.among, left.image) } } in
     subst (λ (x : List ℕ). IsAfter start acts (plan_state x acts_too s p f)) (sym same)
     (subst (λ (l : List Act). IsAfter start acts (plan_state start l s p f)) same_acts one)
 
@@ -47,13 +47,6 @@ ends_after e plan start same taken =
 
 -- ---- the start stays the same while calls are made
 
-tail_of : List ℕ → List ℕ
-tail_of [] = []
-tail_of (x ∷ xs) = xs
-
-abbrev no_acts : List Act
-no_acts = []
-
 module _ (start : List ℕ) (size : ℕ) (old : DiskState) (e : Recorder) (long : length start ≡ size) (begins : old ≡ plan_state start [] size 0 0) (sized : e.plan.size ≡ size) where
   abbrev now : List ℕ
   now = disk_bytes e.head.now e.tail.now e.plan.size
@@ -61,26 +54,26 @@ module _ (start : List ℕ) (size : ℕ) (old : DiskState) (e : Recorder) (long 
   length-now : length now ≡ e.plan.size
   length-now = length-disk_bytes e.head.now e.tail.now e.plan.size e.apart
 
-  fits : steps_fit (length now) (length e.plan.bytes.items) e.plan.steps.items ≡ true
-  fits = subst (λ (n : ℕ). steps_fit n (length e.plan.bytes.items) e.plan.steps.items ≡ true) (sym length-now) e.plan.held
+  fit : All (StepFits (length now) (length e.plan.bytes.items)) e.plan.steps.items
+  fit = subst (λ (n : ℕ). All (StepFits n (length e.plan.bytes.items)) e.plan.steps.items) (sym length-now) e.plan.held
 
-  -- no stop leaves a byte more than the disk has
-  none_after : LeftBy now (acts_of e.plan.bytes.items e.plan.steps.items) 0 (0 ∷ now) → ⊥
-  none_after left = omega (arith, left.image.long, length-steps now e.plan.bytes.items left.after e.plan.steps.items fits)
+  -- No stop leaves a byte more than the disk has. So before the first act this stood at moment 0,
+  marked : (moment : ℕ) → IsLeftAt start [] moment (0 ∷ now) → now ≡ start
+  marked zero is = cc
+  marked (suc n) left = absurd (omega (arith, (left_now start [] (suc n) (0 ∷ now) (omega arith) left).long, long, length-now, sized))
 
-  none_before : LeftBy start [] 0 (0 ∷ now) → ⊥
-  none_before left =
-      let view : view_of start (take left.after []) ≡ start = ap (λ (l : List Act). view_of start l) (take_all left.after no_acts (omega arith)) in
-      omega (arith, left.image.long, ap (λ (l : List ℕ). length l) view, long, length-now, sized)
+  -- and after the acts it does not stand at a moment since.
+  unmarked : (moment : ℕ) → 0 < moment → IsLeftAt now (acts_of e.plan.bytes.items e.plan.steps.items) moment (0 ∷ now) → ⊥
+  unmarked zero since left = omega (arith, since)
+  unmarked (suc n) since left = omega (arith, left.1.long, length-stopped now e.plan.bytes.items n e.plan.steps.items fit)
 
   pub start_stays : Elapses old (state_of e) → now ≡ start
-  unfolding tail_of
   start_stays time =
       let run : Elapses (plan_state start [] size 0 0) (state_of e) = subst (λ (d : DiskState). Elapses d (state_of e)) begins time in
       ⊎_elim
-      (λ was. ⊎_elim (λ first. ap tail_of first.1) (λ left. absurd (none_before left)) was)
-      (λ later. ⊎_elim (λ first. absurd (omega (arith, first.0))) (λ left. absurd (none_after left)) later)
-      (run.nothing_else 0 (0 ∷ now) (omega arith) (inl (refl, refl)))
+      (λ before. marked before.moment before.left)
+      (λ after. absurd (unmarked after.moment (omega (arith, after.since)) after.left))
+      (run.nothing_else 0 (0 ∷ now) (omega arith) (record { moment = 0; since = omega arith; left = refl }))
 
 module _ (start : List ℕ) (size : ℕ) (g : GPT) (partitions : List Partition) (acts : List Act) (old new : DiskState) (long : length start ≡ size) (begins : old ≡ plan_state start [] size 0 0)
     (after : IsAfter start acts new) where
@@ -99,7 +92,7 @@ module _ (start : List ℕ) (size : ℕ) (g : GPT) (partitions : List Partition)
       let read : IsReadInForm old.view g = subst (λ (d : DiskState). IsReadInForm d.view g) (sym begins) read in
       let laid : IsLaidOut next g.sector_size old.size = subst (λ (d : DiskState). IsLaidOut next g.sector_size d.size) (sym begins) laid in
       let clock : old.clock ≡ 1 = ap (λ (d : DiskState). d.clock) begins in
-      let left : (x : List ℕ) → LeftBy start acts 0 x → new.left_since old.clock x = λ x was. subst (λ (t : ℕ). new.left_since t x) (sym clock) (after.left x was) in
+      let left : (x : List ℕ) → LeftBy start acts x → new.left_since old.clock x = λ x was. subst (λ (t : ℕ). new.left_since t x) (sym clock) (after.left x was) in
       let done = stored honest synced read laid in
       record {
         stops = λ x was. holds honest synced read laid x (left x was);

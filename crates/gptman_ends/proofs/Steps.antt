@@ -1,103 +1,64 @@
--- The steps of a plan, as their bytes grow.
-use Rattle.std.proofs.Common.{◌≡◌, ◌≤◌, Bool, true, false, ℕ, zero, suc, ◌+◌, List, [], ◌∷◌, ◌++◌, length, take, drop, refl, sym, ◌∙◌, ap, subst, arith, length-append, length-drop}
-use Rattle.std.specs.Prelude.{leb, nat_eq, if◌then◌else◌}
-use Rattle.std.proofs.lemmas.Bool.{and_from, and_parts, le-leb, leb-true}
+-- The steps of a plan beside their buffer, which grows.
+use Rattle.std.proofs.Common.{◌≡◌, ◌≤◌, inl, true, false, ℕ, ◌+◌, List, [], ◌∷◌, ◌++◌, length, take, drop, refl, ◌∙◌, ap, arith, length-append, length-drop}
+use Rattle.std.specs.Prelude.{All, nat_eq, if◌then◌else◌}
 use Rattle.std.proofs.lemmas.List.{length-take-le, map_push, take_all}
-use Rattle.std.proofs.lemmas.List.Folds.{list_all-append}
+use Rattle.std.proofs.lemmas.List.Elements.{All-head, All-push, All-tail, All-weaker}
 use Rattle.std.proofs.Math.Seq.{drop-append_seam}
-use Rattle.gptman.specs.Bytes.{part}
-use Rattle.gptman_copy.proofs.Overlays.{length-overlay}
-use Rattle.gptman_ends.specs.Plan.{Act, act_of, acts_of, are_writes_and_syncs, is_write_or_sync, step_fits, steps_fit, view_of, view_step}
+use Rattle.gptman_ends.specs.Plan.{StepFits, acts_of, bytes_after, bytes_of, step_act}
 use Rattle.gptman_ends.specs.Plan.Act.{lay, store}
 use Rattle.gptman_ends.specs.declared.records.Step.{Step}
 use Rattle.gptman_ends.proofs.Known.{part_left}
+use Rattle.gptman_ends.proofs.Middle.{AreKnown, IsActKnown, known_take, length-view}
 
--- what fits in a buffer fits in a longer one
-step_more : (size n m : ℕ) (step : Step) → n ≤ m → step_fits size n step ≡ true → step_fits size m step ≡ true
-step_more size n m step le fits =
-    let two = and_parts (leb (step.offset + step.length) size) (leb (step.start + step.length) n) fits in
-    let short : step.start + step.length ≤ n = leb-true (step.start + step.length) n two.1 in
-    and_from (leb (step.offset + step.length) size) (leb (step.start + step.length) m) two.0 (le-leb (step.start + step.length) m (omega (arith, le, short)))
+module _ (size : ℕ) (buffer more : List ℕ) where
+  -- steps that fit do so in a longer buffer,
+  pub fit_longer : (steps : List Step) → All (StepFits size (length buffer)) steps → All (StepFits size (length (buffer ++ more))) steps
+  fit_longer steps fit = All-weaker (StepFits size (length buffer)) (StepFits size (length (buffer ++ more)))
+      (λ s fits. record { on_disk = fits.on_disk; held = omega (arith, fits.held, length-append buffer more) }) steps fit
 
-steps_more : (size n m : ℕ) (steps : List Step) → n ≤ m → steps_fit size n steps ≡ true → steps_fit size m steps ≡ true
-steps_more size n m [] le fits = refl
-steps_more size n m (s ∷ steps) le fits =
-    let two = and_parts (step_fits size n s) (steps_fit size n steps) fits in
-    and_from (step_fits size m s) (steps_fit size m steps) (step_more size n m s le two.0) (steps_more size n m steps le two.1)
+  -- and do the same,
+  pub acts_longer : (steps : List Step) → All (StepFits size (length buffer)) steps → acts_of (buffer ++ more) steps ≡ acts_of buffer steps
+  acts_longer [] fit = refl
+  acts_longer (s ∷ steps) fit = λ i. one s (All-head (StepFits size (length buffer)) s steps fit) i ∷ acts_longer steps (All-tail (StepFits size (length buffer)) s steps fit) i
+    where
+      one : (s : Step) → StepFits size (length buffer) s → step_act (buffer ++ more) s ≡ step_act buffer s
+      one s fits = ap (λ (bytes : List ℕ). if nat_eq s.kind 2 then store else lay s.offset bytes) (part_left buffer more s.start s.length fits.held)
 
-pub fits_more : (bytes more : List ℕ) (size : ℕ) (steps : List Step) → steps_fit size (length bytes) steps ≡ true → steps_fit size (length (bytes ++ more)) steps ≡ true
-fits_more bytes more size steps fits = steps_more size (length bytes) (length (bytes ++ more)) steps (omega (arith, length-append bytes more)) fits
+  -- to which the step that writes all that came to the buffer adds that write
+  module _ (at : ℕ) where
+    abbrev pub write_of_more : Step
+    write_of_more = record { kind = 1; offset = at; length = length more; start = length buffer }
 
--- and one step more
-pub fits_push : (size n : ℕ) (steps : List Step) (s : Step) → steps_fit size n steps ≡ true → s.offset + s.length ≤ size → s.start + s.length ≤ n → steps_fit size n (steps ++ s ∷ []) ≡ true
-fits_push size n steps s fits on_disk held =
-    let here : step_fits size n s ≡ true = and_from (leb (s.offset + s.length) size) (leb (s.start + s.length) n) (le-leb (s.offset + s.length) size on_disk) (le-leb (s.start + s.length) n held) in
-    list_all-append (step_fits size n) steps (s ∷ []) ∙ and_from (steps_fit size n steps) (steps_fit size n (s ∷ [])) fits (and_from (step_fits size n s) true here refl)
+    pub fit_write : (steps : List Step) → All (StepFits size (length buffer)) steps → at + length more ≤ size → All (StepFits size (length (buffer ++ more))) (steps ++ write_of_more ∷ [])
+    fit_write steps fit there = All-push (StepFits size (length (buffer ++ more))) steps write_of_more (fit_longer steps fit)
+        (record { on_disk = there; held = omega (arith, length-append buffer more) })
 
--- the kinds of steps, with one more
-pub kinds_push : (steps : List Step) (s : Step) → are_writes_and_syncs steps ≡ true → is_write_or_sync s ≡ true → are_writes_and_syncs (steps ++ s ∷ []) ≡ true
-kinds_push steps s all one =
-    let last : are_writes_and_syncs (s ∷ []) ≡ true = and_from (is_write_or_sync s) true one refl in
-    list_all-append is_write_or_sync steps (s ∷ []) ∙ and_from (are_writes_and_syncs steps) (are_writes_and_syncs (s ∷ [])) all last
+    pub acts_write : (steps : List Step) → All (StepFits size (length buffer)) steps → acts_of (buffer ++ more) (steps ++ write_of_more ∷ []) ≡ acts_of buffer steps ++ lay at more ∷ []
+    acts_write steps fit =
+        let its_bytes : bytes_of (buffer ++ more) write_of_more ≡ more = ap (take (length more)) (drop-append_seam buffer more) ∙ take_all (length more) more (omega arith) in
+        map_push (step_act (buffer ++ more)) steps write_of_more ∙ (λ i. acts_longer steps fit i ++ lay at (its_bytes i) ∷ [])
 
-act_same : (bytes more : List ℕ) (size : ℕ) (s : Step) → step_fits size (length bytes) s ≡ true → act_of (bytes ++ more) s ≡ act_of bytes s
-act_same bytes more size s fits =
-    let two = and_parts (leb (s.offset + s.length) size) (leb (s.start + s.length) (length bytes)) fits in
-    let short : s.start + s.length ≤ length bytes = leb-true (s.start + s.length) (length bytes) two.1 in
-    ap (λ (p : List ℕ). act_with s p) (part_left bytes more s.start s.length short)
-  where
-    act_with : Step → List ℕ → Act
-    act_with s p = if nat_eq s.kind 2 then store else lay s.offset p
+-- ---- the length of the disk
 
--- with more bytes, the steps that fitted do the same
-pub acts_same : (bytes more : List ℕ) (size : ℕ) (steps : List Step) → steps_fit size (length bytes) steps ≡ true → acts_of (bytes ++ more) steps ≡ acts_of bytes steps
-acts_same bytes more size [] fits = refl
-acts_same bytes more size (s ∷ steps) fits =
-    let two = and_parts (step_fits size (length bytes) s) (steps_fit size (length bytes) steps) fits in
-    λ i. act_same bytes more size s two.0 i ∷ acts_same bytes more size steps two.1 i
+-- All of a disk is its first end here, so acts within it are known; and these keep its length.
+known_lay : (size at : ℕ) (bytes : List ℕ) → at + length bytes ≤ size → IsActKnown size 0 size (lay at bytes)
+known_lay size at [] there = tt
+known_lay size at (x ∷ bytes) there = inl there
 
--- a write more, of the bytes that were added
-pub acts_write : (bytes more : List ℕ) (size : ℕ) (steps : List Step) (s : Step) → steps_fit size (length bytes) steps ≡ true → s.kind ≡ 1 → s.start ≡ length bytes → s.length ≡ length more
-    → acts_of (bytes ++ more) (steps ++ s ∷ []) ≡ acts_of bytes steps ++ lay s.offset more ∷ []
-acts_write bytes more size steps s fits kind start long =
-    map_push (act_of (bytes ++ more)) steps s
-    ∙ (λ i. acts_same bytes more size steps fits i ++ last i ∷ [])
-  where
-    whole : part (bytes ++ more) s.start s.length ≡ more
-    whole = (λ i. part (bytes ++ more) (start i) (long i)) ∙ ap (λ (l : List ℕ). take (length more) l) (drop-append_seam bytes more) ∙ take_all (length more) more (omega arith)
+known_step : (size : ℕ) (buffer : List ℕ) (s : Step) → StepFits size (length buffer) s → IsActKnown size 0 size (step_act buffer s)
+known_step size buffer s fits =
+    let long : length (bytes_of buffer s) ≡ s.length = length-take-le s.length (drop s.start buffer) (omega (arith, fits.held, length-drop s.start buffer)) in
+    elim (nat_eq s.kind 2) as (λ sync. IsActKnown size 0 size (if sync then store else lay s.offset (bytes_of buffer s)))
+    [ true ↦ tt | false ↦ known_lay size s.offset (bytes_of buffer s) (omega (arith, fits.on_disk, long)) ]
 
-    last : act_of (bytes ++ more) s ≡ lay s.offset more
-    last = (λ i. if nat_eq (kind i) 2 then store else lay s.offset (whole i))
+known_steps : (size : ℕ) (buffer : List ℕ) (steps : List Step) → All (StepFits size (length buffer)) steps → AreKnown size 0 size (acts_of buffer steps)
+known_steps size buffer [] fit = tt
+known_steps size buffer (s ∷ steps) fit =
+    (known_step size buffer s (All-head (StepFits size (length buffer)) s steps fit), known_steps size buffer steps (All-tail (StepFits size (length buffer)) s steps fit))
 
--- a sync more
-pub acts_sync : (bytes : List ℕ) (steps : List Step) (s : Step) → s.kind ≡ 2 → acts_of bytes (steps ++ s ∷ []) ≡ acts_of bytes steps ++ store ∷ []
-acts_sync bytes steps s kind = map_push (act_of bytes) steps s ∙ (λ i. acts_of bytes steps ++ last i ∷ [])
-  where
-    last : act_of bytes s ≡ store
-    last = (λ i. if nat_eq (kind i) 2 then store else lay s.offset (part bytes s.start s.length))
-
--- ---- the length of a disk
-
--- the first of steps that fit
-first_fits : (size n : ℕ) (s : Step) (rest : List Step) → steps_fit size n (s ∷ rest) ≡ true → (s.offset + s.length ≤ size) × (s.start + s.length ≤ n) × (steps_fit size n rest ≡ true)
-first_fits size n s rest fits =
-    let two = and_parts (step_fits size n s) (steps_fit size n rest) fits in
-    let one = and_parts (leb (s.offset + s.length) size) (leb (s.start + s.length) n) two.0 in
-    (leb-true (s.offset + s.length) size one.0, leb-true (s.start + s.length) n one.1, two.1)
-
-length-by_kind : (view bytes : List ℕ) (s : Step) (b : Bool) → s.offset + s.length ≤ length view → s.start + s.length ≤ length bytes
-    → length (view_step view (if b then store else lay s.offset (part bytes s.start s.length))) ≡ length view
-length-by_kind view bytes s true there held = refl
-length-by_kind view bytes s false there held =
-    let long : length (part bytes s.start s.length) ≡ s.length = length-take-le s.length (drop s.start bytes) (omega (arith, held, length-drop s.start bytes)) in
-    length-overlay view s.offset (part bytes s.start s.length) (omega (arith, there, long))
-
--- Some of the steps leave a disk as long as it was, where all of them fit.
-pub length-steps : (view bytes : List ℕ) (n : ℕ) (steps : List Step) → steps_fit (length view) (length bytes) steps ≡ true → length (view_of view (take n (acts_of bytes steps))) ≡ length view
-length-steps view bytes zero steps fits = refl
-length-steps view bytes (suc n) [] fits = refl
-length-steps view bytes (suc n) (s ∷ steps) fits =
-    let parts = first_fits (length view) (length bytes) s steps fits in
-    let next : List ℕ = view_step view (act_of bytes s) in
-    let long : length next ≡ length view = length-by_kind view bytes s (nat_eq s.kind 2) parts.0 parts.1 in
-    length-steps next bytes n steps (subst (λ (m : ℕ). steps_fit m (length bytes) steps ≡ true) (sym long) parts.2) ∙ long
+-- a disk on which all steps fit is as long as ever after some of them
+pub length-stopped : (disk buffer : List ℕ) (n : ℕ) (steps : List Step) → All (StepFits (length disk) (length buffer)) steps → length (bytes_after disk (take n (acts_of buffer steps))) ≡ length disk
+length-stopped disk buffer n steps fit =
+    let size : ℕ = length disk in
+    length-view size 0 size (omega arith) disk (take n (acts_of buffer steps)) refl
+    (known_take size 0 size (omega arith) n (acts_of buffer steps) (known_steps size buffer steps fit))

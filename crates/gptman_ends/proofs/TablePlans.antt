@@ -42,7 +42,7 @@ module _ (start : List ℕ) (size : ℕ) (g : GPT) (acts : List Act) (old new : 
   laid : StartsLaidOut old g
   laid = record { honest = honest; layout = subst (λ (n : ℕ). HasLayout g n) (sym sized) layout }
 
-  left : (x : List ℕ) → LeftBy start acts 0 x → new.left_since old.clock x
+  left : (x : List ℕ) → LeftBy start acts x → new.left_since old.clock x
   left x was = subst (λ (t : ℕ). new.left_since t x) (sym (ap (λ (d : DiskState). d.clock) begins)) (after.left x was)
 
   pub written_zero : (StartsSynced old g → StopsKeepOthers old new g) → (StartsLaidOut old g → IsStored new g.sector_size (table_in g)) → IsWrittenPlan start g.sector_size (table_in g) acts
@@ -83,7 +83,7 @@ module _ (head tail : List ℕ) (size : ℕ) (apart : length head + length tail 
   four : AreRangesKnown (length head) (length tail) size (four_ranges (table_in g) g.sector_size size)
   four = places layout.table.inside
 
-  others : (y : List ℕ) → LeftBy zero acts 0 y → AgreesOutside (four_ranges (table_in g) g.sector_size size) zero y
+  others : (y : List ℕ) → LeftBy zero acts y → AgreesOutside (four_ranges (table_in g) g.sector_size size) zero y
   others y left = subst (λ (n : ℕ). AgreesOutside (four_ranges (table_in g) g.sector_size n) zero y) all ((written layout).others y left)
 
   -- they leave all bytes outside of the four ranges alone
@@ -106,9 +106,9 @@ module _ (head tail : List ℕ) (size : ℕ) (apart : length head + length tail 
   other n = copy_ranges_at backup (table_in g) g.sector_size n
 
   turns_here : IsHeaderForm primary g.header → ComesInTurns b g.sector_size (table_in g) acts
-  turns_here form = subst (λ (n : ℕ). (x : List ℕ) → LeftBy b acts 0 x → AgreesOutside (other n) b x ⊎ Holds x g.sector_size backup (table_in g)) (sym ends.long)
+  turns_here form = subst (λ (n : ℕ). (x : List ℕ) → LeftBy b acts x → AgreesOutside (other n) b x ⊎ Holds x g.sector_size backup (table_in g)) (sym ends.long)
       (turns_any head tail b size apart ends acts known (other size) g.sector_size backup (table_in g) (at_side (length head) (length tail) size g.sector_size (table_in g) backup four)
-      (subst (λ (n : ℕ). (y : List ℕ) → LeftBy zero acts 0 y → AgreesOutside (other n) zero y ⊎ Holds y g.sector_size backup (table_in g)) all (turns layout form)))
+      (subst (λ (n : ℕ). (y : List ℕ) → LeftBy zero acts y → AgreesOutside (other n) zero y ⊎ Holds y g.sector_size backup (table_in g)) all (turns layout form)))
 
   -- so one of the two places holds one of the two tables
   replaced_any : IsHeaderForm primary g.header → (was : Table) → IsReplaced b g.sector_size was (table_in g) acts

@@ -1,101 +1,123 @@
--- What the steps of a plan do to the bytes of a disk, and what a stop among them may leave.
-use Rattle.std.specs.Prelude.{◌≡◌, ◌≤◌, ◌⊎◌, ◌+◌, ◌-◌, ◌&&◌, ◌||◌, ℕ, Bool, true, nat_eq, leb, List, [], ◌∷◌, length, take, map, if◌then◌else◌}
-use Rattle.std.specs.List.{fold, list_all}
+-- The steps of a plan: what they do to the bytes of a disk, and what is left of these where they stop on the way.
+use Rattle.std.specs.Prelude.{◌≡◌, ◌<◌, ◌≤◌, ◌⊎◌, ◌+◌, ℕ, nat_eq, All, List, [], ◌∷◌, length, take, map, if◌then◌else◌}
+use Rattle.std.specs.List.{fold, slice_index_or}
 use Rattle.gptman.specs.Bytes.{part}
 use Rattle.gptman.specs.Disk.{DiskState, IsSound, AgreesOutside, overlay}
 use Rattle.gptman_ends.specs.declared.records.Step.{Step}
-use Rattle.std.proofs.Common.{inl, inr, ⊎_elim, suc, subst, sym, arith}
+use Rattle.std.proofs.Common.{inl, inr, true, suc, zero, subst, sym, arith}
+use Rattle.std.proofs.Math.Nat.{ℕ_set}
 use Rattle.std.proofs.lemmas.List.{take_all}
 
--- bytes that are laid from a byte of the disk on, or a sync
+-- What is done to a disk: bytes are laid over those from a place on, or all that was laid is stored.
 pub data Act : Type 0 where
-  lay : ℕ → List ℕ → Act
+  lay : (at : ℕ) (bytes : List ℕ) → Act
   store : Act
 
--- the act of a step, whose bytes are in the buffer
-abbrev pub act_of : List ℕ → Step → Act
-act_of bytes step = if nat_eq step.kind 2 then store else lay step.offset (part bytes step.start step.length)
+-- ---- steps
 
-abbrev pub acts_of : List ℕ → List Step → List Act
-acts_of bytes steps = map (act_of bytes) steps
+-- The step lies within a disk of so many bytes, and its own bytes within a buffer of so many.
+pub record StepFits (size filled : ℕ) (step : Step) : Type 0 where
+  pub on_disk : step.offset + step.length ≤ size
+  pub held : step.start + step.length ≤ filled
 
--- the step lies on a disk of that size, and its bytes in a buffer of so many
-abbrev pub step_fits : ℕ → ℕ → Step → Bool
-step_fits size filled step = leb (step.offset + step.length) size && leb (step.start + step.length) filled
+-- the kind is that of a write, 1, or of a sync, 2
+abbrev pub IsWriteOrSync : Step → Type 0
+IsWriteOrSync step = (step.kind ≡ 1) ⊎ (step.kind ≡ 2)
 
-abbrev pub steps_fit : ℕ → ℕ → List Step → Bool
-steps_fit size filled steps = list_all (step_fits size filled) steps
+-- the bytes of a step, from the buffer
+abbrev pub bytes_of : List ℕ → Step → List ℕ
+bytes_of buffer step = part buffer step.start step.length
 
--- the step is a write, of kind 1, or a sync, of kind 2
-abbrev pub is_write_or_sync : Step → Bool
-is_write_or_sync step = nat_eq step.kind 1 || nat_eq step.kind 2
+-- what a step does
+abbrev pub step_act : List ℕ → Step → Act
+step_act buffer step = if nat_eq step.kind 2 then store else lay step.offset (bytes_of buffer step)
 
-abbrev pub are_writes_and_syncs : List Step → Bool
-are_writes_and_syncs steps = list_all is_write_or_sync steps
+-- what steps do, one after the other
+abbrev pub acts_of : (buffer : List ℕ) (steps : List Step) → List Act
+acts_of buffer steps = map (step_act buffer) steps
 
-abbrev pub view_step : List ℕ → Act → List ℕ
-view_step view (lay at bytes) = overlay view at bytes
-view_step view store = view
+-- ---- the disk
 
-abbrev pub pending_step : List (ℕ × ℕ) → Act → List (ℕ × ℕ)
-pending_step pending (lay at bytes) = (at, length bytes) ∷ pending
-pending_step pending store = []
+-- what a read gives after an act, where it gave these bytes before
+abbrev pub bytes_with : List ℕ → Act → List ℕ
+bytes_with old (lay at bytes) = overlay old at bytes
+bytes_with old store = old
 
--- the bytes that a read gives after these acts
-abbrev pub view_of : List ℕ → List Act → List ℕ
-view_of start acts = fold view_step start acts
+-- the ranges that a stop may leave otherwise after an act, each a start and a length, where these were before
+abbrev pub pending_with : List (ℕ × ℕ) → Act → List (ℕ × ℕ)
+pending_with ranges (lay at bytes) = (at, length bytes) ∷ ranges
+pending_with ranges store = []
 
--- the ranges that are pending after them, the newest first
-abbrev pub pending_of : List Act → List (ℕ × ℕ)
-pending_of acts = fold pending_step [] acts
+-- what a read gives after all of the acts
+abbrev pub bytes_after : (start : List ℕ) (acts : List Act) → List ℕ
+bytes_after start acts = fold bytes_with start acts
 
--- b is what a stop may leave after some of the acts, at least t of them
-pub record LeftBy (start : List ℕ) (acts : List Act) (t : ℕ) (b : List ℕ) : Type 0 where
+-- what is not stored then, the newest first
+abbrev pub pending_after : List Act → List (ℕ × ℕ)
+pending_after acts = fold pending_with [] acts
+
+-- ---- stops
+
+-- A stop right after the acts, or within the last of them, may leave b: what a read gives, but for what is not stored.
+abbrev pub IsImage : List ℕ → List Act → List ℕ → Type 0
+IsImage start acts b = AgreesOutside (pending_after acts) (bytes_after start acts) b
+
+-- A stop among the acts may leave b: some of them were done.
+pub record LeftBy (start : List ℕ) (acts : List Act) (b : List ℕ) : Type 0 where
   pub after : ℕ
-  pub since : t ≤ after
-  pub until : after ≤ length acts
-  pub image : AgreesOutside (pending_of (take after acts)) (view_of start (take after acts)) b
+  pub among : after ≤ length acts
+  pub image : IsImage start (take after acts) b
 
--- What a stop may leave since a moment of a clock that begins at 1. At moment 0 stands the start, behind a byte, which no stop leaves: so two starts differ there.
-abbrev pub LeftSince : List ℕ → List Act → ℕ → List ℕ → Type 0
-LeftSince start acts t b = ((t ≡ 0) × (b ≡ 0 ∷ start)) ⊎ LeftBy start acts (t - 1) b
+-- At this moment of the clock b may be left. The clock begins at 1, and each act takes a moment. At moment 0 stands the start itself, behind a byte, which no stop
+-- leaves: so two starts differ there.
+abbrev pub IsLeftAt : List ℕ → List Act → ℕ → List ℕ → Type 0
+IsLeftAt start acts zero b = b ≡ 0 ∷ start
+IsLeftAt start acts (suc n) b = (n ≤ length acts) × IsImage start (take n acts) b
 
--- an honest disk of these bytes after the acts
-abbrev pub plan_state : List ℕ → List Act → ℕ → ℕ → ℕ → DiskState
-plan_state start acts size position failures = record {
-  size = size;
-  position = position;
-  view = view_of start acts;
-  pending = pending_of acts;
-  failures = failures;
+-- at some moment from t on
+pub record LeftSince (start : List ℕ) (acts : List Act) (t : ℕ) (b : List ℕ) : Type 0 where
+  pub moment : ℕ
+  pub since : t ≤ moment
+  pub left : IsLeftAt start acts moment b
+
+-- the disk after the acts, which is honest: all that it leaves is told by them
+abbrev pub plan_state : (start : List ℕ) (acts : List Act) (long at failed : ℕ) → DiskState
+plan_state start acts long at failed = record {
+  size = long;
+  position = at;
+  view = bytes_after start acts;
+  pending = pending_after acts;
+  failures = failed;
   clock = suc (length acts);
   left_since = LeftSince start acts;
   is_honest = true;
 }
 
--- a list that a stop may leave was left since each moment before
-pub left_earlier : (start : List ℕ) (acts : List Act) (t u : ℕ) (b : List ℕ) → t ≤ u → LeftSince start acts u b → LeftSince start acts t b
-left_earlier start acts t u b le (inl first) = inl (omega (arith, le, first.0), first.1)
-left_earlier start acts t u b le (inr left) = inr (record { after = left.after; since = omega (arith, le, left.since); until = left.until; image = left.image })
+-- ---- laws
 
--- the laws of an honest disk
-pub plan_sound : (start : List ℕ) (acts : List Act) (s p f : ℕ) → length (view_of start acts) ≡ s → IsSound (plan_state start acts s p f)
-plan_sound start acts s p f long = record {
-  size = λ i. long i;
-  counts_now = λ t b le image. inr (record {
-    after = length acts;
-    since = omega (arith, le);
-    until = omega arith;
-    image = subst (λ (l : List Act). AgreesOutside (pending_of l) (view_of start l) b) (sym whole) image;
-  });
-  only_now = λ b left. ⊎_elim (λ first. absurd (omega (arith, first.0))) (λ is. last_image b is) left;
-  earlier = left_earlier start acts;
+-- There is one reason at most why the kinds are right, so that a struct may keep it.
+pub kinds-prop : (steps : List Step) → IsProp (All IsWriteOrSync steps)
+kinds-prop steps p q = λ i k d below. one (slice_index_or steps k d).kind (p k d below) (q k d below) i
+  where
+    one : (kind : ℕ) → IsProp ((kind ≡ 1) ⊎ (kind ≡ 2))
+    one kind (inl a) (inl b) = λ i. inl (ℕ_set kind 1 a b i)
+    one kind (inl a) (inr b) = absurd (omega (arith, a, b))
+    one kind (inr a) (inl b) = absurd (omega (arith, a, b))
+    one kind (inr a) (inr b) = λ i. inr (ℕ_set kind 2 a b i)
+
+-- What stands at the last moment is an image of now.
+pub left_now : (start : List ℕ) (acts : List Act) (moment : ℕ) (b : List ℕ) → length acts < moment → IsLeftAt start acts moment b → IsImage start acts b
+left_now start acts zero b last left = absurd (omega (arith, last))
+left_now start acts (suc n) b last left = subst (λ (l : List Act). IsImage start l b) (take_all n acts (omega (arith, last))) left.1
+
+-- the laws of a disk that is honest
+pub plan_sound : (start : List ℕ) (acts : List Act) (long at failed : ℕ) → length (bytes_after start acts) ≡ long → IsSound (plan_state start acts long at failed)
+plan_sound start acts long at failed is_long = record {
+  size = is_long;
+  counts_now = λ t b until image. record { moment = suc (length acts); since = until; left = (omega arith, subst (λ (l : List Act). IsImage start l b) (sym all) image) };
+  only_now = λ b was. left_now start acts was.moment b (omega (arith, was.since)) was.left;
+  earlier = λ t u b le was. record { moment = was.moment; since = omega (arith, le, was.since); left = was.left };
 }
   where
-    whole : take (length acts) acts ≡ acts
-    whole = take_all (length acts) acts (omega arith)
-
-    last_image : (b : List ℕ) → LeftBy start acts (suc (length acts) - 1) b → AgreesOutside (pending_of acts) (view_of start acts) b
-    last_image b left =
-        let last : length acts ≤ left.after = omega (arith, left.since) in
-        subst (λ (l : List Act). AgreesOutside (pending_of l) (view_of start l) b) (take_all left.after acts last) left.image
+    all : take (length acts) acts ≡ acts
+    all = take_all (length acts) acts (omega arith)

@@ -15,7 +15,7 @@ use Rattle.gptman_copy.specs.declared.codec.header.GPTHeader.{GPTHeader}
 use Rattle.gptman.specs.declared.table.GPT.{GPT}
 use Rattle.gptman_ends.specs.Crossing.{content_in, content_of, four_ranges}
 use Rattle.gptman_ends.specs.Faults.{fault_number}
-use Rattle.gptman_ends.specs.Plan.{Act, LeftBy, acts_of, pending_of, view_of}
+use Rattle.gptman_ends.specs.Plan.{Act, LeftBy, acts_of, pending_after, bytes_after}
 use Rattle.gptman_ends.specs.Reading.{IsLack, OfEvery}
 use Rattle.gptman_ends.specs.declared.planning.Refusal.{Refusal}
 use Rattle.gptman_ends.specs.declared.planning.Refusal.TheVariants.{BadArgument, Refused, Lacks, OtherLength, OtherLayout}
@@ -30,11 +30,11 @@ rewritten copy partitions = record (table_of copy.header copy.entries) { entries
 -- A stop among or within these acts leaves the old table or the next one at one place at least, and all bytes outside of the four ranges as they were. After all
 -- of them both places hold the next one, and nothing is pending.
 pub record IsSafePlan (start : List ℕ) (ss : ℕ) (was next : Table) (acts : List Act) : Type 0 where
-  pub stops : (x : List ℕ) → LeftBy start acts 0 x → HoldsOneOf x ss (was ∷ next ∷ [])
-  pub others : (x : List ℕ) → LeftBy start acts 0 x → AgreesOutside (four_ranges next ss (length start)) start x
-  pub synced : pending_of acts ≡ []
-  pub at_primary : Holds (view_of start acts) ss primary next
-  pub at_backup : Holds (view_of start acts) ss backup next
+  pub stops : (x : List ℕ) → LeftBy start acts x → HoldsOneOf x ss (was ∷ next ∷ [])
+  pub others : (x : List ℕ) → LeftBy start acts x → AgreesOutside (four_ranges next ss (length start)) start x
+  pub synced : pending_after acts ≡ []
+  pub at_primary : Holds (bytes_after start acts) ss primary next
+  pub at_backup : Holds (bytes_after start acts) ss backup next
 
 -- The acts write the table that a disk of these bytes is read as, with these for its entries, safely; the copy that is read is in the form of its place, and its
 -- table has the stated layout.
@@ -181,19 +181,19 @@ IsNewRefusal head tail size ss count guid refusal = IsRefusal (StopsNew count gu
 
 -- After all of these acts both places hold the table, and nothing is pending; a stop among or within them leaves all bytes outside of its four ranges as they were.
 pub record IsWrittenPlan (start : List ℕ) (ss : ℕ) (next : Table) (acts : List Act) : Type 0 where
-  pub others : (x : List ℕ) → LeftBy start acts 0 x → AgreesOutside (four_ranges next ss (length start)) start x
-  pub synced : pending_of acts ≡ []
-  pub at_primary : Holds (view_of start acts) ss primary next
-  pub at_backup : Holds (view_of start acts) ss backup next
+  pub others : (x : List ℕ) → LeftBy start acts x → AgreesOutside (four_ranges next ss (length start)) start x
+  pub synced : pending_after acts ≡ []
+  pub at_primary : Holds (bytes_after start acts) ss primary next
+  pub at_backup : Holds (bytes_after start acts) ss backup next
 
 -- A stop among or within these acts leaves all bytes but those of the table's backup copy as they were, or that copy whole.
 abbrev pub ComesInTurns : List ℕ → ℕ → Table → List Act → Type 0
-ComesInTurns start ss next acts = (x : List ℕ) → LeftBy start acts 0 x → AgreesOutside (copy_ranges_at backup next ss (length start)) start x ⊎ Holds x ss backup next
+ComesInTurns start ss next acts = (x : List ℕ) → LeftBy start acts x → AgreesOutside (copy_ranges_at backup next ss (length start)) start x ⊎ Holds x ss backup next
 
 -- A table that the primary place holds, clear of the other copy of the new one, is not lost before that one is there.
 abbrev pub IsReplaced : List ℕ → ℕ → Table → Table → List Act → Type 0
 IsReplaced start ss was next acts = Holds start ss primary was → AreClear (copy_ranges_at primary was ss (length start)) (copy_ranges_at backup next ss (length start))
-    → (x : List ℕ) → LeftBy start acts 0 x → HoldsOneOf x ss (was ∷ next ∷ [])
+    → (x : List ℕ) → LeftBy start acts x → HoldsOneOf x ss (was ∷ next ∷ [])
 
 -- The acts write the table of this value, which has the stated layout; and a table that is replaced is not lost, where the value has a primary header.
 pub record IsTablePlan (start : List ℕ) (g : GPT) (acts : List Act) : Type 0 where
@@ -224,7 +224,7 @@ pub record IsFitPlan (start : List ℕ) (ss : ℕ) (acts : List Act) : Type 0 wh
   pub taken : reading_of start ss ≡ Ok copy
   pub stated : IsStatedToFit start ss copy
   pub written : IsWrittenPlan start ss (fitted copy ss (length start)) acts
-  pub stops : taken_from start ss ≡ primary → (x : List ℕ) → LeftBy start acts 0 x
+  pub stops : taken_from start ss ≡ primary → (x : List ℕ) → LeftBy start acts x
       → HoldsOneOf x ss (table_of copy.header copy.entries ∷ fitted copy ss (length start) ∷ [])
 
 -- The copy that is read is not in the form of its place, or the fitted table has not the stated layout.

@@ -1,7 +1,7 @@
 //! The steps of a plan, with their bytes.
 
-ghost use Rattle.std.specs.Prelude.{◌≡◌, ◌≤◌, ◌<◌, ◌⊎◌, ◌+◌, [], ◌∷◌, ◌++◌, length, take, true, false};
-ghost use Rattle.gptman_ends.specs.Plan.{acts_of, are_writes_and_syncs, steps_fit};
+ghost use Rattle.std.specs.Prelude.{◌≡◌, ◌≤◌, ◌<◌, ◌⊎◌, ◌+◌, [], ◌∷◌, ◌++◌, All, length, take, true, false};
+ghost use Rattle.gptman_ends.specs.Plan.{acts_of, kinds-prop, IsWriteOrSync, StepFits};
 ghost use Rattle.gptman_ends.specs.Plan.Act.{lay, store};
 
 use crate::records::Step;
@@ -13,8 +13,8 @@ pub struct Record {
     pub size: u64,
     pub steps: Vec<Step>,
     pub bytes: Vec<u8>,
-    ghost held: { steps_fit size (length bytes.items) steps.items ≡ true },
-    ghost kinds: { are_writes_and_syncs steps.items ≡ true },
+    ghost held: { All (StepFits size (length bytes.items)) steps.items },
+    ghost kinds: { All IsWriteOrSync steps.items } by { kinds-prop steps.items },
 }
 
 impl Record {
@@ -77,10 +77,10 @@ impl Record {
             ≡ acts_of self.now.bytes.items self.now.steps.items }
         ensures fits { result ≡ true → (length self.now.steps.items ≤ length steps.new)
             × (length self.now.bytes.items ≤ length bytes.new) }
-        ensures steps_fit { result ≡ true → steps_fit self.now.size (length self.now.bytes.items)
-            (take (length self.now.steps.items) steps.new) ≡ true }
+        ensures steps_fit { result ≡ true → All (StepFits self.now.size (length self.now.bytes.items))
+            (take (length self.now.steps.items) steps.new) }
         ensures kinds { result ≡ true
-            → are_writes_and_syncs (take (length self.now.steps.items) steps.new) ≡ true }
+            → All IsWriteOrSync (take (length self.now.steps.items) steps.new) }
         ensures room { result ≡ false → (length steps.old < length self.now.steps.items)
             ⊎ (length bytes.old < length self.now.bytes.items) }
         ensures steps { result ≡ false → steps.new ≡ steps.old }

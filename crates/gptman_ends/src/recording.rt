@@ -3,7 +3,7 @@
 
 ghost use Rattle.std.specs.Prelude.{◌≡◌, ◌≤◌, ◌<◌, ◌+◌, ◌^◌, [], length};
 ghost use Rattle.gptman_ends.specs.Ends.{disk_bytes};
-ghost use Rattle.gptman_ends.specs.Plan.{acts_of, plan_sound, plan_state, view_of};
+ghost use Rattle.gptman_ends.specs.Plan.{acts_of, plan_sound, plan_state, bytes_after};
 
 use crate::record::Record;
 use gptman::Disk;
@@ -20,7 +20,7 @@ pub struct Recorder<'a> {
     pub position: u64,
     // How often there was no memory for a step.
     pub failures: u64,
-    ghost long: { length (view_of (disk_bytes head.now tail.now plan.size)
+    ghost long: { length (bytes_after (disk_bytes head.now tail.now plan.size)
         (acts_of plan.bytes.items plan.steps.items)) ≡ plan.size },
     ghost apart: { length head.now + length tail.now ≤ plan.size },
     ghost small: { plan.size < 2 ^ 64 },
