@@ -2,10 +2,10 @@
 
 use super::{first, second};
 use crate::asserts::{Host, assert_used, got};
-use crate::fixtures::{image_of, put_entry, remove};
+use crate::fixtures::{image_of, partition, put_entry, remove};
 use crate::searches::{Search, assert_found, assert_maximum};
-use gptman::GPT;
-use gptman_fixtures::calls::sort;
+use gptman::{Edit, GPT};
+use gptman_fixtures::calls::{apply, sort};
 
 #[test]
 fn add_partition_left(rt: HostRuntime) {
@@ -52,8 +52,10 @@ fn add_partition_optimal_aligned(rt: HostRuntime) {
 
 // The first disk's table with "Baz", under this number, where there is a place for it.
 fn with_baz(rt: &impl Host, number: u32) -> GPT {
+    let mut baz = partition(rt, ("Baz", 1), (44, 47));
+    baz.partition_type_guid = [1; 16];
     let mut table = first(rt);
-    put_entry(rt, &mut table, number, ("Baz", 1), (44, 47));
+    got(rt, apply(&mut table, Edit::Put(number, baz)));
     table
 }
 
