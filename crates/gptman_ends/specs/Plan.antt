@@ -43,7 +43,7 @@ abbrev pub bytes_with : List ℕ → Act → List ℕ
 bytes_with old (lay at bytes) = overlay old at bytes
 bytes_with old store = old
 
--- the ranges that a stop may leave otherwise after an act, each a start and a length, where these were before
+-- the ranges, each a start and a length, of which a stop after an act may leave anything, where it might of these before
 abbrev pub pending_with : List (ℕ × ℕ) → Act → List (ℕ × ℕ)
 pending_with ranges (lay at bytes) = (at, length bytes) ∷ ranges
 pending_with ranges store = []
@@ -52,13 +52,13 @@ pending_with ranges store = []
 abbrev pub bytes_after : (start : List ℕ) (acts : List Act) → List ℕ
 bytes_after start acts = fold bytes_with start acts
 
--- what is not stored then, the newest first
+-- the ranges of which a stop may leave anything then, the newest first
 abbrev pub pending_after : List Act → List (ℕ × ℕ)
 pending_after acts = fold pending_with [] acts
 
 -- ---- stops
 
--- A stop right after the acts, or within the last of them, may leave b: what a read gives, but for what is not stored.
+-- A stop right after the acts, or within the last of them, may leave b: what a read gives, but for what is pending.
 abbrev pub IsImage : List ℕ → List Act → List ℕ → Type 0
 IsImage start acts b = AgreesOutside (pending_after acts) (bytes_after start acts) b
 
@@ -80,7 +80,7 @@ pub record LeftSince (start : List ℕ) (acts : List Act) (t : ℕ) (b : List �
   pub since : t ≤ moment
   pub left : IsLeftAt start acts moment b
 
--- the disk after the acts, which is honest: all that it leaves is told by them
+-- An honest disk that had the bytes `start` at first, after the acts.
 abbrev pub plan_state : (start : List ℕ) (acts : List Act) (long at failed : ℕ) → DiskState
 plan_state start acts long at failed = record {
   size = long;
@@ -95,7 +95,7 @@ plan_state start acts long at failed = record {
 
 -- ---- laws
 
--- There is one reason at most why the kinds are right, so that a struct may keep it.
+-- There is at most one proof that the kinds are right, as a ghost field wants it.
 pub kinds-prop : (steps : List Step) → IsProp (All IsWriteOrSync steps)
 kinds-prop steps p q = λ i k d below. one (slice_index_or steps k d).kind (p k d below) (q k d below) i
   where
@@ -110,7 +110,7 @@ pub left_now : (start : List ℕ) (acts : List Act) (moment : ℕ) (b : List ℕ
 left_now start acts zero b last left = absurd (omega (arith, last))
 left_now start acts (suc n) b last left = subst (λ (l : List Act). IsImage start l b) (take_all n acts (omega (arith, last))) left.1
 
--- the laws of a disk that is honest
+-- It keeps the laws of an honest disk.
 pub plan_sound : (start : List ℕ) (acts : List Act) (long at failed : ℕ) → length (bytes_after start acts) ≡ long → IsSound (plan_state start acts long at failed)
 plan_sound start acts long at failed is_long = record {
   size = is_long;

@@ -1,10 +1,9 @@
 -- A layout that asks something of one used entry.
 use Prim.Native.Nat.{◌∣◌}
-use Rattle.std.proofs.Common.{◌≡◌, ◌≢◌, ◌≤◌, ◌<◌, ◌⊎◌, inl, inr, ℕ, ◌+◌, ◌-◌, List, [], ◌∷◌, refl, sym, ap, ◌∙◌, subst, arith, zero, suc, IsTrue, Bool, true, false, length}
-use Rattle.std.specs.Prelude.{Option, Some, None, Result, Ok, Err, OnOk, All, Contains, get_or, nat_eq, nat_le, ◌&&◌, if◌then◌else◌}
+use Rattle.std.proofs.Common.{◌≡◌, ◌≢◌, ◌≤◌, ◌<◌, ◌⊎◌, inl, inr, ℕ, ◌+◌, ◌-◌, List, [], ◌∷◌, refl, sym, ap, ◌∙◌, subst, arith, suc, IsTrue, Bool, true, false, length}
+use Rattle.std.specs.Prelude.{Option, Some, None, Result, Ok, Err, All, Contains, nat_eq, nat_le, ◌&&◌, if◌then◌else◌}
 use Rattle.std.proofs.lemmas.Bool.{eqb-true, eqb-false, leb-true}
 use Rattle.std.proofs.lemmas.List.{get_or_default, length-set}
-use Rattle.std.proofs.lemmas.Result.{on_ok_weaker}
 use Rattle.gptman.specs.Coding.{empty_entry}
 use Rattle.gptman.specs.Entry.{covers, is_unused, is_used}
 use Rattle.gptman.specs.Number.{entry_at, entry_of_number, with_entry}
@@ -15,8 +14,8 @@ use Rattle.gptman_copy.specs.declared.codec.header.GPTHeader.{GPTHeader}
 use Rattle.gptman_copy.specs.declared.codec.name.PartitionName.{PartitionName}
 use Rattle.gptman.specs.declared.table.GPT.{GPT}
 use Rattle.gptedit_core.specs.Laying.{align_asked, IsLaid}
-use Rattle.gptedit_core.specs.Named.{AreThere, BeginsThere, IsLengthened, IsThere, IsUnnamed, LayoutsChangeNamed, LayoutsOnlyLengthen, StaysAs}
-use Rattle.gptedit_core.specs.Placing.{AreFreeBehind, IsBlocked, IsSpan}
+use Rattle.gptedit_core.specs.Named.{AreThere, IsLengthened, IsThere, IsUnnamed, LayoutsChangeNamed, LayoutsOnlyLengthen, StaysAs}
+use Rattle.gptedit_core.specs.Placing.{AreFreeBehind, IsSpan}
 use Rattle.gptedit_core.specs.Resolving.{and_then, entry_asked, nothing_of, number_asked, partition_at, place_asked, resolved, resolved_all, unless, use_fault, used_at}
 use Rattle.gptedit_core.specs.declared.amount.Amount.{Amount}
 use Rattle.gptedit_core.specs.declared.amount.Amount.TheVariants.{Sectors}
@@ -29,7 +28,6 @@ use Rattle.gptedit_core.specs.declared.place.Place.{Place}
 use Rattle.gptedit_core.specs.declared.place.Place.TheVariants.{At}
 use Rattle.gptedit_core.specs.declared.refusal.Refusal.{Refusal}
 use Rattle.gptedit_core.specs.declared.refusal.Refusal.TheVariants.{NoAlignment, NoType}
-use Rattle.gptedit_core.specs.declared.refusal.Stop.{Stop}
 use Rattle.gptedit_core.specs.declared.resolve.Partition.{Partition}
 use Rattle.gptedit_core.proofs.Again.{given, of_by, unnamed_more}
 use Rattle.gptedit_core.proofs.Dumped.{at_number}

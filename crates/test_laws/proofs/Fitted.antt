@@ -1,5 +1,5 @@
 -- What is told of a table that was fitted to its disk.
-use Rattle.std.proofs.Common.{◌≡◌, ◌≢◌, ℕ, Bool, true, false, refl, sym, ap, ◌∙◌, subst}
+use Rattle.std.proofs.Common.{◌≡◌, ℕ, Bool, true, false, refl, sym, subst}
 use Rattle.std.specs.Prelude.{Option, Result, IfOk}
 use Rattle.std.specs.Bool.{Decides}
 use Rattle.std.proofs.lemmas.Bool.Decides.{not_from_Decides}
@@ -9,14 +9,13 @@ use Rattle.gptman.specs.declared.table.GPT.{GPT}
 use Rattle.gptman.proofs.Equal.{table_decides}
 use Rattle.gptman_change.specs.Changes.{AnswersChange}
 use Rattle.gptman_change.specs.Changes.AnswersChange.{is_left, is_written}
-use Rattle.gptedit_core.specs.Growing.{EndsAt, GrowthsLeaveEnds, GrowthsReachEnd, IsGrown, IsLeftGrown, IsWrittenGrown, RefusesGrowth, UsualBoundsReachEnd}
-use Rattle.gptedit_core.specs.Planning.{Differs, IsLeftAs, IsWrittenAs}
+use Rattle.gptedit_core.specs.Growing.{EndsAt, GrowthsLeaveEnds, GrowthsReachEnd, IsGrown, IsLeftGrown, IsWrittenGrown, UsualBoundsReachEnd}
+use Rattle.gptedit_core.specs.Planning.{Differs}
 use Rattle.gptedit_core.specs.Planning.IsLeftAs.{is_dry, is_refused, is_unchanged}
 use Rattle.gptedit_core.specs.declared.growth.Bounds.{Bounds}
 use Rattle.gptedit_core.specs.declared.growth.Bounds.TheVariants.{Kept, Usual}
 use Rattle.gptedit_core.specs.declared.growth.Growth.{Growth}
 use Rattle.gptedit_core.specs.declared.plan.Outcome.{Outcome}
-use Rattle.gptedit_core.specs.declared.plan.Outcome.TheVariants.{Changed, Refused, Unchanged}
 use Rattle.test_laws.specs.Told.{HasAllUsable, IsOnDisk, TellsFit, TellsWide}
 
 -- ---- tables that do not differ

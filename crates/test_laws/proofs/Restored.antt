@@ -7,7 +7,7 @@ use Rattle.gptman.specs.Table.{entries_in}
 use Rattle.gptman.specs.Valid.{IsValid}
 use Rattle.gptman.specs.declared.table.GPT.{GPT}
 use Rattle.gptedit_core.specs.Dumping.{IsLayoutOf}
-use Rattle.gptedit_core.specs.Laying.{RefusesAsked, RefusesLaying}
+use Rattle.gptedit_core.specs.Laying.{RefusesLaying}
 use Rattle.gptedit_core.specs.Named.{LayoutsAreTaken}
 use Rattle.gptedit_core.specs.Planning.{RefusesJob}
 use Rattle.gptedit_core.specs.Planning.RefusesRequest.{not_done}
@@ -15,7 +15,6 @@ use Rattle.gptedit_core.specs.declared.asked.Layout.{Layout}
 use Rattle.gptedit_core.specs.declared.plan.Job.{Job}
 use Rattle.gptedit_core.specs.declared.plan.Job.TheVariants.{Lay}
 use Rattle.gptedit_core.specs.declared.plan.Request.{Request}
-use Rattle.gptedit_core.specs.declared.refusal.Refusal.{Refusal}
 use Rattle.gptedit_core.specs.declared.refusal.Stop.{Stop}
 use Rattle.gptedit_core.specs.declared.refusal.Stop.TheVariants.{Failed, Refused}
 use Rattle.test_laws.specs.Changed.{IsForMemory}

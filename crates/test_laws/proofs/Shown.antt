@@ -1,5 +1,5 @@
 -- The words of a command that only reads.
-use Rattle.std.proofs.Common.{◌≡◌, ◌<◌, ◌^◌, ℕ, List, [], ◌∷◌, true, sym, subst}
+use Rattle.std.proofs.Common.{◌≡◌, ◌<◌, ◌^◌, ℕ, List, true, sym, subst}
 use Rattle.std.specs.Prelude.{Some, Result, Ok, Err, OnOk}
 use Rattle.gptimg_core.specs.Asks.{writes}
 use Rattle.gptimg_core.specs.Spelling.{spell, IsAllowed, IsSpelled}

@@ -1,21 +1,16 @@
 -- What is asked for twice changes nothing the second time.
-use Rattle.std.proofs.Common.{◌≡◌, ◌≢◌, ◌<◌, ◌≤◌, ℕ, Bool, true, false, List, length, refl, sym, ap, ◌∙◌, subst}
-use Rattle.gptman.specs.Number.{with_entries}
+use Rattle.std.proofs.Common.{◌≡◌, ◌≢◌, ◌<◌, ◌≤◌, ℕ, List, length, sym, ap, ◌∙◌, subst}
 use Rattle.gptman.specs.declared.table.GPT.{GPT}
-use Rattle.gptman.specs.Table.{grow_to}
-use Rattle.gptedit_core.specs.Growing.{with_first, EndsAt, GrowthsStay, IsFitted, IsGrown, IsLeftGrown, IsWrittenGrown, RefusesGrown, RefusesGrowth}
+use Rattle.gptedit_core.specs.Growing.{EndsAt, GrowthsStay, IsFitted, IsGrown, IsLeftGrown, IsWrittenGrown, RefusesGrown, RefusesGrowth}
 use Rattle.gptedit_core.specs.Growing.IsFitted.{follows, is_usual, stays}
 use Rattle.gptedit_core.specs.Growing.RefusesGrown.{grown_not_laid_out, grown_not_written}
 use Rattle.gptedit_core.specs.Growing.RefusesGrowth.{ends_elsewhere, not_grown, too_small}
-use Rattle.gptedit_core.specs.Laying.{IsLaid}
-use Rattle.gptedit_core.specs.Named.{IsAgain, LayoutsAreTakenAgain, LayoutsStay}
+use Rattle.gptedit_core.specs.Named.{LayoutsAreTakenAgain, LayoutsStay}
 use Rattle.gptedit_core.specs.Planning.{asks_random, has_random, IsDone, IsLeft, IsNeeded, IsPlanned, IsWritten, RefusesCheck}
 use Rattle.gptedit_core.specs.Planning.RefusesCheck.{boundaries, shared}
 use Rattle.gptedit_core.specs.Planning.IsLeftAs.{is_dry, is_refused, is_unchanged}
 use Rattle.gptedit_core.specs.declared.asked.Asked.{Asked}
-use Rattle.gptedit_core.specs.declared.asked.Layout.{Layout}
 use Rattle.gptedit_core.specs.declared.growth.Bounds.{Bounds}
-use Rattle.gptedit_core.specs.declared.growth.Bounds.TheVariants.{Kept, Usual}
 use Rattle.gptedit_core.specs.declared.growth.Growth.{Growth}
 use Rattle.gptedit_core.specs.declared.plan.Job.{Job}
 use Rattle.gptedit_core.specs.declared.plan.Job.TheVariants.{Lay, Sort, Rewrite}

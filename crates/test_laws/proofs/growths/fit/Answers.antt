@@ -1,4 +1,3 @@
-use Rattle.std.proofs.Common.{ℕ}
 use Rattle.gptman.specs.Disk.{DiskState}
 use Rattle.gptedit_core.specs.declared.growth.Bounds.TheVariants.{Kept}
 use Rattle.test_laws.proofs.Fitted.{all_fit, all_on_disk}

@@ -1,8 +1,8 @@
-use Rattle.std.proofs.Common.{◌≡◌, ℕ, subst}
+use Rattle.std.proofs.Common.{ℕ, subst}
 use Rattle.gptman.specs.declared.table.GPT.{GPT}
 use Rattle.gptman_change.specs.Planning.{IsPlannedAs}
 use Rattle.gptman_change.specs.declared.Planned.{Planned}
-use Rattle.gptedit_core.specs.Growing.{IsGrown, IsLeftGrown, IsWrittenGrown}
+use Rattle.gptedit_core.specs.Growing.{IsLeftGrown, IsWrittenGrown}
 use Rattle.gptedit_core.specs.declared.growth.Growth.{Growth}
 use Rattle.gptedit_core.specs.declared.plan.Outcome.{Outcome}
 use Rattle.test_laws.proofs.Twice.{growth_left, growth_written}

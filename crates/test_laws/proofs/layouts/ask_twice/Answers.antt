@@ -1,8 +1,8 @@
-use Rattle.std.proofs.Common.{◌≡◌, ◌<◌, ℕ, subst, sym}
+use Rattle.std.proofs.Common.{◌<◌, ℕ, subst, sym}
 use Rattle.gptman.specs.declared.table.GPT.{GPT}
 use Rattle.gptman_change.specs.Planning.{IsPlannedAs}
 use Rattle.gptman_change.specs.declared.Planned.{Planned}
-use Rattle.gptedit_core.specs.Planning.{IsLeft, IsPlanned, IsWritten}
+use Rattle.gptedit_core.specs.Planning.{IsLeft, IsWritten}
 use Rattle.gptedit_core.specs.declared.plan.Outcome.{Outcome}
 use Rattle.gptedit_core.specs.declared.plan.Request.{Request}
 use Rattle.test_laws.proofs.Twice.{planned_align, told_left, told_written}
