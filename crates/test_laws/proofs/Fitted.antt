@@ -9,7 +9,7 @@ use Rattle.gptman.specs.declared.table.GPT.{GPT}
 use Rattle.gptman.proofs.Equal.{table_decides}
 use Rattle.gptman_change.specs.Changes.{AnswersChange}
 use Rattle.gptman_change.specs.Changes.AnswersChange.{is_left, is_written}
-use Rattle.gptedit_core.specs.Growing.{EndsAt, GrowthsLeaveEnds, GrowthsReachEnd, IsGrown, IsLeftGrown, IsWrittenGrown, UsualBoundsReachEnd}
+use Rattle.gptedit_core.specs.Growing.{EndsAt, GrowthsKeepFirst, GrowthsLeaveEnds, GrowthsReachEnd, IsGrown, IsLeftGrown, IsWrittenGrown, UsualBoundsReachEnd}
 use Rattle.gptedit_core.specs.Planning.{Differs}
 use Rattle.gptedit_core.specs.Planning.IsLeftAs.{is_dry, is_refused, is_unchanged}
 use Rattle.gptedit_core.specs.declared.growth.Bounds.{Bounds}
@@ -35,10 +35,13 @@ ends_there bounds len g next is = record { low = is.layout.table.low_sector; hig
 abbrev pub keeping : Growth
 keeping = record { bounds = Kept; is_dry = false }
 
-module _ (reach : GrowthsReachEnd) (leave : GrowthsLeaveEnds) (len : ℕ) where
+module _ (reach : GrowthsReachEnd) (leave : GrowthsLeaveEnds) (keep : GrowthsKeepFirst) (len : ℕ) where
   fit_written : (g next : GPT) (told : Outcome) → IsWrittenGrown keeping len g next told → TellsFit len told
   fit_written g next told is =
-      subst (TellsFit len) (sym is.told) (reach len g next is.planned (λ ends. is.needed (sym (leave len g next is.planned ends))))
+      subst (TellsFit len) (sym is.told) (record {
+        reaches = reach len g next is.planned (λ ends. is.needed (sym (leave len g next is.planned ends)));
+        first = keep len g next is.planned;
+      })
 
   fit_left : (g : GPT) (told : Outcome) → IsLeftGrown keeping len g told → TellsFit len told
   fit_left g told (is_refused r why is) = subst (TellsFit len) (sym is) why

@@ -1,6 +1,6 @@
 -- The words of a command that only reads.
-use Rattle.std.proofs.Common.{◌≡◌, ◌<◌, ◌^◌, ℕ, List, true, sym, subst}
-use Rattle.std.specs.Prelude.{Some, Result, Ok, Err, OnOk}
+use Rattle.std.proofs.Common.{◌≡◌, ◌<◌, ◌^◌, ℕ, List, Bool, true, false, refl, sym, subst}
+use Rattle.std.specs.Prelude.{IsTrue, Some, Result, Ok, Err, OnOk}
 use Rattle.gptimg_core.specs.Asks.{writes}
 use Rattle.gptimg_core.specs.Spelling.{spell, IsAllowed, IsSpelled}
 use Rattle.gptimg_core.specs.declared.words.Command.{Command}
@@ -22,3 +22,7 @@ writes_not law texts n above below spelled command also allowed = λ it_writes.
 pub in_any_case : {T E P : Type 0} (r : Result T E) → P → OnOk r P
 in_any_case (Ok x) p = p
 in_any_case (Err e) p = tt
+
+pub not_true : (b : Bool) → ¬ IsTrue b → b ≡ false
+not_true true untrue = absurd (untrue refl)
+not_true false untrue = refl

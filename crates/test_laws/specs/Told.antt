@@ -1,5 +1,5 @@
 -- What is told of a table that was fitted to its disk.
-use Rattle.std.specs.Prelude.{◌≡◌, ℕ}
+use Rattle.std.specs.Prelude.{◌≡◌, ◌≤◌, ℕ}
 use Rattle.gptman.specs.Disk.{DiskState}
 use Rattle.gptman.specs.Stop.{IsStored}
 use Rattle.gptman.specs.Table.{table_in}
@@ -9,9 +9,15 @@ use Rattle.gptedit_core.specs.declared.growth.Bounds.TheVariants.{Kept, Usual}
 use Rattle.gptedit_core.specs.declared.plan.Outcome.{Outcome}
 use Rattle.gptedit_core.specs.declared.plan.Outcome.TheVariants.{Changed, Unchanged, Refused}
 
--- The table ends where a disk of len bytes does: one that was changed with its usable sectors, and with all else as it was. Or it is told why not.
+-- The table ends where a disk of len bytes does, and its usable sectors with it. The first of these stays where it may, and all else.
+pub record HasNewEnd (len : ℕ) (was next : GPT) : Type 0 where
+  pub reaches : ReachesEnd len was next
+  pub first : lowest_usable was ≤ was.header.first_usable_lba → was.header.first_usable_lba ≤ next.header.last_usable_lba
+      → next.header.first_usable_lba ≡ was.header.first_usable_lba
+
+-- so of a table that was changed; one that was not ends there already, or it is told why not
 abbrev pub TellsFit : ℕ → Outcome → Type 0
-TellsFit len (Changed was next) = ReachesEnd len was next
+TellsFit len (Changed was next) = HasNewEnd len was next
 TellsFit len (Unchanged table) = EndsAt len table
 TellsFit len (Refused table r) = RefusesGrowth Kept len table r
 

@@ -23,7 +23,7 @@ use std::alloc::Global;
 pub fn fit<D: Disk>(alloc: Global, disk: &mut D, sector_size: Option<u64>) -> Result<Outcome>
     requires { IfSome sector_size (λ size. 0 < size) }
 
-    // The table ends where the disk does, unless it is refused, and is on the disk.
+    // Unless it is refused, the table ends where the disk does, and one that was changed is on the disk.
     ensures fitted { IsHonest (D.state disk.old) → IfOk result (TellsFit (D.state disk.old).size) }
     ensures stored { IsHonest (D.state disk.old) → IfOk result (IsOnDisk (D.state disk.new)) }
 {

@@ -1,11 +1,11 @@
 //! The image program is run with the words of a command.
 
-ghost use Rattle.std.specs.Prelude.{◌<◌, Some, OnOk};
+ghost use Rattle.std.specs.Prelude.{◌≡◌, ◌<◌, false, Some, IfOk, OnOk};
 ghost use Rattle.gptman.specs.Disk.{IsHonest, OnlyRead};
 ghost use Rattle.gptimg_core.specs.Prints.{Runs};
 ghost use Rattle.gptimg_core.specs.declared.words.Command.TheVariants.{Show};
 
-use gptimg_core::{run, usual_words_spell, words_spell_one};
+use gptimg_core::{may_write, run, usual_words_spell, words_spell_one};
 use gptman::{Disk, Result};
 use std::alloc::Global;
 use std::io::Write;
@@ -22,10 +22,26 @@ pub fn show<D: Disk, W: Write>(
 ) -> Result<u8>
     requires { 0 < sector_size }
 
-    // The words are those of this command, and of no other: so nothing is written.
+    // The words are those of this command, so nothing is written.
     ensures shows { OnOk result (Runs (Show (Some sector_size)) result (D.state disk.old) (D.state disk.new)
         (W.contents out.old) (W.contents out.new)) }
     ensures reads { IsHonest (D.state disk.old) → OnlyRead (D.state disk.old) (D.state disk.new) }
+{
+    usual_words_spell();
+    let words = [
+        format!(in alloc; "{sector_size}")?,
+        String::from_str(alloc, "show")?,
+    ];
+    run(alloc, &words, disk, out)
+}
+
+/// Whether an image has to be opened for writing, where what its table is is to be printed. It has not, since the
+/// words of the command `show` are those of no other one.
+///
+/// `OutOfMemory` where there is no memory for the words.
+pub fn needs_writing(alloc: Global, sector_size: u64) -> Result<bool>
+    requires { 0 < sector_size }
+    ensures { IfOk result (λ needed. needed ≡ false) }
 {
     usual_words_spell();
     words_spell_one();
@@ -33,7 +49,7 @@ pub fn show<D: Disk, W: Write>(
         format!(in alloc; "{sector_size}")?,
         String::from_str(alloc, "show")?,
     ];
-    run(alloc, &words, disk, out)
+    Ok(may_write(&words))
 }
 
 #[cfg(test)]
@@ -46,6 +62,7 @@ mod tests {
     fn a_table_is_shown(rt: HostRuntime) -> std::result::Result<(), Fail> {
         let image = samples::image_of_new(rt.alloc(), 0)?;
         let mut disk = calls::holding(rt.alloc(), &image)?;
+        assert!(rt; !needs_writing(rt.alloc(), 512)?);
         let mut printed = Vec::new(rt.alloc());
         let status = show(rt.alloc(), 512, &mut disk, &mut printed)?;
         assert_eq!(rt; status, 0);

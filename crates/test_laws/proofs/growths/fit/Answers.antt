@@ -7,7 +7,8 @@ pub returns-clause-fitted : goal.returns-clause-fitted
 returns-clause-fitted g c = λ honest.
     let a : DiskState = g.D.Disk.state c.args.disk.now in
     let d : DiskState = g.D.Disk.state c.grow.new.disk in
-    all_fit c.growths_follow_the_end.ensures.reached c.growths_follow_the_end.ensures.left a.size c.args.sector_size a d c.grow.result (c.grow.ensures.done honest)
+    let law = c.growths_follow_the_end.ensures in
+    all_fit law.reached law.left law.first a.size c.args.sector_size a d c.grow.result (c.grow.ensures.done honest)
 
 pub returns-clause-stored : goal.returns-clause-stored
 returns-clause-stored g c = λ honest.
