@@ -159,12 +159,17 @@ def calls_of(crate):
                 yield Call(named(function, block, here), is_seen, (file, at + 1), docs_above(lines, at), clauses)
 
 
+# The fact of an implementation that a clause of its trait in the standard library is about.
+OF_TRAITS = {"writes": "output"}
+
+
 def clause_of(goal, call):
     """The clause of the call that a goal of the prover names, or None: '' is a clause without a name."""
     told = re.search(r"clause-(\w+?)(?:-\d+)?(?:\.\.)?$", goal)
     names = [clause.name for clause in call.ensured()]
     if told:
-        return told[1] if told[1] in names else None
+        name = OF_TRAITS.get(told[1], told[1])
+        return name if name in names else None
     return names[0] if len(names) == 1 and goal.startswith(("returns", "loop")) else None
 
 

@@ -74,7 +74,14 @@ def main(crate, *words):
         def giving_up(self):
             return super().giving_up() + (self.by_hand() if self.f.in_trait else [])
 
-    planter.bodies.Bodies = Bodies
+    class Source(planter.bodies.Source):
+        """The toolchain's reader of sources, which takes a doc comment for the name of a variant."""
+
+        def tokens(self, file):
+            rows, data = super().tokens(file)
+            return [row for row in rows if not (row[3] == "Literal" and row[4].startswith(("///", "//!")))], data
+
+    planter.bodies.Bodies, planter.bodies.Source = Bodies, Source
     return planter.main("--all", "--max", "20000", "--minutes", "240", *words)
 
 
