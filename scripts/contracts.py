@@ -160,7 +160,7 @@ def calls_of(crate):
 
 
 # The fact of an implementation that a clause of its trait in the standard library is about.
-OF_TRAITS = {"writes": "output"}
+OF_TRAITS = {"writes": "output", "steps": "next_gives", "goes": "remaining"}
 
 
 def clause_of(goal, call):
