@@ -100,10 +100,10 @@ SEED = 2
 COMMANDS = 5000
 trials: gptimg gptedit
 	@python3 -B trials/crash_states/changes.py ./gptedit
-	@tests/with_firmware.sh
-	@tests/with_power_cuts.sh
-	@tests/with_readers.sh
-	@tests/with_libraries.sh
+	@trials/with_firmware.sh
+	@trials/with_power_cuts.sh
+	@trials/with_readers.sh
+	@trials/with_libraries.sh
 	@python3 -B tests/gptedit ./gptedit uses sources locks holders
 	@python3 -B tests/gptedit/model.py ./gptedit $(SEED) $(COMMANDS)
 	@python3 -B trials/planted

@@ -11,7 +11,7 @@ first command of the next start mends it. Where neither is shown, the next start
 line is 'N passed, M failed'.
 
 Needs qemu-system-x86_64, a kernel in /boot with its modules (Debian's linux-image-cloud-amd64), a static
-busybox and cpio; tests/with_power_cuts.sh looks for them first. Some 7 seconds a cut.
+busybox and cpio; trials/with_power_cuts.sh looks for them first. Some 7 seconds a cut.
 """
 
 import argparse

@@ -30,7 +30,7 @@ def options():
     parser.add_argument("--gptimg", default="./gptimg", help="the program gptimg (./gptimg)")
     parser.add_argument("--gptedit", default="./gptedit", help="the program gptedit (./gptedit)")
     parser.add_argument("--libraries", metavar="FOLDER",
-                        help="judge the programs of tests/with_libraries.sh in this folder, and no others")
+                        help="judge the programs of trials/with_libraries.sh in this folder, and no others")
     parser.add_argument("--mixtures", type=int, default=40,
                         help="mixtures by chance for each moment (40)")
     parser.add_argument("--json", help="write the results to this file")

@@ -106,7 +106,7 @@ def plans(gptedit, folder):
 
 
 def libraries(folder):
-    """Small programs that add the partition by a library each, which tests/with_libraries.sh left in this folder."""
+    """Small programs that add the partition by a library each, which trials/with_libraries.sh left in this folder."""
     def program(name, **others):
         add, show = (os.path.join(folder, word + name) for word in ("add_", "list_"))
         return Program("lib" + name, [add, "IMAGE", str(FIRST), str(LAST), "foo"],

@@ -2,7 +2,7 @@
 # Cuts the power of a Linux kernel in the middle of commands of gptimg, 20 times, and reads what is left:
 # the table after the last command that was done, or the one after the next. Some 7 seconds a cut.
 #
-# usage: tests/with_power_cuts.sh [PROGRAM [OPTIONS OF trials/power_cuts.py]]
+# usage: trials/with_power_cuts.sh [PROGRAM [OPTIONS OF trials/power_cuts.py]]
 #
 # PROGRAM is ./gptimg at the top of the repository where it is left out. The last line is 'N passed, M
 # failed'. Needs python3, qemu-system-x86_64, a kernel in /boot with its modules (Debian's package

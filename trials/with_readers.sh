@@ -2,7 +2,7 @@
 # Tells which programs, kernels and boot loaders read the table of a disk after a stop in the middle of an
 # `add`, and has a Linux guest repair such disks with repair.sh of docs/GUIDE.md. A minute in all.
 #
-# usage: tests/with_readers.sh [PROGRAM]
+# usage: trials/with_readers.sh [PROGRAM]
 #
 # PROGRAM is ./gptimg at the top of the repository where it is left out. The last line is 'N passed, M
 # failed'. Needs python3, says so and ends with 0 where it is missing, and leaves out each reader that is

@@ -3,7 +3,7 @@
 # middle of an `add` may leave it. Each has to boot, to show the partitions of the old table or of the
 # new one, and to be read by gptimg. Some 15 seconds for each of the eight.
 #
-# usage: tests/with_firmware.sh [PROGRAM]
+# usage: trials/with_firmware.sh [PROGRAM]
 #
 # PROGRAM is ./gptimg at the top of the repository where it is left out. The last line is 'N passed, M
 # failed'. Needs qemu-system-x86_64, the firmware of Debian's package ovmf, mkfs.fat and mtools; says so
