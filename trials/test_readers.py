@@ -4,13 +4,13 @@ import os
 import sys
 import unittest
 
+sys.path.insert(1, os.path.join(os.path.dirname(os.path.abspath(__file__)), "..", "tests"))
+from harness import table
+from harness.states import Image, listing
 import readers
 from readers_machines import Edk2
 from readers_programs import places_of, programs
 from readers_stops import FIRST, IMAGE_BYTES, NEW, OLD, SECTOR, STOPS, image_left
-
-sys.path.append(os.path.join(os.path.dirname(os.path.abspath(__file__)), "crash_states"))
-import gpt
 
 # What a stop leaves in front of a table that is read: the answers of the programs, as they printed them.
 ANSWERS = {
@@ -32,23 +32,27 @@ ANSWERS = {
 }
 
 
+GUIDS = [f"{number}0000000-0000-4000-8000-000000000000" for number in (1, 2, 3)]
+
+
 class Stops(unittest.TestCase):
-    """The states, read by the rules of the format as the trial of crash states has them."""
+    """The states, read by the rules of the format."""
 
     def setUp(self):
-        places = ((2048, 10239, "one"), (10240, 18431, "two"))
-        self.old = gpt.make(IMAGE_BYTES, places[:1])
-        self.new = gpt.make(IMAGE_BYTES, places)
+        entries = {number: table.Entry(GUIDS[0], GUIDS[number], *place, 0, "data") for number, place in enumerate(NEW, 1)}
+        made = table.Table(GUIDS[0], *table.bounds(IMAGE_BYTES), 128, entries)
+        self.new = table.image_of(made, IMAGE_BYTES)
+        self.old = table.image_of(made._replace(entries={1: entries[1]}), IMAGE_BYTES)
 
     def test_table_is_that_of_the_format(self):
         for stop in STOPS:
-            table = gpt.read(gpt.Image(image_left(stop, self.old, self.new)))
-            places = tuple(sorted(it[:2] for it in gpt.listing(table).values()))
+            found = Image(image_left(stop, self.old, self.new)).table()
+            places = tuple(sorted(it[:2] for it in listing(found).values()))
             self.assertEqual(places, stop.table(), stop.name)
 
     def test_primary_copy_is_good_where_it_says(self):
         for stop in STOPS:
-            copy = gpt.read_copy(gpt.Image(image_left(stop, self.old, self.new)), 1)
+            copy = table.copy_at(Image(image_left(stop, self.old, self.new)), SECTOR, 1)
             self.assertEqual(copy is not None, stop.has_good_primary(), stop.name)
 
     def test_there_are_twelve_and_half_of_them_have_a_broken_primary_copy(self):

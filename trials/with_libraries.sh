@@ -36,7 +36,7 @@ build() {
 
 # An image with two partitions, as the crash states have it.
 make_image() {
-    python3 -B -c 'import sys; sys.path.insert(0, "trials/crash_states"); import judging
+    python3 -B -c 'import sys; sys.path[:0] = ["trials/crash_states", "tests"]; import judging
 open(sys.argv[1], "wb").write(judging.starts()["both good"])' "$image"
 }
 

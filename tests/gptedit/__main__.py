@@ -9,13 +9,15 @@ import os
 import sys
 import tempfile
 
-from runs import GATE, Program, Tally
+sys.path.insert(1, os.path.join(os.path.dirname(os.path.abspath(__file__)), ".."))
+from harness.runs import set_environment  # noqa: E402
+from harness.tally import Tally  # noqa: E402
+from runs import GATE, Program  # noqa: E402
 
 
 def main():
     """Tries every subject in a folder that is removed afterwards."""
-    os.environ["PATH"] += ":/usr/sbin:/sbin"
-    os.environ["LC_ALL"] = "C.UTF-8"
+    set_environment()
     tally = Tally()
     with tempfile.TemporaryDirectory() as folder:
         program = Program(os.path.realpath(sys.argv[1]), folder, tally)
@@ -24,8 +26,7 @@ def main():
             subjects = importlib.import_module(name).SUBJECTS
             for subject in [chosen] if chosen else subjects:
                 tally.subject(subject, subjects[subject], program)
-    print(f"{tally.passed} passed, {tally.failed} failed")
-    return 1 if tally.failed else 0
+    return tally.end()
 
 
 if __name__ == "__main__":

@@ -3,7 +3,7 @@ refused, and `check` is then quiet about it."""
 import re
 import struct
 
-import table
+from harness import table
 from commands import ESP, MIB, ROOT
 from makers import IMAGE, ONE, SIZE, break_both, entry, flip, lengthen, make, of, put_dos, set_field
 

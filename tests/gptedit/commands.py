@@ -1,10 +1,9 @@
 """Every command, and what it prints. Lines and tables are those of docs/GUIDE.md and of the format."""
 import json
 
-import table
-from runs import BOOT_CODE
+from harness import table
+from harness.images import BOOT_CODE, MIB
 
-MIB = 1 << 20
 DISK = "33221100-5544-7766-8899-aabbccddeeff"
 ESP = "c0ffee00-0000-4000-8000-000000000001"
 ROOT = "c0ffee00-0000-4000-8000-000000000002"

@@ -2,9 +2,10 @@
 import random
 import struct
 
-import table
+from harness import table
+from harness.runs import there
 from commands import BOOT_CODE, DISK, ESP, MIB, ROOT
-from makers import ADD, IMAGE, ONE, SIZE, TWO, WRITES, entry, goes, holds, lengthen, make, mbr_of, put_dos, there, tool
+from makers import ADD, IMAGE, ONE, SIZE, TWO, WRITES, entry, goes, holds, lengthen, make, mbr_of, put_dos, tool
 
 
 def all_go(tally, program, name, start, words=None):

@@ -2,8 +2,9 @@
 import json
 import struct
 
-import table
+from harness import table
 from commands import DISK, ESP, LINUX, MIB, ROOT, start
+from makers import set_field
 
 ADD = ["add", "disk.img", "--type", "linux", "--size", "1MiB"]
 
@@ -83,7 +84,7 @@ def try_bounds(tally, program):
     """`grow` keeps the first usable sector where that is legal, and the last one follows the end."""
     for first, wanted in (34, 34), (2048, 2048), (32768, 32768), (0, 34):
         start(program, False, 64 * MIB)
-        set_bound(program, 40, first)
+        set_field(program, 40, first)
         before = program.bytes_of("disk.img")
         if first >= 34:
             tally.equals("grow of a disk of the same length", (0, "unchanged\n"), program.run("grow", "disk.img")[:2])
@@ -93,16 +94,6 @@ def try_bounds(tally, program):
         tally.equals(f"the status of grow where first-usable is {first}", 0, program.run("grow", "disk.img")[0])
         tally.equals("the table after grow", table.Table(DISK, wanted, 262110, 128, {}),
                      table.read(program.file("disk.img")))
-
-
-def set_bound(program, at, value):
-    """Sets a field of 8 bytes in both headers of disk.img, and their checksums."""
-    image = bytearray(program.bytes_of("disk.img"))
-    for header in 512, len(image) - 512:
-        struct.pack_into("<Q", image, header + at, value)
-        struct.pack_into("<I", image, header + 16, 0)
-        struct.pack_into("<I", image, header + 16, table.zlib.crc32(bytes(image[header:header + 92])))
-    program.write("disk.img", bytes(image))
 
 
 def try_dos(tally, program):

@@ -6,9 +6,10 @@ import struct
 import subprocess
 import time
 
+from harness.runs import there
 from commands import MIB
 from locks import limited
-from makers import IMAGE, there
+from makers import IMAGE
 from uses import NAME, start
 
 

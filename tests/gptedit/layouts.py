@@ -6,7 +6,7 @@ import shutil
 import subprocess
 import uuid
 
-import table
+from harness import table
 from commands import DISK, EFI, ESP, ESP_ENTRY, LINUX, MIB, ROOT, SWAP, holds_table, says, start
 from refusals import refused
 

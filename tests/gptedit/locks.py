@@ -6,7 +6,8 @@ import signal
 import subprocess
 import time
 
-from makers import IMAGE, holds, there
+from harness.runs import there
+from makers import IMAGE, holds
 from uses import NAME, Loop, can_loop, start
 
 LINE = '"$0" set "$1" 1 --name z $2; echo "status $?" >&2'

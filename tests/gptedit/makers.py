@@ -1,11 +1,10 @@
 """Images that rows start from, made from the format, and what is counted of a run over them."""
 import os
-import shutil
 import struct
-import subprocess
 import uuid
 
-import table
+from harness import table
+from harness.runs import run
 from commands import DISK, ESP, LINUX, MIB, ROOT
 
 IMAGE = "disk.img"
@@ -51,13 +50,7 @@ def make(program, entries, size=SIZE, sector=512, name=IMAGE, places=None, **oth
 def tool(program, *words, text="", name=None):
     """Runs another program on an image, and gives its status."""
     del name
-    return subprocess.run(words, input=text.encode(), cwd=program.folder, stdout=subprocess.DEVNULL,
-                          stderr=subprocess.DEVNULL, check=False).returncode
-
-
-def there(*names):
-    """Whether these programs are installed."""
-    return all(shutil.which(name) for name in names)
+    return run(words, text, errors="replace", cwd=program.folder).status
 
 
 def refused(tally, program, words, *texts, statuses=REFUSED, lifts=None):
@@ -127,13 +120,8 @@ def ext4(size):
 
 def set_field(program, at, value, headers=None, name=IMAGE, form="<Q"):
     """Sets a field of headers of an image with sectors of 512 bytes, and their checksums."""
-    image = program.bytes_of(name)
-    for header in headers or (512, len(image) - 512):
-        raw = bytearray(image[header:header + 92])
-        struct.pack_into(form, raw, at, value)
-        struct.pack_into("<I", raw, 16, 0)
-        struct.pack_into("<I", raw, 16, table.zlib.crc32(bytes(raw)))
-        program.put(name, header, bytes(raw))
+    for header in headers or (512, os.path.getsize(program.file(name)) - 512):
+        program.set_fields(name, header, (at, form, value))
 
 
 def flip(program, at, name=IMAGE):

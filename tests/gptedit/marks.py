@@ -2,7 +2,7 @@
 boot sectors that are no MBR."""
 import random
 
-import table
+from harness import table
 from commands import DISK
 
 IMAGE = "disk.img"

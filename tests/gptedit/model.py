@@ -10,10 +10,13 @@ import sys
 import tempfile
 import uuid
 
-import table
-from commands import EFI, LINUX, MIB, SWAP
-from makers import IMAGE, flip, there, tool
-from runs import Program, Tally
+sys.path.insert(1, os.path.join(os.path.dirname(os.path.abspath(__file__)), ".."))
+from harness import table  # noqa: E402
+from harness.runs import set_environment, there  # noqa: E402
+from harness.tally import Tally  # noqa: E402
+from commands import EFI, LINUX, MIB, SWAP  # noqa: E402
+from makers import IMAGE, flip, tool  # noqa: E402
+from runs import Program  # noqa: E402
 
 COMMANDS = 1000
 EACH = 12
@@ -323,14 +326,13 @@ SUBJECTS = {"random commands and their model": try_model}
 
 def main():
     """Plays the commands of a seed."""
-    os.environ["PATH"] += ":/usr/sbin:/sbin"
+    set_environment()
     seed, commands = (list(map(int, sys.argv[2:4])) + [1, COMMANDS][len(sys.argv) - 2:])[:2]
     tally = Tally()
     with tempfile.TemporaryDirectory() as folder:
         done = play(tally, Program(os.path.realpath(sys.argv[1]), folder, tally), seed, commands)
     print(f"seed {seed}: {done} of {commands} commands are done")
-    print(f"{tally.passed} passed, {tally.failed} failed")
-    return 1 if tally.failed else 0
+    return tally.end()
 
 
 if __name__ == "__main__":

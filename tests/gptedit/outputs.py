@@ -5,7 +5,7 @@ import shutil
 import subprocess
 import tomllib
 
-import table
+from harness import table
 from commands import DISK, ESP, LINUX, ROOT
 from makers import IMAGE, ONE, SIZE, TWO, entry, flip, make, of, set_field
 

@@ -2,7 +2,7 @@
 import struct
 
 import commands
-import table
+from harness import table
 from commands import DISK, ESP, MIB, ROOT, start
 
 # What a disk may begin with that `new` is not to lose: its name, where its bytes stand, and the bytes.

@@ -6,10 +6,11 @@ import struct
 import subprocess
 import time
 
-import table
+from harness import table
+from harness.runs import there
 from commands import DISK, ESP, MIB, ROOT
 from makers import (ADD, EDITS, IMAGE, NO_TABLE, ONE, REFUSED, SIZE, TWO, WRITES, break_both, entry, ext4, flip, goes,
-                        holds, lengthen, make, mbr_of, put_dos, refused, set_field, there, tool)
+                        holds, lengthen, make, mbr_of, put_dos, refused, set_field, tool)
 
 LOADER = b"A BOARD'S LOADER" * 1024
 OF_SOMEBODY = b"DATA OF SOMEBODY" * 64

@@ -8,12 +8,11 @@ import shutil
 import subprocess
 import time
 
-import table
+from harness import recording, table
+from harness.states import Enumeration, Image
 from commands import DISK, MIB, ROOT
 from makers import IMAGE, TWO, flip, lengthen, make
-from traces import can_trace, recording
-import gpt
-from states import Enumeration
+from traces import can_trace
 from layouts import RANDOM, draw, toml_of
 
 KILLS = 150
@@ -197,7 +196,7 @@ def try_stops(tally, program):
                   b'type = "linux"\nsize = "1MiB"\n')
     count = 0
     for name, image, _ in starts(program):
-        old = entries_of(gpt.read(gpt.Image(image)))
+        old = entries_of(Image(image).table())
         for words in commands_of(name):
             program.write(IMAGE, image)
             count += stop_each(tally, program, f"{' '.join(words)} from {name}", words, (image, old))
@@ -213,12 +212,12 @@ def stop_each(tally, program, what, words, start):
                                            program.file("trace"))
     tally.equals(f"the status of {what}: {out}", 0, status)
     tally.holds(f"{what} writes something", events)
-    new = entries_of(gpt.read(gpt.Image(program.bytes_of(IMAGE))))
+    new = entries_of(Image(program.bytes_of(IMAGE)).table())
     tally.holds(f"{what} leaves a table, or none after wipe", (new is None) == (words[0] == "wipe"))
     count, lost = 0, []
     for _, text, state in Enumeration(image, events, mixtures=1).states():
         count += 1
-        if entries_of(gpt.read(state)) not in (old, new):
+        if entries_of(state.table()) not in (old, new):
             lost.append(text)
     tally.equals(f"states of {what} that lose the table, of {count}", [], lost[:3])
     return count

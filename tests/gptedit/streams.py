@@ -5,7 +5,7 @@ import resource
 import shutil
 import subprocess
 
-import table
+from harness import table
 from commands import ADD_ESP, DISK, ESP_ENTRY, MIB, start
 from layouts import RANDOM, draw, toml_of
 

@@ -6,7 +6,7 @@ import tomllib
 import unicodedata
 import zlib
 
-import table
+from harness import table
 from commands import DISK, EFI, ESP, MIB, holds_table, says, start
 
 # Characters that a terminal does not show as themselves.
@@ -61,15 +61,12 @@ def put_units(program, units, number=1):
         image = bytearray(file.read())
         end = len(image) // 512 - 1
         for own in (1, end):
-            header = bytearray(image[own * 512:own * 512 + 92])
+            header = image[own * 512:own * 512 + 92]
             at, count, length = struct.unpack("<QII", header[72:88])
             name = at * 512 + (number - 1) * length + 56
             image[name:name + 72] = struct.pack("<36H", *(units + [0] * (36 - len(units))))
             array = image[at * 512:at * 512 + count * length]
-            header[88:92] = struct.pack("<I", zlib.crc32(array))
-            header[16:20] = bytes(4)
-            header[16:20] = struct.pack("<I", zlib.crc32(header))
-            image[own * 512:own * 512 + 92] = header
+            image[own * 512:own * 512 + 92] = table.with_fields(header, (88, "<I", zlib.crc32(array)))
         file.seek(0)
         file.write(image)
 

@@ -2,14 +2,10 @@
 then the MBR and a sync."""
 import os
 import shutil
-import sys
 
-import table
+from harness import recording, table
 from commands import MIB, ROOT
 from makers import ADD, IMAGE, ONE, SIZE, TWO, make, put_dos
-
-sys.path.insert(0, os.path.join(os.path.dirname(__file__), "..", "..", "trials", "crash_states"))
-import recording  # noqa: E402
 
 BACKUP, PRIMARY, MBR, SYNC = "backup", "primary", "MBR", "sync"
 CHANGE = [BACKUP, SYNC, PRIMARY, SYNC]

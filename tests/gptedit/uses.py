@@ -2,9 +2,10 @@
 import os
 import subprocess
 
-import table
+from harness import table
+from harness.runs import there
 from commands import DISK, ESP, MIB, ROOT
-from makers import IMAGE, TWO, entry, holds, make, there
+from makers import IMAGE, TWO, entry, make
 
 NAME = ["set", IMAGE, "1", "--name", "x"]
 

@@ -7,21 +7,19 @@ import os
 import sys
 import tempfile
 
-HERE = os.path.dirname(os.path.abspath(__file__))
-sys.path.insert(1, os.path.join(HERE, "..", "gptedit"))
-
-import calls
-import examples
-import helpers
-import wild
-from built import build
-from runs import Program, Tally
+sys.path.insert(1, os.path.join(os.path.dirname(os.path.abspath(__file__)), ".."))
+from harness.runs import Program, set_environment  # noqa: E402
+from harness.tally import Tally  # noqa: E402
+import calls  # noqa: E402
+import examples  # noqa: E402
+import helpers  # noqa: E402
+import wild  # noqa: E402
+from built import build  # noqa: E402
 
 
 def main():
     """Tries every subject in a folder that is removed afterwards."""
-    os.environ["PATH"] += ":/usr/sbin:/sbin"
-    os.environ["LC_ALL"] = "C.UTF-8"
+    set_environment()
     tally = Tally()
     with tempfile.TemporaryDirectory() as folder:
         library = build(os.path.realpath(sys.argv[1]), folder)
@@ -29,8 +27,7 @@ def main():
         for module in (examples, calls, helpers, wild):
             for name, run in module.SUBJECTS.items():
                 tally.subject(name, run, library, program)
-    print(f"{tally.passed} passed, {tally.failed} failed")
-    return 1 if tally.failed else 0
+    return tally.end()
 
 
 sys.exit(main())

@@ -1,6 +1,5 @@
 """The library, linked, and programs in C over it."""
 import os
-import shutil
 import subprocess
 from typing import NamedTuple
 
@@ -32,8 +31,3 @@ def build(archive, folder):
     subprocess.run([os.path.join(TOP, "scripts", "link_library"), archive, folder], check=True)
     os.environ["GPTMAN_LIBRARY"] = os.path.join(folder, "libgptman.so.1")
     return Library(folder)
-
-
-def is_there(*names):
-    """Whether all of these programs are installed."""
-    return all(shutil.which(name) for name in names)

@@ -9,8 +9,9 @@ import subprocess
 import sys
 import uuid
 
-import table
-from built import TOP, is_there
+from harness import table
+from harness.runs import there
+from built import TOP
 
 LINUX = uuid.UUID("0fc63daf-8483-4772-8e79-3d69d8477de4")
 SECTORS = 512
@@ -55,11 +56,9 @@ def sum_header(random_, data):
     """Another field in a header, with its checksum made anew."""
     at = random_.choice([512, SIZE - 512])
     field = random_.choice([24, 32, 40, 48, 72, 80, 84])
-    width = 4 if field >= 80 else 8
-    data[at + field:at + field + width] = random_.choice([0, 1, 2, 34, 128, 1000, (1 << 8 * width) - 1,
-                                                         random_.randrange(600)]).to_bytes(width, "little")
-    data[at + 16:at + 20] = bytes(4)
-    data[at + 16:at + 20] = module().crc32(data[at:at + 92]).to_bytes(4, "little")
+    form, most = ("<I", (1 << 32) - 1) if field >= 80 else ("<Q", (1 << 64) - 1)
+    value = random_.choice([0, 1, 2, 34, 128, 1000, most, random_.randrange(600)])
+    data[at:at + 92] = table.with_fields(data[at:at + 92], (field, form, value))
 
 
 def told(gptman, path):
@@ -77,7 +76,7 @@ def read_left(tally, gptman, program):
     status, out, _ = program.run("left.img", "512", "show")
     theirs = "".join(f"{line.rstrip()}\n" for line in out.splitlines()) if status == 0 else fault_in(out)
     tally.equals("what gptimg reads of it", without_form(theirs), found)
-    if is_there("sfdisk"):
+    if there("sfdisk"):
         tally.equals("what sfdisk reads of it", places_in(found), read_by_sfdisk(program))
     return found
 
@@ -100,7 +99,7 @@ def read_by_sfdisk(program):
 
 def states_in(count):
     """What is told of so many states, and who did not judge them."""
-    return f"{count} states" + ("" if is_there("sfdisk") else "; sfdisk is not there to judge them")
+    return f"{count} states" + ("" if there("sfdisk") else "; sfdisk is not there to judge them")
 
 
 def shown(disk):
@@ -170,7 +169,7 @@ def try_copies(tally, library, program):
     for sector in 0, 1, 256, 511, 520, 8192, 1 << 20, 1 << 63:
         tally.equals(f"both copies with sectors of {sector}", ("BadArgument", "fault: BadArgument\n"), (
             refusal(gptman, lambda: gptman.check(path, sector)), printed(over_fd, path, str(sector), "check")))
-    if not is_there("sgdisk"):
+    if not there("sgdisk"):
         return "sgdisk is not installed: long tables are left out"
     program.make_image("long.img", 64 << 20)
     path = program.file("long.img")
@@ -647,7 +646,7 @@ def refusal(gptman, call):
 
 def try_long(tally, library, program):
     """A table of many entries, whose arrays are longer than the first ends, and sectors of 4096 bytes."""
-    if not is_there("sgdisk"):
+    if not there("sgdisk"):
         return "sgdisk is not installed: left out"
     gptman = module()
     path = program.file("long.img")

@@ -5,8 +5,9 @@ import sys
 import tempfile
 import textwrap
 
-import table
-from built import TOP, is_there
+from harness import table
+from harness.runs import there
+from built import TOP
 from calls import with_remains
 
 MIB = 1 << 20
@@ -67,7 +68,7 @@ def try_examples(tally, library, program):
     show = library.compile(os.path.join(TOP, "examples", "list.c"), "list")
     add = library.compile(os.path.join(TOP, "examples", "add.c"), "add")
     rust = in_rust(library)
-    left = [name for name in MAKERS if name != "gptimg" and not is_there(name)]
+    left = [name for name in MAKERS if name != "gptimg" and not there(name)]
     left += [] if rust else ["cargo"]
     for name, make in MAKERS.items():
         if name in left:
@@ -91,7 +92,7 @@ def try_examples(tally, library, program):
         tally.equals(f"list of it after that ({name})", listed(now.entries) if now else None, run(show, path))
         if rust:
             tally.equals(f"list in Rust ({name})", listed(now.entries) if now else None, run(rust, path))
-        if is_there("sgdisk"):
+        if there("sgdisk"):
             found = run("sgdisk", "-v", path)
             tally.holds(f"sgdisk finds nothing ({name}): {found}", "No problems found" in found)
     return f"left out: {', '.join(left)}" if left else None
@@ -99,7 +100,7 @@ def try_examples(tally, library, program):
 
 def in_rust(library):
     """The example in Rust, built, or None where cargo is not there."""
-    if not is_there("cargo"):
+    if not there("cargo"):
         return None
     folder = os.path.join(library.folder, "rust")
     words = ["cargo", "build", "--quiet", "--locked", "--offline", "--target-dir", folder]
@@ -118,11 +119,11 @@ def try_headers(tally, library, program):
     """The headers are C99, C11 and C++ without a warning, and the shared library hands out its own names alone."""
     for name in "both.c", "both.cc":
         program.write(name, b'#include "gptman_fd.h"\nint main(void) { return (int)gptman_version() != 256; }\n')
-    for language in ["c99", "c11", "c17"] + (["c++11", "c++17"] if is_there("c++") else []):
+    for language in ["c99", "c11", "c17"] + (["c++11", "c++17"] if there("c++") else []):
         source = program.file("both.cc" if "+" in language else "both.c")
         tally.equals(f"a program in {language}", "",
                      run(library.compile(source, "both", "-Wconversion", language=language)))
-    if is_there("nm"):
+    if there("nm"):
         lines = run("nm", "-D", "--defined-only", program.file("libgptman.so.1")).split("\n")
         names = {line.split()[-1] for line in lines if line}
         tally.equals("the names of libgptman.so.1", {"gptman_read", "gptman_write", "gptman_new", "gptman_fit",

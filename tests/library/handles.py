@@ -1,7 +1,7 @@
 """One disk, as the helpers have it: gptman_fd.h by the program driver.c, and the module for Python. Both have the
 same calls, each with a limit of time, and calls of the system that fail.
 
-A call gives the name of its answer. `read` gives a table of tests/gptedit/table.py with it.
+A call gives the name of its answer. `read` gives a table of tests/harness/table.py with it.
 """
 import contextlib
 import errno
@@ -13,7 +13,7 @@ import subprocess
 import tempfile
 import uuid
 
-import table
+from harness import table
 from built import TOP
 
 LIMIT = 30

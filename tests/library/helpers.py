@@ -9,7 +9,7 @@ import sys
 import time
 import zlib
 
-import table
+from harness import table
 from built import TOP
 from calls import LINUX, module, start
 from examples import in_rust
@@ -133,12 +133,8 @@ ASTRAY = [(67, (2, 128), (33, 128)), (2048, (2, 4096), (1000, 4000)), (67, (20, 
 
 def header_of(own, other, place, count, array_checksum, last):
     """A header with these fields and the right checksum of its own."""
-    found = table.Table(GUID, 34, last, count, {})
-    raw = bytearray(table.header_bytes(own, other, found, place, b""))
-    raw[88:92] = array_checksum.to_bytes(4, "little")
-    raw[16:20] = bytes(4)
-    raw[16:20] = zlib.crc32(bytes(raw)).to_bytes(4, "little")
-    return bytes(raw)
+    raw = table.header_bytes(own, other, table.Table(GUID, 34, last, count, {}), place, b"")
+    return table.with_fields(raw, (*table.ARRAY_CRC, array_checksum))
 
 
 def crafted(sectors, primary, backup, good, last):
@@ -223,14 +219,6 @@ def mbr_of(*entries):
     return bytes(446) + raw.ljust(64, b"\0") + b"\x55\xaa"
 
 
-def image_of(found, size, **places):
-    """The bytes of a disk with this table and a protective MBR."""
-    image = bytearray(size)
-    for at, piece in table.pieces_of(found, size, **places):
-        image[at:at + len(piece)] = piece
-    return bytes(image)
-
-
 def with_data(image):
     """The image with bytes of somebody in sectors 401 to 450."""
     return image[:401 * 512] + b"\x5a" * (50 * 512) + image[451 * 512:]
@@ -239,14 +227,14 @@ def with_data(image):
 def refusals_of():
     """What a disk is, its bytes, and what a write, a fit and a new table are answered with."""
     size = 512 * 512
-    usual = image_of(table.Table(GUID, 34, 478, 128, {1: entry_at(70, 79)}), size)
-    moved = image_of(table.Table(GUID, 66, 478, 128, {1: entry_at(70, 79)}), size, primary_at=34)
+    usual = table.image_of(table.Table(GUID, 34, 478, 128, {1: entry_at(70, 79)}), size)
+    moved = table.image_of(table.Table(GUID, 66, 478, 128, {1: entry_at(70, 79)}), size, primary_at=34)
     yield "the stated layout", usual, ("Ok", "Ok", "Ok")
     yield "a disk that has grown", usual + bytes(100 * 512), ("OtherLength", "Ok", "Ok")
     yield "a disk that was cut", usual[:-10 * 512], ("OtherLength", "Ok", "Ok")
     yield "entries that were moved", moved, ("OtherLayout", "OtherLayout", "Ok")
     low = table.Table(GUID, 34, 400, 128, {1: entry_at(70, 79)})
-    theirs, alike = image_of(low, size, backup_at=479), image_of(low, size)
+    theirs, alike = table.image_of(low, size, backup_at=479), table.image_of(low, size)
     yield "data behind a low last sector", with_data(theirs), ("OtherLayout", "Ok", "Ok")
     yield "the same and a broken backup copy", with_data(theirs)[:-512] + bytes(512), ("OtherLayout", "Ok", "Ok")
     yield "backup entries behind a low last sector", alike, ("Ok", "Ok", "Ok")
@@ -317,15 +305,12 @@ TABLE_SECTORS = 64
 
 def start_of(broken):
     """A table of 8 entries, one of them used, with this copy broken: its header or its entries."""
-    data, end = bytearray(TABLE_SECTORS * 512), TABLE_SECTORS - 1
+    end = TABLE_SECTORS - 1
     found = table.Table(GUID, 4, end - 3, 8, {1: entry_at(10, 19, 1)})
-    for at, piece in table.pieces_of(found, len(data)):
-        data[at:at + len(piece)] = piece
+    data = table.image_of(found, TABLE_SECTORS * 512)
     places = {"primary header": 512, "primary entries": 1024, "backup header": end * 512,
               "backup entries": (end - 2) * 512}
-    if broken:
-        data[places[broken]:places[broken] + 92] = b"\x77" * 92
-    return bytes(data), found
+    return table.laid(data, [(places[broken], b"\x77" * 92)] if broken else []), found
 
 
 def changes(handle, path):

@@ -3,7 +3,8 @@ import os
 import re
 import subprocess
 
-from built import TOP, is_there
+from harness.runs import there
+from built import TOP
 from handles import SANITIZED
 
 WRAPPED = ["-Wl,--wrap=malloc", "-Wl,--wrap=realloc", "-Wl,--wrap=free"]
@@ -40,7 +41,7 @@ def try_wild(tally, library, program):
     for name, share in done.items():
         tally.holds(f"{name} is done in {share:.0%} of its times", share >= 0.25)
     tally.holds(f"some requests for memory are refused: {note}", not note.startswith("0 "))
-    if not is_there("valgrind"):
+    if not there("valgrind"):
         return f"{note}; valgrind is not installed: accesses are not watched by it"
     words = ["valgrind", "-q", "--error-exitcode=9", path, program.file("disk.img"), "20"]
     ended = subprocess.run(words, stdout=subprocess.PIPE, stderr=subprocess.PIPE, check=False)

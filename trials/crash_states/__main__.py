@@ -4,7 +4,7 @@ Each program adds the same partition to an image, and runs once under strace; th
 changes by one command do so; and so do small programs by a library each, with --libraries. Their
 writes and syncs of the image are replayed. At each moment a stop may leave each write that is not
 yet synced old, new, garbage or torn; each such state is read, and counted as lost where neither the
-table before nor the one after is read from it (states.py and judging.py say how).
+table before nor the one after is read from it (tests/harness/states.py and judging.py say how).
 
 What it leaves out: writes through mapped memory and io_uring, and changes of length (a program that
 makes one is told, and not judged); caches of a disk that lie about a sync; sectors other than 512
@@ -18,9 +18,10 @@ import shutil
 import sys
 import tempfile
 
-import report
-from judging import Trial, starts
-from programs import libraries, plans, programs
+sys.path.insert(1, os.path.join(os.path.dirname(os.path.abspath(__file__)), "..", "..", "tests"))
+import report  # noqa: E402
+from judging import Trial, starts  # noqa: E402
+from programs import libraries, plans, programs  # noqa: E402
 
 
 def options():

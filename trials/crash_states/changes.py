@@ -1,21 +1,20 @@
 """Reports whether a crash in any command of gptedit can lose the table: changes.py GPTEDIT [--mixtures N].
 
 Each command that changes a table runs under strace, from every start of the other trial and from tables that
-are not in the layout that gptedit writes. Of each state that a crash may leave (states.py) the table is read
-by the format: it has to be the old table or the new one. A command that is refused may not write. The last
+are not in the layout that gptedit writes. Of each state that a crash may leave (tests/harness/states.py) the table
+is read by the format: it has to be the old table or the new one. A command that is refused may not write. The last
 line is 'N passed, M failed'.
 """
 import argparse
 import os
-import struct
 import sys
 import tempfile
-import zlib
 
-import gpt
-import judging
-import recording
-from states import Enumeration, Write
+sys.path.insert(1, os.path.join(os.path.dirname(os.path.abspath(__file__)), "..", "..", "tests"))
+from harness import recording, table  # noqa: E402
+from harness.states import SECTOR, Enumeration, Image, Write  # noqa: E402
+from harness.tally import Tally  # noqa: E402
+import judging  # noqa: E402
 
 LAYOUT = """[[partition]]
 number = 1
@@ -49,44 +48,43 @@ COMMANDS = {
 }
 
 
-def with_fields(image, copies, **fields):
-    """The image with other fields in the headers in these sectors, whose checksums are right."""
-    image = bytearray(image)
-    places = {"first": (40, "<Q"), "last": (48, "<Q"), "array": (72, "<Q"), "count": (80, "<I")}
-    for sector in copies:
-        at = sector * gpt.SECTOR
-        for name, value in fields.items():
-            place, form = places[name]
-            struct.pack_into(form, image, at + place, value)
-        struct.pack_into("<I", image, at + 16, 0)
-        struct.pack_into("<I", image, at + 16, zlib.crc32(bytes(image[at:at + 92])))
-    return bytes(image)
+END = judging.SIZE // SECTOR - 1
+ARRAY_BYTES = 128 * 128
+
+
+def spoiled(image, at, data):
+    """The image with other bytes from byte `at` on."""
+    return table.laid(image, [(at, data)])
+
+
+def with_field(image, field, value, copies=(1, END)):
+    """The image with another field in the headers in these sectors, whose checksums are right."""
+    return table.laid(image, [(at, table.with_fields(image[at:at + 92], (*field, value)))
+                              for at in (sector * SECTOR for sector in copies)])
 
 
 def moved(image, array_at):
     """The image with the primary entries in other sectors, as sgdisk -j has them."""
-    array = image[2 * gpt.SECTOR:(2 + gpt.ARRAY_SECTORS) * gpt.SECTOR]
-    image = judging.spoiled(image, 2 * gpt.SECTOR, bytes(len(array)))
-    image = judging.spoiled(image, array_at * gpt.SECTOR, array)
-    first = array_at + gpt.ARRAY_SECTORS
-    return with_fields(with_fields(image, [1], array=array_at), [1, judging.SIZE // gpt.SECTOR - 1], first=first)
+    array = image[2 * SECTOR:2 * SECTOR + ARRAY_BYTES]
+    image = table.laid(image, [(2 * SECTOR, bytes(ARRAY_BYTES)), (array_at * SECTOR, array)])
+    image = with_field(image, table.ARRAY_AT, array_at, [1])
+    return with_field(image, table.FIRST, array_at + ARRAY_BYTES // SECTOR)
 
 
 def other_starts():
     """Tables that gptedit would not write so: name -> the bytes of the image."""
-    good, end = gpt.make(judging.SIZE, judging.PARTITIONS), judging.SIZE // gpt.SECTOR - 1
-    low = with_fields(good, [1, end], last=27000)
-    backup = end * gpt.SECTOR
+    good, backup = judging.image_of(judging.PARTITIONS), END * SECTOR
+    low = with_field(good, table.LAST, 27000)
     return {
         "nothing": bytes(judging.SIZE),
         "primary entries elsewhere": moved(good, 40),
-        "primary entries elsewhere, backup header zeroed": judging.spoiled(moved(good, 40), backup, bytes(512)),
+        "primary entries elsewhere, backup header zeroed": spoiled(moved(good, 40), backup, bytes(512)),
         "a low last usable sector, zeros after it": low,
-        "a low last usable sector, data after it": judging.spoiled(low, 27001 * gpt.SECTOR, b"DATA" * 4096),
-        "a high first usable sector": with_fields(good, [1, end], first=2048),
-        "a long backup": good + bytes(judging.GROWN - judging.SIZE) + good[-33 * gpt.SECTOR:],
-        "cut": good[:-4096 * gpt.SECTOR],
-        "both copies damaged": judging.spoiled(judging.spoiled(good, 1024, b"?"), backup + 56, b"?"),
+        "a low last usable sector, data after it": spoiled(low, 27001 * SECTOR, b"DATA" * 4096),
+        "a high first usable sector": with_field(good, table.FIRST, 2048),
+        "a long backup": good + bytes(judging.GROWN - judging.SIZE) + good[-33 * SECTOR:],
+        "cut": good[:-4096 * SECTOR],
+        "both copies damaged": spoiled(spoiled(good, 1024, b"?"), backup + 56, b"?"),
     }
 
 
@@ -111,11 +109,11 @@ class Trial:
         if status:
             return ("refused with status %d, and wrote" % status if final != self.base or any(
                 isinstance(event, Write) for event in events) else None), 0
-        replayed = gpt.Image(self.base)
+        replayed = Image(self.base)
         for event in events:
             if isinstance(event, Write):
                 replayed.put(event.at, event.data)
-        if len(final) != len(self.base) or gpt.Image(final, replayed.changed).key():
+        if len(final) != len(self.base) or Image(final, replayed.changed).key():
             return "the record does not give the image that it left", 0
         if events and isinstance(events[-1], Write):
             return "its last write is not synced: %s" % printed, 0
@@ -123,7 +121,7 @@ class Trial:
 
     def lost(self, events, final, mixtures):
         """A state that gives neither the old table nor the new one, or nothing; and how many there are."""
-        old, new = gpt.read(gpt.Image(self.base)), gpt.read(gpt.Image(final))
+        old, new = Image(self.base).table(), Image(final).table()
         if new is None and not self.may_vanish:
             return "no table after status 0", 0
         allowed, seen = [old, new], {}
@@ -131,7 +129,7 @@ class Trial:
             key = image.key()
             if key not in seen:
                 seen[key] = text
-                if gpt.read(image) not in allowed:
+                if image.table() not in allowed:
                     return "lost %s" % text, len(seen)
         return None, len(seen)
 
@@ -143,7 +141,7 @@ def main():
     parser.add_argument("gptedit", help="the program gptedit")
     parser.add_argument("--mixtures", type=int, default=40, help="mixtures by chance for each moment (40)")
     chosen = parser.parse_args()
-    passed = failed = states = refused = 0
+    tally, states, refused = Tally(), 0, 0
     with tempfile.TemporaryDirectory() as folder:
         folder = os.path.realpath(folder)
         for start, base in {**judging.starts(), **other_starts()}.items():
@@ -151,13 +149,9 @@ def main():
                 fault, count = Trial(os.path.abspath(chosen.gptedit), command, base, folder).fault(chosen.mixtures)
                 states += count
                 refused += count == 0 and fault is None
-                passed += fault is None
-                failed += fault is not None
-                if fault:
-                    print("%s from %s: %s" % (command, start, fault))
+                tally.equals("%s from %s" % (command, start), None, fault)
     print("%d states read; %d commands were refused or wrote nothing" % (states, refused))
-    print("%d passed, %d failed" % (passed, failed))
-    return 1 if failed else 0
+    return tally.end()
 
 
 if __name__ == "__main__":

@@ -10,30 +10,34 @@ copies elsewhere, or wants more than a right copy, counts there.
 """
 import os
 
-import gpt
-import recording
-from states import Enumeration, Write
+from harness import recording, table
+from harness.states import SECTOR, Enumeration, Image, Write, listing
 
+DISK = table.guid_text(bytes([0xD1] * 16))
+LINUX = "0fc63daf-8483-4772-8e79-3d69d8477de4"
 SIZE = 16 << 20
 GROWN = 24 << 20
 PARTITIONS = [(2048, 10239, "part1"), (10240, 26623, "part2")]
 EDGE = 128
 
 
-def spoiled(image, at, data):
-    """The image with other bytes from byte `at` on."""
-    return image[:at] + data + image[at + len(data):]
+def image_of(partitions, size=SIZE):
+    """The bytes of an image with a table. A partition is its first sector, its last sector and its name."""
+    entries = {number: table.Entry(LINUX, table.guid_text(bytes([number] * 16)), first, last, 0, name)
+               for number, (first, last, name) in enumerate(partitions, 1)}
+    found = table.Table(DISK, *table.bounds(size), 128, entries)
+    return table.image_of(found, size)
 
 
 def starts():
     """The starts: name -> the bytes of the image."""
-    good = gpt.make(SIZE, PARTITIONS)
-    nothing = bytes(gpt.SECTOR)
+    good = image_of(PARTITIONS)
+    nothing = bytes(SECTOR)
     return {
         "both good": good,
-        "primary header zeroed": spoiled(good, gpt.SECTOR, nothing),
-        "primary entries damaged": spoiled(good, 2 * gpt.SECTOR, bytes([good[1024] ^ 255])),
-        "backup header zeroed": spoiled(good, SIZE - gpt.SECTOR, nothing),
+        "primary header zeroed": table.laid(good, [(SECTOR, nothing)]),
+        "primary entries damaged": table.laid(good, [(2 * SECTOR, bytes([good[1024] ^ 255]))]),
+        "backup header zeroed": table.laid(good, [(SIZE - SECTOR, nothing)]),
         "after growth": good + bytes(GROWN - SIZE),
     }
 
@@ -48,7 +52,7 @@ class Trial:
         self.path = os.path.join(folder, "disk.img")
         self.log = os.path.join(folder, "log")
         self.events = []
-        self.tables = [gpt.read(gpt.Image(base))]
+        self.tables = [Image(base).table()]
 
     def result(self, mixtures):
         """What came of it, as a dictionary."""
@@ -81,18 +85,18 @@ class Trial:
                 return "%s: %s" % ("failed" if wrote else "refused", told[:200])
             with open(self.path, "rb") as file:
                 final = file.read()
-            self.tables.append(gpt.read(gpt.Image(final)))
+            self.tables.append(Image(final).table())
         return self.fault_of(final)
 
     def fault_of(self, final):
         """Whether the record misses something, or the program did not do what it is to do."""
-        image = gpt.Image(self.base)
+        image = Image(self.base)
         for event in self.events:
             if isinstance(event, Write):
                 image.put(event.at, event.data)
-        if gpt.Image(final, image.changed).key() or len(final) != len(self.base):
+        if Image(final, image.changed).key() or len(final) != len(self.base):
             return "not judged: the record does not give the image that it left"
-        if None in self.tables or len(gpt.listing(self.tables[-1])) != self.program.leaves:
+        if None in self.tables or len(listing(self.tables[-1])) != self.program.leaves:
             return "not judged: there are not the new partitions"
         return None
 
@@ -104,7 +108,7 @@ class Trial:
         mild = self.states(mixtures, False)
         return {
             "states": len(found), "lost": len(lost), "lost_by_own_reading": len(unread),
-            "between": sum(gpt.read(found[key][1]) is not None for key in lost),
+            "between": sum(found[key][1].table() is not None for key in lost),
             "moments": len(self.events) + 1,
             "moments_that_lose": len(set().union(*(found[key][2] for key in lost))),
             "states_without_garbage": len(mild),
@@ -121,13 +125,13 @@ class Trial:
 
     def is_lost(self, image):
         """Whether the format's reading gives none of the tables on the way."""
-        return gpt.read(image) not in self.tables
+        return image.table() not in self.tables
 
     def is_unread(self, image):
         """Whether the program itself lists none of them."""
         self.lay(image)
         listed = self.program.read(self.path)
-        return not any(agrees(listed, gpt.listing(table)) for table in self.tables)
+        return not any(agrees(listed, listing(found)) for found in self.tables)
 
     def lay(self, image):
         """Writes the state to the file. Only what lies near an end, or was written, can differ."""
@@ -135,14 +139,14 @@ class Trial:
         numbers = {*range(EDGE), *range(count - EDGE, count), *self.touched()}
         with open(self.path, "r+b") as file:
             for number in sorted(numbers):
-                file.seek(number * gpt.SECTOR)
+                file.seek(number * SECTOR)
                 file.write(image.sector(number))
 
     def touched(self):
         """The sectors that are written in this trial."""
         for event in self.events:
             if isinstance(event, Write):
-                first = event.at // gpt.SECTOR
+                first = event.at // SECTOR
                 yield from range(first, first + len(event.parts))
 
 

@@ -9,7 +9,7 @@ import os
 import re
 import shutil
 
-import recording
+from harness import recording
 
 FIRST, COUNT = 26624, 2048
 LAST = FIRST + COUNT - 1

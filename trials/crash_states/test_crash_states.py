@@ -1,19 +1,21 @@
 """What is known of the tool beforehand: python3 -m unittest discover trials/crash_states"""
+import os
+import sys
 import unittest
 
-import gpt
-import judging
-import recording
-from states import Enumeration, Write
+sys.path.insert(1, os.path.join(os.path.dirname(os.path.abspath(__file__)), "..", "..", "tests"))
+from harness import recording  # noqa: E402
+from harness.states import SECTOR, Enumeration, Image, Write, listing  # noqa: E402
+import judging  # noqa: E402
 
 OLD = judging.PARTITIONS
 NEW = OLD + [(26624, 28671, "foo")]
-END = judging.SIZE - gpt.SECTOR
+END = judging.SIZE - SECTOR
 
 
 def copies(image):
     """The writes of the primary copy and of the backup copy of an image."""
-    array = gpt.ARRAY_SECTORS * gpt.SECTOR
+    array = 128 * 128
     return [[Write(at, image[at:at + size]) for at, size in places] for places in (
         [(512, 512), (1024, array)], [(END, 512), (END - array, array)])]
 
@@ -24,12 +26,12 @@ class Order(unittest.TestCase):
     def lost(self, start, events, garbage=True):
         """How many states lose the table."""
         base = judging.starts()[start]
-        tables = [gpt.read(gpt.Image(image)) for image in (base, gpt.make(judging.SIZE, NEW))]
+        tables = [Image(image).table() for image in (base, judging.image_of(NEW))]
         states = Enumeration(base, events, garbage=garbage).states()
-        return sum(gpt.read(image) not in tables for _, _, image in states)
+        return sum(image.table() not in tables for _, _, image in states)
 
     def setUp(self):
-        self.primary, self.backup = copies(gpt.make(judging.SIZE, NEW))
+        self.primary, self.backup = copies(judging.image_of(NEW))
 
     def test_one_copy_and_then_the_other(self):
         """Nothing is lost from two good copies, whichever is written first."""
@@ -58,20 +60,19 @@ class Images(unittest.TestCase):
     def test_starts(self):
         """Each start holds the table of two partitions."""
         for name, base in judging.starts().items():
-            table = gpt.read(gpt.Image(base))
-            self.assertEqual(gpt.listing(table), dict(enumerate(OLD, 1)), name)
+            self.assertEqual(listing(Image(base).table()), dict(enumerate(OLD, 1)), name)
 
     def test_garbage_in_a_write_within_a_sector(self):
         """It spoils the sector that is written, and no other."""
-        image = gpt.Image(bytes(4 * gpt.SECTOR))
+        image = Image(bytes(4 * SECTOR))
         Write(700, b"x" * 92).lay(image, "g")
-        self.assertEqual(image.read(0, 4), bytes(512) + bytes([7] * 512) + bytes(1024))
+        self.assertEqual(image.read(0, 4 * SECTOR), bytes(512) + bytes([7] * 512) + bytes(1024))
 
     def test_write_over_the_end_of_a_sector(self):
         """It has a part in each of both sectors, and each has a fate of its own."""
-        image = gpt.Image(bytes(4 * gpt.SECTOR))
+        image = Image(bytes(4 * SECTOR))
         Write(1000, b"x" * 100).lay(image, "no")
-        self.assertEqual(image.read(0, 4), bytes(1000) + b"x" * 24 + bytes(1024))
+        self.assertEqual(image.read(0, 4 * SECTOR), bytes(1000) + b"x" * 24 + bytes(1024))
 
 
 class Traces(unittest.TestCase):

@@ -8,6 +8,9 @@ from typing import NamedTuple
 HEADER = struct.Struct("<8s4sII4sQQQQ16sQIII")
 SECTORS = (512, 1024, 2048, 4096)
 
+# Where some fields of a header stand, and their formats.
+FIRST, LAST, ARRAY_AT, COUNT, ARRAY_CRC = (40, "<Q"), (48, "<Q"), (72, "<Q"), (80, "<I"), (88, "<I")
+
 
 class Entry(NamedTuple):
     """A used entry. GUIDs are texts in lower case."""
@@ -28,6 +31,20 @@ class Table(NamedTuple):
     last: int
     count: int
     entries: dict
+
+
+class Copy(NamedTuple):
+    """A copy of a table as its header has it: the sectors of this header and of the other one, the usable sectors,
+    the GUID of the disk, the first sector of the entries, how many there are, and their bytes."""
+
+    own: int
+    other: int
+    first: int
+    last: int
+    guid: str
+    at: int
+    count: int
+    array: bytes
 
 
 class File:
@@ -61,6 +78,12 @@ def read_entry(raw):
     return Entry(guid_text(raw[:16]), guid_text(raw[16:32]), first, last, attributes, name)
 
 
+def entries_in(array):
+    """The used entries of these bytes, by their numbers."""
+    entries = {number + 1: read_entry(array[number * 128:number * 128 + 128]) for number in range(len(array) // 128)}
+    return {number: entry for number, entry in entries.items() if entry}
+
+
 def entry_bytes(entry):
     """The 128 bytes of an entry."""
     name = entry.name.encode("utf-16-le", "surrogatepass")[:72].ljust(72, b"\0")
@@ -69,7 +92,7 @@ def entry_bytes(entry):
 
 
 def copy_at(image, sector, own):
-    """The fields of a good header in this sector and its entries, wherever they say they are; else None."""
+    """The copy whose header is in this sector, wherever that says its parts are; None where it has a fault."""
     raw = image.read(own * sector, 92)
     if own < 1 or len(raw) < 92:
         return None
@@ -82,21 +105,16 @@ def copy_at(image, sector, own):
         return None
     if zlib.crc32(array) != array_checksum:
         return None
-    return this, that, first, last, guid_text(disk), at, count, array
+    return Copy(this, that, first, last, guid_text(disk), at, count, array)
 
 
 def read_copy(image, sector, own, other):
     """The table of the copy whose header is in the sector `own`, or None where it has a fault or is not in the
     form of its place."""
     found = copy_at(image, sector, own)
-    if not found:
+    if not found or (found.own, found.other) != (own, other) or found.at != (2 if own == 1 else found.last + 1):
         return None
-    this, that, first, last, disk, at, count, array = found
-    if (this, that) != (own, other) or at != (2 if own == 1 else last + 1):
-        return None
-    entries = {number + 1: read_entry(array[number * 128:number * 128 + 128]) for number in range(count)}
-    used = {number: entry for number, entry in entries.items() if entry}
-    return Table(disk, first, last, count, used)
+    return Table(found.guid, found.first, found.last, found.count, entries_in(found.array))
 
 
 def read_copies(path, sector=512):
@@ -123,12 +141,10 @@ def ranges_in(image, sector):
         found = copy_at(image, sector, own)
         if not found:
             continue
-        this, that, _, last, _, at, count, _ = found
-        other_at = last + 1 if at == 2 else 2
-        for header in (this, that, own):
+        for header in (found.own, found.other, own):
             ranges.append((header * sector, header * sector + 92))
-        for array in (at, other_at):
-            ranges.append((array * sector, array * sector + count * 128))
+        for array in (found.at, found.last + 1 if found.at == 2 else 2):
+            ranges.append((array * sector, array * sector + found.count * 128))
     return ranges
 
 
@@ -167,20 +183,47 @@ def header_bytes(own, other, found, at, array, reserved=0, header_size=92):
     return packed(zlib.crc32(packed(0)))
 
 
+def with_fields(header, *fields):
+    """The header with other fields, each its place, its format and its value, and with the right checksum."""
+    raw = bytearray(header)
+    for at, form, value in (*fields, (16, "<I", 0)):
+        struct.pack_into(form, raw, at, value)
+    struct.pack_into("<I", raw, 16, zlib.crc32(raw))
+    return bytes(raw)
+
+
 def mbr_bytes(size, sector=512, status=0):
     """The 66 bytes of a protective MBR."""
     count = min(size // sector - 1, 0xffffffff)
-    return bytes([status, 0, 2, 0, 0xee, 255, 255, 255, 1, 0, 0, 0]) + struct.pack("<I", count) + bytes(48) + b"\x55\xaa"
+    partition = struct.pack("<8B2I", status, 0, 2, 0, 0xee, 255, 255, 255, 1, count)
+    return partition.ljust(64, b"\0") + b"\x55\xaa"
 
 
-def pieces_of(found, size, sector=512, primary_at=2, backup_at=None, header_size=92):
-    """The bytes of a table on a disk of this length, each with where it is: both copies and the MBR."""
+def copies_of(found, size, sector=512, primary_at=2, backup_at=None, header_size=92, reserved=0):
+    """The bytes of both copies of a table on a disk of this length, each with where it is."""
     end, array = size // sector - 1, array_of(found.entries, found.count)
     backup_at = found.last + 1 if backup_at is None else backup_at
-    return [(446, mbr_bytes(size, sector)),
-            (sector, header_bytes(1, end, found, primary_at, array, header_size=header_size)),
+    return [(sector, header_bytes(1, end, found, primary_at, array, reserved, header_size)),
             (primary_at * sector, array), (backup_at * sector, array),
-            (end * sector, header_bytes(end, 1, found, backup_at, array, header_size=header_size))]
+            (end * sector, header_bytes(end, 1, found, backup_at, array, reserved, header_size))]
+
+
+def pieces_of(found, size, sector=512, **how):
+    """The same with the protective MBR before them."""
+    return [(446, mbr_bytes(size, sector)), *copies_of(found, size, sector, **how)]
+
+
+def laid(image, pieces):
+    """The image with these pieces over other bytes."""
+    image = bytearray(image)
+    for at, data in pieces:
+        image[at:at + len(data)] = data
+    return bytes(image)
+
+
+def image_of(found, size, sector=512, **how):
+    """The bytes of an image with this table and a protective MBR."""
+    return laid(bytes(size), pieces_of(found, size, sector, **how))
 
 
 def put(path, pieces):

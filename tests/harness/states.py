@@ -13,10 +13,76 @@ Not every mixture is tried, as there are too many. At each moment these are:
 """
 import random
 
-import gpt
+from harness import table
 
+SECTOR = 512
 OLD, NEW, GARBAGE = "o", "n", "g"
-GARBAGE_SECTOR = bytes([7]) * gpt.SECTOR
+GARBAGE_SECTOR = bytes([7]) * SECTOR
+
+
+class Image:
+    """The bytes of an image, with sectors that were changed."""
+
+    def __init__(self, base, changed=None):
+        self.base = base
+        self.size = len(base)
+        self.changed = dict(changed or {})
+
+    def copy(self):
+        """An image of its own with the same bytes."""
+        return Image(self.base, self.changed)
+
+    def sector(self, number):
+        """The 512 bytes of a sector."""
+        if number in self.changed:
+            return self.changed[number]
+        return self.base[number * SECTOR:(number + 1) * SECTOR]
+
+    def read(self, at, count):
+        """These bytes, fewer where the image ends before."""
+        first, begin = divmod(at, SECTOR)
+        last = min(-(-(at + count) // SECTOR), -(-self.size // SECTOR))
+        return b"".join(self.sector(number) for number in range(first, last))[begin:begin + count]
+
+    def put(self, at, data):
+        """Writes bytes from byte `at` on."""
+        number = at // SECTOR
+        for part in parts_of(at, data):
+            begin = at % SECTOR if number == at // SECTOR else 0
+            old = self.sector(number)
+            self.changed[number] = old[:begin] + part + old[begin + len(part):]
+            number += 1
+
+    def sectors(self):
+        """How many whole sectors there are."""
+        return self.size // SECTOR
+
+    def key(self):
+        """What is the same of two images exactly where their bytes are."""
+        return frozenset((n, b) for n, b in self.changed.items()
+                         if b != self.base[n * SECTOR:(n + 1) * SECTOR])
+
+    def table(self):
+        """The table by the rules of the format: that of the copy in sector 1, or where it has a fault that of the copy
+        in the last sector. It is the GUID of the disk and the bytes of the entries, so it is the same in both
+        copies, and where it was only fitted to another length."""
+        found = table.copy_at(self, SECTOR, 1) or table.copy_at(self, SECTOR, self.sectors() - 1)
+        return found and (found.guid, found.array)
+
+
+def parts_of(at, data):
+    """The bytes of a write, cut where a sector ends."""
+    parts = []
+    while data:
+        room = SECTOR - at % SECTOR
+        parts.append(data[:room])
+        at, data = at + room, data[room:]
+    return parts
+
+
+def listing(found):
+    """The used partitions of a table that an image has: number -> first sector, last sector, name."""
+    return {number: (entry.first, entry.last, entry.name) for number, entry in table.entries_in(found[1]).items()}
 
 
 class Write:
@@ -25,7 +91,7 @@ class Write:
     def __init__(self, at, data):
         self.at = at
         self.data = data
-        self.parts = gpt.parts_of(at, data)
+        self.parts = parts_of(at, data)
 
     def lay(self, image, fates):
         """Writes each sector's part as its fate says. Garbage spoils the whole sector."""
@@ -34,7 +100,7 @@ class Write:
             if fate == NEW:
                 image.put(at, part)
             elif fate == GARBAGE:
-                image.put(at // gpt.SECTOR * gpt.SECTOR, GARBAGE_SECTOR)
+                image.put(at // SECTOR * SECTOR, GARBAGE_SECTOR)
             at += len(part)
 
 
@@ -42,7 +108,7 @@ class Enumeration:
     """The states of a run, moment by moment. The choice by chance is the same each time."""
 
     def __init__(self, base, events, mixtures=40, garbage=True, seed=1):
-        self.synced = gpt.Image(base)
+        self.synced = Image(base)
         self.events = events
         self.mixtures = mixtures
         self.garbage = garbage

@@ -9,7 +9,7 @@ import os
 import re
 import subprocess
 
-from states import Write
+from harness.states import Write
 
 CALLS = ("open,openat,openat2,creat,read,readv,write,pwrite64,writev,pwritev,pwritev2,lseek,"
          "ftruncate,truncate,fsync,fdatasync,sync,syncfs,msync,mmap,dup,dup2,dup3,fcntl,close,"

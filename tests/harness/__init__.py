@@ -1,0 +1,1 @@
+"""What the tests of built programs and the trials have in common."""

@@ -1,0 +1,76 @@
+"""Runs programs: their words, what they read, closed streams, limits, and what came of a run."""
+import os
+import shutil
+import subprocess
+from typing import NamedTuple
+
+from harness.images import Folder
+
+LIMIT = 60
+
+
+class Ended(NamedTuple):
+    """What came of a run: its status as a shell tells it, 128 and more where a signal ended it, and what it
+    printed."""
+
+    status: int
+    out: str
+    err: str
+
+
+def status_of(code):
+    """The status that a shell tells, of the one that subprocess has."""
+    return code if code >= 0 else 128 - code
+
+
+def run(words, text="", errors="strict", timeout=LIMIT, **how):
+    """Runs a command with this text on standard input, and gives what came of it."""
+    ended = subprocess.run(words, input=text.encode(), stdout=subprocess.PIPE, stderr=subprocess.PIPE, check=False,
+                           timeout=timeout, **how)
+    return Ended(status_of(ended.returncode), ended.stdout.decode(errors=errors), ended.stderr.decode(errors=errors))
+
+
+def run_to_files(words, folder, timeout=LIMIT):
+    """Runs a command in a folder with nothing to read, and with files there as its output and its errors."""
+    out, err = os.path.join(folder, "printed.out"), os.path.join(folder, "printed.err")
+    with open(out, "wb") as stdout, open(err, "wb") as stderr:
+        ended = subprocess.run(words, cwd=folder, stdin=subprocess.DEVNULL, stdout=stdout, stderr=stderr, check=False,
+                               timeout=timeout)
+    texts = []
+    for path in out, err:
+        with open(path, "rb") as file:
+            texts.append(file.read().decode(errors="surrogateescape"))
+    return Ended(status_of(ended.returncode), *texts)
+
+
+def by_shell(script, words):
+    """The words of a shell that runs a script, in which "$@" stands for these words."""
+    return ["bash", "-c", script, "-", *words]
+
+
+def closing(streams):
+    """A script that closes these standard streams and becomes a command."""
+    return "".join(f"exec {stream}{'<' if stream == '0' else '>'}&-; " for stream in streams) + 'exec "$@"'
+
+
+def there(*names):
+    """Whether all of these programs are installed."""
+    return all(shutil.which(name) for name in names)
+
+
+def set_environment():
+    """Has tools of the system found, and their messages in English."""
+    os.environ["PATH"] += ":/usr/sbin:/sbin"
+    os.environ["LC_ALL"] = "C.UTF-8"
+
+
+class Program(Folder):
+    """A program, in a folder of its own."""
+
+    def __init__(self, path, folder):
+        super().__init__(folder)
+        self.path = path
+
+    def run(self, *words, **how):
+        """Runs it with these words, and gives what came of it."""
+        return run([self.path, *words], cwd=self.folder, **how)
