@@ -43,14 +43,14 @@ def run_to_files(words, folder, timeout=LIMIT):
     return Ended(status_of(ended.returncode), *texts)
 
 
-def by_shell(script, words):
-    """The words of a shell that runs a script, in which "$@" stands for these words."""
-    return ["bash", "-c", script, "-", *words]
+def by_shell(script, words, after=""):
+    """The words of a shell that runs a script, and becomes this command then, with these redirections."""
+    return ["bash", "-c", f'{script} exec "$@" {after}', "-", *words]
 
 
 def closing(streams):
-    """A script that closes these standard streams and becomes a command."""
-    return "".join(f"exec {stream}{'<' if stream == '0' else '>'}&-; " for stream in streams) + 'exec "$@"'
+    """The part of a script that closes these standard streams."""
+    return "".join(f"exec {stream}{'<' if stream == '0' else '>'}&-; " for stream in streams)
 
 
 def there(*names):
