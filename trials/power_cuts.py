@@ -24,7 +24,9 @@ import sys
 import tempfile
 import time
 
-import guest
+sys.path.insert(1, os.path.join(os.path.dirname(os.path.abspath(__file__)), "..", "tests"))
+from harness.tally import Tally  # noqa: E402
+import guest  # noqa: E402
 
 DATA_TYPE = "a2a0d0ebe5b9334487c068b6b72699c7"
 KEPT = "77" * 16
@@ -155,25 +157,23 @@ def judge(told, image, first):
     return False, last, f"shown {shown} after {last}; {line}"
 
 
-def cut_all(asked, folder):
-    """Makes all cuts, and gives how many were right and how many were not."""
+def cut_all(tally, asked, folder):
+    """Makes all cuts."""
     program = os.path.realpath(asked.program)
     in_guest = program if asked.tool == "gptimg" else shutil.which(asked.tool)
     initrd = make_guest(asked.tool, in_guest, folder)
     image = Image(program, f"{folder}/disk.img")
     chance = random.Random(asked.seed)
-    passed, first = 0, NEW
+    first = NEW
     for cut in range(1, asked.cuts + 1):
         words = words_of_machine(initrd, image.path, first)
         enough = f"done {first + 2} "
         told = run_until_cut(words, f"{folder}/log", enough, chance.uniform(0, 1.5))
         is_right, first, line = judge(told, image, first)
-        passed += is_right
-        print(f"{'ok    ' if is_right else 'FAILED'}  cut {cut}: {line}", flush=True)
+        tally.told(f"cut {cut}", is_right, line)
         if not is_right:
             first = NEW
             image.make()
-    return passed, asked.cuts - passed
 
 
 def main():
@@ -185,10 +185,10 @@ def main():
     words.add_argument("--cuts", type=int, default=20)
     words.add_argument("--seed", type=int, default=1)
     asked = words.parse_args()
+    tally = Tally()
     with tempfile.TemporaryDirectory() as folder:
-        passed, failed = cut_all(asked, folder)
-    print(f"{passed} passed, {failed} failed")
-    return 1 if failed else 0
+        cut_all(tally, asked, folder)
+    return tally.end()
 
 
 if __name__ == "__main__":

@@ -22,10 +22,12 @@ import sys
 import tempfile
 from dataclasses import dataclass
 
-import guest
-from readers_machines import Linux, machines
-from readers_programs import programs
-from readers_stops import OLD, SECTOR, STOPS, make_images, read
+sys.path.insert(1, os.path.join(os.path.dirname(os.path.abspath(__file__)), "..", "tests"))
+from harness.tally import Tally  # noqa: E402
+import guest  # noqa: E402
+from readers_machines import Linux, machines  # noqa: E402
+from readers_programs import programs  # noqa: E402
+from readers_stops import OLD, SECTOR, STOPS, make_images, read  # noqa: E402
 
 TOP = os.path.dirname(os.path.dirname(os.path.abspath(__file__)))
 
@@ -123,10 +125,11 @@ def rows_of(readers, program, images):
         yield row_of(reader, program, images)
 
 
-def judge(rows):
-    """How many images were read right by those that have to read each, and how many were not."""
-    right = [it for row in rows if row.name in JUDGED for it in row.right()]
-    return sum(right), len(right) - sum(right)
+def judge(tally, rows):
+    """Counts whether those that have to read each image read it right."""
+    for row in rows:
+        for places, stop in zip(row.seen, STOPS) if row.name in JUDGED else []:
+            tally.equals(f"what {row.name} reads, {stop.name}", stop.table(), places)
 
 
 def main():
@@ -138,9 +141,9 @@ def main():
     with tempfile.TemporaryDirectory() as folder:
         rows = list(rows_of(readers, program, make_images(program, folder)))
     print(*lines_of(rows), sep="\n")
-    passed, failed = judge(rows)
-    print(f"{passed} passed, {failed} failed")
-    return 1 if failed else 0
+    tally = Tally()
+    judge(tally, rows)
+    return tally.end()
 
 
 if __name__ == "__main__":

@@ -1,5 +1,7 @@
 """Tests of the trial of readers: its states, what it takes of an answer, and its table."""
 
+import contextlib
+import io
 import os
 import sys
 import unittest
@@ -7,6 +9,7 @@ import unittest
 sys.path.insert(1, os.path.join(os.path.dirname(os.path.abspath(__file__)), "..", "tests"))
 from harness import table
 from harness.states import Image, listing
+from harness.tally import Tally
 import readers
 from readers_machines import Edk2
 from readers_programs import places_of, programs
@@ -95,11 +98,18 @@ class Table(unittest.TestCase):
         self.assertEqual(words, ["gptimg", "6 of 6", *seen, "2 of 3"])
         self.assertEqual(len(readers.head()), len(words))
 
+    def judged(self, rows):
+        """How many images are counted as read right, and how many as read wrong."""
+        tally = Tally()
+        with contextlib.redirect_stdout(io.StringIO()):
+            readers.judge(tally, rows)
+        return tally.passed, tally.failed
+
     def test_judged_are_two(self):
         right = [stop.table() for stop in STOPS]
         rows = [readers.Row(name, right, 0, 0) for name in readers.JUDGED]
-        self.assertEqual(readers.judge(rows + [readers.Row("parted -s", [()] * 12, 0, 0)]), (24, 0))
-        self.assertEqual(readers.judge([readers.Row("gptimg", [()] + right[1:], 0, 0)]), (11, 1))
+        self.assertEqual(self.judged(rows + [readers.Row("parted -s", [()] * 12, 0, 0)]), (24, 0))
+        self.assertEqual(self.judged([readers.Row("gptimg", [()] + right[1:], 0, 0)]), (11, 1))
 
     def test_recipe_is_in_the_guide(self):
         self.assertIn("gptimg", readers.file_of_guide("repair.sh"))

@@ -1,12 +1,16 @@
 """Counts what holds and what does not, subject by subject."""
 import shutil
-import sys
 
 
 def cut(value):
     """The value as text in one line, cut where it is long."""
     text = repr(value)
     return text if len(text) <= 1000 else f"{text[:1000]}.. ({len(text)} characters)"
+
+
+def print_line(name, does_hold, line):
+    """Prints the line of a subject."""
+    print(f"{'ok      ' if does_hold else 'FAILED  '}{name}: {line}", flush=True)
 
 
 class Tally:
@@ -40,6 +44,12 @@ class Tally:
         """Counts whether a value is one of the wanted ones."""
         self.counts(what, got in wanted, wanted, got)
 
+    def told(self, name, does_hold, line):
+        """Counts whether something holds that is a subject by itself, and prints its line."""
+        self.passed += does_hold
+        self.failed += not does_hold
+        print_line(name, does_hold, line)
+
     def leave_out(self, why, what):
         """Prints what is left out, and why."""
         print(f"-- {why}: {what} is left out")
@@ -62,9 +72,7 @@ class Tally:
             where = f" in line {place.tb_lineno}" if place else ""
             self.equals(f"{name} is not finished", None, f"{error!r}{where}")
         tried = self.passed + self.failed - passed - failed
-        state = "ok      " if self.failed == failed else "FAILED  "
-        print(f"{state}{name}: {tried} tried" + (f", {note}" if note else ""))
-        sys.stdout.flush()
+        print_line(name, self.failed == failed, f"{tried} tried" + (f", {note}" if note else ""))
 
     def end(self):
         """Prints the last line, and gives the status."""
