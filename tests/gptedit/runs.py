@@ -23,9 +23,9 @@ GUID = re.compile(r"[0-9a-fA-F]{8}(-[0-9a-fA-F]{4}){3}-[0-9a-fA-F]{12}")
 
 
 class Program(runs.Program):
-    """gptedit, in a folder of its own."""
+    """gptedit, in a folder of its own. Without a tally its runs are not compared."""
 
-    def __init__(self, path, folder, tally):
+    def __init__(self, path, folder, tally=None):
         super().__init__(path, folder)
         self.tally = tally
 
@@ -33,7 +33,7 @@ class Program(runs.Program):
         """Runs it with these words on standard input `text`. Gives its status and what it printed. What it
         writes is compared, and so is a dry run with it."""
         name = next((word for word in words[1:] if word.endswith(".img") and os.path.isfile(self.file(word))), None)
-        if not name or how:
+        if not self.tally or not name or how:
             return self.plain(*words, text=text, **how)
         before = self.state(name)
         is_change = words[0] in CHANGES and not set(words) & set(DRY) and "--help" not in words
