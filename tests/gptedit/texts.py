@@ -66,7 +66,7 @@ def put_units(program, units, number=1):
             name = at * 512 + (number - 1) * length + 56
             image[name:name + 72] = struct.pack("<36H", *(units + [0] * (36 - len(units))))
             array = image[at * 512:at * 512 + count * length]
-            image[own * 512:own * 512 + 92] = table.with_fields(header, (88, "<I", zlib.crc32(array)))
+            image[own * 512:own * 512 + 92] = table.with_fields(header, (*table.ARRAY_CRC, zlib.crc32(array)))
         file.seek(0)
         file.write(image)
 
