@@ -6,16 +6,15 @@ import shutil
 import subprocess
 
 from harness import table
+from harness.runs import by_shell
 from commands import ADD_ESP, DISK, ESP_ENTRY, MIB, start
 from layouts import RANDOM, draw, toml_of
 
 
 def run_with(program, redirections, *words):
     """Runs it with these redirections of a shell, and gives the status."""
-    line = 'exec "$@" ' + redirections
-    return subprocess.run(["sh", "-c", line, "-", program.path, *words], cwd=program.folder, check=False,
-                          stdin=subprocess.DEVNULL, stdout=subprocess.DEVNULL,
-                          stderr=subprocess.DEVNULL).returncode
+    return subprocess.run(by_shell("", [program.path, *words], redirections), cwd=program.folder, check=False,
+                          stdin=subprocess.DEVNULL, stdout=subprocess.DEVNULL, stderr=subprocess.DEVNULL).returncode
 
 
 def try_closed(tally, program):

@@ -7,8 +7,8 @@ byte, the record does not replay to the image that the program left.
 """
 import os
 import re
-import subprocess
 
+from harness import runs
 from harness.states import Write
 
 CALLS = ("open,openat,openat2,creat,read,readv,write,pwrite64,writev,pwritev,pwritev2,lseek,"
@@ -27,9 +27,8 @@ class Unseen(Exception):
 
 
 def run(command, words=""):
-    """Runs a command, and gives what subprocess gives."""
-    return subprocess.run(command, input=words, stdout=subprocess.PIPE, stderr=subprocess.STDOUT,
-                          text=True, errors="replace", env=ENVIRONMENT, timeout=120, check=False)
+    """Runs a command with these words to read. Its errors are among its output."""
+    return runs.run(command, words, "replace", timeout=120, is_one_text=True, env=ENVIRONMENT)
 
 
 def record(command, words, image, log):
@@ -38,7 +37,7 @@ def record(command, words, image, log):
     ended = run(["strace", *options, "-o", log, *command], words)
     with open(log, encoding="ascii", errors="replace") as file:
         events = Reader(image).events_of(file)
-    return ended.returncode, ended.stdout, events
+    return ended.status, ended.out, events
 
 
 def plain(text):

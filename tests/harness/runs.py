@@ -23,11 +23,13 @@ def status_of(code):
     return code if code >= 0 else 128 - code
 
 
-def run(words, text="", errors="strict", timeout=LIMIT, **how):
-    """Runs a command with this text on standard input, and gives what came of it."""
-    ended = subprocess.run(words, input=text.encode(), stdout=subprocess.PIPE, stderr=subprocess.PIPE, check=False,
-                           timeout=timeout, **how)
-    return Ended(status_of(ended.returncode), ended.stdout.decode(errors=errors), ended.stderr.decode(errors=errors))
+def run(words, text="", errors="strict", timeout=LIMIT, is_one_text=False, **how):
+    """Runs a command with this text on standard input, and gives what came of it. Its errors are among its output where
+    that is one text."""
+    ended = subprocess.run(words, input=text.encode(), stdout=subprocess.PIPE, check=False, timeout=timeout,
+                           stderr=subprocess.STDOUT if is_one_text else subprocess.PIPE, **how)
+    out, err = ((raw or b"").decode(errors=errors) for raw in (ended.stdout, ended.stderr))
+    return Ended(status_of(ended.returncode), out, err)
 
 
 def run_to_files(words, folder, timeout=LIMIT):

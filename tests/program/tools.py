@@ -1,15 +1,12 @@
 """Other tools: what they print, what they say of an image, and strace."""
 import shutil
-import subprocess
 
-from harness.runs import there
+from harness.runs import run, there
 
 
 def printed_by(program, *words, text=""):
     """What a tool prints in the program's folder, its errors among it."""
-    ended = subprocess.run(words, cwd=program.folder, input=text.encode(), stdout=subprocess.PIPE,
-                           stderr=subprocess.STDOUT, check=False)
-    return ended.stdout.decode(errors="surrogateescape")
+    return run(words, text, "surrogateescape", is_one_text=True, cwd=program.folder).out
 
 
 def is_accepted(program, image):

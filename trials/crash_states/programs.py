@@ -45,7 +45,7 @@ class Program:
         """The line in which it tells its version."""
         if not self.version:
             return self.needs[0]
-        return recording.run(self.version).stdout.strip().split("\n")[0]
+        return recording.run(self.version).out.strip().split("\n")[0]
 
 
 def programs(gptimg, folder):
@@ -122,28 +122,28 @@ def libraries(folder):
 def read_gptimg(gptimg, image):
     """The listing of `gptimg show`."""
     ended = recording.run([gptimg, image, "512", "show"])
-    if ended.returncode:
+    if ended.status:
         return None
-    found = re.findall(r"^(\d+) \S+ \S+ (\d+)\.\.(\d+) \S+ (.*)$", ended.stdout, re.M)
+    found = re.findall(r"^(\d+) \S+ \S+ (\d+)\.\.(\d+) \S+ (.*)$", ended.out, re.M)
     return {int(n): (int(first), int(last), name) for n, first, last, name in found}
 
 
 def read_list(program, image):
     """The listing of a program that tells the number, both sectors and the name of a partition in a line."""
     ended = recording.run([program, image])
-    if ended.returncode:
+    if ended.status:
         return None
-    found = re.findall(r"^(\d+) (\d+) (\d+) (.*)$", ended.stdout, re.M)
+    found = re.findall(r"^(\d+) (\d+) (\d+) (.*)$", ended.out, re.M)
     return {int(n): (int(first), int(last), name) for n, first, last, name in found}
 
 
 def read_sgdisk(image):
     """The listing of `sgdisk -p`."""
     ended = recording.run(["sgdisk", "-p", image])
-    if ended.returncode or "Disk identifier (GUID)" not in ended.stdout or re.search(
-            "Creating new GPT entries|converting MBR|invalid GPT", ended.stdout):
+    if ended.status or "Disk identifier (GUID)" not in ended.out or re.search(
+            "Creating new GPT entries|converting MBR|invalid GPT", ended.out):
         return None
-    found = re.findall(r"^ +(\d+) +(\d+) +(\d+) +[\d.]+ \w+ +\S+ *(.*)$", ended.stdout, re.M)
+    found = re.findall(r"^ +(\d+) +(\d+) +(\d+) +[\d.]+ \w+ +\S+ *(.*)$", ended.out, re.M)
     return {int(n): (int(first), int(last), name) for n, first, last, name in found}
 
 
@@ -156,11 +156,11 @@ def read_json(command, image):
     """The listing of a command that tells a table as JSON."""
     ended = recording.run(command)
     try:
-        told = ended.stdout[ended.stdout.index("{"):ended.stdout.rindex("}") + 1]
+        told = ended.out[ended.out.index("{"):ended.out.rindex("}") + 1]
         table = json.loads(told)["partitiontable"]
     except ValueError:
         return None
-    if ended.returncode or table["label"] != "gpt":
+    if ended.status or table["label"] != "gpt":
         return None
     return {int(p["node"][len(image):]): (p["start"], p["start"] + p["size"] - 1, p.get("name", ""))
             for p in table.get("partitions", [])}
@@ -169,16 +169,16 @@ def read_json(command, image):
 def read_parted(image):
     """The listing of `parted -m print`."""
     ended = recording.run(["parted", "-s", "-m", image, "unit", "s", "print"])
-    if ended.returncode or ":gpt:" not in ended.stdout:
+    if ended.status or ":gpt:" not in ended.out:
         return None
-    found = re.findall(r"^(\d+):(\d+)s:(\d+)s:\d+s:[^:]*:(.*):[^:]*;$", ended.stdout, re.M)
+    found = re.findall(r"^(\d+):(\d+)s:(\d+)s:\d+s:[^:]*:(.*):[^:]*;$", ended.out, re.M)
     return {int(n): (int(first), int(last), name) for n, first, last, name in found}
 
 
 def read_cgpt(image):
     """The listing of `cgpt show -q`, which tells no names."""
     ended = recording.run(["cgpt", "show", "-q", image])
-    if ended.returncode:
+    if ended.status:
         return None
-    found = re.findall(r"^ *(\d+) +(\d+) +(\d+) ", ended.stdout, re.M)
+    found = re.findall(r"^ *(\d+) +(\d+) +(\d+) ", ended.out, re.M)
     return {int(n): (int(first), int(first) + int(count) - 1, None) for first, count, n in found}
