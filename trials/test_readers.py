@@ -42,7 +42,8 @@ class Stops(unittest.TestCase):
     """The states, read by the rules of the format."""
 
     def setUp(self):
-        entries = {number: table.Entry(GUIDS[0], GUIDS[number], *place, 0, "data") for number, place in enumerate(NEW, 1)}
+        entries = {number: table.Entry(GUIDS[0], GUIDS[number], *place, 0, "data")
+                   for number, place in enumerate(NEW, 1)}
         made = table.Table(GUIDS[0], *table.bounds(IMAGE_BYTES), 128, entries)
         self.new = table.image_of(made, IMAGE_BYTES)
         self.old = table.image_of(made._replace(entries={1: entries[1]}), IMAGE_BYTES)

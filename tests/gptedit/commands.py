@@ -325,5 +325,6 @@ def try_help(tally, program):
 
 
 SUBJECTS = {"making": try_making, "sizes": try_sizes, "places": try_places, "editing": try_editing,
-            "attributes": try_attributes, "growth and repair": try_growth, "numbers of entries": try_entries, "sectors of 4096 bytes": try_sectors,
-            "JSON": try_json, "free sectors and types": try_free, "help": try_help}
+            "attributes": try_attributes, "growth and repair": try_growth, "numbers of entries": try_entries,
+            "sectors of 4096 bytes": try_sectors, "JSON": try_json, "free sectors and types": try_free,
+            "help": try_help}

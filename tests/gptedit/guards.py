@@ -128,7 +128,8 @@ def try_headers(tally, program):
     leaves(tally, program, ["new", "disk.img"], "the header of a GUID partition table")
     for words in ["show"], ["check"], ["add", "--type", "linux", "--size", "1MiB"], ["repair"]:
         ended = program.run(words[0], "disk.img", *words[1:])
-        tally.holds(f"{words} of two broken copies does not name new: {ended}", ended[0] in ((1, 3) if words[0] == "check" else (3,)) and
+        statuses = (1, 3) if words[0] == "check" else (3,)
+        tally.holds(f"{words} of two broken copies does not name new: {ended}", ended[0] in statuses and
                     "gptedit new" not in ended[1] + ended[2])
     for at in 512, 4 * MIB - 512:
         program.put("disk.img", at, bytes(512))

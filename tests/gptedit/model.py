@@ -96,8 +96,8 @@ class Player:
 
     def size(self):
         """The text of a size."""
-        return self.random.choice(["1MiB", "64KiB", "4KiB", "2MiB", "1s", "7s", "100s", "2048s", "512B", "1000B", "3MiB",
-                                   f"{self.random.randrange(1, 9000)}s", "0s", "900MiB"])
+        return self.random.choice(["1MiB", "64KiB", "4KiB", "2MiB", "1s", "7s", "100s", "2048s", "512B", "1000B",
+                                   "3MiB", f"{self.random.randrange(1, 9000)}s", "0s", "900MiB"])
 
     def fields(self):
         """Random fields of an entry: the words for them, and the fields."""

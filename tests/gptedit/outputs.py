@@ -32,7 +32,7 @@ def try_attributes(tally, program):
         make(program, {1: entry(2048, 4095, attributes=bits)})
         line = program.run("show", IMAGE)[1].splitlines()[-1]
         found = line.split(ESP)[-1].strip()
-        tally.equals(f"show of attributes {bits:#x}", words_of(bits), [word for word in re.split("[, ]+", found) if word])
+        tally.equals(f"show of attributes {bits:#x}", words_of(bits), list(filter(None, re.split("[, ]+", found))))
         one = program.json("show", IMAGE, "--json")["partitiontable"]["partitions"][0]
         tally.equals(f"JSON of attributes {bits:#x}", sfdisk_words(bits), one.get("attrs", ""))
         one = tomllib.loads(program.run("dump", IMAGE)[1])["partition"][0]

@@ -71,7 +71,8 @@ RULES = {
     "a wrong length is mended by every write, the boot mark kept": ["the length in the MBR", "writes of the MBR"],
     "a missing MBR is written by new, repair and grow only": ["the length in the MBR"],
     "a stop between table and MBR is reported and mended": ["a stop before the MBR"],
-    "grow keeps first-usable, and last-usable follows the end": ["bounds after growth", "everyday: first usable sectors"],
+    "grow keeps first-usable, and last-usable follows the end": ["bounds after growth",
+                                                                 "everyday: first usable sectors"],
     # Resizes, dry runs, one write
     "a resize to max never shortens": ["resize max", "random commands and their model", "reproductions"],
     "a resize that shortens reads what is there": ["resizes that shorten"],

@@ -114,7 +114,8 @@ def try_dos_disk(tally, program):
         put_dos(program, kinds)
         for words in WRITES + [["new", IMAGE]]:
             is_new = words[0] == "new"
-            refused(tally, program, words, "MBR" if is_new else "DOS", statuses=NO_TABLE + REFUSED if is_new else NO_TABLE)
+            statuses = NO_TABLE + REFUSED if is_new else NO_TABLE
+            refused(tally, program, words, "MBR" if is_new else "DOS", statuses=statuses)
         refused(tally, program, EDITS[1], "--overwrite", statuses=NO_TABLE, lifts="--overwrite")
         for words in ["show"], ["dump"], ["free"], ["salvage"]:
             ended = program.run(*words, IMAGE)
@@ -166,8 +167,8 @@ def try_no_good_copy(tally, program):
     for words in [["show", IMAGE], ["check", IMAGE], ["dump", IMAGE], ["free", IMAGE], ["randomize", IMAGE]] + WRITES:
         status, out, err = program.run(*words)
         told = out + err
-        tally.holds(f"{words} of two broken copies names salvage, not new: {status} {told}", "gptedit salvage" in told and
-                    "gptedit new" not in told)
+        tally.holds(f"{words} of two broken copies names salvage, not new: {status} {told}",
+                    "gptedit salvage" in told and "gptedit new" not in told)
         tally.holds(f"the status of {words}: {status}", status == 3 or words[0] == "check" and status == 1)
         tally.holds(f"{words} says what is wrong with each", "primary" in told and "backup" in told)
     refused(tally, program, ["new", IMAGE], statuses=REFUSED + NO_TABLE, lifts="--overwrite")
@@ -212,9 +213,10 @@ def try_salvage(tally, program):
 def try_made(tally, program):
     """`new` over what other programs made of the whole disk."""
     makers = {"mkfs.ext4": ["-q", "-F"], "mkfs.xfs": ["-q", "-f"], "mkfs.btrfs": ["-q", "-f"], "mkfs.vfat": [],
-              "mkswap": [], "mkfs.ext2": ["-q", "-F"], "mkfs.exfat": [], "mkfs.ntfs": ["-q", "-F"], "mke2fs": ["-q", "-F"],
-              "mkfs.minix": [], "cryptsetup": ["luksFormat", "-q", "--pbkdf-force-iterations", "1000", "--pbkdf",
-                                               "pbkdf2", "-d", "/dev/null", "--keyfile-size", "0"]}
+              "mkswap": [], "mkfs.ext2": ["-q", "-F"], "mkfs.exfat": [], "mkfs.ntfs": ["-q", "-F"],
+              "mke2fs": ["-q", "-F"], "mkfs.minix": [],
+              "cryptsetup": ["luksFormat", "-q", "--pbkdf-force-iterations", "1000", "--pbkdf", "pbkdf2", "-d",
+                             "/dev/null", "--keyfile-size", "0"]}
     tried = []
     for name, words in makers.items():
         program.make_zeros(IMAGE, 320 * MIB)
@@ -259,7 +261,8 @@ def try_own_sectors(tally, program):
     for first, last in (0, None), (33, None), (2, None), (None, SIZE // 512 - 2):
         make(program, ONE, first=first, last=last, places={"backup_at": SIZE // 512 - 33})
         ended = program.run("check", IMAGE)
-        tally.holds(f"check of bounds {first}, {last}: {ended}", ended[0] == 1 and f"`gptedit repair {IMAGE} --bounds`" in ended[1])
+        tally.holds(f"check of bounds {first}, {last}: {ended}",
+                    ended[0] == 1 and f"`gptedit repair {IMAGE} --bounds`" in ended[1])
         runs = program.json("free", IMAGE, "--json")
         tally.holds(f"free offers no sector of the table: {runs}", all(
             run["start"] >= 34 and run["start"] + run["size"] - 1 <= SIZE // 512 - 34 for run in runs))
@@ -297,10 +300,12 @@ def try_starts(tally, program):
             if first == 0:
                 tally.equals(f"a right MBR after {words}", mbr, mbr_of(program))
             elif words[0] != "sort" or "unchanged" not in out:
-                tally.equals(f"the MBR from sector {first} on after {words}", mended_from(mbr, end - first), mbr_of(program))
+                tally.equals(f"the MBR from sector {first} on after {words}", mended_from(mbr, end - first),
+                             mbr_of(program))
                 tally.equals(f"check after {words}", 0, program.run("check", IMAGE)[0])
     unused = bytes([0, 0, 0, 0, 0x83]) + bytes(3) + struct.pack("<II", 2048, 0) + bytes(32)
-    for name, mbr in ("a start past the end", mbr_from(end, 1)), ("an entry of no sectors beside it", mbr_from(1, 7, 0, unused)):
+    for name, mbr in (("a start past the end", mbr_from(end, 1)),
+                      ("an entry of no sectors beside it", mbr_from(1, 7, 0, unused))):
         for words in WRITES:
             make(program, ONE)
             program.put(IMAGE, 446, mbr)
@@ -541,8 +546,9 @@ SUBJECTS = {"entries that are elsewhere": try_elsewhere, "a low last sector": tr
             "a file system over the disk": try_superfloppy, "repair --bounds": try_repair_bounds,
             "DOS disks": try_dos_disk, "what is no DOS disk": try_no_dos, "hybrid MBRs": try_hybrid,
             "no good copy": try_no_good_copy, "what new is refused over": try_new_over, "salvage": try_salvage,
-            "contents that other programs made": try_made, "words that lift": try_force, "another size of a sector": try_other_size,
-            "bounds over the table": try_own_sectors, "the length in the MBR": try_mbr,
+            "contents that other programs made": try_made, "words that lift": try_force,
+            "another size of a sector": try_other_size, "bounds over the table": try_own_sectors,
+            "the length in the MBR": try_mbr,
             "resizes that shorten": try_shortens, "orders of writing": try_order,
             "layouts that are none": try_layout_texts, "paths": try_paths, "costs": try_costs,
             "apply --create": try_create, "wipe": try_wipe, "--backup": try_backup, "dry runs in JSON": try_dry_json,

@@ -371,14 +371,16 @@ def try_fits(tally, library, program):
             program.write(name, image)
         tally.equals(f"the status of grow on {size} bytes", 0, program.run("theirs.img", "512", "grow")[0])
         tally.equals(f"the status of the example on {size}", 0, subprocess.call([grow, program.file("grown.img")]))
-        tally.holds(f"what the example leaves on {size}", program.bytes_of("grown.img") == program.bytes_of("theirs.img"))
+        tally.holds(f"what the example leaves on {size}",
+                    program.bytes_of("grown.img") == program.bytes_of("theirs.img"))
         with gptman.Disk(program.file("disk.img"), writable=True) as disk:
             old = without_form(shown(disk))
             steps, data = disk.plan_fit()
         with gptman.Disk(program.file("ours.img"), writable=True) as disk:
             disk.fit()
             new = without_form(shown(disk))
-        tally.holds(f"the bytes that grow leaves on {size}", program.bytes_of("ours.img") == program.bytes_of("theirs.img"))
+        tally.holds(f"the bytes that grow leaves on {size}",
+                    program.bytes_of("ours.img") == program.bytes_of("theirs.img"))
         tally.equals(f"the syncs among the steps on {size} bytes", [1, 1], syncs_in(steps))
         tally.holds(f"the steps alone leave them on {size}",
                     bytes(left(random_, image, steps, data, len(steps), 0)) == program.bytes_of("theirs.img"))
@@ -474,8 +476,8 @@ def try_names(tally, library, program):
     gptman, random_ = module(), random.Random(10)
     calls, partition = ctypes.CDLL(os.environ["GPTMAN_LIBRARY"]), gptman._Partition()
     for _ in range(400):
-        units = [random_.choice([random_.randrange(32, 127), random_.randrange(65536), random_.randrange(0xD800, 0xE000)])
-                 for _ in range(36)]
+        units = [random_.choice([random_.randrange(32, 127), random_.randrange(65536),
+                                 random_.randrange(0xD800, 0xE000)]) for _ in range(36)]
         units[random_.randrange(40) % 36] = random_.choice([0, 1])
         partition.name[:] = units
         wanted = text_of(units).encode()
