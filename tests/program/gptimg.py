@@ -36,7 +36,7 @@ class Gptimg(runs.Program):
 
     def __init__(self, path, folder, tally, guid="", edit=""):
         super().__init__(path, folder)
-        self.tally, self.guid, self.edit = tally, guid, edit
+        self.tally, self.guid, self.edit, self.full_lines = tally, guid, edit, ""
 
     def beside(self, path, folder=None):
         """Another program, in this folder or in another one."""
