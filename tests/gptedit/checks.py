@@ -5,7 +5,7 @@ import struct
 
 from harness import table
 from commands import ESP, MIB, ROOT
-from makers import IMAGE, ONE, SIZE, break_both, entry, flip, lengthen, make, of, put_dos, set_field
+from makers import IMAGE, ONE, SIZE, break_both, entry, make, of, put_dos, set_field
 
 END = SIZE // 512 - 1
 BOUNDS = f"repair {IMAGE} --bounds"
@@ -88,7 +88,7 @@ def try_faults(tally, program):
                 program.put(IMAGE, header + at, struct.pack(form, value))
             says(tally, program, f"a {place} copy with {name}", rf"{place} copy.*{name}", f"repair {IMAGE}")
         make(program, ONE)
-        flip(program, 1024 + 60 if place == "primary" else SIZE - 33 * 512 + 60)
+        program.flip(IMAGE, 1024 + 60 if place == "primary" else SIZE - 33 * 512 + 60)
         says(tally, program, f"a bit in the {place} entries", rf"{place} copy.*ArrayChecksum", f"repair {IMAGE}")
 
 
@@ -109,13 +109,13 @@ def try_copies(tally, program):
 def try_lengths(tally, program):
     """A disk that is longer or shorter than its table, with a footer or not."""
     make(program, ONE)
-    lengthen(program, SIZE + MIB)
+    program.set_length(IMAGE, SIZE + MIB)
     says(tally, program, "growth", rf"longer.*{END}|longer", f"grow {IMAGE}")
     make(program, ONE)
     program.put(IMAGE, SIZE, b"conectix" + bytes(504))
     says(tally, program, "a footer", "longer|footer", None)
     make(program, ONE)
-    lengthen(program, SIZE - MIB)
+    program.set_length(IMAGE, SIZE - MIB)
     says(tally, program, "a disk that was cut", "shorter", None)
 
 

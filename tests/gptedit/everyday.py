@@ -5,7 +5,7 @@ import struct
 from harness import table
 from harness.runs import there
 from commands import BOOT_CODE, DISK, ESP, MIB, ROOT
-from makers import ADD, IMAGE, ONE, SIZE, TWO, WRITES, entry, goes, holds, lengthen, make, mbr_of, put_dos, tool
+from makers import ADD, IMAGE, ONE, SIZE, TWO, WRITES, entry, goes, holds, make, mbr_of, put_dos, tool
 
 
 def all_go(tally, program, name, start, words=None):
@@ -154,7 +154,7 @@ def try_first(tally, program):
             program.put(IMAGE, 34 * 512, b"U-BOOT! " * 1000)
         tally.equals(f"check of first-usable {first}", 0, all_go(tally, program, f"first-usable {first}", start)[0])
         start()
-        lengthen(program, 2 * size)
+        program.set_length(IMAGE, 2 * size)
         goes(tally, program, ["grow", IMAGE])
         goes(tally, program, ADD)
         found = table.read(program.file(IMAGE))

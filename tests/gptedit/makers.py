@@ -86,11 +86,6 @@ def holds(tally, program, what, entries, sector=512, name=IMAGE):
     tally.equals(f"the entries after {what}", entries, found and found.entries)
 
 
-def lengthen(program, size, name=IMAGE):
-    """Gives an image another length."""
-    os.truncate(program.file(name), size)
-
-
 def put_dos(program, kinds=((0x83, 63, 30000),), mark=0x80, name=IMAGE):
     """A DOS partition table in sector 0: each entry is its type, its first sector and its length."""
     raw = b"".join(bytes([mark if i == 0 else 0, 0, 1, 0, kind, 0, 0, 0]) + struct.pack("<II", first, count)
@@ -124,12 +119,7 @@ def set_field(program, at, value, headers=None, name=IMAGE, form="<Q"):
         program.set_fields(name, header, (at, form, value))
 
 
-def flip(program, at, name=IMAGE):
-    """Flips a bit of a byte."""
-    program.put(name, at, bytes([program.bytes_of(name)[at] ^ 1]))
-
-
 def break_both(program, name=IMAGE, size=SIZE):
     """Flips a bit of the entries of both copies."""
-    flip(program, 1024 + 60, name)
-    flip(program, size - 33 * 512 + 60, name)
+    program.flip(name, 1024 + 60)
+    program.flip(name, size - 33 * 512 + 60)

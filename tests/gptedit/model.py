@@ -15,7 +15,7 @@ from harness import table  # noqa: E402
 from harness.runs import set_environment, there  # noqa: E402
 from harness.tally import Tally  # noqa: E402
 from commands import EFI, LINUX, MIB, SWAP  # noqa: E402
-from makers import IMAGE, flip, tool  # noqa: E402
+from makers import IMAGE, tool  # noqa: E402
 from runs import Program  # noqa: E402
 
 COMMANDS = 1000
@@ -287,7 +287,7 @@ def damage(player, program):
     end = (model.size // model.sector - 1) * model.sector
     places = [model.sector + 30, end + 30, 2 * model.sector + 64, (model.table.last + 1) * model.sector + 64]
     if table.read(program.file(IMAGE), model.sector):
-        flip(program, player.random.choice(places))
+        program.flip(IMAGE, player.random.choice(places))
 
 
 def turn(tally, program, player, what):

@@ -7,7 +7,7 @@ import tomllib
 
 from harness import table
 from commands import DISK, ESP, LINUX, ROOT
-from makers import IMAGE, ONE, SIZE, TWO, entry, flip, make, of, set_field
+from makers import IMAGE, ONE, SIZE, TWO, entry, make, of, set_field
 
 NAMED = {0: "required", 1: "no-block-io", 2: "legacy-boot", 59: "grow-file-system", 60: "read-only", 63: "no-auto"}
 SFDISK = {0: "RequiredPartition", 1: "NoBlockIOProtocol", 2: "LegacyBIOSBootable"}
@@ -76,7 +76,7 @@ def try_states(tally, program):
             state(tally, program, f"a {place} copy with {name}", {place: name})
     for place, at in ("primary", 1084), ("backup", end - 32 * 512 + 60):
         make(program, ONE)
-        flip(program, at)
+        program.flip(IMAGE, at)
         state(tally, program, f"a bit in the {place} entries", {place: "InvalidPartitionEntryArrayChecksum"})
     make(program, ONE)
     state(tally, program, "two good copies", {})

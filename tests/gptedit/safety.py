@@ -9,8 +9,8 @@ import time
 from harness import table
 from harness.runs import there
 from commands import DISK, ESP, MIB, ROOT
-from makers import (ADD, EDITS, IMAGE, NO_TABLE, ONE, REFUSED, SIZE, TWO, WRITES, break_both, entry, ext4, flip, goes,
-                        holds, lengthen, make, mbr_of, put_dos, refused, set_field, tool)
+from makers import (ADD, EDITS, IMAGE, NO_TABLE, ONE, REFUSED, SIZE, TWO, WRITES, break_both, entry, ext4, goes,
+                        holds, make, mbr_of, put_dos, refused, set_field, tool)
 
 LOADER = b"A BOARD'S LOADER" * 1024
 OF_SOMEBODY = b"DATA OF SOMEBODY" * 64
@@ -44,7 +44,7 @@ def try_broken(tally, program):
     """The place of a broken copy: free where a header of this table is there or all is zero, else `repair`."""
     for at in 512, SIZE - 512:
         make(program, ONE)
-        flip(program, at + 17)
+        program.flip(IMAGE, at + 17)
         goes(tally, program, ADD)
         tally.holds("both copies are one after add over a broken header", table.read(program.file(IMAGE)))
     make(program, ONE)
@@ -68,13 +68,13 @@ def try_new_end(tally, program):
     for name, at, mark in [("LUKS", 0, b"LUKS\xba\xbe\0\2"), ("a VHD's footer", MIB * 4 - 512, b"conectix"),
                            ("XFS", 0, b"XFSB" + struct.pack(">I", 4096))]:
         make(program, ONE)
-        lengthen(program, SIZE + 4 * MIB)
+        program.set_length(IMAGE, SIZE + 4 * MIB)
         begin = SIZE + at if at else SIZE + 4 * MIB - 33 * 512
         program.put(IMAGE, begin, mark)
         if name == "a VHD's footer":
             refused(tally, program, ["grow", IMAGE], statuses=REFUSED, lifts="--overwrite")
     make(program, ONE)
-    lengthen(program, SIZE + 4 * MIB)
+    program.set_length(IMAGE, SIZE + 4 * MIB)
     program.put(IMAGE, SIZE + 3 * MIB, OF_SOMEBODY * 1024)
     goes(tally, program, ["grow", IMAGE])
     holds(tally, program, "grow over unknown bytes", ONE)
@@ -518,7 +518,7 @@ def try_reproductions(tally, program):
             goes(tally, program, ["grow", IMAGE])
             goes(tally, program, ["resize", IMAGE, "1", "max"])
         holds(tally, program, f"resize max of an image of {name}", {1: before})
-        lengthen(program, 64 * MIB + MIB // 2)
+        program.set_length(IMAGE, 64 * MIB + MIB // 2)
         goes(tally, program, ["grow", IMAGE])
         goes(tally, program, ["resize", IMAGE, "1", "max"])
         after = table.read(program.file(IMAGE)).entries[1]
@@ -531,7 +531,7 @@ def try_grow_stops(tally, program):
     """A stop in `grow` before the MBR is reported by check and mended by repair."""
     make(program, ONE)
     mbr = mbr_of(program)
-    lengthen(program, SIZE * 2)
+    program.set_length(IMAGE, SIZE * 2)
     goes(tally, program, ["grow", IMAGE])
     program.put(IMAGE, 446, mbr)
     ended = program.run("check", IMAGE)

@@ -11,7 +11,7 @@ import time
 from harness import recording, table
 from harness.states import Enumeration, Image
 from commands import DISK, MIB, ROOT
-from makers import IMAGE, TWO, flip, lengthen, make
+from makers import IMAGE, TWO, make
 from traces import can_trace
 from layouts import RANDOM, draw, toml_of
 
@@ -166,10 +166,10 @@ def starts(program):
     for name, broken in made.items():
         make(program, TWO)
         for at in broken:
-            flip(program, at)
+            program.flip(IMAGE, at)
         yield name, program.bytes_of(IMAGE), size
     make(program, TWO)
-    lengthen(program, size + 2 * MIB)
+    program.set_length(IMAGE, size + 2 * MIB)
     yield "growth", program.bytes_of(IMAGE), size + 2 * MIB
 
 

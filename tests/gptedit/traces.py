@@ -89,7 +89,7 @@ def try_mbr(tally, program):
     program.put(IMAGE, 446, table.mbr_bytes(SIZE - MIB))
     is_traced(tally, program, "a wrong MBR", ADD, CHANGE + [MBR, SYNC])
     make(program, ONE)
-    os.truncate(program.file(IMAGE), SIZE + 4 * MIB)
+    program.set_length(IMAGE, SIZE + 4 * MIB)
     is_traced(tally, program, "growth", ["grow", IMAGE], CHANGE + [MBR, SYNC], size=SIZE + 4 * MIB)
     program.make_image(IMAGE, SIZE)
     status, parts = traced(program, ["new", IMAGE])

@@ -77,6 +77,14 @@ class Folder:
         """Writes bytes to a file from byte `at` on."""
         table.put(self.file(name), [(at, data)])
 
+    def set_length(self, name, size):
+        """Gives a file another length."""
+        os.truncate(self.file(name), size)
+
+    def flip(self, name, at):
+        """Flips a bit of a byte."""
+        self.put(name, at, bytes([self.bytes_of(name)[at] ^ 1]))
+
     def set_fields(self, name, at, *fields):
         """Sets fields of the header at this byte, each its place, its format and its value, and its checksum."""
         with open(self.file(name), "rb") as file:

@@ -77,7 +77,7 @@ def try_changes(program, image):
     says(0, "ok", "512 sort")
     program.shows(image, f"1 {DATA} {TWO} 4096..6143 0000000000000000 data")
     is_accepted(program, image)
-    os.truncate(program.file(image), 20 << 20)
+    program.set_length(image, 20 << 20)
     says(1, "primary ok\nbackup fault InvalidSignature\nsame no", "512 check")
     says(0, "ok", "512 grow")
     says(0, "ok", "512 mbr plain")

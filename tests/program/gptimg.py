@@ -1,6 +1,5 @@
 """Runs of gptimg, and the images that subjects copy."""
 import hashlib
-import os
 import shutil
 import subprocess
 from typing import NamedTuple
@@ -134,7 +133,7 @@ class Gptimg(runs.Program):
         self.copy("good.img", "headless.img")
         self.clear_sectors("headless.img", 1, 1)
         self.copy("good.img", "longer.img")
-        os.truncate(self.file("longer.img"), 102400)
+        self.set_length("longer.img", 102400)
         self.make_table("full.img", 1 << 20)
         self.full_lines = self.fill_table("full.img", 128, 34)
         self.make_table("large.img", 368640)

@@ -1,6 +1,5 @@
 """A `grow` that is stopped, and done again."""
 import itertools
-import os
 
 from given import SAME
 from gptimg import WANTED, from_backup
@@ -32,7 +31,7 @@ def try_order_of_growth(tally, program):
     if not can_trace_calls(program):
         return
     program.make_table("order.img", 10 << 20)
-    os.truncate(program.file("order.img"), 20 << 20)
+    program.set_length("order.img", 20 << 20)
     tally.equals("the copies and syncs of grow", "backup sync primary sync",
                  order_of(program, program.file("order.img"), "512", "grow"))
 

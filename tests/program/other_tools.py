@@ -33,7 +33,7 @@ def try_sfdisk(tally, program):
 
 def answer_in(call):
     """The number that a call answers."""
-    return int(re.search(r"= (-?\d+)", call)[1])
+    return int(call.rpartition("= ")[2].split()[0])
 
 
 def order_of(program, image, *words):
