@@ -21,7 +21,7 @@ def noise_places(size):
 
 
 def pieces_in(file):
-    """The pieces of an open file that are not all zeros, each with where it begins. Holes are not read."""
+    """The length of an open file, and the pieces of it that are not all zeros. Holes are not read."""
     pieces, at, size = [], 0, os.fstat(file.fileno()).st_size
     while at < size:
         try:
