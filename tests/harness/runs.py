@@ -55,6 +55,11 @@ def closing(streams):
     return "".join(f"exec {stream}{'<' if stream == '0' else '>'}&-; " for stream in streams)
 
 
+def limiting(letter, most):
+    """The part of a script that sets a limit: `n` for descriptors, `v` for KiB of memory."""
+    return f"ulimit -{letter} {most}; "
+
+
 def there(*names):
     """Whether all of these programs are installed."""
     return all(shutil.which(name) for name in names)

@@ -6,7 +6,7 @@ import shutil
 
 from given import ADD, READERS, WRITERS
 from gptimg import WANTED
-from harness.runs import Ended, by_shell, closing, run
+from harness.runs import Ended, by_shell, closing, limiting, run
 from tools import calls_of, can_trace_calls
 
 # Each set of standard streams that may be closed.
@@ -136,7 +136,7 @@ def try_few_descriptors(tally, program):
 def try_few(program, line, done, streams, limit):
     """Runs a line where only descriptors below this number may be opened. Gives whether it is refused."""
     program.copy("good.img", "tried.img")
-    script = f"{closing(streams)} ulimit -n {limit};"
+    script = closing(streams) + limiting("n", limit)
     answer = program.command(*by_shell(script, [program.path, "tried.img", "512", *line.split()]))
     what = f"gptimg {line}, with '{streams}' closed and {limit} descriptors"
     if answer == REFUSED or answer.status > 125 and not answer.out:

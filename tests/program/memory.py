@@ -1,7 +1,7 @@
 """Commands that have little memory."""
 from given import ADD
 from gptimg import WANTED, answer_of
-from harness.runs import by_shell
+from harness.runs import by_shell, limiting
 
 NO_MEMORY = answer_of(1, "fault: OutOfMemory")
 REFUSED = NO_MEMORY, answer_of(1, "fault: Io")
@@ -26,7 +26,7 @@ def try_little_memory(tally, program):
 
 def within(kilobytes, *words):
     """The words of a command that has an address space of so many KiB."""
-    return by_shell(f"ulimit -v {kilobytes};", words)
+    return by_shell(limiting("v", kilobytes), words)
 
 
 def run_within(program, pages, line):
