@@ -124,13 +124,24 @@ def try_headers(tally, library, program):
         tally.equals(f"a program in {language}", "",
                      run(library.compile(source, "both", "-Wconversion", language=language)))
     if there("nm"):
-        lines = run("nm", "-D", "--defined-only", program.file("libgptman.so.1")).split("\n")
-        names = {line.split()[-1] for line in lines if line}
-        tally.equals("the names of libgptman.so.1", {"gptman_read", "gptman_write", "gptman_new", "gptman_fit",
-                                                     "gptman_check", "gptman_dos", "gptman_mbr", "gptman_place",
-                                                     "gptman_get_name", "gptman_set_name", "gptman_crc32",
-                                                     "gptman_version"},
-                     {name for name in names if not name.startswith("_")})
+        try_names(tally, program)
+
+
+CALLS = {f"gptman_{call}" for call in ["read", "write", "new", "fit", "check", "dos", "mbr", "place", "get_name", "set_name",
+                                       "crc32", "version"]}
+
+
+def try_names(tally, program):
+    """The two libraries export the calls of gptman.h and nothing else, the shared one with their version."""
+    shared = exported("-D", program.file("libgptman.so.1"))
+    tally.equals("the names of libgptman.so.1", {f"{call}@@GPTMAN_1" for call in CALLS} | {"GPTMAN_1"}, shared)
+    tally.equals("the names of libgptman.a", CALLS, exported("-g", program.file("libgptman.a")))
+
+
+def exported(kind, path):
+    """The names that a library exports."""
+    lines = run("nm", kind, "--defined-only", path).split("\n")
+    return {line.split()[-1] for line in lines if len(line.split()) == 3}
 
 
 AROUND = """#include <fcntl.h>

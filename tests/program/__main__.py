@@ -41,7 +41,7 @@ from given import TOP  # noqa: E402
 from gptimg import Gptimg  # noqa: E402
 
 SUBJECTS = {
-    "the program in README.md": readme.try_readme_program,
+    "the program in docs/LIBRARY.md": readme.try_shown_program,
     "the links of the documents": readme.try_links,
     "words": commands.try_words,
     "words of no command": data.try_usage,

@@ -1,4 +1,4 @@
-"""The README and what it shows, and the links of all documents."""
+"""What docs/LIBRARY.md shows of a program, and the links of all documents."""
 import glob
 import os
 import re
@@ -6,11 +6,11 @@ import re
 from given import TOP, text_of
 
 
-def try_readme_program(tally, _program):
-    """What the README shows of the program that is proved stands in its source, line for line."""
-    shown = "".join(re.findall(r"^```rust\n(.*?)^```$", text_of("README.md"), re.M | re.S))
-    tally.holds("README.md shows some of the example", len(shown) > 500)
-    tally.contains("the example in README.md", f"\n{shown}", text_of("crates/gptman_example/src/main.rt"))
+def try_shown_program(tally, _program):
+    """What docs/LIBRARY.md shows of the program that is proved stands in its source, line for line."""
+    shown = "".join(re.findall(r"^```rust\n(.*?)^```$", text_of("docs/LIBRARY.md"), re.M | re.S))
+    tally.holds("docs/LIBRARY.md shows some of the example", len(shown) > 500)
+    tally.contains("the example in docs/LIBRARY.md", f"\n{shown}", text_of("crates/gptman_example/src/main.rt"))
 
 
 def try_links(tally, _program):
