@@ -58,7 +58,7 @@ def main(crate, *words):
     planter = kit()
     body_of, first = planter.bodies.Body, planter.bodies.Bodies
     own = by_hand(f"../../trials/plants/{crate}.bodies")
-    error = "crate::error::Error" if crate == "gptman_copy" else "gptman_copy::Error"
+    error = {"gptman_disk": "crate::error::Error", "gptman": "crate::Error"}.get(crate, "gptman::Error")
 
     class Bodies(first):
         """The toolchain's bodies and more."""

@@ -10,7 +10,7 @@ def try_shown_program(tally, _program):
     """What docs/LIBRARY.md shows of the program that is proved stands in its source, line for line."""
     shown = "".join(re.findall(r"^```rust\n(.*?)^```$", text_of("docs/LIBRARY.md"), re.M | re.S))
     tally.holds("docs/LIBRARY.md shows some of the example", len(shown) > 500)
-    tally.contains("the example in docs/LIBRARY.md", f"\n{shown}", text_of("crates/gptman_example/src/main.rt"))
+    tally.contains("the example in docs/LIBRARY.md", f"\n{shown}", text_of("crates/example_plan/src/main.rt"))
 
 
 def try_links(tally, _program):

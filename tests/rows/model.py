@@ -1,4 +1,4 @@
-"""Prints rows for `gptman_rows` with their answers: random tables, places, checks, edits and damage.
+"""Prints rows for `test_rows` with their answers: random tables, places, checks, edits and damage.
 
 The answers are those of a model of its own, made of sets of sectors and of bytes, after docs/FORMAT.md and the
 definitions of the library. It shares no code with the library, and is slow.

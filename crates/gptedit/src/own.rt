@@ -1,8 +1,8 @@
 //! The sectors of the entries of both copies, as their headers say.
 
 use gptedit_look::{Look, Obstacle};
+use gptman::copy::WholeCopy;
 use gptman::{Disk, GPT, Result};
-use gptman_copy::copy::WholeCopy;
 
 /// The sectors of the entries of both copies: the first one of each, and the one after its last.
 #[derive(Clone, Copy)]

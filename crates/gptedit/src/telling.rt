@@ -10,7 +10,7 @@ use gptedit_look::{Look, MbrChange, MbrKind, Purpose};
 use gptedit_report::{
     CopiesState, UnlistedText, WhatText, find_unlisted, print_changes, show_table,
 };
-use gptimg_core::check;
+use gptman::check;
 use std::alloc::Global;
 use std::io::Write;
 

@@ -2,7 +2,7 @@
 use Rattle.std.specs.Prelude.{◌≡◌, ◌≤◌, IsTrue, Option, Some}
 use Rattle.gptman.specs.Entry.{is_used}
 use Rattle.gptman.specs.Number.{entry_of_number}
-use Rattle.gptman_copy.specs.declared.codec.entry.GPTPartitionEntry.{GPTPartitionEntry}
+use Rattle.gptman.specs.declared.codec.entry.GPTPartitionEntry.{GPTPartitionEntry}
 use Rattle.gptman.specs.declared.table.GPT.{GPT}
 use Rattle.gptedit_busy.specs.declared.uses.Part.{Part}
 use Rattle.gptedit_busy.specs.declared.uses.Part.TheVariants.{Whole, Partition}

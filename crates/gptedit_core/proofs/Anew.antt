@@ -9,8 +9,8 @@ use Rattle.gptman.specs.Stop.{IsStored, StopsHold}
 use Rattle.gptman.specs.Table.{Table, table_in}
 use Rattle.gptman.specs.TableWrites.{table_ranges, IsFailureOrMemory}
 use Rattle.gptman.specs.declared.table.GPT.{GPT}
-use Rattle.gptman_copy.proofs.Readers.{reads_then}
-use Rattle.gptman_copy.proofs.Runs.{rose_since}
+use Rattle.gptman.proofs.Readers.{reads_then}
+use Rattle.gptman.proofs.Runs.{rose_since}
 use Rattle.gptman_change.proofs.Left.{either, laid_since, leaves_since, wrote_since}
 use Rattle.gptedit_core.specs.Laying.{IsStopOf}
 use Rattle.gptedit_core.specs.Making.{empty_of, HasRoomOf, IsEmpty, IsFitted, IsNew, IsOnDisk, IsPlannedNew, KeepsLaidOut, LeavesMaking, MayBeReplaced, RefusesMaking, RefusesNew, RefusesRemaking}

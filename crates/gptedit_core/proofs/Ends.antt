@@ -8,8 +8,8 @@ use Rattle.std.proofs.lemmas.Bool.{cases_lt}
 use Rattle.gptman.specs.Entry.{covers}
 use Rattle.gptman.specs.Place.{IsFree, IsUsable}
 use Rattle.gptman.proofs.Multiples.{multiples_apart}
-use Rattle.gptman_copy.specs.declared.codec.entry.GPTPartitionEntry.{GPTPartitionEntry}
-use Rattle.gptman_copy.specs.declared.codec.header.GPTHeader.{GPTHeader}
+use Rattle.gptman.specs.declared.codec.entry.GPTPartitionEntry.{GPTPartitionEntry}
+use Rattle.gptman.specs.declared.codec.header.GPTHeader.{GPTHeader}
 use Rattle.gptedit_core.specs.Placing.{AreFreeBehind, HasNoEnd, IsBlocked, IsFurthestEnd, IsLastEnd}
 
 -- ---- the last end

@@ -6,7 +6,7 @@ use Rattle.gptman.specs.Copy.{IsCoherent}
 use Rattle.gptman.specs.Layout.{HasLayout}
 use Rattle.gptman.specs.Number.{entry_of_number, with_entry}
 use Rattle.gptman.specs.Table.{entries_in}
-use Rattle.gptman_copy.specs.declared.codec.entry.GPTPartitionEntry.{GPTPartitionEntry}
+use Rattle.gptman.specs.declared.codec.entry.GPTPartitionEntry.{GPTPartitionEntry}
 use Rattle.gptman.specs.declared.edit.Edit.TheVariants.{Put, SortEntries}
 use Rattle.gptman.specs.declared.table.GPT.{GPT}
 use Rattle.gptman.proofs.Commits.{coherent_still, edited_keeps, keeps_both, layout_still, KeepsRanges}

@@ -6,7 +6,7 @@ use Rattle.gptman.specs.Coding.{empty_entry}
 use Rattle.gptman.specs.Entry.{is_unused, is_used}
 use Rattle.gptman.specs.Number.{entry_at, entry_of_number, with_entry, IsNumber}
 use Rattle.gptman.specs.Table.{entries_in}
-use Rattle.gptman_copy.specs.declared.codec.entry.GPTPartitionEntry.{GPTPartitionEntry}
+use Rattle.gptman.specs.declared.codec.entry.GPTPartitionEntry.{GPTPartitionEntry}
 use Rattle.gptman.specs.declared.table.GPT.{GPT}
 use Rattle.gptedit_core.specs.Laying.{cleared, lowest_used, others_fault, others_fault_of, removed_all, removed_one, without_entry, is_blank, ArePut, IsPut}
 use Rattle.gptedit_core.specs.Named.{AreThere, IsUnnamed, LayoutsChangeNamed, StaysAs}

@@ -12,7 +12,7 @@ use Rattle.gptman.specs.Entry.{covers, is_unused, is_used}
 use Rattle.gptman.specs.Number.{entry_at, with_entry, IsNumber}
 use Rattle.gptman.specs.Place.{HasNoSlot, IsAlignedSlot, IsFirstMultiple, IsFreeIn}
 use Rattle.gptman.specs.Table.{entries_in}
-use Rattle.gptman_copy.specs.declared.codec.entry.GPTPartitionEntry.{GPTPartitionEntry}
+use Rattle.gptman.specs.declared.codec.entry.GPTPartitionEntry.{GPTPartitionEntry}
 use Rattle.gptman.specs.declared.table.GPT.{GPT}
 use Rattle.gptman.proofs.Choice.{kept_more, taken_more, SoFar}
 use Rattle.gptman.proofs.Covered.{covered_if, covers_if}

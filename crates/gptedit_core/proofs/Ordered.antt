@@ -7,7 +7,7 @@ use Rattle.gptman.specs.Layout.{copy_ranges_at}
 use Rattle.gptman.specs.Ranges.{AreClear}
 use Rattle.gptman.specs.Reading.{Side, primary, backup}
 use Rattle.gptman.specs.Table.{table_in}
-use Rattle.gptman_copy.specs.declared.codec.header.GPTHeader.{GPTHeader}
+use Rattle.gptman.specs.declared.codec.header.GPTHeader.{GPTHeader}
 use Rattle.gptman.specs.declared.table.GPT.{GPT}
 use Rattle.gptedit_core.specs.Making.{ranges_of, side_of}
 use Rattle.gptedit_core.specs.declared.order.Copy.{Copy}

@@ -6,7 +6,7 @@ use Rattle.gptman.specs.Disk.{DiskState}
 use Rattle.gptman.specs.Fault.{Fault, io, overflow}
 use Rattle.gptman.specs.Layout.{HasLayout}
 use Rattle.gptman.specs.declared.table.GPT.{GPT}
-use Rattle.gptman_copy.specs.declared.error.Error.{Error}
+use Rattle.gptman.specs.Error.{Error}
 use Rattle.gptman_change.specs.Planning.{AlwaysKeepsPlaces, IsPlannedAs}
 use Rattle.gptman_change.specs.declared.Planned.{Planned}
 use Rattle.gptman_change.specs.declared.Planned.TheVariants.{Write, Leave}

@@ -6,7 +6,7 @@ use Rattle.std.proofs.lemmas.Grind.{div_ceil_times}
 use Rattle.gptman.specs.Fault.{overflow}
 use Rattle.gptman.specs.Fit.{array_sectors, array_size, fit_fault, fit_to_sectors}
 use Rattle.gptman.specs.Table.{grow_to}
-use Rattle.gptman_copy.specs.declared.codec.header.GPTHeader.{GPTHeader}
+use Rattle.gptman.specs.declared.codec.header.GPTHeader.{GPTHeader}
 use Rattle.gptman.specs.declared.table.GPT.{GPT}
 use Rattle.gptedit_core.specs.Growing.{with_first, lowest_usable, EndsAt, GrowthsKeepFirst, GrowthsLeaveEnds, GrowthsReachEnd, GrowthsStay, IsFitted, IsGrown, IsKeptFirst}
 use Rattle.gptedit_core.specs.Growing.{ReachesEnd, UsualBoundsReachEnd}

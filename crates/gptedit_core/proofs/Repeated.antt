@@ -9,7 +9,7 @@ use Rattle.gptman.specs.Entry.{is_unused, is_used}
 use Rattle.gptman.specs.Number.{entry_at, entry_of_number, with_entry, IsNumber}
 use Rattle.gptman.specs.Table.{entries_in}
 use Rattle.gptman.specs.TableWrites.{MayBeWritten}
-use Rattle.gptman_copy.specs.declared.codec.entry.GPTPartitionEntry.{GPTPartitionEntry}
+use Rattle.gptman.specs.declared.codec.entry.GPTPartitionEntry.{GPTPartitionEntry}
 use Rattle.gptman.specs.declared.table.GPT.{GPT}
 use Rattle.gptedit_core.specs.Laying.{align_asked, lowest_used, others_fault, removed_all, removed_one, without_entry, is_blank, ArePut, IsLaid, RefusesAsked}
 use Rattle.gptedit_core.specs.Named.{AreNumbered, AreThere, Asks, IsAgain, IsThere, IsUnnamed, IsWhole, LayoutsAreTakenAgain}

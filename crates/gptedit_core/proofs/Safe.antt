@@ -12,7 +12,7 @@ use Rattle.gptman.specs.declared.table.GPT.{GPT}
 use Rattle.gptman.proofs.Apart.{clear_if_apart}
 use Rattle.gptman.proofs.Held.{holds_local}
 use Rattle.gptman.proofs.ReadingLaw.{reads_one_of}
-use Rattle.gptman_copy.proofs.Ranges.{Ranges, contains_first}
+use Rattle.gptman.proofs.Ranges.{Ranges, contains_first}
 use Rattle.gptman_change.specs.Changes.{begun, nothing_written, unwritten, written, IsSafe, LeavesChange, StopsLeaveEither}
 use Rattle.gptman_change.specs.Reads.{size_for, IsReadFrom}
 use Rattle.gptedit_core.specs.Growing.{GrowthsKeepPrimary, IsFitted, IsGrown, IsWrittenGrown, StartsPrimary, StartsPrimaryFor}

@@ -3,7 +3,7 @@ use Rattle.std.proofs.Common.{◌≡◌, ℕ, List, [], ◌∷◌, sym, ap, ◌�
 use Rattle.std.specs.Prelude.{Option, Some, None, Result, Ok, Err}
 use Rattle.gptman.specs.Coding.{empty_entry}
 use Rattle.gptman.specs.Number.{entry_of_number, with_entry}
-use Rattle.gptman_copy.specs.declared.codec.entry.GPTPartitionEntry.{GPTPartitionEntry}
+use Rattle.gptman.specs.declared.codec.entry.GPTPartitionEntry.{GPTPartitionEntry}
 use Rattle.gptman.specs.declared.table.GPT.{GPT}
 use Rattle.gptedit_core.specs.Laying.{cleared, removed_all, removed_one, without_entry, is_blank, ArePut}
 use Rattle.gptedit_core.specs.declared.refusal.Refusal.{Refusal}

@@ -10,8 +10,8 @@ use Rattle.gptman.specs.Layout.{HasLayout}
 use Rattle.gptman.specs.Number.{entry_at, entry_of_number, with_entry, IsNumber}
 use Rattle.gptman.specs.Table.{entries_in}
 use Rattle.gptman.specs.Valid.{HasGoodBoundaries, HasOwnGuids, IsValid}
-use Rattle.gptman_copy.specs.declared.codec.entry.GPTPartitionEntry.{GPTPartitionEntry}
-use Rattle.gptman_copy.specs.declared.codec.header.GPTHeader.{GPTHeader}
+use Rattle.gptman.specs.declared.codec.entry.GPTPartitionEntry.{GPTPartitionEntry}
+use Rattle.gptman.specs.declared.codec.header.GPTHeader.{GPTHeader}
 use Rattle.gptman.specs.declared.table.GPT.{GPT}
 use Rattle.gptedit_core.specs.Dumping.{asked_of, asked_of_all, more_sectors, IsLayoutOf}
 use Rattle.gptedit_core.specs.Laying.{align_asked, cleared, others_fault, others_fault_of, removed_all, IsLaid, IsPut, RefusesAsked, RefusesPut, RefusesPutting}

@@ -3,7 +3,7 @@ use Rattle.std.specs.Prelude.{◌≡◌, ℕ, ◌+◌, ◌-◌, ◌^◌, ◌&&�
 use Rattle.std.specs.List.{enumerate_from}
 use Rattle.gptman.specs.Entry.{is_used}
 use Rattle.gptman.specs.Table.{entries_in}
-use Rattle.gptman_copy.specs.declared.codec.entry.GPTPartitionEntry.{GPTPartitionEntry}
+use Rattle.gptman.specs.declared.codec.entry.GPTPartitionEntry.{GPTPartitionEntry}
 use Rattle.gptman.specs.declared.table.GPT.{GPT}
 use Rattle.gptedit_core.specs.declared.amount.Amount.TheVariants.{Sectors}
 use Rattle.gptedit_core.specs.declared.asked.Asked.{Asked}

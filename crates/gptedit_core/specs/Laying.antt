@@ -6,7 +6,7 @@ use Rattle.gptman.specs.Entry.{is_unused, is_used}
 use Rattle.gptman.specs.Fault.{fault_of, out_of_memory}
 use Rattle.gptman.specs.Number.{entry_at, entry_of_number, with_entry, IsNumber}
 use Rattle.gptman.specs.Table.{entries_in}
-use Rattle.gptman_copy.specs.declared.codec.entry.GPTPartitionEntry.{GPTPartitionEntry}
+use Rattle.gptman.specs.declared.codec.entry.GPTPartitionEntry.{GPTPartitionEntry}
 use Rattle.gptman.specs.declared.table.GPT.{GPT}
 use Rattle.gptedit_core.specs.Placing.{HasNoRoom, IsSpan}
 use Rattle.gptedit_core.specs.Resolving.{and_then, first_numbered, resolved_all, sectors_in}

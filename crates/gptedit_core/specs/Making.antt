@@ -13,7 +13,7 @@ use Rattle.gptman.specs.Table.{Table, new_table_of, table_in}
 use Rattle.gptman.specs.TableWrites.{table_ranges, MayBeWritten}
 use Rattle.gptman.specs.Write.{other_header}
 use Rattle.gptman.specs.declared.table.GPT.{GPT}
-use Rattle.gptman_copy.specs.declared.codec.header.GPTHeader.{GPTHeader}
+use Rattle.gptman.specs.declared.codec.header.GPTHeader.{GPTHeader}
 use Rattle.gptman_change.specs.Changes.{StopsLeaveEither}
 use Rattle.gptedit_core.specs.Laying.{IsLaid, RefusesAsked}
 use Rattle.gptedit_core.specs.Planning.{IsLeftAs, IsWrittenAs, RefusesCheck}

@@ -8,7 +8,7 @@ use Rattle.gptman.specs.Number.{entry_at, with_entry}
 use Rattle.gptman.specs.Place.{IsFreeIn}
 use Rattle.gptman.specs.Table.{entries_in, table_in}
 use Rattle.gptman.specs.Valid.{IsValid}
-use Rattle.gptman_copy.specs.declared.codec.entry.GPTPartitionEntry.{GPTPartitionEntry}
+use Rattle.gptman.specs.declared.codec.entry.GPTPartitionEntry.{GPTPartitionEntry}
 use Rattle.gptman.specs.declared.table.GPT.{GPT}
 use Rattle.gptedit_core.specs.Dumping.{IsLayoutOf}
 use Rattle.gptedit_core.specs.Laying.{IsLaid}

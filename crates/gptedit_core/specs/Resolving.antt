@@ -6,7 +6,7 @@ use Rattle.gptman.specs.Entry.{is_unused, is_used}
 use Rattle.gptman.specs.Fault.{fault_of, out_of_memory}
 use Rattle.gptman.specs.Number.{entry_of_number}
 use Rattle.gptman.specs.Table.{entries_in}
-use Rattle.gptman_copy.specs.declared.codec.entry.GPTPartitionEntry.{GPTPartitionEntry}
+use Rattle.gptman.specs.declared.codec.entry.GPTPartitionEntry.{GPTPartitionEntry}
 use Rattle.gptman.specs.declared.table.GPT.{GPT}
 use Rattle.gptedit_core.specs.declared.amount.Amount.{Amount}
 use Rattle.gptedit_core.specs.declared.amount.Amount.TheVariants.{Sectors, Bytes}

@@ -1,7 +1,7 @@
 //! Why what is asked for cannot be had.
 
 ghost use Rattle.std.specs.Prelude.{◌≡◌};
-ghost use Rattle.gptman_copy.specs.declared.error.Error.{OutOfMemory};
+ghost use Rattle.gptman.specs.Error.{OutOfMemory};
 ghost use Rattle.gptedit_core.specs.declared.refusal.Stop.TheVariants.{Failed, Refused};
 
 use crate::amount::Amount;

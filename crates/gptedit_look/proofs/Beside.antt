@@ -1,10 +1,10 @@
 -- Signatures that are cleared beside a table.
 use Rattle.std.proofs.Common.{true, ◌≡◌, ◌⊎◌, ⊎_elim, ◌∙◌, ◌+◌, ℕ, zero, suc, List, [], ◌∷◌, ◌++◌, drop, get_or, inl, inr, sym, subst, arith, Option}
-use Rattle.gptman_copy.specs.Disk.{DiskState, IsSound, Outside, Reads, Writes}
-use Rattle.gptman_copy.specs.Ranges.{Inside}
-use Rattle.gptman_copy.specs.declared.codec.header.GPTHeader.{GPTHeader}
-use Rattle.gptman_copy.proofs.Ranges.{within_left, within_none, within_right, within_self}
-use Rattle.gptman_copy.proofs.Runs.{wrote_not, wrote_then, wrote_wider}
+use Rattle.gptman.specs.Disk.{DiskState, IsSound, Outside, Reads, Writes}
+use Rattle.gptman.specs.Ranges.{Inside}
+use Rattle.gptman.specs.declared.codec.header.GPTHeader.{GPTHeader}
+use Rattle.gptman.proofs.Ranges.{within_left, within_none, within_right, within_self}
+use Rattle.gptman.proofs.Runs.{wrote_not, wrote_then, wrote_wider}
 use Rattle.gptedit_look.proofs.Pieces.{inside_of_both}
 use Rattle.gptedit_look.specs.Guard.{IsIn}
 use Rattle.gptedit_look.specs.Wiped.{AreZeros, IsBeside, IsCleared, IsOfBeside, IsOfOther, WritesOnly}

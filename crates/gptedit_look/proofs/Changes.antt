@@ -3,8 +3,8 @@ use Rattle.std.proofs.Common.{◌≡◌, true, false, Bool, ◌≤◌, ◌∙◌
 use Rattle.std.specs.Prelude.{OnOk}
 use Rattle.std.proofs.lemmas.Bool.{false≢true}
 use Rattle.gptman.specs.Mbr.{mbr_bytes, IsMbrStored}
-use Rattle.gptman_copy.specs.Disk.{overlay, DiskState, Reads}
-use Rattle.gptman_copy.proofs.Readers.{both_read}
+use Rattle.gptman.specs.Disk.{overlay, DiskState, Reads}
+use Rattle.gptman.proofs.Readers.{both_read}
 use Rattle.gptedit_look.specs.Mended.{change_of, first_bytes, sectors_of, IsChange, IsDone, IsPlan, IsSet}
 use Rattle.gptedit_look.specs.Protective.{HasLength}
 use Rattle.gptedit_look.specs.declared.mending.Plan.{Plan}

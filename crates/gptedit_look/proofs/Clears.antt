@@ -7,14 +7,14 @@ use Rattle.std.proofs.lemmas.Bool.Decides.{eqb_tells}
 use native.Mathlib.Nat.{add-mul, mul-le-mul_right, one-mul}
 use Rattle.std.proofs.lemmas.Bool.{cases_lt, false≢true}
 use Rattle.std.proofs.lemmas.List.{get_or_past, length-take-le}
-use Rattle.gptman_copy.specs.Disk.{overlay, AgreesOutside, DiskState, Outside, Within, Writes}
-use Rattle.gptman_copy.specs.Ranges.{Inside}
-use Rattle.gptman_copy.specs.declared.codec.header.GPTHeader.{GPTHeader}
-use Rattle.gptman_copy.specs.declared.copy.WholeCopy.{WholeCopy}
-use Rattle.gptman_copy.specs.declared.error.Error.{Error}
+use Rattle.gptman.specs.Disk.{overlay, AgreesOutside, DiskState, Outside, Within, Writes}
+use Rattle.gptman.specs.Ranges.{Inside}
+use Rattle.gptman.specs.declared.codec.header.GPTHeader.{GPTHeader}
+use Rattle.gptman.specs.declared.copy.WholeCopy.{WholeCopy}
+use Rattle.gptman.specs.Error.{Error}
 use Rattle.gptedit_look.specs.declared.raw.RawHeader.{RawHeader}
-use Rattle.gptman_copy.proofs.Overlays.{overlay_inside}
-use Rattle.gptman_copy.proofs.Runs.{wrote_then}
+use Rattle.gptman.proofs.Overlays.{overlay_inside}
+use Rattle.gptman.proofs.Runs.{wrote_then}
 use Rattle.gptedit_look.specs.Guard.{IsIn}
 use Rattle.gptedit_look.specs.Wiped.{ranges_in, Adds, AreZeros, EndsBefore, HasUsualEntries, IsCleared, IsOfMbr, IsOfOwn, IsOfPlace, IsOfRaw, IsOfSignature, IsOfWhole, WritesOnly}
 use Rattle.gptedit_look.specs.declared.first_sector.MbrKind.{MbrKind}

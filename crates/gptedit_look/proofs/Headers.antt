@@ -3,9 +3,9 @@ use Rattle.std.proofs.Common.{◌≡◌, ◌≤◌, ◌<◌, ◌∙◌, ◌+◌,
 use Rattle.std.specs.Prelude.{◌/◌, if◌then◌else◌}
 use Rattle.std.specs.Result.{result_ok}
 use Rattle.std.proofs.lemmas.Bool.{le-leb}
-use Rattle.gptman_copy.specs.Fault.{Fault}
-use Rattle.gptman_copy.specs.declared.codec.header.GPTHeader.{GPTHeader}
-use Rattle.gptman_copy.proofs.CopyTests.{header_short}
+use Rattle.gptman.specs.Fault.{Fault}
+use Rattle.gptman.specs.declared.codec.header.GPTHeader.{GPTHeader}
+use Rattle.gptman.proofs.CopyTests.{header_short}
 use Rattle.gptedit_look.specs.Wiped.{byte_of, header_found, header_in}
 use Rattle.gptedit_look.specs.declared.signatures.Place.{Place}
 

@@ -4,11 +4,11 @@ use Rattle.std.specs.Prelude.{◌≢◌, slice_range}
 use Rattle.std.proofs.lemmas.Bool.{cases_lt}
 use Rattle.std.proofs.lemmas.List.{get_or-drop, get_or-take, length-drop, length-take-le}
 use Rattle.byteorder.specs.Endian.{little_bytes}
-use Rattle.gptman_copy.specs.Bytes.{le, part}
-use Rattle.gptman_copy.specs.Disk.{overlay, AgreesOutside, Outside}
-use Rattle.gptman_copy.proofs.Numbers.{le_of}
-use Rattle.gptman_copy.proofs.Overlays.{agrees_overlay, length-overlay, overlay_above, overlay_below, overlay_inside}
-use Rattle.gptman_copy.proofs.Ranges.{agrees_then, agrees_wider, within_left, within_right}
+use Rattle.gptman.specs.Bytes.{le, part}
+use Rattle.gptman.specs.Disk.{overlay, AgreesOutside, Outside}
+use Rattle.gptman.proofs.Numbers.{le_of}
+use Rattle.gptman.proofs.Overlays.{agrees_overlay, length-overlay, overlay_above, overlay_below, overlay_inside}
+use Rattle.gptman.proofs.Ranges.{agrees_then, agrees_wider, within_left, within_right}
 use Rattle.gptedit_look.specs.FirstSector.{IsMarked, IsVacant}
 use Rattle.gptedit_look.specs.Protective.{number_at, type_of, HasLength, IsOnlyProtective}
 

@@ -3,14 +3,14 @@ use Rattle.std.proofs.Common.{◌≡◌, ◌≤◌, ◌<◌, ◌+◌, ◌-◌, �
 use Rattle.std.specs.Prelude.{IfOk, MatchOption, nat_eq, if◌then◌else◌}
 use Rattle.std.proofs.lemmas.List.{get_or-drop, get_or-take}
 use Rattle.std.proofs.lemmas.Bool.Decides.{eqb_tells}
-use Rattle.gptman_copy.specs.Bytes.{part}
+use Rattle.gptman.specs.Bytes.{part}
 use Rattle.gptman.specs.declared.table.GPT.{GPT}
 use Rattle.gptedit_look.specs.declared.seen.Look.{Look}
 use Rattle.gptedit_look.specs.declared.seen.Purpose.{Purpose}
-use Rattle.gptman_copy.specs.Ranges.{Inside}
-use Rattle.gptman_copy.specs.Write.{copy_ranges, other_header}
-use Rattle.gptman_copy.specs.declared.codec.header.GPTHeader.{GPTHeader}
-use Rattle.gptman_copy.specs.declared.error.Error.{Error}
+use Rattle.gptman.specs.Ranges.{Inside}
+use Rattle.gptman.specs.Write.{copy_ranges, other_header}
+use Rattle.gptman.specs.declared.codec.header.GPTHeader.{GPTHeader}
+use Rattle.gptman.specs.Error.{Error}
 use Rattle.gptedit_look.specs.declared.guard.Refused.{Refused}
 use Rattle.gptedit_look.specs.declared.touched.TouchedCopy.{TouchedCopy}
 use Rattle.gptedit_look.specs.declared.touched.TouchedTable.{TouchedTable}

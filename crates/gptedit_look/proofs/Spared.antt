@@ -2,8 +2,8 @@
 use Rattle.std.proofs.Common.{◌≡◌, ◌≤◌, ◌<◌, ◌⊎◌, ⊎_elim, ◌∙◌, ◌+◌, ℕ, List, [], ◌∷◌, length, get_or, inl, inr, sym, subst, arith, Option, None}
 use Rattle.std.proofs.lemmas.Bool.{cases_lt}
 use Rattle.std.proofs.lemmas.List.{get_or_past}
-use Rattle.gptman_copy.specs.Disk.{Outside}
-use Rattle.gptman_copy.specs.Ranges.{Inside}
+use Rattle.gptman.specs.Disk.{Outside}
+use Rattle.gptman.specs.Ranges.{Inside}
 use Rattle.gptman.specs.TableWrites.{table_ranges}
 use Rattle.gptman.specs.declared.table.GPT.{GPT}
 use Rattle.gptedit_look.specs.Guarded.{AreAllFree, IsRefusedOf, SparesOthers}

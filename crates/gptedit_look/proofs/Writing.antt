@@ -1,8 +1,8 @@
 -- Runs of calls that read and write.
 use Rattle.std.proofs.Common.{ℕ, List}
-use Rattle.gptman_copy.specs.Disk.{DiskState, Reads, Within, Writes}
-use Rattle.gptman_copy.proofs.Ranges.{within_none}
-use Rattle.gptman_copy.proofs.Runs.{wrote_then, wrote_wider}
+use Rattle.gptman.specs.Disk.{DiskState, Reads, Within, Writes}
+use Rattle.gptman.proofs.Ranges.{within_none}
+use Rattle.gptman.proofs.Runs.{wrote_then, wrote_wider}
 
 -- one after another
 pub writes_then : {a b c : DiskState} (outer inner : List (ℕ × ℕ)) → Within inner outer → Writes outer a b → Writes inner b c → Writes outer a c

@@ -1,9 +1,9 @@
 -- What a write of a table may overwrite.
 use Rattle.std.specs.Prelude.{◌≡◌, ◌≤◌, ◌<◌, ◌⊎◌, ◌+◌, ◌-◌, ◌*◌, ◌/◌, ℕ, List, All, get_or, max, Option, Some, None, Result, Ok, Err}
-use Rattle.gptman_copy.specs.Ranges.{Inside}
-use Rattle.gptman_copy.specs.declared.codec.header.GPTHeader.{GPTHeader}
-use Rattle.gptman_copy.specs.declared.copy.WholeCopy.{WholeCopy}
-use Rattle.gptman_copy.specs.declared.error.Error.{Error}
+use Rattle.gptman.specs.Ranges.{Inside}
+use Rattle.gptman.specs.declared.codec.header.GPTHeader.{GPTHeader}
+use Rattle.gptman.specs.declared.copy.WholeCopy.{WholeCopy}
+use Rattle.gptman.specs.Error.{Error}
 use Rattle.gptman.specs.TableWrites.{table_ranges}
 use Rattle.gptman.specs.declared.table.GPT.{GPT}
 use Rattle.gptedit_marks.specs.declared.Content.{Content}

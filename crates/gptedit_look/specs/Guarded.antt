@@ -1,6 +1,6 @@
 -- What the guard of a write answers.
 use Rattle.std.specs.Prelude.{◌≡◌, ◌≢◌, ◌<◌, ◌⊎◌, ◌/◌, ℕ, List, [], ◌∷◌, get_or}
-use Rattle.gptman_copy.specs.Disk.{AgreesOutside, Outside}
+use Rattle.gptman.specs.Disk.{AgreesOutside, Outside}
 use Rattle.gptman.specs.Mbr.{mbr_range}
 use Rattle.gptman.specs.TableWrites.{table_ranges}
 use Rattle.gptman.specs.declared.table.GPT.{GPT}

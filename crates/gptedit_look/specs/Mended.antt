@@ -1,8 +1,8 @@
 -- What becomes of an MBR as part of a change of the table.
 use Rattle.std.specs.Prelude.{◌≡◌, ◌≤◌, ◌<◌, ◌/◌, ℕ, Bool, false, IsTrue, [], List, max}
 use Rattle.gptman.specs.Mbr.{IsMbrStored}
-use Rattle.gptman_copy.specs.Bytes.{part}
-use Rattle.gptman_copy.specs.Disk.{DiskState, Reads}
+use Rattle.gptman.specs.Bytes.{part}
+use Rattle.gptman.specs.Disk.{DiskState, Reads}
 use Rattle.gptedit_look.specs.FirstSector.{IsMarked, IsVacant}
 use Rattle.gptedit_look.specs.Protective.{right_length, HasLength, IsOnlyProtective, IsOutOfLength}
 use Rattle.gptedit_look.specs.declared.mending.MbrChange.{MbrChange}

@@ -1,6 +1,6 @@
 -- The protective entry of an MBR.
 use Rattle.std.specs.Prelude.{◌≡◌, ◌≢◌, ◌≤◌, ◌<◌, ◌+◌, ◌-◌, ◌*◌, ℕ, List, [], ◌∷◌, get_or, min}
-use Rattle.gptman_copy.specs.Disk.{AgreesOutside}
+use Rattle.gptman.specs.Disk.{AgreesOutside}
 
 -- the little-endian number in the four bytes from this one on
 abbrev pub number_at : List ℕ → ℕ → ℕ

@@ -1,9 +1,9 @@
 -- What a look at a disk sees.
 use Rattle.std.specs.Prelude.{◌≡◌, ◌≢◌, ◌≤◌, ◌<◌, ◌⊎◌, ◌+◌, ℕ, List, [], ◌∷◌, Option, Some, None}
-use Rattle.gptman_copy.specs.Bytes.{part}
-use Rattle.gptman_copy.specs.Coding.{header_of}
-use Rattle.gptman_copy.specs.Disk.{DiskState}
-use Rattle.gptman_copy.specs.declared.codec.header.GPTHeader.{GPTHeader}
+use Rattle.gptman.specs.Bytes.{part}
+use Rattle.gptman.specs.Coding.{header_of}
+use Rattle.gptman.specs.Disk.{DiskState}
+use Rattle.gptman.specs.declared.codec.header.GPTHeader.{GPTHeader}
 use Rattle.gptedit_look.specs.declared.raw.RawHeader.{RawHeader}
 
 -- the fields of a header at a byte, without its checksums

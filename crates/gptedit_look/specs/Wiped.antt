@@ -1,14 +1,14 @@
 -- What is cleared, so that a disk looks no longer like one with a table.
 use Rattle.std.specs.Prelude.{◌≡◌, ◌≢◌, ◌≤◌, ◌<◌, ◌⊎◌, ◌+◌, ◌-◌, ◌*◌, ◌/◌, ℕ, List, [], ◌∷◌, length, get_or, nat_lt, Option, Some, None, Result, Ok, Err, if◌then◌else◌}
 use Rattle.std.specs.Result.{result_ok}
-use Rattle.gptman_copy.specs.Answers.{IsFailure}
-use Rattle.gptman_copy.specs.Disk.{DiskState, Untouched, Writes}
-use Rattle.gptman_copy.specs.Fault.{Fault, out_of_memory}
-use Rattle.gptman_copy.specs.Ranges.{Inside}
-use Rattle.gptman_copy.specs.declared.codec.header.GPTHeader.{GPTHeader}
-use Rattle.gptman_copy.specs.declared.copy.WholeCopy.{WholeCopy}
-use Rattle.gptman_copy.specs.declared.error.Error.{Error}
-use Rattle.gptman_copy.specs.Copy.{header_result}
+use Rattle.gptman.specs.Answers.{IsFailure}
+use Rattle.gptman.specs.Disk.{DiskState, Untouched, Writes}
+use Rattle.gptman.specs.Fault.{Fault, out_of_memory}
+use Rattle.gptman.specs.Ranges.{Inside}
+use Rattle.gptman.specs.declared.codec.header.GPTHeader.{GPTHeader}
+use Rattle.gptman.specs.declared.copy.WholeCopy.{WholeCopy}
+use Rattle.gptman.specs.Error.{Error}
+use Rattle.gptman.specs.Copy.{header_result}
 use Rattle.gptedit_look.specs.Guard.{entries_size, last_of, IsIn, IsOfCopy}
 use Rattle.gptedit_look.specs.declared.first_sector.MbrKind.{MbrKind}
 use Rattle.gptedit_look.specs.declared.first_sector.MbrKind.TheVariants.{Protective}

@@ -11,7 +11,7 @@ use std::alloc::Global;
 ///
 /// # Errors
 /// `Io` if the disk failed, `OutOfMemory` if there was no memory.
-#[tactic(auto, using(gptman_copy::proofs::Readers::both_read, gptman_copy::proofs::Runs::rose_since))]
+#[tactic(auto, using(gptman::proofs::Readers::both_read, gptman::proofs::Runs::rose_since))]
 pub fn read_block<D: Disk>(alloc: Global, disk: &mut D, at: u64, length: u64) -> Result<Vec<u8>>
     ensures reads { Reads (D.state disk.old) (D.state disk.new) }
     ensures cause { HasCause result (D.state disk.old) (D.state disk.new) }
@@ -25,7 +25,7 @@ pub fn read_block<D: Disk>(alloc: Global, disk: &mut D, at: u64, length: u64) ->
 }
 
 // Reads the bytes from this one on.
-#[tactic(auto, using(gptman_copy::proofs::Readers::both_read, gptman_copy::proofs::Runs::rose_since))]
+#[tactic(auto, using(gptman::proofs::Readers::both_read, gptman::proofs::Runs::rose_since))]
 fn read_at<D: Disk>(disk: &mut D, at: u64, bytes: &mut [u8]) -> Result<()>
     requires { at + length bytes.old ≤ (D.state disk.old).size }
     ensures reads { Reads (D.state disk.old) (D.state disk.new) }

@@ -3,8 +3,8 @@
 ghost use Rattle.std.specs.Prelude.{◌≡◌, ◌≤◌, ◌<◌, ◌+◌, ◌*◌, ◌↔◌, ℕ, [], IfErr, IfOk, IsTrue, OnOk, Some as Present};
 ghost use Rattle.gptman.specs.Answers.{IsFailure};
 ghost use Rattle.gptman.specs.Disk.{IsHonest, Keeps, Reads, Writes};
-ghost use Rattle.gptman_copy.specs.Fault.{fault_of, io, out_of_memory};
-ghost use Rattle.gptman_copy.specs.Ranges.{Inside};
+ghost use Rattle.gptman.specs.Fault.{fault_of, io, out_of_memory};
+ghost use Rattle.gptman.specs.Ranges.{Inside};
 ghost use Rattle.gptedit_look.specs.Guard.{last_of, IsIn};
 ghost use Rattle.gptedit_look.specs.Wiped.{header_found, header_in, ranges_in, Adds, AreZeros, HasUsualEntries, IsApartFrom, IsBeside, IsCleared, IsClearOf, IsFailureOrUnbegun, IsOfBeside, IsOfCopies, IsOfMbr, IsOfOld, IsOfOther, IsOfOwn, IsOfPlace, IsOfRaw, IsOfSignature, IsOfWhole, IsWiped, WritesOnly};
 
@@ -14,8 +14,8 @@ use crate::raw::RawHeader;
 use crate::seen::Look;
 use crate::signatures::{Place, Signature, place_at};
 use crate::zeros::{Zeroed, put_zeros};
+use gptman::copy::WholeCopy;
 use gptman::{Disk, Error, GPTHeader, Result};
-use gptman_copy::copy::WholeCopy;
 use std::alloc::Global;
 
 // The bytes of a signature.
@@ -136,7 +136,7 @@ fn read_header<D: Disk>(disk: &mut D, place: Place, sector_size: u64) -> Result<
 }
 
 // The header at this byte, if it is good.
-#[tactic(auto, using(gptman_copy::proofs::Readers::both_read, gptman_copy::proofs::Runs::rose_since))]
+#[tactic(auto, using(gptman::proofs::Readers::both_read, gptman::proofs::Runs::rose_since))]
 fn read_header_at<D: Disk>(disk: &mut D, at: u64) -> Result<Option<GPTHeader>>
     requires { at + 92 ≤ (D.state disk.old).size }
     ensures reads { Reads (D.state disk.old) (D.state disk.new) }

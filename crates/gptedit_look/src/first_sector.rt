@@ -106,7 +106,7 @@ impl Entry {
 ///
 /// # Errors
 /// `Io` if the disk failed, `OutOfMemory` if there was no memory.
-#[tactic(auto, using(gptman_copy::proofs::Readers::both_read, gptman_copy::proofs::Runs::rose_since))]
+#[tactic(auto, using(gptman::proofs::Readers::both_read, gptman::proofs::Runs::rose_since))]
 pub fn read_first_sector<D: Disk>(
     alloc: Global,
     disk: &mut D,

@@ -11,8 +11,8 @@ use crate::bytes::{is_in, start_after, start_of};
 use crate::raw::RawHeader;
 use crate::seen::{Look, Purpose};
 use gptedit_marks::Content;
+use gptman::copy::WholeCopy;
 use gptman::{GPT, GPTHeader, Result};
-use gptman_copy::copy::WholeCopy;
 
 // The bytes of a header.
 const HEADER_SIZE: u64 = 92;

@@ -3,7 +3,7 @@
 ghost use Rattle.std.specs.Prelude.{◌≡◌, ◌≢◌, ◌↔◌, ◌≤◌, ◌<◌, ◌+◌, ◌-◌, ◌^◌, ◌⊎◌, ℕ, length, slice_index, IfOk, IsSome, IsTrue, MatchOption, OnOk};
 ghost use Rattle.gptman.specs.Answers.{HasCause};
 ghost use Rattle.gptman.specs.Disk.{IsHonest, Reads};
-ghost use Rattle.gptman_copy.specs.Bytes.{part as bytes_at};
+ghost use Rattle.gptman.specs.Bytes.{part as bytes_at};
 ghost use Rattle.gptedit_look.specs.Guard.{IsAllowed, AreFree, IsRefused, MayBeOverwritten};
 ghost use Rattle.gptedit_look.specs.Guarded.{AreAllFree, IsNamed, IsRefusedOf, SparesOthers};
 ghost use Rattle.gptedit_look.specs.Touched.{EndsWithin, IsTouchedIn};
@@ -173,7 +173,7 @@ fn find_in_range<D: Disk>(
 }
 
 // The first of so many bytes, at most 512, that the write may not overwrite.
-#[tactic(auto, using(crate::proofs::Pieces::block_answer, gptman_copy::proofs::Readers::both_read))]
+#[tactic(auto, using(crate::proofs::Pieces::block_answer, gptman::proofs::Readers::both_read))]
 fn find_in_block<D: Disk>(
     disk: &mut D,
     grounds: &Grounds<'_>,
@@ -197,7 +197,7 @@ fn find_in_block<D: Disk>(
 }
 
 // Reads so many bytes from this one on.
-#[tactic(auto, using(gptman_copy::proofs::Readers::both_read, gptman_copy::proofs::Runs::rose_since))]
+#[tactic(auto, using(gptman::proofs::Readers::both_read, gptman::proofs::Runs::rose_since))]
 fn read_part<D: Disk>(disk: &mut D, at: u64, count: u64, part: &mut [u8]) -> Result<()>
     requires room { at + count ≤ (D.state disk.old).size }
     requires count { length part.old ≡ count }

@@ -14,8 +14,8 @@ ghost use Rattle.gptedit_look.specs.declared.mending.Plan.TheVariants.{Leave};
 use crate::blocks::byte_at;
 use crate::first_sector::is_empty;
 use crate::protective::{Misfit, find_misfit};
+use gptman::cells::{put, put_u32};
 use gptman::{Disk, GPT, Result};
-use gptman_copy::cells::{put, put_u32};
 
 // The byte of the disk at which the entries begin.
 const MBR_START: u64 = 446;
@@ -109,7 +109,7 @@ fn change_of(plan: Plan) -> MbrChange
 }
 
 // Reads the first 512 bytes.
-#[tactic(auto, using(gptman_copy::proofs::Readers::both_read, gptman_copy::proofs::Runs::rose_since))]
+#[tactic(auto, using(gptman::proofs::Readers::both_read, gptman::proofs::Runs::rose_since))]
 fn read_first<D: Disk>(disk: &mut D) -> Result<[u8; 512]>
     requires { 512 ≤ (D.state disk.old).size }
     ensures reads { Reads (D.state disk.old) (D.state disk.new) }

@@ -3,8 +3,8 @@
 ghost use Rattle.std.specs.Prelude.{◌≡◌, ◌≤◌, ◌+◌, IfOk};
 ghost use Rattle.gptman.specs.Answers.{HasCause};
 ghost use Rattle.gptman.specs.Disk.{IsHonest, Reads};
-ghost use Rattle.gptman_copy.specs.Bytes.{part as bytes_at};
-ghost use Rattle.gptman_copy.specs.Coding.{header_of};
+ghost use Rattle.gptman.specs.Bytes.{part as bytes_at};
+ghost use Rattle.gptman.specs.Coding.{header_of};
 ghost use Rattle.gptedit_look.specs.Seen.{header_at, raw_of, IsRawOf, IsSeenAt};
 
 use crate::signatures::{Place, SIGNATURE, place_at};
@@ -65,7 +65,7 @@ impl RawHeader {
 ///
 /// # Errors
 /// `Io` if the disk failed.
-#[tactic(auto, using(gptman_copy::proofs::Readers::both_read, gptman_copy::proofs::Runs::rose_since))]
+#[tactic(auto, using(gptman::proofs::Readers::both_read, gptman::proofs::Runs::rose_since))]
 pub fn read_raw_header<D: Disk>(
     disk: &mut D,
     sector_size: u64,
@@ -85,7 +85,7 @@ pub fn read_raw_header<D: Disk>(
 ///
 /// # Errors
 /// `Io` if the disk failed.
-#[tactic(auto, using(gptman_copy::proofs::Readers::both_read, gptman_copy::proofs::Runs::rose_since))]
+#[tactic(auto, using(gptman::proofs::Readers::both_read, gptman::proofs::Runs::rose_since))]
 pub fn read_raw_header_at<D: Disk>(disk: &mut D, at: u64) -> Result<Option<RawHeader>>
     ensures reads { Reads (D.state disk.old) (D.state disk.new) }
     ensures cause { HasCause result (D.state disk.old) (D.state disk.new) }
@@ -124,7 +124,7 @@ fn raw_of(at: u64, header: &GPTHeader) -> Option<RawHeader>
 }
 
 // Reads the fields of a header at this byte.
-#[tactic(auto, using(gptman_copy::proofs::Readers::both_read, gptman_copy::proofs::Runs::rose_since))]
+#[tactic(auto, using(gptman::proofs::Readers::both_read, gptman::proofs::Runs::rose_since))]
 fn read_header<D: Disk>(disk: &mut D, at: u64) -> Result<GPTHeader>
     requires { at + 92 ≤ (D.state disk.old).size }
     ensures reads { Reads (D.state disk.old) (D.state disk.new) }
@@ -137,7 +137,7 @@ fn read_header<D: Disk>(disk: &mut D, at: u64) -> Result<GPTHeader>
 }
 
 // The header that these bytes hold.
-#[tactic(auto, using(gptman_copy::proofs::HeaderBytes::header_is))]
+#[tactic(auto, using(gptman::proofs::HeaderBytes::header_is))]
 fn decoded(bytes: &[u8; 92]) -> GPTHeader
     ensures { result ≡ header_of bytes.now }
 {
@@ -145,7 +145,7 @@ fn decoded(bytes: &[u8; 92]) -> GPTHeader
 }
 
 // Reads 92 bytes from this one on.
-#[tactic(auto, using(gptman_copy::proofs::Readers::both_read, gptman_copy::proofs::Runs::rose_since))]
+#[tactic(auto, using(gptman::proofs::Readers::both_read, gptman::proofs::Runs::rose_since))]
 fn read_bytes<D: Disk>(disk: &mut D, at: u64) -> Result<[u8; 92]>
     requires { at + 92 ≤ (D.state disk.old).size }
     ensures reads { Reads (D.state disk.old) (D.state disk.new) }

@@ -9,8 +9,7 @@ use crate::raw::{RawHeader, read_raw_header, read_raw_header_at};
 use crate::seen::{Look, Looked};
 use crate::signatures::{Place, Signature, find_signatures};
 use gptedit_marks::{Content, find_contents, find_footer};
-use gptimg_core::{BothCopies, check};
-use gptman::{Disk, Error, GPT, Result};
+use gptman::{BothCopies, Disk, Error, GPT, Result, check};
 use gptman_change::read_table;
 use std::alloc::Global;
 
@@ -27,7 +26,7 @@ const DEFAULT_SECTOR_SIZE: u64 = 512;
 ///
 /// # Errors
 /// `Io` if the disk failed, `OutOfMemory` if there was no memory.
-#[tactic(auto, using(gptman_copy::proofs::Readers::both_read, gptman_copy::proofs::Runs::rose_since))]
+#[tactic(auto, using(gptman::proofs::Readers::both_read, gptman::proofs::Runs::rose_since))]
 pub fn look<D: Disk>(alloc: Global, disk: &mut D, sector_size: Option<u64>) -> Result<Looked>
     ensures reads { Reads (D.state disk.old) (D.state disk.new) }
     ensures cause { HasCause result (D.state disk.old) (D.state disk.new) }
@@ -39,7 +38,7 @@ pub fn look<D: Disk>(alloc: Global, disk: &mut D, sector_size: Option<u64>) -> R
 }
 
 // Looks at a disk whose headers count few entries.
-#[tactic(auto, using(gptman_copy::proofs::Readers::both_read, gptman_copy::proofs::Runs::rose_since))]
+#[tactic(auto, using(gptman::proofs::Readers::both_read, gptman::proofs::Runs::rose_since))]
 fn look_whole<D: Disk>(alloc: Global, disk: &mut D, sector_size: Option<u64>) -> Result<Look>
     ensures reads { Reads (D.state disk.old) (D.state disk.new) }
     ensures cause { HasCause result (D.state disk.old) (D.state disk.new) }
@@ -50,7 +49,7 @@ fn look_whole<D: Disk>(alloc: Global, disk: &mut D, sector_size: Option<u64>) ->
 }
 
 // The greatest number of entries that a header counts, if it is too great.
-#[tactic(auto, using(gptman_copy::proofs::Readers::both_read, gptman_copy::proofs::Runs::rose_since))]
+#[tactic(auto, using(gptman::proofs::Readers::both_read, gptman::proofs::Runs::rose_since))]
 fn find_too_many<D: Disk>(disk: &mut D, sector_size: Option<u64>) -> Result<Option<u32>>
     ensures reads { Reads (D.state disk.old) (D.state disk.new) }
     ensures cause { HasCause result (D.state disk.old) (D.state disk.new) }
@@ -65,7 +64,7 @@ fn find_too_many<D: Disk>(disk: &mut D, sector_size: Option<u64>) -> Result<Opti
 }
 
 // The same with sectors of this size.
-#[tactic(auto, using(gptman_copy::proofs::Readers::both_read, gptman_copy::proofs::Runs::rose_since))]
+#[tactic(auto, using(gptman::proofs::Readers::both_read, gptman::proofs::Runs::rose_since))]
 fn find_too_many_in<D: Disk>(disk: &mut D, sector_size: u64) -> Result<Option<u32>>
     ensures reads { Reads (D.state disk.old) (D.state disk.new) }
     ensures cause { HasCause result (D.state disk.old) (D.state disk.new) }
@@ -113,7 +112,7 @@ fn size_of(table: Option<&GPT>, given: Option<u64>) -> u64
 }
 
 // Looks at all else.
-#[tactic(auto, using(gptman_copy::proofs::Readers::both_read, gptman_copy::proofs::Runs::rose_since))]
+#[tactic(auto, using(gptman::proofs::Readers::both_read, gptman::proofs::Runs::rose_since))]
 fn see<D: Disk>(alloc: Global, disk: &mut D, sector_size: u64, table: Option<GPT>) -> Result<Look>
     requires { 0 < sector_size }
     ensures reads { Reads (D.state disk.old) (D.state disk.new) }
@@ -125,7 +124,7 @@ fn see<D: Disk>(alloc: Global, disk: &mut D, sector_size: u64, table: Option<GPT
 }
 
 // What is there beside the copies.
-#[tactic(auto, using(gptman_copy::proofs::Readers::both_read, gptman_copy::proofs::Runs::rose_since))]
+#[tactic(auto, using(gptman::proofs::Readers::both_read, gptman::proofs::Runs::rose_since))]
 fn see_beside<D: Disk>(
     alloc: Global,
     disk: &mut D,
@@ -140,7 +139,7 @@ fn see_beside<D: Disk>(
 }
 
 // The same on a disk of this length.
-#[tactic(auto, using(gptman_copy::proofs::Readers::both_read, gptman_copy::proofs::Runs::rose_since))]
+#[tactic(auto, using(gptman::proofs::Readers::both_read, gptman::proofs::Runs::rose_since))]
 fn see_on<D: Disk>(
     alloc: Global,
     disk: &mut D,
@@ -176,7 +175,7 @@ struct Known {
 }
 
 // The raw headers, beside the one that moved.
-#[tactic(auto, using(gptman_copy::proofs::Readers::both_read, gptman_copy::proofs::Runs::rose_since))]
+#[tactic(auto, using(gptman::proofs::Readers::both_read, gptman::proofs::Runs::rose_since))]
 fn read_headers<D: Disk>(
     disk: &mut D,
     sector_size: u64,
@@ -195,7 +194,7 @@ fn read_headers<D: Disk>(
 }
 
 // What is recognised on a disk of this length.
-#[tactic(auto, using(gptman_copy::proofs::Readers::both_read, gptman_copy::proofs::Runs::rose_since))]
+#[tactic(auto, using(gptman::proofs::Readers::both_read, gptman::proofs::Runs::rose_since))]
 fn find_known<D: Disk>(alloc: Global, disk: &mut D, sector_size: u64, size: u64) -> Result<Known>
     ensures reads { Reads (D.state disk.old) (D.state disk.new) }
     ensures cause { HasCause result (D.state disk.old) (D.state disk.new) }
@@ -213,7 +212,7 @@ fn find_known<D: Disk>(alloc: Global, disk: &mut D, sector_size: u64, size: u64)
 }
 
 // The contents and the footer that are recognised.
-#[tactic(auto, using(gptman_copy::proofs::Readers::both_read, gptman_copy::proofs::Runs::rose_since))]
+#[tactic(auto, using(gptman::proofs::Readers::both_read, gptman::proofs::Runs::rose_since))]
 fn find_marks<D: Disk>(
     alloc: Global,
     disk: &mut D,

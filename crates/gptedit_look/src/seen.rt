@@ -6,8 +6,7 @@ use crate::first_sector::FirstSector;
 use crate::raw::RawHeader;
 use crate::signatures::Signature;
 use gptedit_marks::Content;
-use gptimg_core::BothCopies;
-use gptman::GPT;
+use gptman::{BothCopies, GPT};
 
 /// What a look at a disk saw.
 #[derive(Drop)]

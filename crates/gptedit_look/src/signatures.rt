@@ -51,7 +51,7 @@ pub fn place_at(place: Place, sector_size: u64, size: u64) -> Option<u64>
 ///
 /// # Errors
 /// `Io` if the disk failed, `OutOfMemory` if there was no memory.
-#[tactic(auto, using(gptman_copy::proofs::Readers::both_read, gptman_copy::proofs::Runs::rose_since))]
+#[tactic(auto, using(gptman::proofs::Readers::both_read, gptman::proofs::Runs::rose_since))]
 pub fn find_signatures<D: Disk>(alloc: Global, disk: &mut D) -> Result<Vec<Signature>>
     ensures reads { Reads (D.state disk.old) (D.state disk.new) }
     ensures cause { HasCause result (D.state disk.old) (D.state disk.new) }
@@ -82,7 +82,7 @@ fn push_signature<D: Disk>(
 }
 
 // The signature at this place.
-#[tactic(auto, using(gptman_copy::proofs::Readers::both_read, gptman_copy::proofs::Runs::rose_since))]
+#[tactic(auto, using(gptman::proofs::Readers::both_read, gptman::proofs::Runs::rose_since))]
 fn find_signature<D: Disk>(
     alloc: Global,
     disk: &mut D,

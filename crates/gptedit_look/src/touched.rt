@@ -1,8 +1,8 @@
 //! The bytes that a write of a table touches.
 
 ghost use Rattle.std.specs.Prelude.{◌≡◌, ◌↔◌, ◌≤◌, ◌<◌, ◌+◌, ◌*◌, ◌^◌, ◌⊎◌, ℕ};
-ghost use Rattle.gptman_copy.specs.Ranges.{Inside};
-ghost use Rattle.gptman_copy.specs.Write.{copy_ranges, other_header};
+ghost use Rattle.gptman.specs.Ranges.{Inside};
+ghost use Rattle.gptman.specs.Write.{copy_ranges, other_header};
 ghost use Rattle.gptedit_look.specs.Guard.{IsIn, IsWritten};
 ghost use Rattle.gptedit_look.specs.Touched.{EndsWithin, IsTouched, IsTouchedIn, IsTouchedOf};
 

@@ -41,7 +41,7 @@ const LAST: u64 = 128 << 10;
 ///
 /// # Errors
 /// `Io` if the disk failed, `OutOfMemory` if there was no memory.
-#[tactic(auto, using(gptman_copy::proofs::Readers::both_read, gptman_copy::proofs::Runs::rose_since))]
+#[tactic(auto, using(gptman::proofs::Readers::both_read, gptman::proofs::Runs::rose_since))]
 pub fn find_contents<D: Disk>(
     alloc: Global,
     disk: &mut D,
@@ -62,7 +62,7 @@ pub fn find_contents<D: Disk>(
 }
 
 // Returns what is found in the range.
-#[tactic(auto, using(gptman_copy::proofs::Readers::both_read, gptman_copy::proofs::Runs::rose_since))]
+#[tactic(auto, using(gptman::proofs::Readers::both_read, gptman::proofs::Runs::rose_since))]
 fn find_all<D: Disk>(alloc: Global, disk: &mut D, span: &Span) -> gptman::Result<Vec<Found>>
     requires { span.now.end ≤ (D.state disk.old).size }
     ensures reads { Reads (D.state disk.old) (D.state disk.new) }
@@ -79,7 +79,7 @@ fn find_all<D: Disk>(alloc: Global, disk: &mut D, span: &Span) -> gptman::Result
 }
 
 // Adds what is found between the first piece and the last: at each power of two from 128 KiB to 4 MiB.
-#[tactic(auto, using(gptman_copy::proofs::Readers::both_read, gptman_copy::proofs::Runs::rose_since))]
+#[tactic(auto, using(gptman::proofs::Readers::both_read, gptman::proofs::Runs::rose_since))]
 fn find_far<D: Disk>(
     alloc: Global,
     disk: &mut D,
@@ -97,7 +97,7 @@ fn find_far<D: Disk>(
 }
 
 // Adds what is found from 1 MiB on.
-#[tactic(auto, using(gptman_copy::proofs::Readers::both_read, gptman_copy::proofs::Runs::rose_since))]
+#[tactic(auto, using(gptman::proofs::Readers::both_read, gptman::proofs::Runs::rose_since))]
 fn find_farther<D: Disk>(
     alloc: Global,
     disk: &mut D,
@@ -186,7 +186,7 @@ fn end_of(length: Option<u64>, start: u64) -> Option<u64> {
 ///
 /// # Errors
 /// `Io` if the disk failed, `OutOfMemory` if there was no memory.
-#[tactic(auto, using(gptman_copy::proofs::Readers::both_read, gptman_copy::proofs::Runs::rose_since))]
+#[tactic(auto, using(gptman::proofs::Readers::both_read, gptman::proofs::Runs::rose_since))]
 pub fn find_format<D: Disk>(alloc: Global, disk: &mut D) -> gptman::Result<Option<&'static str>>
     ensures reads { Reads (D.state disk.old) (D.state disk.new) }
     ensures cause { HasCause result (D.state disk.old) (D.state disk.new) }
@@ -208,7 +208,7 @@ pub fn find_format<D: Disk>(alloc: Global, disk: &mut D) -> gptman::Result<Optio
 ///
 /// # Errors
 /// `Io` if the disk failed, `OutOfMemory` if there was no memory.
-#[tactic(auto, using(gptman_copy::proofs::Readers::both_read, gptman_copy::proofs::Runs::rose_since))]
+#[tactic(auto, using(gptman::proofs::Readers::both_read, gptman::proofs::Runs::rose_since))]
 pub fn find_footer<D: Disk>(alloc: Global, disk: &mut D) -> gptman::Result<Option<Content>>
     ensures reads { Reads (D.state disk.old) (D.state disk.new) }
     ensures cause { HasCause result (D.state disk.old) (D.state disk.new) }

@@ -108,7 +108,7 @@ pub fn read_piece<D: Disk>(
 }
 
 // Reads the bytes of the disk there.
-#[tactic(auto, using(gptman_copy::proofs::Readers::both_read, gptman_copy::proofs::Runs::rose_since))]
+#[tactic(auto, using(gptman::proofs::Readers::both_read, gptman::proofs::Runs::rose_since))]
 fn read_bytes<D: Disk>(
     alloc: Global,
     disk: &mut D,

@@ -1,8 +1,7 @@
 //! What the two copies of a table are.
 
-use gptimg_core::name_of;
+use gptman::copy::WholeCopy;
 use gptman::{Error, GPTHeader, Result};
-use gptman_copy::copy::WholeCopy;
 use std::fmt;
 
 /// What the two copies of a table are, each read by itself.
@@ -71,10 +70,10 @@ impl fmt::Display for CopiesState<'_> {
         match self {
             CopiesState::Good => f.write_str("both copies good"),
             CopiesState::PrimaryBad(fault) => {
-                write!(f, "backup copy good, primary bad ({})", name_of(*fault))
+                write!(f, "backup copy good, primary bad ({})", fault.name())
             }
             CopiesState::BackupBad(fault) => {
-                write!(f, "primary copy good, backup bad ({})", name_of(*fault))
+                write!(f, "primary copy good, backup bad ({})", fault.name())
             }
             CopiesState::BothBad(_, _) => f.write_str("both copies bad"),
             CopiesState::PrimaryElsewhere => {

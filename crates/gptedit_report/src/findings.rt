@@ -7,7 +7,6 @@ use crate::fault::Meaning;
 use crate::layout::Standing;
 use crate::way::{Otherwise, Way};
 use gptedit_look::{Look, MbrKind, Place, Signature};
-use gptimg_core::name_of;
 use gptman::{Error, GPT};
 use std::alloc::{AllocError, Global};
 use std::fmt;
@@ -294,7 +293,7 @@ impl fmt::Display for Wrong<'_> {
 
 // That a copy is bad, and why.
 fn write_bad<W: fmt::Write>(f: &mut fmt::Formatter<W>, place: &str, fault: &Error) -> fmt::Result {
-    let (name, meaning) = (name_of(fault), Meaning(fault));
+    let (name, meaning) = (fault.name(), Meaning(fault));
     write!(f, "the {place} copy is bad ({name}: {meaning})")
 }
 

@@ -4,7 +4,6 @@ use crate::copies::CopiesState;
 use crate::members::Members;
 use crate::sfdisk::{Attributes, separator_of};
 use gptedit_text::values::is_hidden;
-use gptimg_core::name_of;
 use gptman::{Error, GPT, GPTPartitionEntry};
 use serde_json::Value;
 use std::alloc::{AllocError, Global};
@@ -122,7 +121,7 @@ fn form_name(table: &GPT) -> &'static str {
 // What a copy is: good, or the name of its fault.
 fn copy_name(fault: Option<&Error>) -> &'static str {
     match fault {
-        Some(fault) => name_of(fault),
+        Some(fault) => fault.name(),
         None => "good",
     }
 }

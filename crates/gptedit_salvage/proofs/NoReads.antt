@@ -1,7 +1,7 @@
 -- Runs of calls that only read.
 use Rattle.std.proofs.Common.{IsTrue, rules}
-use Rattle.gptman_copy.specs.Disk.{DiskState, IsSound, Reads}
-use Rattle.gptman_copy.proofs.Readers.{reads_not}
+use Rattle.gptman.specs.Disk.{DiskState, IsSound, Reads}
+use Rattle.gptman.proofs.Readers.{reads_not}
 
 -- before the first call
 pub reads_none : (a : DiskState) → (IsTrue a.is_honest → IsSound a) → Reads a a

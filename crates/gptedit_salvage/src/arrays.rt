@@ -145,7 +145,7 @@ fn is_likely_entry(entry: &GPTPartitionEntry, sectors: u64) -> bool {
 
 /// Reads the array of a header: where it says, or where arrays usually are if the entries there have not the
 /// stored checksum.
-#[tactic(auto, using(gptman_copy::proofs::Readers::both_read))]
+#[tactic(auto, using(gptman::proofs::Readers::both_read))]
 pub fn find_array<D: Disk>(
     alloc: Global,
     disk: &mut D,
@@ -187,7 +187,7 @@ fn is_better(array: &Array, other: &Array, header: &GPTHeader, sectors: u64) -> 
 }
 
 /// Reads an array, as far as the disk has it.
-#[tactic(auto, using(gptman_copy::proofs::Readers::both_read))]
+#[tactic(auto, using(gptman::proofs::Readers::both_read))]
 pub fn read_array<D: Disk>(
     alloc: Global,
     disk: &mut D,

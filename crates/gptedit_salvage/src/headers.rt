@@ -31,7 +31,7 @@ pub enum Seen {
 }
 
 /// Reads what is in the sector of a header.
-#[tactic(auto, using(gptman_copy::proofs::Readers::both_read))]
+#[tactic(auto, using(gptman::proofs::Readers::both_read))]
 pub fn read_header<D: Disk>(alloc: Global, disk: &mut D, spot: Spot) -> Result<Seen, AllocError>
     ensures reads { Reads (D.state disk.old) (D.state disk.new) }
 {

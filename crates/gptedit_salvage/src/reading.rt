@@ -9,7 +9,7 @@ use std::alloc::{AllocError, Global};
 const PIECE: u64 = 4096;
 
 /// Fills the buffer with the bytes from `at` on. Reports whether it could.
-#[tactic(auto, using(gptman_copy::proofs::Readers::both_read))]
+#[tactic(auto, using(gptman::proofs::Readers::both_read))]
 pub fn read_at<D: Disk>(disk: &mut D, at: u64, bytes: &mut [u8]) -> bool
     ensures reads { Reads (D.state disk.old) (D.state disk.new) }
 {
@@ -21,7 +21,7 @@ pub fn read_at<D: Disk>(disk: &mut D, at: u64, bytes: &mut [u8]) -> bool
 
 /// Returns `len` bytes from `start` on, or those before the first piece that cannot be read. No memory is
 /// allocated before the bytes for it are there.
-#[tactic(auto, using(gptman_copy::proofs::Readers::both_read))]
+#[tactic(auto, using(gptman::proofs::Readers::both_read))]
 pub fn read_range<D: Disk>(
     alloc: Global,
     disk: &mut D,
@@ -42,7 +42,7 @@ pub fn read_range<D: Disk>(
 }
 
 // Adds `len` bytes from `at` on, but one piece at most. Reports whether they could be read.
-#[tactic(auto, using(gptman_copy::proofs::Readers::both_read))]
+#[tactic(auto, using(gptman::proofs::Readers::both_read))]
 fn read_piece<D: Disk>(
     disk: &mut D,
     at: u64,

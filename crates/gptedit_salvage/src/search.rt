@@ -24,7 +24,7 @@ use std::alloc::{AllocError, Global};
 /// # Errors
 ///
 /// `Io` if the length of the disk cannot be read, `OutOfMemory` if an allocation fails.
-#[tactic(auto, using(gptman_copy::proofs::Readers::both_read))]
+#[tactic(auto, using(gptman::proofs::Readers::both_read))]
 pub fn salvage<D: Disk>(alloc: Global, disk: &mut D, asked: Option<u64>) -> gptman::Result<Salvaged>
     ensures reads { Reads (D.state disk.old) (D.state disk.new) }
     ensures cause { IfErr result (λ e. (fault_of e ≡ out_of_memory)
@@ -43,7 +43,7 @@ pub fn salvage<D: Disk>(alloc: Global, disk: &mut D, asked: Option<u64>) -> gptm
 }
 
 // The copies that are there.
-#[tactic(auto, using(gptman_copy::proofs::Readers::both_read))]
+#[tactic(auto, using(gptman::proofs::Readers::both_read))]
 fn find_copies<D: Disk>(
     alloc: Global,
     disk: &mut D,
@@ -110,7 +110,7 @@ fn backup_spot(primary: Spot) -> Spot {
 }
 
 // Adds the copies that have a header, with sectors of this size.
-#[tactic(auto, using(gptman_copy::proofs::Readers::both_read))]
+#[tactic(auto, using(gptman::proofs::Readers::both_read))]
 fn find_at_size<D: Disk>(
     alloc: Global,
     disk: &mut D,
@@ -132,7 +132,7 @@ fn find_at_size<D: Disk>(
 }
 
 // Adds the copy in this sector, unless that is sector 0, 1 or the last one.
-#[tactic(auto, using(gptman_copy::proofs::Readers::both_read))]
+#[tactic(auto, using(gptman::proofs::Readers::both_read))]
 fn find_other<D: Disk>(
     alloc: Global,
     disk: &mut D,
@@ -157,7 +157,7 @@ fn find_other<D: Disk>(
 }
 
 // Adds the copy at this place, if there is a header. Returns where that says that its other copy is.
-#[tactic(auto, using(gptman_copy::proofs::Readers::both_read))]
+#[tactic(auto, using(gptman::proofs::Readers::both_read))]
 fn find_copy<D: Disk>(
     alloc: Global,
     disk: &mut D,
@@ -193,7 +193,7 @@ fn unreadable_copy(alloc: Global, spot: Spot) -> Result<FoundCopy, AllocError> {
 }
 
 // The copy of this header, with what is wrong with it.
-#[tactic(auto, using(gptman_copy::proofs::Readers::both_read))]
+#[tactic(auto, using(gptman::proofs::Readers::both_read))]
 fn read_copy<D: Disk>(
     alloc: Global,
     disk: &mut D,
@@ -216,7 +216,7 @@ fn read_copy<D: Disk>(
 }
 
 // Adds the copies without a header, with sectors of this size.
-#[tactic(auto, using(gptman_copy::proofs::Readers::both_read))]
+#[tactic(auto, using(gptman::proofs::Readers::both_read))]
 fn find_bare_at_size<D: Disk>(
     alloc: Global,
     disk: &mut D,
@@ -232,7 +232,7 @@ fn find_bare_at_size<D: Disk>(
 }
 
 // Adds the copy without a header at this place, if most of what is there makes sense as entries.
-#[tactic(auto, using(gptman_copy::proofs::Readers::both_read))]
+#[tactic(auto, using(gptman::proofs::Readers::both_read))]
 fn find_bare<D: Disk>(
     alloc: Global,
     disk: &mut D,

@@ -3,7 +3,7 @@ use Rattle.std.specs.Prelude.{◌≡◌, ◌≢◌, ◌⊎◌, ◌^◌, ◌<◌,
 use Rattle.std.specs.Str.Parse.{digits_value, without_leading_plus, IsNumeral}
 use Rattle.clap.specs.Words.{first_value, matched_of, one_text, typed_values}
 use Rattle.clap.specs.declared.parser.matches.Found.{Found}
-use Rattle.gptman_copy.specs.declared.codec.name.PartitionName.{PartitionName}
+use Rattle.gptman.specs.declared.codec.name.PartitionName.{PartitionName}
 use Rattle.gptedit_core.specs.declared.amount.Amount.{Amount}
 use Rattle.gptedit_core.specs.declared.amount.Amount.TheVariants.{Bytes}
 use Rattle.gptedit_core.specs.declared.asked.Asked.{Asked}

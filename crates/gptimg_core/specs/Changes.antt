@@ -10,7 +10,7 @@ use Rattle.gptman.specs.Name.{units_of}
 use Rattle.gptman.specs.Number.{entry_at, number_fault, with_entry}
 use Rattle.gptman.specs.Place.{IsBestPlace, IsFirstPlace, IsFreeIn, IsLastPlace}
 use Rattle.gptman.specs.Table.{Table as DiskTable, grow_to, table_in}
-use Rattle.gptman_copy.specs.declared.codec.entry.GPTPartitionEntry.{GPTPartitionEntry}
+use Rattle.gptman.specs.declared.codec.entry.GPTPartitionEntry.{GPTPartitionEntry}
 use Rattle.gptman.specs.declared.edit.Edit.TheVariants.{Remove as RemoveEntry, SortEntries}
 use Rattle.gptman.specs.declared.table.GPT.{GPT}
 use Rattle.gptman_change.specs.Changes.{StopsLeaveEither}

@@ -8,7 +8,7 @@ use Rattle.gptman.specs.Mbr.{mbr_range, IsMbrStored}
 use Rattle.gptman.specs.Stop.{IsStored}
 use Rattle.gptman.specs.Table.{new_table, table_in}
 use Rattle.gptman.specs.TableWrites.{table_ranges}
-use Rattle.gptman_copy.specs.declared.error.Error.{Error}
+use Rattle.gptman.specs.Error.{Error}
 use Rattle.gptman_change.specs.Changes.{LeavesChange, MakesChange, RefusesChange}
 use Rattle.gptman_change.specs.Reads.{RefusesReading}
 use Rattle.gptimg_core.specs.Changes.{IsMade, ReplacesTable}

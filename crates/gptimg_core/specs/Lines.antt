@@ -9,8 +9,8 @@ use Rattle.gptman.specs.Copy.{Copy}
 use Rattle.gptman.specs.Entry.{is_used}
 use Rattle.gptman.specs.Fault.{Fault}
 use Rattle.gptman.specs.Table.{entries_in}
-use Rattle.gptman_copy.specs.declared.codec.entry.GPTPartitionEntry.{GPTPartitionEntry}
-use Rattle.gptman_copy.specs.declared.codec.header.GPTHeader.{GPTHeader}
+use Rattle.gptman.specs.declared.codec.entry.GPTPartitionEntry.{GPTPartitionEntry}
+use Rattle.gptman.specs.declared.codec.header.GPTHeader.{GPTHeader}
 use Rattle.gptman.specs.declared.table.GPT.{GPT}
 use Rattle.gptman.specs.Copy.{copy_of_whole}
 use Rattle.gptimg_core.specs.Names.{fault_name}

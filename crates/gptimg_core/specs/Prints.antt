@@ -3,7 +3,7 @@ use Rattle.std.specs.Prelude.{◌≡◌, ℕ, List, Option, Result, Ok, Err, IfO
 use Rattle.std.specs.Io.KnownBytes.{Appends}
 use Rattle.gptman.specs.Disk.{DiskState}
 use Rattle.gptman.specs.Fault.{fault_of}
-use Rattle.gptman_copy.specs.declared.error.Error.{Error}
+use Rattle.gptman.specs.Error.{Error}
 use Rattle.gptimg_core.specs.Checks.{is_good}
 use Rattle.gptimg_core.specs.Does.{Does, Told}
 use Rattle.gptimg_core.specs.Lines.{report_lines}

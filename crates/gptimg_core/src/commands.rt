@@ -20,14 +20,12 @@ ghost use Rattle.gptimg_core.specs.Refusals.{RefusesMbr, RefusesNew};
 ghost use Rattle.gptimg_core.specs.Words.{IsSized};
 ghost use Rattle.gptimg_core.specs.declared.commands.Report.TheVariants.{Done, Table};
 
-use crate::commands::check::{BothCopies, check};
 use crate::words::Command;
-use gptman::{Disk, GPT, Result};
+use gptman::{BothCopies, Disk, GPT, Result, check};
 use gptman_change::{change_table, read_table};
 use std::alloc::Global;
 
 pub mod change;
-pub mod check;
 
 /// What a command that is done has to tell.
 #[derive(Drop)]

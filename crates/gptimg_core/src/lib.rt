@@ -22,9 +22,6 @@ mod commands;
 mod lines;
 mod words;
 
-pub use commands::check::{BothCopies, check};
-pub use lines::name_of;
-
 /// The line that says how the program is used, with its newline.
 pub const USAGE: &str = "usage: gptimg IMAGE SECTOR COMMAND [WORDS]\n";
 

@@ -8,7 +8,7 @@ ghost use Rattle.std.specs.List.{enumerate_from};
 ghost use Rattle.gptman.specs.Fault.{fault_of};
 ghost use Rattle.gptman.specs.Table.{entries_in};
 ghost use Rattle.gptimg_core.specs.Prints.{told_lines};
-ghost use Rattle.gptimg_core.specs.Names.{fault_line, fault_name, variant_name};
+ghost use Rattle.gptimg_core.specs.Names.{fault_line, fault_name};
 ghost use Rattle.gptimg_core.specs.Lines.{check_lines, copy_line, entry_line, entry_lines};
 ghost use Rattle.gptimg_core.specs.Lines.{form_name as form_name_of, report_lines, shown_byte, shown_text};
 ghost use Rattle.gptimg_core.specs.Lines.{slot_lines, table_line, table_lines};
@@ -16,9 +16,8 @@ ghost use Rattle.gptman.specs.Copy.{copy_of_whole};
 ghost use Rattle.gptman.specs.Answers.{answer_of};
 
 use crate::commands::Report;
-use crate::commands::check::BothCopies;
-use gptman::{Error, GPT, GPTHeader, GPTPartitionEntry, Result};
-use gptman_copy::copy::WholeCopy;
+use gptman::copy::WholeCopy;
+use gptman::{BothCopies, Error, GPT, GPTHeader, GPTPartitionEntry, Result};
 use std::io;
 use std::io::Write;
 
@@ -224,35 +223,11 @@ fn print_name<W: Write>(out: &mut W, fault: &Error) -> io::Result<()>
         (W.contents out.old) (W.contents out.new) (fault_name (fault_of fault.now))) }
 {
     let Error::ReadError(primary, backup) = fault else {
-        return out.write_all(name_of(fault).as_bytes());
+        return out.write_all(fault.name().as_bytes());
     };
     out.write_all(b"ReadError(")?;
     print_name(out, primary)?;
     out.write_all(b", ")?;
     print_name(out, backup)?;
     out.write_all(b")")
-}
-
-/// The name of the error's variant, without its numbers.
-pub fn name_of(fault: &Error) -> &'static str
-    ensures { result.now ≡ variant_name (fault_of fault.now) }
-{
-    match fault {
-        Error::Io(_) => "Io",
-        Error::InvalidSignature => "InvalidSignature",
-        Error::InvalidRevision => "InvalidRevision",
-        Error::InvalidHeaderSize => "InvalidHeaderSize",
-        Error::InvalidChecksum(_, _) => "InvalidChecksum",
-        Error::InvalidPartitionEntryArrayChecksum(_, _) => "InvalidPartitionEntryArrayChecksum",
-        Error::ReadError(_, _) => "ReadError",
-        Error::NoSpaceLeft => "NoSpaceLeft",
-        Error::ConflictPartitionGUID => "ConflictPartitionGUID",
-        Error::InvalidPartitionBoundaries => "InvalidPartitionBoundaries",
-        Error::InvalidPartitionNumber(_) => "InvalidPartitionNumber",
-        Error::UnusedPartition => "UnusedPartition",
-        Error::PartitionNotFound => "PartitionNotFound",
-        Error::Overflow => "Overflow",
-        Error::OutOfMemory => "OutOfMemory",
-        Error::InvalidPartitionEntrySize(_) => "InvalidPartitionEntrySize",
-    }
 }

@@ -6,22 +6,22 @@ use Rattle.std.proofs.lemmas.Bool.{and_from, le-leb, lt-ltb}
 use Rattle.std.proofs.lemmas.Bool.Decides.{eqb_tells}
 use Rattle.std.proofs.lemmas.List.Folds.{list_all-append}
 use Rattle.gptman.specs.TableWrites.{table_write_fault, HasRoomOn, IsFailureOrMemory, RefusesAtOnce, RefusesWrite}
-use Rattle.gptman_copy.specs.Answers.{HasCause, IsFailure, Settles}
+use Rattle.gptman.specs.Answers.{HasCause, IsFailure, Settles}
 use Rattle.gptman.specs.TableWrites.RefusesWrite.{no_memory, not_valid, no_room, disk_failed}
 use Rattle.gptman.specs.Crash.{other_side}
-use Rattle.gptman_copy.specs.Disk.{DiskState}
-use Rattle.gptman_copy.specs.Fault.{Fault, fault_of, overflow, no_space_left}
+use Rattle.gptman_disk.specs.Disk.{DiskState}
+use Rattle.gptman_disk.specs.Fault.{Fault, fault_of, overflow, no_space_left}
 use Rattle.gptman.specs.Layout.{HasLayout, IsLaidOut}
 use Rattle.gptman.specs.Reading.{Side}
 use Rattle.gptman.specs.Table.{entries_in, table_of, IsHeaderForm}
 use Rattle.gptman.specs.Valid.{IsValid, IsValidity}
 use Rattle.gptman.specs.Valid.IsValidity.{shared_guid, bad_boundaries, valid}
-use Rattle.gptman_copy.specs.Write.{other_header, array_range, copy_ranges, four_ranges, is_addressable, is_inside, has_other_header, write_fault}
-use Rattle.gptman_copy.specs.declared.codec.entry.GPTPartitionEntry.{GPTPartitionEntry}
-use Rattle.gptman_copy.specs.declared.codec.header.GPTHeader.{GPTHeader}
-use Rattle.gptman_copy.specs.declared.error.Error.{Error}
+use Rattle.gptman.specs.Write.{other_header, array_range, copy_ranges, four_ranges, is_addressable, is_inside, has_other_header, write_fault}
+use Rattle.gptman.specs.declared.codec.entry.GPTPartitionEntry.{GPTPartitionEntry}
+use Rattle.gptman.specs.declared.codec.header.GPTHeader.{GPTHeader}
+use Rattle.gptman_disk.specs.declared.error.Error.{Error}
 use Rattle.gptman.specs.declared.table.GPT.{GPT}
-use Rattle.gptman_copy.proofs.FirstFailing.{none_from_tests}
+use Rattle.gptman.proofs.FirstFailing.{none_from_tests}
 use Rattle.gptman.proofs.FourRanges.{other_laid}
 use Rattle.gptman.proofs.OtherHeader.{other_form}
 use Rattle.gptman.proofs.WrittenCopy.{array_inside, array_start, header_inside, written_array, written_start}

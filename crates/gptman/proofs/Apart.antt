@@ -1,10 +1,10 @@
 -- Ranges that have no byte in common.
 use Rattle.std.proofs.Common.{inl, inr, ℕ, List, [], ◌∷◌, ◌++◌, sym, subst}
 use Rattle.std.proofs.lemmas.List.{append-nil}
-use Rattle.gptman_copy.specs.Disk.{AgreesOutside, Outside}
-use Rattle.gptman_copy.specs.Ranges.{AgreesInside, AreApart, AreClear, Inside, IsApartFromAll}
-use Rattle.gptman_copy.proofs.Overlays.{IsApart, outside_apart}
-use Rattle.gptman_copy.proofs.Ranges.{Ranges}
+use Rattle.gptman_disk.specs.Disk.{AgreesOutside, Outside}
+use Rattle.gptman_disk.specs.Ranges.{AgreesInside, AreApart, AreClear, Inside, IsApartFromAll}
+use Rattle.gptman_disk.proofs.Overlays.{IsApart, outside_apart}
+use Rattle.gptman_disk.proofs.Ranges.{Ranges}
 
 apart_back : (r s : ℕ × ℕ) → IsApart r s → IsApart s r
 apart_back r s (inl none) = inr (inl none)

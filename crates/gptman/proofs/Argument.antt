@@ -2,11 +2,11 @@
 -- bytes in some ranges: that a side holds it.
 use Rattle.std.proofs.Common.{◌≡◌, ◌⊎◌, inl, inr, ℕ, List, [], ◌++◌, get_or, length, sym, ap, ◌∙◌, subst}
 use Rattle.std.proofs.lemmas.List.{append-nil}
-use Rattle.gptman_copy.specs.Disk.{AgreesOutside, DiskState, Image, IsPending, LeavesOnly, OnlyRead, Outside, Untouched, Within, Wrote}
-use Rattle.gptman_copy.specs.Ranges.{AgreesInside, AreClear}
+use Rattle.gptman_disk.specs.Disk.{AgreesOutside, DiskState, Image, IsPending, LeavesOnly, OnlyRead, Outside, Untouched, Within, Wrote}
+use Rattle.gptman_disk.specs.Ranges.{AgreesInside, AreClear}
 use Rattle.gptman.specs.Crash.{IsLeftAlone}
-use Rattle.gptman_copy.proofs.Ranges.{Ranges, agrees_then, agrees_wider, within_none}
-use Rattle.gptman_copy.proofs.Runs.{leaves_then, wrote_wider}
+use Rattle.gptman_disk.proofs.Ranges.{Ranges, agrees_then, agrees_wider, within_none}
+use Rattle.gptman.proofs.Runs.{leaves_then, wrote_wider}
 use Rattle.gptman.proofs.Apart.{agrees_in, inside_clear}
 
 -- A predicate of byte lists is told by the bytes in these ranges. That is the one thing that the argument asks of a copy that is accepted.

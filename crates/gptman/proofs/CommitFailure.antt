@@ -2,8 +2,8 @@
 use Rattle.std.proofs.Common.{◌≡◌, ◌⊎◌, ◌<◌, ◌+◌, ◌++◌, ⊎_elim, inl, inr, ℕ, true, List, [], ◌∷◌, length, refl, sym, ◌∙◌, subst, arith}
 use Rattle.std.specs.Prelude.{fold, take}
 use Rattle.std.proofs.lemmas.Bool.{cases_lt}
-use Rattle.gptman_copy.specs.Disk.{DiskState, IsPending, IsSound, OnlyRead}
-use Rattle.gptman_copy.specs.Ranges.{AgreesInside}
+use Rattle.gptman_disk.specs.Disk.{DiskState, IsPending, IsSound, OnlyRead}
+use Rattle.gptman_disk.specs.Ranges.{AgreesInside}
 use Rattle.gptman.specs.Commit.{BothSidesAfterEdits, HoldsInAnyImage, SideAfterEdits, Stands}
 use Rattle.gptman.specs.Commit.SideAfterEdits.{as_it_was, holds_last, holds_next, header_pending}
 use Rattle.gptman.specs.Crash.{AreReadAlone, BothSidesAfter, IsLeftAlone, IsReadAlone, SideAfter, StartsSynced}
@@ -22,7 +22,7 @@ use Rattle.gptman.proofs.FourRanges.{same_ranges}
 use Rattle.gptman.proofs.Held.{holds_local}
 use Rattle.gptman.proofs.OneGood.{stored_at}
 use Rattle.gptman.proofs.ReadAlone.{stored_alone}
-use Rattle.gptman_copy.proofs.Ranges.{Ranges}
+use Rattle.gptman_disk.proofs.Ranges.{Ranges}
 
 -- ---- one edit
 

@@ -6,30 +6,30 @@ use Rattle.std.proofs.lemmas.List.{take-append-le, take_all}
 use Rattle.std.proofs.lemmas.List.FromFn.{length-map-range_with_len, get_or-map-range_with_len}
 use Rattle.std.proofs.lemmas.List.Sums.{fold-append}
 use Rattle.gptman.specs.TableWrites.{other_with_checksums, table_ranges, value_with_checksums, HasBothCopies, IsButSums}
-use Rattle.gptman_copy.specs.Disk.{AgreesOutside, OnlyRead, DiskState, Image, IsSound, Keeps, LeavesOnly, Rose, Wrote}
-use Rattle.gptman_copy.specs.Coding.{array_bytes}
+use Rattle.gptman_disk.specs.Disk.{AgreesOutside, OnlyRead, DiskState, Image, IsSound, Keeps, LeavesOnly, Rose, Wrote}
+use Rattle.gptman.specs.Coding.{array_bytes}
 use Rattle.gptman.specs.Commit.{is_io, tables_to, value_after, HoldsLast, IsAllowed, IsLaidAfter, IsAllowedAt, IsRefusedAt, RefusesEdit, Stands}
 use Rattle.gptman.specs.Crash.{IsKeptFor}
-use Rattle.gptman_copy.specs.Crc.{crc_of}
+use Rattle.gptman.specs.Crc.{crc_of}
 use Rattle.gptman.specs.Edit.{after_edit, edit_fault, table_after}
-use Rattle.gptman_copy.specs.Fault.{Fault, io, no_space_left, overflow}
+use Rattle.gptman_disk.specs.Fault.{Fault, io, no_space_left, overflow}
 use Rattle.gptman.specs.Layout.{HasLayout, Holds}
 use Rattle.gptman.specs.Reading.{Side, primary, backup}
 use Rattle.gptman.specs.Stop.{HoldsOneOf, IsStored}
 use Rattle.gptman.specs.Table.{Table, entries_in, table_in}
-use Rattle.gptman_copy.specs.Copy.{with_checksums, IsCoherent}
+use Rattle.gptman.specs.Copy.{with_checksums, IsCoherent}
 use Rattle.gptman.specs.Valid.{HasGoodBoundaries, IsValid, IsValidity}
 use Rattle.gptman.specs.Valid.IsValidity.{shared_guid, bad_boundaries, valid}
-use Rattle.gptman_copy.specs.Ranges.{AreApart}
-use Rattle.gptman_copy.specs.Write.{four_ranges, other_header, write_fault}
-use Rattle.gptman_copy.specs.declared.codec.header.GPTHeader.{GPTHeader}
+use Rattle.gptman_disk.specs.Ranges.{AreApart}
+use Rattle.gptman.specs.Write.{four_ranges, other_header, write_fault}
+use Rattle.gptman.specs.declared.codec.header.GPTHeader.{GPTHeader}
 use Rattle.gptman.specs.declared.edit.Edit.{Edit}
 use Rattle.gptman.specs.declared.edit.Edit.TheVariants.{Put, Remove, SortEntries, DiskGuid}
 use Rattle.gptman.specs.declared.table.GPT.{GPT}
 use Rattle.gptman.proofs.Commits.{KeepsRanges, edit_since, edited_keeps, keeps_both, layout_still, leaves_kept, ranges_still, room_still, sums_keep}
 use Rattle.gptman.proofs.OneGood.{stored_is_kept}
-use Rattle.gptman_copy.proofs.Runs.{keeps_then, leaves_then, rose_since, wrote_not, wrote_then}
-use Rattle.gptman_copy.proofs.Ranges.{Ranges, within_self}
+use Rattle.gptman.proofs.Runs.{keeps_then, leaves_then, rose_since, wrote_not, wrote_then}
+use Rattle.gptman_disk.proofs.Ranges.{Ranges, within_self}
 use Rattle.gptman.proofs.SameTable.{contains_cases}
 use Rattle.gptman.proofs.Sealing.{cleared_same}
 

@@ -2,28 +2,28 @@
 use Rattle.std.proofs.Common.{◌≡◌, ◌⊎◌, ⊎_elim, ◌<◌, ◌^◌, inl, inr, Some, None, Bool, ℕ, suc, ◌-◌, true, false, List, [], ◌∷◌, length, nat_lt, refl, sym, ap, ◌∙◌, subst}
 use Rattle.std.specs.Prelude.{if◌then◌else◌}
 use Rattle.std.proofs.lemmas.List.{length-map, length-set}
-use Rattle.gptman_copy.specs.Coding.{empty_entry}
+use Rattle.gptman.specs.Coding.{empty_entry}
 use Rattle.gptman.specs.TableWrites.{table_write_fault, IsButSums, IsNotForRoom, RefusesWrite}
 use Rattle.gptman.specs.TableWrites.RefusesWrite.{no_memory, not_valid, no_room, disk_failed}
 use Rattle.gptman.specs.Commit.{RefusesEdit}
 use Rattle.gptman.specs.Commit.RefusesEdit.{not_applied, not_written}
 use Rattle.gptman.specs.Crash.{HasRangesOf, IsKeptFor, other_side, StartsFromOne}
-use Rattle.gptman_copy.specs.Disk.{DiskState, IsSound, Keeps, LeavesOnly}
+use Rattle.gptman_disk.specs.Disk.{DiskState, IsSound, Keeps, LeavesOnly}
 use Rattle.gptman.specs.Edit.{after_edit, edit_fault, edited_all}
-use Rattle.gptman_copy.specs.Fault.{Fault, io, invalid_partition_number}
-use Rattle.gptman_copy.specs.Ranges.{AreClear}
+use Rattle.gptman_disk.specs.Fault.{Fault, io, invalid_partition_number}
+use Rattle.gptman_disk.specs.Ranges.{AreClear}
 use Rattle.gptman.specs.Layout.{HasLayout, Holds, IsLaidOut, copy_ranges_at}
 use Rattle.gptman.specs.Number.{has_number}
 use Rattle.gptman.specs.Order.{by_rank, put_in, rank}
 use Rattle.gptman.specs.Reading.{Side, primary, backup}
 use Rattle.gptman.specs.Stop.{HoldsOneOf, IsStored, StopsHold}
 use Rattle.gptman.specs.Table.{Table, table_of, entries_in, table_in, IsHeaderForm}
-use Rattle.gptman_copy.specs.Copy.{IsCoherent}
+use Rattle.gptman.specs.Copy.{IsCoherent}
 use Rattle.gptman.specs.Valid.{IsValidity}
 use Rattle.gptman.specs.Valid.IsValidity.{shared_guid, bad_boundaries, valid}
-use Rattle.gptman_copy.specs.Write.{four_ranges, write_fault}
-use Rattle.gptman_copy.specs.declared.codec.entry.GPTPartitionEntry.{GPTPartitionEntry}
-use Rattle.gptman_copy.specs.declared.codec.header.GPTHeader.{GPTHeader}
+use Rattle.gptman.specs.Write.{four_ranges, write_fault}
+use Rattle.gptman.specs.declared.codec.entry.GPTPartitionEntry.{GPTPartitionEntry}
+use Rattle.gptman.specs.declared.codec.header.GPTHeader.{GPTHeader}
 use Rattle.gptman.specs.declared.edit.Edit.{Edit}
 use Rattle.gptman.specs.declared.edit.Edit.TheVariants.{Put, Remove, SortEntries, DiskGuid}
 use Rattle.gptman.specs.declared.table.GPT.{GPT}
@@ -31,8 +31,8 @@ use Rattle.gptman.proofs.Accepted.{layout_fits}
 use Rattle.gptman.proofs.FourRanges.{same_ranges}
 use Rattle.gptman.proofs.Held.{holds_local}
 use Rattle.gptman.proofs.OneGood.{leaves_still}
-use Rattle.gptman_copy.proofs.Ranges.{contains_first}
-use Rattle.gptman_copy.proofs.Runs.{rose_since}
+use Rattle.gptman_disk.proofs.Ranges.{contains_first}
+use Rattle.gptman.proofs.Runs.{rose_since}
 use Rattle.gptman.proofs.WrittenCopy.{content_of}
 
 -- a header with another disk GUID and other checksums

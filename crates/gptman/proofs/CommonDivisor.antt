@@ -6,8 +6,8 @@ use Rattle.std.specs.Int.{IsGcd}
 use Rattle.std.proofs.Math.Nat.{dvd-zero, dvd_refl, dvd_trans, dvd_antisymm, eq-zero_of_zero-dvd}
 use Rattle.std.proofs.lemmas.List.{append-nil, map-append, length-append, get_or_append_left}
 use Rattle.std.proofs.lemmas.List.Elements.{All-nil, All-cons, All-head, All-push, All-weaker, All-contains, Contains-push, filter_more}
-use Rattle.gptman_copy.specs.Entry.{is_used}
-use Rattle.gptman_copy.specs.declared.codec.entry.GPTPartitionEntry.{GPTPartitionEntry}
+use Rattle.gptman.specs.Entry.{is_used}
+use Rattle.gptman.specs.declared.codec.entry.GPTPartitionEntry.{GPTPartitionEntry}
 use Rattle.gptman.specs.Alignment.{used_starts, IsGreatestUpTo, IsAlignmentOf}
 
 -- g is a common divisor, which each common divisor divides

@@ -4,19 +4,19 @@ use Rattle.std.proofs.lemmas.Bool.{le-leb, lt-ltb, eq-eqb, leb-true, eqb-true}
 use Rattle.std.proofs.lemmas.Bool.Decides.{eqb_tells}
 use Rattle.std.proofs.lemmas.List.FromFn.{fill_by_all, length-map-range_with_len, get_or-map-range_with_len}
 use lib.Pointwise.{bytes_decides}
-use Rattle.gptman_copy.specs.Bytes.{part}
-use Rattle.gptman_copy.specs.Coding.{IsEntryCoding, HasReadName, header_of, entry_of}
-use Rattle.gptman_copy.specs.Crc.{crc_of}
-use Rattle.gptman_copy.specs.Fault.{Fault}
-use Rattle.gptman_copy.specs.Copy.{CopyAt, Copy, copy_at, entries_of, right_signature, right_revision, header_crc}
-use Rattle.gptman_copy.specs.declared.codec.header.GPTHeader.{GPTHeader}
-use Rattle.gptman_copy.specs.declared.codec.entry.GPTPartitionEntry.{GPTPartitionEntry}
-use Rattle.gptman_copy.proofs.EntryBytes.{entry_is}
-use Rattle.gptman_copy.proofs.FirstFailing.{none_from_tests, none_or, tests_pass}
-use Rattle.gptman_copy.proofs.HeaderBytes.{header_is}
-use Rattle.gptman_copy.proofs.Overlays.{part-part}
-use Rattle.gptman_copy.proofs.CopyParts.{copy_tests, copy_fault, copy_there, entries_part}
-use Rattle.gptman_copy.proofs.CopyTests.{entries_start, entries_length}
+use Rattle.gptman_disk.specs.Bytes.{part}
+use Rattle.gptman.specs.Coding.{IsEntryCoding, HasReadName, header_of, entry_of}
+use Rattle.gptman.specs.Crc.{crc_of}
+use Rattle.gptman_disk.specs.Fault.{Fault}
+use Rattle.gptman.specs.Copy.{CopyAt, Copy, copy_at, entries_of, right_signature, right_revision, header_crc}
+use Rattle.gptman.specs.declared.codec.header.GPTHeader.{GPTHeader}
+use Rattle.gptman.specs.declared.codec.entry.GPTPartitionEntry.{GPTPartitionEntry}
+use Rattle.gptman.proofs.EntryBytes.{entry_is}
+use Rattle.gptman.proofs.FirstFailing.{none_from_tests, none_or, tests_pass}
+use Rattle.gptman.proofs.HeaderBytes.{header_is}
+use Rattle.gptman_disk.proofs.Overlays.{part-part}
+use Rattle.gptman.proofs.CopyParts.{copy_tests, copy_fault, copy_there, entries_part}
+use Rattle.gptman.proofs.CopyTests.{entries_start, entries_length}
 use Rattle.gptman.specs.Stop.{AcceptsWhatStands}
 
 -- entries that lie on the disk begin below its end

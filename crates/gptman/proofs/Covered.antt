@@ -6,8 +6,8 @@ use Rattle.std.proofs.lemmas.Bool.{and_parts, and_from, leb-true, le-leb, cond-t
 use Rattle.std.proofs.lemmas.List.Elements.{All-nil, All-cons}
 use Rattle.std.proofs.lemmas.List.Sorted.{All-permutation}
 use Rattle.std.proofs.lemmas.Option.{cond_some, none-some}
-use Rattle.gptman_copy.specs.Entry.{is_used, covers, covered_range}
-use Rattle.gptman_copy.specs.declared.codec.entry.GPTPartitionEntry.{GPTPartitionEntry}
+use Rattle.gptman.specs.Entry.{is_used, covers, covered_range}
+use Rattle.gptman.specs.declared.codec.entry.GPTPartitionEntry.{GPTPartitionEntry}
 
 -- The sector is one of the entry's own.
 pub record IsCovered (e : GPTPartitionEntry) (x : ℕ) : Type 0 where

@@ -3,10 +3,10 @@ use Rattle.std.proofs.Common.{◌≡◌, rules, ap, List, refl}
 use Rattle.std.proofs.lemmas.Bool.Decides.{Decides-and, Decides-like, Decides-eqb}
 use Rattle.std.proofs.lemmas.Slice.Eq.{slice_eq-Decides, bytes_eq-Decides}
 use Rattle.std.specs.Bool.{Decides}
-use Rattle.gptman_copy.specs.declared.codec.header.GPTHeader.{GPTHeader}
-use Rattle.gptman_copy.specs.declared.codec.entry.GPTPartitionEntry.{GPTPartitionEntry}
-use Rattle.gptman_copy.specs.contracts.codec.entry.GPTPartitionEntryPartialEq.TheImpl as entry
-use Rattle.gptman_copy.specs.contracts.codec.header.GPTHeaderPartialEq.TheImpl as header
+use Rattle.gptman.specs.declared.codec.header.GPTHeader.{GPTHeader}
+use Rattle.gptman.specs.declared.codec.entry.GPTPartitionEntry.{GPTPartitionEntry}
+use Rattle.gptman.specs.contracts.codec.entry.GPTPartitionEntryPartialEq.TheImpl as entry
+use Rattle.gptman.specs.contracts.codec.header.GPTHeaderPartialEq.TheImpl as header
 use Rattle.gptman.specs.declared.table.GPT.{GPT}
 use Rattle.gptman.specs.contracts.table.GPTPartialEq.TheImpl as table
 use lib.Pointwise.{pointwise}

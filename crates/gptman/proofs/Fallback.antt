@@ -3,17 +3,17 @@ use Rattle.std.proofs.Common.{◌≡◌, ◌≢◌, ◌⊎◌, ⊎_elim, inl, in
 use Rattle.std.specs.Prelude.{IfErr, IfOk, IsErr, IsTrue, if◌then◌else◌}
 use Rattle.std.proofs.lemmas.Bool.{and_from}
 use Rattle.std.proofs.lemmas.Result.{IfOk-weaker}
-use Rattle.gptman_copy.specs.Answers.{answer_of, is_copy_fault, is_damage, IsFailure, Refuses}
+use Rattle.gptman.specs.Answers.{answer_of, is_copy_fault, is_damage, IsFailure, Refuses}
 use Rattle.gptman.specs.TableReads.{copy_of, is_reading_fault, CountsReading, FallsBack, IsCopyFault, IsReadingFault, MayBeRead, read, no_memory, no_seek, no_backup}
-use Rattle.gptman_copy.specs.Copy.{Copy, copy_at}
-use Rattle.gptman_copy.specs.Disk.{DiskState, HasFailedAsOften, Keeps, Rose}
-use Rattle.gptman_copy.specs.Fault.{Fault, fault_of, is_signature_fault, io, invalid_signature, invalid_revision, invalid_header_size, invalid_checksum, invalid_array_checksum, read_error, no_space_left, conflict_partition_guid, invalid_partition_boundaries, invalid_partition_number, unused_partition, partition_not_found, overflow, out_of_memory, invalid_entry_size}
+use Rattle.gptman.specs.Copy.{Copy, copy_at}
+use Rattle.gptman_disk.specs.Disk.{DiskState, HasFailedAsOften, Keeps, Rose}
+use Rattle.gptman_disk.specs.Fault.{Fault, fault_of, is_signature_fault, io, invalid_signature, invalid_revision, invalid_header_size, invalid_checksum, invalid_array_checksum, read_error, no_space_left, conflict_partition_guid, invalid_partition_boundaries, invalid_partition_number, unused_partition, partition_not_found, overflow, out_of_memory, invalid_entry_size}
 use Rattle.gptman.specs.Reading.{primary, backup, both, copy_in, fallback, found_sector_size, reading_of}
-use Rattle.gptman_copy.specs.declared.error.Error.{Error}
+use Rattle.gptman_disk.specs.declared.error.Error.{Error}
 use Rattle.gptman.specs.declared.table.GPT.{GPT}
-use Rattle.gptman_copy.proofs.CopyParts.{header_refused}
-use Rattle.gptman_copy.proofs.CopyTests.{header_short}
-use Rattle.gptman_copy.proofs.Runs.{rose_before, rose_since}
+use Rattle.gptman.proofs.CopyParts.{header_refused}
+use Rattle.gptman.proofs.CopyTests.{header_short}
+use Rattle.gptman.proofs.Runs.{rose_before, rose_since}
 
 -- the backup copy, or the fault that is said of it and of the first
 abbrev pub second_copy : Fault → Result Copy Fault → Result Copy Fault

@@ -1,18 +1,18 @@
 -- The four ranges of a table on the stated layout, as those of its two headers.
 use Rattle.std.proofs.Common.{◌≡◌, ℕ, ◌+◌, ◌-◌, ◌*◌, ◌/◌, ◌++◌, List, [], ◌∷◌, sym, ap, ◌∙◌, subst}
 use Rattle.gptman.specs.Crash.{HasRangesOf, other_side}
-use Rattle.gptman_copy.specs.Disk.{Within}
-use Rattle.gptman_copy.specs.Ranges.{AreApart, AreClear}
+use Rattle.gptman_disk.specs.Disk.{Within}
+use Rattle.gptman_disk.specs.Ranges.{AreApart, AreClear}
 use Rattle.gptman.specs.Layout.{IsLaidOut, copy_ranges_at}
 use Rattle.gptman.specs.Reading.{Side, primary, backup}
 use Rattle.gptman.specs.Table.{Table, table_of, IsHeaderForm}
-use Rattle.gptman_copy.specs.Write.{other_header, four_ranges}
-use Rattle.gptman_copy.specs.declared.codec.entry.GPTPartitionEntry.{GPTPartitionEntry}
-use Rattle.gptman_copy.specs.declared.codec.header.GPTHeader.{GPTHeader}
+use Rattle.gptman.specs.Write.{other_header, four_ranges}
+use Rattle.gptman.specs.declared.codec.entry.GPTPartitionEntry.{GPTPartitionEntry}
+use Rattle.gptman.specs.declared.codec.header.GPTHeader.{GPTHeader}
 use Rattle.gptman.proofs.Apart.{apart_exchanged, clear_if_apart}
 use Rattle.gptman.proofs.LaidCopies.{full_ranges, within_copy}
 use Rattle.gptman.proofs.OtherHeader.{other_table, other_form}
-use Rattle.gptman_copy.proofs.Ranges.{Ranges, within_then, within_both, within_left, within_right}
+use Rattle.gptman_disk.proofs.Ranges.{Ranges, within_then, within_both, within_left, within_right}
 use Rattle.gptman.proofs.WrittenCopy.{written_start, written_array}
 
 -- ---- a header in a form

@@ -5,11 +5,11 @@ use Rattle.std.specs.List.Sorted.{IsPermutation}
 use Rattle.std.proofs.lemmas.Bool.{cases_Bool, cases_lt, both_ways}
 use Rattle.std.proofs.lemmas.List.Elements.{All-nil, All-cons, All-head, All-tail, All-weaker}
 use Rattle.std.proofs.lemmas.List.Sorted.{All-permutation, IsPermutation-sym}
-use Rattle.gptman_copy.specs.Entry.{covers, covered_range}
+use Rattle.gptman.specs.Entry.{covers, covered_range}
 use Rattle.gptman.specs.Place.{IsFree, IsUsable, IsRun, IsAlignedSlot, AreSlots}
 use Rattle.gptman.specs.Sweep.{IsOutside, Misses}
-use Rattle.gptman_copy.specs.declared.codec.entry.GPTPartitionEntry.{GPTPartitionEntry}
-use Rattle.gptman_copy.specs.declared.codec.header.GPTHeader.{GPTHeader}
+use Rattle.gptman.specs.declared.codec.entry.GPTPartitionEntry.{GPTPartitionEntry}
+use Rattle.gptman.specs.declared.codec.header.GPTHeader.{GPTHeader}
 use Rattle.gptman.proofs.Covered.{covers_nothing, range_of}
 use Rattle.gptman.proofs.Pairs.{All-filter_map, All-from_filter_map}
 use Rattle.gptman.proofs.Places.{IsSettled}

@@ -13,9 +13,9 @@ use Rattle.std.proofs.lemmas.Slice.Eq.{bytes_eq-Decides}
 use Rattle.std.proofs.lemmas.Map.Text.{is_eq-slice_cmp}
 use Rattle.std.proofs.lemmas.Map.Made.{IsDistinct-from_count, distinct_count-from_IsDistinct, AllPairs-from_IsDistinct, IsDistinct-from_AllPairs}
 use Rattle.std.proofs.lemmas.Map.Views.{btree_set_len-from_list}
-use Rattle.gptman_copy.specs.Entry.{is_used, used_guid}
+use Rattle.gptman.specs.Entry.{is_used, used_guid}
 use Rattle.gptman.specs.Valid.{HasOwnGuids}
-use Rattle.gptman_copy.specs.declared.codec.entry.GPTPartitionEntry.{GPTPartitionEntry}
+use Rattle.gptman.specs.declared.codec.entry.GPTPartitionEntry.{GPTPartitionEntry}
 use Rattle.gptman.proofs.Pairs.{AllPairs-filter_map, AllPairs-from_filter_map}
 
 -- the order of byte lists answers Equal for one list alone

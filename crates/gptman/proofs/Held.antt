@@ -1,19 +1,19 @@
 -- What a side holds is told by its two ranges.
 use Rattle.std.proofs.Common.{◌≡◌, ◌*◌, ℕ, Bool, true, false, List, length, ltb, Result, Ok, Err, refl, sym, ap, ◌∙◌, inl, inr, arith}
 use Rattle.std.specs.Prelude.{Option, Some, None}
-use Rattle.gptman_copy.specs.Bytes.{part}
-use Rattle.gptman_copy.specs.Coding.{header_of}
-use Rattle.gptman_copy.specs.Copy.{Copy, copy_at, entries_of}
-use Rattle.gptman_copy.specs.Fault.{Fault, first_failing, invalid_signature}
+use Rattle.gptman_disk.specs.Bytes.{part}
+use Rattle.gptman.specs.Coding.{header_of}
+use Rattle.gptman.specs.Copy.{Copy, copy_at, entries_of}
+use Rattle.gptman_disk.specs.Fault.{Fault, first_failing, invalid_signature}
 use Rattle.gptman.specs.Layout.{Holds, copy_ranges_at}
-use Rattle.gptman_copy.specs.Ranges.{AgreesInside}
+use Rattle.gptman_disk.specs.Ranges.{AgreesInside}
 use Rattle.gptman.specs.Reading.{Side, primary, backup, copy_start, copy_in}
 use Rattle.gptman.specs.Table.{Table, IsForm}
-use Rattle.gptman_copy.specs.declared.codec.header.GPTHeader.{GPTHeader}
-use Rattle.gptman_copy.proofs.Overlays.{part_in}
-use Rattle.gptman_copy.proofs.CopyParts.{copy_fault, copy_tests, copy_there, entries_part}
+use Rattle.gptman.specs.declared.codec.header.GPTHeader.{GPTHeader}
+use Rattle.gptman_disk.proofs.Overlays.{part_in}
+use Rattle.gptman.proofs.CopyParts.{copy_fault, copy_tests, copy_there, entries_part}
 use Rattle.gptman.proofs.WrittenCopy.{array_start, written_array}
-use Rattle.gptman_copy.proofs.CopyTests.{entries_start, entries_length}
+use Rattle.gptman.proofs.CopyTests.{entries_start, entries_length}
 
 -- ---- a copy is told by the length and by its two parts
 

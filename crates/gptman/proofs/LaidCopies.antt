@@ -4,17 +4,17 @@ use Rattle.std.specs.List.{All, list_all}
 use Rattle.std.specs.Prelude.{if◌then◌else◌, nat_eq}
 use Rattle.std.proofs.lemmas.Bool.{and_parts, leb-true}
 use Rattle.std.proofs.lemmas.Bool.Decides.{eqb_tells}
-use Rattle.gptman_copy.specs.Bytes.{part}
-use Rattle.gptman_copy.specs.Coding.{FitsHeader, FitsEntry, header_bytes, array_bytes}
-use Rattle.gptman_copy.specs.Disk.{AgreesOutside, Within}
-use Rattle.gptman_copy.specs.Ranges.{AreApart, AreInside}
-use Rattle.gptman_copy.specs.Write.{array_range, copy_ranges, is_inside, IsCopyLaid, HasBytes}
-use Rattle.gptman_copy.specs.declared.codec.header.GPTHeader.{GPTHeader}
-use Rattle.gptman_copy.specs.declared.codec.entry.GPTPartitionEntry.{GPTPartitionEntry}
-use Rattle.gptman_copy.proofs.ArrayBytes.{array_long}
-use Rattle.gptman_copy.proofs.HeaderBytes.{header_long}
-use Rattle.gptman_copy.proofs.Overlays.{part_in}
-use Rattle.gptman_copy.proofs.Ranges.{Ranges, agrees_wider, within_self}
+use Rattle.gptman_disk.specs.Bytes.{part}
+use Rattle.gptman.specs.Coding.{FitsHeader, FitsEntry, header_bytes, array_bytes}
+use Rattle.gptman_disk.specs.Disk.{AgreesOutside, Within}
+use Rattle.gptman_disk.specs.Ranges.{AreApart, AreInside}
+use Rattle.gptman.specs.Write.{array_range, copy_ranges, is_inside, IsCopyLaid, HasBytes}
+use Rattle.gptman.specs.declared.codec.header.GPTHeader.{GPTHeader}
+use Rattle.gptman.specs.declared.codec.entry.GPTPartitionEntry.{GPTPartitionEntry}
+use Rattle.gptman.proofs.ArrayBytes.{array_long}
+use Rattle.gptman.proofs.HeaderBytes.{header_long}
+use Rattle.gptman_disk.proofs.Overlays.{part_in}
+use Rattle.gptman_disk.proofs.Ranges.{Ranges, agrees_wider, within_self}
 use Rattle.gptman.proofs.Apart.{clear_if_apart}
 use Rattle.gptman.proofs.Argument.{IsToldBy, stays}
 use Rattle.gptman.proofs.Pieces.{ranges_of, AllStand, laid_agrees, laid_stand}

@@ -4,7 +4,7 @@ use Rattle.std.proofs.lemmas.List.{length-map}
 use Rattle.gptman.specs.Layout.{copy_ranges_at, AreInPlace, HasLayout, HasRightMarks, HasRightSectors, HasRightSizes}
 use Rattle.gptman.specs.Reading.{Side, primary, backup}
 use Rattle.gptman.specs.Table.{Table, entries_in, table_in, IsHeaderForm, IsInForm}
-use Rattle.gptman_copy.specs.declared.codec.header.GPTHeader.{GPTHeader}
+use Rattle.gptman.specs.declared.codec.header.GPTHeader.{GPTHeader}
 use Rattle.gptman.specs.declared.table.GPT.{GPT}
 
 -- the side of a header that is in a form

@@ -1,6 +1,6 @@
 -- A loop by numbers that writes f of each entry.
 use Rattle.std.proofs.Common.{◌≡◌, ℕ, zero, suc, ◌+◌, ◌-◌, List, [], ◌∷◌, ◌++◌, map, take, drop, slice_get, slice_set, Some, sym, ◌∙◌, ap, add-one, arith}
-use Rattle.gptman_copy.specs.declared.codec.entry.GPTPartitionEntry.{GPTPartitionEntry}
+use Rattle.gptman.specs.declared.codec.entry.GPTPartitionEntry.{GPTPartitionEntry}
 use Rattle.gptman.specs.declared.table.GPT.{GPT}
 use Rattle.gptman.specs.Number.{with_entry, with_entries}
 use Rattle.gptman.specs.Table.{entries_in}

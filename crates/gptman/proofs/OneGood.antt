@@ -1,19 +1,19 @@
 -- One good copy of a table, and two.
 use Rattle.std.proofs.Common.{◌≡◌, List, sym, subst}
 use Rattle.gptman.specs.Crash.{HasRangesOf, IsKeptFor, other_side, StartsFromOne, StartsStored, StartsSynced}
-use Rattle.gptman_copy.specs.Disk.{AgreesOutside, DiskState, IsSound, LeavesOnly, Wrote}
-use Rattle.gptman_copy.specs.Ranges.{AreClear}
+use Rattle.gptman_disk.specs.Disk.{AgreesOutside, DiskState, IsSound, LeavesOnly, Wrote}
+use Rattle.gptman_disk.specs.Ranges.{AreClear}
 use Rattle.gptman.specs.Layout.{HasLayout, Holds, copy_ranges_at}
 use Rattle.gptman.specs.Reading.{Side, primary, backup}
 use Rattle.gptman.specs.Stop.{IsStored}
 use Rattle.gptman.specs.Table.{Table, entries_in, table_in, IsHeaderForm}
-use Rattle.gptman_copy.specs.Write.{four_ranges}
+use Rattle.gptman.specs.Write.{four_ranges}
 use Rattle.gptman.specs.declared.table.GPT.{GPT}
 use Rattle.std.proofs.Common.{ℕ, []}
 use Rattle.gptman.proofs.Apart.{clear_if_apart}
 use Rattle.gptman.proofs.Argument.{leaves_ranges}
 use Rattle.gptman.proofs.FourRanges.{four_ranges_at, sides_apart, same_ranges, within_four}
-use Rattle.gptman_copy.proofs.Ranges.{Ranges, agrees_wider}
+use Rattle.gptman_disk.proofs.Ranges.{Ranges, agrees_wider}
 
 -- All bytes outside of the four ranges
 pub leaves_outside : (g : GPT) (a b : DiskState) → a.pending ≡ [] → HasLayout g a.size → Wrote (four_ranges g.header g.sector_size) a b

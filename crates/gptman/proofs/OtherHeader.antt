@@ -5,9 +5,9 @@ use Rattle.std.specs.Prelude.{if◌then◌else◌, nat_eq}
 use Rattle.gptman.specs.Crash.{other_side}
 use Rattle.gptman.specs.Reading.{Side, primary, backup}
 use Rattle.gptman.specs.Table.{table_of, IsHeaderForm}
-use Rattle.gptman_copy.specs.Write.{other_header}
-use Rattle.gptman_copy.specs.declared.codec.header.GPTHeader.{GPTHeader}
-use Rattle.gptman_copy.specs.declared.codec.entry.GPTPartitionEntry.{GPTPartitionEntry}
+use Rattle.gptman.specs.Write.{other_header}
+use Rattle.gptman.specs.declared.codec.header.GPTHeader.{GPTHeader}
+use Rattle.gptman.specs.declared.codec.entry.GPTPartitionEntry.{GPTPartitionEntry}
 
 -- the other header is of the same table
 pub other_table : (h : GPTHeader) (es : List GPTPartitionEntry) → table_of (other_header h) es ≡ table_of h es

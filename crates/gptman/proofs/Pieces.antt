@@ -1,10 +1,10 @@
 -- Pieces of bytes that are laid over a list, one after the other.
 use Rattle.std.proofs.Common.{◌≡◌, ◌⊎◌, inl, inr, ◌≤◌, ℕ, ◌+◌, List, [], ◌∷◌, length, refl, sym, ◌∙◌, subst, arith}
-use Rattle.gptman_copy.specs.Disk.{AgreesOutside, overlay}
-use Rattle.gptman_copy.specs.Bytes.{part}
-use Rattle.gptman_copy.specs.Ranges.{AreApart, AreInside}
-use Rattle.gptman_copy.proofs.Ranges.{Ranges, agrees_self, agrees_then, agrees_wider, within_self, within_first, within_later}
-use Rattle.gptman_copy.proofs.Overlays.{agrees_overlay, overlay_nothing, part-overlay, part_same}
+use Rattle.gptman_disk.specs.Disk.{AgreesOutside, overlay}
+use Rattle.gptman_disk.specs.Bytes.{part}
+use Rattle.gptman_disk.specs.Ranges.{AreApart, AreInside}
+use Rattle.gptman_disk.proofs.Ranges.{Ranges, agrees_self, agrees_then, agrees_wider, within_self, within_first, within_later}
+use Rattle.gptman_disk.proofs.Overlays.{agrees_overlay, overlay_nothing, part-overlay, part_same}
 
 -- the list with the pieces laid over it, each a start and its bytes, the first of them first
 abbrev pub laid_over : List ℕ → List (ℕ × List ℕ) → List ℕ

@@ -1,13 +1,13 @@
 -- What placement does to a table, and what its maximum size offers.
 use Rattle.std.proofs.Common.{◌≢◌, ℕ, ◌+◌, ◌-◌, ◌<◌, ◌≤◌, List, length, sym, arith, IsTrue}
 use Rattle.std.proofs.lemmas.List.Elements.{All-set}
-use Rattle.gptman_copy.specs.Entry.{is_used, covers}
+use Rattle.gptman.specs.Entry.{is_used, covers}
 use Rattle.gptman.specs.Place.{IsFree, IsFreeIn, IsPlace}
 use Rattle.gptman.specs.Placement.{IsNewAt, MaximumIsOffered, PlacementKeepsValid}
 use Rattle.gptman.specs.Table.{entries_in}
 use Rattle.gptman.specs.Valid.{AreDisjoint, LiesWithin}
-use Rattle.gptman_copy.specs.declared.codec.entry.GPTPartitionEntry.{GPTPartitionEntry}
-use Rattle.gptman_copy.specs.declared.codec.header.GPTHeader.{GPTHeader}
+use Rattle.gptman.specs.declared.codec.entry.GPTPartitionEntry.{GPTPartitionEntry}
+use Rattle.gptman.specs.declared.codec.header.GPTHeader.{GPTHeader}
 use Rattle.gptman.proofs.Covered.{covered_if}
 use Rattle.gptman.proofs.FreeSectors.{free_settled}
 use Rattle.gptman.proofs.Pairs.{all_pairs_set}

@@ -1,10 +1,10 @@
 -- Each copy of a stored table is read as it alone.
 use Rattle.std.proofs.Common.{◌≡◌, ℕ, List, Result, Ok, Err, refl, rules}
 use Rattle.std.specs.Prelude.{IsErr}
-use Rattle.gptman_copy.specs.Copy.{Copy}
+use Rattle.gptman.specs.Copy.{Copy}
 use Rattle.gptman.specs.Crash.{IsReadAlone}
-use Rattle.gptman_copy.specs.Disk.{DiskState}
-use Rattle.gptman_copy.specs.Fault.{Fault}
+use Rattle.gptman_disk.specs.Disk.{DiskState}
+use Rattle.gptman_disk.specs.Fault.{Fault}
 use Rattle.gptman.specs.Layout.{Holds}
 use Rattle.gptman.specs.Reading.{primary, backup, copy_in}
 use Rattle.gptman.specs.Stop.{IsStored, ReadsTable}

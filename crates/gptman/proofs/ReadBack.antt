@@ -2,15 +2,15 @@
 use Rattle.std.proofs.Common.{◌≡◌, ◌*◌, ℕ, List, [], ◌∷◌, map, Ok, refl, sym, ap, ◌∙◌, subst}
 use Rattle.std.specs.List.{range_with_len}
 use Rattle.std.specs.Prelude.{encode_utf8_all}
-use Rattle.gptman_copy.specs.Bytes.{part}
-use Rattle.gptman_copy.specs.Coding.{header_of, entry_of}
-use Rattle.gptman_copy.specs.Copy.{Copy, copy_at, entries_of}
-use Rattle.gptman_copy.specs.Name.{text_of}
+use Rattle.gptman_disk.specs.Bytes.{part}
+use Rattle.gptman.specs.Coding.{header_of, entry_of}
+use Rattle.gptman.specs.Copy.{Copy, copy_at, entries_of}
+use Rattle.gptman.specs.Name.{text_of}
 use Rattle.gptman.specs.Reading.{Side, primary, backup, copy_in}
 use Rattle.gptman.specs.Table.{TableEntry}
 use Rattle.gptman.proofs.WrittenCopy.{content_of}
-use Rattle.gptman_copy.specs.declared.codec.entry.GPTPartitionEntry.{GPTPartitionEntry}
-use Rattle.gptman_copy.proofs.CopyParts.{entries_part}
+use Rattle.gptman.specs.declared.codec.entry.GPTPartitionEntry.{GPTPartitionEntry}
+use Rattle.gptman.proofs.CopyParts.{entries_part}
 use Rattle.gptman.proofs.Fallback.{backup_long, backup_room}
 use Rattle.gptman.proofs.Held.{accepted_is}
 

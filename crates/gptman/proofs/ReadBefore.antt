@@ -1,15 +1,15 @@
 -- A write after calls that only read: what it begins with, and what it leaves, are as if these calls were not.
 use Rattle.std.proofs.Common.{◌≡◌, ◌⊎◌, true, ℕ, List, length, sym, ◌∙◌, subst}
-use Rattle.gptman_copy.specs.Disk.{AgreesOutside, DiskState, IsPending, Reads, Wrote}
-use Rattle.gptman_copy.specs.Ranges.{AgreesInside}
+use Rattle.gptman_disk.specs.Disk.{AgreesOutside, DiskState, IsPending, Reads, Wrote}
+use Rattle.gptman_disk.specs.Ranges.{AgreesInside}
 use Rattle.gptman.specs.Crash.{BothSidesAfter, IsLeftAlone, SideAfter, StartsLaidOut, StartsSynced, StopsComeInTurns, other_side}
 use Rattle.gptman.specs.Crash.SideAfter.{left_alone, written, torn}
 use Rattle.gptman.specs.Layout.{HasLayout, Holds, copy_ranges_at}
 use Rattle.gptman.specs.Reading.{Side, copy_start}
 use Rattle.gptman.specs.Table.{Table, table_in}
 use Rattle.gptman.specs.declared.table.GPT.{GPT}
-use Rattle.gptman_copy.proofs.Ranges.{Ranges, within_none, within_self}
-use Rattle.gptman_copy.proofs.Runs.{leaves_then, wrote_then, wrote_wider}
+use Rattle.gptman_disk.proofs.Ranges.{Ranges, within_none, within_self}
+use Rattle.gptman.proofs.Runs.{leaves_then, wrote_then, wrote_wider}
 use Rattle.gptman.proofs.Argument.{only_read}
 use Rattle.gptman.proofs.TwoSides.{turns_of}
 

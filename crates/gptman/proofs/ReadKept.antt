@@ -1,6 +1,6 @@
 -- A table that was read in the form of its place is one good copy for the next write.
 use Rattle.std.proofs.Common.{ℕ, List, refl, sym, subst}
-use Rattle.gptman_copy.specs.Disk.{DiskState}
+use Rattle.gptman_disk.specs.Disk.{DiskState}
 use Rattle.gptman.specs.Crash.{EditListsKeepPlaces, EditsKeepPlaces, HasPlacesOf, KeepsWhatIsRead, TakesInForm}
 use Rattle.gptman.specs.Edit.{after_edit, edited_all}
 use Rattle.gptman.specs.Layout.{Holds}

@@ -1,8 +1,8 @@
 -- A disk that holds a table of a list at one side at least, and whose reading takes no foreign copy, is read as one of the list.
 use Rattle.std.proofs.Common.{◌≡◌, ℕ, Bool, true, false, List, length, ltb, Result, Ok, Err, refl, sym, ap, ◌∙◌, subst, inl, inr, arith}
 use Rattle.std.specs.List.{Contains}
-use Rattle.gptman_copy.specs.Fault.{Fault}
-use Rattle.gptman_copy.specs.Copy.{Copy}
+use Rattle.gptman_disk.specs.Fault.{Fault}
+use Rattle.gptman.specs.Copy.{Copy}
 use Rattle.gptman.specs.Layout.{Holds}
 use Rattle.gptman.specs.Reading.{Side, primary, backup, copy_in, fallback, reading_of, taken_from}
 use Rattle.gptman.specs.Stop.{HoldsOneOf, HoldsWhatIsRead, ReadsForeign, ReadsOneOf}

@@ -5,11 +5,11 @@ use Rattle.std.specs.Prelude.{bytes_eq, slice_index_or}
 use Rattle.std.specs.List.{Contains}
 use Rattle.std.proofs.lemmas.Bool.Decides.{Decides-and, Decides-eqb, Decides-like, not_from_Decides}
 use lib.Pointwise.{pointwise, pointwise_decides, bytes_decides}
-use Rattle.gptman_copy.specs.Copy.{Copy}
+use Rattle.gptman.specs.Copy.{Copy}
 use Rattle.gptman.specs.Reading.{Side, primary, backup}
 use Rattle.gptman.specs.Table.{Table, TableEntry, table_of, IsForm, IsHeaderForm}
-use Rattle.gptman_copy.specs.declared.codec.header.GPTHeader.{GPTHeader}
-use Rattle.gptman_copy.proofs.Ranges.{contains_first, contains_later}
+use Rattle.gptman.specs.declared.codec.header.GPTHeader.{GPTHeader}
+use Rattle.gptman_disk.proofs.Ranges.{contains_first, contains_later}
 
 decided : {P : Type 0} (r : Bool) → Decides r P → P ⊎ (¬ P)
 decided true d = inl (d.0 refl)

@@ -1,15 +1,15 @@
 -- Sealing a header makes both checksums right, and changes nothing else.
 use Rattle.std.proofs.Common.{◌≡◌, ◌++◌, ℕ, List, length, take, drop, map, get_or, replicate, refl, sym, ap, ◌∙◌}
 use Rattle.std.specs.List.{range_with_len}
-use Rattle.gptman_copy.specs.Coding.{header_bytes, array_bytes}
-use Rattle.gptman_copy.specs.Crc.{crc_of}
-use Rattle.gptman_copy.specs.Copy.{header_crc, with_checksums}
+use Rattle.gptman.specs.Coding.{header_bytes, array_bytes}
+use Rattle.gptman.specs.Crc.{crc_of}
+use Rattle.gptman.specs.Copy.{header_crc, with_checksums}
 use Rattle.gptman.specs.Reading.{Side, primary, backup}
 use Rattle.gptman.specs.Table.{table_of, IsHeaderForm}
-use Rattle.gptman_copy.specs.Write.{copy_ranges}
-use Rattle.gptman_copy.specs.declared.codec.header.GPTHeader.{GPTHeader}
-use Rattle.gptman_copy.specs.declared.codec.entry.GPTPartitionEntry.{GPTPartitionEntry}
-use Rattle.gptman_copy.proofs.Assembly.{cells}
+use Rattle.gptman.specs.Write.{copy_ranges}
+use Rattle.gptman.specs.declared.codec.header.GPTHeader.{GPTHeader}
+use Rattle.gptman.specs.declared.codec.entry.GPTPartitionEntry.{GPTPartitionEntry}
+use Rattle.gptman.proofs.Assembly.{cells}
 
 -- Both checksums are those of the bytes.
 pub record IsSealed (h : GPTHeader) (es : List GPTPartitionEntry) : Type 0 where

@@ -8,7 +8,7 @@ use Rattle.std.proofs.lemmas.List.Elements.{All-more, All-weaker}
 use Rattle.gptman.specs.Place.{IsRun, IsAlignedSlot, AreSlots}
 use Rattle.gptman.specs.Sweep.{IsOutside, AddsGap}
 use Rattle.gptman.specs.Sweep.AddsGap.{gap, no_gap}
-use Rattle.gptman_copy.specs.declared.codec.header.GPTHeader.{GPTHeader}
+use Rattle.gptman.specs.declared.codec.header.GPTHeader.{GPTHeader}
 use Rattle.gptman.proofs.FreeRuns.{Swept, swept_skip, swept_run, swept_all}
 
 -- After i ranges: the slots up to p, which is no smaller than the end of each of these ranges. Which sectors are outside is said of all ranges from the

@@ -3,20 +3,20 @@ use Rattle.std.proofs.Common.{◌≡◌, ◌&&◌, ℕ, Bool, true, false, List,
 use Rattle.std.specs.List.{list_all}
 use Rattle.std.proofs.lemmas.Bool.{and_parts}
 use Rattle.std.proofs.lemmas.List.Folds.{list_all-append}
-use Rattle.gptman_copy.specs.Disk.{AgreesOutside, DiskState, Wrote}
-use Rattle.gptman_copy.specs.Ranges.{AreApart}
-use Rattle.gptman_copy.specs.Fault.{Fault, overflow, no_space_left, first_failing}
-use Rattle.gptman_copy.specs.Copy.{with_checksums}
-use Rattle.gptman_copy.specs.Write.{other_header, copy_ranges, four_ranges, copy_write_fault, write_fault, has_other_header, is_addressable, is_inside, HasBytes}
-use Rattle.gptman_copy.specs.declared.codec.header.GPTHeader.{GPTHeader}
-use Rattle.gptman_copy.specs.declared.codec.entry.GPTPartitionEntry.{GPTPartitionEntry}
+use Rattle.gptman_disk.specs.Disk.{AgreesOutside, DiskState, Wrote}
+use Rattle.gptman_disk.specs.Ranges.{AreApart}
+use Rattle.gptman_disk.specs.Fault.{Fault, overflow, no_space_left, first_failing}
+use Rattle.gptman.specs.Copy.{with_checksums}
+use Rattle.gptman.specs.Write.{other_header, copy_ranges, four_ranges, copy_write_fault, write_fault, has_other_header, is_addressable, is_inside, HasBytes}
+use Rattle.gptman.specs.declared.codec.header.GPTHeader.{GPTHeader}
+use Rattle.gptman.specs.declared.codec.entry.GPTPartitionEntry.{GPTPartitionEntry}
 use Rattle.gptman.proofs.Apart.{apart_exchanged}
 use Rattle.gptman.proofs.LaidCopies.{laid_both}
 use Rattle.gptman.proofs.Sealing.{sealed_count, sealed_ranges}
 use Rattle.gptman.proofs.TwoSides.{IsCopied}
-use Rattle.gptman_copy.proofs.FirstFailing.{tests_pass}
-use Rattle.gptman_copy.proofs.Ranges.{Ranges, within_left, within_right}
-use Rattle.gptman_copy.proofs.Runs.{wrote_then, wrote_wider}
+use Rattle.gptman.proofs.FirstFailing.{tests_pass}
+use Rattle.gptman_disk.proofs.Ranges.{Ranges, within_left, within_right}
+use Rattle.gptman.proofs.Runs.{wrote_then, wrote_wider}
 
 -- the other copy is written, and then the own one
 pub wrote_other : {a b : DiskState} (h other : GPTHeader) (ss : ℕ) → other ≡ other_header h → Wrote (copy_ranges other ss) a b → Wrote (four_ranges h ss) a b

@@ -2,22 +2,22 @@
 use Rattle.std.proofs.Common.{◌≡◌, ◌⊎◌, inl, inr, ⊎_elim, ◌<◌, ◌*◌, ◌^◌, ℕ, List, [], ◌∷◌, length, refl, sym, ap, ◌∙◌, subst, arith}
 use Rattle.std.specs.List.{All}
 use Rattle.std.proofs.lemmas.List.{length-map}
-use Rattle.gptman_copy.specs.Coding.{FitsHeader, FitsEntry}
-use Rattle.gptman_copy.specs.Copy.{with_checksums}
-use Rattle.gptman_copy.specs.Disk.{AgreesOutside, DiskState, Image, IsPending, LeavesOnly, Outside, Untouched, Wrote, Within}
-use Rattle.gptman_copy.specs.Ranges.{AgreesInside, AreApart, AreClear, AreInside}
-use Rattle.gptman_copy.specs.Write.{other_header, header_range, copy_ranges, FitsCopy, HasBytes, IsCopyLaid}
+use Rattle.gptman.specs.Coding.{FitsHeader, FitsEntry}
+use Rattle.gptman.specs.Copy.{with_checksums}
+use Rattle.gptman_disk.specs.Disk.{AgreesOutside, DiskState, Image, IsPending, LeavesOnly, Outside, Untouched, Wrote, Within}
+use Rattle.gptman_disk.specs.Ranges.{AgreesInside, AreApart, AreClear, AreInside}
+use Rattle.gptman.specs.Write.{other_header, header_range, copy_ranges, FitsCopy, HasBytes, IsCopyLaid}
 use Rattle.gptman.specs.Crash.{other_side, BothSidesAfter, IsLeftAlone, SideAfter, StartsFromOne, StartsLaidOut, StartsSynced, StopsComeInTurns}
 use Rattle.gptman.specs.Crash.SideAfter.{left_alone, written as holds_new, torn}
 use Rattle.gptman.specs.Layout.{Holds, IsLaidOut, copy_ranges_at}
 use Rattle.gptman.specs.Reading.{Side, primary, backup, copy_start}
 use Rattle.gptman.specs.Stop.{HoldsOneOf, IsStored, StopsHold}
 use Rattle.gptman.specs.Table.{Table, entries_in, table_in, table_of, IsHeaderForm}
-use Rattle.gptman_copy.specs.declared.codec.header.GPTHeader.{GPTHeader}
-use Rattle.gptman_copy.specs.declared.codec.entry.GPTPartitionEntry.{GPTPartitionEntry}
+use Rattle.gptman.specs.declared.codec.header.GPTHeader.{GPTHeader}
+use Rattle.gptman.specs.declared.codec.entry.GPTPartitionEntry.{GPTPartitionEntry}
 use Rattle.gptman.specs.declared.table.GPT.{GPT}
-use Rattle.gptman_copy.proofs.Ranges.{Ranges, contains_first, contains_later}
-use Rattle.gptman_copy.proofs.Runs.{wrote_wider}
+use Rattle.gptman_disk.proofs.Ranges.{Ranges, contains_first, contains_later}
+use Rattle.gptman.proofs.Runs.{wrote_wider}
 use Rattle.gptman.proofs.Apart.{clear_if_apart}
 use Rattle.gptman.proofs.Argument.{Came, IsToldBy, at_any_moment, clear_ranges, held_in_any_image, held_stored, only_read, other_begun, own_begun, stays, untouched_ranges, written}
 use Rattle.gptman.proofs.FourRanges.{form_ranges, other_ranges, sides_apart, sides_clear}

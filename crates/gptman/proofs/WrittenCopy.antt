@@ -2,28 +2,28 @@
 use Rattle.std.proofs.Common.{◌≡◌, ◌≤◌, ◌<◌, ◌⊎◌, ◌+◌, ◌-◌, ◌*◌, ◌/◌, ◌^◌, ℕ, Bool, true, false, List, [], ◌∷◌, length, map, get_or, ltb, Result, Err, refl, sym, ap, ◌∙◌, subst, inl, inr, arith}
 use Rattle.std.specs.List.{All}
 use Rattle.std.specs.Prelude.{encode_utf8_all}
-use Rattle.gptman_copy.specs.Name.{text_of}
+use Rattle.gptman.specs.Name.{text_of}
 use Rattle.std.proofs.lemmas.Bool.{ltb-true}
 use Rattle.std.proofs.lemmas.List.{get_or-map, length-map}
 use Rattle.std.proofs.lemmas.List.Elements.{All-get_or}
-use Rattle.gptman_copy.specs.Bytes.{part}
-use Rattle.gptman_copy.specs.Coding.{IsHeaderCoding, IsEntryCoding, HasReadName, FitsHeader, FitsEntry, header_bytes, entry_bytes, array_bytes}
-use Rattle.gptman_copy.specs.Crc.{crc_of}
-use Rattle.gptman_copy.specs.Fault.{Fault, invalid_signature}
-use Rattle.gptman_copy.specs.Copy.{Copy, CopyAt, copy_at, header_crc, right_signature, right_revision}
+use Rattle.gptman_disk.specs.Bytes.{part}
+use Rattle.gptman.specs.Coding.{IsHeaderCoding, IsEntryCoding, HasReadName, FitsHeader, FitsEntry, header_bytes, entry_bytes, array_bytes}
+use Rattle.gptman.specs.Crc.{crc_of}
+use Rattle.gptman_disk.specs.Fault.{Fault, invalid_signature}
+use Rattle.gptman.specs.Copy.{Copy, CopyAt, copy_at, header_crc, right_signature, right_revision}
 use Rattle.gptman.specs.Reading.{Side, primary, backup, copy_start, copy_in}
 use Rattle.gptman.specs.Table.{Table, TableEntry, IsHeaderForm, table_of}
 use Rattle.gptman.specs.Layout.{Holds, IsLaidOut}
-use Rattle.gptman_copy.specs.Write.{HasBytes}
-use Rattle.gptman_copy.specs.declared.codec.header.GPTHeader.{GPTHeader}
-use Rattle.gptman_copy.specs.declared.codec.entry.GPTPartitionEntry.{GPTPartitionEntry}
-use Rattle.gptman_copy.proofs.HeaderBytes.{spelled_corresponds as header_coding}
-use Rattle.gptman_copy.proofs.EntryBytes.{with_text, spelled_corresponds as entry_coding}
-use Rattle.gptman_copy.proofs.ArrayBytes.{array_long, array_part}
-use Rattle.gptman_copy.proofs.Overlays.{part-part}
+use Rattle.gptman.specs.Write.{HasBytes}
+use Rattle.gptman.specs.declared.codec.header.GPTHeader.{GPTHeader}
+use Rattle.gptman.specs.declared.codec.entry.GPTPartitionEntry.{GPTPartitionEntry}
+use Rattle.gptman.proofs.HeaderBytes.{spelled_corresponds as header_coding}
+use Rattle.gptman.proofs.EntryBytes.{with_text, spelled_corresponds as entry_coding}
+use Rattle.gptman.proofs.ArrayBytes.{array_long, array_part}
+use Rattle.gptman_disk.proofs.Overlays.{part-part}
 use Rattle.gptman.proofs.CopyThere.{copy_there_is}
 use Rattle.gptman.proofs.Sealing.{IsSealed}
-use Rattle.gptman_copy.proofs.CopyTests.{entries_start, entries_length}
+use Rattle.gptman.proofs.CopyTests.{entries_start, entries_length}
 
 -- what an entry holds, as a table has it
 abbrev pub content_of : GPTPartitionEntry → TableEntry

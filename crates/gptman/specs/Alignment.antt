@@ -1,9 +1,9 @@
 -- The alignment that a reading derives: what the starts of the used entries are multiples of.
 use Prim.Native.Nat.{◌∣◌}
 use Rattle.std.specs.Prelude.{◌≡◌, ◌≢◌, ℕ, ◌≤◌, List, [], ◌∷◌, map, filter, All}
-use Rattle.gptman_copy.specs.Entry.{is_used}
-use Rattle.gptman_copy.specs.declared.codec.entry.GPTPartitionEntry.{GPTPartitionEntry}
-use Rattle.gptman_copy.specs.declared.codec.header.GPTHeader.{GPTHeader}
+use Rattle.gptman.specs.Entry.{is_used}
+use Rattle.gptman.specs.declared.codec.entry.GPTPartitionEntry.{GPTPartitionEntry}
+use Rattle.gptman.specs.declared.codec.header.GPTHeader.{GPTHeader}
 
 -- the starts of the used entries
 abbrev pub used_starts : List GPTPartitionEntry → List ℕ

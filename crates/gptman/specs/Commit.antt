@@ -1,12 +1,12 @@
 -- Lists of edits that are written one after the other.
 use Rattle.std.specs.Prelude.{◌≡◌, ◌<◌, ◌⊎◌, ◌+◌, ℕ, zero, suc, Bool, true, false, List, [], ◌∷◌, map, slice_get, Option, Some, None, if◌then◌else◌}
 use Rattle.std.specs.List.{range_with_len}
-use Rattle.gptman_copy.specs.Ranges.{AreApart}
+use Rattle.gptman_disk.specs.Ranges.{AreApart}
 use Rattle.gptman.specs.TableWrites.{other_with_checksums, table_ranges, value_with_checksums, HasBothCopies, IsButSums, RefusesWrite}
-use Rattle.gptman_copy.specs.Disk.{OnlyRead, DiskState, Image, IsPending}
+use Rattle.gptman_disk.specs.Disk.{OnlyRead, DiskState, Image, IsPending}
 use Rattle.gptman.specs.Crash.{IsLeftAlone}
 use Rattle.gptman.specs.Edit.{after_edit, edit_fault, table_after}
-use Rattle.gptman_copy.specs.Fault.{Fault, fault_of, io, out_of_memory}
+use Rattle.gptman_disk.specs.Fault.{Fault, fault_of, io, out_of_memory}
 use Rattle.gptman.specs.Layout.{Holds, copy_ranges_at}
 use Rattle.gptman.specs.Reading.{Side, primary, backup, copy_start}
 use Rattle.gptman.specs.Stop.{HoldsOneOf, IsStored}
@@ -14,7 +14,7 @@ use Rattle.gptman.specs.Table.{Table, entries_in, table_in}
 use Rattle.gptman.specs.Valid.{IsValid}
 use Rattle.gptman.specs.declared.edit.Edit.{Edit}
 use Rattle.gptman.specs.declared.edit.Edit.TheVariants.{SortEntries}
-use Rattle.gptman_copy.specs.declared.error.Error.{Error}
+use Rattle.gptman_disk.specs.declared.error.Error.{Error}
 use Rattle.gptman.specs.declared.table.GPT.{GPT}
 
 -- the value after k edits that were made and written: with the first its checksums are made

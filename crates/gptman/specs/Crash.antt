@@ -1,16 +1,16 @@
 -- What a write of a table starts from, and what it leaves where it is stopped or fails.
 use Rattle.std.specs.Prelude.{◌≡◌, ◌⊎◌, ℕ, List, [], ◌++◌, length, Ok, IsErr, IsTrue}
-use Rattle.gptman_copy.specs.Copy.{IsCoherent}
-use Rattle.gptman_copy.specs.Disk.{AgreesOutside, DiskState, Image, IsHonest, IsPending, LeavesOnly, Outside}
-use Rattle.gptman_copy.specs.Fit.{fit_header}
-use Rattle.gptman_copy.specs.Ranges.{AgreesInside, AreClear, Inside}
+use Rattle.gptman.specs.Copy.{IsCoherent}
+use Rattle.gptman_disk.specs.Disk.{AgreesOutside, DiskState, Image, IsHonest, IsPending, LeavesOnly, Outside}
+use Rattle.gptman.specs.Fit.{fit_header}
+use Rattle.gptman_disk.specs.Ranges.{AgreesInside, AreClear, Inside}
 use Rattle.gptman.specs.Edit.{after_edit, edited_all}
 use Rattle.gptman.specs.Layout.{HasLayout, Holds, copy_ranges_at}
 use Rattle.gptman.specs.Reading.{Side, primary, backup, copy_start, copy_in, reading_of, taken_from}
 use Rattle.gptman.specs.Stop.{IsStored, ReadsTable}
 use Rattle.gptman.specs.Table.{Table, entries_in, table_in, IsHeaderForm}
 use Rattle.gptman.specs.TableReads.{copy_of}
-use Rattle.gptman_copy.specs.declared.codec.header.GPTHeader.{GPTHeader}
+use Rattle.gptman.specs.declared.codec.header.GPTHeader.{GPTHeader}
 use Rattle.gptman.specs.declared.edit.Edit.{Edit}
 use Rattle.gptman.specs.declared.table.GPT.{GPT}
 

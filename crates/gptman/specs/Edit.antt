@@ -1,8 +1,8 @@
 -- Edits of a table, as values.
 use Rattle.std.specs.Prelude.{ℕ, List, [], ◌∷◌, fold, take, Option, None}
 use Rattle.std.specs.Option.{option_or}
-use Rattle.gptman_copy.specs.Coding.{empty_entry}
-use Rattle.gptman_copy.specs.Fault.{Fault}
+use Rattle.gptman.specs.Coding.{empty_entry}
+use Rattle.gptman_disk.specs.Fault.{Fault}
 use Rattle.gptman.specs.Number.{number_fault, with_entries, with_entry}
 use Rattle.gptman.specs.Order.{by_rank, rank}
 use Rattle.gptman.specs.Table.{entries_in}

@@ -1,12 +1,12 @@
 -- The stated layout of a disk, and where a table stands in it.
 use Rattle.std.specs.Prelude.{◌≡◌, ◌≤◌, ◌<◌, ◌+◌, ◌-◌, ◌*◌, ◌/◌, ◌^◌, ℕ, List, [], ◌∷◌, ◌++◌, length, min, max, Ok}
-use Rattle.gptman_copy.specs.Copy.{Copy, right_signature, right_revision}
+use Rattle.gptman.specs.Copy.{Copy, right_signature, right_revision}
 use Rattle.gptman.specs.Reading.{Side, primary, backup, copy_start, copy_in}
 use Rattle.gptman.specs.Table.{Table, table_in, IsForm, IsHeaderForm}
-use Rattle.gptman_copy.specs.declared.codec.entry.GPTPartitionEntry.{GPTPartitionEntry}
-use Rattle.gptman_copy.specs.declared.codec.header.GPTHeader.{GPTHeader}
+use Rattle.gptman.specs.declared.codec.entry.GPTPartitionEntry.{GPTPartitionEntry}
+use Rattle.gptman.specs.declared.codec.header.GPTHeader.{GPTHeader}
 use Rattle.gptman.specs.declared.table.GPT.{GPT}
-use Rattle.gptman_copy.specs.Ranges.{AreApart, AreInside}
+use Rattle.gptman_disk.specs.Ranges.{AreApart, AreInside}
 
 -- The two ranges of a table at a side of a disk of len bytes, each a start and a length: its header, and its entries, from sector 2 or behind the last usable one.
 abbrev pub copy_ranges_at : Side → Table → ℕ → ℕ → List (ℕ × ℕ)

@@ -5,10 +5,10 @@ use Rattle.std.specs.List.{enumerate_from}
 use Rattle.std.specs.Slice.Iter.{iter_mut_rest, iter_mut_name}
 use Rattle.gptman.specs.Number.{with_entry, with_entries, written_over}
 use Rattle.gptman.specs.Table.{entries_in}
-use Rattle.gptman_copy.specs.contracts.codec.entry.GPTPartitionEntry as entry
+use Rattle.gptman.specs.contracts.codec.entry.GPTPartitionEntry as entry
 use Rattle.gptman.specs.contracts.table.entries.Entries as entries
 use Rattle.gptman.specs.contracts.table.GPT as table
-use Rattle.gptman_copy.specs.declared.codec.entry.GPTPartitionEntry.{GPTPartitionEntry}
+use Rattle.gptman.specs.declared.codec.entry.GPTPartitionEntry.{GPTPartitionEntry}
 use Rattle.gptman.specs.declared.table.iter.IterMut.{IterMut}
 use Rattle.gptman.specs.declared.table.GPT.{GPT}
 

@@ -1,10 +1,10 @@
 -- The protective MBR.
 use Rattle.std.specs.Prelude.{◌≡◌, OnOk, Result, ℕ, ◌-◌, ◌/◌, Bool, List, [], ◌∷◌, ◌++◌, min, replicate, Option, nat_le, if◌then◌else◌}
 use Rattle.byteorder.specs.Endian.{little_bytes}
-use Rattle.gptman_copy.specs.Answers.{Settles}
-use Rattle.gptman_copy.specs.Disk.{overlay, DiskState, GrowsBy, IsHonest}
-use Rattle.gptman_copy.specs.declared.error.Error.{Error}
-use Rattle.gptman_copy.specs.Fault.{Fault, overflow, no_space_left, first_failing}
+use Rattle.gptman.specs.Answers.{Settles}
+use Rattle.gptman_disk.specs.Disk.{overlay, DiskState, GrowsBy, IsHonest}
+use Rattle.gptman_disk.specs.declared.error.Error.{Error}
+use Rattle.gptman_disk.specs.Fault.{Fault, overflow, no_space_left, first_failing}
 
 -- The 66 bytes from byte 446 on: one partition over all whole sectors but the first, three empty ones, and the mark.
 unfoldable pub mbr_bytes : Bool → ℕ → ℕ → List ℕ

@@ -1,11 +1,11 @@
 -- Entries by their numbers, which count from 1.
 use Rattle.std.specs.Prelude.{◌≤◌, ℕ, ◌+◌, ◌-◌, Bool, ◌&&◌, nat_le, if◌then◌else◌, List, ◌++◌, length, take, drop, position, slice_get, slice_index_or, slice_set, Option, Some, None, Result, Err}
 use Rattle.std.specs.Option.{option_map}
-use Rattle.gptman_copy.specs.Coding.{empty_entry}
-use Rattle.gptman_copy.specs.Entry.{bytes_of, covers}
-use Rattle.gptman_copy.specs.Fault.{Fault, invalid_partition_number, partition_not_found}
+use Rattle.gptman.specs.Coding.{empty_entry}
+use Rattle.gptman.specs.Entry.{bytes_of, covers}
+use Rattle.gptman_disk.specs.Fault.{Fault, invalid_partition_number, partition_not_found}
 use Rattle.gptman.specs.Table.{entries_in}
-use Rattle.gptman_copy.specs.declared.codec.entry.GPTPartitionEntry.{GPTPartitionEntry}
+use Rattle.gptman.specs.declared.codec.entry.GPTPartitionEntry.{GPTPartitionEntry}
 use Rattle.gptman.specs.declared.table.GPT.{GPT}
 
 -- the number of an entry of the list

@@ -1,7 +1,7 @@
 -- The order of entries: the used ones by their start, then the unused ones. Entries that tie keep their order.
 use Rattle.std.specs.Prelude.{ℕ, ◌^◌, nat_lt, if◌then◌else◌, List, [], ◌∷◌}
-use Rattle.gptman_copy.specs.Entry.{is_used}
-use Rattle.gptman_copy.specs.declared.codec.entry.GPTPartitionEntry.{GPTPartitionEntry}
+use Rattle.gptman.specs.Entry.{is_used}
+use Rattle.gptman.specs.declared.codec.entry.GPTPartitionEntry.{GPTPartitionEntry}
 
 -- where an entry belongs: the unused ones after every sector
 abbrev pub rank : GPTPartitionEntry → ℕ

@@ -1,10 +1,10 @@
 -- Free sectors, runs of them, aligned slots, and the places that they offer.
 use Prim.Native.Nat.{◌∣◌}
 use Rattle.std.specs.Prelude.{◌≡◌, ℕ, ◌+◌, ◌-◌, ◌%◌, ◌^◌, max, Option, IfSome, MatchOption, ◌<◌, ◌≤◌, IsTrue, List, All, AllPairs, Contains}
-use Rattle.gptman_copy.specs.Entry.{covers}
+use Rattle.gptman.specs.Entry.{covers}
 use Rattle.gptman.specs.Table.{entries_in}
-use Rattle.gptman_copy.specs.declared.codec.header.GPTHeader.{GPTHeader}
-use Rattle.gptman_copy.specs.declared.codec.entry.GPTPartitionEntry.{GPTPartitionEntry}
+use Rattle.gptman.specs.declared.codec.header.GPTHeader.{GPTHeader}
+use Rattle.gptman.specs.declared.codec.entry.GPTPartitionEntry.{GPTPartitionEntry}
 use Rattle.gptman.specs.declared.table.GPT.{GPT}
 
 -- The sector is one that the header gives to partitions; sector 0 never is.

@@ -1,12 +1,12 @@
 -- What placement does to a table, and what its maximum size offers.
 use Prim.Native.Nat.{◌∣◌}
 use Rattle.std.specs.Prelude.{◌≡◌, ◌≢◌, ℕ, ◌+◌, ◌<◌, ◌≤◌, IsTrue, List, All}
-use Rattle.gptman_copy.specs.Entry.{is_used}
+use Rattle.gptman.specs.Entry.{is_used}
 use Rattle.gptman.specs.Number.{IsNumber, with_entry}
 use Rattle.gptman.specs.Place.{IsFreeIn, IsPlace, IsMaximumSize, HasNoPlace}
 use Rattle.gptman.specs.Table.{entries_in}
 use Rattle.gptman.specs.Valid.{IsValid}
-use Rattle.gptman_copy.specs.declared.codec.entry.GPTPartitionEntry.{GPTPartitionEntry}
+use Rattle.gptman.specs.declared.codec.entry.GPTPartitionEntry.{GPTPartitionEntry}
 use Rattle.gptman.specs.declared.table.GPT.{GPT}
 
 -- The entry has the n sectors from s on, and a unique GUID that no used entry has.

@@ -1,7 +1,7 @@
 -- Reading a table: the copy at the primary side, or else the one at the backup side.
 use Rattle.std.specs.Prelude.{ℕ, ◌-◌, ◌*◌, ◌/◌, ◌&&◌, true, false, List, length, nat_lt, Result, Ok, Err, if◌then◌else◌}
-use Rattle.gptman_copy.specs.Fault.{Fault, invalid_signature, read_error, is_signature_fault}
-use Rattle.gptman_copy.specs.Copy.{Copy, copy_at}
+use Rattle.gptman_disk.specs.Fault.{Fault, invalid_signature, read_error, is_signature_fault}
+use Rattle.gptman.specs.Copy.{Copy, copy_at}
 
 pub data Side : Type 0 where
   primary : Side

@@ -1,9 +1,9 @@
 -- What a disk holds, and what a reading of it gives.
 use Rattle.std.specs.Prelude.{◌≡◌, ◌<◌, ◌^◌, ◌↔◌, ℕ, List, [], length, Ok, Contains}
-use Rattle.gptman_copy.specs.Disk.{DiskState, LeavesOnly}
-use Rattle.gptman_copy.specs.Copy.{Copy, CopyAt, copy_at}
-use Rattle.gptman_copy.specs.declared.codec.header.GPTHeader.{GPTHeader}
-use Rattle.gptman_copy.specs.declared.codec.entry.GPTPartitionEntry.{GPTPartitionEntry}
+use Rattle.gptman_disk.specs.Disk.{DiskState, LeavesOnly}
+use Rattle.gptman.specs.Copy.{Copy, CopyAt, copy_at}
+use Rattle.gptman.specs.declared.codec.header.GPTHeader.{GPTHeader}
+use Rattle.gptman.specs.declared.codec.entry.GPTPartitionEntry.{GPTPartitionEntry}
 use Rattle.gptman.specs.Reading.{Side, primary, backup, reading_of, taken_from}
 use Rattle.gptman.specs.Table.{Table, table_of, IsForm, IsHeaderForm}
 use Rattle.gptman.specs.Layout.{Holds}

@@ -1,7 +1,7 @@
 -- What one pass over the covered ranges, by ascending start, sees of the sectors.
 use Rattle.std.specs.Prelude.{◌≡◌, ℕ, ◌+◌, ◌<◌, ◌≤◌, List, [], ◌∷◌, ◌++◌, All}
 use Rattle.gptman.specs.Place.{IsFirstMultiple, IsUsable}
-use Rattle.gptman_copy.specs.declared.codec.header.GPTHeader.{GPTHeader}
+use Rattle.gptman.specs.declared.codec.header.GPTHeader.{GPTHeader}
 
 -- the sector is not in the range, which is its first and its last sector
 abbrev pub Misses : ℕ → ℕ × ℕ → Type 0

@@ -1,11 +1,11 @@
 -- What a table is, whichever of its two forms one looks at.
 use Rattle.std.specs.Prelude.{◌≡◌, ◌⊎◌, ◌+◌, ℕ, List, replicate, map, min, max}
-use Rattle.gptman_copy.specs.Coding.{empty_entry}
-use Rattle.gptman_copy.specs.Fit.{new_header_of, fit_header}
-use Rattle.gptman_copy.specs.Copy.{Copy}
+use Rattle.gptman.specs.Coding.{empty_entry}
+use Rattle.gptman.specs.Fit.{new_header_of, fit_header}
+use Rattle.gptman.specs.Copy.{Copy}
 use Rattle.gptman.specs.Reading.{Side, primary, backup}
-use Rattle.gptman_copy.specs.declared.codec.header.GPTHeader.{GPTHeader}
-use Rattle.gptman_copy.specs.declared.codec.entry.GPTPartitionEntry.{GPTPartitionEntry}
+use Rattle.gptman.specs.declared.codec.header.GPTHeader.{GPTHeader}
+use Rattle.gptman.specs.declared.codec.entry.GPTPartitionEntry.{GPTPartitionEntry}
 use Rattle.gptman.specs.declared.table.GPT.{GPT}
 
 -- an entry, without the text that its name has in memory

@@ -1,13 +1,13 @@
 -- What reading a table answers.
 use Rattle.std.specs.Prelude.{◌≡◌, ◌⊎◌, ◌&&◌, ℕ, Bool, true, false, List, Result, Ok, Err, IsErr}
-use Rattle.gptman_copy.specs.Answers.{answer_of, Refuses, is_damage}
-use Rattle.gptman_copy.specs.Copy.{Copy, IsCoherent}
+use Rattle.gptman.specs.Answers.{answer_of, Refuses, is_damage}
+use Rattle.gptman.specs.Copy.{Copy, IsCoherent}
 use Rattle.gptman.specs.Alignment.{IsAlignment}
-use Rattle.gptman_copy.specs.Disk.{DiskState, HasFailedAsOften, HasFailedOnceAtMost, IsHonest, Rose}
-use Rattle.gptman_copy.specs.Fault.{Fault, io, invalid_signature, read_error, out_of_memory}
+use Rattle.gptman_disk.specs.Disk.{DiskState, HasFailedAsOften, HasFailedOnceAtMost, IsHonest, Rose}
+use Rattle.gptman_disk.specs.Fault.{Fault, io, invalid_signature, read_error, out_of_memory}
 use Rattle.gptman.specs.Reading.{Side, primary, backup, copy_in, fallback, reading_of}
 use Rattle.gptman.specs.Table.{entries_in}
-use Rattle.gptman_copy.specs.declared.error.Error.{Error}
+use Rattle.gptman_disk.specs.declared.error.Error.{Error}
 use Rattle.gptman.specs.declared.table.GPT.{GPT}
 
 -- what reading a table may refuse with

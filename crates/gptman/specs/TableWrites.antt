@@ -1,15 +1,15 @@
 -- What writing a table answers, and what it leaves.
 use Rattle.std.specs.Prelude.{◌≡◌, ◌≢◌, ◌⊎◌, ◌&&◌, ℕ, Bool, List, Option, None, Some, Result, IfErr}
 use Rattle.std.specs.List.{list_all}
-use Rattle.gptman_copy.specs.Answers.{IsFailure, Refuses}
-use Rattle.gptman_copy.specs.Copy.{with_checksums}
-use Rattle.gptman_copy.specs.Disk.{DiskState, IsHonest, OnlyRead}
-use Rattle.gptman_copy.specs.Fault.{Fault, fault_of, io, no_space_left, overflow, out_of_memory}
-use Rattle.gptman_copy.specs.Write.{four_ranges, has_other_header, is_addressable, other_header, write_fault, HasBytes, SameButSums}
+use Rattle.gptman.specs.Answers.{IsFailure, Refuses}
+use Rattle.gptman.specs.Copy.{with_checksums}
+use Rattle.gptman_disk.specs.Disk.{DiskState, IsHonest, OnlyRead}
+use Rattle.gptman_disk.specs.Fault.{Fault, fault_of, io, no_space_left, overflow, out_of_memory}
+use Rattle.gptman.specs.Write.{four_ranges, has_other_header, is_addressable, other_header, write_fault, HasBytes, SameButSums}
 use Rattle.gptman.specs.Table.{entries_in}
 use Rattle.gptman.specs.Valid.{IsValid, IsValidity}
-use Rattle.gptman_copy.specs.declared.error.Error.{Error}
-use Rattle.gptman_copy.specs.declared.codec.header.GPTHeader.{GPTHeader}
+use Rattle.gptman_disk.specs.declared.error.Error.{Error}
+use Rattle.gptman.specs.declared.codec.header.GPTHeader.{GPTHeader}
 use Rattle.gptman.specs.declared.table.GPT.{GPT}
 
 -- the value with its checksums made

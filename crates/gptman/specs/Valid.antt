@@ -1,9 +1,9 @@
 -- When a table may be written.
 use Rattle.std.specs.Prelude.{◌≡◌, ◌≢◌, ℕ, ◌+◌, ◌≤◌, ◌<◌, IsTrue, List, All, AllPairs, Option, Some, None}
-use Rattle.gptman_copy.specs.Entry.{is_used, covers}
-use Rattle.gptman_copy.specs.Fault.{Fault, conflict_partition_guid, invalid_partition_boundaries}
-use Rattle.gptman_copy.specs.declared.codec.header.GPTHeader.{GPTHeader}
-use Rattle.gptman_copy.specs.declared.codec.entry.GPTPartitionEntry.{GPTPartitionEntry}
+use Rattle.gptman.specs.Entry.{is_used, covers}
+use Rattle.gptman_disk.specs.Fault.{Fault, conflict_partition_guid, invalid_partition_boundaries}
+use Rattle.gptman.specs.declared.codec.header.GPTHeader.{GPTHeader}
+use Rattle.gptman.specs.declared.codec.entry.GPTPartitionEntry.{GPTPartitionEntry}
 
 -- any two used entries have different unique GUIDs
 abbrev pub HasOwnGuids : List GPTPartitionEntry → Type 0

@@ -2,12 +2,12 @@
 
 ghost use Rattle.std.specs.Prelude.{◌≡◌, ◌≤◌, ◌<◌, ◌⊎◌, [], ◌∷◌, ℕ, length};
 ghost use Rattle.std.specs.Prelude.{IfErr, IfNone, IfOk, IfSome, IsOk, IsTrue, OnErr, OnOk};
-ghost use Rattle.gptman_copy.specs.Answers.{refusal_of, CountsFailure, HasCause, Refuses};
-ghost use Rattle.gptman_copy.specs.Copy.{IsCoherent};
-ghost use Rattle.gptman_copy.specs.Disk.{HasFailedAsOften, HasFailedOnceAtMost, IsHonest, Keeps, OnlyRead};
-ghost use Rattle.gptman_copy.specs.Disk.{Rose, Writes};
-ghost use Rattle.gptman_copy.specs.Fault.{fault_of, out_of_memory};
-ghost use Rattle.gptman_copy.specs.Ranges.{AreApart};
+ghost use Rattle.gptman.specs.Answers.{refusal_of, CountsFailure, HasCause, Refuses};
+ghost use Rattle.gptman.specs.Copy.{IsCoherent};
+ghost use Rattle.gptman_disk.specs.Disk.{HasFailedAsOften, HasFailedOnceAtMost, IsHonest, Keeps, OnlyRead};
+ghost use Rattle.gptman_disk.specs.Disk.{Rose, Writes};
+ghost use Rattle.gptman_disk.specs.Fault.{fault_of, out_of_memory};
+ghost use Rattle.gptman_disk.specs.Ranges.{AreApart};
 ghost use Rattle.gptman.specs.Commit.{is_failure, is_io, reached, tables_to, value_after, HoldsLast};
 ghost use Rattle.gptman.specs.Commit.{BothSidesAfterEdits, IsLaidAfter};
 ghost use Rattle.gptman.specs.Commit.{IsAllowed, IsAllowedAt, IsRefusedAt, RefusesEdit, Stands};
@@ -21,9 +21,9 @@ ghost use Rattle.gptman.specs.TableWrites.{other_with_checksums, table_ranges, v
 ghost use Rattle.gptman.specs.TableWrites.{HasBothCopies, HasRoomOn, IsNotForRoom, RefusesUnwritten};
 ghost use Rattle.gptman.specs.declared.edit.Edit.TheVariants.{SortEntries};
 
+use crate::sizes::note_sizes;
 use crate::table::GPT;
-use gptman_copy::sizes::note_sizes;
-use gptman_copy::{Disk, Error, GPTPartitionEntry, Result};
+use crate::{Disk, Error, GPTPartitionEntry, Result};
 
 /// A change of a table. Numbers of entries count from 1.
 #[derive(Drop, Debug)]

@@ -1,16 +1,25 @@
 //! GUID partition tables that survive a crash.
 //!
-//! What is about one copy of a table stands in `gptman_copy`, and is handed on from there.
+//! `codec`, `crc` and `sizes` have the bytes of the format, `header` and `copy` one copy of a table, `copies` both, and
+//! `table`, `place` and `edit` the table. Disks and errors are those of `gptman_disk`.
 #![tactic(auto)]
 
+pub mod cells;
+pub mod codec;
+pub mod copies;
+pub mod copy;
+pub mod crc;
 pub mod edit;
+pub mod header;
 pub mod place;
+pub mod sizes;
 pub mod table;
 
+pub use codec::entry::GPTPartitionEntry;
+pub use codec::header::GPTHeader;
+pub use codec::name::PartitionName;
+pub use copies::{BothCopies, check};
 pub use edit::{Edit, Progress};
-pub use gptman_copy::{
-    Disk, Error, Fate, FileDisk, GPTHeader, GPTPartitionEntry, MemoryDisk, PartitionName, Result,
-    codec, crc, disk, error, header,
-};
+pub use gptman_disk::{Disk, Error, Fate, FileDisk, MemoryDisk, Result, disk, error, opening};
 pub use table::GPT;
 pub use table::iter::{Iter, IterMut};

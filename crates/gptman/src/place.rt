@@ -7,8 +7,8 @@
 //! before they start, and the bounds may stand in any order.
 
 ghost use Rattle.std.specs.Prelude.{◌≡◌, ◌⊎◌, ◌<◌, ◌≤◌, ◌+◌, ◌^◌, All, IfErr, IfOk};
-ghost use Rattle.gptman_copy.specs.Answers.{Refuses};
-ghost use Rattle.gptman_copy.specs.Fault.{fault_of, no_space_left, out_of_memory};
+ghost use Rattle.gptman.specs.Answers.{Refuses};
+ghost use Rattle.gptman_disk.specs.Fault.{fault_of, no_space_left, out_of_memory};
 ghost use Rattle.gptman.specs.Place.{AreSlots, EndsIn64Bits, FindsPlace, HasNoSlot, IsBestPlace};
 ghost use Rattle.gptman.specs.Place.{IsFirstPlace};
 ghost use Rattle.gptman.specs.Place.{IsFreeIn, IsLastPlace, IsMaximumSize};
@@ -17,7 +17,7 @@ use crate::place::choose::{first_slot, greatest_size, last_slot, shortest_slot};
 use crate::place::sweep::sweep;
 use crate::table::GPT;
 use crate::table::covered::sorted_ranges;
-use gptman_copy::{Error, Result};
+use crate::{Error, Result};
 
 mod choose;
 pub mod laws;

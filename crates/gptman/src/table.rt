@@ -3,15 +3,15 @@
 ghost use Rattle.std.specs.Prelude.{◌≡◌, ◌↔◌, ◌<◌, ◌^◌, [], length, vec_len, IsTrue, IsOk, IfOk, IfErr};
 ghost use Rattle.std.specs.Borrow.{sem};
 ghost use Rattle.std.specs.List.{enumerate_from};
-ghost use Rattle.gptman_copy.specs.Fault.{fault_of, out_of_memory};
+ghost use Rattle.gptman_disk.specs.Fault.{fault_of, out_of_memory};
 ghost use Rattle.gptman.specs.Lending.{items_left, LendsEntries, LendsIter};
 ghost use Rattle.gptman.specs.Table.{entries_in};
-ghost use Rattle.gptman_copy.specs.Copy.{IsCoherent};
+ghost use Rattle.gptman.specs.Copy.{IsCoherent};
 
+use crate::sizes::{ENTRY_SIZE, HEADER_SIZE};
 use crate::table::entries::Entries;
 use crate::table::iter::{Iter, IterMut};
-use gptman_copy::sizes::{ENTRY_SIZE, HEADER_SIZE};
-use gptman_copy::{GPTHeader, GPTPartitionEntry, Result};
+use crate::{GPTHeader, GPTPartitionEntry, Result};
 
 mod align;
 mod checks;

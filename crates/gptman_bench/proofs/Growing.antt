@@ -10,8 +10,8 @@ use Rattle.gptman.specs.Stop.{HoldsOneOf, IsStored}
 use Rattle.gptman.specs.Table.{Table, table_in, IsHeaderForm}
 use Rattle.gptman.specs.declared.table.GPT.{GPT}
 use Rattle.gptman.proofs.Held.{holds_local}
-use Rattle.gptman_copy.proofs.Ranges.{Ranges, contains_first}
-use Rattle.gptman_copy.proofs.Runs.{leaves_then}
+use Rattle.gptman.proofs.Ranges.{Ranges, contains_first}
+use Rattle.gptman.proofs.Runs.{leaves_then}
 use Rattle.gptman.specs.Table.{grow_to}
 
 -- a stop of calls that only read leaves a table that was held, with nothing pending

@@ -10,9 +10,9 @@ use Rattle.gptman.specs.Layout.{Holds}
 use Rattle.gptman.specs.Reading.{copy_in, reading_of, taken_from}
 use Rattle.gptman.specs.Stop.{AcceptsWhatStands, HoldsWhatIsRead}
 use Rattle.gptman.specs.Table.{table_in, IsHeaderForm}
-use Rattle.gptman_copy.specs.declared.codec.entry.GPTPartitionEntry.{GPTPartitionEntry}
-use Rattle.gptman_copy.specs.declared.codec.header.GPTHeader.{GPTHeader}
-use Rattle.gptman_copy.specs.declared.error.Error.{Error}
+use Rattle.gptman.specs.declared.codec.entry.GPTPartitionEntry.{GPTPartitionEntry}
+use Rattle.gptman.specs.declared.codec.header.GPTHeader.{GPTHeader}
+use Rattle.gptman.specs.Error.{Error}
 use Rattle.gptman.specs.declared.table.GPT.{GPT}
 use Rattle.gptman.proofs.Fallback.{taken_first}
 

@@ -1,5 +1,5 @@
 -- What a caller that clears attributes makes of an entry.
-use Rattle.gptman_copy.specs.declared.codec.entry.GPTPartitionEntry.{GPTPartitionEntry}
+use Rattle.gptman.specs.declared.codec.entry.GPTPartitionEntry.{GPTPartitionEntry}
 
 abbrev pub cleared : GPTPartitionEntry → GPTPartitionEntry
 cleared e = record e { attribute_bits = 0 }

@@ -1,9 +1,9 @@
 //! What calls answer, as text that is compared with rows.
 
 use gptman::{GPT, Result};
-use gptman_fixtures::{calls, told};
 use std::fmt::Debug;
 use std::process::Abort;
+use test_fixtures::{calls, told};
 
 /// What is said where an entry has no place of its own within the usable sectors.
 pub(crate) const BOUNDARIES: &str =

@@ -17,8 +17,8 @@ ghost use Rattle.gptman.specs.Stop.{IsStored, StopsAreReadAs};
 ghost use Rattle.gptman.specs.Table.{entries_in, grow_to, table_in, IsHeaderForm};
 ghost use Rattle.gptman.specs.TableReads.{AnswersReading};
 ghost use Rattle.gptman.specs.Valid.{IsValid};
-ghost use Rattle.gptman_copy.specs.declared.codec.entry.GPTPartitionEntry.{GPTPartitionEntry};
-ghost use Rattle.gptman_copy.specs.declared.codec.header.GPTHeader.{GPTHeader};
+ghost use Rattle.gptman.specs.declared.codec.entry.GPTPartitionEntry.{GPTPartitionEntry};
+ghost use Rattle.gptman.specs.declared.codec.header.GPTHeader.{GPTHeader};
 ghost use Rattle.gptman_bench.specs.Cleared.{cleared};
 
 use crate::asserts::{Host, assert_same, assert_shown, assert_used, got};
@@ -28,9 +28,9 @@ use gptman::table::laws::{
     growing_is_safe, what_is_held_is_read, what_is_read_is_held, what_stands_is_accepted,
 };
 use gptman::{Disk, Edit, GPT, GPTHeader, GPTPartitionEntry, MemoryDisk, Result};
-use gptman_fixtures::calls::apply;
 use std::alloc::{AllocError, Global};
 use std::process::Abort;
+use test_fixtures::calls::apply;
 
 /// Whether two tables are equal in all their fields.
 fn are_equal(a: &GPT, b: &GPT) -> bool

@@ -3,8 +3,8 @@
 use crate::asserts::{Host, got};
 use crate::fixtures::{disk_1, disk_2, image_of, put};
 use gptman::{GPT, GPTHeader};
-use gptman_fixtures::samples::find_image;
 use std::process::Abort;
+use test_fixtures::samples::find_image;
 
 mod alignment;
 mod places;

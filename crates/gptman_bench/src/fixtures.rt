@@ -1,9 +1,9 @@
-//! The tables, disks and images of `gptman_fixtures`, for tests that end where these cannot be made.
+//! The tables, disks and images of `test_fixtures`, for tests that end where these cannot be made.
 
 use crate::asserts::{Host, assert_told, got};
 use gptman::{Disk, GPT, GPTHeader, GPTPartitionEntry, MemoryDisk};
-use gptman_fixtures::{calls, samples, tables};
 use std::process::Abort;
+use test_fixtures::{calls, samples, tables};
 
 /// A disk of so many bytes, all of them this one.
 pub(crate) fn blank(rt: &impl Host, byte: u8, len: usize) -> MemoryDisk {

@@ -3,8 +3,8 @@
 
 use crate::asserts::{Host, got};
 use gptman::{Error, GPT};
-use gptman_fixtures::samples::read_image;
-use gptman_fixtures::told as texts;
+use test_fixtures::samples::read_image;
+use test_fixtures::told as texts;
 
 // So many bytes from this one on, where there are so many.
 fn part(bytes: &[u8], at: u128, len: u128) -> Option<&[u8]> {

@@ -1,4 +1,4 @@
-//! What `gptman_rows` has no rows of: texts of errors, files, disks longer than memory, and sweeps against a second
+//! What `test_rows` has no rows of: texts of errors, files, disks longer than memory, and sweeps against a second
 //! body of a call.
 
 mod damage;

@@ -2,8 +2,8 @@
 
 use crate::asserts::got;
 use gptman::{Error, GPT};
-use gptman_fixtures::calls;
 use std::process::Abort;
+use test_fixtures::calls;
 
 /// A search for a place.
 #[derive(Clone, Copy)]

@@ -11,39 +11,39 @@ ghost use Rattle.gptman.specs.Layout.{HasLayout};
 ghost use Rattle.gptman.specs.Mbr.{mbr_bytes, mbr_fault};
 ghost use Rattle.gptman.specs.Reading.{reading_of, taken_from};
 ghost use Rattle.gptman.specs.Table.{new_table_of};
-ghost use Rattle.gptman_ends.specs.Asking.{fit_ranges, plan_ranges, value_ranges};
-ghost use Rattle.gptman_ends.specs.Checking.{IsCheckTold};
-ghost use Rattle.gptman_ends.specs.Crossing.{HasCount, IsOffer, IsRefused, IsTold};
-ghost use Rattle.gptman_ends.specs.Dos.{IsDosDisk};
-ghost use Rattle.gptman_ends.specs.Ends.{HasEnds, IsKnown};
+ghost use Rattle.gptman_plan.specs.Asking.{fit_ranges, plan_ranges, value_ranges};
+ghost use Rattle.gptman_plan.specs.Checking.{IsCheckTold};
+ghost use Rattle.gptman_plan.specs.Crossing.{HasCount, IsOffer, IsRefused, IsTold};
+ghost use Rattle.gptman_plan.specs.Dos.{IsDosDisk};
+ghost use Rattle.gptman_plan.specs.Ends.{HasEnds, IsKnown};
 ghost use Rattle.gptman.specs.Name.{units_of};
 ghost use Rattle.std.specs.Prelude.{◌∷◌, ◌++◌, IsUtf8};
 ghost use Rattle.std.specs.Str.{chars};
-ghost use Rattle.gptman_ends.specs.Naming.{name_text};
-ghost use Rattle.gptman_ends.specs.Plan.{acts_of, IsWriteOrSync, StepFits};
-ghost use Rattle.gptman_ends.specs.Planning.{AreNoEnds, HasPlan, IsFitPlan, IsMiscounted, IsNewPlan, IsNotStatedToFit};
-ghost use Rattle.gptman_ends.specs.Planning.{IsNumberOf, IsOfOtherLayout, IsOfOtherLength, IsPlan};
-ghost use Rattle.gptman_ends.specs.Planning.{needed_after, refusal_number, RefusesFit, RefusesNew, RefusesPlan};
-ghost use Rattle.gptman_ends.specs.Rounds.{first_sector, reading_ranges, IsAmong};
+ghost use Rattle.gptman_plan.specs.Naming.{name_text};
+ghost use Rattle.gptman_plan.specs.Plan.{acts_of, IsWriteOrSync, StepFits};
+ghost use Rattle.gptman_plan.specs.Planning.{AreNoEnds, HasPlan, IsFitPlan, IsMiscounted, IsNewPlan, IsNotStatedToFit};
+ghost use Rattle.gptman_plan.specs.Planning.{IsNumberOf, IsOfOtherLayout, IsOfOtherLength, IsPlan};
+ghost use Rattle.gptman_plan.specs.Planning.{needed_after, refusal_number, RefusesFit, RefusesNew, RefusesPlan};
+ghost use Rattle.gptman_plan.specs.Rounds.{first_sector, reading_ranges, IsAmong};
 
 use gptman::crc::crc32;
 use gptman::table::mbr::protective_mbr;
-use gptman_ends::checking::{Look, look_at_both};
-use gptman_ends::dos::{Seen, look_for_dos};
-use gptman_ends::ends::are_apart;
-use gptman_ends::faults::{
+use gptman_plan::checking::{Look, look_at_both};
+use gptman_plan::dos::{Seen, look_for_dos};
+use gptman_plan::ends::are_apart;
+use gptman_plan::faults::{
     BAD_ARGUMENT, DOS_DISK, LACKS_BYTES, LACKS_ROOM, NO_SPACE_LEFT, OTHER_LAYOUT, OTHER_LENGTH,
-    OUT_OF_MEMORY, number_of,
+    OUT_OF_MEMORY,
 };
-use gptman_ends::fitting::plan_fit;
-use gptman_ends::making::plan_new;
-use gptman_ends::naming::{lay_text, name_of, units_for};
-use gptman_ends::offers::find_place;
-use gptman_ends::planning::{Refusal, plan};
-use gptman_ends::reading::{Reading, read};
-use gptman_ends::record::Record;
-pub use gptman_ends::records::{Check, Needed, Partition, Step, Table};
-use gptman_ends::tell::tell;
+use gptman_plan::fitting::plan_fit;
+use gptman_plan::making::plan_new;
+use gptman_plan::naming::{lay_text, name_of, units_for};
+use gptman_plan::offers::find_place;
+use gptman_plan::planning::{Refusal, plan};
+use gptman_plan::reading::{Reading, read};
+use gptman_plan::record::Record;
+pub use gptman_plan::records::{Check, Needed, Partition, Step, Table};
+use gptman_plan::tell::tell;
 use std::alloc::Global;
 
 /// Reads the table of a disk.
@@ -106,7 +106,7 @@ pub extern "C" fn gptman_read(
             table: found,
             is_backup,
         } => tell(&found, is_backup, table, partitions),
-        Reading::Fault(fault) => number_of(&fault),
+        Reading::Fault(fault) => fault.number(),
         Reading::Lacks(lack) => {
             needed.from = lack.from;
             needed.length = lack.length;
@@ -472,7 +472,7 @@ fn refuse(refusal: &Refusal, needed: &mut Needed) -> u32
 {
     match refusal {
         Refusal::BadArgument => BAD_ARGUMENT,
-        Refusal::Refused(fault) => number_of(fault),
+        Refusal::Refused(fault) => fault.number(),
         Refusal::Lacks(lack) => {
             needed.from = lack.from;
             needed.length = lack.length;
@@ -577,7 +577,7 @@ pub extern "C" fn gptman_mbr(
             bytes[..66].copy_from_slice(&mbr);
             0
         }
-        Err(fault) => number_of(&fault),
+        Err(fault) => fault.number(),
     }
 }
 

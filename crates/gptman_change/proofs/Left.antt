@@ -7,13 +7,13 @@ use Rattle.gptman.specs.Ranges.{AreClear}
 use Rattle.gptman.specs.Stop.{HoldsOneOf, StopsHold}
 use Rattle.gptman.specs.Table.{Table, table_in}
 use Rattle.gptman.specs.TableWrites.{other_with_checksums, table_ranges, value_with_checksums, HasBothCopies}
-use Rattle.gptman_copy.specs.declared.codec.header.GPTHeader.{GPTHeader}
+use Rattle.gptman.specs.declared.codec.header.GPTHeader.{GPTHeader}
 use Rattle.gptman.specs.declared.table.GPT.{GPT}
 use Rattle.gptman.proofs.Held.{holds_local}
 use Rattle.gptman.proofs.ReadingLaw.{reads_one_of}
-use Rattle.gptman_copy.proofs.Ranges.{contains_first, within_none, within_self}
-use Rattle.gptman_copy.proofs.Readers.{both_read}
-use Rattle.gptman_copy.proofs.Runs.{keeps_then, leaves_then, wrote_then, wrote_wider}
+use Rattle.gptman.proofs.Ranges.{contains_first, within_none, within_self}
+use Rattle.gptman.proofs.Readers.{both_read}
+use Rattle.gptman.proofs.Runs.{keeps_then, leaves_then, wrote_then, wrote_wider}
 use Rattle.gptman_change.specs.Changes.{LeavesChange, StopsLeaveEither, written}
 use Rattle.gptman_change.specs.Planning.{Makes}
 use Rattle.gptman_change.specs.Reads.{IsReadFrom}

@@ -10,13 +10,13 @@ use Rattle.gptman.specs.Fault.{Fault, invalid_signature, out_of_memory}
 use Rattle.gptman.specs.Reading.{primary, backup, copy_in, found_sector_size, reading_of}
 use Rattle.gptman.specs.Table.{entries_in}
 use Rattle.gptman.specs.TableReads.{copy_of, CountsReading, IsAsRead, MayBeRead}
-use Rattle.gptman_copy.specs.declared.codec.entry.GPTPartitionEntry.{GPTPartitionEntry}
-use Rattle.gptman_copy.specs.declared.codec.header.GPTHeader.{GPTHeader}
-use Rattle.gptman_copy.specs.declared.error.Error.{Error}
+use Rattle.gptman.specs.declared.codec.entry.GPTPartitionEntry.{GPTPartitionEntry}
+use Rattle.gptman.specs.declared.codec.header.GPTHeader.{GPTHeader}
+use Rattle.gptman.specs.Error.{Error}
 use Rattle.gptman.specs.declared.table.GPT.{GPT}
 use Rattle.gptman.proofs.Fallback.{found_ok, found_second, taken_first}
 use Rattle.gptman.proofs.ReadingLaw.{taken_second}
-use Rattle.gptman_copy.proofs.Runs.{rose_before}
+use Rattle.gptman.proofs.Runs.{rose_before}
 use Rattle.gptman_change.specs.Reads.{IsReadFrom}
 
 -- ---- with which size

@@ -6,7 +6,7 @@ use Rattle.gptman.specs.Disk.{DiskState, Rose}
 use Rattle.gptman.specs.Fault.{fault_of, invalid_signature, out_of_memory}
 use Rattle.gptman.specs.Reading.{found_sector_size, reading_of}
 use Rattle.gptman.specs.TableReads.{copy_of, IsReadingFault}
-use Rattle.gptman_copy.specs.declared.error.Error.{Error}
+use Rattle.gptman.specs.Error.{Error}
 use Rattle.gptman.specs.declared.table.GPT.{GPT}
 use Rattle.gptman_change.specs.Reads.{RefusesReading}
 use Rattle.gptman_change.specs.Reads.RefusesReading.{no_memory, bad_copies, disk_failed}

@@ -10,8 +10,8 @@ use Rattle.gptman.specs.TableReads.{copy_of, MayBeRead}
 use Rattle.gptman.specs.declared.table.GPT.{GPT}
 use Rattle.gptman.proofs.Held.{holds_local}
 use Rattle.gptman.proofs.ReadingLaw.{reads_one_of}
-use Rattle.gptman_copy.proofs.Ranges.{Ranges, contains_first}
-use Rattle.gptman_copy.proofs.Runs.{leaves_then}
+use Rattle.gptman.proofs.Ranges.{Ranges, contains_first}
+use Rattle.gptman.proofs.Runs.{leaves_then}
 use Rattle.gptman_change.specs.Changes.{begun, nothing_written, IsSafe, StartsGood, StartsGoodFor}
 use Rattle.gptman_change.specs.Planning.{AlwaysKeepsPlaces, KeepsPlaces, Makes}
 use Rattle.gptman_change.specs.Reads.{size_for, IsReadFrom}

@@ -3,7 +3,7 @@ use Rattle.std.proofs.Common.{ℕ}
 use Rattle.std.specs.Prelude.{Option, Result, Ok, Err, IfOk}
 use Rattle.gptman.specs.Disk.{DiskState}
 use Rattle.gptman.specs.declared.table.GPT.{GPT}
-use Rattle.gptman_copy.specs.declared.error.Error.{Error}
+use Rattle.gptman.specs.Error.{Error}
 use Rattle.gptman_change.specs.Changes.{is_left, is_written, AnswersChange, MakesChange}
 use Rattle.gptman_change.specs.Planning.{Leaves, Makes}
 

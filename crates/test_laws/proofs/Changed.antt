@@ -9,9 +9,9 @@ use Rattle.gptman.specs.Entry.{covers, is_unused, is_used}
 use Rattle.gptman.specs.Number.{entry_at, entry_of_number, with_entry}
 use Rattle.gptman.specs.Place.{IsFreeIn, IsUsable}
 use Rattle.gptman.specs.Table.{entries_in}
-use Rattle.gptman_copy.specs.declared.codec.entry.GPTPartitionEntry.{GPTPartitionEntry}
-use Rattle.gptman_copy.specs.declared.codec.header.GPTHeader.{GPTHeader}
-use Rattle.gptman_copy.specs.declared.codec.name.PartitionName.{PartitionName}
+use Rattle.gptman.specs.declared.codec.entry.GPTPartitionEntry.{GPTPartitionEntry}
+use Rattle.gptman.specs.declared.codec.header.GPTHeader.{GPTHeader}
+use Rattle.gptman.specs.declared.codec.name.PartitionName.{PartitionName}
 use Rattle.gptman.specs.declared.table.GPT.{GPT}
 use Rattle.gptedit_core.specs.Laying.{align_asked, IsLaid}
 use Rattle.gptedit_core.specs.Named.{AreThere, IsLengthened, IsThere, IsUnnamed, LayoutsChangeNamed, LayoutsOnlyLengthen, StaysAs}
@@ -34,7 +34,7 @@ use Rattle.gptedit_core.proofs.Dumped.{at_number}
 use Rattle.gptedit_core.proofs.Laid.{cleared_keep, removed_keep}
 use Rattle.gptedit_core.proofs.Same.{cleared_same, removed_same}
 use Rattle.gptedit_core.proofs.Steps.{and_then_ok, else_ok}
-use Rattle.gptman_copy.proofs.Ranges.{contains_first}
+use Rattle.gptman.proofs.Ranges.{contains_first}
 use Rattle.test_laws.specs.Changed.{with_name, IsChangeOf, OthersStay}
 
 -- ---- what is asked of it

@@ -10,14 +10,14 @@ use Rattle.gptman.specs.Layout.{HasLayout, Holds}
 use Rattle.gptman.specs.Reading.{Side}
 use Rattle.gptman.specs.Fault.{fault_of}
 use Rattle.gptman.specs.TableWrites.{RefusesWrite}
-use Rattle.gptman_copy.specs.declared.error.Error.{Error}
+use Rattle.gptman.specs.Error.{Error}
 use Rattle.gptman.specs.Stop.{HoldsOneOf, StopsAreReadAs}
 use Rattle.gptman.specs.Table.{Table, entries_in, table_in}
 use Rattle.gptman.specs.declared.edit.Edit.{Edit}
 use Rattle.gptman.specs.declared.table.GPT.{GPT}
 use Rattle.test_laws.specs.Edited.{RefusesEdited, not_written}
 use Rattle.gptman.proofs.Held.{holds_local}
-use Rattle.gptman_copy.proofs.Ranges.{Ranges, contains_first}
+use Rattle.gptman.proofs.Ranges.{Ranges, contains_first}
 
 -- A stop where nothing was written, with nothing pending, leaves the table that a place held.
 pub still_held : (a : DiskState) (ss : ℕ) (side : Side) (was : Table) (more : List Table) → IsSound a → a.pending ≡ [] → Holds a.view ss side was → LeavesOnly a a (λ b. HoldsOneOf b ss (was ∷ more))

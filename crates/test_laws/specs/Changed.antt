@@ -1,8 +1,8 @@
 -- What a layout makes of one entry, and of the others; and a layout that is asked for twice.
 use Rattle.std.specs.Prelude.{◌≡◌, ◌≢◌, ◌≤◌, ℕ, [], ◌∷◌, None}
 use Rattle.gptman.specs.Number.{entry_at}
-use Rattle.gptman_copy.specs.declared.codec.entry.GPTPartitionEntry.{GPTPartitionEntry}
-use Rattle.gptman_copy.specs.declared.codec.name.PartitionName.{PartitionName}
+use Rattle.gptman.specs.declared.codec.entry.GPTPartitionEntry.{GPTPartitionEntry}
+use Rattle.gptman.specs.declared.codec.name.PartitionName.{PartitionName}
 use Rattle.gptman.specs.declared.table.GPT.{GPT}
 use Rattle.gptedit_core.specs.Laying.{IsStopOf}
 use Rattle.gptedit_core.specs.Named.{AreNumbered, IsAgain, IsWhole}

@@ -43,8 +43,8 @@ pub fn write_edited<D: Disk>(table: &mut GPT, disk: &mut D, edits: &[Edit]) -> R
 #[cfg(test)]
 mod tests {
     use super::*;
-    use gptman_fixtures::{samples, tables, told};
     use std::test::Fail;
+    use test_fixtures::{samples, tables, told};
 
     #[test]
     fn a_list_of_edits_is_written(rt: HostRuntime) -> std::result::Result<(), Fail> {

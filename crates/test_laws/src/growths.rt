@@ -90,8 +90,8 @@ pub fn grow_twice<D: Disk>(
 mod tests {
     use super::*;
     use gptman::MemoryDisk;
-    use gptman_fixtures::{calls, samples, tables, told};
     use std::test::Fail;
+    use test_fixtures::{calls, samples, tables, told};
 
     // A disk of 200 sectors that holds a table for 100.
     fn longer_disk(alloc: Global) -> Result<MemoryDisk> {

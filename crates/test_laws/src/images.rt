@@ -55,8 +55,8 @@ pub fn needs_writing(alloc: Global, sector_size: u64) -> Result<bool>
 #[cfg(test)]
 mod tests {
     use super::*;
-    use gptman_fixtures::{calls, samples};
     use std::test::Fail;
+    use test_fixtures::{calls, samples};
 
     #[test]
     fn a_table_is_shown(rt: HostRuntime) -> std::result::Result<(), Fail> {

@@ -160,9 +160,9 @@ pub fn ask_twice<D: Disk>(
 mod tests {
     use super::*;
     use gptedit_core::Job;
-    use gptman_fixtures::{samples, told};
     use std::process::Abort;
     use std::test::Fail;
+    use test_fixtures::{samples, told};
 
     // The table has these used entries.
     fn assert_used<R: Abort + AllocGlobal>(
@@ -210,7 +210,7 @@ mod tests {
     fn a_layout_is_asked_for_twice(rt: HostRuntime) -> std::result::Result<(), Fail> {
         let mut disk = samples::disk_of(rt.alloc(), 0, 51_200)?;
         let request = request_of_disk_1(rt.alloc())?;
-        let mut table = gptman_fixtures::tables::new_table(rt.alloc())?;
+        let mut table = test_fixtures::tables::new_table(rt.alloc())?;
         assert!(rt; table.sector_size > 0 && table.is_coherent() && table.align > 0);
         let told = ask_twice(rt.alloc(), &mut disk, &mut table, &request, &request)?;
         assert!(rt; matches!(told, Some(Outcome::Unchanged { .. })));

@@ -5,7 +5,7 @@ ghost use Rattle.std.specs.List.Sorted.{IsNonDecreasingBy};
 ghost use Rattle.gptman.specs.Place.{AreSlots};
 ghost use Rattle.gptman.specs.Sweep.{AddsGap, AddsSlot, HasNoMultiple, IsOutside, IsSlotOf};
 
-use gptman_copy::GPTHeader;
+use crate::GPTHeader;
 use std::alloc::{AllocError, Global};
 
 /// The aligned slots of the usable sectors outside of the ranges, each as (start, length) in sectors,

@@ -4,7 +4,7 @@ ghost use Rattle.std.specs.Prelude.{◌<◌};
 ghost use Rattle.std.specs.Int.{IsGcd};
 ghost use Rattle.gptman.specs.Alignment.{used_starts, IsAlignmentOf, IsGreatestUpTo};
 
-use gptman_copy::GPTPartitionEntry;
+use crate::GPTPartitionEntry;
 
 /// The alignment of a table with no used entry, in sectors.
 pub(crate) const DEFAULT_ALIGN: u64 = 2048;

@@ -6,14 +6,14 @@ ghost use Rattle.std.specs.List.Sorted.{IsNonDecreasingBy};
 ghost use Rattle.std.specs.Ordering.{nat_cmp};
 ghost use Rattle.std.specs.Cmp.Lexicographic.{slice_cmp};
 ghost use Rattle.std.specs.BTreeSet.{IsFromIterResult};
-ghost use Rattle.gptman_copy.specs.Answers.{refusal_of, Refuses};
-ghost use Rattle.gptman_copy.specs.Entry.{used_guid};
-ghost use Rattle.gptman_copy.specs.Fault.{out_of_memory};
+ghost use Rattle.gptman.specs.Answers.{refusal_of, Refuses};
+ghost use Rattle.gptman.specs.Entry.{used_guid};
+ghost use Rattle.gptman_disk.specs.Fault.{out_of_memory};
 ghost use Rattle.gptman.specs.Valid.{AreDisjoint, EndsBefore, HasGoodBoundaries, HasOwnGuids, IsValidity};
 ghost use Rattle.gptman.specs.Valid.{LiesWithin};
 
 use crate::table::covered::sorted_ranges;
-use gptman_copy::{Error, GPTHeader, GPTPartitionEntry, Result};
+use crate::{Error, GPTHeader, GPTPartitionEntry, Result};
 use std::alloc::{AllocError, Global};
 use std::collections::BTreeSet;
 

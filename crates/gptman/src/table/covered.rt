@@ -2,9 +2,9 @@
 
 ghost use Rattle.std.specs.Prelude.{◌≡◌, IfOk, filter_map};
 ghost use Rattle.std.specs.List.Sorted.{IsNonDecreasingBy, IsPermutation};
-ghost use Rattle.gptman_copy.specs.Entry.{covered_range};
+ghost use Rattle.gptman.specs.Entry.{covered_range};
 
-use gptman_copy::GPTPartitionEntry;
+use crate::GPTPartitionEntry;
 use std::alloc::{AllocError, Global};
 
 /// The first and the last sector of each used entry that does not end before it starts, by ascending

@@ -5,12 +5,12 @@ ghost use Rattle.std.specs.Prelude.{[], IfErr, IsOk};
 ghost use Rattle.std.specs.Borrow.{sem};
 ghost use Rattle.std.specs.Cmp.{partial_equiv_from_equiv};
 ghost use Rattle.std.specs.Cmp.Lexicographic.{lists_equiv};
-ghost use Rattle.gptman_copy.specs.Coding.{empty_entry};
-ghost use Rattle.gptman_copy.specs.Fault.{fault_of, out_of_memory};
-ghost use Rattle.gptman_copy.specs.contracts.codec.entry.GPTPartitionEntryEq.TheImpl.Laws.{laws-law};
+ghost use Rattle.gptman.specs.Coding.{empty_entry};
+ghost use Rattle.gptman_disk.specs.Fault.{fault_of, out_of_memory};
+ghost use Rattle.gptman.specs.contracts.codec.entry.GPTPartitionEntryEq.TheImpl.Laws.{laws-law};
 ghost use lib.Pointwise.{pointwise};
 
-use gptman_copy::{GPTPartitionEntry, Result};
+use crate::{GPTPartitionEntry, Result};
 use std::alloc::Global;
 use std::marker::Model;
 
@@ -22,7 +22,7 @@ pub struct Entries {
 
 impl Model for Entries {
     ghost use Rattle.std.specs.Prelude.{List, ◌<◌, ◌^◌, length};
-    ghost use Rattle.gptman_copy.specs.declared.codec.entry.GPTPartitionEntry.{GPTPartitionEntry};
+    ghost use Rattle.gptman.specs.declared.codec.entry.GPTPartitionEntry.{GPTPartitionEntry};
 
     ghost Value = { List GPTPartitionEntry };
 

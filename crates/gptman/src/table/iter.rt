@@ -5,7 +5,7 @@ ghost use Rattle.std.specs.Iterator.{YieldsFirstBy, item_count};
 ghost use Rattle.std.specs.List.{enumerate_from};
 ghost use Rattle.std.specs.Slice.Iter.{iter_mut_rest, iter_mut_name};
 
-use gptman_copy::GPTPartitionEntry;
+use crate::GPTPartitionEntry;
 use std::marker::Model;
 use std::slice;
 
@@ -20,7 +20,7 @@ pub struct Iter<'a> {
 impl<'a> Model for Iter<'a> {
     ghost use Rattle.std.specs.Prelude.{ℕ, List, ◌+◌, ◌<◌, ◌^◌, length};
     ghost use Rattle.std.specs.List.{enumerate_from};
-    ghost use Rattle.gptman_copy.specs.declared.codec.entry.GPTPartitionEntry.{GPTPartitionEntry};
+    ghost use Rattle.gptman.specs.declared.codec.entry.GPTPartitionEntry.{GPTPartitionEntry};
 
     ghost Value = { List (ℕ × GPTPartitionEntry) };
 

@@ -5,7 +5,7 @@ ghost use Rattle.gptman.specs.Crash.{EditListsKeepPlaces, EditsKeepPlaces, Growi
 ghost use Rattle.gptman.specs.Crash.{KeepsWhatIsRead, TakesInForm};
 ghost use Rattle.gptman.specs.Stop.{AcceptsWhatStands, HoldsWhatIsRead, ReadsWhatItHolds};
 
-use gptman_copy::Disk;
+use crate::Disk;
 
 /// A disk that holds a table of a list at one place at least, and is not read as a table that is none
 /// of them, is read as one of them. It needs nothing of the disk's layout.

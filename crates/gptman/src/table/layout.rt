@@ -1,13 +1,13 @@
 //! The stated layout: where the two copies of a table stand on a disk.
 
 ghost use Rattle.std.specs.Prelude.{◌≡◌, ◌≤◌, ◌<◌, ◌⊎◌, ◌↔◌, [], ◌∷◌, ◌+◌, ◌*◌, IsTrue};
-ghost use Rattle.gptman_copy.specs.Ranges.{AreApart, AreInside};
+ghost use Rattle.gptman_disk.specs.Ranges.{AreApart, AreInside};
 ghost use Rattle.gptman.specs.Layout.{AreInPlace, HasLayout, HasRightMarks, HasRightSectors, HasRightSizes};
 ghost use Rattle.gptman.specs.Reading.{backup, primary};
 ghost use Rattle.gptman.specs.Table.{entries_in, table_in, IsHeaderForm, IsInForm};
 
+use crate::sizes::{ENTRY_SIZE, HEADER_SIZE};
 use crate::table::GPT;
-use gptman_copy::sizes::{ENTRY_SIZE, HEADER_SIZE};
 
 impl GPT {
     /// Whether the table has the stated layout on a disk of so many bytes: the right signature, revision and

@@ -2,13 +2,13 @@
 //! program that knows no GUID partition tables.
 
 ghost use Rattle.std.specs.Prelude.{◌≡◌, ◌≤◌, ◌<◌, ◌∷◌, [], true, false, IfOk};
-ghost use Rattle.gptman_copy.specs.Answers.{refusal_of, CountsFailure, FailsPending, HasCause, RefusesUntouched};
-ghost use Rattle.gptman_copy.specs.Disk.{HasFailedOnceAtMost, Keeps, Writes};
+ghost use Rattle.gptman.specs.Answers.{refusal_of, CountsFailure, FailsPending, HasCause, RefusesUntouched};
+ghost use Rattle.gptman_disk.specs.Disk.{HasFailedOnceAtMost, Keeps, Writes};
 ghost use Rattle.gptman.specs.Mbr.{mbr_bytes, mbr_fault, mbr_range, AnswersMbr, LaysMbr};
 
+use crate::cells::{put, put_u32};
 use crate::table::GPT;
-use gptman_copy::cells::{put, put_u32};
-use gptman_copy::{Disk, Error, Result};
+use crate::{Disk, Error, Result};
 
 // The byte of the disk at which the 66 bytes begin.
 const MBR_START: u64 = 446;

@@ -3,9 +3,9 @@
 ghost use Rattle.std.specs.Prelude.{◌≡◌, ◌-◌, ◌<◌, ℕ, Some, length, option_map, position, slice_get};
 ghost use Rattle.std.specs.Prelude.{IfSome, IsSome, IsTrue, OnOk, OnErr};
 ghost use Rattle.std.specs.Borrow.{sem};
-ghost use Rattle.gptman_copy.specs.Answers.{answer_of, refusal_of};
-ghost use Rattle.gptman_copy.specs.Coding.{empty_entry};
-ghost use Rattle.gptman_copy.specs.Entry.{bytes_of, covers, ends_of};
+ghost use Rattle.gptman.specs.Answers.{answer_of, refusal_of};
+ghost use Rattle.gptman.specs.Coding.{empty_entry};
+ghost use Rattle.gptman.specs.Entry.{bytes_of, covers, ends_of};
 ghost use Rattle.gptman.specs.Lending.{LendsEntry};
 ghost use Rattle.gptman.specs.Number.{byte_range_in, entry_at, entry_of_number, has_number, number_at};
 ghost use Rattle.gptman.specs.Number.{number_fault};
@@ -14,7 +14,7 @@ ghost use Rattle.gptman.specs.Table.{entries_in};
 ghost use Rattle.gptman.specs.Valid.{IsValid};
 
 use crate::table::GPT;
-use gptman_copy::{Error, GPTPartitionEntry, Result};
+use crate::{Error, GPTPartitionEntry, Result};
 use std::ops::{Index, IndexMut, RangeInclusive};
 
 /// The entry of a number, from 1 to the length of the list.

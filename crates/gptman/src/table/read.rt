@@ -1,24 +1,24 @@
 //! Making a table for a disk, and reading the one that a disk holds.
 
 ghost use Rattle.std.specs.Prelude.{◌≡◌, ◌≢◌, ◌≤◌, ◌<◌, ◌⊎◌, Ok, replicate, IfErr, IfOk, IsTrue, OnOk};
-ghost use Rattle.gptman_copy.specs.Answers.{answer_of, is_copy_fault, is_damage};
-ghost use Rattle.gptman_copy.specs.Answers.{AnswersInMemory, CountsFailure, HasCause, Refuses, RefusesOnly};
-ghost use Rattle.gptman_copy.specs.Answers.{Settles};
-ghost use Rattle.gptman_copy.specs.Coding.{empty_entry};
-ghost use Rattle.gptman_copy.specs.Copy.{copy_at};
-ghost use Rattle.gptman_copy.specs.Disk.{HasFailedAsOften, HasFailedOnceAtMost, IsHonest, Reads, Rose};
-ghost use Rattle.gptman_copy.specs.Fault.{fault_of, io as io_fault, invalid_signature, out_of_memory, overflow};
-ghost use Rattle.gptman_copy.specs.Fit.{fit_fault, new_header, new_header_of};
+ghost use Rattle.gptman.specs.Answers.{answer_of, is_copy_fault, is_damage};
+ghost use Rattle.gptman.specs.Answers.{AnswersInMemory, CountsFailure, HasCause, Refuses, RefusesOnly};
+ghost use Rattle.gptman.specs.Answers.{Settles};
+ghost use Rattle.gptman.specs.Coding.{empty_entry};
+ghost use Rattle.gptman.specs.Copy.{copy_at};
+ghost use Rattle.gptman_disk.specs.Disk.{HasFailedAsOften, HasFailedOnceAtMost, IsHonest, Reads, Rose};
+ghost use Rattle.gptman_disk.specs.Fault.{fault_of, io as io_fault, invalid_signature, out_of_memory, overflow};
+ghost use Rattle.gptman.specs.Fit.{fit_fault, new_header, new_header_of};
 ghost use Rattle.gptman.specs.Reading.{both, copy_in, found_sector_size, primary, reading_of};
 ghost use Rattle.gptman.specs.Table.{new_table, new_table_of};
 ghost use Rattle.gptman.specs.TableReads.{copy_of, is_reading_fault, AnswersReading, CountsReading, FallsBack};
 ghost use Rattle.gptman.specs.TableReads.{IsAsRead, IsReadingFault, MayBeRead, ShowsNoSignature};
 
+use crate::copy::{last_sector, read_copy};
 use crate::table::GPT;
 use crate::table::align::{DEFAULT_ALIGN, find_alignment};
 use crate::table::entries::Entries;
-use gptman_copy::copy::{last_sector, read_copy};
-use gptman_copy::{Disk, Error, GPTHeader, GPTPartitionEntry, Result};
+use crate::{Disk, Error, GPTHeader, GPTPartitionEntry, Result};
 use std::alloc::Global;
 
 impl GPT {

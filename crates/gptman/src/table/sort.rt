@@ -3,13 +3,13 @@
 ghost use Rattle.std.specs.Prelude.{◌≡◌, [], IsOk, OnOk, OnErr, IfErr};
 ghost use Rattle.std.specs.List.Sorted.{IsPermutation, IsNonDecreasingBy, IsStableByKey};
 ghost use Rattle.std.specs.Ordering.{nat_cmp};
-ghost use Rattle.gptman_copy.specs.Fault.{fault_of, out_of_memory};
+ghost use Rattle.gptman_disk.specs.Fault.{fault_of, out_of_memory};
 ghost use Rattle.gptman.specs.Number.{with_entries};
 ghost use Rattle.gptman.specs.Order.{rank, by_rank};
 ghost use Rattle.gptman.specs.Table.{entries_in};
 
 use crate::table::GPT;
-use gptman_copy::{GPTPartitionEntry, Result};
+use crate::{GPTPartitionEntry, Result};
 use std::alloc::{AllocError, Global};
 
 impl GPT {

@@ -4,16 +4,16 @@
 
 ghost use Rattle.std.specs.Prelude.{◌≡◌, ◌<◌, ◌⊎◌, [], ◌∷◌, None, Some, if◌then◌else◌};
 ghost use Rattle.std.specs.Prelude.{IfErr, IfOk, IsTrue, OnErr, OnOk};
-ghost use Rattle.gptman_copy.specs.Answers.{refusal_of, CountsFailure, FailsPending, HasCause, IsFailure};
-ghost use Rattle.gptman_copy.specs.Answers.{Settles};
-ghost use Rattle.gptman_copy.specs.Coding.{array_bytes};
-ghost use Rattle.gptman_copy.specs.Copy.{with_checksums, IsCoherent};
-ghost use Rattle.gptman_copy.specs.Crc.{crc_of};
-ghost use Rattle.gptman_copy.specs.Disk.{HasFailedOnceAtMost, IsHonest, Keeps, Reads, Writes};
-ghost use Rattle.gptman_copy.specs.Fault.{fault_of, io as io_fault, overflow};
-ghost use Rattle.gptman_copy.specs.Ranges.{AreApart};
-ghost use Rattle.gptman_copy.specs.Write.{copy_write_fault, header_range, other_header, copy_ranges};
-ghost use Rattle.gptman_copy.specs.Write.{FitsCopy, LaysCopy, SameButSums};
+ghost use Rattle.gptman.specs.Answers.{refusal_of, CountsFailure, FailsPending, HasCause, IsFailure};
+ghost use Rattle.gptman.specs.Answers.{Settles};
+ghost use Rattle.gptman.specs.Coding.{array_bytes};
+ghost use Rattle.gptman.specs.Copy.{with_checksums, IsCoherent};
+ghost use Rattle.gptman.specs.Crc.{crc_of};
+ghost use Rattle.gptman_disk.specs.Disk.{HasFailedOnceAtMost, IsHonest, Keeps, Reads, Writes};
+ghost use Rattle.gptman_disk.specs.Fault.{fault_of, io as io_fault, overflow};
+ghost use Rattle.gptman_disk.specs.Ranges.{AreApart};
+ghost use Rattle.gptman.specs.Write.{copy_write_fault, header_range, other_header, copy_ranges};
+ghost use Rattle.gptman.specs.Write.{FitsCopy, LaysCopy, SameButSums};
 ghost use Rattle.gptman.specs.Crash.{AreReadAlone, BothSidesAfter, StopsComeInTurns, StopsKeepOthers};
 ghost use Rattle.gptman.specs.Crash.{StartsFromOne, StartsLaidOut, StartsStored, StartsSynced};
 ghost use Rattle.gptman.specs.Layout.{HasLayout};
@@ -26,10 +26,10 @@ ghost use Rattle.gptman.specs.TableWrites.{MayBeWritten, RefusesAtOnce, RefusesT
 ghost use Rattle.gptman.specs.TableWrites.{RefusesWrite};
 ghost use Rattle.gptman.specs.Valid.{IsValid};
 
+use crate::copy::write_summed;
 use crate::table::GPT;
 use crate::table::checks::check;
-use gptman_copy::copy::write_summed;
-use gptman_copy::{Disk, Error, GPTHeader, GPTPartitionEntry, Result};
+use crate::{Disk, Error, GPTHeader, GPTPartitionEntry, Result};
 
 impl GPT {
     /// Writes the table to the disk, in two copies with a sync after each, the other copy first, and

@@ -5,7 +5,7 @@ use crate::asserts::{Host, assert_used, got};
 use crate::fixtures::{image_of, partition, put_entry, remove};
 use crate::searches::{Search, assert_found, assert_maximum};
 use gptman::{Edit, GPT};
-use gptman_fixtures::calls::{apply, sort};
+use test_fixtures::calls::{apply, sort};
 
 #[test]
 fn add_partition_left(rt: HostRuntime) {

@@ -6,9 +6,9 @@ use crate::fixtures::{
     assert_finds, assert_reads, complement, holding, image_of, new_table, partition, reread,
 };
 use gptman::{Disk, Edit, GPT, GPTHeader, GPTPartitionEntry, MemoryDisk, PartitionName};
-use gptman_fixtures::calls::apply;
-use gptman_fixtures::samples::name_of_units;
 use std::process::Abort;
+use test_fixtures::calls::apply;
+use test_fixtures::samples::name_of_units;
 
 // The header at this byte of the disk.
 fn header_at(rt: &impl Abort, disk: &mut MemoryDisk, at: u64) -> GPTHeader {

@@ -6,10 +6,10 @@ use crate::fixtures::{
     assert_all, assert_reads, blank, bytes_of, holding, image_of, put_entry, read, remove, write,
 };
 use gptman::GPT;
-use gptman_fixtures::calls::has_bytes;
-use gptman_fixtures::samples::{image_on, put_mbr, write_mbr};
-use gptman_fixtures::tables;
 use std::process::Abort;
+use test_fixtures::calls::has_bytes;
+use test_fixtures::samples::{image_on, put_mbr, write_mbr};
+use test_fixtures::tables;
 
 // The image is read with this text, and with the other one where the primary header is broken.
 fn assert_both(rt: &impl Host, image: &mut [u8], sector_size: u64, said: (&str, &str)) {

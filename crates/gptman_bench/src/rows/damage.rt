@@ -4,20 +4,20 @@ use crate::asserts::{Host, got};
 use crate::fixtures::{assert_reads, blank, bytes_of, complement, new_header, partition, put};
 use crate::oracle::{header_checksum, is_read_alike};
 use gptman::{GPTHeader, GPTPartitionEntry, MemoryDisk};
-use gptman_fixtures::tables::write_copy;
 use std::process::Abort;
+use test_fixtures::tables::write_copy;
 
 // The first bytes of the two headers, of 40 sectors of 512 bytes.
 const HEADERS: [usize; 2] = [512, 19_968];
 
 // Four entries, of which two are used.
-fn four_entries(rt: &impl Host) -> [GPTPartitionEntry; 4] {
-    [
-        partition(rt, ("Foo", 0x0b), (5, 9)),
-        GPTPartitionEntry::empty(rt.alloc()),
-        partition(rt, ("Bar", 0x0c), (12, 20)),
-        GPTPartitionEntry::empty(rt.alloc()),
-    ]
+fn four_entries(rt: &impl Host) -> Vec<GPTPartitionEntry> {
+    let mut entries = Vec::new(rt.alloc());
+    for (name, sectors) in [(("Foo", 0x0b), (5, 9)), (("Bar", 0x0c), (12, 20))] {
+        got(rt, entries.push(partition(rt, name, sectors)));
+        got(rt, entries.push(GPTPartitionEntry::empty(rt.alloc())));
+    }
+    entries
 }
 
 // Writes a copy of a table of these entries, with its header, the other header and its entries in these

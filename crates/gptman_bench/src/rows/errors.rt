@@ -2,9 +2,9 @@
 
 use crate::asserts::{BOUNDARIES, Host, OVERFLOW, assert_text, got};
 use gptman::{Error, Progress};
-use gptman_fixtures::told::text_of;
 use std::fmt::Debug;
 use std::io;
+use test_fixtures::told::text_of;
 
 // The value is printed so for debugging.
 fn assert_printed(rt: &impl Host, value: &impl Debug, printed: &str) {

@@ -3,12 +3,12 @@
 use crate::asserts::{Host, assert_said, assert_same, assert_shown, got};
 use crate::fixtures::{image_of_new, new_table, put_entry, read_from, write};
 use gptman::{Disk, FileDisk, GPT, Result};
-use gptman_fixtures::samples::{are_all, put_mbr, write_mbr};
-use gptman_fixtures::tables;
 use std::fs;
 use std::fs::File;
 use std::process::Abort;
 use std::rt::Files;
+use test_fixtures::samples::{are_all, put_mbr, write_mbr};
+use test_fixtures::tables;
 
 // What tests of files take.
 trait FileHost: Abort + Files<File = File> + AllocGlobal {}

@@ -4,8 +4,8 @@
 use crate::asserts::{Host, got};
 use crate::searches::{Search, found, free_sectors, maximum};
 use gptman::GPT;
-use gptman_fixtures::samples::table_within;
 use std::process::Abort;
+use test_fixtures::samples::table_within;
 
 // The last sector of all cases.
 const LAST: u64 = 30;

@@ -1,11 +1,11 @@
 use Rattle.std.proofs.Common.{⊎_elim, inl, inr, ℕ, List, refl, sym, ◌∙◌, arith}
 use Rattle.gptman.specs.Table.{new_table_of}
-use Rattle.gptman_ends.specs.Asking.{value_ranges}
-use Rattle.gptman_ends.specs.Ends.{disk_bytes}
-use Rattle.gptman_ends.proofs.AskedPlans.{answer_asked, sector_among}
-use Rattle.gptman_ends.proofs.Middle.{ends_zero}
-use Rattle.gptman_ends.proofs.Refused.{answer_above, answer_bad, answer_fault, answer_kept, answer_lacks, answer_layout, answer_length, answer_most, answer_not_102, answer_not_18, answer_whole}
-use Rattle.gptman_ends.specs.Planning.{StopsNew}
+use Rattle.gptman_plan.specs.Asking.{value_ranges}
+use Rattle.gptman_plan.specs.Ends.{disk_bytes}
+use Rattle.gptman_plan.proofs.AskedPlans.{answer_asked, sector_among}
+use Rattle.gptman_plan.proofs.Middle.{ends_zero}
+use Rattle.gptman_plan.proofs.Refused.{answer_above, answer_bad, answer_fault, answer_kept, answer_lacks, answer_layout, answer_length, answer_most, answer_not_102, answer_not_18, answer_whole}
+use Rattle.gptman_plan.specs.Planning.{StopsNew}
 use Rattle.gptman_c.proofs.gptman_new.Goals as goal
 
 pub returns-in-Err-clause-plan : goal.returns-in-Err-clause-plan

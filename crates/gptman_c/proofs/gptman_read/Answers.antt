@@ -1,13 +1,13 @@
 use Rattle.std.proofs.Common.{◌≡◌, length, ⊎_elim, inl, inr, refl, ap, ◌∙◌}
 use Rattle.gptman.specs.Fault.{fault_of}
-use Rattle.gptman_ends.specs.Faults.{fault_number}
-use Rattle.gptman_ends.proofs.Refused.{ends_apart}
-use Rattle.gptman_ends.proofs.Told.{fault_told}
+use Rattle.gptman.specs.Fault.{fault_number}
+use Rattle.gptman_plan.proofs.Refused.{ends_apart}
+use Rattle.gptman_plan.proofs.Told.{fault_told}
 use Rattle.gptman_c.proofs.gptman_read.Goals as goal
 
 pub returns-in-Fault-clause-faults : goal.returns-in-Fault-clause-faults
 returns-in-Fault-clause-faults c = λ above below.
-    let number : c.number_of.result ≡ fault_number (fault_of c.in-Fault.fault) = c.number_of.ensures.number in
+    let number : c.number.result ≡ fault_number (fault_of c.in-Fault.fault) = c.number.ensures.number in
     ⊎_elim
     (λ none. inr (inr (number ∙ ap fault_number none)))
     (λ told. ⊎_elim (λ two. inl (number ∙ two)) (λ seven. inr (inl (number ∙ seven)))

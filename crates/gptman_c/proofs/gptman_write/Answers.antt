@@ -1,9 +1,9 @@
 use Rattle.std.proofs.Common.{⊎_elim, inl, inr, sym, ◌∙◌, arith}
-use Rattle.gptman_ends.specs.Asking.{plan_ranges}
-use Rattle.gptman_ends.proofs.AskedPlans.{answer_asked, sector_among}
-use Rattle.gptman_ends.proofs.Refused.{answer_above, answer_bad, answer_fault, answer_kept, answer_lacks, answer_layout, answer_length, answer_most, answer_not_102, answer_not_18, answer_whole}
-use Rattle.gptman_ends.specs.Planning.{StopsPlan}
-use Rattle.gptman_ends.specs.Reading.{OfEvery}
+use Rattle.gptman_plan.specs.Asking.{plan_ranges}
+use Rattle.gptman_plan.proofs.AskedPlans.{answer_asked, sector_among}
+use Rattle.gptman_plan.proofs.Refused.{answer_above, answer_bad, answer_fault, answer_kept, answer_lacks, answer_layout, answer_length, answer_most, answer_not_102, answer_not_18, answer_whole}
+use Rattle.gptman_plan.specs.Planning.{StopsPlan}
+use Rattle.gptman_plan.specs.Reading.{OfEvery}
 use Rattle.gptman_c.proofs.gptman_write.Goals as goal
 
 pub returns-in-Err-clause-plan : goal.returns-in-Err-clause-plan

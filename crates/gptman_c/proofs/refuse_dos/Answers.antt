@@ -1,5 +1,5 @@
-use Rattle.gptman_ends.specs.Ends.{disk_bytes}
-use Rattle.gptman_ends.proofs.Middle.{ends_zero}
+use Rattle.gptman_plan.specs.Ends.{disk_bytes}
+use Rattle.gptman_plan.proofs.Middle.{ends_zero}
 use Rattle.gptman_c.proofs.refuse_dos.Goals as goal
 
 pub returns-in-Unknown-clause-asked : goal.returns-in-Unknown-clause-asked

@@ -5,9 +5,9 @@ use Rattle.gptman.specs.Fault.{Fault, fault_of}
 use Rattle.gptman.specs.Table.{Table}
 use Rattle.gptman.specs.declared.table.GPT.{GPT}
 use Rattle.gptman.proofs.Commits.{write_since}
-use Rattle.gptman_copy.proofs.Outcomes.{on_err_of}
-use Rattle.gptman_copy.proofs.Readers.{reads_then}
-use Rattle.gptman_copy.proofs.Runs.{keeps_then, rose_since}
+use Rattle.gptman.proofs.Outcomes.{on_err_of}
+use Rattle.gptman.proofs.Readers.{reads_then}
+use Rattle.gptman.proofs.Runs.{keeps_then, rose_since}
 use Rattle.gptman_change.specs.Changes.{is_left, is_written, unwritten, IsSafe, LeavesChange, StartsGoodFor}
 use Rattle.gptman_change.specs.Changes.RefusesChange.{not_made, not_read, not_written}
 use Rattle.gptman_change.specs.Planning.{of_left, of_written, AlwaysKeepsPlaces, IsPlannedAs, RefusesPlan}

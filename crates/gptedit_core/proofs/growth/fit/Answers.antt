@@ -1,4 +1,4 @@
-use Rattle.gptman_copy.proofs.Readers.{both_read}
+use Rattle.gptman.proofs.Readers.{both_read}
 use Rattle.gptedit_core.proofs.growth.fit.Goals as goal
 
 pub returns-in_err-update_from-clause-reads : goal.returns-in_err-update_from-clause-reads

@@ -2,8 +2,8 @@ use Rattle.std.proofs.Common.{⊎_elim, inl, inr, ap, sym, ◌∙◌, refl, ℕ,
 use Rattle.std.proofs.lemmas.Result.{err_from_is_err_and}
 use Rattle.gptman.specs.Fault.{fault_of}
 use Rattle.gptman.specs.Layout.{HasLayout}
-use Rattle.gptman_copy.proofs.Outcomes.{on_err_of}
-use Rattle.gptman_copy.proofs.Runs.{rose_since}
+use Rattle.gptman.proofs.Outcomes.{on_err_of}
+use Rattle.gptman.proofs.Runs.{rose_since}
 use Rattle.gptedit_core.specs.Making.{IsPlannedNew}
 use Rattle.gptedit_core.specs.Making.AnswersMaking.{is_made, is_refused, is_told}
 use Rattle.gptedit_core.specs.declared.making.Made.TheVariants.{New}

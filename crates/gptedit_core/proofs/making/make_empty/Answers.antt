@@ -1,5 +1,5 @@
 use Rattle.std.proofs.Common.{ℕ, subst, rules}
-use Rattle.gptman_copy.proofs.Readers.{both_read}
+use Rattle.gptman.proofs.Readers.{both_read}
 use Rattle.gptedit_core.specs.Making.{IsFitted}
 use Rattle.gptedit_core.proofs.Anew.{is_empty}
 use Rattle.gptedit_core.proofs.making.make_empty.Goals as goal

@@ -1,5 +1,5 @@
 use Rattle.std.proofs.Common.{◌≡◌, ◌≤◌, ◌<◌, ◌-◌, ◌∷◌, [], rules, arith, subst, List, ℕ, max}
-use Rattle.gptman_copy.specs.declared.codec.entry.GPTPartitionEntry.{GPTPartitionEntry}
+use Rattle.gptman.specs.declared.codec.entry.GPTPartitionEntry.{GPTPartitionEntry}
 use Rattle.gptman.specs.Table.{entries_in}
 use Rattle.gptedit_core.proofs.Ends.{far_first, far_next, free_so_far, IsFarSoFar}
 use Rattle.gptedit_core.proofs.place.find_far.Goals as goal

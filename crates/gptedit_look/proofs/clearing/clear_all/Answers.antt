@@ -1,6 +1,6 @@
 use Rattle.std.proofs.Common.{inl, ◌+◌, drop, refl, arith}
 use Rattle.std.proofs.lemmas.List.{drop_more}
-use Rattle.gptman_copy.proofs.Runs.{keeps_then, wrote_not}
+use Rattle.gptman.proofs.Runs.{keeps_then, wrote_not}
 use Rattle.gptedit_look.proofs.Clears.{clear_wrote, set_more}
 use Rattle.gptedit_look.proofs.clearing.clear_all.Goals as goal
 

@@ -1,5 +1,5 @@
 use Rattle.std.proofs.Common.{drop}
-use Rattle.gptman_copy.specs.Disk.{IsHonest, Keeps, Writes}
+use Rattle.gptman.specs.Disk.{IsHonest, Keeps, Writes}
 use Rattle.gptedit_look.specs.Wiped.{ranges_in}
 use Rattle.gptedit_look.proofs.Clears.{AreSet}
 use Rattle.gptedit_look.proofs.clearing.clear_all.Given as goal

@@ -1,6 +1,6 @@
 use Rattle.std.proofs.Common.{true, ◌≡◌, ◌∙◌, ◌+◌, drop, inl, refl, arith}
 use Rattle.std.proofs.lemmas.List.{drop_more}
-use Rattle.gptman_copy.proofs.Runs.{keeps_then}
+use Rattle.gptman.proofs.Runs.{keeps_then}
 use Rattle.gptedit_look.specs.Wiped.{IsOfBeside}
 use Rattle.gptedit_look.proofs.Beside.{beside_then, gone_more, only_not}
 use Rattle.gptedit_look.proofs.clearing.clear_beside.Goals as goal

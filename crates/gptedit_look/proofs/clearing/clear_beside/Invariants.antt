@@ -1,5 +1,5 @@
 use Rattle.std.proofs.Common.{drop}
-use Rattle.gptman_copy.specs.Disk.{IsHonest, Keeps}
+use Rattle.gptman.specs.Disk.{IsHonest, Keeps}
 use Rattle.gptedit_look.specs.Wiped.{IsOfBeside, WritesOnly}
 use Rattle.gptedit_look.proofs.Beside.{AreGone}
 use Rattle.gptedit_look.proofs.clearing.clear_beside.Given as goal

@@ -1,5 +1,5 @@
 use Rattle.std.proofs.Common.{◌≡◌, ℕ, List, ap, subst, ◌∙◌}
-use Rattle.gptman_copy.proofs.Readers.{both_read}
+use Rattle.gptman.proofs.Readers.{both_read}
 use Rattle.gptedit_look.specs.Wiped.{header_in, IsOfBeside, IsOfOther, WritesOnly}
 use Rattle.gptedit_look.specs.declared.signatures.Place.TheVariants.{Start, End}
 use Rattle.gptedit_look.specs.declared.signatures.Signature.{Signature}

@@ -1,5 +1,5 @@
 use Rattle.std.proofs.Common.{◌⊎◌, ℕ, drop}
-use Rattle.gptman_copy.specs.Ranges.{Inside}
+use Rattle.gptman.specs.Ranges.{Inside}
 use Rattle.gptedit_look.specs.Wiped.{ranges_in, IsOfSignature}
 use Rattle.gptedit_look.proofs.clearing.push_signatures.Given as goal
 

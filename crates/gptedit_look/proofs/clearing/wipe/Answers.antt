@@ -1,6 +1,6 @@
 use Rattle.std.proofs.Common.{◌<◌, inl, List, length, refl, subst, arith}
 use Rattle.std.proofs.lemmas.Result.{err_from_is_err_and}
-use Rattle.gptman_copy.specs.Ranges.{Inside}
+use Rattle.gptman.specs.Ranges.{Inside}
 use Rattle.gptedit_look.specs.Wiped.{ranges_in, IsCleared, IsWiped}
 use Rattle.gptedit_look.specs.declared.zeros.Zeroed.{Zeroed}
 use Rattle.gptedit_look.proofs.Beside.{only_not}

@@ -1,6 +1,6 @@
 use Rattle.std.proofs.Common.{◌+◌, arith}
-use Rattle.gptman_copy.proofs.Readers.{reads_then}
-use Rattle.gptman_copy.proofs.Runs.{keeps_then}
+use Rattle.gptman.proofs.Readers.{reads_then}
+use Rattle.gptman.proofs.Runs.{keeps_then}
 use Rattle.gptedit_look.proofs.Pieces.{free_step}
 use Rattle.gptedit_look.proofs.guard.find_in_range.Goals as goal
 

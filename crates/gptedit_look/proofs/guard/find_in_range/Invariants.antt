@@ -1,5 +1,5 @@
 use Rattle.std.proofs.Common.{◌≤◌, ◌-◌, IsTrue}
-use Rattle.gptman_copy.specs.Disk.{Keeps, OnlyRead}
+use Rattle.gptman.specs.Disk.{Keeps, OnlyRead}
 use Rattle.gptedit_look.specs.Guard.{AreFree}
 use Rattle.gptedit_look.proofs.guard.find_in_range.Given as goal
 

@@ -1,4 +1,4 @@
-use Rattle.gptman_copy.proofs.Readers.{reads_then}
+use Rattle.gptman.proofs.Readers.{reads_then}
 use Rattle.gptedit_look.proofs.Pieces.{both_answer, own_refused}
 use Rattle.gptedit_look.proofs.guard.find_refused.Goals as goal
 

@@ -1,6 +1,6 @@
 use Rattle.std.proofs.Common.{◌∙◌}
-use Rattle.gptman_copy.proofs.Ranges.{within_none}
-use Rattle.gptman_copy.proofs.Runs.{wrote_then}
+use Rattle.gptman.proofs.Ranges.{within_none}
+use Rattle.gptman.proofs.Runs.{wrote_then}
 use Rattle.gptedit_look.proofs.mending.make_mbr.Goals as goal
 
 pub returns-in_err-sync-clause-wrote : goal.returns-in_err-sync-clause-wrote

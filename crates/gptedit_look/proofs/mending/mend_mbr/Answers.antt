@@ -1,8 +1,8 @@
 use Rattle.std.proofs.Common.{◌≡◌, ◌≤◌, ◌/◌, ℕ, List, [], ◌∷◌, max, ap, sym, subst, ◌∙◌, arith}
 use Rattle.gptman.specs.Mbr.{mbr_range}
-use Rattle.gptman_copy.specs.Bytes.{part}
-use Rattle.gptman_copy.proofs.Ranges.{within_self}
-use Rattle.gptman_copy.proofs.Readers.{both_read}
+use Rattle.gptman.specs.Bytes.{part}
+use Rattle.gptman.proofs.Ranges.{within_self}
+use Rattle.gptman.proofs.Readers.{both_read}
 use Rattle.gptedit_look.specs.Mended.{first_bytes, sectors_of, IsChange, IsDone, IsForeign}
 use Rattle.gptedit_look.proofs.Changes.{change_done, change_dry, plan_at}
 use Rattle.gptedit_look.proofs.Writing.{writes_read, writes_then}

@@ -1,8 +1,8 @@
 use Rattle.std.proofs.Common.{◌≡◌, ◌≤◌, ◌<◌, ◌^◌, ◌+◌, ◌*◌, ℕ, List, [], ◌∷◌, length, ap, sym, subst, ◌∙◌, arith}
 use Rattle.std.specs.Prelude.{slice_range}
 use Rattle.byteorder.specs.Endian.{little_bytes}
-use Rattle.gptman_copy.specs.Bytes.{part}
-use Rattle.gptman_copy.specs.Disk.{overlay}
+use Rattle.gptman.specs.Bytes.{part}
+use Rattle.gptman.specs.Disk.{overlay}
 use Rattle.gptedit_look.specs.Protective.{HasLength}
 use Rattle.gptedit_look.proofs.Changes.{on_ok_both}
 use Rattle.gptedit_look.proofs.Lengths.{has_length}

@@ -1,7 +1,7 @@
 use Rattle.std.proofs.Common.{◌≡◌, ◌∙◌, arith}
-use Rattle.gptman_copy.specs.Disk.{overlay}
-use Rattle.gptman_copy.proofs.Ranges.{within_none, within_range}
-use Rattle.gptman_copy.proofs.Runs.{wrote_then, wrote_wider}
+use Rattle.gptman.specs.Disk.{overlay}
+use Rattle.gptman.proofs.Ranges.{within_none, within_range}
+use Rattle.gptman.proofs.Runs.{wrote_then, wrote_wider}
 use Rattle.gptedit_look.proofs.mending.write_mbr.Goals as goal
 
 pub returns-in_err-write_all-clause-wrote : goal.returns-in_err-write_all-clause-wrote

@@ -1,4 +1,4 @@
-use Rattle.gptman_copy.specs.Disk.{Reads}
+use Rattle.gptman.specs.Disk.{Reads}
 use Rattle.gptedit_look.proofs.signatures.find_signatures.Given as goal
 
 abbrev pub invariant-loop-sector_size : goal.invariant-loop-sector_size

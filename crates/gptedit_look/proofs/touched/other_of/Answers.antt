@@ -1,4 +1,4 @@
-use Rattle.gptman_copy.specs.Write.{other_header}
+use Rattle.gptman.specs.Write.{other_header}
 use Rattle.gptedit_look.proofs.Pieces.{copy_touched_as, copy_touched_in}
 use Rattle.gptedit_look.proofs.touched.other_of.Goals as goal
 

@@ -1,5 +1,5 @@
 use Rattle.std.proofs.Common.{◌≡◌, ◌≤◌, ◌<◌, ◌-◌, ℕ, [], ◌∷◌, get_or}
-use Rattle.gptman_copy.specs.Disk.{IsHonest, Keeps, Writes}
+use Rattle.gptman.specs.Disk.{IsHonest, Keeps, Writes}
 use Rattle.gptedit_look.proofs.zeros.put_zeros.Given as goal
 
 abbrev pub invariant-loop-at : goal.invariant-loop-at

@@ -1,4 +1,4 @@
-use Rattle.gptman_copy.specs.Disk.{Reads}
+use Rattle.gptman.specs.Disk.{Reads}
 use Rattle.gptedit_salvage.proofs.reading.read_range.Given as goal
 
 abbrev pub invariant-loop-piece : goal.invariant-loop-piece

@@ -1,4 +1,4 @@
-use Rattle.gptman_copy.specs.Disk.{Reads}
+use Rattle.gptman.specs.Disk.{Reads}
 use Rattle.gptedit_salvage.proofs.search.find_copies.Given as goal
 
 abbrev pub invariant-loop-sector_size : goal.invariant-loop-sector_size

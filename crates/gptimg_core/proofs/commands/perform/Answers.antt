@@ -1,7 +1,7 @@
 use Rattle.std.proofs.Common.{inl, refl, sym, subst, ℕ, IsTrue}
 use Rattle.std.specs.Prelude.{Result, Ok, Err, IfOk}
 use Rattle.gptman.specs.declared.table.GPT.{GPT}
-use Rattle.gptman_copy.specs.declared.error.Error.{Error}
+use Rattle.gptman.specs.Error.{Error}
 use Rattle.gptman_change.specs.Planning.{of_left, of_written, IsAnswer}
 use Rattle.gptman_change.proofs.Written.{is_made}
 use Rattle.gptimg_core.specs.Changes.{report_of, IsMade}

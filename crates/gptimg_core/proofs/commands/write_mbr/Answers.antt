@@ -1,6 +1,6 @@
 use Rattle.std.proofs.Common.{rules}
-use Rattle.gptman_copy.proofs.Ranges.{within_none}
-use Rattle.gptman_copy.proofs.Runs.{wrote_then}
+use Rattle.gptman.proofs.Ranges.{within_none}
+use Rattle.gptman.proofs.Runs.{wrote_then}
 use Rattle.gptimg_core.proofs.commands.write_mbr.Goals as goal
 
 pub returns-in_err-sync-clause-wrote : goal.returns-in_err-sync-clause-wrote

@@ -9,9 +9,9 @@ use Rattle.gptman.specs.Stop.{IsStored}
 use Rattle.gptman.specs.Table.{new_table, table_in}
 use Rattle.gptman.specs.Crash.{StartsLaidOut}
 use Rattle.gptman.specs.declared.table.GPT.{GPT}
-use Rattle.gptman_copy.proofs.Outcomes.{on_err_of}
-use Rattle.gptman_copy.proofs.Ranges.{within_none, within_self}
-use Rattle.gptman_copy.proofs.Runs.{rose_since, wrote_then, wrote_wider}
+use Rattle.gptman.proofs.Outcomes.{on_err_of}
+use Rattle.gptman.proofs.Ranges.{within_none, within_self}
+use Rattle.gptman.proofs.Runs.{rose_since, wrote_then, wrote_wider}
 use Rattle.gptman.specs.TableWrites.{table_ranges, RefusesWrite}
 use Rattle.gptimg_core.specs.Refusals.RefusesNew.{not_written}
 use Rattle.gptman.proofs.Commits.{write_since}

@@ -1,7 +1,7 @@
 use Rattle.std.proofs.Common.{ℕ, ◌+◌, ◌-◌, max, arith, refl}
 use Rattle.std.proofs.lemmas.Option.{MatchOption-at_some}
 use Rattle.gptman.specs.Place.{IsFreeIn, IsFirstPlace, HasNoPlace}
-use Rattle.gptman_copy.specs.declared.codec.entry.GPTPartitionEntry.{GPTPartitionEntry}
+use Rattle.gptman.specs.declared.codec.entry.GPTPartitionEntry.{GPTPartitionEntry}
 use Rattle.gptman_bench.proofs.callers.add_first.Goals as goal
 
 pub returns-clause-valid : goal.returns-clause-valid

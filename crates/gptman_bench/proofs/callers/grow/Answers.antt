@@ -1,7 +1,7 @@
 use Rattle.std.proofs.Common.{◌≡◌, [], ◌∷◌, ap}
 use Rattle.gptman.specs.Disk.{DiskState}
 use Rattle.gptman.specs.Table.{table_in}
-use Rattle.gptman_copy.specs.declared.codec.header.GPTHeader.{GPTHeader}
+use Rattle.gptman.specs.declared.codec.header.GPTHeader.{GPTHeader}
 use Rattle.gptman.specs.declared.table.GPT.{GPT}
 use Rattle.gptman.specs.Table.{grow_to}
 use Rattle.gptman_bench.proofs.Growing.{grown_held, grown_stored, still_held}

@@ -1,5 +1,5 @@
 use Rattle.std.proofs.Common.{rules, subst, sym, List, ℕ}
-use Rattle.gptman_copy.specs.Ranges.{AreApart, AreInside}
+use Rattle.gptman_disk.specs.Ranges.{AreApart, AreInside}
 use Rattle.gptman.specs.Table.{table_in}
 use Rattle.gptman.proofs.Layouts.{four_at}
 use Rattle.gptman.proofs.table.GPT.are_in_place.Goals as goal

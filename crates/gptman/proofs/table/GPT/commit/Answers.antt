@@ -1,17 +1,17 @@
 use Rattle.std.proofs.Common.{◌≡◌, ◌≢◌, ⊎_elim, ℕ, List, inr, refl, [], Result, Err, None, rules, sym, ap, ◌∙◌, subst}
 use Rattle.std.specs.Prelude.{IfErr}
-use Rattle.gptman_copy.specs.Disk.{OnlyRead, Wrote}
+use Rattle.gptman_disk.specs.Disk.{OnlyRead, Wrote}
 use Rattle.gptman.specs.Commit.{RefusesEdit}
 use Rattle.gptman.specs.Edit.{after_edit, edit_fault}
-use Rattle.gptman_copy.specs.Fault.{fault_of, no_space_left, overflow}
-use Rattle.gptman_copy.specs.Ranges.{AreApart}
+use Rattle.gptman_disk.specs.Fault.{fault_of, no_space_left, overflow}
+use Rattle.gptman_disk.specs.Ranges.{AreApart}
 use Rattle.gptman.specs.TableWrites.{other_with_checksums, table_ranges, HasBothCopies}
-use Rattle.gptman_copy.specs.declared.codec.header.GPTHeader.{GPTHeader}
-use Rattle.gptman_copy.specs.declared.error.Error.{Error}
+use Rattle.gptman.specs.declared.codec.header.GPTHeader.{GPTHeader}
+use Rattle.gptman_disk.specs.declared.error.Error.{Error}
 use Rattle.gptman.proofs.CommitFailure.{edited_after, still_after}
 use Rattle.gptman.proofs.Commits.{coherent_still, edit_keeps, keeps_both, layout_still, leaves_edited, leaves_kept, ranges_still, refused_edit, refused_room, stored_edited, sums_keep}
-use Rattle.gptman_copy.proofs.Outcomes.{if_err_of, on_err_of}
-use Rattle.gptman_copy.proofs.Runs.{wrote_not}
+use Rattle.gptman.proofs.Outcomes.{if_err_of, on_err_of}
+use Rattle.gptman.proofs.Runs.{wrote_not}
 use Rattle.gptman.proofs.table.GPT.commit.Given.{Over}
 use Rattle.gptman.proofs.table.GPT.commit.Goals as goal
 

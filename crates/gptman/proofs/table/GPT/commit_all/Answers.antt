@@ -2,7 +2,7 @@ use Rattle.std.proofs.Common.{◌≡◌, ◌++◌, List, [], ◌∷◌, length, 
 use Rattle.std.specs.Vec.Iter.{into_iter_items}
 use Rattle.gptman.specs.Commit.{reached, tables_to}
 use Rattle.gptman.specs.Crash.{StartsFromOne}
-use Rattle.gptman_copy.specs.Fault.{fault_of}
+use Rattle.gptman_disk.specs.Fault.{fault_of}
 use Rattle.gptman.specs.Stop.{StopsHold}
 use Rattle.gptman.specs.Table.{table_in}
 use Rattle.gptman.specs.declared.edit.Edit.{Edit}

@@ -1,9 +1,9 @@
 use Rattle.std.proofs.Common.{◌≡◌, ℕ, List, subst, sym}
 use Rattle.std.specs.List.{filter_map}
 use Rattle.std.specs.List.Sorted.{IsPermutation}
-use Rattle.gptman_copy.specs.Entry.{covered_range}
+use Rattle.gptman.specs.Entry.{covered_range}
 use Rattle.gptman.specs.Table.{entries_in}
-use Rattle.gptman_copy.specs.declared.codec.entry.GPTPartitionEntry.{GPTPartitionEntry}
+use Rattle.gptman.specs.declared.codec.entry.GPTPartitionEntry.{GPTPartitionEntry}
 use Rattle.gptman.proofs.Covered.{ordered_ranges}
 use Rattle.gptman.proofs.FreeSectors.{slots_of_entries}
 use Rattle.gptman.proofs.table.GPT.find_free_sectors.Goals as goal

@@ -1,12 +1,12 @@
 use Rattle.std.proofs.Common.{◌≡◌, ◌⊎◌, ⊎_elim, true, false, inl, inr, sym, ap, subst, ◌∙◌, List, ℕ, IsTrue, Ok, length, rules}
 use Rattle.std.specs.Prelude.{IfOk}
-use Rattle.gptman_copy.specs.Copy.{Copy}
-use Rattle.gptman_copy.specs.Disk.{Rose}
-use Rattle.gptman_copy.specs.Fault.{fault_of, is_signature_fault}
+use Rattle.gptman.specs.Copy.{Copy}
+use Rattle.gptman_disk.specs.Disk.{Rose}
+use Rattle.gptman_disk.specs.Fault.{fault_of, is_signature_fault}
 use Rattle.gptman.specs.Reading.{found_sector_size, reading_of}
 use Rattle.gptman.proofs.Fallback.{found_first, found_ok, found_second, second_counts, second_read, signature_fault}
-use Rattle.gptman_copy.proofs.Readers.{both_read}
-use Rattle.gptman_copy.proofs.Runs.{rose_before, rose_since}
+use Rattle.gptman.proofs.Readers.{both_read}
+use Rattle.gptman.proofs.Runs.{rose_before, rose_since}
 use Rattle.gptman.proofs.table.GPT.find_from.Given.{Over}
 use Rattle.gptman.proofs.table.GPT.find_from.Goals as goal
 use Rattle.gptman.proofs.table.GPT.find_from.Goals.{After-read_from-2}

@@ -1,7 +1,7 @@
 use Rattle.std.proofs.Common.{◌≢◌, ⊎_elim, inr, sym, IsTrue, rules}
-use Rattle.gptman_copy.specs.Fault.{fault_of, out_of_memory}
+use Rattle.gptman_disk.specs.Fault.{fault_of, out_of_memory}
 use Rattle.gptman.proofs.Fallback.{accepted_after, answer_after, fell_back, refused_after, taken_first, FellBack}
-use Rattle.gptman_copy.proofs.Readers.{both_read}
+use Rattle.gptman.proofs.Readers.{both_read}
 use Rattle.gptman.proofs.table.GPT.read_from.Given.{Over}
 use Rattle.gptman.proofs.table.GPT.read_from.Goals as goal
 

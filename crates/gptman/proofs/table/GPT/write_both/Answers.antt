@@ -1,13 +1,13 @@
 use Rattle.std.proofs.Common.{◌≡◌, ◌∙◌, refl, sym, ap, subst, ℕ, List, IsTrue}
 use Rattle.std.proofs.lemmas.Result.{err_from_is_err_and}
-use Rattle.gptman_copy.specs.Copy.{with_checksums}
-use Rattle.gptman_copy.specs.Disk.{LeavesPending, Wrote}
-use Rattle.gptman_copy.specs.Write.{copy_write_fault, header_range, other_header, copy_ranges, HasBytes}
+use Rattle.gptman.specs.Copy.{with_checksums}
+use Rattle.gptman_disk.specs.Disk.{LeavesPending, Wrote}
+use Rattle.gptman.specs.Write.{copy_write_fault, header_range, other_header, copy_ranges, HasBytes}
 use Rattle.gptman.specs.Table.{entries_in}
-use Rattle.gptman_copy.specs.declared.codec.entry.GPTPartitionEntry.{GPTPartitionEntry}
-use Rattle.gptman_copy.specs.declared.codec.header.GPTHeader.{GPTHeader}
-use Rattle.gptman_copy.proofs.Outcomes.{on_err_of}
-use Rattle.gptman_copy.proofs.Runs.{rose_since}
+use Rattle.gptman.specs.declared.codec.entry.GPTPartitionEntry.{GPTPartitionEntry}
+use Rattle.gptman.specs.declared.codec.header.GPTHeader.{GPTHeader}
+use Rattle.gptman.proofs.Outcomes.{on_err_of}
+use Rattle.gptman.proofs.Runs.{rose_since}
 use Rattle.gptman.proofs.TwoCopies.{both_allowed, copied_stand, room_inside, wrote_other, wrote_own}
 use Rattle.gptman.proofs.TwoSides.{ComesFor, IsCopied, after_of, both_done, copied, first_fails, second_fails, stored_of, turns_of}
 use Rattle.gptman.proofs.table.GPT.write_both.Given.{Over}

@@ -1,19 +1,19 @@
 use Rattle.std.proofs.Common.{◌∙◌, ⊎_elim, inr, ap, sym, [], ◌∷◌, IsTrue, Err}
 use Rattle.std.specs.Prelude.{IfErr, OnOk}
 use Rattle.std.proofs.lemmas.Result.{err_from_is_err_and, on_err_weaker, on_ok_weaker}
-use Rattle.gptman_copy.specs.Answers.{IsFailure}
-use Rattle.gptman_copy.specs.Disk.{Wrote}
-use Rattle.gptman_copy.specs.Fault.{fault_of}
+use Rattle.gptman.specs.Answers.{IsFailure}
+use Rattle.gptman_disk.specs.Disk.{Wrote}
+use Rattle.gptman_disk.specs.Fault.{fault_of}
 use Rattle.gptman.specs.Crash.{AreReadAlone, StartsFromOne, StartsLaidOut, StartsSynced, StopsComeInTurns}
 use Rattle.gptman.specs.Stop.{IsStored, StopsHold}
 use Rattle.gptman.specs.Table.{Table, entries_in, table_in}
 use Rattle.gptman.specs.TableWrites.{table_ranges, table_write_fault, HasRoomOn, MayBeWritten}
 use Rattle.gptman.specs.TableWrites.RefusesWrite.{disk_failed}
 use Rattle.gptman.specs.Valid.{IsValid}
-use Rattle.gptman_copy.specs.declared.codec.header.GPTHeader.{GPTHeader}
-use Rattle.gptman_copy.proofs.Outcomes.{if_err_weaker, on_ok_of}
-use Rattle.gptman_copy.proofs.Readers.{reads_not}
-use Rattle.gptman_copy.proofs.Runs.{rose_since}
+use Rattle.gptman.specs.declared.codec.header.GPTHeader.{GPTHeader}
+use Rattle.gptman.proofs.Outcomes.{if_err_weaker, on_ok_of}
+use Rattle.gptman.proofs.Readers.{reads_not}
+use Rattle.gptman.proofs.Runs.{rose_since}
 use Rattle.gptman.proofs.Accepted.{checked_valid, failed_or_memory, failure_rose, layout_fits, write_refused}
 use Rattle.gptman.proofs.Argument.{only_read}
 use Rattle.gptman.proofs.OneGood.{leaves_outside, one_is_synced, one_of_stored}

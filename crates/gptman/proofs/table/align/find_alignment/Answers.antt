@@ -1,8 +1,8 @@
 use Rattle.std.proofs.Common.{◌≡◌, ℕ, ◌+◌, ◌≤◌, ◌<◌, List, [], ◌∷◌, ◌++◌, length, take, true, false, sym, ap, ◌∙◌, subst, arith, get_or}
 use Rattle.std.proofs.lemmas.List.{take_all, length_push}
 use Rattle.std.specs.Int.{IsGcd}
-use Rattle.gptman_copy.specs.Entry.{is_used}
-use Rattle.gptman_copy.specs.declared.codec.entry.GPTPartitionEntry.{GPTPartitionEntry}
+use Rattle.gptman.specs.Entry.{is_used}
+use Rattle.gptman.specs.declared.codec.entry.GPTPartitionEntry.{GPTPartitionEntry}
 use Rattle.gptman.specs.Alignment.{used_starts}
 use Rattle.gptman.proofs.CommonDivisor.{IsGreatestCommonDivisor, common_more, starts_used, starts_unused, alignment_zero, alignment_alone, alignment_other}
 use Rattle.gptman.proofs.table.align.find_alignment.Goals as goal

@@ -1,7 +1,7 @@
 use Rattle.std.proofs.Common.{◌≡◌, ◌≢◌, ℕ, List, subst, sym, ◌∙◌}
 use Rattle.std.specs.List.{AllPairs, filter_map}
 use Rattle.std.proofs.lemmas.Result.{IfOk-weaker}
-use Rattle.gptman_copy.specs.Entry.{used_guid}
+use Rattle.gptman.specs.Entry.{used_guid}
 use Rattle.gptman.proofs.Guids.{guids_pairs}
 use Rattle.gptman.proofs.table.checks.have_own_guids.Goals as goal
 

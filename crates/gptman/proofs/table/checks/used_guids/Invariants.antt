@@ -1,6 +1,6 @@
 use Rattle.std.proofs.Common.{◌≡◌, take}
 use Rattle.std.specs.List.{filter_map}
-use Rattle.gptman_copy.specs.Entry.{used_guid}
+use Rattle.gptman.specs.Entry.{used_guid}
 use Rattle.gptman.proofs.table.checks.used_guids.Given as goal
 
 abbrev pub invariant-loop-entry : goal.invariant-loop-entry

@@ -1,6 +1,6 @@
 use Rattle.std.proofs.Common.{◌≡◌, take}
 use Rattle.std.specs.List.{filter_map}
-use Rattle.gptman_copy.specs.Entry.{covered_range}
+use Rattle.gptman.specs.Entry.{covered_range}
 use Rattle.gptman.proofs.table.covered.covered_ranges.Given as goal
 
 abbrev pub invariant-loop-entry : goal.invariant-loop-entry

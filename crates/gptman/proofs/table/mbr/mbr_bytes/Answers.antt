@@ -2,7 +2,7 @@ use Rattle.std.proofs.Common.{◌≡◌, ℕ, ◌-◌, ◌/◌, min, List, [], �
 use Rattle.std.specs.Prelude.{if◌then◌else◌}
 use Rattle.byteorder.specs.Endian.{little_bytes}
 use Rattle.gptman.specs.Mbr.{mbr_bytes}
-use Rattle.gptman_copy.proofs.Assembly.{written_none, written_more, written_kept, written_all}
+use Rattle.gptman.proofs.Assembly.{written_none, written_more, written_kept, written_all}
 use Rattle.gptman.proofs.table.mbr.mbr_bytes.Goals as goal
 use Rattle.gptman.proofs.table.mbr.mbr_bytes.Goals.{then-bootable, else-bootable}
 

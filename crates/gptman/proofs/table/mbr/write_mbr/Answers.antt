@@ -1,8 +1,8 @@
 use Rattle.std.proofs.Common.{◌≡◌, length, arith, ap, ◌∙◌}
-use Rattle.gptman_copy.specs.Disk.{overlay}
-use Rattle.gptman_copy.proofs.Ranges.{grown_since, within_none, within_range}
-use Rattle.gptman_copy.proofs.Readers.{reads_then}
-use Rattle.gptman_copy.proofs.Runs.{wrote_then, wrote_wider}
+use Rattle.gptman_disk.specs.Disk.{overlay}
+use Rattle.gptman_disk.proofs.Ranges.{grown_since, within_none, within_range}
+use Rattle.gptman.proofs.Readers.{reads_then}
+use Rattle.gptman.proofs.Runs.{wrote_then, wrote_wider}
 use Rattle.gptman.specs.Mbr.{mbr_bytes}
 use Rattle.gptman.proofs.table.mbr.write_mbr.Goals as goal
 

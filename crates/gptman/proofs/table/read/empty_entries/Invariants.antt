@@ -1,5 +1,5 @@
 use Rattle.std.proofs.Common.{◌≡◌, replicate}
-use Rattle.gptman_copy.specs.Coding.{empty_entry}
+use Rattle.gptman.specs.Coding.{empty_entry}
 use Rattle.gptman.proofs.table.read.empty_entries.Given as goal
 
 abbrev pub invariant-loop : goal.invariant-loop

@@ -1,11 +1,11 @@
 use Rattle.std.proofs.Common.{◌≡◌, ◌≤◌, ⊎_elim, ℕ, ◌-◌, ◌*◌, ◌/◌, List, length, Err, sym, ap, ◌∙◌, arith}
 use Rattle.gptman.specs.TableReads.{copy_of, read, no_memory, no_backup}
-use Rattle.gptman_copy.specs.Copy.{copy_at}
-use Rattle.gptman_copy.specs.Fault.{fault_of, io}
+use Rattle.gptman.specs.Copy.{copy_at}
+use Rattle.gptman_disk.specs.Fault.{fault_of, io}
 use Rattle.gptman.specs.Reading.{backup, copy_in}
 use Rattle.gptman.proofs.Fallback.{answer_refused, backup_long, both_io, fallback_long, refused_answer}
-use Rattle.gptman_copy.proofs.Readers.{both_read, reads_then}
-use Rattle.gptman_copy.proofs.Runs.{keeps_then, rose_since}
+use Rattle.gptman.proofs.Readers.{both_read, reads_then}
+use Rattle.gptman.proofs.Runs.{keeps_then, rose_since}
 use Rattle.gptman.proofs.table.read.read_backup.Goals as goal
 use Rattle.gptman.proofs.Fallback.{second_copy}
 

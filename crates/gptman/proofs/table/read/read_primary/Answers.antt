@@ -1,7 +1,7 @@
 use Rattle.gptman.specs.TableReads.{copy_of}
 use Rattle.gptman.specs.Reading.{copy_in}
-use Rattle.gptman_copy.proofs.CopyParts.{copy_moved}
-use Rattle.gptman_copy.proofs.Readers.{answer_since}
+use Rattle.gptman.proofs.CopyParts.{copy_moved}
+use Rattle.gptman.proofs.Readers.{answer_since}
 use Rattle.gptman.proofs.table.read.read_primary.Goals as goal
 
 pub returns-clause-answer : goal.returns-clause-answer

@@ -1,8 +1,8 @@
 use Rattle.std.proofs.Common.{◌≡◌, ◌≢◌, true, sym, subst, rules}
 use Rattle.std.specs.Prelude.{IsTrue}
-use Rattle.gptman_copy.specs.Answers.{is_copy_fault}
+use Rattle.gptman.specs.Answers.{is_copy_fault}
 use Rattle.gptman.specs.TableReads.{is_reading_fault}
-use Rattle.gptman_copy.specs.Fault.{Fault, fault_of, io, out_of_memory}
+use Rattle.gptman_disk.specs.Fault.{Fault, fault_of, io, out_of_memory}
 use Rattle.gptman.proofs.Fallback.{both_kinds, damage_from}
 use Rattle.gptman.proofs.table.read.settle.Goals as goal
 

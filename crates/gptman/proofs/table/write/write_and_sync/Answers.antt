@@ -1,11 +1,11 @@
 use Rattle.std.proofs.Common.{[], ◌∷◌, inr, ℕ}
 use Rattle.std.specs.List.{list_all}
-use Rattle.gptman_copy.specs.Fault.{overflow, no_space_left}
-use Rattle.gptman_copy.specs.Write.{is_addressable, is_inside, copy_ranges}
-use Rattle.gptman_copy.proofs.FirstFailing.{tests_pass}
-use Rattle.gptman_copy.proofs.Outcomes.{on_err_of}
-use Rattle.gptman_copy.proofs.Ranges.{within_none, within_then}
-use Rattle.gptman_copy.proofs.Runs.{wrote_then}
+use Rattle.gptman_disk.specs.Fault.{overflow, no_space_left}
+use Rattle.gptman.specs.Write.{is_addressable, is_inside, copy_ranges}
+use Rattle.gptman.proofs.FirstFailing.{tests_pass}
+use Rattle.gptman.proofs.Outcomes.{on_err_of}
+use Rattle.gptman_disk.proofs.Ranges.{within_none, within_then}
+use Rattle.gptman.proofs.Runs.{wrote_then}
 use Rattle.gptman.proofs.table.write.write_and_sync.Goals as goal
 
 pub write_summed-requires-clause-inside : goal.write_summed-requires-clause-inside

@@ -1,5 +1,0 @@
-use Rattle.std.proofs.Common.{rules}
-use Rattle.gptman_copy.proofs.codec.header.GPTHeader.is_inside.Goals as goal
-
-pub returns-then-end_of_header-from : goal.returns-then-end_of_header-from
-returns-then-end_of_header-from c = search rules

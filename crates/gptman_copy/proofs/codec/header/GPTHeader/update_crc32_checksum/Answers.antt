@@ -1,5 +1,0 @@
-use Rattle.std.proofs.Common.{rules}
-use Rattle.gptman_copy.proofs.codec.header.GPTHeader.update_crc32_checksum.Goals as goal
-
-pub returns : goal.returns
-returns c = search rules

@@ -1,5 +1,0 @@
-use Rattle.std.proofs.Common.{rules}
-use Rattle.gptman_copy.proofs.codec.name.PartitionName.units.Goals as goal
-
-pub returns : goal.returns
-returns c = search rules

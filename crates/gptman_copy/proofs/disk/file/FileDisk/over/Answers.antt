@@ -1,5 +1,0 @@
-use Rattle.std.proofs.Common.{rules}
-use Rattle.gptman_copy.proofs.disk.file.FileDisk.over.Goals as goal
-
-pub returns-clause-position : goal.returns-clause-position
-returns-clause-position c = search rules

@@ -1,5 +1,0 @@
-use Rattle.std.proofs.Common.{rules}
-use Rattle.gptman_copy.proofs.disk.memory.MemoryDisk.with_fuse.Goals as goal
-
-pub returns-clause-fuse : goal.returns-clause-fuse
-returns-clause-fuse c = search rules

@@ -1,0 +1,417 @@
+//! A disk in memory, which can be stopped.
+//!
+//! It keeps a record of its writes and syncs. A stop goes through that record and makes of it one
+//! of the disks that a crash may leave. A fuse lets every call from a chosen one on fail.
+
+ghost use Rattle.std.specs.Prelude.{◌≡◌, ◌≤◌, ◌+◌, ◌<◌, ◌^◌, ◌⊎◌, ◌↔◌, [], ◌∷◌, true, false, length};
+ghost use Rattle.std.specs.Prelude.{Some, None};
+ghost use Rattle.std.specs.Prelude.{IfOk, IfErr, OnOk, OnErr, IsOk, IsErr, IsTrue};
+ghost use Rattle.std.specs.List.{list_all};
+ghost use Rattle.std.specs.IoError.{error_kind};
+ghost use Rattle.std.specs.declared.io.ErrorKind.TheVariants.{OutOfMemory};
+ghost use Rattle.gptman_disk.specs.Disk.{next_bytes, next_range, overlay, HasFailedAsOften};
+ghost use Rattle.gptman_disk.specs.Disk.{HasFailedOnce, HasNext, IsCountedOnce};
+ghost use Rattle.gptman_disk.specs.Disk.{Image, IsFresh, IsHonest, IsLaid};
+ghost use Rattle.gptman_disk.specs.Disk.{CoverTheSame, Keeps, MayBeLaid, Moves, PassesEnd, Reads};
+ghost use Rattle.gptman_disk.specs.Disk.{ReadsOnAsBefore, Rose};
+ghost use Rattle.gptman_disk.specs.Disk.{StandsAt, StaysAt, Untouched, Writes};
+ghost use Rattle.gptman_disk.specs.Memory.{after_call, event_fits, memory_sound, memory_state, serves};
+ghost use Rattle.gptman_disk.specs.Memory.{view_of, AddsPending};
+
+use super::{Disk, count_failure, passes_end, past_end};
+use crate::error::Result;
+use std::alloc::Global;
+use std::io;
+
+/// What a stop leaves of one pending write.
+#[derive(Clone, Copy, Debug, PartialEq, Eq)]
+pub enum Fate {
+    /// What was there before the write.
+    Old,
+    /// The bytes of the write.
+    New,
+    /// This byte, over the whole range of the write.
+    Garbage(u8),
+}
+
+// A write: its first byte, its bytes, and whether the device did it.
+#[derive(Drop)]
+struct Written {
+    at: u64,
+    bytes: Vec<u8>,
+    done: bool,
+}
+
+#[derive(Drop)]
+enum Event {
+    Write(Written),
+    Sync,
+}
+
+/// A disk over bytes in memory. It is honest, and keeps each of its writes and syncs in a record.
+///
+/// A write or sync whose record finds no memory changes nothing, and fails as a device does.
+#[derive(Drop)]
+pub struct MemoryDisk {
+    alloc: Global,
+    start: Vec<u8>,
+    bytes: Vec<u8>,
+    position: u64,
+    fuse: Option<u64>,
+    failures: u64,
+    events: Vec<Event>,
+    ghost replays: { bytes.items ≡ view_of start.items events.items },
+    ghost fits: { list_all (event_fits (length start.items)) events.items ≡ true },
+    ghost size: { length bytes.items ≡ length start.items },
+    ghost small: { length bytes.items < 2 ^ 64 },
+}
+
+impl MemoryDisk {
+    ghost use Rattle.gptman_disk.specs.Fault.{fault_of, out_of_memory};
+    ghost use Rattle.gptman_disk.specs.Fate.{bytes_left, calls_left, history_of};
+
+    /// A disk of these bytes, all of them stored, at position 0, that serves every call.
+    ///
+    /// It keeps a copy of the bytes; `OutOfMemory` where there is no room for it.
+    pub fn new(alloc: Global, bytes: Vec<u8>) -> Result<MemoryDisk>
+        ensures refused { IfErr result (λ e. fault_of e ≡ out_of_memory) }
+        ensures value { IfOk result (λ disk. IsFresh bytes.items (⟦<MemoryDisk as Disk>⟧.state disk)) }
+        ensures fuse { IfOk result (λ disk. calls_left disk ≡ None) }
+    {
+        Ok(MemoryDisk {
+            alloc,
+            start: bytes.to_vec(alloc)?,
+            bytes,
+            position: 0,
+            fuse: None,
+            failures: 0,
+            events: Vec::new(alloc),
+        })
+    }
+
+    /// A disk of these bytes, as `new` makes it, of which the first `calls` calls are served and
+    /// every later one fails.
+    ///
+    /// `OutOfMemory` where there is no room for the copy of the bytes.
+    pub fn with_fuse(alloc: Global, bytes: Vec<u8>, calls: u64) -> Result<MemoryDisk>
+        ensures refused { IfErr result (λ e. fault_of e ≡ out_of_memory) }
+        ensures value { IfOk result (λ disk. IsFresh bytes.items (⟦<MemoryDisk as Disk>⟧.state disk)) }
+        ensures fuse { IfOk result (λ disk. calls_left disk ≡ Some calls) }
+    {
+        let mut disk = MemoryDisk::new(alloc, bytes)?;
+        disk.fuse = Some(calls);
+        Ok(disk)
+    }
+
+    /// The disk that a stop leaves, with all of its bytes stored, at position 0, with no fuse.
+    ///
+    /// It has the bytes at the last sync that succeeded, or at the making, and the writes since
+    /// then in their order, each with its fate. A write with no fate of its own has `Old`, and
+    /// fates behind the last write are ignored. `OutOfMemory` where there is no room for the bytes.
+    pub fn stop(self, fates: &[Fate]) -> Result<MemoryDisk>
+        ensures refused { IfErr result (λ e. fault_of e ≡ out_of_memory) }
+        ensures image { IfOk result (λ disk. Image (⟦<MemoryDisk as Disk>⟧.state self)
+            (⟦<MemoryDisk as Disk>⟧.state disk).view) }
+        ensures value { IfOk result (λ disk. IsFresh (bytes_left fates.now (history_of self))
+            (⟦<MemoryDisk as Disk>⟧.state disk)) }
+        ensures fuse { IfOk result (λ disk. calls_left disk ≡ None) }
+    {
+        let mut view = self.start.to_vec(self.alloc)?;
+        let mut left = self.start.to_vec(self.alloc)?;
+        let mut next = 0usize;
+        for event in &self.events {
+            match event {
+                Event::Sync => {
+                    left = view.to_vec(self.alloc)?;
+                    next = 0;
+                }
+                Event::Write(written) => {
+                    let fate = fates.get(next).copied().unwrap_or(Fate::Old);
+                    next += 1;
+                    written.leave(&mut left, fate);
+                    if written.done {
+                        lay(&mut view, written.at as usize, &written.bytes);
+                    }
+                }
+            }
+        }
+        MemoryDisk::new(self.alloc, left)
+    }
+
+    /// The bytes that a read gives, from the first to the last.
+    pub fn bytes(&self) -> &[u8]
+        ensures { result.now ≡ (⟦<MemoryDisk as Disk>⟧.state self.now).view }
+    {
+        &self.bytes
+    }
+}
+
+impl Written {
+    ghost use Rattle.gptman_disk.specs.Fate.{fate_step};
+
+    // Does with these bytes what the fate of this write says.
+    fn leave(&self, bytes: &mut Vec<u8>, fate: Fate)
+        requires { self.now.at + length self.now.bytes.items ≤ length bytes.old.items }
+        ensures after { bytes.new.items ≡ fate_step fate bytes.old.items self.now.at self.now.bytes.items }
+        ensures len { length bytes.new.items ≡ length bytes.old.items }
+    {
+        let at = self.at as usize;
+        match fate {
+            Fate::Old => {}
+            Fate::New => lay(bytes, at, &self.bytes),
+            Fate::Garbage(byte) => bytes[at..at + self.bytes.len()].fill(byte),
+        }
+    }
+}
+
+// Lays these bytes over others.
+fn lay(bytes: &mut Vec<u8>, at: usize, over: &[u8])
+    requires { at + length over.now ≤ length bytes.old.items }
+    ensures after { bytes.new.items ≡ overlay bytes.old.items at over.now }
+    ensures len { length bytes.new.items ≡ length bytes.old.items }
+{
+    bytes[at..at + over.len()].copy_from_slice(over);
+}
+
+// Whether one more call is served. It counts the call.
+fn is_served(fuse: &mut Option<u64>) -> bool
+    ensures answers { result ≡ serves fuse.old }
+    ensures counts { fuse.new ≡ after_call fuse.old }
+{
+    match *fuse {
+        None => true,
+        Some(0) => false,
+        Some(calls) => {
+            *fuse = Some(calls - 1);
+            true
+        }
+    }
+}
+
+// The failure of a device, which is counted.
+fn fail(failures: &mut u64) -> io::Error
+    ensures once { IsCountedOnce failures.old failures.new }
+{
+    count_failure(failures);
+    io::Error::other("the device failed")
+}
+
+// The failure of a disk that has no memory for its record, which is counted.
+fn lack_memory(failures: &mut u64) -> io::Error
+    ensures once { IsCountedOnce failures.old failures.new }
+    ensures kind { error_kind result ≡ OutOfMemory }
+{
+    count_failure(failures);
+    io::Error::new(io::ErrorKind::OutOfMemory, "no memory for the record")
+}
+
+impl Disk for MemoryDisk {
+    ghost use Rattle.gptman_disk.specs.Fate.{calls_left, history_of, CountsStops, CountsStopsOfWrite};
+    ghost use Rattle.gptman_disk.specs.Fate.{HasNoMemory, HasSync, HasWrite};
+
+    ghost state = { λ d. memory_state d.start.items d.bytes.items d.events.items d.position d.failures };
+
+    /// As the trait says. It fails where the fuse does not serve the call, and nowhere else. Then the
+    /// position stays.
+    fn seek_start(&mut self, at: u64) -> io::Result<u64>
+        ensures reads { Reads (⟦<MemoryDisk as Disk>⟧.state self.old)
+            (⟦<MemoryDisk as Disk>⟧.state self.new) }
+        ensures answer { IfOk result (StandsAt (⟦<MemoryDisk as Disk>⟧.state self.new) at) }
+        ensures cause { OnErr result (Rose (⟦<MemoryDisk as Disk>⟧.state self.old)
+            (⟦<MemoryDisk as Disk>⟧.state self.new)) }
+        ensures counts { OnOk result (HasFailedAsOften (⟦<MemoryDisk as Disk>⟧.state self.old)
+            (⟦<MemoryDisk as Disk>⟧.state self.new)) }
+        ensures once { OnErr result (HasFailedOnce (⟦<MemoryDisk as Disk>⟧.state self.old)
+            (⟦<MemoryDisk as Disk>⟧.state self.new)) }
+        ensures served { IsOk result ↔ IsTrue (serves (calls_left self.old)) }
+        ensures kept { OnErr result (StaysAt (⟦<MemoryDisk as Disk>⟧.state self.old)
+            (⟦<MemoryDisk as Disk>⟧.state self.new)) }
+        ensures fuse { calls_left self.new ≡ after_call (calls_left self.old) }
+    {
+        if !is_served(&mut self.fuse) {
+            return Err(fail(&mut self.failures));
+        }
+        self.position = at;
+        Ok(at)
+    }
+
+    /// As the trait says. It fails where the fuse does not serve the call, and nowhere else. Then the
+    /// position stays.
+    fn seek_end(&mut self) -> io::Result<u64>
+        ensures reads { Reads (⟦<MemoryDisk as Disk>⟧.state self.old)
+            (⟦<MemoryDisk as Disk>⟧.state self.new) }
+        ensures answer { IfOk result
+            (StandsAt (⟦<MemoryDisk as Disk>⟧.state self.new) (⟦<MemoryDisk as Disk>⟧.state self.old).size) }
+        ensures cause { OnErr result (Rose (⟦<MemoryDisk as Disk>⟧.state self.old)
+            (⟦<MemoryDisk as Disk>⟧.state self.new)) }
+        ensures counts { OnOk result (HasFailedAsOften (⟦<MemoryDisk as Disk>⟧.state self.old)
+            (⟦<MemoryDisk as Disk>⟧.state self.new)) }
+        ensures once { OnErr result (HasFailedOnce (⟦<MemoryDisk as Disk>⟧.state self.old)
+            (⟦<MemoryDisk as Disk>⟧.state self.new)) }
+        ensures served { IsOk result ↔ IsTrue (serves (calls_left self.old)) }
+        ensures kept { OnErr result (StaysAt (⟦<MemoryDisk as Disk>⟧.state self.old)
+            (⟦<MemoryDisk as Disk>⟧.state self.new)) }
+        ensures fuse { calls_left self.new ≡ after_call (calls_left self.old) }
+    {
+        if !is_served(&mut self.fuse) {
+            return Err(fail(&mut self.failures));
+        }
+        self.position = self.bytes.len() as u64;
+        Ok(self.position)
+    }
+
+    /// As the trait says. It fails where the read passes the end, which is no failure of the device,
+    /// and where the fuse does not serve the call, and nowhere else. Then the position stays, and the
+    /// buffer is as it was.
+    fn read_exact(&mut self, buf: &mut [u8]) -> io::Result<()>
+        ensures reads { Reads (⟦<MemoryDisk as Disk>⟧.state self.old)
+            (⟦<MemoryDisk as Disk>⟧.state self.new) }
+        ensures within { OnOk result (HasNext (⟦<MemoryDisk as Disk>⟧.state self.old) (length buf.old)) }
+        ensures cause { OnErr result (Rose (⟦<MemoryDisk as Disk>⟧.state self.old)
+            (⟦<MemoryDisk as Disk>⟧.state self.new)
+            ⊎ PassesEnd (⟦<MemoryDisk as Disk>⟧.state self.old) (length buf.old)) }
+        ensures counts { OnOk result (HasFailedAsOften (⟦<MemoryDisk as Disk>⟧.state self.old)
+            (⟦<MemoryDisk as Disk>⟧.state self.new)) }
+        ensures once { OnErr result (HasFailedOnce (⟦<MemoryDisk as Disk>⟧.state self.old)
+            (⟦<MemoryDisk as Disk>⟧.state self.new)
+            ⊎ PassesEnd (⟦<MemoryDisk as Disk>⟧.state self.old) (length buf.old)) }
+        ensures past_end { PassesEnd (⟦<MemoryDisk as Disk>⟧.state self.old) (length buf.old)
+            → IsErr result × HasFailedAsOften (⟦<MemoryDisk as Disk>⟧.state self.old)
+            (⟦<MemoryDisk as Disk>⟧.state self.new) }
+        ensures served { IsOk result ↔ (IsTrue (serves (calls_left self.old))
+            × HasNext (⟦<MemoryDisk as Disk>⟧.state self.old) (length buf.old)) }
+        ensures kept { OnErr result (StaysAt (⟦<MemoryDisk as Disk>⟧.state self.old)
+            (⟦<MemoryDisk as Disk>⟧.state self.new) × (buf.new ≡ buf.old)) }
+        ensures value { IsHonest (⟦<MemoryDisk as Disk>⟧.state self.old)
+            → OnOk result (buf.new ≡ next_bytes (⟦<MemoryDisk as Disk>⟧.state self.old) (length buf.old)) }
+        ensures moves { OnOk result (Moves (⟦<MemoryDisk as Disk>⟧.state self.old)
+            (⟦<MemoryDisk as Disk>⟧.state self.new) (length buf.old)) }
+        ensures fuse { calls_left self.new ≡ after_call (calls_left self.old) }
+    {
+        let served = is_served(&mut self.fuse);
+        let size = self.bytes.len() as u64;
+        let len = buf.len() as u64;
+        if passes_end(size, self.position, len) {
+            return Err(past_end());
+        }
+        if !served {
+            return Err(fail(&mut self.failures));
+        }
+        let at = self.position as usize;
+        buf.copy_from_slice(&self.bytes[at..at + buf.len()]);
+        self.position += len;
+        Ok(())
+    }
+
+    /// As the trait says. It fails where the fuse does not serve the call: then the write is pending
+    /// with its bytes, which a read does not give. And it fails where there is no memory for the record:
+    /// then nothing changes, and the error is of the kind `OutOfMemory`.
+    fn write_all(&mut self, buf: &[u8]) -> io::Result<()>
+        requires { HasNext (⟦<MemoryDisk as Disk>⟧.state self.old) (length buf.now) }
+        ensures keeps { Keeps (⟦<MemoryDisk as Disk>⟧.state self.old)
+            (⟦<MemoryDisk as Disk>⟧.state self.new) }
+        ensures cause { OnErr result (Rose (⟦<MemoryDisk as Disk>⟧.state self.old)
+            (⟦<MemoryDisk as Disk>⟧.state self.new)) }
+        ensures counts { OnOk result (HasFailedAsOften (⟦<MemoryDisk as Disk>⟧.state self.old)
+            (⟦<MemoryDisk as Disk>⟧.state self.new)) }
+        ensures once { OnErr result (HasFailedOnce (⟦<MemoryDisk as Disk>⟧.state self.old)
+            (⟦<MemoryDisk as Disk>⟧.state self.new)) }
+        ensures served { OnOk result (IsTrue (serves (calls_left self.old))) }
+        ensures moves { OnOk result (Moves (⟦<MemoryDisk as Disk>⟧.state self.old)
+            (⟦<MemoryDisk as Disk>⟧.state self.new) (length buf.now)) }
+        ensures wrote { Writes (next_range (⟦<MemoryDisk as Disk>⟧.state self.old) (length buf.now) ∷ [])
+            (⟦<MemoryDisk as Disk>⟧.state self.old) (⟦<MemoryDisk as Disk>⟧.state self.new) }
+        ensures laid { IsHonest (⟦<MemoryDisk as Disk>⟧.state self.old)
+            → OnOk result (IsLaid buf.now (⟦<MemoryDisk as Disk>⟧.state self.old)
+            (⟦<MemoryDisk as Disk>⟧.state self.new)) }
+        ensures failed { IsHonest (⟦<MemoryDisk as Disk>⟧.state self.old)
+            → OnErr result (MayBeLaid (length buf.now) (⟦<MemoryDisk as Disk>⟧.state self.old)
+            (⟦<MemoryDisk as Disk>⟧.state self.new)) }
+        ensures pending { AddsPending (next_range (⟦<MemoryDisk as Disk>⟧.state self.old) (length buf.now))
+            (⟦<MemoryDisk as Disk>⟧.state self.old) (⟦<MemoryDisk as Disk>⟧.state self.new)
+            ⊎ (IsErr result × Untouched (⟦<MemoryDisk as Disk>⟧.state self.old)
+            (⟦<MemoryDisk as Disk>⟧.state self.new)) }
+        ensures recorded { OnOk result
+            (HasWrite ((⟦<MemoryDisk as Disk>⟧.state self.old).position) buf.now true
+            (history_of self.old) (history_of self.new)) }
+        ensures refused { IfErr result (λ e. HasNoMemory e (history_of self.old) (history_of self.new)
+            ⊎ (serves (calls_left self.old) ≡ false)
+            × HasWrite ((⟦<MemoryDisk as Disk>⟧.state self.old).position) buf.now false
+            (history_of self.old) (history_of self.new)) }
+        ensures stops { CountsStopsOfWrite result
+            (next_range (⟦<MemoryDisk as Disk>⟧.state self.old) (length buf.now))
+            (history_of self.old) (history_of self.new)
+            (⟦<MemoryDisk as Disk>⟧.state self.old) (⟦<MemoryDisk as Disk>⟧.state self.new) }
+        ensures kept { OnErr result (ReadsOnAsBefore (⟦<MemoryDisk as Disk>⟧.state self.old)
+            (⟦<MemoryDisk as Disk>⟧.state self.new)) }
+        ensures fuse { calls_left self.new ≡ after_call (calls_left self.old) }
+    {
+        let done = is_served(&mut self.fuse);
+        let Ok(bytes) = buf.to_vec(self.alloc) else {
+            return Err(lack_memory(&mut self.failures));
+        };
+        let event = Event::Write(Written {
+            at: self.position,
+            bytes,
+            done,
+        });
+        if self.events.push(event).is_err() {
+            return Err(lack_memory(&mut self.failures));
+        }
+        if !done {
+            return Err(fail(&mut self.failures));
+        }
+        let at = self.position as usize;
+        lay(&mut self.bytes, at, buf);
+        self.position += buf.len() as u64;
+        Ok(())
+    }
+
+    /// As the trait says. It fails where the fuse does not serve the call, and where there is no memory
+    /// for the record, with an error of the kind `OutOfMemory`. Then record and position stay.
+    fn sync(&mut self) -> io::Result<()>
+        ensures keeps { Keeps (⟦<MemoryDisk as Disk>⟧.state self.old)
+            (⟦<MemoryDisk as Disk>⟧.state self.new) }
+        ensures cause { OnErr result (Rose (⟦<MemoryDisk as Disk>⟧.state self.old)
+            (⟦<MemoryDisk as Disk>⟧.state self.new)) }
+        ensures counts { OnOk result (HasFailedAsOften (⟦<MemoryDisk as Disk>⟧.state self.old)
+            (⟦<MemoryDisk as Disk>⟧.state self.new)) }
+        ensures once { OnErr result (HasFailedOnce (⟦<MemoryDisk as Disk>⟧.state self.old)
+            (⟦<MemoryDisk as Disk>⟧.state self.new)) }
+        ensures served { OnOk result (IsTrue (serves (calls_left self.old))) }
+        ensures stays { OnOk result ((⟦<MemoryDisk as Disk>⟧.state self.new).position ≡
+            (⟦<MemoryDisk as Disk>⟧.state self.old).position) }
+        ensures wrote { Writes [] (⟦<MemoryDisk as Disk>⟧.state self.old)
+            (⟦<MemoryDisk as Disk>⟧.state self.new) }
+        ensures view { IsHonest (⟦<MemoryDisk as Disk>⟧.state self.old)
+            → (⟦<MemoryDisk as Disk>⟧.state self.new).view ≡ (⟦<MemoryDisk as Disk>⟧.state self.old).view }
+        ensures synced { IsHonest (⟦<MemoryDisk as Disk>⟧.state self.old)
+            → OnOk result ((⟦<MemoryDisk as Disk>⟧.state self.new).pending ≡ []) }
+        ensures failed { IsHonest (⟦<MemoryDisk as Disk>⟧.state self.old)
+            → OnErr result (CoverTheSame (⟦<MemoryDisk as Disk>⟧.state self.new).pending
+            (⟦<MemoryDisk as Disk>⟧.state self.old).pending) }
+        ensures pending { OnErr result ((⟦<MemoryDisk as Disk>⟧.state self.new).pending ≡
+            (⟦<MemoryDisk as Disk>⟧.state self.old).pending) }
+        ensures recorded { OnOk result (HasSync (history_of self.old) (history_of self.new)) }
+        ensures refused { IfErr result (λ e. HasNoMemory e (history_of self.old) (history_of self.new)
+            ⊎ (serves (calls_left self.old) ≡ false) × (history_of self.new ≡ history_of self.old)) }
+        ensures stops { CountsStops [] (history_of self.new) (⟦<MemoryDisk as Disk>⟧.state self.old)
+            (⟦<MemoryDisk as Disk>⟧.state self.new) }
+        ensures kept { OnErr result (StaysAt (⟦<MemoryDisk as Disk>⟧.state self.old)
+            (⟦<MemoryDisk as Disk>⟧.state self.new)) }
+        ensures fuse { calls_left self.new ≡ after_call (calls_left self.old) }
+    {
+        if !is_served(&mut self.fuse) {
+            return Err(fail(&mut self.failures));
+        }
+        if self.events.push(Event::Sync).is_err() {
+            return Err(lack_memory(&mut self.failures));
+        }
+        Ok(())
+    }
+
+    ghost bounded = { λ d. d.small };
+
+    ghost sound = { λ d honest.
+        memory_sound d.start.items d.bytes.items d.events.items d.position d.failures d.replays };
+}

@@ -1,6 +1,0 @@
-use Rattle.gptman_ends.proofs.AskedPlans.{few_of_value, few_to_fit, few_to_plan}
-use Rattle.gptman_ends.proofs.Rounded.{few_places, few_rounds}
-use Rattle.gptman_ends.proofs.rounds.rounds_end.Goals as goal
-
-pub returns : goal.returns
-returns c = record { rounds = few_rounds; reading = few_places; new_table = few_of_value; plan = few_to_plan; fit = few_to_fit }

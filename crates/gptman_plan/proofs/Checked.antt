@@ -1,0 +1,65 @@
+-- What is found of both copies of the disk with zeros between its ends is so of every disk with these ends.
+use Rattle.std.proofs.Common.{◌≡◌, ◌≤◌, ⊎_elim, ◌↔◌, ℕ, List, sym, ◌∙◌, ap, subst}
+use Rattle.std.specs.Prelude.{Result, Ok, Err, IfOk, IsTrue}
+use Rattle.gptman.specs.Answers.{answer_of}
+use Rattle.gptman.specs.Copy.{Copy, copy_of_whole}
+use Rattle.gptman.specs.Disk.{DiskState}
+use Rattle.gptman.specs.Fault.{Fault}
+use Rattle.gptman.specs.Layout.{Holds}
+use Rattle.gptman.specs.Reading.{Side, primary, backup, copy_in}
+use Rattle.gptman.specs.Table.{Table}
+use Rattle.gptman.specs.declared.copy.WholeCopy.{WholeCopy}
+use Rattle.gptman.specs.Error.{Error}
+use Rattle.gptman.specs.Copies.{HoldOneTable, IsChecked, IsSeenAs}
+use Rattle.gptman.specs.declared.copies.BothCopies.{BothCopies}
+use Rattle.gptman_plan.specs.Checking.{AreCopiesTold, AreFoundIn, IsCheckTold, number_in}
+use Rattle.gptman_plan.specs.Ends.{disk_bytes}
+use Rattle.gptman_plan.specs.Reading.{OfEvery}
+use Rattle.gptman_plan.specs.declared.records.Check.{Check}
+use Rattle.gptman_plan.proofs.Refused.{not_failed}
+
+-- ---- on a disk that did not fail
+
+seen : (there : Result Copy Fault) (r : Result WholeCopy Error) (old new : DiskState) → new.failures ≡ 0 → IsSeenAs there old new r → answer_of copy_of_whole r ≡ there
+seen there r old new none is = ⊎_elim (λ fails. absurd (not_failed old new none fails.1)) (λ same. same) is
+
+-- what was found is there
+pub found_in : (b : List ℕ) (ss : ℕ) (r : Result BothCopies Error) (old new : DiskState) → old.view ≡ b → new.failures ≡ 0 → IfOk r (IsChecked ss old new) → IfOk r (AreFoundIn b ss)
+found_in b ss (Err e) old new view none is = tt
+found_in b ss (Ok copies) old new view none is = record {
+  at_primary = seen (copy_in primary old.view ss) copies.primary old new none is.at_primary ∙ ap (λ (x : List ℕ). copy_in primary x ss) view;
+  at_backup = seen (copy_in backup old.view ss) copies.backup old new none is.at_backup ∙ ap (λ (x : List ℕ). copy_in backup x ss) view;
+  same = λ yes. subst (λ (x : List ℕ). HoldOneTable x ss) view (is.same yes).0;
+  differ = λ holds. ⊎_elim (λ yes. yes) (λ rose. absurd (not_failed old new none rose)) (is.differ (subst (λ (x : List ℕ). HoldOneTable x ss) (sym view) holds));
+}
+
+-- ---- of every disk with these ends
+
+-- both copies are told
+pub both_told : (head tail : List ℕ) (size ss : ℕ) → OfEvery head tail size (λ b. copy_in primary b ss ≡ copy_in primary (disk_bytes head tail size) ss)
+    → OfEvery head tail size (λ b. copy_in backup b ss ≡ copy_in backup (disk_bytes head tail size) ss) → AreCopiesTold head tail size ss
+both_told head tail size ss first second primary = first
+both_told head tail size ss first second backup = second
+
+-- what one disk holds, another with the same copies does
+held_as : (a b : List ℕ) (ss : ℕ) (side : Side) (t : Table) → copy_in side a ss ≡ copy_in side b ss → Holds a ss side t → Holds b ss side t
+held_as a b ss side t same holds = record { copy = holds.copy; accepted = sym same ∙ holds.accepted; form = holds.form }
+
+one_table_as : (a b : List ℕ) (ss : ℕ) → ((side : Side) → copy_in side a ss ≡ copy_in side b ss) → HoldOneTable a ss → HoldOneTable b ss
+one_table_as a b ss same hold = record {
+  table = hold.table;
+  at_primary = held_as a b ss primary hold.table (same primary) hold.at_primary;
+  at_backup = held_as a b ss backup hold.table (same backup) hold.at_backup;
+}
+
+-- and of both the same is told
+pub check_told : (start b : List ℕ) (ss : ℕ) (copies : BothCopies) (check : Check) → ((side : Side) → copy_in side b ss ≡ copy_in side start ss) → AreFoundIn start ss copies
+    → check.primary_fault ≡ number_in (answer_of copy_of_whole copies.primary) → check.backup_fault ≡ number_in (answer_of copy_of_whole copies.backup)
+    → (IsTrue copies.are_same ↔ (check.are_same ≡ 1)) → check.are_same ≤ 1 → IsCheckTold b ss check
+check_told start b ss copies check told found first second flag low = record {
+  at_primary = first ∙ ap number_in (found.at_primary ∙ sym (told primary));
+  at_backup = second ∙ ap number_in (found.at_backup ∙ sym (told backup));
+  same = λ one. one_table_as start b ss (λ side. sym (told side)) (found.same (flag.1 one));
+  differ = λ hold. flag.0 (found.differ (one_table_as b start ss told hold));
+  flag = low;
+}

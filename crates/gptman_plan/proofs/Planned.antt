@@ -1,0 +1,105 @@
+-- What is proved of the disk that records a write, said of its acts.
+use Rattle.std.proofs.Common.{◌≡◌, ⊎_elim, ◌<◌, ℕ, zero, suc, List, [], ◌∷◌, length, refl, sym, ap, ◌∙◌, subst, arith}
+use Rattle.gptman.specs.Crash.{IsReadInForm}
+use Rattle.gptman.specs.Disk.{AgreesOutside, DiskState, Elapses, IsHonest, LeavesOnly}
+use Rattle.gptman.specs.Layout.{Holds, IsLaidOut}
+use Rattle.gptman.specs.Reading.{primary, backup}
+use Rattle.gptman.specs.Stop.{IsStored, StopsHold}
+use Rattle.gptman.specs.Table.{Table, table_in}
+use Rattle.gptman.specs.declared.table.GPT.{GPT}
+use Rattle.gptman_plan.specs.Crossing.{four_ranges, with_partitions}
+use Rattle.gptman_plan.specs.Ends.{disk_bytes, length-disk_bytes}
+use Rattle.std.specs.Prelude.{All}
+use Rattle.gptman_plan.specs.Plan.{Act, IsLeftAt, LeftBy, StepFits, acts_of, bytes_after, left_now, pending_after, plan_state}
+use Rattle.gptman_plan.specs.Planning.{IsSafePlan}
+use Rattle.gptman_plan.specs.declared.recording.Recorder.{Recorder}
+use Rattle.gptman_plan.specs.declared.record.Record.{Record}
+use Rattle.gptman_plan.specs.declared.records.Partition.{Partition}
+use Rattle.gptman_plan.proofs.Steps.{length-stopped}
+
+-- the disk is one of these bytes after the acts
+pub record IsAfter (start : List ℕ) (acts : List Act) (disk : DiskState) : Type 0 where
+  pub view : disk.view ≡ bytes_after start acts
+  pub pending : disk.pending ≡ pending_after acts
+  pub left : (b : List ℕ) → LeftBy start acts b → disk.left_since 1 b
+
+-- a disk that was made with these bytes is
+is_after : (start start_too : List ℕ) (acts acts_too : List Act) (s p f : ℕ) → start_too ≡ start → acts ≡ acts_too → IsAfter start acts (plan_state start_too acts_too s p f)
+is_after start start_too acts acts_too s p f same same_acts =
+    let one : IsAfter start acts (plan_state start acts s p f) = record { view = refl; pending = refl; left = λ b left. record { moment = suc left.after; since = omega arith; left = (left.among, left.image) } } in
+    subst (λ (x : List ℕ). IsAfter start acts (plan_state x acts_too s p f)) (sym same)
+    (subst (λ (l : List Act). IsAfter start acts (plan_state start l s p f)) same_acts one)
+
+-- ---- the disk that records, before the first step and after the last
+
+abbrev pub state_of : Recorder → DiskState
+state_of d = plan_state (disk_bytes d.head.now d.tail.now d.plan.size) (acts_of d.plan.bytes.items d.plan.steps.items) d.plan.size d.position d.failures
+
+pub begins_at : (d : Recorder) (head tail : List ℕ) (size : ℕ) → d.head.now ≡ head → d.tail.now ≡ tail → d.plan.size ≡ size → acts_of d.plan.bytes.items d.plan.steps.items ≡ []
+    → d.position ≡ 0 → d.failures ≡ 0 → state_of d ≡ plan_state (disk_bytes head tail size) [] size 0 0
+begins_at d head tail size h t s acts position failures = λ i. plan_state (disk_bytes (h i) (t i) (s i)) (acts i) (s i) (position i) (failures i)
+
+pub ends_after : (e : Recorder) (plan : Record) (start : List ℕ) → disk_bytes e.head.now e.tail.now e.plan.size ≡ start → plan ≡ e.plan
+    → IsAfter start (acts_of plan.bytes.items plan.steps.items) (state_of e)
+ends_after e plan start same taken =
+    is_after start (disk_bytes e.head.now e.tail.now e.plan.size) (acts_of plan.bytes.items plan.steps.items) (acts_of e.plan.bytes.items e.plan.steps.items)
+    e.plan.size e.position e.failures same (λ i. acts_of (taken i).bytes.items (taken i).steps.items)
+
+-- ---- the start stays the same while calls are made
+
+module _ (start : List ℕ) (size : ℕ) (old : DiskState) (e : Recorder) (long : length start ≡ size) (begins : old ≡ plan_state start [] size 0 0) (sized : e.plan.size ≡ size) where
+  abbrev now : List ℕ
+  now = disk_bytes e.head.now e.tail.now e.plan.size
+
+  length-now : length now ≡ e.plan.size
+  length-now = length-disk_bytes e.head.now e.tail.now e.plan.size e.apart
+
+  fit : All (StepFits (length now) (length e.plan.bytes.items)) e.plan.steps.items
+  fit = subst (λ (n : ℕ). All (StepFits n (length e.plan.bytes.items)) e.plan.steps.items) (sym length-now) e.plan.held
+
+  -- No stop leaves a byte more than the disk has. So before the first act this stood at moment 0,
+  marked : (moment : ℕ) → IsLeftAt start [] moment (0 ∷ now) → now ≡ start
+  marked zero is = cc
+  marked (suc n) left = absurd (omega (arith, (left_now start [] (suc n) (0 ∷ now) (omega arith) left).long, long, length-now, sized))
+
+  -- and after the acts it does not stand at a moment since.
+  unmarked : (moment : ℕ) → 0 < moment → IsLeftAt now (acts_of e.plan.bytes.items e.plan.steps.items) moment (0 ∷ now) → ⊥
+  unmarked zero since left = omega (arith, since)
+  unmarked (suc n) since left = omega (arith, left.1.long, length-stopped now e.plan.bytes.items n e.plan.steps.items fit)
+
+  pub start_stays : Elapses old (state_of e) → now ≡ start
+  start_stays time =
+      let run : Elapses (plan_state start [] size 0 0) (state_of e) = subst (λ (d : DiskState). Elapses d (state_of e)) begins time in
+      ⊎_elim
+      (λ before. marked before.moment before.left)
+      (λ after. absurd (unmarked after.moment (omega (arith, after.since)) after.left))
+      (run.nothing_else 0 (0 ∷ now) (omega arith) (record { moment = 0; since = omega arith; left = refl }))
+
+module _ (start : List ℕ) (size : ℕ) (g : GPT) (partitions : List Partition) (acts : List Act) (old new : DiskState) (long : length start ≡ size) (begins : old ≡ plan_state start [] size 0 0)
+    (after : IsAfter start acts new) where
+  abbrev next : Table
+  next = with_partitions g partitions
+
+  abbrev when_good : Type 0 → Type 0
+  when_good P = IsHonest old → old.pending ≡ [] → IsReadInForm old.view g → IsLaidOut next g.sector_size old.size → P
+
+  pub safe_zero : when_good (StopsHold old new g.sector_size (table_in g ∷ next ∷ [])) → when_good (LeavesOnly old new (AgreesOutside (four_ranges next g.sector_size old.size) old.view))
+      → when_good (IsStored new g.sector_size next)
+      → IsReadInForm start g → IsLaidOut next g.sector_size size → IsSafePlan start g.sector_size (table_in g) next acts
+  safe_zero holds others stored read laid =
+      let honest : IsHonest old = subst (λ (d : DiskState). IsHonest d) (sym begins) refl in
+      let synced : old.pending ≡ [] = ap (λ (d : DiskState). d.pending) begins in
+      let read : IsReadInForm old.view g = subst (λ (d : DiskState). IsReadInForm d.view g) (sym begins) read in
+      let laid : IsLaidOut next g.sector_size old.size = subst (λ (d : DiskState). IsLaidOut next g.sector_size d.size) (sym begins) laid in
+      let clock : old.clock ≡ 1 = ap (λ (d : DiskState). d.clock) begins in
+      let left : (x : List ℕ) → LeftBy start acts x → new.left_since old.clock x = λ x was. subst (λ (t : ℕ). new.left_since t x) (sym clock) (after.left x was) in
+      let done = stored honest synced read laid in
+      record {
+        stops = λ x was. holds honest synced read laid x (left x was);
+        others = λ x was.
+            subst (λ (b : List ℕ). AgreesOutside (four_ranges next g.sector_size (length start)) b x) (ap (λ (d : DiskState). d.view) begins)
+            (subst (λ (n : ℕ). AgreesOutside (four_ranges next g.sector_size n) old.view x) (ap (λ (d : DiskState). d.size) begins ∙ sym long) (others honest synced read laid x (left x was)));
+        synced = sym after.pending ∙ done.synced;
+        at_primary = subst (λ (v : List ℕ). Holds v g.sector_size primary next) after.view done.at_primary;
+        at_backup = subst (λ (v : List ℕ). Holds v g.sector_size backup next) after.view done.at_backup;
+      }

@@ -1,0 +1,137 @@
+-- The plan of a table's write.
+use Rattle.std.proofs.Common.{◌≡◌, ◌≤◌, ◌⊎◌, ⊎_elim, inr, ℕ, ◌+◌, List, [], ◌∷◌, length, refl, sym, ap, ◌∙◌, subst}
+use Rattle.gptman.specs.Crash.{StartsLaidOut, StartsSynced, StopsComeInTurns, StopsKeepOthers}
+use Rattle.gptman.specs.Disk.{AgreesOutside, DiskState, IsHonest}
+use Rattle.gptman.specs.Layout.{HasLayout, Holds, copy_ranges_at}
+use Rattle.gptman.specs.Ranges.{AreInside}
+use Rattle.gptman.specs.Reading.{primary, backup}
+use Rattle.gptman.specs.Stop.{IsStored}
+use Rattle.gptman.specs.Table.{Table, new_table_of, table_in, IsHeaderForm}
+use Rattle.gptman.specs.TableWrites.{RefusesTable}
+use Rattle.gptman.specs.declared.table.GPT.{GPT}
+use Rattle.gptman.proofs.Apart.{agrees_in}
+use Rattle.gptman.proofs.Held.{holds_local}
+use Rattle.gptman.proofs.Ranges.{Ranges, contains_first, contains_later}
+use Rattle.gptman_plan.specs.Crossing.{four_ranges}
+use Rattle.gptman_plan.specs.Ends.{disk_bytes, length-disk_bytes, AreRangesKnown, HasEnds}
+use Rattle.gptman_plan.specs.Plan.{Act, LeftBy, plan_state}
+use Rattle.gptman_plan.specs.Planning.{Cause, ComesInTurns, IsNewPlan, IsReplaced, IsTablePlan, IsWrittenPlan, StopsNew, StopsTable}
+use Rattle.gptman_plan.specs.Planning.Cause.{bad_argument, a_fault, other_length, other_layout}
+use Rattle.gptman_plan.proofs.AnyMiddle.{after_any, others_any, turns_any}
+use Rattle.gptman_plan.proofs.AnyPlan.{at_side}
+use Rattle.gptman_plan.proofs.KnownActs.{are_known}
+use Rattle.gptman_plan.proofs.Middle.{AreKnown}
+use Rattle.gptman_plan.proofs.Planned.{IsAfter}
+
+-- ---- what the write of a value does to the disk that records it
+
+module _ (start : List ℕ) (size : ℕ) (g : GPT) (acts : List Act) (old new : DiskState) (long : length start ≡ size) (begins : old ≡ plan_state start [] size 0 0) (after : IsAfter start acts new)
+    (layout : HasLayout g size) where
+  honest : IsHonest old
+  honest = subst (λ (d : DiskState). IsHonest d) (sym begins) refl
+
+  synced : old.pending ≡ []
+  synced = ap (λ (d : DiskState). d.pending) begins
+
+  view : old.view ≡ start
+  view = ap (λ (d : DiskState). d.view) begins
+
+  sized : old.size ≡ size
+  sized = ap (λ (d : DiskState). d.size) begins
+
+  laid : StartsLaidOut old g
+  laid = record { honest = honest; layout = subst (λ (n : ℕ). HasLayout g n) (sym sized) layout }
+
+  left : (x : List ℕ) → LeftBy start acts x → new.left_since old.clock x
+  left x was = subst (λ (t : ℕ). new.left_since t x) (sym (ap (λ (d : DiskState). d.clock) begins)) (after.left x was)
+
+  pub written_zero : (StartsSynced old g → StopsKeepOthers old new g) → (StartsLaidOut old g → IsStored new g.sector_size (table_in g)) → IsWrittenPlan start g.sector_size (table_in g) acts
+  written_zero outside stored =
+      let done = stored laid in
+      record {
+        others = λ x was.
+            subst (λ (b : List ℕ). AgreesOutside (four_ranges (table_in g) g.sector_size (length start)) b x) view
+            (subst (λ (n : ℕ). AgreesOutside (four_ranges (table_in g) g.sector_size n) old.view x) (sized ∙ sym long)
+            (outside (record { start = laid; synced = synced }) x (left x was)));
+        synced = sym after.pending ∙ done.synced;
+        at_primary = subst (λ (v : List ℕ). Holds v g.sector_size primary (table_in g)) after.view done.at_primary;
+        at_backup = subst (λ (v : List ℕ). Holds v g.sector_size backup (table_in g)) after.view done.at_backup;
+      }
+
+  pub turns_zero : IsHeaderForm primary g.header → (StartsSynced old g → StopsComeInTurns old new g) → ComesInTurns start g.sector_size (table_in g) acts
+  turns_zero form turns = λ x was.
+      subst (λ (b : List ℕ). AgreesOutside (copy_ranges_at backup (table_in g) g.sector_size (length start)) b x ⊎ Holds x g.sector_size backup (table_in g)) view
+      (subst (λ (n : ℕ). AgreesOutside (copy_ranges_at backup (table_in g) g.sector_size n) old.view x ⊎ Holds x g.sector_size backup (table_in g)) (sized ∙ sym long)
+      (turns (record { start = laid; synced = synced }) primary form x (left x was)))
+
+-- ---- and to every disk with these ends
+
+module _ (head tail : List ℕ) (size : ℕ) (apart : length head + length tail ≤ size) (g : GPT) (acts : List Act)
+    (places : AreInside (four_ranges (table_in g) g.sector_size size) size → AreRangesKnown (length head) (length tail) size (four_ranges (table_in g) g.sector_size size))
+    (written : HasLayout g size → IsWrittenPlan (disk_bytes head tail size) g.sector_size (table_in g) acts)
+    (turns : HasLayout g size → IsHeaderForm primary g.header → ComesInTurns (disk_bytes head tail size) g.sector_size (table_in g) acts)
+    (layout : HasLayout g size) (b : List ℕ) (ends : HasEnds b head tail size) where
+  abbrev zero : List ℕ
+  zero = disk_bytes head tail size
+
+  all : length zero ≡ size
+  all = length-disk_bytes head tail size apart
+
+  here : HasLayout g (length b)
+  here = subst (λ (n : ℕ). HasLayout g n) (sym ends.long) layout
+
+  four : AreRangesKnown (length head) (length tail) size (four_ranges (table_in g) g.sector_size size)
+  four = places layout.table.inside
+
+  others : (y : List ℕ) → LeftBy zero acts y → AgreesOutside (four_ranges (table_in g) g.sector_size size) zero y
+  others y left = subst (λ (n : ℕ). AgreesOutside (four_ranges (table_in g) g.sector_size n) zero y) all ((written layout).others y left)
+
+  -- they leave all bytes outside of the four ranges alone
+  known : AreKnown (length head) (length tail) size acts
+  known = are_known (length head) (length tail) size apart zero all (four_ranges (table_in g) g.sector_size size) four acts others
+
+  written_any : IsWrittenPlan b g.sector_size (table_in g) acts
+  written_any =
+      let plan = written layout in
+      record {
+        others = λ x left.
+            subst (λ (n : ℕ). AgreesOutside (four_ranges (table_in g) g.sector_size n) b x) (sym ends.long)
+            (others_any head tail b size apart ends acts known (four_ranges (table_in g) g.sector_size size) others x left);
+        synced = plan.synced;
+        at_primary = after_any head tail b size apart ends acts known g.sector_size primary (table_in g) (at_side (length head) (length tail) size g.sector_size (table_in g) primary four) plan.at_primary;
+        at_backup = after_any head tail b size apart ends acts known g.sector_size backup (table_in g) (at_side (length head) (length tail) size g.sector_size (table_in g) backup four) plan.at_backup;
+      }
+
+  abbrev other : ℕ → Ranges
+  other n = copy_ranges_at backup (table_in g) g.sector_size n
+
+  turns_here : IsHeaderForm primary g.header → ComesInTurns b g.sector_size (table_in g) acts
+  turns_here form = subst (λ (n : ℕ). (x : List ℕ) → LeftBy b acts x → AgreesOutside (other n) b x ⊎ Holds x g.sector_size backup (table_in g)) (sym ends.long)
+      (turns_any head tail b size apart ends acts known (other size) g.sector_size backup (table_in g) (at_side (length head) (length tail) size g.sector_size (table_in g) backup four)
+      (subst (λ (n : ℕ). (y : List ℕ) → LeftBy zero acts y → AgreesOutside (other n) zero y ⊎ Holds y g.sector_size backup (table_in g)) all (turns layout form)))
+
+  -- so one of the two places holds one of the two tables
+  replaced_any : IsHeaderForm primary g.header → (was : Table) → IsReplaced b g.sector_size was (table_in g) acts
+  replaced_any form was held clear x left = ⊎_elim
+      (λ few. record {
+        side = primary;
+        table = was;
+        listed = contains_first was (table_in g ∷ []);
+        holds = holds_local b x g.sector_size primary was held (agrees_in (copy_ranges_at primary was g.sector_size (length b)) (other (length b)) b x clear few);
+      })
+      (λ new. record { side = backup; table = table_in g; listed = contains_later (table_in g) was (table_in g ∷ []) (contains_first (table_in g) []); holds = new })
+      (turns_here form x left)
+
+  pub table_any : IsTablePlan b g acts
+  table_any = record { layout = here; written = written_any; replaced = replaced_any }
+
+-- a new table has a primary header
+pub new_plan : (b : List ℕ) (g : GPT) (acts : List Act) → IsHeaderForm primary g.header → IsTablePlan b g acts → IsNewPlan b g acts
+new_plan b g acts form plan = record { layout = plan.layout; written = plan.written; replaced = plan.replaced form }
+
+-- why its table is not written is why it is not
+pub table_stops_new : (count : ℕ) (guid : List ℕ) (ss size : ℕ) (g : GPT) → g ≡ new_table_of count guid ss size → (cause : Cause) → StopsTable g size cause → StopsNew count guid ss size cause
+table_stops_new count guid ss size g is bad_argument none = absurd none
+table_stops_new count guid ss size g is (a_fault fault) why = inr (subst (λ (t : GPT). RefusesTable t size fault) is why)
+table_stops_new count guid ss size g is other_length none = none
+table_stops_new count guid ss size g is other_layout not = subst (λ (t : GPT). ¬ HasLayout t size) is not

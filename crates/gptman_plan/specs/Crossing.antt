@@ -1,0 +1,95 @@
+-- What crosses to C, in the library's words.
+use Rattle.std.specs.Prelude.{◌≡◌, ◌++◌, ℕ, List, length, map, take, Option, Result, Ok, Err}
+use Rattle.gptman.specs.Alignment.{IsAlignment}
+use Rattle.gptman.specs.Copy.{Copy}
+use Rattle.gptman.specs.Fault.{Fault}
+use Rattle.gptman.specs.Layout.{copy_ranges_at}
+use Rattle.gptman.specs.Place.{FindsPlace, IsBestPlace, IsFirstPlace, IsLastPlace}
+use Rattle.gptman.specs.Reading.{Side, primary, backup}
+use Rattle.gptman.specs.Table.{Table as TheTable, TableEntry, entries_in, table_in}
+use Rattle.gptman.specs.declared.table.GPT.{GPT}
+use Rattle.gptman.specs.declared.codec.entry.GPTPartitionEntry.{GPTPartitionEntry}
+use Rattle.gptman.specs.Fault.{fault_number}
+use Rattle.gptman_plan.specs.declared.records.Partition.{Partition}
+use Rattle.gptman_plan.specs.declared.records.Table.{Table}
+
+-- the entry as C has it
+abbrev pub partition_of : GPTPartitionEntry → Partition
+partition_of e = record {
+  type_guid = e.partition_type_guid;
+  unique_guid = e.unique_partition_guid;
+  first_lba = e.starting_lba;
+  last_lba = e.ending_lba;
+  attributes = e.attribute_bits;
+  name = e.partition_name.units;
+}
+
+-- what a partition of C is in a table
+abbrev pub content_of : Partition → TableEntry
+content_of p = record {
+  partition_type_guid = p.type_guid;
+  unique_partition_guid = p.unique_guid;
+  starting_lba = p.first_lba;
+  ending_lba = p.last_lba;
+  attribute_bits = p.attributes;
+  units = p.name;
+}
+
+-- the same of an entry
+abbrev pub content_in : GPTPartitionEntry → TableEntry
+content_in e = record {
+  partition_type_guid = e.partition_type_guid;
+  unique_partition_guid = e.unique_partition_guid;
+  starting_lba = e.starting_lba;
+  ending_lba = e.ending_lba;
+  attribute_bits = e.attribute_bits;
+  units = e.partition_name.units;
+}
+
+-- the table with these for its entries
+abbrev pub with_partitions : GPT → List Partition → TheTable
+with_partitions g partitions = record (table_in g) { entries = map content_of partitions }
+
+-- the four ranges of a table on a disk of len bytes
+abbrev pub four_ranges : TheTable → ℕ → ℕ → List (ℕ × ℕ)
+four_ranges t ss len = copy_ranges_at primary t ss len ++ copy_ranges_at backup t ss len
+
+-- the number of a side in C
+abbrev pub side_number : Side → ℕ
+side_number primary = 0
+side_number backup = 1
+
+-- What is told of a reading that took this copy, at this side: its header's fields, and its entries, in the first places of the array.
+pub record IsTold (taken : Result Copy Fault) (side : Side) (table : Table) (partitions : List Partition) : Type 0 where
+  pub copy : Copy
+  pub taken_is : taken ≡ Ok copy
+  pub disk_guid : table.disk_guid ≡ copy.header.disk_guid
+  pub first_usable : table.first_usable_lba ≡ copy.header.first_usable_lba
+  pub last_usable : table.last_usable_lba ≡ copy.header.last_usable_lba
+  pub align : IsAlignment copy.header copy.entries table.align
+  pub count : table.entry_count ≡ copy.header.number_of_partition_entries
+  pub from : table.is_backup ≡ side_number side
+  pub partitions_are : take (length copy.entries) partitions ≡ map partition_of copy.entries
+
+-- The reading took a copy of so many entries.
+pub record HasCount (taken : Result Copy Fault) (count : ℕ) : Type 0 where
+  pub copy : Copy
+  pub taken_is : taken ≡ Ok copy
+  pub count_is : copy.header.number_of_partition_entries ≡ count
+
+-- The reading took no copy: its fault has this number.
+pub record IsRefused (taken : Result Copy Fault) (number : ℕ) : Type 0 where
+  pub fault : Fault
+  pub taken_is : taken ≡ Err fault
+  pub number_is : fault_number fault ≡ number
+
+-- What is offered for so many sectors: the place that is chosen, if there is one, of the sectors within the bounds of the table that no partition has.
+pub record IsOffer (table : Table) (partitions : List Partition) (choice size : ℕ) (found : Option ℕ) : Type 0 where
+  pub held : GPT
+  pub low : held.header.first_usable_lba ≡ table.first_usable_lba
+  pub high : held.header.last_usable_lba ≡ table.last_usable_lba
+  pub align : held.align ≡ table.align
+  pub contents : map content_in (entries_in held) ≡ map content_of partitions
+  pub first : choice ≡ 1 → FindsPlace IsFirstPlace held size found
+  pub last : choice ≡ 2 → FindsPlace IsLastPlace held size found
+  pub best : choice ≡ 3 → FindsPlace IsBestPlace held size found

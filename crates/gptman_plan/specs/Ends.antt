@@ -1,0 +1,65 @@
+-- What the two ends of a disk tell of it.
+use Rattle.std.specs.Prelude.{◌≡◌, ◌≤◌, ◌⊎◌, ◌+◌, ◌-◌, ◌++◌, ℕ, true, List, [], ◌∷◌, length, replicate, Contains, Option, None, Some}
+use Rattle.gptman.specs.Bytes.{part}
+use Rattle.gptman.specs.Disk.{AgreesOutside, DiskState, IsSound}
+use Rattle.gptman.specs.Layout.{copy_ranges_at}
+use Rattle.gptman.specs.Reading.{Side}
+use Rattle.gptman.specs.Table.{Table}
+use Rattle.gptman_plan.specs.declared.ends.Torn.{Torn}
+use Rattle.std.proofs.Common.{arith, length-append}
+use Rattle.std.proofs.lemmas.List.{length-replicate}
+
+-- A disk of these bytes is so long, and begins and ends with these.
+pub record HasEnds (b head tail : List ℕ) (size : ℕ) : Type 0 where
+  pub long : length b ≡ size
+  pub at_head : part b 0 (length head) ≡ head
+  pub at_tail : part b (size - length tail) (length tail) ≡ tail
+
+-- The range lies in one of the ends of a disk of size bytes, of which the first has `first` bytes and the last `last`; or on the disk, where these two meet.
+abbrev pub IsKnown : ℕ → ℕ → ℕ → ℕ × ℕ → Type 0
+IsKnown first last size range =
+    (range.0 + range.1 ≤ first) ⊎ (((size - last ≤ range.0) × (range.0 + range.1 ≤ size)) ⊎ ((size ≤ first + last) × (range.0 + range.1 ≤ size)))
+
+-- each of the ranges does
+abbrev pub AreRangesKnown : ℕ → ℕ → ℕ → List (ℕ × ℕ) → Type 0
+AreRangesKnown first last size [] = Unit {0}
+AreRangesKnown first last size (range ∷ ranges) = IsKnown first last size range × AreRangesKnown first last size ranges
+
+-- and so do the ranges of each of the tables at both sides, in sectors of ss bytes
+abbrev pub ArePlacesKnown : ℕ → ℕ → ℕ → ℕ → List Table → Type 0
+ArePlacesKnown first last size ss tables = (t : Table) → Contains tables t → (side : Side) → AreRangesKnown first last size (copy_ranges_at side t ss size)
+
+-- the disk with these ends that has zeros between them
+abbrev pub disk_bytes : List ℕ → List ℕ → ℕ → List ℕ
+disk_bytes head tail size = head ++ (replicate (size - (length head + length tail)) 0 ++ tail)
+
+-- the bytes that a write left torn
+abbrev pub torn_ranges : Option Torn → List (ℕ × ℕ)
+torn_ranges None = []
+torn_ranges (Some t) = (t.at, t.length) ∷ []
+
+-- an honest disk of these bytes, for reading
+abbrev pub known_state : List ℕ → Option Torn → ℕ → ℕ → ℕ → DiskState
+known_state bytes torn size position failures = record {
+  size = size;
+  position = position;
+  view = bytes;
+  pending = torn_ranges torn;
+  failures = failures;
+  clock = 0;
+  left_since = λ t b. AgreesOutside (torn_ranges torn) bytes b;
+  is_honest = true;
+}
+
+-- the laws of an honest disk
+pub known_sound : (bytes : List ℕ) (torn : Option Torn) (s p f : ℕ) → length bytes ≡ s → IsSound (known_state bytes torn s p f)
+known_sound bytes torn s p f long = record {
+  size = λ i. long i;
+  counts_now = λ t b le image. image;
+  only_now = λ b left. left;
+  earlier = λ t u b le left. left;
+}
+
+-- the disk with zeros between its ends is so long
+pub length-disk_bytes : (head tail : List ℕ) (size : ℕ) → length head + length tail ≤ size → length (disk_bytes head tail size) ≡ size
+length-disk_bytes head tail size apart = simp (length-append, length-replicate) (omega (arith, apart))

@@ -1,0 +1,10 @@
+pub mod Asking
+pub mod Checking
+pub mod Crossing
+pub mod Dos
+pub mod Ends
+pub mod Naming
+pub mod Plan
+pub mod Planning
+pub mod Reading
+pub mod Rounds

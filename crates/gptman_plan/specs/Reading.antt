@@ -1,0 +1,77 @@
+-- What the ends of a disk tell of its table, whatever lies between them.
+use Rattle.std.specs.Prelude.{◌≡◌, ◌≤◌, ◌<◌, ◌⊎◌, ◌+◌, ℕ, Bool, true, false, List, length, Ok, Err}
+use Rattle.gptman.specs.Copy.{array_result, copy_at, header_result}
+use Rattle.gptman.specs.Fault.{fault_of, out_of_memory}
+use Rattle.gptman.specs.Layout.{IsLaidOut}
+use Rattle.gptman.specs.Reading.{Side, primary, backup, reading_of, taken_from}
+use Rattle.gptman.specs.Table.{table_in, IsHeaderForm}
+use Rattle.gptman.specs.TableReads.{copy_of, IsAsRead}
+use Rattle.gptman.specs.declared.codec.header.GPTHeader.{GPTHeader}
+use Rattle.gptman.specs.declared.table.GPT.{GPT}
+use Rattle.gptman_plan.specs.Ends.{HasEnds, IsKnown, disk_bytes}
+use Rattle.gptman_plan.specs.Rounds.{IsAmong, reading_ranges}
+use Rattle.gptman_plan.specs.declared.reading.Lack.{Lack}
+use Rattle.gptman_plan.specs.declared.reading.Place.{Place}
+use Rattle.gptman_plan.specs.declared.reading.Place.TheVariants.{At, Unknown}
+use Rattle.gptman_plan.specs.declared.reading.Reading.{Reading}
+use Rattle.gptman_plan.specs.declared.reading.Reading.TheVariants.{Table, Fault, Lacks}
+
+-- it holds of every disk of size bytes with these ends
+abbrev pub OfEvery : List ℕ → List ℕ → ℕ → (List ℕ → Type 0) → Type 0
+OfEvery head tail size P = (b : List ℕ) → HasEnds b head tail size → P b
+
+-- the disk has these bytes, and neither end has them all
+abbrev pub IsLack : List ℕ → List ℕ → ℕ → Lack → Type 0
+IsLack head tail size lack = (¬ IsKnown (length head) (length tail) size (lack.from, lack.length)) × (lack.from + lack.length ≤ size)
+
+-- Neither end has all of these bytes, which are one of the places of every disk with these ends.
+pub record IsLackOf (places : List ℕ → List (ℕ × ℕ)) (head tail : List ℕ) (size : ℕ) (lack : Lack) : Type 0 where
+  pub lacking : IsLack head tail size lack
+  pub among : OfEvery head tail size (λ b. IsAmong (lack.from, lack.length) (places b))
+
+-- every such disk has there, at byte p, the header of the one with zeros, or its fault
+abbrev pub IsHeaderTold : List ℕ → List ℕ → ℕ → ℕ → Type 0
+IsHeaderTold head tail size p = OfEvery head tail size (λ b. header_result b p ≡ header_result (disk_bytes head tail size) p)
+
+-- the entries of this header are the same on each of them, or their fault is
+abbrev pub IsArrayTold : List ℕ → List ℕ → ℕ → ℕ → GPTHeader → Type 0
+IsArrayTold head tail size ss h = OfEvery head tail size (λ b. array_result b ss h ≡ array_result (disk_bytes head tail size) ss h)
+
+-- the copy at byte p is
+abbrev pub IsCopyTold : List ℕ → List ℕ → ℕ → ℕ → ℕ → Type 0
+IsCopyTold head tail size p ss = OfEvery head tail size (λ b. copy_at b p ss ≡ copy_at (disk_bytes head tail size) p ss)
+
+abbrev pub side_of : Bool → Side
+side_of true = backup
+side_of false = primary
+
+-- Every such disk is read as the one with zeros, from this side.
+pub record IsToldAt (head tail : List ℕ) (size ss : ℕ) (side : Side) : Type 0 where
+  pub reading : OfEvery head tail size (λ b. reading_of b ss ≡ reading_of (disk_bytes head tail size) ss)
+  pub from : OfEvery head tail size (λ b. taken_from b ss ≡ side)
+
+-- where the copy is that a reading takes, or what the ends lack
+abbrev pub IsPlace : List ℕ → List ℕ → ℕ → ℕ → Place → Type 0
+IsPlace head tail size ss (At is_backup) = IsToldAt head tail size ss (side_of is_backup)
+IsPlace head tail size ss (Unknown lack) = IsLackOf (λ b. reading_ranges b ss) head tail size lack
+
+-- Every such disk is read as this table, from this side.
+pub record IsTable (head tail : List ℕ) (size ss : ℕ) (table : GPT) (is_backup : Bool) : Type 0 where
+  pub reading : OfEvery head tail size (λ b. reading_of b ss ≡ Ok (copy_of table))
+  pub from : OfEvery head tail size (λ b. taken_from b ss ≡ side_of is_backup)
+  pub sector : table.sector_size ≡ ss
+  pub value : IsAsRead table
+  pub align : 0 < table.align
+
+-- Every such disk is read as this table, from a copy that is in the form of its place, and the table has the stated layout.
+pub record IsStatedTable (head tail : List ℕ) (size ss : ℕ) (table : GPT) : Type 0 where
+  pub is_backup : Bool
+  pub read : IsTable head tail size ss table is_backup
+  pub form : IsHeaderForm (side_of is_backup) table.header
+  pub laid : IsLaidOut (table_in table) ss size
+
+-- What the ends tell: the table, or the fault, of every such disk; or what they lack.
+abbrev pub IsReading : List ℕ → List ℕ → ℕ → ℕ → Reading → Type 0
+IsReading head tail size ss (Table table is_backup) = IsTable head tail size ss table is_backup
+IsReading head tail size ss (Fault e) = (fault_of e ≡ out_of_memory) ⊎ OfEvery head tail size (λ b. reading_of b ss ≡ Err (fault_of e))
+IsReading head tail size ss (Lacks lack) = IsLackOf (λ b. reading_ranges b ss) head tail size lack

@@ -1,0 +1,106 @@
+//! A look at both copies of a table of which only the ends of the disk are known. What is told holds of every disk
+//! with these ends, as in a reading.
+
+ghost use Rattle.std.specs.Prelude.{◌≡◌, ◌≤◌, ◌<◌, ◌+◌, ◌↔◌, length, IfErr, IfOk, IsTrue, MatchOption};
+ghost use Rattle.gptman.specs.Answers.{answer_of};
+ghost use Rattle.gptman.specs.Copy.{copy_of_whole};
+ghost use Rattle.gptman.specs.Fault.{fault_of, out_of_memory};
+ghost use Rattle.gptman_plan.specs.Checking.{number_in, AreCopiesTold, AreFoundIn, IsLook};
+ghost use Rattle.gptman_plan.specs.Ends.{disk_bytes};
+ghost use Rattle.gptman_plan.specs.Reading.{IsLackOf};
+ghost use Rattle.gptman_plan.specs.Rounds.{reading_ranges};
+
+use crate::ends::Ends;
+use crate::reading::{Lack, lack_of_copy};
+use crate::records::Check;
+use gptman::copy::{WholeCopy, last_sector};
+use gptman::{BothCopies, Result};
+use std::alloc::Global;
+
+/// What the ends tell of both copies.
+#[derive(Clone, Copy)]
+pub enum Look {
+    Told(Check),
+    Unknown(Lack),
+}
+
+/// What every disk of that size with these ends has at both places; or bytes that are lacking. There may be no
+/// memory.
+///
+/// The sector size is in bytes.
+pub fn look_at_both(
+    alloc: Global,
+    head: &[u8],
+    tail: &[u8],
+    size: u64,
+    sector_size: u64,
+) -> Result<Look>
+    requires sector { 0 < sector_size }
+    requires apart { length head.now + length tail.now ≤ size }
+    ensures look { IfOk result (IsLook head.now tail.now size sector_size) }
+    ensures refused { IfErr result (λ e. fault_of e ≡ out_of_memory) }
+{
+    if let Some(lack) = lack_of_copies(head, tail, size, sector_size) {
+        return Ok(Look::Unknown(lack));
+    }
+    let copies = find_both(alloc, head, tail, size, sector_size)?;
+    Ok(Look::Told(check_of(&copies)))
+}
+
+// What the ends lack of the two copies.
+fn lack_of_copies(head: &[u8], tail: &[u8], size: u64, sector_size: u64) -> Option<Lack>
+    requires sector { 0 < sector_size }
+    requires apart { length head.now + length tail.now ≤ size }
+    ensures told { MatchOption result (AreCopiesTold head.now tail.now size sector_size)
+        (IsLackOf (λ b. reading_ranges b sector_size) head.now tail.now size) }
+{
+    if let Some(lack) = lack_of_copy(head, tail, size, sector_size, sector_size) {
+        return Some(lack);
+    }
+    if size < sector_size {
+        return None;
+    }
+    let at = last_sector(size, sector_size);
+    lack_of_copy(head, tail, size, at, sector_size)
+}
+
+// Both copies of the disk with zeros between the ends. There may be no memory.
+fn find_both(
+    alloc: Global,
+    head: &[u8],
+    tail: &[u8],
+    size: u64,
+    sector_size: u64,
+) -> Result<BothCopies>
+    requires sector { 0 < sector_size }
+    requires apart { length head.now + length tail.now ≤ size }
+    ensures found { IfOk result (AreFoundIn (disk_bytes head.now tail.now size) sector_size) }
+    ensures refused { IfErr result (λ e. fault_of e ≡ out_of_memory) }
+{
+    let mut disk = Ends::new(head, tail, size);
+    gptman::check(alloc, &mut disk, sector_size)
+}
+
+// What is told of them.
+fn check_of(copies: &BothCopies) -> Check
+    ensures primary { result.primary_fault ≡ number_in (answer_of copy_of_whole copies.now.primary) }
+    ensures backup { result.backup_fault ≡ number_in (answer_of copy_of_whole copies.now.backup) }
+    ensures same { IsTrue copies.now.are_same ↔ (result.are_same ≡ 1) }
+    ensures flag { result.are_same ≤ 1 }
+{
+    Check {
+        primary_fault: fault_in(&copies.primary),
+        backup_fault: fault_in(&copies.backup),
+        are_same: u32::from(copies.are_same),
+    }
+}
+
+// The number of the fault of a copy, or 0 where it has none.
+fn fault_in(copy: &Result<WholeCopy>) -> u32
+    ensures { result ≡ number_in (answer_of copy_of_whole copy.now) }
+{
+    match copy {
+        Ok(_) => 0,
+        Err(fault) => fault.number(),
+    }
+}

@@ -1,0 +1,25 @@
+//! The numbers that calls answer.
+
+/// The ends lack bytes of the disk that the call has to see.
+pub const LACKS_BYTES: u32 = 17;
+
+/// An array of the caller's is too short.
+pub const LACKS_ROOM: u32 = 18;
+
+/// An argument that no disk or table has.
+pub const BAD_ARGUMENT: u32 = 19;
+
+/// The table was made for a disk of another length.
+pub const OTHER_LENGTH: u32 = 100;
+
+/// The table, or the copy that was read, has not the stated layout.
+pub const OTHER_LAYOUT: u32 = 101;
+
+/// The first sector of the disk has partitions of its own.
+pub const DOS_DISK: u32 = 102;
+
+/// There is no place for a partition.
+pub const NO_SPACE_LEFT: u32 = 8;
+
+/// There is no memory.
+pub const OUT_OF_MEMORY: u32 = 15;

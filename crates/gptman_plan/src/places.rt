@@ -1,0 +1,84 @@
+//! What the ends have to show for a write.
+
+ghost use Rattle.std.specs.Prelude.{◌≡◌, ◌≤◌, ◌<◌, ◌⊎◌, ◌+◌, ◌++◌, [], ◌∷◌, length, IfSome, MatchOption};
+ghost use Rattle.gptman.specs.Layout.{copy_ranges_at};
+ghost use Rattle.gptman.specs.Ranges.{AreInside};
+ghost use Rattle.gptman.specs.Reading.{primary, backup};
+ghost use Rattle.gptman.specs.Table.{table_in};
+ghost use Rattle.gptman_plan.specs.Asking.{value_ranges};
+ghost use Rattle.gptman_plan.specs.Crossing.{four_ranges};
+ghost use Rattle.gptman_plan.specs.Ends.{AreRangesKnown, IsKnown};
+ghost use Rattle.gptman_plan.specs.Reading.{IsLack};
+ghost use Rattle.gptman_plan.specs.Rounds.{IsAmong};
+
+use crate::reading::{Lack, lack_of};
+use gptman::GPT;
+use gptman::copy::last_sector;
+use gptman::disk::passes_end;
+
+/// What the ends lack of the four ranges of the table, if these are all on the disk.
+pub fn lack_of_places(head: &[u8], tail: &[u8], size: u64, table: &GPT) -> Option<Lack>
+    requires sector { 0 < table.now.sector_size }
+    requires room { table.now.sector_size ≤ size }
+    requires count { 0 < table.now.header.number_of_partition_entries }
+    requires apart { length head.now + length tail.now ≤ size }
+    ensures known { MatchOption result
+        (AreInside (four_ranges (table_in table.now) table.now.sector_size size) size
+        → AreRangesKnown (length head.now) (length tail.now) size
+        (four_ranges (table_in table.now) table.now.sector_size size))
+        (IsLack head.now tail.now size) }
+    ensures asked { IfSome result (λ lack. IsAmong (lack.from, lack.length) (value_ranges table.now size)) }
+{
+    let sector_size = table.sector_size;
+    let array = 128 * u64::from(table.header.number_of_partition_entries);
+    let start = sector_size.checked_mul(2)?;
+    let lack = lack_of_both(head, tail, size, sector_size, start, array);
+    if lack.is_some() {
+        return lack;
+    }
+    let start = table
+        .header
+        .last_usable_lba
+        .checked_add(1)?
+        .checked_mul(sector_size)?;
+    let header = last_sector(size, sector_size);
+    lack_of_both(head, tail, size, header, start, array)
+}
+
+// What the ends lack of a header and of an array of so many bytes, where these are on the disk.
+fn lack_of_both(
+    head: &[u8],
+    tail: &[u8],
+    size: u64,
+    header: u64,
+    start: u64,
+    array: u64,
+) -> Option<Lack>
+    requires { length head.now + length tail.now ≤ size }
+    ensures known { MatchOption result
+        ((header + 92 ≤ size → IsKnown (length head.now) (length tail.now) size (header, 92))
+        × (start + array ≤ size → IsKnown (length head.now) (length tail.now) size (start, array)))
+        (IsLack head.now tail.now size) }
+    ensures asked { IfSome result
+        (λ lack. IsAmong (lack.from, lack.length) ((header, 92) ∷ (start, array) ∷ [])) }
+{
+    let lack = lack_inside(head, tail, size, header, 92);
+    if lack.is_some() {
+        return lack;
+    }
+    lack_inside(head, tail, size, start, array)
+}
+
+// What the ends lack of so many bytes, where these are on the disk.
+fn lack_inside(head: &[u8], tail: &[u8], size: u64, from: u64, len: u64) -> Option<Lack>
+    requires { length head.now + length tail.now ≤ size }
+    ensures known { MatchOption result
+        (from + len ≤ size → IsKnown (length head.now) (length tail.now) size (from, len))
+        (IsLack head.now tail.now size) }
+    ensures asked { IfSome result (λ lack. (lack.from ≡ from) × (lack.length ≡ len)) }
+{
+    if passes_end(size, from, len) {
+        return None;
+    }
+    lack_of(head, tail, size, from, len)
+}

@@ -1,0 +1,180 @@
+//! Reading a table of which only the ends of its disk are known. What is answered holds of every disk with
+//! these ends, though it is read from the one with zeros between them.
+
+ghost use Rattle.std.specs.Prelude.{◌≡◌, ◌≤◌, ◌<◌, ◌⊎◌, ◌+◌, length, is_ok, IfErr, IfOk};
+ghost use Rattle.std.specs.Prelude.{IfSome, IsErr, MatchOption, Ok};
+ghost use Rattle.gptman.specs.Answers.{answer_of, Refuses};
+ghost use Rattle.gptman.specs.Copy.{copy_at, header_result};
+ghost use Rattle.gptman.specs.Fault.{fault_of, out_of_memory};
+ghost use Rattle.gptman.specs.Reading.{reading_of};
+ghost use Rattle.gptman.specs.TableReads.{copy_of, IsAsRead};
+ghost use Rattle.gptman_plan.specs.Ends.{disk_bytes, IsKnown};
+ghost use Rattle.gptman_plan.specs.Reading.{IsArrayTold, IsCopyTold, IsLack, IsLackOf, IsPlace, IsReading};
+ghost use Rattle.gptman_plan.specs.Rounds.{copy_ranges, entries_range};
+
+use crate::ends::Ends;
+use gptman::copy::{last_sector, read_copy};
+use gptman::disk::passes_end;
+use gptman::{Error, GPT, GPTHeader, Result};
+use std::alloc::Global;
+
+/// Bytes of the disk that neither end has.
+#[derive(Clone, Copy)]
+pub struct Lack {
+    pub from: u64,
+    pub length: u64,
+}
+
+/// What the ends tell of a table.
+#[derive(Drop)]
+pub enum Reading {
+    Table { table: GPT, is_backup: bool },
+    Fault(Error),
+    Lacks(Lack),
+}
+
+// Where the copy is that a reading takes, if the ends tell it.
+#[derive(Clone, Copy)]
+enum Place {
+    At { is_backup: bool },
+    Unknown(Lack),
+}
+
+/// The table of every disk of that size with these ends, or its fault; or bytes that are lacking.
+///
+/// The sector size is in bytes. `OutOfMemory` is no fault of the disk.
+pub fn read(alloc: Global, head: &[u8], tail: &[u8], size: u64, sector_size: u64) -> Reading
+    requires sector { 0 < sector_size }
+    requires apart { length head.now + length tail.now ≤ size }
+    ensures reading { IsReading head.now tail.now size sector_size result }
+{
+    let is_backup = match find_place(alloc, head, tail, size, sector_size) {
+        Err(fault) => return Reading::Fault(fault),
+        Ok(Place::Unknown(lack)) => return Reading::Lacks(lack),
+        Ok(Place::At { is_backup }) => is_backup,
+    };
+    match read_table(alloc, head, tail, size, sector_size) {
+        Err(fault) => Reading::Fault(fault),
+        Ok(table) => Reading::Table { table, is_backup },
+    }
+}
+
+// Where the copy is that a reading takes, if the ends tell it. There may be no memory.
+fn find_place(alloc: Global, head: &[u8], tail: &[u8], size: u64, sector_size: u64) -> Result<Place>
+    requires sector { 0 < sector_size }
+    requires apart { length head.now + length tail.now ≤ size }
+    ensures place { IfOk result (IsPlace head.now tail.now size sector_size) }
+    ensures refused { IfErr result (λ e. fault_of e ≡ out_of_memory) }
+{
+    if let Some(lack) = lack_of_copy(head, tail, size, sector_size, sector_size) {
+        return Ok(Place::Unknown(lack));
+    }
+    if has_primary(alloc, head, tail, size, sector_size)? {
+        return Ok(Place::At { is_backup: false });
+    }
+    if size < sector_size {
+        return Ok(Place::At { is_backup: true });
+    }
+    let at = last_sector(size, sector_size);
+    match lack_of_copy(head, tail, size, at, sector_size) {
+        Some(lack) => Ok(Place::Unknown(lack)),
+        None => Ok(Place::At { is_backup: true }),
+    }
+}
+
+// The table of the disk with zeros between the ends.
+fn read_table(alloc: Global, head: &[u8], tail: &[u8], size: u64, sector_size: u64) -> Result<GPT>
+    requires sector { 0 < sector_size }
+    requires apart { length head.now + length tail.now ≤ size }
+    ensures answer { Refuses result out_of_memory
+        ⊎ (answer_of copy_of result ≡ reading_of (disk_bytes head.now tail.now size) sector_size) }
+    ensures sector { IfOk result (λ g. g.sector_size ≡ sector_size) }
+    ensures value { IfOk result IsAsRead }
+    ensures align { IfOk result (λ g. 0 < g.align) }
+{
+    let mut disk = Ends::new(head, tail, size);
+    GPT::read_from(alloc, &mut disk, sector_size)
+}
+
+// Whether that disk has a copy without fault at the primary place. There may be no memory.
+fn has_primary(alloc: Global, head: &[u8], tail: &[u8], size: u64, sector_size: u64) -> Result<bool>
+    requires sector { 0 < sector_size }
+    requires apart { length head.now + length tail.now ≤ size }
+    ensures answer { IfOk result (λ yes. yes
+        ≡ is_ok (copy_at (disk_bytes head.now tail.now size) sector_size sector_size)) }
+    ensures refused { IfErr result (λ e. fault_of e ≡ out_of_memory) }
+{
+    let mut disk = Ends::new(head, tail, size);
+    disk.position = sector_size;
+    match read_copy(alloc, &mut disk, sector_size) {
+        Ok(_) => Ok(true),
+        Err(Error::OutOfMemory) => Err(Error::OutOfMemory),
+        Err(_) => Ok(false),
+    }
+}
+
+/// What the ends lack of the copy whose header is at this byte.
+pub fn lack_of_copy(head: &[u8], tail: &[u8], size: u64, at: u64, sector_size: u64) -> Option<Lack>
+    requires { length head.now + length tail.now ≤ size }
+    ensures told { MatchOption result (IsCopyTold head.now tail.now size at sector_size)
+        (IsLackOf (λ b. copy_ranges b sector_size at) head.now tail.now size) }
+{
+    if passes_end(size, at, 92) {
+        return None;
+    }
+    if let Some(lack) = lack_of(head, tail, size, at, 92) {
+        return Some(lack);
+    }
+    let header = header_at(head, tail, size, at)?;
+    lack_of_entries(&header, head, tail, size, sector_size)
+}
+
+// The header at this byte of that disk, if it has no fault.
+fn header_at(head: &[u8], tail: &[u8], size: u64, at: u64) -> Option<GPTHeader>
+    requires { length head.now + length tail.now ≤ size }
+    ensures answer { MatchOption result (IsErr (header_result (disk_bytes head.now tail.now size) at))
+        (λ h. header_result (disk_bytes head.now tail.now size) at ≡ Ok h) }
+{
+    let mut disk = Ends::new(head, tail, size);
+    disk.position = at;
+    GPTHeader::read_from(&mut disk).ok()
+}
+
+// What the ends lack of the entries of this header.
+fn lack_of_entries(
+    header: &GPTHeader,
+    head: &[u8],
+    tail: &[u8],
+    size: u64,
+    sector_size: u64,
+) -> Option<Lack>
+    requires { length head.now + length tail.now ≤ size }
+    ensures told { MatchOption result (IsArrayTold head.now tail.now size sector_size header.now)
+        (IsLackOf (λ _. entries_range sector_size (Ok header.now)) head.now tail.now size) }
+{
+    if header.number_of_partition_entries == 0 || header.size_of_partition_entry != 128 {
+        return None;
+    }
+    let start = header.partition_entry_lba.checked_mul(sector_size)?;
+    let len = 128 * u64::from(header.number_of_partition_entries);
+    if passes_end(size, start, len) {
+        return None;
+    }
+    lack_of(head, tail, size, start, len)
+}
+
+// The range itself, where neither end has all of it.
+pub fn lack_of(head: &[u8], tail: &[u8], size: u64, from: u64, len: u64) -> Option<Lack>
+    requires apart { length head.now + length tail.now ≤ size }
+    requires inside { from + len ≤ size }
+    ensures known { MatchOption result (IsKnown (length head.now) (length tail.now) size (from, len))
+        (IsLack head.now tail.now size) }
+    ensures asked { IfSome result (λ lack. (lack.from ≡ from) × (lack.length ≡ len)) }
+{
+    let first = head.len() as u64;
+    let last = tail.len() as u64;
+    if from + len <= first || size - last <= from || first + last == size {
+        return None;
+    }
+    Some(Lack { from, length: len })
+}
