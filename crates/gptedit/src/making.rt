@@ -8,14 +8,12 @@ use gptedit_core::{Creation, Refusal};
 use gptedit_look::{Look, Purpose};
 use gptedit_text::{Header, OtherValue, Parsed};
 use gptedit_words::NewTable;
+use gptman::sizes::{DEFAULT_ENTRY_COUNT, SECTOR_SIZES};
 use std::alloc::Global;
 use std::random::RandomSource;
 
 /// The sector size in bytes of a file, if nothing tells it.
 pub const USUAL_SIZE: u64 = 512;
-
-// How many entries a new table has, if nothing is said.
-const USUAL_COUNT: u32 = 128;
 
 /// Returns the task of `new`. Where a table is read, the new one is written over it; a crash leaves one of the
 /// two, unless there is no order of writing that does.
@@ -31,7 +29,7 @@ pub fn new<R: RandomSource + AllocGlobal>(
     };
     let usual = match &look.table {
         Some(table) => table.header.number_of_partition_entries,
-        None => USUAL_COUNT,
+        None => DEFAULT_ENTRY_COUNT,
     };
     let creation = Creation {
         guid,
@@ -105,10 +103,7 @@ pub fn create<R: RandomSource + AllocGlobal>(
 /// Returns the sector size in bytes that a layout says, if that is one.
 pub fn size_in(header: &Header) -> Option<u64> {
     match header.sector_size {
-        Some(512) => Some(512),
-        Some(1024) => Some(1024),
-        Some(2048) => Some(2048),
-        Some(4096) => Some(4096),
+        Some(bytes) if SECTOR_SIZES.contains(&bytes) => Some(bytes),
         _ => None,
     }
 }

@@ -4,7 +4,7 @@ use crate::drawing::{draw_guid, request_for};
 use crate::failure::Failure;
 use crate::image::Image;
 use crate::task::{Became, Edit, Task, Work};
-use gptedit_core::{Amount, Asked, Bounds, Choice, Growth, Job, Layout, Mode, Size};
+use gptedit_core::{Amount, Asked, Bounds, Choice, DEFAULT_ALIGN, Growth, Job, Layout, Mode, Size};
 use gptedit_look::{Look, Purpose};
 use gptedit_report::Way;
 use gptguid_core::from_name;
@@ -133,7 +133,7 @@ fn layout_of(alloc: Global, mode: Mode) -> Layout {
 // The task of `add --number N --type linux --size 1MiB`.
 fn put_over<R: RandomSource + AllocGlobal>(rt: &R, number: u32) -> Result<Task, Failure> {
     let mut layout = layout_of(rt.alloc(), Mode::Add);
-    layout.align = MIB;
+    layout.align = DEFAULT_ALIGN;
     layout.asked.push(Asked {
         type_guid: from_name("linux"),
         size: Some(Size::Exactly(MIB)),

@@ -12,6 +12,9 @@ pub enum Amount {
     Bytes(u64),
 }
 
+/// Places begin at multiples of this, unless the user says otherwise.
+pub const DEFAULT_ALIGN: Amount = Amount::Bytes(1 << 20);
+
 impl Amount {
     /// How many sectors of so many bytes they are. `None` where that is no whole number.
     pub fn sectors(self, sector_size: u64) -> Option<u64>

@@ -19,7 +19,7 @@ pub mod refusal;
 pub mod resolve;
 mod slots;
 
-pub use amount::Amount;
+pub use amount::{Amount, DEFAULT_ALIGN};
 pub use asked::{Asked, Choice, Layout, Mode, Size};
 pub use dump::layout_of;
 pub use editing::{edit, grow};

@@ -6,14 +6,12 @@ ghost use Rattle.gptman.specs.Disk.{Reads};
 ghost use Rattle.gptedit_look.specs.Wiped.{byte_of};
 
 use crate::blocks::{has_at, read_block};
+use gptman::sizes::SECTOR_SIZES;
 use gptman::{Disk, Result};
 use std::alloc::Global;
 
 /// The bytes of a signature.
 pub const SIGNATURE: [u8; 8] = *b"EFI PART";
-
-/// The sector sizes for which a signature is looked for.
-pub const SECTOR_SIZES: [u64; 4] = [512, 1024, 2048, 4096];
 
 /// One of the two places of a header.
 #[derive(Debug, Clone, Copy, PartialEq, Eq)]

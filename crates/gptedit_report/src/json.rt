@@ -4,6 +4,7 @@ use crate::copies::CopiesState;
 use crate::members::Members;
 use crate::sfdisk::{Attributes, separator_of};
 use gptedit_text::values::is_hidden;
+use gptman::sizes::DEFAULT_ENTRY_COUNT;
 use gptman::{Error, GPT, GPTPartitionEntry};
 use serde_json::Value;
 use std::alloc::{AllocError, Global};
@@ -11,9 +12,6 @@ use std::fmt;
 
 // The code points of one UTF-16 unit are below this one.
 const PAIRS: u32 = 0x1_0000;
-
-// How many entries a table has of which sfdisk does not tell the number.
-const USUAL_COUNT: u32 = 128;
 
 /// A table as JSON: `partitiontable` as `sfdisk --json` has it, and `gptman` with the copy that was read
 /// (`form`), what both copies are, the size of the disk in bytes, the alignment of places in sectors, and
@@ -48,7 +46,7 @@ fn standard_value(alloc: Global, image: &str, table: &GPT) -> Result<Value, Allo
     members.put_number("sectorsize", table.sector_size)?;
     members.put_list("partitions", partition_values(alloc, image, table)?)?;
     let count = table.header.number_of_partition_entries;
-    if count != USUAL_COUNT {
+    if count != DEFAULT_ENTRY_COUNT {
         members.put_text("table-length", format!(in alloc; "{count}")?.as_str())?;
     }
     Ok(members.into_value())

@@ -3,16 +3,11 @@
 use crate::MAX_ENTRIES;
 use crate::fault::EntryFault;
 use crate::found::{FoundCopy, FoundEntry};
-use gptedit_core::{Amount, Asked, Layout, Mode, Size};
+use gptedit_core::{Amount, Asked, DEFAULT_ALIGN, Layout, Mode, Size};
 use gptedit_text::Header;
 use gptman::GPTHeader;
+use gptman::sizes::DEFAULT_ENTRY_COUNT;
 use std::alloc::{AllocError, Global};
-
-// Places that are chosen later are at multiples of 1 MiB.
-const ALIGN: Amount = Amount::Bytes(1 << 20);
-
-// The entries of a table that says no other number.
-const USUAL_COUNT: u32 = 128;
 
 /// What a layout says of the header of its table, and the sectors that partitions may use by it.
 #[derive(Clone, Copy)]
@@ -31,7 +26,7 @@ impl Frame {
     pub fn of(copy: &FoundCopy) -> Frame {
         let spot = copy.spot;
         let count = copy.header.as_ref().and_then(|header| count_of(header));
-        let bytes = u64::from(count.unwrap_or(USUAL_COUNT)).saturating_mul(128);
+        let bytes = u64::from(count.unwrap_or(DEFAULT_ENTRY_COUNT)).saturating_mul(128);
         let array = bytes.div_ceil(spot.sector_size.max(1));
         let lowest = array.saturating_add(2);
         let highest = spot.sectors.saturating_sub(lowest);
@@ -118,7 +113,7 @@ fn empty_layout(alloc: Global) -> Layout {
     Layout {
         mode: Mode::Become { replace: false },
         disk_guid: None,
-        align: ALIGN,
+        align: DEFAULT_ALIGN,
         removed: Vec::new(alloc),
         asked: Vec::new(alloc),
     }

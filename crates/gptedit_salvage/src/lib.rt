@@ -26,8 +26,5 @@ pub use printing::print;
 pub use search::salvage;
 pub use values::json;
 
-/// The sector sizes that are tried unless one is asked for.
-pub const SECTOR_SIZES: [u64; 4] = [512, 1024, 2048, 4096];
-
 /// The most entries of a copy that are read.
 pub const MAX_ENTRIES: u32 = 32768;

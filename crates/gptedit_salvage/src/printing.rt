@@ -1,11 +1,11 @@
 //! What was found, as a layout in TOML with comments.
 
-use crate::SECTOR_SIZES;
 use crate::found::{FoundCopy, FoundEntry, Salvaged};
 use crate::layouts::{Frame, layout_of, layout_of_one};
 use crate::texts::{HeaderText, Partitions, SpotText};
 use gptedit_text::values::Escaped;
 use gptedit_text::{Header, write_layout};
+use gptman::sizes::SECTOR_SIZES;
 use std::alloc::Global;
 use std::io;
 use std::io::Write;

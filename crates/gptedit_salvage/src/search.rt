@@ -5,13 +5,13 @@ ghost use Rattle.gptman.specs.Answers.{IsFailure};
 ghost use Rattle.gptman.specs.Disk.{Reads};
 ghost use Rattle.gptman.specs.Fault.{fault_of, out_of_memory};
 
-use crate::SECTOR_SIZES;
 use crate::arrays::{Span, find_array, is_likely, note_array, note_length, read_array};
 use crate::choice::find_best;
 use crate::fault::Fault;
 use crate::found::{FoundCopy, Place, Salvaged, Spot};
 use crate::headers::{Seen, read_header};
 use crate::judge::judge;
+use gptman::sizes::SECTOR_SIZES;
 use gptman::{Disk, GPTHeader};
 use std::alloc::{AllocError, Global};
 

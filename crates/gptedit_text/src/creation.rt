@@ -4,9 +4,7 @@ ghost use Rattle.std.specs.Prelude.{◌≡◌, false, unwrap_or, Some};
 
 use crate::Parsed;
 use gptedit_core::Creation;
-
-// The number of entries of a new table, where the text does not say it.
-const USUAL_COUNT: u32 = 128;
+use gptman::sizes::DEFAULT_ENTRY_COUNT;
 
 impl Parsed {
     /// Returns the new table that the text describes, of which nothing may be lost and which is to be written.
@@ -25,7 +23,7 @@ impl Parsed {
     {
         Creation {
             guid,
-            entries: self.header.entries.unwrap_or(USUAL_COUNT),
+            entries: self.header.entries.unwrap_or(DEFAULT_ENTRY_COUNT),
             first_usable: self.header.first_usable,
             last_usable: self.header.last_usable,
             layout: Some(self.layout),

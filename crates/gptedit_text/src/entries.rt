@@ -7,9 +7,6 @@ use gptman::PartitionName;
 use std::alloc::Global;
 use std::collections::BTreeSet;
 
-/// Places are chosen at multiples of so much, unless a text says otherwise.
-pub const ALIGN: Amount = Amount::Bytes(1 << 20);
-
 /// The entries that were read.
 #[derive(Drop)]
 pub struct Entries {

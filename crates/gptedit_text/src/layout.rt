@@ -8,13 +8,13 @@ ghost use Rattle.gptedit_text.specs.Layouts.{GivesAttributesOf};
 mod keyed;
 
 use crate::Parsed;
-use crate::entries::{ALIGN, Entries, read_name};
+use crate::entries::{Entries, read_name};
 use crate::error::{Fault, LayoutError, Section};
 use crate::layout::keyed::Keyed;
 use crate::lines::{position_of, with_line};
 use crate::table_header::{Form, Header};
 use crate::values::{read_amount, read_guid, read_sector, read_size, read_type, read_units};
-use gptedit_core::{Amount, Asked};
+use gptedit_core::{Amount, Asked, DEFAULT_ALIGN};
 use gptman::PartitionName;
 use std::alloc::Global;
 use toml::{Table, Value};
@@ -100,7 +100,7 @@ fn read_disk(alloc: Global, file: &Keyed<'_>) -> Result<Disk, LayoutError> {
     let Some(value) = file.get("disk") else {
         return Ok(Disk {
             guid: None,
-            align: ALIGN,
+            align: DEFAULT_ALIGN,
             header: Header::nothing(),
         });
     };
@@ -111,7 +111,7 @@ fn read_disk(alloc: Global, file: &Keyed<'_>) -> Result<Disk, LayoutError> {
     disk.check_keys(alloc)?;
     Ok(Disk {
         guid: disk.word("guid", read_guid)?,
-        align: disk.word("align", read_amount)?.unwrap_or(ALIGN),
+        align: disk.word("align", read_amount)?.unwrap_or(DEFAULT_ALIGN),
         header: read_header(&disk)?,
     })
 }

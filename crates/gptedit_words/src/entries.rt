@@ -14,11 +14,8 @@ use crate::values::{
     amount, attributes, choice, guid, kind, name, new_size, number, number_if_given, numbers, size,
 };
 use clap::ArgMatches;
-use gptedit_core::{Amount, Asked, Choice, Layout, Mode};
+use gptedit_core::{Amount, Asked, Choice, DEFAULT_ALIGN, Layout, Mode};
 use std::alloc::{AllocError, Global};
-
-/// At multiples of so much partitions begin, where nothing else is said.
-const ALIGN: Amount = Amount::Bytes(1 << 20);
 
 /// What they begin at a multiple of, where no place is chosen.
 const ANY: Amount = Amount::Sectors(1);
@@ -32,7 +29,7 @@ pub(crate) fn read_add<'a>(
     ensures refused { RefusedOnlyFor (found_of words.now) (¬ (CanAdd (found_of words.now))) result }
 {
     let asked = read_new_entry(alloc, words)?;
-    let align = amount(words, "--align")?.unwrap_or(ALIGN);
+    let align = amount(words, "--align")?.unwrap_or(DEFAULT_ALIGN);
     Ok(Change::Lay(Layout {
         mode: Mode::Add,
         ..layout_of(alloc, align, asked)?
@@ -95,7 +92,7 @@ pub(crate) fn read_resize<'a>(
         size: new_size(words, "SIZE|max")?,
         ..Asked::nothing(None)
     };
-    Ok(Change::Lay(layout_of(alloc, ALIGN, asked)?))
+    Ok(Change::Lay(layout_of(alloc, DEFAULT_ALIGN, asked)?))
 }
 
 /// What the words of `remove` ask for.

@@ -20,7 +20,7 @@ use crate::codec::header::GPTHeader;
 use crate::crc::{Checksum, crc32};
 use crate::disk::Disk;
 use crate::error::{Error, Result};
-use crate::sizes::{ENTRY_SIZE, HEADER_SIZE};
+use crate::sizes::{DEFAULT_ENTRY_COUNT, ENTRY_SIZE, HEADER_SIZE};
 
 mod read;
 pub(crate) mod write;
@@ -52,7 +52,7 @@ impl GPTHeader {
         ensures value { IfOk result (λ h. h ≡ fit_header (new_header disk_guid) sector_size
             (D.state disk.old).size) }
     {
-        GPTHeader::with_entries(disk, sector_size, disk_guid, 128)
+        GPTHeader::with_entries(disk, sector_size, disk_guid, DEFAULT_ENTRY_COUNT)
     }
 
     /// A header in primary form for a new table of so many entries, fitted to the disk. The sector size

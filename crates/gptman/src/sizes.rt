@@ -1,4 +1,4 @@
-//! The sizes that the format gives, in bytes.
+//! Sizes in bytes, and the usual number of entries.
 
 ghost use Rattle.std.specs.Prelude.{◌≡◌, length};
 
@@ -10,8 +10,14 @@ pub const HEADER_SIZE: u32 = 92;
 /// The size of an entry.
 pub const ENTRY_SIZE: u32 = 128;
 
-/// It does nothing. A proof in another crate has from it how long the first two fields of a header are.
-pub fn note_sizes(header: &GPTHeader)
+/// How many entries a new table has, unless the caller gives a number.
+pub const DEFAULT_ENTRY_COUNT: u32 = 128;
+
+/// The sizes of sectors that disks have.
+pub const SECTOR_SIZES: [u64; 4] = [512, 1024, 2048, 4096];
+
+/// Does nothing. A caller learns from it how long the first two fields of a header are.
+pub(crate) fn note_sizes(header: &GPTHeader)
     ensures signature { length header.now.signature ≡ 8 }
     ensures revision { length header.now.revision ≡ 4 }
 {

@@ -25,7 +25,7 @@ pub(crate) fn got<T, E: Debug>(rt: &impl Abort, outcome: std::result::Result<T, 
 
 /// The text is the one that is wanted.
 pub(crate) fn assert_text(rt: &impl Abort, text: &str, wanted: &str) {
-    assert_eq!(rt; text, wanted);
+    assert!(rt; text == wanted, "{text}");
 }
 
 /// The call was answered so: with "ok", or with the text of its error.

@@ -1,11 +1,10 @@
 //! The headers of a script.
 
-use crate::entries::ALIGN;
 use crate::error::{Fault, LayoutError, Place, Section};
 use crate::script::extent::{read_extent, read_number};
 use crate::table_header::Header;
 use crate::values::read_guid;
-use gptedit_core::Amount;
+use gptedit_core::{Amount, DEFAULT_ALIGN};
 use std::alloc::Global;
 
 /// The headers that were read.
@@ -38,7 +37,7 @@ impl HeaderLines {
         HeaderLines {
             has_label: false,
             disk_guid: None,
-            align: ALIGN,
+            align: DEFAULT_ALIGN,
             header: Header::nothing(),
         }
     }

@@ -15,6 +15,7 @@ ghost use Rattle.gptman.specs.TableReads.{copy_of, is_reading_fault, AnswersRead
 ghost use Rattle.gptman.specs.TableReads.{IsAsRead, IsReadingFault, MayBeRead, ShowsNoSignature};
 
 use crate::copy::{last_sector, read_copy};
+use crate::sizes::DEFAULT_ENTRY_COUNT;
 use crate::table::GPT;
 use crate::table::align::{DEFAULT_ALIGN, find_alignment};
 use crate::table::entries::Entries;
@@ -46,7 +47,7 @@ impl GPT {
             (D.state disk.old) (D.state disk.new) }
         ensures value { IfOk result (λ g. g ≡ new_table disk_guid sector_size (D.state disk.old).size) }
     {
-        GPT::with_entries(alloc, disk, sector_size, disk_guid, 128)
+        GPT::with_entries(alloc, disk, sector_size, disk_guid, DEFAULT_ENTRY_COUNT)
     }
 
     /// A new table of so many unused entries, in primary form, fitted to the disk: `new_from` for another
