@@ -49,6 +49,9 @@ RULES = {
     "salvage prints a layout that apply --create --overwrite takes": ["salvage"],
     "salvage --json is the same as data": ["salvage"],
     "a header of 93 bytes to a sector is readable there": ["salvage"],
+    "salvage reads the entries of the other copy that have the checksum of a good header": [
+        "a header and the other's entries", "entries before the old end"],
+    "the advice of salvage overwrites no entries unawares": ["entries that differ", "entries that are lost"],
     # Words that lift, devices in use, locks
     "--force is split": ["words that lift", "devices in use"],
     "harmless changes of a device in use need neither": ["devices in use"],

@@ -12,8 +12,8 @@ import re
 from harness import runs, table
 from harness.images import Reader, changed, is_in
 
-GATE = ["commands", "refusals", "layouts", "texts", "outputs", "guards", "checks", "safety", "everyday", "traces",
-        "marks", "stops", "streams", "rules", "model"]
+GATE = ["commands", "refusals", "layouts", "texts", "outputs", "guards", "checks", "safety", "salvaging", "everyday",
+        "traces", "marks", "stops", "streams", "rules", "model"]
 TRIALS = ["uses", "sources", "locks", "holders"]
 MODULES = GATE + TRIALS
 CHANGES = ["new", "add", "set", "resize", "remove", "sort", "grow", "repair", "randomize", "apply", "wipe"]

@@ -3,7 +3,7 @@
 use crate::fault::Meaning;
 use crate::way::SAVE;
 use gptedit_look::Look;
-use gptedit_salvage::{Place, Salvaged};
+use gptedit_salvage::{FoundCopy, Place, Salvaged};
 use gptedit_text::values::Escaped;
 use std::fmt;
 
@@ -49,13 +49,22 @@ impl fmt::Display for NoTableText<'_> {
     }
 }
 
-// How many entries of a copy can be read.
+// How many entries can be read at the place of a copy.
 fn count_in(salvaged: &Salvaged, place: Place) -> usize {
     let mut most = 0;
     for copy in salvaged.copies.iter() {
-        if copy.spot.place == place {
+        if place_of_entries(copy) == place {
             most = copy.count_sensible().max(most);
         }
     }
     most
+}
+
+// At the place of which copy the entries of this one were read.
+fn place_of_entries(copy: &FoundCopy) -> Place {
+    match copy.spot.place {
+        place if !copy.has_others_entries() => place,
+        Place::Primary => Place::Backup,
+        Place::Backup | Place::Other => Place::Primary,
+    }
 }

@@ -36,8 +36,8 @@ impl Span {
         .at_usual_place(spot)
     }
 
-    // The array that a header says. Numbers that no array has are the usual ones.
-    fn said_by(header: &GPTHeader) -> Span {
+    /// Returns the array that a header says. Numbers that no array has are the usual ones.
+    pub fn said_by(header: &GPTHeader) -> Span {
         let (count, entry_size) = (
             header.number_of_partition_entries,
             header.size_of_partition_entry,
@@ -57,17 +57,44 @@ impl Span {
         }
     }
 
-    // The same array at the usual place of a copy: after the header in sector 1, else before the header.
-    fn at_usual_place(self, spot: Spot) -> Span {
-        let sectors = self.len().div_ceil(spot.sector_size.max(1));
-        Span {
-            lba: if spot.lba <= 1 {
-                2
-            } else {
-                spot.lba.saturating_sub(sectors)
-            },
-            ..self
+    /// Returns the same array at the usual place of a copy: after the header in sector 1, else before the
+    /// header.
+    pub fn at_usual_place(self, spot: Spot) -> Span {
+        if spot.lba <= 1 {
+            self.at(2)
+        } else {
+            self.before(spot.lba, spot.sector_size)
         }
+    }
+
+    // The same array where the copy other than that of this header usually has it: before the backup header
+    // or after the usable sectors; after the primary header or before the usable sectors.
+    fn at_places_of_other(self, spot: Spot, header: &GPTHeader) -> [Span; 3] {
+        let (other, size) = (header.backup_lba, spot.sector_size);
+        if spot.lba <= 1 {
+            [
+                self.before(other, size),
+                self.before(spot.sectors.saturating_sub(1), size),
+                self.at(header.last_usable_lba.saturating_add(1)),
+            ]
+        } else {
+            [
+                self.at(other.saturating_add(1)),
+                self.at(2),
+                self.before(header.first_usable_lba, size),
+            ]
+        }
+    }
+
+    // The same array from this sector on.
+    fn at(self, lba: u64) -> Span {
+        Span { lba, ..self }
+    }
+
+    // The same array right before this sector.
+    fn before(self, lba: u64, sector_size: u64) -> Span {
+        let sectors = self.len().div_ceil(sector_size.max(1));
+        self.at(lba.saturating_sub(sectors))
     }
 
     // The same array, with the usual number of entries.
@@ -101,6 +128,8 @@ pub struct Array {
     pub checksum: u32,
     /// The entries that have a type.
     pub entries: Vec<FoundEntry>,
+    /// Whether it is where the other copy usually has its entries.
+    pub is_of_other: bool,
 }
 
 impl Array {
@@ -143,10 +172,30 @@ fn is_likely_entry(entry: &GPTPartitionEntry, sectors: u64) -> bool {
     is_sensible(entry, sectors) && entry.starting_lba > 1 && entry.unique_partition_guid != [0; 16]
 }
 
-/// Reads the array of a header: where it says, or where arrays usually are if the entries there have not the
-/// stored checksum.
+/// Reads the array of a header: where it says, or where its copy usually has it. If the entries there do not have
+/// the stored checksum, and those of the other copy do, it is that one.
 #[tactic(auto, using(gptman::proofs::Readers::both_read))]
 pub fn find_array<D: Disk>(
+    alloc: Global,
+    disk: &mut D,
+    spot: Spot,
+    header: &GPTHeader,
+) -> Result<Array, AllocError>
+    ensures reads { Reads (D.state disk.old) (D.state disk.new) }
+{
+    let own = find_own(alloc, disk, spot, header)?;
+    if is_sure(&own, header) {
+        return Ok(own);
+    }
+    match find_of_other(alloc, disk, spot, header)? {
+        Some(array) => Ok(array),
+        None => Ok(own),
+    }
+}
+
+// The array of a header where it says, or where its copy usually has it.
+#[tactic(auto, using(gptman::proofs::Readers::both_read))]
+fn find_own<D: Disk>(
     alloc: Global,
     disk: &mut D,
     spot: Spot,
@@ -174,6 +223,28 @@ pub fn find_array<D: Disk>(
         }
     }
     Ok(best)
+}
+
+// The array of a header where the other copy usually has its entries, if these have the stored checksum.
+#[tactic(auto, using(gptman::proofs::Readers::both_read))]
+fn find_of_other<D: Disk>(
+    alloc: Global,
+    disk: &mut D,
+    spot: Spot,
+    header: &GPTHeader,
+) -> Result<Option<Array>, AllocError>
+    ensures reads { Reads (D.state disk.old) (D.state disk.new) }
+{
+    let mut found = None;
+    for span in Span::said_by(header).at_places_of_other(spot, header) {
+        let mut array = read_array(alloc, disk, spot, span)?;
+        if is_sure(&array, header) {
+            array.is_of_other = true;
+            found = Some(array);
+            break;
+        }
+    }
+    Ok(found)
 }
 
 // Whether the entries have the checksum that the header stores.
@@ -206,6 +277,7 @@ pub fn read_array<D: Disk>(
         checksum: crc32(&bytes),
         bytes,
         entries,
+        is_of_other: false,
     })
 }
 
@@ -250,12 +322,7 @@ pub fn note_array(
     spot: Spot,
 ) -> Result<(), AllocError> {
     note_numbers(faults, header, array.span)?;
-    if header.partition_entry_lba != array.span.lba {
-        faults.push(Fault::MovedEntries {
-            said: header.partition_entry_lba,
-            found: array.span.lba,
-        })?;
-    }
+    note_place(faults, header, array)?;
     note_length(faults, array, spot)?;
     let (stored, computed) = (header.partition_entry_array_crc32, array.checksum);
     if !array.is_whole() || stored == computed {
@@ -325,6 +392,21 @@ fn note_numbers(faults: &mut Vec<Fault>, header: &GPTHeader, span: Span) -> Resu
         faults.push(Fault::EntrySize(size))?;
     } else if size != USUAL {
         faults.push(Fault::LargeEntries(size))?;
+    }
+    Ok(())
+}
+
+// Notes that the array is not where the header says.
+fn note_place(
+    faults: &mut Vec<Fault>,
+    header: &GPTHeader,
+    array: &Array,
+) -> Result<(), AllocError> {
+    let (said, found) = (header.partition_entry_lba, array.span.lba);
+    if array.is_of_other {
+        faults.push(Fault::OtherEntries { said, found })?;
+    } else if said != found {
+        faults.push(Fault::MovedEntries { said, found })?;
     }
     Ok(())
 }

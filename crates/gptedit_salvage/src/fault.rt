@@ -60,6 +60,11 @@ pub enum Fault {
         said: u64,
         found: u64,
     },
+    /// The entries where the header says are lost; those of the other copy have the checksum that it stores.
+    OtherEntries {
+        said: u64,
+        found: u64,
+    },
     /// Entries were read that the header does not count.
     OtherCount {
         said: u32,
@@ -81,6 +86,19 @@ pub enum Fault {
         was: u8,
         is: u8,
     },
+}
+
+impl Fault {
+    /// Reports whether by this fault entries may be lost that were not read.
+    pub fn is_loss(&self) -> bool {
+        matches!(
+            self,
+            Fault::Unreadable { .. }
+                | Fault::TooMany(_)
+                | Fault::EntriesPastEnd { .. }
+                | Fault::EntriesChecksum { .. }
+        )
+    }
 }
 
 impl fmt::Display for Fault {
@@ -158,6 +176,16 @@ fn write_entries_fault<W: fmt::Write>(f: &mut fmt::Formatter<W>, fault: Fault) -
         Fault::MovedEntries { said, found } => {
             write!(f, "the header says that the entries are in sector {said}; ")?;
             write!(f, "they were read from sector {found}")
+        }
+        Fault::OtherEntries { said, found } => {
+            write!(
+                f,
+                "the entries in sector {said} do not have the checksum that the header "
+            )?;
+            write!(
+                f,
+                "stores; those of the other copy have it, and were read from sector {found}"
+            )
         }
         Fault::OtherCount { said, read } => {
             write!(f, "the header counts {said} entries; {read} were read")

@@ -66,6 +66,8 @@ pub struct FoundCopy {
     pub header: Option<GPTHeader>,
     /// What is wrong with it.
     pub faults: Vec<Fault>,
+    /// The first sector of the entries that were read; `None` where none could be.
+    pub entries_lba: Option<u64>,
     /// The entries that have a type, by their numbers.
     pub entries: Vec<FoundEntry>,
 }
@@ -82,6 +84,18 @@ impl FoundCopy {
             .iter()
             .filter(|entry| entry.is_sensible())
             .count()
+    }
+
+    /// Reports whether its entries are those at the place of the other copy.
+    pub fn has_others_entries(&self) -> bool {
+        self.faults
+            .iter()
+            .any(|fault| matches!(fault, Fault::OtherEntries { .. }))
+    }
+
+    /// Reports whether entries of it may be lost: they were not read, or do not have their checksum.
+    pub fn may_lack_entries(&self) -> bool {
+        self.faults.iter().any(|fault| fault.is_loss())
     }
 
     // Whether the device failed where it is.

@@ -5,6 +5,7 @@
 //! writes all of it as data.
 #![tactic(auto)]
 
+mod advice;
 mod arrays;
 mod choice;
 pub mod fault;

@@ -1,5 +1,6 @@
 //! What was found, as a layout in TOML with comments.
 
+use crate::advice::{Advice, count_missing, is_in_layout};
 use crate::found::{FoundCopy, FoundEntry, Salvaged};
 use crate::layouts::{Frame, layout_of, layout_of_one};
 use crate::texts::{HeaderText, Partitions, SpotText};
@@ -27,7 +28,8 @@ pub fn print<W: Write>(
         None => print_nothing(out, image, salvaged),
         Some(best) => {
             let frame = Frame::of(best);
-            print_best(out, alloc, image, best, &frame)?;
+            let advice = Advice::of(salvaged, best, &frame);
+            print_best(out, alloc, image, best, &frame, advice)?;
             for (index, copy) in salvaged.copies.iter().enumerate() {
                 if salvaged.best != Some(index) {
                     print_other(out, alloc, copy, best, &frame)?;
@@ -71,13 +73,14 @@ fn print_sizes<W: Write>(out: &mut W) -> io::Result<()> {
     Ok(())
 }
 
-// Prints the best copy: what is wrong with it, its layout, and the entries that are left out.
+// Prints the best copy: what is wrong with it, the advice, its layout, and the entries that are left out.
 fn print_best<W: Write>(
     out: &mut W,
     alloc: Global,
     image: &str,
     best: &FoundCopy,
     frame: &Frame,
+    advice: Advice,
 ) -> io::Result<()> {
     let (image, spot) = (Escaped(image), SpotText(best.spot));
     let sectors = best.spot.sectors;
@@ -92,10 +95,7 @@ fn print_best<W: Write>(
     if best.header.is_none() {
         writeln!(out, "#   the GUID of the disk is not known")?;
     }
-    writeln!(
-        out,
-        "# gptedit apply --create --overwrite IMAGE FILE writes this layout"
-    )?;
+    writeln!(out, "{advice}")?;
     let layout = layout_of(alloc, best, frame)?;
     let text = write_layout(alloc, &layout, &frame.header)?;
     out.write_all(text.as_bytes())?;
@@ -177,26 +177,4 @@ fn print_other<W: Write>(
         }
     }
     Ok(())
-}
-
-// How many entries of a copy the layout has not.
-fn count_missing(copy: &FoundCopy, best: &FoundCopy, frame: &Frame) -> usize {
-    copy.entries
-        .iter()
-        .filter(|found| !is_in_layout(found, best, frame))
-        .count()
-}
-
-// Whether the layout has the entry, under the same number.
-fn is_in_layout(found: &FoundEntry, best: &FoundCopy, frame: &Frame) -> bool {
-    let Ok(index) = best
-        .entries
-        .binary_search_by_key(&found.number, |other| other.number)
-    else {
-        return false;
-    };
-    match best.entries.get(index) {
-        Some(other) => other.entry == found.entry && frame.takes(other),
-        None => false,
-    }
 }

@@ -11,13 +11,13 @@ use crate::fault::Fault;
 use crate::found::{FoundCopy, Place, Salvaged, Spot};
 use crate::headers::{Seen, read_header};
 use crate::judge::judge;
-use gptman::sizes::SECTOR_SIZES;
 use gptman::{Disk, GPTHeader};
+use gptman::sizes::SECTOR_SIZES;
 use std::alloc::{AllocError, Global};
 
 /// Reads what is there of each copy of a table: the primary one, the backup, and one that is where a header
-/// says; with sectors of this size, or of 512, 1024, 2048 and 4096 bytes. If there is no header at all, arrays
-/// of entries are looked for at their usual places.
+/// says; with sectors of this size, or of 512, 1024, 2048 and 4096 bytes. Where a copy has no header, its entries
+/// are looked for at their usual place.
 ///
 /// What the device cannot read is a fault of the copy.
 ///
@@ -58,11 +58,8 @@ fn find_copies<D: Disk>(
             find_at_size(alloc, disk, size, sector_size, &mut copies)?;
         }
     }
-    if copies.iter().any(|copy| copy.header.is_some()) {
-        return Ok(copies);
-    }
     for sector_size in SECTOR_SIZES {
-        if is_tried(sector_size, asked) {
+        if is_tried(sector_size, asked) && may_be_size(&copies, sector_size) {
             find_bare_at_size(alloc, disk, size, sector_size, &mut copies)?;
         }
     }
@@ -88,6 +85,18 @@ fn is_tried(sector_size: u64, asked: Option<u64>) -> bool {
         Some(asked) => asked == sector_size,
         None => true,
     }
+}
+
+// Whether a header has this sector size, or there is no header.
+fn may_be_size(copies: &[FoundCopy], sector_size: u64) -> bool {
+    let mut has_header = false;
+    for copy in copies.iter().filter(|copy| copy.header.is_some()) {
+        if copy.spot.sector_size == sector_size {
+            return true;
+        }
+        has_header = true;
+    }
+    !has_header
 }
 
 // The place of the primary copy, on a disk of so many bytes.
@@ -188,6 +197,7 @@ fn unreadable_copy(alloc: Global, spot: Spot) -> Result<FoundCopy, AllocError> {
         spot,
         header: None,
         faults,
+        entries_lba: None,
         entries: Vec::new(alloc),
     })
 }
@@ -205,12 +215,14 @@ fn read_copy<D: Disk>(
 {
     let mut array = find_array(alloc, disk, spot, &header)?;
     note_array(alloc, &mut faults, &header, &mut array, spot)?;
+    let entries_lba = Some(array.span.lba);
     let mut entries = array.entries;
     judge(alloc, &mut entries, spot, Some(&header))?;
     Ok(FoundCopy {
         spot,
         header: Some(header),
         faults,
+        entries_lba,
         entries,
     })
 }
@@ -231,7 +243,8 @@ fn find_bare_at_size<D: Disk>(
     find_bare(alloc, disk, backup_spot(primary), copies)
 }
 
-// Adds the copy without a header at this place, if most of what is there makes sense as entries.
+// Adds the copy without a header at this place, if most of what is there makes sense as entries, and they were not
+// read as those of a header.
 #[tactic(auto, using(gptman::proofs::Readers::both_read))]
 fn find_bare<D: Disk>(
     alloc: Global,
@@ -241,7 +254,11 @@ fn find_bare<D: Disk>(
 ) -> Result<(), AllocError>
     ensures reads { Reads (D.state disk.old) (D.state disk.new) }
 {
-    let array = read_array(alloc, disk, spot, Span::usual(spot))?;
+    let span = bare_span(copies, spot);
+    if is_known(copies, spot, span.lba) {
+        return Ok(());
+    }
+    let array = read_array(alloc, disk, spot, span)?;
     if !is_likely(&array, spot.sectors) {
         return Ok(());
     }
@@ -255,7 +272,29 @@ fn find_bare<D: Disk>(
         spot,
         header: None,
         faults,
+        entries_lba: Some(lba),
         entries,
     })?;
     Ok(())
+}
+
+// The array that a copy without a header has at this place: as long as that of a header, or of the usual length.
+fn bare_span(copies: &[FoundCopy], spot: Spot) -> Span {
+    for copy in copies {
+        if let Some(header) = &copy.header {
+            if copy.spot.sector_size == spot.sector_size {
+                return Span::said_by(header).at_usual_place(spot);
+            }
+        }
+    }
+    Span::usual(spot)
+}
+
+// Whether a header is at this place, or the entries from this sector on are those of a header.
+fn is_known(copies: &[FoundCopy], spot: Spot, entries_lba: u64) -> bool {
+    copies.iter().any(|copy| {
+        copy.header.is_some()
+            && copy.spot.sector_size == spot.sector_size
+            && (copy.spot.lba == spot.lba || copy.entries_lba == Some(entries_lba))
+    })
 }
