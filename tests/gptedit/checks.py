@@ -119,6 +119,32 @@ def try_lengths(tally, program):
     says(tally, program, "a disk that was cut", "shorter", None)
 
 
+def try_cut(tally, program):
+    """A disk that was cut where a partition is: each line of `check` names the length that it needs, and `grow` a
+    way out and what else removes the partition, which are followed."""
+    for cut, first in (512, None), (MIB, None), (MIB, 2048), (8 * MIB, None):
+        made = make(program, {1: entry(2048, 4095), 2: entry(8192, END - 33, "two", ROOT)}, first=first)
+        program.set_length(IMAGE, SIZE - cut)
+        longer = f"`truncate -s {SIZE} {IMAGE}`"
+        status, out, _ = program.run("check", IMAGE)
+        tally.holds(f"each line of check names {longer}: {out!r}", status == 1 and
+                    all(longer in line for line in out.splitlines()))
+        status, _, err = program.run("grow", IMAGE)
+        tally.holds(f"grow of a disk that was cut names a partition and {longer}: {err!r}", status == 1 and
+                    "partition 2 " in err and longer in err and "gptedit free" not in err)
+        steps = [re.findall("`([^`]*)`", line) for line in err.splitlines()[1:]]
+        wanted = [made, of({1: made.entries[1]}, SIZE - cut, first=first)]
+        tally.equals(f"how many lines of commands grow prints: {err!r}", len(wanted), len(steps))
+        for commands, result in zip(steps, wanted):
+            for words in [command.split() for command in commands]:
+                if words[:2] == ["truncate", "-s"]:
+                    program.set_length(IMAGE, int(words[2]))
+                else:
+                    tally.equals(f"{words} on a disk that was cut", 0, program.run(*words[1:])[0])
+            tally.equals(f"the table after {commands}", result, table.read(program.file(IMAGE)))
+            tally.equals(f"check after {commands}", 0, program.run("check", IMAGE)[0])
+
+
 def put_both(program, entries, **others):
     """A table with these entries, whatever they are."""
     make(program, entries, **others)
@@ -188,5 +214,5 @@ def try_none(tally, program):
 
 
 SUBJECTS = {"check: faults of copies": try_faults, "check: copies": try_copies, "check: lengths": try_lengths,
-            "check: entries": try_entries, "check: sector 0": try_first_sector, "check: bounds": try_bounds,
-            "check: no table": try_none}
+            "check: a disk that was cut": try_cut, "check: entries": try_entries,
+            "check: sector 0": try_first_sector, "check: bounds": try_bounds, "check: no table": try_none}

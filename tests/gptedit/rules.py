@@ -112,8 +112,9 @@ RULES = {
     "a larger used disk as the target of a clone, then grown": ["everyday: a clone that is grown"],
     "first-usable 2048 and 32768": ["everyday: first usable sectors"],
     "a header rewritten by a boot loader's install, then repair": ["everyday: a rewritten header"],
-    "each line of check is followed": ["check: faults of copies", "check: copies", "check: lengths", "check: entries",
-                                       "check: sector 0", "check: bounds"],
+    "each line of check is followed": ["check: faults of copies", "check: copies", "check: lengths",
+                                       "check: a disk that was cut", "check: entries", "check: sector 0",
+                                       "check: bounds"],
     "wrong programs fail": ["trials/planted/__main__.py"],
 }
 

@@ -10,7 +10,7 @@ use gptedit_busy::find_users;
 use gptedit_core::{Bounds, Refusal};
 use gptedit_look::{Look, MbrChange, MbrKind, Obstacle, Purpose, What, find_obstacle};
 use gptedit_marks::find_contents;
-use gptedit_report::{Edges, ObstacleText, Shortened, ShortenedText, find_shortened};
+use gptedit_report::{CutText, Edges, ObstacleText, Shortened, ShortenedText, find_shortened};
 use gptedit_text::values::Escaped;
 use gptedit_words::Options;
 use gptman::GPT;
@@ -118,14 +118,32 @@ fn draft(
             mbr: MbrChange::Left,
             replaced: None,
         }),
-        Became::Refused { table, refusal } => Err(refuse_asked(
+        Became::Refused { table, refusal } => Err(refuse_task(
             alloc,
             image.name,
+            look,
+            task,
             table.as_ref(),
-            sector_size,
             &refusal,
         )),
     }
+}
+
+// The refusal of a task. Where partitions do not fit on a disk that was cut, it says what helps.
+fn refuse_task(
+    alloc: Global,
+    image: &str,
+    look: &Look,
+    task: &Task,
+    table: Option<&GPT>,
+    refusal: &Refusal,
+) -> Failure {
+    if let (Work::Grow(_), Refusal::BadBoundaries, Some(table)) = (&task.work, refusal, table) {
+        if let Some(text) = CutText::of(table, look.size, image) {
+            return refuse(alloc, image, &text);
+        }
+    }
+    refuse_asked(alloc, image, table, look.sector_size.max(1), refusal)
 }
 
 /// Returns a copy of a table.

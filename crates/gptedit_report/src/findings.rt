@@ -4,7 +4,7 @@ use crate::bounds::Edges;
 use crate::copies::CopiesState;
 use crate::entries::{EntryFault, Removal, find_entry_faults};
 use crate::fault::Meaning;
-use crate::layout::Standing;
+use crate::layout::{Standing, length_to};
 use crate::way::{Otherwise, Way};
 use gptedit_look::{Look, MbrKind, Place, Signature};
 use gptman::{Error, GPT};
@@ -127,12 +127,18 @@ impl<'a> Findings<'a> {
         if let Some(way) = self.removal.way(self.alloc)? {
             ways.push(way)?;
         }
-        let otherwise = match self.standing {
+        self.push(wrong, ways, self.otherwise())
+    }
+
+    // What is said if no command mends something of the table.
+    fn otherwise(&self) -> Otherwise {
+        match self.standing {
             None => Otherwise::Save,
-            Some(Standing::Cut(_)) => Otherwise::Lengthen,
+            Some(Standing::Cut(last)) => {
+                Otherwise::Lengthen(length_to(last, self.look.sector_size))
+            }
             _ => Otherwise::OtherTool,
-        };
-        self.push(wrong, ways, otherwise)
+        }
     }
 
     // Whether a usable sector is one of a copy's.
@@ -206,7 +212,7 @@ impl<'a> Findings<'a> {
         if let Some(way) = self.removal.way(self.alloc)? {
             ways.push(way)?;
         }
-        self.push(Wrong::Bounds(edges), ways, Otherwise::OtherTool)
+        self.push(Wrong::Bounds(edges), ways, self.otherwise())
     }
 
     // Adds what is wrong with entries.
@@ -226,7 +232,7 @@ impl<'a> Findings<'a> {
             if let Some(way) = self.removal.way(self.alloc)? {
                 ways.push(way)?;
             }
-            self.push(Wrong::Entry(fault), ways, Otherwise::OtherTool)?;
+            self.push(Wrong::Entry(fault), ways, self.otherwise())?;
         }
         Ok(())
     }

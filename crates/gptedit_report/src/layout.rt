@@ -35,6 +35,11 @@ impl Standing {
     }
 }
 
+/// Returns the length in bytes of a disk that ends with this sector.
+pub(crate) fn length_to(last: u64, sector_size: u64) -> u64 {
+    last.saturating_add(1).saturating_mul(sector_size)
+}
+
 // Whether the table stands as gptedit writes one on a disk that ends with this sector.
 fn has_layout_to(table: &GPT, last: u64) -> bool {
     let Some(sectors) = last.checked_add(1) else {

@@ -47,8 +47,8 @@ impl Way {
 pub enum Otherwise {
     /// There is no table: the disk is to be copied first.
     Save,
-    /// The disk is to be as long as it was.
-    Lengthen,
+    /// The disk is to have so many bytes, as it had before.
+    Lengthen(u64),
     /// The tool that made it.
     OtherTool,
 }
@@ -102,8 +102,26 @@ fn write_otherwise<W: fmt::Write>(
             "`gptedit salvage {}` prints what can be read; {SAVE}",
             Escaped(image)
         ),
-        Otherwise::Lengthen => f.write_str("make the disk as long as it was"),
+        Otherwise::Lengthen(size) => write!(
+            f,
+            "copy the image again, or restore its length with {}",
+            Truncate { size, image }
+        ),
         Otherwise::OtherTool => f.write_str("the tool that made it"),
+    }
+}
+
+/// The command that gives an image so many bytes.
+#[derive(Clone, Copy)]
+pub(crate) struct Truncate<'a> {
+    pub(crate) size: u64,
+    pub(crate) image: &'a str,
+}
+
+impl fmt::Display for Truncate<'_> {
+    fn fmt<W: fmt::Write>(&self, f: &mut fmt::Formatter<W>) -> fmt::Result {
+        let (size, image) = (self.size, Escaped(self.image));
+        write!(f, "`truncate -s {size} {image}`")
     }
 }
 

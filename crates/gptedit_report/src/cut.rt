@@ -1,0 +1,102 @@
+//! That partitions do not fit on a disk whose end was cut off, and the ways out.
+
+use crate::bounds::Edges;
+use crate::layout::{Standing, length_to};
+use crate::way::Truncate;
+use gptedit_text::values::Escaped;
+use gptman::GPT;
+use std::fmt;
+
+/// That partitions do not fit on a disk whose end was cut off, and what to do, in three lines without the last
+/// newline.
+#[derive(Clone, Copy)]
+pub struct CutText<'a> {
+    table: &'a GPT,
+    edges: Edges,
+    // The length of the disk in bytes, and that which it had before.
+    size: u64,
+    size_before: u64,
+    image: &'a str,
+}
+
+impl<'a> CutText<'a> {
+    /// Returns the text for a disk of this length in bytes, if that is shorter than its table says and a partition
+    /// does not fit.
+    pub fn of(table: &'a GPT, size: u64, image: &'a str) -> Option<CutText<'a>> {
+        let Standing::Cut(last) = Standing::of(table, size) else {
+            return None;
+        };
+        let text = CutText {
+            table,
+            edges: Edges::of(table, size),
+            size,
+            size_before: length_to(last, table.sector_size),
+            image,
+        };
+        if text.count() == 0 { None } else { Some(text) }
+    }
+
+    // How many partitions do not fit.
+    fn count(&self) -> usize {
+        let most = self.edges.most;
+        self.table
+            .iter()
+            .filter(|(_, entry)| entry.is_used() && entry.ending_lba > most)
+            .count()
+    }
+
+    // Writes the numbers of the partitions that do not fit, each after this text.
+    fn write_numbers<W: fmt::Write>(&self, f: &mut fmt::Formatter<W>, before: &str) -> fmt::Result {
+        for (number, entry) in self.table.iter() {
+            if entry.is_used() && entry.ending_lba > self.edges.most {
+                write!(f, "{before}{number}")?;
+            }
+        }
+        Ok(())
+    }
+
+    // Writes which partitions do not fit.
+    fn write_reason<W: fmt::Write>(&self, f: &mut fmt::Formatter<W>) -> fmt::Result {
+        let Edges { least, most, .. } = self.edges;
+        let (noun, verb) = if self.count() == 1 {
+            ("partition", "does")
+        } else {
+            ("partitions", "do")
+        };
+        f.write_str(noun)?;
+        self.write_numbers(f, " ")?;
+        write!(
+            f,
+            " {verb} not fit: the disk leaves sectors {least}..{most} to partitions"
+        )
+    }
+}
+
+impl fmt::Display for CutText<'_> {
+    fn fmt<W: fmt::Write>(&self, f: &mut fmt::Formatter<W>) -> fmt::Result {
+        let image = self.image;
+        let (shorter, longer) = (
+            Truncate {
+                size: self.size,
+                image,
+            },
+            Truncate {
+                size: self.size_before,
+                image,
+            },
+        );
+        let name = Escaped(image);
+        self.write_reason(f)?;
+        write!(
+            f,
+            "\ncopy the image again, or run {longer} and `gptedit repair {name}`: "
+        )?;
+        f.write_str("what was cut off is then zeros")?;
+        write!(
+            f,
+            "\nto remove what does not fit, then run `gptedit remove {name}"
+        )?;
+        self.write_numbers(f, " ")?;
+        write!(f, "`, {shorter} and `gptedit grow {name}`")
+    }
+}
