@@ -15,7 +15,7 @@ RULES = {
     "the place of a broken copy is free where a header of this table is there or the range is zero":
         ["places of broken copies"],
     "otherwise only repair writes there, and its dry run names what it replaces":
-        ["places of broken copies", "everyday: a rewritten header"],
+        ["places of broken copies", "old entries in such places", "everyday: a rewritten header"],
     "new, apply --create and the new place of the backup copy: anything that is not recognised":
         ["the new place of the backup copy", "everyday: wiped disks"],
     "a stale copy of a table at that end counts as nothing":

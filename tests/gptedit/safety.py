@@ -63,6 +63,28 @@ def try_broken(tally, program):
     holds(tally, program, "repair over a loader", ONE)
 
 
+def try_old_entries(tally, program):
+    """Entries in the place of a copy without a header are named as such, and not as a boot loader."""
+    for header, array in (512, 1024), (SIZE - 512, SIZE - 33 * 512):
+        for what, entries in ("this", TWO), ("older", {**ONE, 7: entry(20480, 24575, "seven", ESP)}):
+            make(program, TWO)
+            program.put(IMAGE, header, bytes(512))
+            program.put(IMAGE, array, table.array_of(entries, 128))
+            before = program.state(IMAGE)
+            refused(tally, program, ADD, "entries", what, f"`gptedit repair {IMAGE}`", statuses=REFUSED)
+            told = [program.run(*ADD)[2], goes(tally, program, ["repair", IMAGE, "-n"])]
+            tally.holds(f"entries of {what} table are not called a boot loader: {told}", "board" not in "".join(told))
+            tally.equals(f"repair names the entries of an older table: {told}", what == "older",
+                         "older" in told[1] and "entries" in told[1])
+            tally.holds("what was tried leaves the image", program.state(IMAGE) == before)
+            goes(tally, program, ["repair", IMAGE])
+            holds(tally, program, f"repair over entries of {what} table", TWO)
+    make(program, ONE)
+    program.put(IMAGE, 512, bytes(512))
+    program.put(IMAGE, 1024, LOADER)
+    refused(tally, program, ADD, "board", statuses=REFUSED)
+
+
 def try_new_end(tally, program):
     """The new place of the backup copy: anything but contents that are recognised."""
     for name, at, mark in [("LUKS", 0, b"LUKS\xba\xbe\0\2"), ("a VHD's footer", MIB * 4 - 512, b"conectix"),
@@ -542,8 +564,9 @@ def try_grow_stops(tally, program):
 
 
 SUBJECTS = {"entries that are elsewhere": try_elsewhere, "a low last sector": try_low_last,
-            "places of broken copies": try_broken, "the new place of the backup copy": try_new_end,
-            "a file system over the disk": try_superfloppy, "repair --bounds": try_repair_bounds,
+            "places of broken copies": try_broken, "old entries in such places": try_old_entries,
+            "the new place of the backup copy": try_new_end, "a file system over the disk": try_superfloppy,
+            "repair --bounds": try_repair_bounds,
             "DOS disks": try_dos_disk, "what is no DOS disk": try_no_dos, "hybrid MBRs": try_hybrid,
             "no good copy": try_no_good_copy, "what new is refused over": try_new_over, "salvage": try_salvage,
             "contents that other programs made": try_made, "words that lift": try_force,

@@ -19,6 +19,7 @@ mod making;
 mod mbr;
 mod own;
 mod planning;
+mod remains;
 mod task;
 mod tasks;
 mod telling;

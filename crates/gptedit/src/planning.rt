@@ -3,14 +3,17 @@
 use crate::failure::{Failure, refuse, refuse_asked, refuse_busy, refuse_error, refuse_no_table};
 use crate::image::Image;
 use crate::mbr::change_mbr;
-use crate::own::{Own, has_same_entries, read_at};
+use crate::own::{Own, read_at};
+use crate::remains::find_remains;
 use crate::task::{Became, Task, Work};
 use crate::using::UseText;
 use gptedit_busy::find_users;
 use gptedit_core::{Bounds, Refusal};
 use gptedit_look::{Look, MbrChange, MbrKind, Obstacle, Purpose, What, find_obstacle};
 use gptedit_marks::find_contents;
-use gptedit_report::{CutText, Edges, ObstacleText, Shortened, ShortenedText, find_shortened};
+use gptedit_report::{
+    CutText, Edges, ObstacleText, Remains, Shortened, ShortenedText, find_shortened,
+};
 use gptedit_text::values::Escaped;
 use gptedit_words::Options;
 use gptman::GPT;
@@ -31,7 +34,16 @@ pub struct Plan {
     /// What becomes of the MBR.
     pub mbr: MbrChange,
     /// What `repair` replaces in the place of a broken copy, if that is something.
-    pub replaced: Option<Obstacle>,
+    pub replaced: Option<Replaced>,
+}
+
+/// What `repair` replaces in the place of a broken copy.
+#[derive(Clone, Copy)]
+pub struct Replaced {
+    /// The sectors.
+    pub obstacle: Obstacle,
+    /// What is there.
+    pub remains: Remains,
 }
 
 impl Plan {
@@ -81,17 +93,16 @@ fn find_replaced(
     image: &mut Image<'_>,
     look: &Look,
     next: &GPT,
-) -> Result<Option<Obstacle>, Failure> {
+) -> Result<Option<Replaced>, Failure> {
     let disk = &mut image.opened.disk;
-    let found = match find_obstacle(disk, look, Purpose::Edit, next) {
+    let obstacle = match find_obstacle(disk, look, Purpose::Edit, next) {
         Ok(Some(obstacle)) if obstacle.what == What::BoardCode => obstacle,
         Ok(_) => return Ok(None),
         Err(error) => return Err(refuse_error(alloc, image.name, &error)),
     };
-    match has_same_entries(disk, look, next, found) {
-        Ok(true) => Ok(None),
-        Ok(false) => Ok(Some(found)),
-        Err(error) => Err(refuse_error(alloc, image.name, &error)),
+    match find_remains(alloc, image, look, next, obstacle)? {
+        Remains::SameEntries => Ok(None),
+        remains => Ok(Some(Replaced { obstacle, remains })),
     }
 }
 
@@ -218,7 +229,9 @@ fn refuse_obstacles(
     match find_obstacle(disk, look, task.purpose, &plan.next) {
         Ok(None) => (),
         Ok(Some(obstacle)) => {
-            return Err(refuse_obstacle(alloc, image.name, look, task.purpose, &obstacle));
+            let remains = find_remains(alloc, image, look, &plan.next, obstacle)?;
+            let replaced = Replaced { obstacle, remains };
+            return Err(refuse_obstacle(alloc, image.name, look, task.purpose, &replaced));
         }
         Err(error) => return Err(refuse_error(alloc, image.name, &error)),
     }
@@ -259,19 +272,23 @@ fn refuse_dos(alloc: Global, image: &str, look: &Look) -> Result<(), Failure> {
         last: 0,
         what: What::DosDisk,
     };
-    Err(refuse_obstacle(alloc, image, look, Purpose::Edit, &obstacle))
+    let remains = Remains::Unknown;
+    let replaced = Replaced { obstacle, remains };
+    Err(refuse_obstacle(alloc, image, look, Purpose::Edit, &replaced))
 }
 
-/// Returns the refusal for what is in the way of a write.
-pub fn refuse_obstacle(
+// The refusal for what is in the way of a write.
+fn refuse_obstacle(
     alloc: Global,
     image: &str,
     look: &Look,
     purpose: Purpose,
-    obstacle: &Obstacle,
+    replaced: &Replaced,
 ) -> Failure {
+    let Replaced { obstacle, remains } = replaced;
     let text = ObstacleText {
         obstacle,
+        remains: *remains,
         purpose,
         table: look.table.as_ref(),
         image,

@@ -52,8 +52,12 @@ pub fn tell<W: Write>(
         out.write_all(b"a stop may leave neither table\n")?;
     }
     if let Some(replaced) = &plan.replaced {
-        let (first, last) = (replaced.first, replaced.last);
-        let what = WhatText(replaced.what);
+        let (obstacle, remains) = (replaced.obstacle, replaced.remains);
+        let (first, last) = (obstacle.first, obstacle.last);
+        let what = WhatText {
+            what: obstacle.what,
+            remains,
+        };
         writeln!(
             out,
             "sectors {first}..{last} are replaced, where there is {what}"

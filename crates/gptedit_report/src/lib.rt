@@ -39,7 +39,7 @@ pub use free::{free_json, print_free};
 pub use json::{print_json, table_json};
 pub use kept::{Shortened, ShortenedText, UnlistedText, find_shortened, find_unlisted};
 pub use no_table::NoTableText;
-pub use obstacle::{ObstacleText, WhatText};
+pub use obstacle::{ObstacleText, Remains, WhatText};
 pub use refusal::{RefusalText, write_bad_boundaries, write_not_laid_out, write_shared_guid};
 pub use show::show_table;
 pub use types::{print_types, types_json};

@@ -5,11 +5,24 @@ use gptedit_text::values::Escaped;
 use gptman::GPT;
 use std::fmt;
 
+/// What is in the place of a broken copy, where only `repair` writes.
+#[derive(Clone, Copy, PartialEq, Eq, Debug)]
+pub enum Remains {
+    /// The entries of the table.
+    SameEntries,
+    /// Entries of another table, or older ones of this table.
+    OtherEntries,
+    /// Something else.
+    Unknown,
+}
+
 /// That a write would overwrite something, and what to do, in two lines without the last newline.
 #[derive(Clone, Copy)]
 pub struct ObstacleText<'a> {
     /// What is in the way.
     pub obstacle: &'a Obstacle,
+    /// What that is in the place of a broken copy.
+    pub remains: Remains,
     /// What the table is written for.
     pub purpose: Purpose,
     /// The table that is there, if one is read.
@@ -29,12 +42,7 @@ impl fmt::Display for ObstacleText<'_> {
             }
             (What::BoardCode, Purpose::Edit | Purpose::Fit) => {
                 self.write_range(f)?;
-                let image = Escaped(self.image);
-                write!(f, "`gptedit repair {image}` writes the copy there; ")?;
-                write!(
-                    f,
-                    "`gptedit repair {image} --dry-run` names what it replaces"
-                )
+                self.write_repair(f)
             }
             _ => {
                 self.write_range(f)?;
@@ -55,7 +63,7 @@ const LIFTED: &str = "--overwrite writes the table all the same";
 impl ObstacleText<'_> {
     // What a new table would overwrite.
     fn write_new<W: fmt::Write>(&self, f: &mut fmt::Formatter<W>) -> fmt::Result {
-        write!(f, "there is {}", WhatText(self.obstacle.what))?;
+        write!(f, "there is {}", self.what())?;
         if let (What::Table, Some(table)) = (self.obstacle.what, self.table) {
             let count = table.iter().filter(|(_, entry)| entry.is_used()).count();
             write!(f, " of {count} partitions")?;
@@ -65,22 +73,48 @@ impl ObstacleText<'_> {
 
     // The sectors, and what is there.
     fn write_range<W: fmt::Write>(&self, f: &mut fmt::Formatter<W>) -> fmt::Result {
-        let Obstacle { first, last, what } = *self.obstacle;
+        let Obstacle { first, last, .. } = *self.obstacle;
         writeln!(
             f,
             "sectors {first}..{last} would be overwritten, where there is {}",
-            WhatText(what)
+            self.what()
         )
+    }
+
+    // That `repair` writes there. Over the same entries it replaces nothing.
+    fn write_repair<W: fmt::Write>(&self, f: &mut fmt::Formatter<W>) -> fmt::Result {
+        let image = Escaped(self.image);
+        write!(f, "`gptedit repair {image}` writes the copy there")?;
+        if self.remains == Remains::SameEntries {
+            return Ok(());
+        }
+        write!(
+            f,
+            "; `gptedit repair {image} --dry-run` names what it replaces"
+        )
+    }
+
+    // What is in the way.
+    fn what(&self) -> WhatText {
+        WhatText {
+            what: self.obstacle.what,
+            remains: self.remains,
+        }
     }
 }
 
 /// What was recognised, as in a sentence.
 #[derive(Clone, Copy)]
-pub struct WhatText(pub What);
+pub struct WhatText {
+    /// What it is.
+    pub what: What,
+    /// What it is in the place of a broken copy.
+    pub remains: Remains,
+}
 
 impl fmt::Display for WhatText {
     fn fmt<W: fmt::Write>(&self, f: &mut fmt::Formatter<W>) -> fmt::Result {
-        match self.0 {
+        match self.what {
             What::Content(name) | What::Footer(name) => f.write_str(name),
             What::OtherSectorSize(size) => {
                 write!(
@@ -88,8 +122,20 @@ impl fmt::Display for WhatText {
                     "the header of a GUID partition table with sectors of {size} bytes"
                 )
             }
+            What::BoardCode => f.write_str(remains_name(self.remains)),
             other => f.write_str(plain_name(other)),
         }
+    }
+}
+
+// What is in the place of a broken copy.
+fn remains_name(remains: Remains) -> &'static str {
+    match remains {
+        Remains::SameEntries => "an array of the entries of this table, without a good header",
+        Remains::OtherEntries =>
+            "an array of entries of another table, or of older entries of this one",
+        Remains::Unknown =>
+            "something in the place of a broken copy, as the boot loader of a board",
     }
 }
 
@@ -100,7 +146,6 @@ fn plain_name(what: What) -> &'static str {
         What::ElsewhereEntries =>
             "something in the place of entries that another tool put elsewhere",
         What::AfterLastUsable => "something after the last usable sector",
-        What::BoardCode => "something in the place of a broken copy, as the boot loader of a board",
         What::Table => "a GUID partition table",
         What::Header => "the header of a GUID partition table",
         What::ProtectiveMbr => "a protective MBR",

@@ -11,8 +11,8 @@ use crate::fault::Fault;
 use crate::found::{FoundCopy, Place, Salvaged, Spot};
 use crate::headers::{Seen, read_header};
 use crate::judge::judge;
-use gptman::{Disk, GPTHeader};
 use gptman::sizes::SECTOR_SIZES;
+use gptman::{Disk, GPTHeader};
 use std::alloc::{AllocError, Global};
 
 /// Reads what is there of each copy of a table: the primary one, the backup, and one that is where a header

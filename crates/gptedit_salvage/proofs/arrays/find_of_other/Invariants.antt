@@ -1,4 +1,4 @@
-use Rattle.gptman_copy.specs.Disk.{Reads}
+use Rattle.gptman.specs.Disk.{Reads}
 use Rattle.gptedit_salvage.proofs.arrays.find_of_other.Given as goal
 
 abbrev pub invariant-loop-span : goal.invariant-loop-span

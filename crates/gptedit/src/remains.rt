@@ -1,0 +1,47 @@
+//! What is in the place of a broken copy, where only `repair` writes.
+
+use crate::failure::{Failure, refuse_error};
+use crate::image::Image;
+use crate::own::has_same_entries;
+use gptedit_look::{Look, Obstacle, What};
+use gptedit_report::Remains;
+use gptedit_salvage::{FoundCopy, salvage};
+use gptman::GPT;
+use std::alloc::Global;
+
+/// Returns what an obstacle is in the place of the copy other than that of the table.
+pub fn find_remains(
+    alloc: Global,
+    image: &mut Image<'_>,
+    look: &Look,
+    table: &GPT,
+    obstacle: Obstacle,
+) -> Result<Remains, Failure> {
+    let place = match table.header.other() {
+        Some(other) if obstacle.what == What::BoardCode => other.partition_entry_lba,
+        _ => return Ok(Remains::Unknown),
+    };
+    if obstacle.first < place {
+        return Ok(Remains::Unknown);
+    }
+    let disk = &mut image.opened.disk;
+    match has_same_entries(disk, look, table, obstacle) {
+        Ok(true) => return Ok(Remains::SameEntries),
+        Ok(false) => (),
+        Err(error) => return Err(refuse_error(alloc, image.name, &error)),
+    }
+    match salvage(alloc, disk, Some(look.sector_size)) {
+        Ok(salvaged)
+            if salvaged
+                .copies
+                .iter()
+                .any(|copy| has_entries_at(copy, place)) => { Ok(Remains::OtherEntries) }
+        Ok(_) => Ok(Remains::Unknown),
+        Err(error) => Err(refuse_error(alloc, image.name, &error)),
+    }
+}
+
+// Whether the entries of a copy are in this sector, and most of them make sense.
+fn has_entries_at(copy: &FoundCopy, lba: u64) -> bool {
+    copy.entries_lba == Some(lba) && copy.count_sensible() > copy.entries.len() / 2
+}
