@@ -37,7 +37,7 @@ dist:
 package:
 	@scripts/package
 
-# Installs the programs and the library for C, and builds first what was not built yet.
+# Installs the programs, the library for C and the package for Python, and builds first what was not built yet.
 install:
 	@test -f lib/libgptman.a || PREFIX="$(PREFIX)" scripts/build_library
 	@test -x gptimg || scripts/build
@@ -55,7 +55,8 @@ install:
 	install -D -m 644 lib/gptman.pc "$(DESTDIR)$(PREFIX)/lib/pkgconfig/gptman.pc"
 	install -D -m 644 include/gptman.h "$(DESTDIR)$(PREFIX)/include/gptman.h"
 	install -D -m 644 include/gptman_fd.h "$(DESTDIR)$(PREFIX)/include/gptman_fd.h"
-	install -D -m 644 python/gptman.py "$(DESTDIR)$(PREFIX)/share/gptman/gptman.py"
+	install -d "$(DESTDIR)$(PREFIX)/lib/python3/dist-packages/gptman"
+	install -m 644 python/gptman/*.py python/gptman/py.typed "$(DESTDIR)$(PREFIX)/lib/python3/dist-packages/gptman"
 
 # Makes an empty disk image, writes a table to it and shows it.
 demo: gptimg

@@ -31,7 +31,8 @@ try_root() {
     else
         echo "-- this user may not enter another root: the programs are not run there"
     fi
-    for name in include/gptman.h include/gptman_fd.h share/man/man1/gptedit.1.gz share/doc/gptman/README.md; do
+    for name in include/gptman.h include/gptman_fd.h share/man/man1/gptedit.1.gz share/doc/gptman/README.md \
+        lib/python3/dist-packages/gptman/__init__.py; do
         holds "$name is there" test -s "$root$prefix/$name"
     done
 }
@@ -44,6 +45,8 @@ holds "the same bytes twice: $archive" cmp "$archive" "$work/first.tar.gz"
 mkdir -p "$work/dist/usr/local"
 holds "unpacking $archive" tar -C "$work/dist/usr/local" --strip-components=1 -xzf "$archive"
 try_root "$work/dist" /usr/local
+holds "the package for Python finds the library" env GPTMAN_LIBRARY= \
+    PYTHONPATH="$work/dist/usr/local/lib/python3/dist-packages" python3 -B -c 'import gptman; print(gptman.version())'
 
 if command -v dpkg-deb > /dev/null; then
     holds "make package" make -s package

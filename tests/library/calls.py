@@ -215,7 +215,7 @@ def try_mbr(tally, library, program):
             wanted = data[446:512] if out == "ok\n" else fault_in(out)
             answer = calls.gptman_mbr(ctypes.c_uint64(size), ctypes.c_uint64(sector), 0, room, ctypes.c_size_t(66))
             tally.equals(f"the bytes of an MBR on {size} bytes with sectors of {sector}", wanted,
-                         gptman.FAULTS[answer - 1] if answer else room.raw)
+                         gptman.Error.of(answer).name if answer else room.raw)
     start(program)
     with gptman.Disk(program.file("disk.img"), writable=True) as disk:
         disk.write_mbr(bootable=True)
@@ -236,7 +236,7 @@ def with_mbr(program, size, write):
 
 def mbr_by_module(gptman, path, sector, kind):
     """Writes an MBR by the module. Gives the line that gptimg prints."""
-    with gptman._File(path, sector, True) as file:
+    with gptman._disk._File(path, sector, True) as file:
         fault = refusal(gptman, lambda: file.write_mbr(kind == "bootable"))
     return f"fault: {fault}\n" if fault else "ok\n"
 
@@ -474,7 +474,7 @@ def text_of(units):
 def try_names(tally, library, program):
     """Names as UTF-8, and what is no name."""
     gptman, random_ = module(), random.Random(10)
-    calls, partition = ctypes.CDLL(os.environ["GPTMAN_LIBRARY"]), gptman._Partition()
+    calls, partition = ctypes.CDLL(os.environ["GPTMAN_LIBRARY"]), gptman._calls.Entry()
     for _ in range(400):
         units = [random_.choice([random_.randrange(32, 127), random_.randrange(65536),
                                  random_.randrange(0xD800, 0xE000)]) for _ in range(36)]
@@ -675,18 +675,18 @@ def try_flags(tally, library, program):
     good = program.bytes_of("disk.img")
     used = bytes([0x80]) + bytes(3) + bytes([0x83]) + bytes(3) + (1).to_bytes(4, "little") + (9).to_bytes(4, "little")
     data = good[:446] + bytes(48) + used + b"\x55\xaa" + good[512:]
-    head, tail, needed = data[:34 * 512], data[-33 * 512:], gptman._Needed()
+    head, tail, needed = data[:34 * 512], data[-33 * 512:], gptman._calls.Needed()
     for flags, answer in (0, 102), (1, 18), (2, 19), (1 << 31, 19):
-        tally.equals(f"fitting a disk of DOS with the flags {flags}", answer, gptman._library.gptman_fit(
+        tally.equals(f"fitting a disk of DOS with the flags {flags}", answer, gptman._calls.library.gptman_fit(
             head, len(head), tail, len(tail), SIZE, 512, None, 0, None, 0, ctypes.byref(needed), flags))
     for what, first, last, size, answer in (
             ("of DOS", data[:512], b"", SIZE, 102), ("of DOS, all of it at its end", b"", data, SIZE, 102),
             ("with a protective MBR", good[:512], b"", SIZE, 0), ("of 511 bytes", data[:511], b"", 511, 0),
             ("of which 511 bytes are known", data[:511], b"", SIZE, 17),
             ("shorter than its ends", data[:512], data[:1], 512, 19)):
-        needed = gptman._Needed()
+        needed = gptman._calls.Needed()
         tally.equals(f"a disk {what}", (answer, 0, 512 if answer == 17 else 0), (
-            gptman._library.gptman_dos(first, len(first), last, len(last), size, ctypes.byref(needed)),
+            gptman._calls.library.gptman_dos(first, len(first), last, len(last), size, ctypes.byref(needed)),
             needed.from_, needed.length))
 
 

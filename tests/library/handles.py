@@ -1,4 +1,4 @@
-"""One disk, as the helpers have it: gptman_fd.h by the program driver.c, and the module for Python. Both have the
+"""One disk, as the helpers have it: gptman_fd.h by the program driver.c, and the package for Python. Both have the
 same calls, each with a limit of time, and calls of the system that fail.
 
 A call gives the name of its answer. `read` gives a table of tests/harness/table.py with it.
@@ -148,14 +148,14 @@ class System:
 
 
 class OverPython:
-    """By the module for Python."""
+    """By the package for Python."""
 
-    name = "gptman.py"
+    name = "Python"
 
     def __init__(self, gptman):
         self.gptman, self.system, self.disk, self.place = gptman, System(), None, None
         self.over_dos = False
-        gptman.os = self.system
+        gptman._disk.os = self.system
 
     def answer(self, call, *words):
         """The name of what a call is refused with, or Ok."""
@@ -236,7 +236,7 @@ class OverPython:
     def mbr(self):
         def call():
             path, sector, _ = self.place
-            with self.gptman._File(path, sector, True, False, self.over_dos) as file:
+            with self.gptman._disk._File(path, sector, True, False, self.over_dos) as file:
                 file.write_mbr()
         return self.answer(call)
 
@@ -247,7 +247,7 @@ class OverPython:
 
     def close(self):
         self.shut()
-        self.gptman.os = os
+        self.gptman._disk.os = os
         return 0
 
 

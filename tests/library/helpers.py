@@ -1,5 +1,5 @@
-"""The helpers, gptman_fd.h and gptman.py: disks of every length, tables that lead astray, calls of the system that
-fail, and two writers at once."""
+"""The helpers, gptman_fd.h and the Python package: disks of every length, tables that lead astray, calls of the
+system that fail, and two writers at once."""
 import fcntl
 import os
 import random
@@ -540,13 +540,13 @@ def try_asking(tally, library, program):
     handle = OverPython(gptman)
     handle.open(program.file("disk.img"))
     handle.read()
-    library_, disk = gptman._library, handle.disk
+    library_, disk = gptman._calls.library, handle.disk
     for way in Asking.WAYS:
         for call in (disk.read, disk.check, disk.plan_fit) if "room" not in way else (disk.read, disk.plan_fit):
-            gptman._library = Asking(way)
+            gptman._calls.library = Asking(way)
             disk._lengths = 0, 0
-            tally.equals(f"what gptman.py answers to {way}", "AsksAgain", handle.answer(call))
-            gptman._library = library_
+            tally.equals(f"what the Python package answers to {way}", "AsksAgain", handle.answer(call))
+            gptman._calls.library = library_
     handle.close()
 
 
