@@ -49,6 +49,8 @@ install:
 	install -D -m 644 docs/gptimg.1 "$(DESTDIR)$(PREFIX)/share/man/man1/gptimg.1"
 	install -D -m 644 docs/gptguid.1 "$(DESTDIR)$(PREFIX)/share/man/man1/gptguid.1"
 	install -D -m 644 docs/gptedit.1 "$(DESTDIR)$(PREFIX)/share/man/man1/gptedit.1"
+	install -D -m 644 docs/gptman.3 "$(DESTDIR)$(PREFIX)/share/man/man3/gptman.3"
+	install -D -m 644 docs/gptman_fd.3 "$(DESTDIR)$(PREFIX)/share/man/man3/gptman_fd.3"
 	install -D -m 644 lib/libgptman.a "$(DESTDIR)$(PREFIX)/lib/libgptman.a"
 	install -D -m 755 lib/libgptman.so.1 "$(DESTDIR)$(PREFIX)/lib/libgptman.so.1"
 	ln -sf libgptman.so.1 "$(DESTDIR)$(PREFIX)/lib/libgptman.so"

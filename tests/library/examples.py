@@ -1,5 +1,7 @@
-"""The examples, on images of other programs."""
+"""The examples, on images of other programs, and what the documents and manual pages of the library show."""
+import glob
 import os
+import re
 import subprocess
 import sys
 import tempfile
@@ -176,4 +178,61 @@ def try_document(tally, library, program):
                                                                 env=library.environment()))
 
 
-SUBJECTS = {"the examples": try_examples, "the headers": try_headers, "what the document shows": try_document}
+def try_pages(tally, library, program):
+    """The manual pages of the library have the prototypes of the headers, and their examples do what they say. No
+    manual page has a fault that groff finds."""
+    texts = {}
+    for name in "gptman", "gptman_fd":
+        with open(os.path.join(TOP, "docs", f"{name}.3"), encoding="utf-8") as page:
+            texts[name] = page.read()
+        program.write(f"{name}_shown.c", example_of(texts[name]).encode())
+    calls, over_fd = (prototypes_in(header(f"{name}.h")) for name in texts)
+    tally.equals("the prototypes in gptman.3", calls, synopsis_of(texts["gptman"]))
+    shown = synopsis_of(texts["gptman_fd"])
+    tally.holds("gptman_fd.3 has prototypes", len(shown) > 5)
+    tally.equals("the prototypes in gptman_fd.3 that its header has not", set(), shown - over_fd)
+    image = with_remains(program)
+    path, entries = program.file("disk.img"), table.read(program.file("disk.img")).entries
+    shows = library.compile(program.file("gptman_shown.c"), "gptman_shown")
+    tally.equals("what the example in gptman.3 lists", "".join(f"{n} {e.first} {e.last}\n" for n, e in entries.items()),
+                 run(shows, input=image))
+    fits = library.compile(program.file("gptman_fd_shown.c"), "gptman_fd_shown")
+    os.truncate(path, 2 * len(image))
+    tally.equals("what the example in gptman_fd.3 prints", "", run(fits, path))
+    tally.equals("the partitions after it", entries, table.read(path).entries)
+    tally.equals("what it prints of no image", 1, run(fits, program.file("missing.img")))
+    if not there("groff"):
+        return "groff is not installed: no page is formatted"
+    for page in sorted(glob.glob(os.path.join(TOP, "docs", "*.[13]"))):
+        ended = subprocess.run(["groff", "-man", "-Tutf8", "-ww", page], capture_output=True, check=False)
+        tally.equals(f"what groff finds in {os.path.basename(page)}", b"", ended.stderr)
+    return None
+
+
+def header(name):
+    with open(os.path.join(TOP, "include", name), encoding="utf-8") as file:
+        return file.read()
+
+
+def prototypes_in(text):
+    """The prototypes of functions in a text, each in one line."""
+    found = re.findall(r"^(?:static inline )?((?:uint32_t|void|const char) \*?gptman_\w+\([^)]*\))", text, re.M)
+    return {re.sub(r"\s+", " ", prototype) for prototype in found}
+
+
+def synopsis_of(page):
+    """The prototypes in the synopsis of a manual page, with the arguments that ENDS and PLAN stand for."""
+    text, *short = re.findall(r"^\.nf\n(.*?)^\.fi$", page.split(".SH DESCRIPTION")[0], re.M | re.S)
+    if short:
+        ends, plan = re.split(r"\n(?! )", short[0].strip())
+        text = text.replace("ENDS", ends).replace("PLAN", plan)
+    return prototypes_in(text)
+
+
+def example_of(page):
+    """The program that a manual page shows."""
+    return page.split(".EX\n")[1].split(".EE")[0].replace("\\e", "\\").replace("\\-", "-")
+
+
+SUBJECTS = {"the examples": try_examples, "the headers": try_headers, "what the document shows": try_document,
+            "the manual pages": try_pages}
