@@ -164,11 +164,13 @@ int main(int argc, char **argv) {
 
 
 def try_document(tally, library, program):
-    """What docs/LIBRARY.md shows first lists the used entries of a table, and no unused one with old fields."""
+    """What docs/LIBRARY.md shows in C and in Python lists the used entries of a table, and no unused one with old
+    fields; in Python it adds one then."""
     with_remains(program)
     with open(os.path.join(TOP, "docs", "LIBRARY.md"), encoding="utf-8") as file:
         text = file.read()
-    in_c, in_python = (text.split(f"```{language}\n")[1].split("```")[0] for language in ("c", "python"))
+    in_c, in_python = ("".join(re.findall(f"^```{language}\n(.*?)^```$", text, re.M | re.S))
+                       for language in ("c", "python"))
     program.write("shown.c", (AROUND % textwrap.indent(in_c, "    ")).encode())
     path = library.compile(program.file("shown.c"), "shown")
     entries = table.read(program.file("disk.img")).entries
@@ -176,6 +178,10 @@ def try_document(tally, library, program):
                  run(path, program.file("disk.img")))
     tally.equals("what it lists in Python", listed(entries), run(sys.executable, "-c", in_python, cwd=program.folder,
                                                                 env=library.environment()))
+    added = table.read(program.file("disk.img")).entries
+    tally.equals("what it adds in Python", {**entries, 5: ("data", 8)}, {
+        number: entry if number in entries else (entry.name, entry.last - entry.first + 1)
+        for number, entry in added.items()})
 
 
 def try_pages(tally, library, program):
