@@ -24,13 +24,14 @@ ghost use Rattle.gptman_plan.specs.Plan.{acts_of, IsWriteOrSync, StepFits};
 ghost use Rattle.gptman_plan.specs.Planning.{AreNoEnds, HasPlan, IsFitPlan, IsMiscounted, IsNewPlan, IsNotStatedToFit};
 ghost use Rattle.gptman_plan.specs.Planning.{IsNumberOf, IsOfOtherLayout, IsOfOtherLength, IsPlan};
 ghost use Rattle.gptman_plan.specs.Planning.{needed_after, refusal_number, RefusesFit, RefusesNew, RefusesPlan};
+ghost use Rattle.gptman_plan.specs.Reading.{OfEveryDisk};
 ghost use Rattle.gptman_plan.specs.Rounds.{first_sector, reading_ranges, IsAmong};
 
 use gptman::crc::crc32;
 use gptman::table::mbr::protective_mbr;
 use gptman_plan::checking::{Look, look_at_both};
 use gptman_plan::dos::{Seen, look_for_dos};
-use gptman_plan::ends::are_apart;
+use gptman_plan::ends::Ends;
 use gptman_plan::faults::{
     BAD_ARGUMENT, DOS_DISK, LACKS_BYTES, LACKS_ROOM, NO_SPACE_LEFT, OTHER_LAYOUT, OTHER_LENGTH,
     OUT_OF_MEMORY,
@@ -98,10 +99,13 @@ pub extern "C" fn gptman_read(
     ensures partitions { result ≢ 0 → partitions.new ≡ partitions.old }
     ensures needed { result ≢ 17 → needed.new ≡ needed.old }
 {
-    if sector_size == 0 || !are_apart(head, tail, disk_size) {
+    if sector_size == 0 {
         return BAD_ARGUMENT;
     }
-    match read(alloc, head, tail, disk_size, sector_size) {
+    let Some(ends) = Ends::new(head, tail, disk_size) else {
+        return BAD_ARGUMENT;
+    };
+    match read(alloc, &ends, sector_size) {
         Reading::Table {
             table: found,
             is_backup,
@@ -155,10 +159,13 @@ pub extern "C" fn gptman_check(
     ensures kept { result ≢ 0 → check.new ≡ check.old }
     ensures needed { result ≢ 17 → needed.new ≡ needed.old }
 {
-    if sector_size == 0 || !are_apart(head, tail, disk_size) {
+    if sector_size == 0 {
         return BAD_ARGUMENT;
     }
-    match look_at_both(alloc, head, tail, disk_size, sector_size) {
+    let Some(ends) = Ends::new(head, tail, disk_size) else {
+        return BAD_ARGUMENT;
+    };
+    match look_at_both(alloc, &ends, sector_size) {
         Ok(Look::Told(told)) => {
             *check = told;
             0
@@ -254,14 +261,17 @@ pub extern "C" fn gptman_write(
     ensures bytes { result ≢ 0 → bytes.new ≡ bytes.old }
     ensures needed { result ≢ 0 → result ≢ 17 → result ≢ 18 → needed.new ≡ needed.old }
 {
-    if sector_size == 0 || flags > OVER_DOS || !are_apart(head, tail, disk_size) {
+    if sector_size == 0 || flags > OVER_DOS {
         return BAD_ARGUMENT;
     }
-    let seen = refuse_dos(head, tail, disk_size, flags, needed);
+    let Some(ends) = Ends::new(head, tail, disk_size) else {
+        return BAD_ARGUMENT;
+    };
+    let seen = refuse_dos(&ends, flags, needed);
     if seen != 0 {
         return seen;
     }
-    match plan(alloc, head, tail, disk_size, sector_size, partitions) {
+    match plan(alloc, &ends, sector_size, partitions) {
         Ok(plan) => give(&plan, steps, bytes, needed),
         Err(refusal) => refuse(&refusal, needed),
     }
@@ -326,18 +336,19 @@ pub extern "C" fn gptman_new(
     ensures bytes { result ≢ 0 → bytes.new ≡ bytes.old }
     ensures needed { result ≢ 0 → result ≢ 17 → result ≢ 18 → needed.new ≡ needed.old }
 {
-    if sector_size == 0 || flags > OVER_DOS || !are_apart(head, tail, disk_size) {
+    if sector_size == 0 || flags > OVER_DOS {
         return BAD_ARGUMENT;
     }
-    let seen = refuse_dos(head, tail, disk_size, flags, needed);
+    let Some(ends) = Ends::new(head, tail, disk_size) else {
+        return BAD_ARGUMENT;
+    };
+    let seen = refuse_dos(&ends, flags, needed);
     if seen != 0 {
         return seen;
     }
     let planned = plan_new(
         alloc,
-        head,
-        tail,
-        disk_size,
+        &ends,
         sector_size,
         table.disk_guid,
         table.entry_count,
@@ -419,14 +430,17 @@ pub extern "C" fn gptman_fit(
     ensures bytes { result ≢ 0 → bytes.new ≡ bytes.old }
     ensures needed { result ≢ 0 → result ≢ 17 → result ≢ 18 → needed.new ≡ needed.old }
 {
-    if sector_size == 0 || flags > OVER_DOS || !are_apart(head, tail, disk_size) {
+    if sector_size == 0 || flags > OVER_DOS {
         return BAD_ARGUMENT;
     }
-    let seen = refuse_dos(head, tail, disk_size, flags, needed);
+    let Some(ends) = Ends::new(head, tail, disk_size) else {
+        return BAD_ARGUMENT;
+    };
+    let seen = refuse_dos(&ends, flags, needed);
     if seen != 0 {
         return seen;
     }
-    match plan_fit(alloc, head, tail, disk_size, sector_size) {
+    match plan_fit(alloc, &ends, sector_size) {
         Ok(plan) => give(&plan, steps, bytes, needed),
         Err(refusal) => refuse(&refusal, needed),
     }
@@ -437,16 +451,14 @@ const OVER_DOS: u32 = 1;
 
 // The answer where the first sector of the disk has partitions of its own, or is not known, unless the flag says
 // that it may be written over; else 0.
-fn refuse_dos(head: &[u8], tail: &[u8], disk_size: u64, flags: u32, needed: &mut Needed) -> u32
-    requires apart { length head.now + length tail.now ≤ disk_size }
+fn refuse_dos(ends: &Ends, flags: u32, needed: &mut Needed) -> u32
     requires flags { flags ≤ 1 }
-    ensures none { result ≡ 0 → flags ≡ 0 → (b : List ℕ) → HasEnds b head.now tail.now disk_size → ¬ IsDosDisk b }
-    ensures dos_disk { result ≡ 102 → (flags ≡ 0) × ((b : List ℕ) → HasEnds b head.now tail.now disk_size
-        → IsDosDisk b) }
+    ensures none { result ≡ 0 → flags ≡ 0 → OfEveryDisk ends.now (λ b. ¬ IsDosDisk b) }
+    ensures dos_disk { result ≡ 102 → (flags ≡ 0) × OfEveryDisk ends.now IsDosDisk }
     ensures lacks { result ≡ 17
-        → ¬ IsKnown (length head.now) (length tail.now) disk_size (needed.new.from, needed.new.length) }
-    ensures within { result ≡ 17 → needed.new.from + needed.new.length ≤ disk_size }
-    ensures whole { result ≡ 17 → length head.now + length tail.now < disk_size }
+        → ¬ IsKnown (length ends.now.head.now) (length ends.now.tail.now) ends.now.size (needed.new.from, needed.new.length) }
+    ensures within { result ≡ 17 → needed.new.from + needed.new.length ≤ ends.now.size }
+    ensures whole { result ≡ 17 → length ends.now.head.now + length ends.now.tail.now < ends.now.size }
     ensures asked { result ≡ 17 → IsAmong (needed.new.from, needed.new.length) (first_sector ∷ []) }
     ensures answers { (result ≡ 0) ⊎ ((result ≡ 17) ⊎ (result ≡ 102)) }
     ensures needed { result ≢ 17 → needed.new ≡ needed.old }
@@ -454,7 +466,7 @@ fn refuse_dos(head: &[u8], tail: &[u8], disk_size: u64, flags: u32, needed: &mut
     if flags == OVER_DOS {
         return 0;
     }
-    match look_for_dos(head, tail, disk_size) {
+    match look_for_dos(ends) {
         Seen::Clear => 0,
         Seen::DosDisk => DOS_DISK,
         Seen::Unknown(lack) => {
@@ -533,10 +545,10 @@ pub extern "C" fn gptman_dos(head: &[u8], tail: &[u8], disk_size: u64, needed: &
     // What is not told stays as it was.
     ensures needed { result ≢ 17 → needed.new ≡ needed.old }
 {
-    if !are_apart(head, tail, disk_size) {
+    let Some(ends) = Ends::new(head, tail, disk_size) else {
         return BAD_ARGUMENT;
-    }
-    refuse_dos(head, tail, disk_size, 0, needed)
+    };
+    refuse_dos(&ends, 0, needed)
 }
 
 /// Lays the protective MBR of a disk of so many bytes into the first 66 places of `bytes`. They stand on the disk from

@@ -8,10 +8,11 @@ use Rattle.gptman.specs.Stop.{IsStored, StopsHold}
 use Rattle.gptman.specs.Table.{Table, table_in}
 use Rattle.gptman.specs.declared.table.GPT.{GPT}
 use Rattle.gptman_plan.specs.Crossing.{four_ranges, with_partitions}
-use Rattle.gptman_plan.specs.Ends.{disk_bytes, length-disk_bytes}
+use Rattle.gptman_plan.specs.Ends.{length-zeroed, zeroed}
 use Rattle.std.specs.Prelude.{All}
 use Rattle.gptman_plan.specs.Plan.{Act, IsLeftAt, LeftBy, StepFits, acts_of, bytes_after, left_now, pending_after, plan_state}
 use Rattle.gptman_plan.specs.Planning.{IsSafePlan}
+use Rattle.gptman_plan.specs.declared.ends.Ends.{Ends}
 use Rattle.gptman_plan.specs.declared.recording.Recorder.{Recorder}
 use Rattle.gptman_plan.specs.declared.record.Record.{Record}
 use Rattle.gptman_plan.specs.declared.records.Partition.{Partition}
@@ -33,29 +34,29 @@ is_after start start_too acts acts_too s p f same same_acts =
 -- ---- the disk that records, before the first step and after the last
 
 abbrev pub state_of : Recorder → DiskState
-state_of d = plan_state (disk_bytes d.head.now d.tail.now d.plan.size) (acts_of d.plan.bytes.items d.plan.steps.items) d.plan.size d.position d.failures
+state_of d = plan_state (zeroed d.ends) (acts_of d.plan.bytes.items d.plan.steps.items) d.ends.size d.position d.failures
 
-pub begins_at : (d : Recorder) (head tail : List ℕ) (size : ℕ) → d.head.now ≡ head → d.tail.now ≡ tail → d.plan.size ≡ size → acts_of d.plan.bytes.items d.plan.steps.items ≡ []
-    → d.position ≡ 0 → d.failures ≡ 0 → state_of d ≡ plan_state (disk_bytes head tail size) [] size 0 0
-begins_at d head tail size h t s acts position failures = λ i. plan_state (disk_bytes (h i) (t i) (s i)) (acts i) (s i) (position i) (failures i)
+pub begins_at : (d : Recorder) (ends : Ends) → d.ends ≡ ends → acts_of d.plan.bytes.items d.plan.steps.items ≡ [] → d.position ≡ 0 → d.failures ≡ 0
+    → state_of d ≡ plan_state (zeroed ends) [] ends.size 0 0
+begins_at d ends is acts position failures = λ i. plan_state (zeroed (is i)) (acts i) (is i).size (position i) (failures i)
 
-pub ends_after : (e : Recorder) (plan : Record) (start : List ℕ) → disk_bytes e.head.now e.tail.now e.plan.size ≡ start → plan ≡ e.plan
+pub ends_after : (e : Recorder) (plan : Record) (start : List ℕ) → zeroed e.ends ≡ start → plan ≡ e.plan
     → IsAfter start (acts_of plan.bytes.items plan.steps.items) (state_of e)
 ends_after e plan start same taken =
-    is_after start (disk_bytes e.head.now e.tail.now e.plan.size) (acts_of plan.bytes.items plan.steps.items) (acts_of e.plan.bytes.items e.plan.steps.items)
-    e.plan.size e.position e.failures same (λ i. acts_of (taken i).bytes.items (taken i).steps.items)
+    is_after start (zeroed e.ends) (acts_of plan.bytes.items plan.steps.items) (acts_of e.plan.bytes.items e.plan.steps.items)
+    e.ends.size e.position e.failures same (λ i. acts_of (taken i).bytes.items (taken i).steps.items)
 
 -- ---- the start stays the same while calls are made
 
-module _ (start : List ℕ) (size : ℕ) (old : DiskState) (e : Recorder) (long : length start ≡ size) (begins : old ≡ plan_state start [] size 0 0) (sized : e.plan.size ≡ size) where
+module _ (start : List ℕ) (size : ℕ) (old : DiskState) (e : Recorder) (long : length start ≡ size) (begins : old ≡ plan_state start [] size 0 0) (sized : e.ends.size ≡ size) where
   abbrev now : List ℕ
-  now = disk_bytes e.head.now e.tail.now e.plan.size
+  now = zeroed e.ends
 
-  length-now : length now ≡ e.plan.size
-  length-now = length-disk_bytes e.head.now e.tail.now e.plan.size e.apart
+  length-now : length now ≡ e.ends.size
+  length-now = length-zeroed e.ends
 
   fit : All (StepFits (length now) (length e.plan.bytes.items)) e.plan.steps.items
-  fit = subst (λ (n : ℕ). All (StepFits n (length e.plan.bytes.items)) e.plan.steps.items) (sym length-now) e.plan.held
+  fit = subst (λ (n : ℕ). All (StepFits n (length e.plan.bytes.items)) e.plan.steps.items) (e.same ∙ sym length-now) e.plan.held
 
   -- No stop leaves a byte more than the disk has. So before the first act this stood at moment 0,
   marked : (moment : ℕ) → IsLeftAt start [] moment (0 ∷ now) → now ≡ start

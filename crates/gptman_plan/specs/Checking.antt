@@ -8,10 +8,11 @@ use Rattle.gptman.specs.Copies.{HoldOneTable}
 use Rattle.gptman.specs.declared.copies.BothCopies.{BothCopies}
 use Rattle.gptman_plan.specs.Ends.{disk_bytes}
 use Rattle.gptman.specs.Fault.{fault_number}
-use Rattle.gptman_plan.specs.Reading.{IsLackOf, OfEvery}
+use Rattle.gptman_plan.specs.Reading.{IsLackOf, OfEvery, OfEveryDisk}
 use Rattle.gptman_plan.specs.Rounds.{reading_ranges}
 use Rattle.gptman_plan.specs.declared.checking.Look.{Look}
 use Rattle.gptman_plan.specs.declared.checking.Look.TheVariants.{Told, Unknown}
+use Rattle.gptman_plan.specs.declared.ends.Ends.{Ends}
 use Rattle.gptman_plan.specs.declared.records.Check.{Check}
 
 -- the number of the fault of a copy, or 0 where it has none
@@ -39,6 +40,6 @@ pub record AreFoundIn (b : List ℕ) (ss : ℕ) (copies : BothCopies) : Type 0 w
   pub differ : HoldOneTable b ss → IsTrue copies.are_same
 
 -- what the ends tell of both copies, or what they lack
-abbrev pub IsLook : List ℕ → List ℕ → ℕ → ℕ → Look → Type 0
-IsLook head tail size ss (Told check) = OfEvery head tail size (λ b. IsCheckTold b ss check)
-IsLook head tail size ss (Unknown lack) = IsLackOf (λ b. reading_ranges b ss) head tail size lack
+abbrev pub IsLook : Ends → ℕ → Look → Type 0
+IsLook ends ss (Told check) = OfEveryDisk ends (λ b. IsCheckTold b ss check)
+IsLook ends ss (Unknown lack) = IsLackOf (λ b. reading_ranges b ss) ends.head.now ends.tail.now ends.size lack

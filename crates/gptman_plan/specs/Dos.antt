@@ -1,9 +1,10 @@
 -- An MBR with partitions of its own, as DOS had them: four entries of 16 bytes from byte 446 on.
 use Rattle.std.specs.Prelude.{◌≡◌, ◌≢◌, ◌⊎◌, ◌+◌, ℕ, List, [], ◌∷◌, get_or}
 use Rattle.gptman.specs.Bytes.{part}
-use Rattle.gptman_plan.specs.Reading.{IsLackOf, OfEvery}
+use Rattle.gptman_plan.specs.Reading.{IsLackOf, OfEveryDisk}
 use Rattle.gptman_plan.specs.Rounds.{first_sector}
 use Rattle.gptman_plan.specs.declared.dos.Seen.{Seen}
+use Rattle.gptman_plan.specs.declared.ends.Ends.{Ends}
 use Rattle.gptman_plan.specs.declared.dos.Seen.TheVariants.{Clear, DosDisk, Unknown}
 
 -- the entry at this byte begins with a boot mark
@@ -43,7 +44,7 @@ abbrev pub IsDosDisk : List ℕ → Type 0
 IsDosDisk b = IsDosSector (part b 0 512)
 
 -- what the ends tell of it, on every disk with them, or what they lack
-abbrev pub IsSeen : List ℕ → List ℕ → ℕ → Seen → Type 0
-IsSeen head tail size Clear = OfEvery head tail size (λ b. ¬ IsDosDisk b)
-IsSeen head tail size DosDisk = OfEvery head tail size IsDosDisk
-IsSeen head tail size (Unknown lack) = IsLackOf (λ _. first_sector ∷ []) head tail size lack
+abbrev pub IsSeen : Ends → Seen → Type 0
+IsSeen ends Clear = OfEveryDisk ends (λ b. ¬ IsDosDisk b)
+IsSeen ends DosDisk = OfEveryDisk ends IsDosDisk
+IsSeen ends (Unknown lack) = IsLackOf (λ _. first_sector ∷ []) ends.head.now ends.tail.now ends.size lack

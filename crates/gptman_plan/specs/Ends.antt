@@ -5,7 +5,8 @@ use Rattle.gptman.specs.Disk.{AgreesOutside, DiskState, IsSound}
 use Rattle.gptman.specs.Layout.{copy_ranges_at}
 use Rattle.gptman.specs.Reading.{Side}
 use Rattle.gptman.specs.Table.{Table}
-use Rattle.gptman_plan.specs.declared.ends.Torn.{Torn}
+use Rattle.gptman_plan.specs.declared.ends.Ends.{Ends}
+use Rattle.gptman_plan.specs.declared.reader.Torn.{Torn}
 use Rattle.std.proofs.Common.{arith, length-append}
 use Rattle.std.proofs.lemmas.List.{length-replicate}
 
@@ -32,6 +33,9 @@ ArePlacesKnown first last size ss tables = (t : Table) → Contains tables t →
 -- the disk with these ends that has zeros between them
 abbrev pub disk_bytes : List ℕ → List ℕ → ℕ → List ℕ
 disk_bytes head tail size = head ++ (replicate (size - (length head + length tail)) 0 ++ tail)
+
+abbrev pub zeroed : Ends → List ℕ
+zeroed ends = disk_bytes ends.head.now ends.tail.now ends.size
 
 -- the bytes that a write left torn
 abbrev pub torn_ranges : Option Torn → List (ℕ × ℕ)
@@ -63,3 +67,6 @@ known_sound bytes torn s p f long = record {
 -- the disk with zeros between its ends is so long
 pub length-disk_bytes : (head tail : List ℕ) (size : ℕ) → length head + length tail ≤ size → length (disk_bytes head tail size) ≡ size
 length-disk_bytes head tail size apart = simp (length-append, length-replicate) (omega (arith, apart))
+
+pub length-zeroed : (ends : Ends) → length (zeroed ends) ≡ ends.size
+length-zeroed ends = length-disk_bytes ends.head.now ends.tail.now ends.size ends.apart

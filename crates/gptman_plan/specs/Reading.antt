@@ -10,6 +10,7 @@ use Rattle.gptman.specs.declared.codec.header.GPTHeader.{GPTHeader}
 use Rattle.gptman.specs.declared.table.GPT.{GPT}
 use Rattle.gptman_plan.specs.Ends.{HasEnds, IsKnown, disk_bytes}
 use Rattle.gptman_plan.specs.Rounds.{IsAmong, reading_ranges}
+use Rattle.gptman_plan.specs.declared.ends.Ends.{Ends}
 use Rattle.gptman_plan.specs.declared.reading.Lack.{Lack}
 use Rattle.gptman_plan.specs.declared.reading.Place.{Place}
 use Rattle.gptman_plan.specs.declared.reading.Place.TheVariants.{At, Unknown}
@@ -19,6 +20,9 @@ use Rattle.gptman_plan.specs.declared.reading.Reading.TheVariants.{Table, Fault,
 -- it holds of every disk of size bytes with these ends
 abbrev pub OfEvery : List ℕ → List ℕ → ℕ → (List ℕ → Type 0) → Type 0
 OfEvery head tail size P = (b : List ℕ) → HasEnds b head tail size → P b
+
+abbrev pub OfEveryDisk : Ends → (List ℕ → Type 0) → Type 0
+OfEveryDisk ends P = OfEvery ends.head.now ends.tail.now ends.size P
 
 -- the disk has these bytes, and neither end has them all
 abbrev pub IsLack : List ℕ → List ℕ → ℕ → Lack → Type 0
@@ -51,9 +55,9 @@ pub record IsToldAt (head tail : List ℕ) (size ss : ℕ) (side : Side) : Type 
   pub from : OfEvery head tail size (λ b. taken_from b ss ≡ side)
 
 -- where the copy is that a reading takes, or what the ends lack
-abbrev pub IsPlace : List ℕ → List ℕ → ℕ → ℕ → Place → Type 0
-IsPlace head tail size ss (At is_backup) = IsToldAt head tail size ss (side_of is_backup)
-IsPlace head tail size ss (Unknown lack) = IsLackOf (λ b. reading_ranges b ss) head tail size lack
+abbrev pub IsPlace : Ends → ℕ → Place → Type 0
+IsPlace ends ss (At is_backup) = IsToldAt ends.head.now ends.tail.now ends.size ss (side_of is_backup)
+IsPlace ends ss (Unknown lack) = IsLackOf (λ b. reading_ranges b ss) ends.head.now ends.tail.now ends.size lack
 
 -- Every such disk is read as this table, from this side.
 pub record IsTable (head tail : List ℕ) (size ss : ℕ) (table : GPT) (is_backup : Bool) : Type 0 where
@@ -64,14 +68,14 @@ pub record IsTable (head tail : List ℕ) (size ss : ℕ) (table : GPT) (is_back
   pub align : 0 < table.align
 
 -- Every such disk is read as this table, from a copy that is in the form of its place, and the table has the stated layout.
-pub record IsStatedTable (head tail : List ℕ) (size ss : ℕ) (table : GPT) : Type 0 where
+pub record IsStatedTable (ends : Ends) (ss : ℕ) (table : GPT) : Type 0 where
   pub is_backup : Bool
-  pub read : IsTable head tail size ss table is_backup
+  pub read : IsTable ends.head.now ends.tail.now ends.size ss table is_backup
   pub form : IsHeaderForm (side_of is_backup) table.header
-  pub laid : IsLaidOut (table_in table) ss size
+  pub laid : IsLaidOut (table_in table) ss ends.size
 
 -- What the ends tell: the table, or the fault, of every such disk; or what they lack.
-abbrev pub IsReading : List ℕ → List ℕ → ℕ → ℕ → Reading → Type 0
-IsReading head tail size ss (Table table is_backup) = IsTable head tail size ss table is_backup
-IsReading head tail size ss (Fault e) = (fault_of e ≡ out_of_memory) ⊎ OfEvery head tail size (λ b. reading_of b ss ≡ Err (fault_of e))
-IsReading head tail size ss (Lacks lack) = IsLackOf (λ b. reading_ranges b ss) head tail size lack
+abbrev pub IsReading : Ends → ℕ → Reading → Type 0
+IsReading ends ss (Table table is_backup) = IsTable ends.head.now ends.tail.now ends.size ss table is_backup
+IsReading ends ss (Fault e) = (fault_of e ≡ out_of_memory) ⊎ OfEveryDisk ends (λ b. reading_of b ss ≡ Err (fault_of e))
+IsReading ends ss (Lacks lack) = IsLackOf (λ b. reading_ranges b ss) ends.head.now ends.tail.now ends.size lack

@@ -6,11 +6,12 @@ ghost use Rattle.gptman.specs.Answers.{answer_of};
 ghost use Rattle.gptman.specs.Copy.{copy_of_whole};
 ghost use Rattle.gptman.specs.Fault.{fault_of, out_of_memory};
 ghost use Rattle.gptman_plan.specs.Checking.{number_in, AreCopiesTold, AreFoundIn, IsLook};
-ghost use Rattle.gptman_plan.specs.Ends.{disk_bytes};
+ghost use Rattle.gptman_plan.specs.Ends.{zeroed};
 ghost use Rattle.gptman_plan.specs.Reading.{IsLackOf};
 ghost use Rattle.gptman_plan.specs.Rounds.{reading_ranges};
 
 use crate::ends::Ends;
+use crate::reader::EndsReader;
 use crate::reading::{Lack, lack_of_copy};
 use crate::records::Check;
 use gptman::copy::{WholeCopy, last_sector};
@@ -28,56 +29,41 @@ pub enum Look {
 /// memory.
 ///
 /// The sector size is in bytes.
-pub fn look_at_both(
-    alloc: Global,
-    head: &[u8],
-    tail: &[u8],
-    size: u64,
-    sector_size: u64,
-) -> Result<Look>
+pub fn look_at_both(alloc: Global, ends: &Ends, sector_size: u64) -> Result<Look>
     requires sector { 0 < sector_size }
-    requires apart { length head.now + length tail.now ≤ size }
-    ensures look { IfOk result (IsLook head.now tail.now size sector_size) }
+    ensures look { IfOk result (IsLook ends.now sector_size) }
     ensures refused { IfErr result (λ e. fault_of e ≡ out_of_memory) }
 {
-    if let Some(lack) = lack_of_copies(head, tail, size, sector_size) {
+    if let Some(lack) = lack_of_copies(ends, sector_size) {
         return Ok(Look::Unknown(lack));
     }
-    let copies = find_both(alloc, head, tail, size, sector_size)?;
+    let copies = find_both(alloc, ends, sector_size)?;
     Ok(Look::Told(check_of(&copies)))
 }
 
 // What the ends lack of the two copies.
-fn lack_of_copies(head: &[u8], tail: &[u8], size: u64, sector_size: u64) -> Option<Lack>
+fn lack_of_copies(ends: &Ends, sector_size: u64) -> Option<Lack>
     requires sector { 0 < sector_size }
-    requires apart { length head.now + length tail.now ≤ size }
-    ensures told { MatchOption result (AreCopiesTold head.now tail.now size sector_size)
-        (IsLackOf (λ b. reading_ranges b sector_size) head.now tail.now size) }
+    ensures told { MatchOption result (AreCopiesTold ends.now.head.now ends.now.tail.now ends.now.size sector_size)
+        (IsLackOf (λ b. reading_ranges b sector_size) ends.now.head.now ends.now.tail.now ends.now.size) }
 {
-    if let Some(lack) = lack_of_copy(head, tail, size, sector_size, sector_size) {
+    if let Some(lack) = lack_of_copy(ends, sector_size, sector_size) {
         return Some(lack);
     }
-    if size < sector_size {
+    if ends.size < sector_size {
         return None;
     }
-    let at = last_sector(size, sector_size);
-    lack_of_copy(head, tail, size, at, sector_size)
+    let at = last_sector(ends.size, sector_size);
+    lack_of_copy(ends, at, sector_size)
 }
 
 // Both copies of the disk with zeros between the ends. There may be no memory.
-fn find_both(
-    alloc: Global,
-    head: &[u8],
-    tail: &[u8],
-    size: u64,
-    sector_size: u64,
-) -> Result<BothCopies>
+fn find_both(alloc: Global, ends: &Ends, sector_size: u64) -> Result<BothCopies>
     requires sector { 0 < sector_size }
-    requires apart { length head.now + length tail.now ≤ size }
-    ensures found { IfOk result (AreFoundIn (disk_bytes head.now tail.now size) sector_size) }
+    ensures found { IfOk result (AreFoundIn (zeroed ends.now) sector_size) }
     ensures refused { IfErr result (λ e. fault_of e ≡ out_of_memory) }
 {
-    let mut disk = Ends::new(head, tail, size);
+    let mut disk = EndsReader::new(ends);
     gptman::check(alloc, &mut disk, sector_size)
 }
 

@@ -5,6 +5,7 @@ ghost use Rattle.gptman_plan.specs.Dos.{AreMarked, AreUnprotected, HasBootMark, 
 ghost use Rattle.gptman_plan.specs.Dos.{IsDosSector, IsSeen, IsUsedAt};
 
 use crate::ends::Ends;
+use crate::reader::EndsReader;
 use crate::reading::{Lack, lack_of};
 
 /// What the ends tell of the first sector.
@@ -16,18 +17,17 @@ pub enum Seen {
 }
 
 /// Whether the first sector of every disk of that size with these ends has partitions of its own, or of none has.
-pub fn look_for_dos(head: &[u8], tail: &[u8], size: u64) -> Seen
-    requires { length head.now + length tail.now ≤ size }
-    ensures { IsSeen head.now tail.now size result }
+pub fn look_for_dos(ends: &Ends) -> Seen
+    ensures { IsSeen ends.now result }
 {
-    if size < 512 {
+    if ends.size < 512 {
         return Seen::Clear;
     }
-    if let Some(lack) = lack_of(head, tail, size, 0, 512) {
+    if let Some(lack) = lack_of(ends, 0, 512) {
         return Seen::Unknown(lack);
     }
     let mut sector = [0u8; 512];
-    let disk = Ends::new(head, tail, size);
+    let disk = EndsReader::new(ends);
     disk.fill(&mut sector);
     if is_dos_sector(&sector) {
         Seen::DosDisk

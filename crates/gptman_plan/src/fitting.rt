@@ -5,13 +5,14 @@ ghost use Rattle.gptman.specs.Copy.{IsCoherent};
 ghost use Rattle.gptman.specs.Fit.{fit_fault};
 ghost use Rattle.gptman.specs.Table.{entries_in, grow_to};
 ghost use Rattle.gptman_plan.specs.Asking.{fit_ranges, AsksAmong, AsksNothing};
-ghost use Rattle.gptman_plan.specs.Ends.{HasEnds};
 ghost use Rattle.gptman_plan.specs.Plan.{acts_of};
 ghost use Rattle.gptman_plan.specs.Planning.{IsFitPlan, IsFitRefusal, IsSizeRefusal};
+ghost use Rattle.gptman_plan.specs.Reading.{OfEveryDisk};
 
 use crate::ends::Ends;
 use crate::layout::is_of_side;
 use crate::planning::Refusal;
+use crate::reader::EndsReader;
 use crate::reading::{Reading, read};
 use crate::record::Record;
 use crate::tables::plan_table;
@@ -19,22 +20,15 @@ use gptman::GPT;
 use std::alloc::Global;
 
 /// The steps that write the table that the ends hold, fitted to a disk of that size. The sector size is in bytes.
-pub fn plan_fit(
-    alloc: Global,
-    head: &[u8],
-    tail: &[u8],
-    size: u64,
-    sector_size: u64,
-) -> Result<Record, Refusal>
+pub fn plan_fit(alloc: Global, ends: &Ends, sector_size: u64) -> Result<Record, Refusal>
     requires sector { 0 < sector_size }
-    requires apart { length head.now + length tail.now ≤ size }
-    ensures plan { IfOk result (λ plan. (b : List ℕ) → HasEnds b head.now tail.now size
-        → IsFitPlan b sector_size (acts_of plan.bytes.items plan.steps.items)) }
-    ensures size { IfOk result (λ plan. plan.size ≡ size) }
-    ensures refused { IfErr result (IsFitRefusal head.now tail.now size sector_size) }
-    ensures asked { IfErr result (AsksAmong (λ b. fit_ranges b sector_size) head.now tail.now size) }
+    ensures plan { IfOk result (λ plan. OfEveryDisk ends.now
+        (λ b. IsFitPlan b sector_size (acts_of plan.bytes.items plan.steps.items))) }
+    ensures size { IfOk result (λ plan. plan.size ≡ ends.now.size) }
+    ensures refused { IfErr result (IsFitRefusal ends.now.head.now ends.now.tail.now ends.now.size sector_size) }
+    ensures asked { IfErr result (AsksAmong (λ b. fit_ranges b sector_size) ends.now.head.now ends.now.tail.now ends.now.size) }
 {
-    let (table, is_backup) = match read(alloc, head, tail, size, sector_size) {
+    let (table, is_backup) = match read(alloc, ends, sector_size) {
         Reading::Table { table, is_backup } => (table, is_backup),
         Reading::Fault(fault) => return Err(Refusal::Refused(fault)),
         Reading::Lacks(lack) => return Err(Refusal::Lacks(lack)),
@@ -42,20 +36,19 @@ pub fn plan_fit(
     if !is_of_side(&table.header, is_backup) {
         return Err(Refusal::OtherLayout);
     }
-    let fitted = fit(head, tail, size, table)?;
-    plan_table(alloc, head, tail, size, fitted)
+    let fitted = fit(ends, table)?;
+    plan_table(alloc, ends, fitted)
 }
 
 // The table with its header fitted to a disk of that size.
-fn fit(head: &[u8], tail: &[u8], size: u64, mut table: GPT) -> Result<GPT, Refusal>
+fn fit(ends: &Ends, mut table: GPT) -> Result<GPT, Refusal>
     requires sector { 0 < table.sector_size }
-    requires apart { length head.now + length tail.now ≤ size }
-    ensures value { IfOk result (λ g. g ≡ grow_to table size) }
-    ensures fits { IfOk result (λ _. fit_fault table.header table.sector_size size ≡ None) }
-    ensures refused { IfErr result (IsSizeRefusal head.now tail.now size table) }
+    ensures value { IfOk result (λ g. g ≡ grow_to table ends.now.size) }
+    ensures fits { IfOk result (λ _. fit_fault table.header table.sector_size ends.now.size ≡ None) }
+    ensures refused { IfErr result (IsSizeRefusal ends.now.head.now ends.now.tail.now ends.now.size table) }
     ensures asked { IfErr result AsksNothing }
 {
-    let mut disk = Ends::new(head, tail, size);
+    let mut disk = EndsReader::new(ends);
     let sector_size = table.sector_size;
     match table.header.update_from(&mut disk, sector_size) {
         Ok(()) => Ok(table),

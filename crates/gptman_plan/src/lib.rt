@@ -17,6 +17,7 @@ pub mod offers;
 pub mod partitions;
 pub mod places;
 pub mod planning;
+pub mod reader;
 pub mod reading;
 pub mod record;
 pub mod recording;

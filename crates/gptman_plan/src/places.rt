@@ -11,28 +11,28 @@ ghost use Rattle.gptman_plan.specs.Ends.{AreRangesKnown, IsKnown};
 ghost use Rattle.gptman_plan.specs.Reading.{IsLack};
 ghost use Rattle.gptman_plan.specs.Rounds.{IsAmong};
 
+use crate::ends::Ends;
 use crate::reading::{Lack, lack_of};
 use gptman::GPT;
 use gptman::copy::last_sector;
 use gptman::disk::passes_end;
 
 /// What the ends lack of the four ranges of the table, if these are all on the disk.
-pub fn lack_of_places(head: &[u8], tail: &[u8], size: u64, table: &GPT) -> Option<Lack>
+pub fn lack_of_places(ends: &Ends, table: &GPT) -> Option<Lack>
     requires sector { 0 < table.now.sector_size }
-    requires room { table.now.sector_size ≤ size }
+    requires room { table.now.sector_size ≤ ends.now.size }
     requires count { 0 < table.now.header.number_of_partition_entries }
-    requires apart { length head.now + length tail.now ≤ size }
     ensures known { MatchOption result
-        (AreInside (four_ranges (table_in table.now) table.now.sector_size size) size
-        → AreRangesKnown (length head.now) (length tail.now) size
-        (four_ranges (table_in table.now) table.now.sector_size size))
-        (IsLack head.now tail.now size) }
-    ensures asked { IfSome result (λ lack. IsAmong (lack.from, lack.length) (value_ranges table.now size)) }
+        (AreInside (four_ranges (table_in table.now) table.now.sector_size ends.now.size) ends.now.size
+        → AreRangesKnown (length ends.now.head.now) (length ends.now.tail.now) ends.now.size
+        (four_ranges (table_in table.now) table.now.sector_size ends.now.size))
+        (IsLack ends.now.head.now ends.now.tail.now ends.now.size) }
+    ensures asked { IfSome result (λ lack. IsAmong (lack.from, lack.length) (value_ranges table.now ends.now.size)) }
 {
     let sector_size = table.sector_size;
     let array = 128 * u64::from(table.header.number_of_partition_entries);
     let start = sector_size.checked_mul(2)?;
-    let lack = lack_of_both(head, tail, size, sector_size, start, array);
+    let lack = lack_of_both(ends, sector_size, start, array);
     if lack.is_some() {
         return lack;
     }
@@ -41,44 +41,35 @@ pub fn lack_of_places(head: &[u8], tail: &[u8], size: u64, table: &GPT) -> Optio
         .last_usable_lba
         .checked_add(1)?
         .checked_mul(sector_size)?;
-    let header = last_sector(size, sector_size);
-    lack_of_both(head, tail, size, header, start, array)
+    let header = last_sector(ends.size, sector_size);
+    lack_of_both(ends, header, start, array)
 }
 
 // What the ends lack of a header and of an array of so many bytes, where these are on the disk.
-fn lack_of_both(
-    head: &[u8],
-    tail: &[u8],
-    size: u64,
-    header: u64,
-    start: u64,
-    array: u64,
-) -> Option<Lack>
-    requires { length head.now + length tail.now ≤ size }
+fn lack_of_both(ends: &Ends, header: u64, start: u64, array: u64) -> Option<Lack>
     ensures known { MatchOption result
-        ((header + 92 ≤ size → IsKnown (length head.now) (length tail.now) size (header, 92))
-        × (start + array ≤ size → IsKnown (length head.now) (length tail.now) size (start, array)))
-        (IsLack head.now tail.now size) }
+        ((header + 92 ≤ ends.now.size → IsKnown (length ends.now.head.now) (length ends.now.tail.now) ends.now.size (header, 92))
+        × (start + array ≤ ends.now.size → IsKnown (length ends.now.head.now) (length ends.now.tail.now) ends.now.size (start, array)))
+        (IsLack ends.now.head.now ends.now.tail.now ends.now.size) }
     ensures asked { IfSome result
         (λ lack. IsAmong (lack.from, lack.length) ((header, 92) ∷ (start, array) ∷ [])) }
 {
-    let lack = lack_inside(head, tail, size, header, 92);
+    let lack = lack_inside(ends, header, 92);
     if lack.is_some() {
         return lack;
     }
-    lack_inside(head, tail, size, start, array)
+    lack_inside(ends, start, array)
 }
 
 // What the ends lack of so many bytes, where these are on the disk.
-fn lack_inside(head: &[u8], tail: &[u8], size: u64, from: u64, len: u64) -> Option<Lack>
-    requires { length head.now + length tail.now ≤ size }
+fn lack_inside(ends: &Ends, from: u64, len: u64) -> Option<Lack>
     ensures known { MatchOption result
-        (from + len ≤ size → IsKnown (length head.now) (length tail.now) size (from, len))
-        (IsLack head.now tail.now size) }
+        (from + len ≤ ends.now.size → IsKnown (length ends.now.head.now) (length ends.now.tail.now) ends.now.size (from, len))
+        (IsLack ends.now.head.now ends.now.tail.now ends.now.size) }
     ensures asked { IfSome result (λ lack. (lack.from ≡ from) × (lack.length ≡ len)) }
 {
-    if passes_end(size, from, len) {
+    if passes_end(ends.size, from, len) {
         return None;
     }
-    lack_of(head, tail, size, from, len)
+    lack_of(ends, from, len)
 }

@@ -7,13 +7,14 @@ ghost use Rattle.gptman.specs.Layout.{IsLaidOut};
 ghost use Rattle.gptman.specs.Table.{entries_in, table_in};
 ghost use Rattle.gptman_plan.specs.Asking.{plan_ranges, AsksAmong, AsksNothing};
 ghost use Rattle.gptman_plan.specs.Crossing.{with_partitions};
-ghost use Rattle.gptman_plan.specs.Ends.{disk_bytes, HasEnds};
+ghost use Rattle.gptman_plan.specs.Ends.{zeroed};
 ghost use Rattle.gptman_plan.specs.Plan.{acts_of};
 ghost use Rattle.gptman_plan.specs.Planning.{IsPlan, IsPlanRefusal, IsRewriteRefusal, IsSafePlan};
-ghost use Rattle.gptman_plan.specs.Reading.{IsStatedTable};
+ghost use Rattle.gptman_plan.specs.Reading.{IsStatedTable, OfEveryDisk};
 ghost use Rattle.gptman_plan.specs.Rounds.{reading_ranges};
 ghost use Rattle.gptman_plan.specs.declared.records.Partition.{Partition};
 
+use crate::ends::Ends;
 use crate::layout::{is_made_for, is_stated};
 use crate::places::lack_of_places;
 use crate::reading::{Lack, Reading, read};
@@ -37,55 +38,45 @@ pub enum Refusal {
 /// The steps that write the table that the ends hold, with these for its entries. The sector size is in bytes.
 pub fn plan(
     alloc: Global,
-    head: &[u8],
-    tail: &[u8],
-    size: u64,
+    ends: &Ends,
     sector_size: u64,
     partitions: &[Partition],
 ) -> Result<Record, Refusal>
     requires sector { 0 < sector_size }
-    requires apart { length head.now + length tail.now ≤ size }
-    ensures plan { IfOk result (λ plan. (b : List ℕ) → HasEnds b head.now tail.now size
-        → IsPlan b sector_size partitions.now (acts_of plan.bytes.items plan.steps.items)) }
-    ensures size { IfOk result (λ plan. plan.size ≡ size) }
-    ensures refused { IfErr result (IsPlanRefusal head.now tail.now size sector_size partitions.now) }
-    ensures asked { IfErr result (AsksAmong (λ b. plan_ranges b sector_size) head.now tail.now size) }
+    ensures plan { IfOk result (λ plan. OfEveryDisk ends.now
+        (λ b. IsPlan b sector_size partitions.now (acts_of plan.bytes.items plan.steps.items))) }
+    ensures size { IfOk result (λ plan. plan.size ≡ ends.now.size) }
+    ensures refused { IfErr result (IsPlanRefusal ends.now.head.now ends.now.tail.now ends.now.size sector_size partitions.now) }
+    ensures asked { IfErr result (AsksAmong (λ b. plan_ranges b sector_size) ends.now.head.now ends.now.tail.now ends.now.size) }
 {
-    let table = read_stated(alloc, head, tail, size, sector_size)?;
+    let table = read_stated(alloc, ends, sector_size)?;
     let count = u64::from(table.header.number_of_partition_entries);
-    if count == 0 || partitions.len() as u64 != count || size < sector_size {
+    if count == 0 || partitions.len() as u64 != count || ends.size < sector_size {
         return Err(Refusal::BadArgument);
     }
-    if let Some(lack) = lack_of_places(head, tail, size, &table) {
+    if let Some(lack) = lack_of_places(ends, &table) {
         return Err(Refusal::Lacks(lack));
     }
-    record_write(alloc, head, tail, size, &table, partitions)
+    record_write(alloc, ends, &table, partitions)
 }
 
 // The table that the ends hold, where it has the stated layout.
-fn read_stated(
-    alloc: Global,
-    head: &[u8],
-    tail: &[u8],
-    size: u64,
-    sector_size: u64,
-) -> Result<GPT, Refusal>
+fn read_stated(alloc: Global, ends: &Ends, sector_size: u64) -> Result<GPT, Refusal>
     requires sector { 0 < sector_size }
-    requires apart { length head.now + length tail.now ≤ size }
-    ensures table { IfOk result (IsStatedTable head.now tail.now size sector_size) }
+    ensures table { IfOk result (IsStatedTable ends.now sector_size) }
     ensures refused { (partitions : List Partition)
-        → IfErr result (IsPlanRefusal head.now tail.now size sector_size partitions) }
-    ensures asked { IfErr result (AsksAmong (λ b. reading_ranges b sector_size) head.now tail.now size) }
+        → IfErr result (IsPlanRefusal ends.now.head.now ends.now.tail.now ends.now.size sector_size partitions) }
+    ensures asked { IfErr result (AsksAmong (λ b. reading_ranges b sector_size) ends.now.head.now ends.now.tail.now ends.now.size) }
 {
-    let (table, is_backup) = match read(alloc, head, tail, size, sector_size) {
+    let (table, is_backup) = match read(alloc, ends, sector_size) {
         Reading::Table { table, is_backup } => (table, is_backup),
         Reading::Fault(fault) => return Err(Refusal::Refused(fault)),
         Reading::Lacks(lack) => return Err(Refusal::Lacks(lack)),
     };
-    if !is_made_for(&table, size) {
+    if !is_made_for(&table, ends.size) {
         return Err(Refusal::OtherLength);
     }
-    if !is_stated(&table, is_backup, size) {
+    if !is_stated(&table, is_backup, ends.size) {
         return Err(Refusal::OtherLayout);
     }
     Ok(table)
@@ -94,25 +85,22 @@ fn read_stated(
 // The steps that write this table, with these for its entries, to the disk with zeros between its ends.
 fn record_write(
     alloc: Global,
-    head: &[u8],
-    tail: &[u8],
-    size: u64,
+    ends: &Ends,
     table: &GPT,
     partitions: &[Partition],
 ) -> Result<Record, Refusal>
     requires sector { 0 < table.now.sector_size }
     requires coherent { IsCoherent table.now.header (entries_in table.now) }
     requires count { length partitions.now ≡ length (entries_in table.now) }
-    requires apart { length head.now + length tail.now ≤ size }
-    ensures size { IfOk result (λ plan. plan.size ≡ size) }
-    ensures refused { IfErr result (IsRewriteRefusal head.now tail.now size table.now partitions.now) }
+    ensures size { IfOk result (λ plan. plan.size ≡ ends.now.size) }
+    ensures refused { IfErr result (IsRewriteRefusal ends.now.head.now ends.now.tail.now ends.now.size table.now partitions.now) }
     ensures asked { IfErr result AsksNothing }
-    ensures safe { IfOk result (λ plan. IsReadInForm (disk_bytes head.now tail.now size) table.now
-        → IsLaidOut (with_partitions table.now partitions.now) table.now.sector_size size
-        → IsSafePlan (disk_bytes head.now tail.now size) table.now.sector_size (table_in table.now)
+    ensures safe { IfOk result (λ plan. IsReadInForm (zeroed ends.now) table.now
+        → IsLaidOut (with_partitions table.now partitions.now) table.now.sector_size ends.now.size
+        → IsSafePlan (zeroed ends.now) table.now.sector_size (table_in table.now)
         (with_partitions table.now partitions.now) (acts_of plan.bytes.items plan.steps.items)) }
 {
-    let mut disk = Recorder::new(alloc, head, tail, size);
+    let mut disk = Recorder::new(alloc, ends);
     let written = rewrite(alloc, &mut disk, table, partitions);
     if disk.failures != 0 {
         return Err(Refusal::Refused(Error::OutOfMemory));

@@ -8,11 +8,12 @@ ghost use Rattle.gptman.specs.Copy.{copy_at, header_result};
 ghost use Rattle.gptman.specs.Fault.{fault_of, out_of_memory};
 ghost use Rattle.gptman.specs.Reading.{reading_of};
 ghost use Rattle.gptman.specs.TableReads.{copy_of, IsAsRead};
-ghost use Rattle.gptman_plan.specs.Ends.{disk_bytes, IsKnown};
+ghost use Rattle.gptman_plan.specs.Ends.{IsKnown, zeroed};
 ghost use Rattle.gptman_plan.specs.Reading.{IsArrayTold, IsCopyTold, IsLack, IsLackOf, IsPlace, IsReading};
 ghost use Rattle.gptman_plan.specs.Rounds.{copy_ranges, entries_range};
 
 use crate::ends::Ends;
+use crate::reader::EndsReader;
 use gptman::copy::{last_sector, read_copy};
 use gptman::disk::passes_end;
 use gptman::{Error, GPT, GPTHeader, Result};
@@ -43,68 +44,64 @@ enum Place {
 /// The table of every disk of that size with these ends, or its fault; or bytes that are lacking.
 ///
 /// The sector size is in bytes. `OutOfMemory` is no fault of the disk.
-pub fn read(alloc: Global, head: &[u8], tail: &[u8], size: u64, sector_size: u64) -> Reading
+pub fn read(alloc: Global, ends: &Ends, sector_size: u64) -> Reading
     requires sector { 0 < sector_size }
-    requires apart { length head.now + length tail.now ≤ size }
-    ensures reading { IsReading head.now tail.now size sector_size result }
+    ensures reading { IsReading ends.now sector_size result }
 {
-    let is_backup = match find_place(alloc, head, tail, size, sector_size) {
+    let is_backup = match find_place(alloc, ends, sector_size) {
         Err(fault) => return Reading::Fault(fault),
         Ok(Place::Unknown(lack)) => return Reading::Lacks(lack),
         Ok(Place::At { is_backup }) => is_backup,
     };
-    match read_table(alloc, head, tail, size, sector_size) {
+    match read_table(alloc, ends, sector_size) {
         Err(fault) => Reading::Fault(fault),
         Ok(table) => Reading::Table { table, is_backup },
     }
 }
 
 // Where the copy is that a reading takes, if the ends tell it. There may be no memory.
-fn find_place(alloc: Global, head: &[u8], tail: &[u8], size: u64, sector_size: u64) -> Result<Place>
+fn find_place(alloc: Global, ends: &Ends, sector_size: u64) -> Result<Place>
     requires sector { 0 < sector_size }
-    requires apart { length head.now + length tail.now ≤ size }
-    ensures place { IfOk result (IsPlace head.now tail.now size sector_size) }
+    ensures place { IfOk result (IsPlace ends.now sector_size) }
     ensures refused { IfErr result (λ e. fault_of e ≡ out_of_memory) }
 {
-    if let Some(lack) = lack_of_copy(head, tail, size, sector_size, sector_size) {
+    if let Some(lack) = lack_of_copy(ends, sector_size, sector_size) {
         return Ok(Place::Unknown(lack));
     }
-    if has_primary(alloc, head, tail, size, sector_size)? {
+    if has_primary(alloc, ends, sector_size)? {
         return Ok(Place::At { is_backup: false });
     }
-    if size < sector_size {
+    if ends.size < sector_size {
         return Ok(Place::At { is_backup: true });
     }
-    let at = last_sector(size, sector_size);
-    match lack_of_copy(head, tail, size, at, sector_size) {
+    let at = last_sector(ends.size, sector_size);
+    match lack_of_copy(ends, at, sector_size) {
         Some(lack) => Ok(Place::Unknown(lack)),
         None => Ok(Place::At { is_backup: true }),
     }
 }
 
 // The table of the disk with zeros between the ends.
-fn read_table(alloc: Global, head: &[u8], tail: &[u8], size: u64, sector_size: u64) -> Result<GPT>
+fn read_table(alloc: Global, ends: &Ends, sector_size: u64) -> Result<GPT>
     requires sector { 0 < sector_size }
-    requires apart { length head.now + length tail.now ≤ size }
     ensures answer { Refuses result out_of_memory
-        ⊎ (answer_of copy_of result ≡ reading_of (disk_bytes head.now tail.now size) sector_size) }
+        ⊎ (answer_of copy_of result ≡ reading_of (zeroed ends.now) sector_size) }
     ensures sector { IfOk result (λ g. g.sector_size ≡ sector_size) }
     ensures value { IfOk result IsAsRead }
     ensures align { IfOk result (λ g. 0 < g.align) }
 {
-    let mut disk = Ends::new(head, tail, size);
+    let mut disk = EndsReader::new(ends);
     GPT::read_from(alloc, &mut disk, sector_size)
 }
 
 // Whether that disk has a copy without fault at the primary place. There may be no memory.
-fn has_primary(alloc: Global, head: &[u8], tail: &[u8], size: u64, sector_size: u64) -> Result<bool>
+fn has_primary(alloc: Global, ends: &Ends, sector_size: u64) -> Result<bool>
     requires sector { 0 < sector_size }
-    requires apart { length head.now + length tail.now ≤ size }
     ensures answer { IfOk result (λ yes. yes
-        ≡ is_ok (copy_at (disk_bytes head.now tail.now size) sector_size sector_size)) }
+        ≡ is_ok (copy_at (zeroed ends.now) sector_size sector_size)) }
     ensures refused { IfErr result (λ e. fault_of e ≡ out_of_memory) }
 {
-    let mut disk = Ends::new(head, tail, size);
+    let mut disk = EndsReader::new(ends);
     disk.position = sector_size;
     match read_copy(alloc, &mut disk, sector_size) {
         Ok(_) => Ok(true),
@@ -114,66 +111,56 @@ fn has_primary(alloc: Global, head: &[u8], tail: &[u8], size: u64, sector_size: 
 }
 
 /// What the ends lack of the copy whose header is at this byte.
-pub fn lack_of_copy(head: &[u8], tail: &[u8], size: u64, at: u64, sector_size: u64) -> Option<Lack>
-    requires { length head.now + length tail.now ≤ size }
-    ensures told { MatchOption result (IsCopyTold head.now tail.now size at sector_size)
-        (IsLackOf (λ b. copy_ranges b sector_size at) head.now tail.now size) }
+pub fn lack_of_copy(ends: &Ends, at: u64, sector_size: u64) -> Option<Lack>
+    ensures told { MatchOption result (IsCopyTold ends.now.head.now ends.now.tail.now ends.now.size at sector_size)
+        (IsLackOf (λ b. copy_ranges b sector_size at) ends.now.head.now ends.now.tail.now ends.now.size) }
 {
-    if passes_end(size, at, 92) {
+    if passes_end(ends.size, at, 92) {
         return None;
     }
-    if let Some(lack) = lack_of(head, tail, size, at, 92) {
+    if let Some(lack) = lack_of(ends, at, 92) {
         return Some(lack);
     }
-    let header = header_at(head, tail, size, at)?;
-    lack_of_entries(&header, head, tail, size, sector_size)
+    let header = header_at(ends, at)?;
+    lack_of_entries(&header, ends, sector_size)
 }
 
 // The header at this byte of that disk, if it has no fault.
-fn header_at(head: &[u8], tail: &[u8], size: u64, at: u64) -> Option<GPTHeader>
-    requires { length head.now + length tail.now ≤ size }
-    ensures answer { MatchOption result (IsErr (header_result (disk_bytes head.now tail.now size) at))
-        (λ h. header_result (disk_bytes head.now tail.now size) at ≡ Ok h) }
+fn header_at(ends: &Ends, at: u64) -> Option<GPTHeader>
+    ensures answer { MatchOption result (IsErr (header_result (zeroed ends.now) at))
+        (λ h. header_result (zeroed ends.now) at ≡ Ok h) }
 {
-    let mut disk = Ends::new(head, tail, size);
+    let mut disk = EndsReader::new(ends);
     disk.position = at;
     GPTHeader::read_from(&mut disk).ok()
 }
 
 // What the ends lack of the entries of this header.
-fn lack_of_entries(
-    header: &GPTHeader,
-    head: &[u8],
-    tail: &[u8],
-    size: u64,
-    sector_size: u64,
-) -> Option<Lack>
-    requires { length head.now + length tail.now ≤ size }
-    ensures told { MatchOption result (IsArrayTold head.now tail.now size sector_size header.now)
-        (IsLackOf (λ _. entries_range sector_size (Ok header.now)) head.now tail.now size) }
+fn lack_of_entries(header: &GPTHeader, ends: &Ends, sector_size: u64) -> Option<Lack>
+    ensures told { MatchOption result (IsArrayTold ends.now.head.now ends.now.tail.now ends.now.size sector_size header.now)
+        (IsLackOf (λ _. entries_range sector_size (Ok header.now)) ends.now.head.now ends.now.tail.now ends.now.size) }
 {
     if header.number_of_partition_entries == 0 || header.size_of_partition_entry != 128 {
         return None;
     }
     let start = header.partition_entry_lba.checked_mul(sector_size)?;
     let len = 128 * u64::from(header.number_of_partition_entries);
-    if passes_end(size, start, len) {
+    if passes_end(ends.size, start, len) {
         return None;
     }
-    lack_of(head, tail, size, start, len)
+    lack_of(ends, start, len)
 }
 
 // The range itself, where neither end has all of it.
-pub fn lack_of(head: &[u8], tail: &[u8], size: u64, from: u64, len: u64) -> Option<Lack>
-    requires apart { length head.now + length tail.now ≤ size }
-    requires inside { from + len ≤ size }
-    ensures known { MatchOption result (IsKnown (length head.now) (length tail.now) size (from, len))
-        (IsLack head.now tail.now size) }
+pub fn lack_of(ends: &Ends, from: u64, len: u64) -> Option<Lack>
+    requires inside { from + len ≤ ends.now.size }
+    ensures known { MatchOption result (IsKnown (length ends.now.head.now) (length ends.now.tail.now) ends.now.size (from, len))
+        (IsLack ends.now.head.now ends.now.tail.now ends.now.size) }
     ensures asked { IfSome result (λ lack. (lack.from ≡ from) × (lack.length ≡ len)) }
 {
-    let first = head.len() as u64;
-    let last = tail.len() as u64;
-    if from + len <= first || size - last <= from || first + last == size {
+    let first = ends.head.len() as u64;
+    let last = ends.tail.len() as u64;
+    if from + len <= first || ends.size - last <= from || first + last == ends.size {
         return None;
     }
     Some(Lack { from, length: len })

@@ -1,10 +1,11 @@
 //! A disk that records what is to be written to it. Its first and its last bytes are known, and it has zeros between
 //! them.
 
-ghost use Rattle.std.specs.Prelude.{◌≡◌, ◌≤◌, ◌<◌, ◌+◌, ◌^◌, [], length};
-ghost use Rattle.gptman_plan.specs.Ends.{disk_bytes};
+ghost use Rattle.std.specs.Prelude.{◌≡◌, [], length};
+ghost use Rattle.gptman_plan.specs.Ends.{zeroed};
 ghost use Rattle.gptman_plan.specs.Plan.{acts_of, plan_sound, plan_state, bytes_after};
 
+use crate::ends::Ends;
 use crate::record::Record;
 use gptman::Disk;
 use gptman::disk::{count_failure, passes_end, past_end};
@@ -14,33 +15,26 @@ use std::io;
 /// A disk that records writes and syncs. It is not read.
 #[derive(Drop)]
 pub struct Recorder<'a> {
-    pub head: &'a [u8],
-    pub tail: &'a [u8],
+    pub ends: Ends<'a>,
     pub plan: Record,
     pub position: u64,
     // How often there was no memory for a step.
     pub failures: u64,
-    ghost long: { length (bytes_after (disk_bytes head.now tail.now plan.size)
-        (acts_of plan.bytes.items plan.steps.items)) ≡ plan.size },
-    ghost apart: { length head.now + length tail.now ≤ plan.size },
-    ghost small: { plan.size < 2 ^ 64 },
+    ghost long: { length (bytes_after (zeroed ends) (acts_of plan.bytes.items plan.steps.items)) ≡ ends.size },
+    ghost same: { plan.size ≡ ends.size },
 }
 
 impl<'a> Recorder<'a> {
-    /// A disk of so many bytes, with these ends, to which nothing was written.
-    pub fn new(alloc: Global, head: &'a [u8], tail: &'a [u8], size: u64) -> Self
-        requires { length head.now + length tail.now ≤ size }
-        ensures head { result.head.now ≡ head.now }
-        ensures tail { result.tail.now ≡ tail.now }
-        ensures size { result.plan.size ≡ size }
+    /// A disk with these ends, to which nothing was written.
+    pub fn new(alloc: Global, ends: &Ends<'a>) -> Self
+        ensures ends { result.ends ≡ ends.now }
         ensures acts { acts_of result.plan.bytes.items result.plan.steps.items ≡ [] }
         ensures position { result.position ≡ 0 }
         ensures failures { result.failures ≡ 0 }
     {
         Recorder {
-            head,
-            tail,
-            plan: Record::new(alloc, size),
+            ends: *ends,
+            plan: Record::new(alloc, ends.size),
             position: 0,
             failures: 0,
         }
@@ -55,8 +49,8 @@ impl<'a> Recorder<'a> {
 }
 
 impl<'a> Disk for Recorder<'a> {
-    ghost state = { λ d. plan_state (disk_bytes d.head.now d.tail.now d.plan.size)
-        (acts_of d.plan.bytes.items d.plan.steps.items) d.plan.size d.position d.failures };
+    ghost state = { λ d. plan_state (zeroed d.ends) (acts_of d.plan.bytes.items d.plan.steps.items)
+        d.ends.size d.position d.failures };
 
     fn seek_start(&mut self, at: u64) -> io::Result<u64> {
         self.position = at;
@@ -64,12 +58,12 @@ impl<'a> Disk for Recorder<'a> {
     }
 
     fn seek_end(&mut self) -> io::Result<u64> {
-        self.position = self.plan.size;
-        Ok(self.plan.size)
+        self.position = self.ends.size;
+        Ok(self.ends.size)
     }
 
     fn read_exact(&mut self, buf: &mut [u8]) -> io::Result<()> {
-        if passes_end(self.plan.size, self.position, buf.len() as u64) {
+        if passes_end(self.ends.size, self.position, buf.len() as u64) {
             return Err(past_end());
         }
         count_failure(&mut self.failures);
@@ -93,9 +87,9 @@ impl<'a> Disk for Recorder<'a> {
         Ok(())
     }
 
-    ghost bounded = { λ d. d.small };
+    ghost bounded = { λ d. d.ends.small };
 
     ghost sound = { λ d honest.
-        plan_sound (disk_bytes d.head.now d.tail.now d.plan.size) (acts_of d.plan.bytes.items d.plan.steps.items) d.plan.size d.position
+        plan_sound (zeroed d.ends) (acts_of d.plan.bytes.items d.plan.steps.items) d.ends.size d.position
         d.failures d.long };
 }

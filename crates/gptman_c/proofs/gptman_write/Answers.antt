@@ -1,116 +1,42 @@
-use Rattle.std.proofs.Common.{⊎_elim, inl, inr, sym, ◌∙◌, arith}
+use Rattle.std.proofs.Common.{inr, sym}
 use Rattle.gptman_plan.specs.Asking.{plan_ranges}
-use Rattle.gptman_plan.proofs.AskedPlans.{answer_asked, sector_among}
-use Rattle.gptman_plan.proofs.Refused.{answer_above, answer_bad, answer_fault, answer_kept, answer_lacks, answer_layout, answer_length, answer_most, answer_not_102, answer_not_18, answer_whole}
-use Rattle.gptman_plan.specs.Planning.{StopsPlan}
-use Rattle.gptman_plan.specs.Reading.{OfEvery}
+use Rattle.gptman_plan.specs.Planning.{Cause, StopsPlan}
+use Rattle.gptman_plan.specs.Reading.{OfEveryDisk}
+use Rattle.gptman_plan.proofs.AskedPlans.{answer_asked}
+use Rattle.gptman_plan.proofs.Middle.{has_made}
+use Rattle.gptman_plan.proofs.Refused.{answer_fault, answer_not_102}
 use Rattle.gptman_c.proofs.gptman_write.Goals as goal
-
-pub returns-in-Err-clause-plan : goal.returns-in-Err-clause-plan
-returns-in-Err-clause-plan c = λ zero b ends.
-    let a = c.args in
-    absurd (answer_above (λ cause. OfEvery a.head.now a.tail.now a.disk_size (λ b. StopsPlan b a.sector_size a.partitions.now cause)) a.head.now a.tail.now a.disk_size c.in-Err.refusal c.in-Err.ensures.refused c.refuse.result c.refuse.ensures.answer zero)
-
-pub returns-in-Err-clause-fits : goal.returns-in-Err-clause-fits
-returns-in-Err-clause-fits c = λ zero.
-    let a = c.args in
-    absurd (answer_above (λ cause. OfEvery a.head.now a.tail.now a.disk_size (λ b. StopsPlan b a.sector_size a.partitions.now cause)) a.head.now a.tail.now a.disk_size c.in-Err.refusal c.in-Err.ensures.refused c.refuse.result c.refuse.ensures.answer zero)
-
-pub returns-in-Err-clause-steps_fit : goal.returns-in-Err-clause-steps_fit
-returns-in-Err-clause-steps_fit c = λ zero.
-    let a = c.args in
-    absurd (answer_above (λ cause. OfEvery a.head.now a.tail.now a.disk_size (λ b. StopsPlan b a.sector_size a.partitions.now cause)) a.head.now a.tail.now a.disk_size c.in-Err.refusal c.in-Err.ensures.refused c.refuse.result c.refuse.ensures.answer zero)
-
-pub returns-in-Err-clause-kinds : goal.returns-in-Err-clause-kinds
-returns-in-Err-clause-kinds c = λ zero.
-    let a = c.args in
-    absurd (answer_above (λ cause. OfEvery a.head.now a.tail.now a.disk_size (λ b. StopsPlan b a.sector_size a.partitions.now cause)) a.head.now a.tail.now a.disk_size c.in-Err.refusal c.in-Err.ensures.refused c.refuse.result c.refuse.ensures.answer zero)
-
-pub returns-in-Err-clause-room : goal.returns-in-Err-clause-room
-returns-in-Err-clause-room c = λ eighteen.
-    let a = c.args in
-    absurd (answer_not_18 (λ cause. OfEvery a.head.now a.tail.now a.disk_size (λ b. StopsPlan b a.sector_size a.partitions.now cause)) a.head.now a.tail.now a.disk_size c.in-Err.refusal c.in-Err.ensures.refused c.refuse.result c.refuse.ensures.answer eighteen)
-
-pub returns-in-Err-clause-suffices : goal.returns-in-Err-clause-suffices
-returns-in-Err-clause-suffices c = λ eighteen.
-    let a = c.args in
-    absurd (answer_not_18 (λ cause. OfEvery a.head.now a.tail.now a.disk_size (λ b. StopsPlan b a.sector_size a.partitions.now cause)) a.head.now a.tail.now a.disk_size c.in-Err.refusal c.in-Err.ensures.refused c.refuse.result c.refuse.ensures.answer eighteen)
 
 pub returns-in-Ok-clause-suffices : goal.returns-in-Ok-clause-suffices
 returns-in-Ok-clause-suffices c = λ _.
+    let a = c.args in
     let plan = c.in-Ok.plan in
-    record { steps = plan.steps.items; bytes = plan.bytes.items; count = sym c.give.ensures.count; filled = sym c.give.ensures.filled; plan = c.in-Ok.ensures.plan }
-
-pub returns-in-Err-clause-lacks : goal.returns-in-Err-clause-lacks
-returns-in-Err-clause-lacks c = λ seventeen.
-    let a = c.args in
-    (answer_lacks (λ cause. OfEvery a.head.now a.tail.now a.disk_size (λ b. StopsPlan b a.sector_size a.partitions.now cause)) a.head.now a.tail.now a.disk_size c.in-Err.refusal c.in-Err.ensures.refused c.refuse.result c.refuse.ensures.answer
-    c.refuse_dos-seen.new.needed c.refuse.new.needed c.refuse.ensures.needed seventeen).0
-
-pub returns-in-Err-clause-within : goal.returns-in-Err-clause-within
-returns-in-Err-clause-within c = λ seventeen.
-    let a = c.args in
-    (answer_lacks (λ cause. OfEvery a.head.now a.tail.now a.disk_size (λ b. StopsPlan b a.sector_size a.partitions.now cause)) a.head.now a.tail.now a.disk_size c.in-Err.refusal c.in-Err.ensures.refused c.refuse.result c.refuse.ensures.answer
-    c.refuse_dos-seen.new.needed c.refuse.new.needed c.refuse.ensures.needed seventeen).1
-
-pub returns-in-Err-clause-whole : goal.returns-in-Err-clause-whole
-returns-in-Err-clause-whole c = λ seventeen.
-    let a = c.args in
-    answer_whole (λ cause. OfEvery a.head.now a.tail.now a.disk_size (λ b. StopsPlan b a.sector_size a.partitions.now cause)) a.head.now a.tail.now a.disk_size c.in-Err.refusal c.in-Err.ensures.refused c.refuse.result c.refuse.ensures.answer
-    c.refuse_dos-seen.new.needed c.refuse.new.needed c.refuse.ensures.needed seventeen
-
-pub returns-in-Err-clause-needed : goal.returns-in-Err-clause-needed
-returns-in-Err-clause-needed c = λ zero seventeen eighteen.
-    let a = c.args in
-    answer_kept (λ cause. OfEvery a.head.now a.tail.now a.disk_size (λ b. StopsPlan b a.sector_size a.partitions.now cause)) a.head.now a.tail.now a.disk_size c.in-Err.refusal c.in-Err.ensures.refused c.refuse.result c.refuse.ensures.answer
-    c.refuse_dos-seen.new.needed c.refuse.new.needed c.refuse.ensures.needed seventeen ∙ c.refuse_dos-seen.ensures.needed (λ is. absurd (omega (arith, is, c.if-seen-ne0.false)))
+    record {
+      steps = plan.steps.items;
+      bytes = plan.bytes.items;
+      count = sym c.give.ensures.count;
+      filled = sym c.give.ensures.filled;
+      plan = λ b has. c.in-Ok.ensures.plan b (has_made c.in-Some.ends a.head.now a.tail.now a.disk_size c.in-Some.ensures b has);
+    }
 
 pub returns-in-Err-clause-refused : goal.returns-in-Err-clause-refused
-returns-in-Err-clause-refused c = λ above below other b ends.
+returns-in-Err-clause-refused c = λ above below other b has.
     let a = c.args in
-    let told = answer_fault (λ cause. OfEvery a.head.now a.tail.now a.disk_size (λ b. StopsPlan b a.sector_size a.partitions.now cause)) a.head.now a.tail.now a.disk_size c.in-Err.refusal c.in-Err.ensures.refused c.refuse.result c.refuse.ensures.answer below other in
-    record { fault = told.fault; holds = told.holds b ends; number_is = told.number_is }
+    let e = c.in-Some.ends in
+    let why : Cause → Type 0 = λ cause. OfEveryDisk e (λ b. StopsPlan b a.sector_size a.partitions.now cause) in
+    let told = answer_fault why e.head.now e.tail.now e.size c.in-Err.refusal c.in-Err.ensures.refused c.refuse.result c.refuse.ensures.answer below other in
+    record { fault = told.fault; holds = told.holds b (has_made e a.head.now a.tail.now a.disk_size c.in-Some.ensures b has); number_is = told.number_is }
 
-pub returns-in-Err-clause-bad : goal.returns-in-Err-clause-bad
-returns-in-Err-clause-bad c = λ nineteen.
+pub returns-in-Err-clause-asked : goal.returns-in-Err-clause-asked
+returns-in-Err-clause-asked c = λ seventeen b has.
     let a = c.args in
-    inr (inr (answer_bad (λ cause. OfEvery a.head.now a.tail.now a.disk_size (λ b. StopsPlan b a.sector_size a.partitions.now cause)) a.head.now a.tail.now a.disk_size c.in-Err.refusal c.in-Err.ensures.refused c.refuse.result c.refuse.ensures.answer nineteen))
-
-pub returns-in-Err-clause-other_length : goal.returns-in-Err-clause-other_length
-returns-in-Err-clause-other_length c = λ hundred.
-    let a = c.args in
-    answer_length (λ cause. OfEvery a.head.now a.tail.now a.disk_size (λ b. StopsPlan b a.sector_size a.partitions.now cause)) a.head.now a.tail.now a.disk_size c.in-Err.refusal c.in-Err.ensures.refused c.refuse.result c.refuse.ensures.answer hundred
-
-pub returns-in-Err-clause-other_layout : goal.returns-in-Err-clause-other_layout
-returns-in-Err-clause-other_layout c = λ number.
-    let a = c.args in
-    answer_layout (λ cause. OfEvery a.head.now a.tail.now a.disk_size (λ b. StopsPlan b a.sector_size a.partitions.now cause)) a.head.now a.tail.now a.disk_size c.in-Err.refusal c.in-Err.ensures.refused c.refuse.result c.refuse.ensures.answer number
-
-pub returns-in-Err-clause-most : goal.returns-in-Err-clause-most
-returns-in-Err-clause-most c =
-    let a = c.args in
-    ⊎_elim inl (λ is. inr (⊎_elim inl (λ n. inr (inl n)) is)) (answer_most (λ cause. OfEvery a.head.now a.tail.now a.disk_size (λ b. StopsPlan b a.sector_size a.partitions.now cause)) a.head.now a.tail.now a.disk_size c.in-Err.refusal c.in-Err.ensures.refused c.refuse.result c.refuse.ensures.answer)
-
-pub returns-in-Err-clause-no_dos_disk : goal.returns-in-Err-clause-no_dos_disk
-returns-in-Err-clause-no_dos_disk c = λ zero.
-    let a = c.args in
-    absurd (answer_above (λ cause. OfEvery a.head.now a.tail.now a.disk_size (λ b. StopsPlan b a.sector_size a.partitions.now cause)) a.head.now a.tail.now a.disk_size c.in-Err.refusal c.in-Err.ensures.refused c.refuse.result c.refuse.ensures.answer zero)
+    let e = c.in-Some.ends in
+    inr (answer_asked e.head.now e.tail.now e.size (λ b. plan_ranges b a.sector_size) c.in-Err.refusal c.in-Err.ensures.asked c.refuse.result c.refuse.ensures.answer
+    c.refuse_dos-seen.new.needed c.refuse.new.needed c.refuse.ensures.needed seventeen b (has_made e a.head.now a.tail.now a.disk_size c.in-Some.ensures b has))
 
 pub returns-in-Err-clause-dos_disk : goal.returns-in-Err-clause-dos_disk
 returns-in-Err-clause-dos_disk c = λ number.
     let a = c.args in
-    absurd (answer_not_102 (λ cause. OfEvery a.head.now a.tail.now a.disk_size (λ b. StopsPlan b a.sector_size a.partitions.now cause)) a.head.now a.tail.now a.disk_size c.in-Err.refusal c.in-Err.ensures.refused c.refuse.result c.refuse.ensures.answer number)
-
-pub returns-in-Ok-clause-no_dos_disk : goal.returns-in-Ok-clause-no_dos_disk
-returns-in-Ok-clause-no_dos_disk c = λ _ clear b ends. c.refuse_dos-seen.ensures.none c.if-seen-ne0.false clear b ends
-
-pub returns-then-seen-ne0-clause-asked : goal.returns-then-seen-ne0-clause-asked
-returns-then-seen-ne0-clause-asked c = λ seventeen b ends.
-    let needed = c.refuse_dos-seen.new.needed in
-    sector_among (needed.from, needed.length) (plan_ranges b c.args.sector_size) (c.refuse_dos-seen.ensures.asked seventeen)
-
-pub returns-in-Err-clause-asked : goal.returns-in-Err-clause-asked
-returns-in-Err-clause-asked c = λ seventeen b ends.
-    let a = c.args in
-    inr (answer_asked a.head.now a.tail.now a.disk_size (λ b. plan_ranges b a.sector_size) c.in-Err.refusal c.in-Err.ensures.asked c.refuse.result c.refuse.ensures.answer
-    c.refuse_dos-seen.new.needed c.refuse.new.needed c.refuse.ensures.needed seventeen b ends)
+    let e = c.in-Some.ends in
+    let why : Cause → Type 0 = λ cause. OfEveryDisk e (λ b. StopsPlan b a.sector_size a.partitions.now cause) in
+    absurd (answer_not_102 why e.head.now e.tail.now e.size c.in-Err.refusal c.in-Err.ensures.refused c.refuse.result c.refuse.ensures.answer number)

@@ -8,9 +8,9 @@ use Rattle.gptman_plan.proofs.checking.look_at_both.Goals as goal
 
 pub returns-clause-look : goal.returns-clause-look
 returns-clause-look c = λ b ends.
-    let head = c.args.head.now in
-    let tail = c.args.tail.now in
-    let size = c.args.size in
+    let head = c.args.ends.now.head.now in
+    let tail = c.args.ends.now.tail.now in
+    let size = c.args.ends.now.size in
     let ss = c.args.sector_size in
     let told = at_none (AreCopiesTold head tail size ss) (IsLackOf (λ b. reading_ranges b ss) head tail size) c.lack_of_copies.result c.in_default.is c.lack_of_copies.ensures.told in
     let made = c.check_of.ensures in

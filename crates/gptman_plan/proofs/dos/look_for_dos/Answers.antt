@@ -1,7 +1,7 @@
 use Rattle.std.proofs.Common.{[], ◌∷◌, inl, length, refl, sym, ◌∙◌, arith}
 use Rattle.std.proofs.lemmas.Bool.{false≢true}
 use Rattle.gptman.specs.Bytes.{part}
-use Rattle.gptman_plan.specs.Ends.{IsKnown, disk_bytes}
+use Rattle.gptman_plan.specs.Ends.{IsKnown, zeroed}
 use Rattle.gptman_plan.specs.Reading.{IsLack}
 use Rattle.gptman_plan.specs.Rounds.{first_sector}
 use Rattle.gptman_plan.proofs.Asked.{lack_at}
@@ -9,29 +9,29 @@ use Rattle.gptman_plan.proofs.Seen.{is_clear, is_dos, none_short}
 use Rattle.gptman_plan.proofs.Told.{at_none}
 use Rattle.gptman_plan.proofs.dos.look_for_dos.Goals as goal
 
-pub returns-then-size-lt512 : goal.returns-then-size-lt512
-returns-then-size-lt512 c = λ b ends. none_short b (omega (arith, ends.long, c.if-size-lt512.true))
+pub returns-then-ends-lt512 : goal.returns-then-ends-lt512
+returns-then-ends-lt512 c = λ b ends. none_short b (omega (arith, ends.long, c.if-ends-lt512.true))
 
 pub returns-then-is_dos_sector : goal.returns-then-is_dos_sector
 returns-then-is_dos_sector c =
     let a = c.args in
     let made = c.new-disk.ensures in
-    let known = at_none (IsKnown (length a.head.now) (length a.tail.now) a.size (0, 512)) (IsLack a.head.now a.tail.now a.size) c.lack_of.result c.in_default.is c.lack_of.ensures.known in
-    is_dos a.head.now a.tail.now a.size c.requires known c.fill.new.buf
-    (c.fill.ensures ∙ (λ i. part (disk_bytes (made.head i) (made.tail i) (made.size i)) (made.position i) 512))
+    let known = at_none (IsKnown (length a.ends.now.head.now) (length a.ends.now.tail.now) a.ends.now.size (0, 512)) (IsLack a.ends.now.head.now a.ends.now.tail.now a.ends.now.size) c.lack_of.result c.in_default.is c.lack_of.ensures.known in
+    is_dos a.ends.now.head.now a.ends.now.tail.now a.ends.now.size c.args.ends.now.apart known c.fill.new.buf
+    (c.fill.ensures ∙ (λ i. part (zeroed (made.ends i)) (made.position i) 512))
     (c.is_dos_sector.ensures.0 c.if-is_dos_sector.true)
 
 pub returns-else-is_dos_sector : goal.returns-else-is_dos_sector
 returns-else-is_dos_sector c =
     let a = c.args in
     let made = c.new-disk.ensures in
-    let known = at_none (IsKnown (length a.head.now) (length a.tail.now) a.size (0, 512)) (IsLack a.head.now a.tail.now a.size) c.lack_of.result c.in_default.is c.lack_of.ensures.known in
-    is_clear a.head.now a.tail.now a.size c.requires known c.fill.new.buf
-    (c.fill.ensures ∙ (λ i. part (disk_bytes (made.head i) (made.tail i) (made.size i)) (made.position i) 512))
+    let known = at_none (IsKnown (length a.ends.now.head.now) (length a.ends.now.tail.now) a.ends.now.size (0, 512)) (IsLack a.ends.now.head.now a.ends.now.tail.now a.ends.now.size) c.lack_of.result c.in_default.is c.lack_of.ensures.known in
+    is_clear a.ends.now.head.now a.ends.now.tail.now a.ends.now.size c.args.ends.now.apart known c.fill.new.buf
+    (c.fill.ensures ∙ (λ i. part (zeroed (made.ends i)) (made.position i) 512))
     (λ is. false≢true (sym c.if-is_dos_sector.false ∙ c.is_dos_sector.ensures.1 is))
 
 pub returns-in-Some : goal.returns-in-Some
 returns-in-Some c =
     let a = c.args in
     let asked = c.in-Some.ensures.asked in
-    lack_at a.head.now a.tail.now a.size (λ _. first_sector ∷ []) 0 512 c.in-Some.lack asked.0 asked.1 (λ b ends. inl refl) c.in-Some.ensures.known
+    lack_at a.ends.now.head.now a.ends.now.tail.now a.ends.now.size (λ _. first_sector ∷ []) 0 512 c.in-Some.lack asked.0 asked.1 (λ b ends. inl refl) c.in-Some.ensures.known

@@ -17,9 +17,9 @@ pub returns-clause-plan : goal.returns-clause-plan
 returns-clause-plan c =
     let a = c.args in
     let g : GPT = c.in_ok-table.table in
-    let new : GPT = new_table_of a.count a.disk_guid a.sector_size a.size in
-    IfOk-weaker c.plan_table.result (λ (plan : Record). (b : List ℕ) → HasEnds b a.head.now a.tail.now a.size → IsTablePlan b g (acts_of plan.bytes.items plan.steps.items))
-    (λ (plan : Record). (b : List ℕ) → HasEnds b a.head.now a.tail.now a.size → IsNewPlan b new (acts_of plan.bytes.items plan.steps.items))
+    let new : GPT = new_table_of a.count a.disk_guid a.sector_size a.ends.now.size in
+    IfOk-weaker c.plan_table.result (λ (plan : Record). (b : List ℕ) → HasEnds b a.ends.now.head.now a.ends.now.tail.now a.ends.now.size → IsTablePlan b g (acts_of plan.bytes.items plan.steps.items))
+    (λ (plan : Record). (b : List ℕ) → HasEnds b a.ends.now.head.now a.ends.now.tail.now a.ends.now.size → IsNewPlan b new (acts_of plan.bytes.items plan.steps.items))
     (λ plan is b ends. let acts : List Act = acts_of plan.bytes.items plan.steps.items in
     new_plan b new acts (refl, refl) (subst (λ (t : GPT). IsTablePlan b t acts) c.in_ok-table.ensures.value (is b ends)))
     c.plan_table.ensures.plan
@@ -28,24 +28,24 @@ pub returns-clause-refused : goal.returns-clause-refused
 returns-clause-refused c =
     let a = c.args in
     let g : GPT = c.in_ok-table.table in
-    IfErr-weaker c.plan_table.result (IsTableRefusal a.head.now a.tail.now a.size g) (IsNewRefusal a.head.now a.tail.now a.size a.sector_size a.count a.disk_guid)
-    (λ r is. refused_as (StopsTable g a.size) (StopsNew a.count a.disk_guid a.sector_size a.size) a.head.now a.tail.now a.size
-    (table_stops_new a.count a.disk_guid a.sector_size a.size g c.in_ok-table.ensures.value) r is)
+    IfErr-weaker c.plan_table.result (IsTableRefusal a.ends.now.head.now a.ends.now.tail.now a.ends.now.size g) (IsNewRefusal a.ends.now.head.now a.ends.now.tail.now a.ends.now.size a.sector_size a.count a.disk_guid)
+    (λ r is. refused_as (StopsTable g a.ends.now.size) (StopsNew a.count a.disk_guid a.sector_size a.ends.now.size) a.ends.now.head.now a.ends.now.tail.now a.ends.now.size
+    (table_stops_new a.count a.disk_guid a.sector_size a.ends.now.size g c.in_ok-table.ensures.value) r is)
     c.plan_table.ensures.refused
 
 pub returns-in_err-table-clause-asked : goal.returns-in_err-table-clause-asked
 returns-in_err-table-clause-asked c =
     let a = c.args in
-    let new : GPT = new_table_of a.count a.disk_guid a.sector_size a.size in
+    let new : GPT = new_table_of a.count a.disk_guid a.sector_size a.ends.now.size in
     let p = err_from_is_err_and c.from_residual.result c.from_residual.ensures.1 in
-    rw (p.1, p.2) (asks_none a.head.now a.tail.now a.size (λ _. value_ranges new a.size) c.in_err-table.field-0.0 c.in_err-table.ensures.asked)
+    rw (p.1, p.2) (asks_none a.ends.now.head.now a.ends.now.tail.now a.ends.now.size (λ _. value_ranges new a.ends.now.size) c.in_err-table.field-0.0 c.in_err-table.ensures.asked)
 
 pub returns-clause-asked : goal.returns-clause-asked
 returns-clause-asked c =
     let a = c.args in
     let g : GPT = c.in_ok-table.table in
-    let new : GPT = new_table_of a.count a.disk_guid a.sector_size a.size in
-    IfErr-weaker c.plan_table.result (AsksAmong (λ _. value_ranges g a.size) a.head.now a.tail.now a.size) (AsksAmong (λ _. value_ranges new a.size) a.head.now a.tail.now a.size)
-    (asks_as a.head.now a.tail.now a.size (λ _. value_ranges g a.size) (λ _. value_ranges new a.size)
-    (λ b ends range is. subst (λ (t : GPT). IsAmong range (value_ranges t a.size)) c.in_ok-table.ensures.value is))
+    let new : GPT = new_table_of a.count a.disk_guid a.sector_size a.ends.now.size in
+    IfErr-weaker c.plan_table.result (AsksAmong (λ _. value_ranges g a.ends.now.size) a.ends.now.head.now a.ends.now.tail.now a.ends.now.size) (AsksAmong (λ _. value_ranges new a.ends.now.size) a.ends.now.head.now a.ends.now.tail.now a.ends.now.size)
+    (asks_as a.ends.now.head.now a.ends.now.tail.now a.ends.now.size (λ _. value_ranges g a.ends.now.size) (λ _. value_ranges new a.ends.now.size)
+    (λ b ends range is. subst (λ (t : GPT). IsAmong range (value_ranges t a.ends.now.size)) c.in_ok-table.ensures.value is))
     c.plan_table.ensures.asked

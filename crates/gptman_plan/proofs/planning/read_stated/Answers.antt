@@ -10,7 +10,7 @@ pub returns-clause-table : goal.returns-clause-table
 returns-clause-table c =
     let told = c.in-Table.ensures.reading in
     let stated = c.is_stated.ensures.0 c.if-not-is_stated.false in
-    record { is_backup = c.in-Table.is_backup; read = told; form = stated.0; laid = subst (λ (n : ℕ). IsLaidOut (table_in c.in-Table.table) n c.args.size) told.sector stated.1 }
+    record { is_backup = c.in-Table.is_backup; read = told; form = stated.0; laid = subst (λ (n : ℕ). IsLaidOut (table_in c.in-Table.table) n c.args.ends.now.size) told.sector stated.1 }
 
 pub returns-in-Fault-clause-refused : goal.returns-in-Fault-clause-refused
 returns-in-Fault-clause-refused c = λ partitions. ⊎_elim (λ none. inl none) (λ told. inr (λ b ends. is_not_read (told b ends))) c.in-Fault.ensures.reading
@@ -18,11 +18,11 @@ returns-in-Fault-clause-refused c = λ partitions. ⊎_elim (λ none. inl none) 
 pub returns-then-not-is_made_for-clause-refused : goal.returns-then-not-is_made_for-clause-refused
 returns-then-not-is_made_for-clause-refused c = λ partitions.
     let a = c.args in
-    other_length a.head.now a.tail.now a.size a.sector_size c.in-Table.table c.in-Table.is_backup c.in-Table.ensures.reading
+    other_length a.ends.now.head.now a.ends.now.tail.now a.ends.now.size a.sector_size c.in-Table.table c.in-Table.is_backup c.in-Table.ensures.reading
     (λ made. false≢true (sym c.if-not-is_made_for.true ∙ c.is_made_for.ensures.1 made))
 
 pub returns-then-not-is_stated-clause-refused : goal.returns-then-not-is_stated-clause-refused
 returns-then-not-is_stated-clause-refused c = λ partitions.
     let a = c.args in
-    other_layout a.head.now a.tail.now a.size a.sector_size c.in-Table.table c.in-Table.is_backup c.in-Table.ensures.reading
+    other_layout a.ends.now.head.now a.ends.now.tail.now a.ends.now.size a.sector_size c.in-Table.table c.in-Table.is_backup c.in-Table.ensures.reading
     (c.is_made_for.ensures.0 c.if-not-is_made_for.false) (λ stated. false≢true (sym c.if-not-is_stated.true ∙ c.is_stated.ensures.1 stated))

@@ -1,5 +1,5 @@
 use Rattle.std.proofs.Common.{◌≡◌, refl, ◌∙◌}
-use Rattle.gptman_plan.specs.Ends.{disk_bytes, length-disk_bytes}
+use Rattle.gptman_plan.specs.Ends.{length-zeroed, zeroed}
 use Rattle.gptman_plan.specs.Plan.{acts_of}
 use Rattle.gptman_plan.specs.declared.recording.Recorder.{Recorder}
 use Rattle.gptman_plan.proofs.Planned.{begins_at, ends_after, start_stays}
@@ -10,24 +10,24 @@ pub returns-in-Ok-clause-written : goal.returns-in-Ok-clause-written
 returns-in-Ok-clause-written c = λ layout.
     let a = c.args in
     let made = c.new-disk.ensures in
-    let begins = begins_at c.new-disk.result a.head.now a.tail.now a.size made.head made.tail made.size made.acts made.position made.failures in
-    let long = length-disk_bytes a.head.now a.tail.now a.size c.requires.apart in
+    let begins = begins_at c.new-disk.result a.ends.now made.ends made.acts made.position made.failures in
+    let long = length-zeroed a.ends.now in
     let e : Recorder = c.write_into-written.new.disk in
-    let sized : e.plan.size ≡ a.size = c.in-Ok.ensures.keeps.size ∙ made.size in
-    let same = start_stays (disk_bytes a.head.now a.tail.now a.size) a.size _ e long begins sized (c.in-Ok.ensures.wrote refl).time in
-    let after = ends_after e c.into_plan.result (disk_bytes a.head.now a.tail.now a.size) same c.into_plan.ensures in
-    written_zero (disk_bytes a.head.now a.tail.now a.size) a.size a.table (acts_of c.into_plan.result.bytes.items c.into_plan.result.steps.items) _ _
+    let sized : e.ends.size ≡ a.ends.now.size = c.in-Ok.ensures.keeps.size ∙ (λ i. (made.ends i).size) in
+    let same = start_stays (zeroed a.ends.now) a.ends.now.size _ e long begins sized (c.in-Ok.ensures.wrote refl).time in
+    let after = ends_after e c.into_plan.result (zeroed a.ends.now) same c.into_plan.ensures in
+    written_zero (zeroed a.ends.now) a.ends.now.size a.table (acts_of c.into_plan.result.bytes.items c.into_plan.result.steps.items) _ _
     long begins after layout c.in-Ok.ensures.outside c.in-Ok.ensures.stored
 
 pub returns-in-Ok-clause-turns : goal.returns-in-Ok-clause-turns
 returns-in-Ok-clause-turns c = λ layout form.
     let a = c.args in
     let made = c.new-disk.ensures in
-    let begins = begins_at c.new-disk.result a.head.now a.tail.now a.size made.head made.tail made.size made.acts made.position made.failures in
-    let long = length-disk_bytes a.head.now a.tail.now a.size c.requires.apart in
+    let begins = begins_at c.new-disk.result a.ends.now made.ends made.acts made.position made.failures in
+    let long = length-zeroed a.ends.now in
     let e : Recorder = c.write_into-written.new.disk in
-    let sized : e.plan.size ≡ a.size = c.in-Ok.ensures.keeps.size ∙ made.size in
-    let same = start_stays (disk_bytes a.head.now a.tail.now a.size) a.size _ e long begins sized (c.in-Ok.ensures.wrote refl).time in
-    let after = ends_after e c.into_plan.result (disk_bytes a.head.now a.tail.now a.size) same c.into_plan.ensures in
-    turns_zero (disk_bytes a.head.now a.tail.now a.size) a.size a.table (acts_of c.into_plan.result.bytes.items c.into_plan.result.steps.items) _ _
+    let sized : e.ends.size ≡ a.ends.now.size = c.in-Ok.ensures.keeps.size ∙ (λ i. (made.ends i).size) in
+    let same = start_stays (zeroed a.ends.now) a.ends.now.size _ e long begins sized (c.in-Ok.ensures.wrote refl).time in
+    let after = ends_after e c.into_plan.result (zeroed a.ends.now) same c.into_plan.ensures in
+    turns_zero (zeroed a.ends.now) a.ends.now.size a.table (acts_of c.into_plan.result.bytes.items c.into_plan.result.steps.items) _ _
     long begins after layout form c.in-Ok.ensures.turns
