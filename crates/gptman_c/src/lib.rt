@@ -15,7 +15,7 @@ ghost use Rattle.gptman_plan.specs.Asking.{fit_ranges, plan_ranges, value_ranges
 ghost use Rattle.gptman_plan.specs.Checking.{IsCheckTold};
 ghost use Rattle.gptman_plan.specs.Crossing.{HasCount, IsOffer, IsRefused, IsTold};
 ghost use Rattle.gptman_plan.specs.Dos.{IsDosDisk};
-ghost use Rattle.gptman_plan.specs.Ends.{HasEnds, IsKnown};
+ghost use Rattle.gptman_plan.specs.Ends.{HasEnds, HaveRange, IsKnown};
 ghost use Rattle.gptman.specs.Name.{units_of};
 ghost use Rattle.std.specs.Prelude.{◌∷◌, ◌++◌, IsUtf8};
 ghost use Rattle.std.specs.Str.{chars};
@@ -24,7 +24,7 @@ ghost use Rattle.gptman_plan.specs.Plan.{acts_of, IsWriteOrSync, StepFits};
 ghost use Rattle.gptman_plan.specs.Planning.{AreNoEnds, HasPlan, IsFitPlan, IsMiscounted, IsNewPlan, IsNotStatedToFit};
 ghost use Rattle.gptman_plan.specs.Planning.{IsNumberOf, IsOfOtherLayout, IsOfOtherLength, IsPlan};
 ghost use Rattle.gptman_plan.specs.Planning.{needed_after, refusal_number, RefusesFit, RefusesNew, RefusesPlan};
-ghost use Rattle.gptman_plan.specs.Reading.{OfEveryDisk};
+ghost use Rattle.gptman_plan.specs.Reading.{OfEvery};
 ghost use Rattle.gptman_plan.specs.Rounds.{first_sector, reading_ranges, IsAmong};
 
 use gptman::crc::crc32;
@@ -453,10 +453,10 @@ const OVER_DOS: u32 = 1;
 // that it may be written over; else 0.
 fn refuse_dos(ends: &Ends, flags: u32, needed: &mut Needed) -> u32
     requires flags { flags ≤ 1 }
-    ensures none { result ≡ 0 → flags ≡ 0 → OfEveryDisk ends.now (λ b. ¬ IsDosDisk b) }
-    ensures dos_disk { result ≡ 102 → (flags ≡ 0) × OfEveryDisk ends.now IsDosDisk }
+    ensures none { result ≡ 0 → flags ≡ 0 → OfEvery ends.now (λ b. ¬ IsDosDisk b) }
+    ensures dos_disk { result ≡ 102 → (flags ≡ 0) × OfEvery ends.now IsDosDisk }
     ensures lacks { result ≡ 17
-        → ¬ IsKnown (length ends.now.head.now) (length ends.now.tail.now) ends.now.size (needed.new.from, needed.new.length) }
+        → ¬ HaveRange ends.now (needed.new.from, needed.new.length) }
     ensures within { result ≡ 17 → needed.new.from + needed.new.length ≤ ends.now.size }
     ensures whole { result ≡ 17 → length ends.now.head.now + length ends.now.tail.now < ends.now.size }
     ensures asked { result ≡ 17 → IsAmong (needed.new.from, needed.new.length) (first_sector ∷ []) }

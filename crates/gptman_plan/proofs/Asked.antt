@@ -4,10 +4,11 @@ use Rattle.std.specs.Prelude.{Option, None, Some, Ok, IfSome, MatchOption}
 use Rattle.gptman.specs.Copy.{header_result}
 use Rattle.gptman.specs.Reading.{backup, copy_start}
 use Rattle.gptman.specs.declared.codec.header.GPTHeader.{GPTHeader}
-use Rattle.gptman_plan.specs.Ends.{HasEnds, IsKnown, disk_bytes}
+use Rattle.gptman_plan.specs.Ends.{HaveRange, IsDiskOf, zeroed}
 use Rattle.gptman_plan.specs.Reading.{IsHeaderTold, IsLack, IsLackOf, OfEvery}
 use Rattle.gptman_plan.specs.Rounds.{IsAmong, copy_ranges, entries_range, reading_ranges}
 use Rattle.gptman_plan.specs.declared.reading.Lack.{Lack}
+use Rattle.gptman_plan.specs.declared.ends.Ends.{Ends}
 
 -- what holds of an option in each case
 pub matched_both : {T : Type 0} (P Q : Type 0) (R S : T → Type 0) (o : Option T) → (P → Q) → ((x : T) → R x → S x) → MatchOption o P R → MatchOption o Q S
@@ -24,42 +25,42 @@ pub among_right : (xs ys : List (ℕ × ℕ)) (range : ℕ × ℕ) → IsAmong r
 among_right [] ys range is = is
 among_right (x ∷ xs) ys range is = inr (among_right xs ys range is)
 
-module _ (head tail : List ℕ) (size : ℕ) where
+module _ (e : Ends) where
   abbrev Places : Type 0
   Places = List ℕ → List (ℕ × ℕ)
 
   -- bytes that are lacking, by the range that was to be known
-  pub lack_at : (places : Places) (from len : ℕ) (lack : Lack) → lack.from ≡ from → lack.length ≡ len → OfEvery head tail size (λ b. IsAmong (from, len) (places b))
-      → IsLack head tail size lack → IsLackOf places head tail size lack
+  pub lack_at : (places : Places) (from len : ℕ) (lack : Lack) → lack.from ≡ from → lack.length ≡ len → OfEvery e (λ b. IsAmong (from, len) (places b))
+      → IsLack e lack → IsLackOf places e lack
   lack_at places from len lack start long among lacking =
       let same : ◌≡◌ {A = ℕ × ℕ} (from, len) (lack.from, lack.length) = λ i. (sym start i, sym long i) in
       record { lacking = lacking; among = λ b ends. subst (λ (r : ℕ × ℕ). IsAmong r (places b)) same (among b ends) }
 
   -- what the range tells, or what is lacking
-  pub told_or_lack : (places : Places) (Q : Type 0) (from len : ℕ) (o : Option Lack) → OfEvery head tail size (λ b. IsAmong (from, len) (places b))
-      → (IsKnown (length head) (length tail) size (from, len) → Q) → MatchOption o (IsKnown (length head) (length tail) size (from, len)) (IsLack head tail size)
-      → IfSome o (λ lack. (lack.from ≡ from) × (lack.length ≡ len)) → MatchOption o Q (IsLackOf places head tail size)
+  pub told_or_lack : (places : Places) (Q : Type 0) (from len : ℕ) (o : Option Lack) → OfEvery e (λ b. IsAmong (from, len) (places b))
+      → (HaveRange e (from, len) → Q) → MatchOption o (HaveRange e (from, len)) (IsLack e)
+      → IfSome o (λ lack. (lack.from ≡ from) × (lack.length ≡ len)) → MatchOption o Q (IsLackOf places e)
   told_or_lack places Q from len None among tells known asked = tells known
   told_or_lack places Q from len (Some lack) among tells known asked = lack_at places from len lack asked.0 asked.1 among known
 
   -- places among others
-  lack_as : (places more : Places) → ((b : List ℕ) → HasEnds b head tail size → (range : ℕ × ℕ) → IsAmong range (places b) → IsAmong range (more b))
-      → (lack : Lack) → IsLackOf places head tail size lack → IsLackOf more head tail size lack
+  lack_as : (places more : Places) → ((b : List ℕ) → IsDiskOf e b → (range : ℕ × ℕ) → IsAmong range (places b) → IsAmong range (more b))
+      → (lack : Lack) → IsLackOf places e lack → IsLackOf more e lack
   lack_as places more wider lack is = record { lacking = is.lacking; among = λ b ends. wider b ends (lack.from, lack.length) (is.among b ends) }
 
   -- the entries of a header that is told are those of its copy
-  pub entries_lack : (p ss : ℕ) (h : GPTHeader) → header_result (disk_bytes head tail size) p ≡ Ok h → IsHeaderTold head tail size p
-      → (lack : Lack) → IsLackOf (λ _. entries_range ss (Ok h)) head tail size lack → IsLackOf (λ b. copy_ranges b ss p) head tail size lack
+  pub entries_lack : (p ss : ℕ) (h : GPTHeader) → header_result (zeroed e) p ≡ Ok h → IsHeaderTold e p
+      → (lack : Lack) → IsLackOf (λ _. entries_range ss (Ok h)) e lack → IsLackOf (λ b. copy_ranges b ss p) e lack
   entries_lack p ss h good told = lack_as (λ _. entries_range ss (Ok h)) (λ b. copy_ranges b ss p)
       (λ b ends range is. inr (subst (λ r. IsAmong range (entries_range ss r)) (sym (told b ends ∙ good)) is))
 
   -- what the primary copy asks for a reading does,
-  pub primary_lack : (ss : ℕ) (lack : Lack) → IsLackOf (λ b. copy_ranges b ss ss) head tail size lack → IsLackOf (λ b. reading_ranges b ss) head tail size lack
+  pub primary_lack : (ss : ℕ) (lack : Lack) → IsLackOf (λ b. copy_ranges b ss ss) e lack → IsLackOf (λ b. reading_ranges b ss) e lack
   primary_lack ss = lack_as (λ b. copy_ranges b ss ss) (λ b. reading_ranges b ss)
       (λ b ends range is. among_left (copy_ranges b ss ss) (copy_ranges b ss (copy_start backup (length b) ss)) range is)
 
   -- and what the backup copy does
-  pub backup_lack : (ss at : ℕ) → at ≡ (size / ss - 1) * ss → (lack : Lack) → IsLackOf (λ b. copy_ranges b ss at) head tail size lack → IsLackOf (λ b. reading_ranges b ss) head tail size lack
+  pub backup_lack : (ss at : ℕ) → at ≡ (e.size / ss - 1) * ss → (lack : Lack) → IsLackOf (λ b. copy_ranges b ss at) e lack → IsLackOf (λ b. reading_ranges b ss) e lack
   backup_lack ss at is_at = lack_as (λ b. copy_ranges b ss at) (λ b. reading_ranges b ss)
       (λ b ends range is.
       let here : at ≡ copy_start backup (length b) ss = is_at ∙ ap (λ (n : ℕ). (n / ss - 1) * ss) (sym ends.long) in

@@ -9,7 +9,7 @@ use Rattle.gptman.specs.TableReads.{copy_of}
 use Rattle.gptman.specs.declared.table.GPT.{GPT}
 use Rattle.gptman_plan.specs.Asking.{AsksAmong, AsksNothing, fit_ranges, fitted_ranges, plan_ranges, table_ranges, value_ranges}
 use Rattle.gptman_plan.specs.Crossing.{four_ranges}
-use Rattle.gptman_plan.specs.Ends.{HasEnds}
+use Rattle.gptman_plan.specs.Ends.{IsDiskOf}
 use Rattle.gptman_plan.specs.Planning.{fitted, needed_after, refusal_number}
 use Rattle.gptman_plan.specs.Reading.{IsTable, OfEvery}
 use Rattle.gptman_plan.specs.Rounds.{IsAmong, first_sector, reading_ranges}
@@ -20,6 +20,7 @@ use Rattle.gptman_plan.specs.declared.records.Needed.{Needed}
 use Rattle.gptman_plan.proofs.Asked.{among_right}
 use Rattle.gptman_plan.proofs.Refused.{within_16}
 use Rattle.gptman_plan.proofs.Rounded.{few_places}
+use Rattle.gptman_plan.specs.declared.ends.Ends.{Ends}
 
 -- ---- the ranges of a table
 
@@ -41,57 +42,57 @@ if_some P o lack is holds = subst (λ p. IfSome p P) is holds
 
 -- ---- a refusal
 
-module _ (head tail : List ℕ) (size : ℕ) where
+module _ (e : Ends) where
   abbrev Places : Type 0
   Places = List ℕ → List (ℕ × ℕ)
 
   -- places among others
-  pub asks_as : (places more : Places) → ((b : List ℕ) → HasEnds b head tail size → (range : ℕ × ℕ) → IsAmong range (places b) → IsAmong range (more b))
-      → (r : Refusal) → AsksAmong places head tail size r → AsksAmong more head tail size r
+  pub asks_as : (places more : Places) → ((b : List ℕ) → IsDiskOf e b → (range : ℕ × ℕ) → IsAmong range (places b) → IsAmong range (more b))
+      → (r : Refusal) → AsksAmong places e r → AsksAmong more e r
   asks_as places more wider BadArgument asks = tt
-  asks_as places more wider (Refused e) asks = tt
+  asks_as places more wider (Refused error) asks = tt
   asks_as places more wider (Lacks lack) asks = λ b ends. wider b ends (lack.from, lack.length) (asks b ends)
   asks_as places more wider OtherLength asks = tt
   asks_as places more wider OtherLayout asks = tt
 
   -- one that asks for nothing
-  pub asks_none : (places : Places) (r : Refusal) → AsksNothing r → AsksAmong places head tail size r
+  pub asks_none : (places : Places) (r : Refusal) → AsksNothing r → AsksAmong places e r
   asks_none places BadArgument asks = tt
-  asks_none places (Refused e) asks = tt
+  asks_none places (Refused error) asks = tt
   asks_none places (Lacks lack) asks = absurd asks
   asks_none places OtherLength asks = tt
   asks_none places OtherLayout asks = tt
 
-  asked_of : (places : Places) (r : Refusal) (needed : Needed) → AsksAmong places head tail size r → refusal_number r ≡ 17
-      → OfEvery head tail size (λ b. IsAmong ((needed_after r needed).from, (needed_after r needed).length) (places b))
+  asked_of : (places : Places) (r : Refusal) (needed : Needed) → AsksAmong places e r → refusal_number r ≡ 17
+      → OfEvery e (λ b. IsAmong ((needed_after r needed).from, (needed_after r needed).length) (places b))
   asked_of places BadArgument needed asks seventeen = absurd (omega (arith, seventeen))
-  asked_of places (Refused e) needed asks seventeen = absurd (omega (arith, (within_16 (fault_of e)).1, seventeen))
+  asked_of places (Refused error) needed asks seventeen = absurd (omega (arith, (within_16 (fault_of error)).1, seventeen))
   asked_of places (Lacks lack) needed asks seventeen = asks
   asked_of places OtherLength needed asks seventeen = absurd (omega (arith, seventeen))
   asked_of places OtherLayout needed asks seventeen = absurd (omega (arith, seventeen))
 
   -- what is answered of it
-  pub answer_asked : (places : Places) (r : Refusal) → AsksAmong places head tail size r → (answer : ℕ) → answer ≡ refusal_number r → (old new : Needed) → new ≡ needed_after r old
-      → answer ≡ 17 → OfEvery head tail size (λ b. IsAmong (new.from, new.length) (places b))
+  pub answer_asked : (places : Places) (r : Refusal) → AsksAmong places e r → (answer : ℕ) → answer ≡ refusal_number r → (old new : Needed) → new ≡ needed_after r old
+      → answer ≡ 17 → OfEvery e (λ b. IsAmong (new.from, new.length) (places b))
   answer_asked places r asks answer is old new told seventeen =
-      subst (λ (n : Needed). OfEvery head tail size (λ b. IsAmong (n.from, n.length) (places b))) (sym told) (asked_of places r old asks (sym is ∙ seventeen))
+      subst (λ (n : Needed). OfEvery e (λ b. IsAmong (n.from, n.length) (places b))) (sym told) (asked_of places r old asks (sym is ∙ seventeen))
 
   -- ---- a table that was read
 
-  module _ (ss : ℕ) (g : GPT) (is_backup : Bool) (read : IsTable head tail size ss g is_backup) (range : ℕ × ℕ) where
+  module _ (ss : ℕ) (g : GPT) (is_backup : Bool) (read : IsTable e ss g is_backup) (range : ℕ × ℕ) where
     -- its own places
-    pub plan_place : IsAmong range (value_ranges g size) → OfEvery head tail size (λ b. IsAmong range (plan_ranges b ss))
+    pub plan_place : IsAmong range (value_ranges g e.size) → OfEvery e (λ b. IsAmong range (plan_ranges b ss))
     plan_place is b ends =
         let here : IsAmong range (table_ranges ss (length b) (Ok (copy_of g))) =
-        subst (λ (n : ℕ). IsAmong range (four_ranges (table_in g) ss n)) (sym ends.long) (subst (λ (n : ℕ). IsAmong range (four_ranges (table_in g) n size)) read.sector is) in
+        subst (λ (n : ℕ). IsAmong range (four_ranges (table_in g) ss n)) (sym ends.long) (subst (λ (n : ℕ). IsAmong range (four_ranges (table_in g) n e.size)) read.sector is) in
         among_right (reading_ranges b ss) (table_ranges ss (length b) (reading_of b ss)) range
         (subst (λ (r : Result Copy Fault). IsAmong range (table_ranges ss (length b) r)) (sym (read.reading b ends)) here)
 
     -- and those that it has where it is fitted
-    pub fit_place : (next : GPT) → next ≡ grow_to g size → IsAmong range (value_ranges next size) → OfEvery head tail size (λ b. IsAmong range (fit_ranges b ss))
+    pub fit_place : (next : GPT) → next ≡ grow_to g e.size → IsAmong range (value_ranges next e.size) → OfEvery e (λ b. IsAmong range (fit_ranges b ss))
     fit_place next made is b ends =
-        let grown : IsAmong range (value_ranges (grow_to g size) size) = subst (λ (t : GPT). IsAmong range (value_ranges t size)) made is in
-        let sized : IsAmong range (fitted_ranges ss size (Ok (copy_of g))) = subst (λ (n : ℕ). IsAmong range (four_ranges (fitted (copy_of g) n size) n size)) read.sector grown in
+        let grown : IsAmong range (value_ranges (grow_to g e.size) e.size) = subst (λ (t : GPT). IsAmong range (value_ranges t e.size)) made is in
+        let sized : IsAmong range (fitted_ranges ss e.size (Ok (copy_of g))) = subst (λ (n : ℕ). IsAmong range (four_ranges (fitted (copy_of g) n e.size) n e.size)) read.sector grown in
         let here : IsAmong range (fitted_ranges ss (length b) (Ok (copy_of g))) = subst (λ (n : ℕ). IsAmong range (fitted_ranges ss n (Ok (copy_of g)))) (sym ends.long) sized in
         among_right (reading_ranges b ss) (fitted_ranges ss (length b) (reading_of b ss)) range
         (subst (λ (r : Result Copy Fault). IsAmong range (fitted_ranges ss (length b) r)) (sym (read.reading b ends)) here)

@@ -13,10 +13,11 @@ use Rattle.gptman.specs.Error.{Error}
 use Rattle.gptman.specs.Copies.{HoldOneTable, IsChecked, IsSeenAs}
 use Rattle.gptman.specs.declared.copies.BothCopies.{BothCopies}
 use Rattle.gptman_plan.specs.Checking.{AreCopiesTold, AreFoundIn, IsCheckTold, number_in}
-use Rattle.gptman_plan.specs.Ends.{disk_bytes}
+use Rattle.gptman_plan.specs.Ends.{zeroed}
 use Rattle.gptman_plan.specs.Reading.{OfEvery}
 use Rattle.gptman_plan.specs.declared.records.Check.{Check}
 use Rattle.gptman_plan.proofs.Refused.{not_failed}
+use Rattle.gptman_plan.specs.declared.ends.Ends.{Ends}
 
 -- ---- on a disk that did not fail
 
@@ -36,10 +37,10 @@ found_in b ss (Ok copies) old new view none is = record {
 -- ---- of every disk with these ends
 
 -- both copies are told
-pub both_told : (head tail : List ℕ) (size ss : ℕ) → OfEvery head tail size (λ b. copy_in primary b ss ≡ copy_in primary (disk_bytes head tail size) ss)
-    → OfEvery head tail size (λ b. copy_in backup b ss ≡ copy_in backup (disk_bytes head tail size) ss) → AreCopiesTold head tail size ss
-both_told head tail size ss first second primary = first
-both_told head tail size ss first second backup = second
+pub both_told : (e : Ends) (ss : ℕ) → OfEvery e (λ b. copy_in primary b ss ≡ copy_in primary (zeroed e) ss)
+    → OfEvery e (λ b. copy_in backup b ss ≡ copy_in backup (zeroed e) ss) → AreCopiesTold e ss
+both_told e ss first second primary = first
+both_told e ss first second backup = second
 
 -- what one disk holds, another with the same copies does
 held_as : (a b : List ℕ) (ss : ℕ) (side : Side) (t : Table) → copy_in side a ss ≡ copy_in side b ss → Holds a ss side t → Holds b ss side t

@@ -18,7 +18,7 @@ use Rattle.gptman.specs.Error.{Error}
 use Rattle.gptman.specs.declared.table.GPT.{GPT}
 use Rattle.gptman.proofs.FourRanges.{sides_clear}
 use Rattle.gptman.proofs.ReadingLaw.{holds_what_is_read}
-use Rattle.gptman_plan.specs.Ends.{HasEnds}
+use Rattle.gptman_plan.specs.Ends.{IsDiskOf}
 use Rattle.gptman_plan.specs.Plan.{Act, LeftBy}
 use Rattle.gptman_plan.specs.Planning.{Cause, IsFitPlan, IsFitRefusal, IsNotStatedToFit, IsOfFault, IsSizeRefusal, IsStatedToFit, IsTablePlan, IsTableRefusal, IsUnfitTable, StopsFit, StopsTable}
 use Rattle.gptman_plan.specs.Planning.Cause.{bad_argument, a_fault, other_length, other_layout}
@@ -26,6 +26,7 @@ use Rattle.gptman_plan.specs.Planning.RefusesFit.{does_not_fit, is_unfit_fitted}
 use Rattle.gptman_plan.specs.Reading.{IsTable, OfEvery, side_of}
 use Rattle.gptman_plan.specs.declared.planning.Refusal.{Refusal}
 use Rattle.gptman_plan.proofs.Refused.{fault_as, refused_as}
+use Rattle.gptman_plan.specs.declared.ends.Ends.{Ends}
 
 -- ---- a header that fits
 
@@ -111,34 +112,34 @@ module _ (b : List ℕ) (g : GPT) (acts : List Act) (taken : reading_of b g.sect
 
 -- ---- of every disk with these ends
 
-module _ (head tail : List ℕ) (size ss : ℕ) (g : GPT) (is_backup : Bool) (told : IsTable head tail size ss g is_backup) where
+module _ (e : Ends) (ss : ℕ) (g : GPT) (is_backup : Bool) (told : IsTable e ss g is_backup) where
   read_so : (b : List ℕ) → reading_of b ss ≡ Ok (copy_of g) → reading_of b g.sector_size ≡ Ok (copy_of g)
   read_so b is = subst (λ (n : ℕ). reading_of b n ≡ Ok (copy_of g)) (sym told.sector) is
 
-  form_so : IsHeaderForm (side_of is_backup) g.header → (b : List ℕ) → HasEnds b head tail size → IsHeaderForm (taken_from b g.sector_size) g.header
+  form_so : IsHeaderForm (side_of is_backup) g.header → (b : List ℕ) → IsDiskOf e b → IsHeaderForm (taken_from b g.sector_size) g.header
   form_so form b ends =
       subst (λ (n : ℕ). IsHeaderForm (taken_from b n) g.header) (sym told.sector) (subst (λ (side : Side). IsHeaderForm side g.header) (sym (told.from b ends)) form)
 
-  pub fit_plan : IsHeaderForm (side_of is_backup) g.header → (next : GPT) (acts : List Act) → next ≡ grow_to g size → OfEvery head tail size (λ b. IsTablePlan b next acts)
-      → OfEvery head tail size (λ b. IsFitPlan b ss acts)
+  pub fit_plan : IsHeaderForm (side_of is_backup) g.header → (next : GPT) (acts : List Act) → next ≡ grow_to g e.size → OfEvery e (λ b. IsTablePlan b next acts)
+      → OfEvery e (λ b. IsFitPlan b ss acts)
   fit_plan form next acts is plan b ends =
       let here : IsTablePlan b (grow_to g (length b)) acts =
       subst (λ (n : ℕ). IsTablePlan b (grow_to g n) acts) (sym ends.long) (subst (λ (t : GPT). IsTablePlan b t acts) is (plan b ends)) in
       subst (λ (n : ℕ). IsFitPlan b n acts) told.sector (fit_here b g acts (read_so b (told.reading b ends)) (form_so form b ends) here)
 
   -- a copy that is not in the form of its place
-  pub not_of_side : ¬ IsHeaderForm (side_of is_backup) g.header → OfEvery head tail size (λ b. IsNotStatedToFit b ss)
+  pub not_of_side : ¬ IsHeaderForm (side_of is_backup) g.header → OfEvery e (λ b. IsNotStatedToFit b ss)
   not_of_side not b ends = record {
     copy = copy_of g;
     taken = told.reading b ends;
     other = λ stated. not (subst (λ (side : Side). IsHeaderForm side g.header) (told.from b ends) stated.form);
   }
 
-  pub size_refused : (r : Refusal) → IsSizeRefusal head tail size g r → IsFitRefusal head tail size ss r
+  pub size_refused : (r : Refusal) → IsSizeRefusal e g r → IsFitRefusal e ss r
   size_refused r refused =
-      let why : Fault → Type 0 = λ fault. fit_fault g.header g.sector_size size ≡ Some fault in
-      refused_as (IsOfFault why) (λ cause. OfEvery head tail size (λ b. StopsFit b ss cause)) head tail size
-      (fault_as why (λ cause. OfEvery head tail size (λ b. StopsFit b ss cause)) (λ fault is b ends. does_not_fit (copy_of g) (told.reading b ends)
+      let why : Fault → Type 0 = λ fault. fit_fault g.header g.sector_size e.size ≡ Some fault in
+      refused_as (IsOfFault why) (λ cause. OfEvery e (λ b. StopsFit b ss cause)) e
+      (fault_as why (λ cause. OfEvery e (λ b. StopsFit b ss cause)) (λ fault is b ends. does_not_fit (copy_of g) (told.reading b ends)
       (subst (λ (n : ℕ). fit_fault g.header n (length b) ≡ Some fault) told.sector (subst (λ (n : ℕ). fit_fault g.header g.sector_size n ≡ Some fault) (sym ends.long) is))))
       r refused
 
@@ -152,22 +153,22 @@ module _ (head tail : List ℕ) (size ss : ℕ) (g : GPT) (is_backup : Bool) (to
   }
 
   -- a fitted table that has not the stated layout
-  not_laid : (next : GPT) → next ≡ grow_to g size → ¬ HasLayout next size → OfEvery head tail size (λ b. IsNotStatedToFit b ss)
+  not_laid : (next : GPT) → next ≡ grow_to g e.size → ¬ HasLayout next e.size → OfEvery e (λ b. IsNotStatedToFit b ss)
   not_laid next is not b ends = record {
     copy = copy_of g;
     taken = told.reading b ends;
     other = λ stated.
         let at : IsStatedToFit b g.sector_size (copy_of g) = subst (λ (n : ℕ). IsStatedToFit b n (copy_of g)) (sym told.sector) stated in
         let here : HasLayout (grow_to g (length b)) (length b) = has_layout (grow_to g (length b)) (length b) at.fitted_form at.laid in
-        not (subst (λ (t : GPT). HasLayout t size) (sym is) (subst (λ (n : ℕ). HasLayout (grow_to g n) n) ends.long here));
+        not (subst (λ (t : GPT). HasLayout t e.size) (sym is) (subst (λ (n : ℕ). HasLayout (grow_to g n) n) ends.long here));
   }
 
-  pub table_refused : (next : GPT) → next ≡ grow_to g size → (r : Refusal) → IsTableRefusal head tail size next r → IsFitRefusal head tail size ss r
-  table_refused next is r refused = refused_as (StopsTable next size) (λ cause. OfEvery head tail size (λ b. StopsFit b ss cause)) head tail size by_cause r refused
+  pub table_refused : (next : GPT) → next ≡ grow_to g e.size → (r : Refusal) → IsTableRefusal e next r → IsFitRefusal e ss r
+  table_refused next is r refused = refused_as (StopsTable next e.size) (λ cause. OfEvery e (λ b. StopsFit b ss cause)) e by_cause r refused
     where
-      by_cause : (cause : Cause) → StopsTable next size cause → OfEvery head tail size (λ b. StopsFit b ss cause)
+      by_cause : (cause : Cause) → StopsTable next e.size cause → OfEvery e (λ b. StopsFit b ss cause)
       by_cause bad_argument none = absurd none
       by_cause (a_fault fault) why = λ b ends. is_unfit_fitted (copy_of g) (told.reading b ends)
-          (subst (λ (n : ℕ). IsUnfitTable (fit_header g.header ss n) ss (entries_in g) n fault) (sym ends.long) (unfit next fault size is why))
+          (subst (λ (n : ℕ). IsUnfitTable (fit_header g.header ss n) ss (entries_in g) n fault) (sym ends.long) (unfit next fault e.size is why))
       by_cause other_length none = absurd none
       by_cause other_layout not = not_laid next is not

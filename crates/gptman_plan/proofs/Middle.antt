@@ -6,7 +6,7 @@ use Rattle.std.proofs.lemmas.Bool.{cases_lt}
 use Rattle.gptman.specs.Bytes.{part}
 use Rattle.gptman.specs.Disk.{Outside, AgreesOutside, overlay}
 use Rattle.gptman.specs.Ranges.{AgreesInside, Inside, IsApartFromAll}
-use Rattle.gptman_plan.specs.Ends.{disk_bytes, length-disk_bytes, AreRangesKnown, HasEnds, IsKnown}
+use Rattle.gptman_plan.specs.Ends.{disk_bytes, length-disk_bytes, AreRangesKnown, HasEnds, IsDiskOf, IsKnown, zeroed}
 use Rattle.gptman_plan.specs.Plan.{Act, bytes_with, pending_with, bytes_after, pending_after}
 use Rattle.gptman_plan.specs.declared.ends.Ends.{Ends}
 use Rattle.gptman_plan.specs.Plan.Act.{lay, store}
@@ -187,8 +187,11 @@ module _ (first last size : ℕ) (apart : first + last ≤ size) where
     pub clear_pending : (acts : List Act) → AreKnown first last size acts → Outside (pending_after acts) k
     clear_pending acts known = clear_fold [] acts known tt
 
--- ---- ends that are made of two slices
+-- ---- the ends of a disk
+
+pub zero_ends : (e : Ends) → IsDiskOf e (zeroed e)
+zero_ends e = ends_zero e.head.now e.tail.now e.size e.apart
 
 -- A disk with the bytes and the length that the ends were made of has these ends.
-pub has_made : (e : Ends) (head tail : List ℕ) (size : ℕ) → (e.head.now ≡ head) × (e.tail.now ≡ tail) × (e.size ≡ size) → (b : List ℕ) → HasEnds b head tail size → HasEnds b e.head.now e.tail.now e.size
+pub has_made : (e : Ends) (head tail : List ℕ) (size : ℕ) → (e.head.now ≡ head) × (e.tail.now ≡ tail) × (e.size ≡ size) → (b : List ℕ) → HasEnds b head tail size → IsDiskOf e b
 has_made e head tail size made b has = subst (λ (p : List ℕ × (List ℕ × ℕ)). HasEnds b p.0 p.1.0 p.1.1) (λ i. (sym made.0 i, (sym made.1 i, sym made.2 i))) has

@@ -9,7 +9,7 @@ use Rattle.gptman.specs.TableWrites.{RefusesTable, RefusesWrite, table_write_fau
 use Rattle.gptman.specs.TableWrites.RefusesTable.{table_no_memory, table_not_valid, table_no_room}
 use Rattle.gptman.specs.TableWrites.RefusesWrite.{no_memory, not_valid, no_room, disk_failed}
 use Rattle.gptman.specs.declared.table.GPT.{GPT}
-use Rattle.gptman_plan.specs.Ends.{IsKnown}
+use Rattle.gptman_plan.specs.Ends.{HaveRange, IsKnown}
 use Rattle.gptman.specs.Fault.{fault_number}
 use Rattle.gptman_plan.specs.Planning.{Cause, IsNumberOf, IsOfFault, IsRefusal, IsUnfit, RefusesNew, RefusesRewrite, needed_after, refusal_number}
 use Rattle.gptman_plan.specs.Planning.Cause.{bad_argument, a_fault, other_length, other_layout}
@@ -17,6 +17,7 @@ use Rattle.gptman_plan.specs.declared.planning.Refusal.{Refusal}
 use Rattle.gptman_plan.specs.declared.planning.Refusal.TheVariants.{BadArgument, Refused, Lacks, OtherLength, OtherLayout}
 use Rattle.gptman_plan.specs.declared.records.Needed.{Needed}
 use Rattle.gptman_plan.specs.declared.records.Partition.{Partition}
+use Rattle.gptman_plan.specs.declared.ends.Ends.{Ends}
 
 -- ---- numbers
 
@@ -42,7 +43,7 @@ within_16 (invalid_entry_size size) = (omega arith, omega arith)
 -- and of refusals
 pub numbers : (r : Refusal) → (0 < refusal_number r) × (refusal_number r ≢ 18) × ((refusal_number r ≤ 19) ⊎ ((refusal_number r ≡ 100) ⊎ (refusal_number r ≡ 101)))
 numbers BadArgument = (omega arith, λ is. absurd (omega (arith, is)), inl (omega arith))
-numbers (Refused e) = let n = within_16 (fault_of e) in (n.0, λ is. absurd (omega (arith, n.1, is)), inl (omega (arith, n.1)))
+numbers (Refused error) = let n = within_16 (fault_of error) in (n.0, λ is. absurd (omega (arith, n.1, is)), inl (omega (arith, n.1)))
 numbers (Lacks lack) = (omega arith, λ is. absurd (omega (arith, is)), inl (omega arith))
 numbers OtherLength = (omega arith, λ is. absurd (omega (arith, is)), inr (inl refl))
 numbers OtherLayout = (omega arith, λ is. absurd (omega (arith, is)), inr (inr refl))
@@ -50,7 +51,7 @@ numbers OtherLayout = (omega arith, λ is. absurd (omega (arith, is)), inr (inr 
 -- what is told but for bytes that are lacking
 pub not_told : (r : Refusal) (needed : Needed) → refusal_number r ≢ 17 → needed_after r needed ≡ needed
 not_told BadArgument needed not = refl
-not_told (Refused e) needed not = refl
+not_told (Refused error) needed not = refl
 not_told (Lacks lack) needed not = absurd (not refl)
 not_told OtherLength needed not = refl
 not_told OtherLayout needed not = refl
@@ -58,13 +59,13 @@ not_told OtherLayout needed not = refl
 -- ---- why
 
 -- one reason is another
-pub refused_as : (why why_too : Cause → Type 0) (head tail : List ℕ) (size : ℕ) → ((cause : Cause) → why cause → why_too cause)
-    → (r : Refusal) → IsRefusal why head tail size r → IsRefusal why_too head tail size r
-refused_as why why_too head tail size f BadArgument is = f bad_argument is
-refused_as why why_too head tail size f (Refused e) is = ⊎_elim (λ none. inl none) (λ w. inr (f (a_fault (fault_of e)) w)) is
-refused_as why why_too head tail size f (Lacks lack) is = is
-refused_as why why_too head tail size f OtherLength is = f other_length is
-refused_as why why_too head tail size f OtherLayout is = f other_layout is
+pub refused_as : (why why_too : Cause → Type 0) (e : Ends) → ((cause : Cause) → why cause → why_too cause)
+    → (r : Refusal) → IsRefusal why e r → IsRefusal why_too e r
+refused_as why why_too e f BadArgument is = f bad_argument is
+refused_as why why_too e f (Refused error) is = ⊎_elim (λ none. inl none) (λ w. inr (f (a_fault (fault_of error)) w)) is
+refused_as why why_too e f (Lacks lack) is = is
+refused_as why why_too e f OtherLength is = f other_length is
+refused_as why why_too e f OtherLayout is = f other_layout is
 
 -- so a fault is one
 pub fault_as : (why : Fault → Type 0) (why_too : Cause → Type 0) → ((fault : Fault) → why fault → why_too (a_fault fault)) → (cause : Cause) → IsOfFault why cause → why_too cause
@@ -79,49 +80,49 @@ ends_apart first last size from len not within = ⊎_elim (λ less. less) (λ me
 
 -- ---- the number of a refusal
 
-module _ (why : Cause → Type 0) (head tail : List ℕ) (size : ℕ) where
-  pub lacks_of : (r : Refusal) (needed : Needed) → IsRefusal why head tail size r → refusal_number r ≡ 17
-      → (¬ IsKnown (length head) (length tail) size ((needed_after r needed).from, (needed_after r needed).length)) × ((needed_after r needed).from + (needed_after r needed).length ≤ size)
+module _ (why : Cause → Type 0) (e : Ends) where
+  pub lacks_of : (r : Refusal) (needed : Needed) → IsRefusal why e r → refusal_number r ≡ 17
+      → (¬ HaveRange e ((needed_after r needed).from, (needed_after r needed).length)) × ((needed_after r needed).from + (needed_after r needed).length ≤ e.size)
   lacks_of BadArgument needed is seventeen = absurd (omega (arith, seventeen))
-  lacks_of (Refused e) needed is seventeen = absurd (omega (arith, (within_16 (fault_of e)).1, seventeen))
+  lacks_of (Refused error) needed is seventeen = absurd (omega (arith, (within_16 (fault_of error)).1, seventeen))
   lacks_of (Lacks lack) needed is seventeen = is
   lacks_of OtherLength needed is seventeen = absurd (omega (arith, seventeen))
   lacks_of OtherLayout needed is seventeen = absurd (omega (arith, seventeen))
 
-  fault_of_number : (r : Refusal) → IsRefusal why head tail size r → refusal_number r ≤ 16 → refusal_number r ≢ 15 → IsNumberOf (λ fault. why (a_fault fault)) (refusal_number r)
+  fault_of_number : (r : Refusal) → IsRefusal why e r → refusal_number r ≤ 16 → refusal_number r ≢ 15 → IsNumberOf (λ fault. why (a_fault fault)) (refusal_number r)
   fault_of_number BadArgument is below other = absurd (omega (arith, below))
-  fault_of_number (Refused e) is below other = ⊎_elim
+  fault_of_number (Refused error) is below other = ⊎_elim
       (λ none. absurd (other (ap fault_number none)))
-      (λ w. record { fault = fault_of e; holds = w; number_is = refl })
+      (λ w. record { fault = fault_of error; holds = w; number_is = refl })
       is
   fault_of_number (Lacks lack) is below other = absurd (omega (arith, below))
   fault_of_number OtherLength is below other = absurd (omega (arith, below))
   fault_of_number OtherLayout is below other = absurd (omega (arith, below))
 
-  bad_of : (r : Refusal) → IsRefusal why head tail size r → refusal_number r ≡ 19 → why bad_argument
+  bad_of : (r : Refusal) → IsRefusal why e r → refusal_number r ≡ 19 → why bad_argument
   bad_of BadArgument is nineteen = is
-  bad_of (Refused e) is nineteen = absurd (omega (arith, (within_16 (fault_of e)).1, nineteen))
+  bad_of (Refused error) is nineteen = absurd (omega (arith, (within_16 (fault_of error)).1, nineteen))
   bad_of (Lacks lack) is nineteen = absurd (omega (arith, nineteen))
   bad_of OtherLength is nineteen = absurd (omega (arith, nineteen))
   bad_of OtherLayout is nineteen = absurd (omega (arith, nineteen))
 
-  length_of : (r : Refusal) → IsRefusal why head tail size r → refusal_number r ≡ 100 → why other_length
+  length_of : (r : Refusal) → IsRefusal why e r → refusal_number r ≡ 100 → why other_length
   length_of BadArgument is hundred = absurd (omega (arith, hundred))
-  length_of (Refused e) is hundred = absurd (omega (arith, (within_16 (fault_of e)).1, hundred))
+  length_of (Refused error) is hundred = absurd (omega (arith, (within_16 (fault_of error)).1, hundred))
   length_of (Lacks lack) is hundred = absurd (omega (arith, hundred))
   length_of OtherLength is hundred = is
   length_of OtherLayout is hundred = absurd (omega (arith, hundred))
 
-  layout_of : (r : Refusal) → IsRefusal why head tail size r → refusal_number r ≡ 101 → why other_layout
+  layout_of : (r : Refusal) → IsRefusal why e r → refusal_number r ≡ 101 → why other_layout
   layout_of BadArgument is number = absurd (omega (arith, number))
-  layout_of (Refused e) is number = absurd (omega (arith, (within_16 (fault_of e)).1, number))
+  layout_of (Refused error) is number = absurd (omega (arith, (within_16 (fault_of error)).1, number))
   layout_of (Lacks lack) is number = absurd (omega (arith, number))
   layout_of OtherLength is number = absurd (omega (arith, number))
   layout_of OtherLayout is number = is
 
   -- ---- the answer of a call that plans nothing
 
-  module _ (r : Refusal) (refused : IsRefusal why head tail size r) (answer : ℕ) (is : answer ≡ refusal_number r) where
+  module _ (r : Refusal) (refused : IsRefusal why e r) (answer : ℕ) (is : answer ≡ refusal_number r) where
     pub answer_above : answer ≢ 0
     answer_above zero = omega (arith, zero, is, (numbers r).0)
 
@@ -148,12 +149,12 @@ module _ (why : Cause → Type 0) (head tail : List ℕ) (size : ℕ) where
         (fault_of_number r refused (omega (arith, is, below)) (λ fifteen. other (is ∙ fifteen)))
 
     module _ (old new : Needed) (told : new ≡ needed_after r old) where
-      pub answer_lacks : answer ≡ 17 → (¬ IsKnown (length head) (length tail) size (new.from, new.length)) × (new.from + new.length ≤ size)
+      pub answer_lacks : answer ≡ 17 → (¬ HaveRange e (new.from, new.length)) × (new.from + new.length ≤ e.size)
       answer_lacks seventeen =
-          subst (λ (n : Needed). (¬ IsKnown (length head) (length tail) size (n.from, n.length)) × (n.from + n.length ≤ size)) (sym told) (lacks_of r old refused (sym is ∙ seventeen))
+          subst (λ (n : Needed). (¬ HaveRange e (n.from, n.length)) × (n.from + n.length ≤ e.size)) (sym told) (lacks_of r old refused (sym is ∙ seventeen))
 
-      pub answer_whole : answer ≡ 17 → length head + length tail < size
-      answer_whole seventeen = let two = answer_lacks seventeen in ends_apart (length head) (length tail) size new.from new.length two.0 two.1
+      pub answer_whole : answer ≡ 17 → length e.head.now + length e.tail.now < e.size
+      answer_whole seventeen = let two = answer_lacks seventeen in ends_apart (length e.head.now) (length e.tail.now) e.size new.from new.length two.0 two.1
 
       pub answer_kept : answer ≢ 17 → new ≡ old
       answer_kept other = told ∙ not_told r old (λ seventeen. other (is ∙ seventeen))

@@ -1,5 +1,5 @@
 -- The plan of a table's write.
-use Rattle.std.proofs.Common.{◌≡◌, ◌≤◌, ◌⊎◌, ⊎_elim, inr, ℕ, ◌+◌, List, [], ◌∷◌, length, refl, sym, ap, ◌∙◌, subst}
+use Rattle.std.proofs.Common.{◌≡◌, ◌⊎◌, ⊎_elim, inr, ℕ, List, [], ◌∷◌, length, refl, sym, ap, ◌∙◌, subst}
 use Rattle.gptman.specs.Crash.{StartsLaidOut, StartsSynced, StopsComeInTurns, StopsKeepOthers}
 use Rattle.gptman.specs.Disk.{AgreesOutside, DiskState, IsHonest}
 use Rattle.gptman.specs.Layout.{HasLayout, Holds, copy_ranges_at}
@@ -13,7 +13,7 @@ use Rattle.gptman.proofs.Apart.{agrees_in}
 use Rattle.gptman.proofs.Held.{holds_local}
 use Rattle.gptman.proofs.Ranges.{Ranges, contains_first, contains_later}
 use Rattle.gptman_plan.specs.Crossing.{four_ranges}
-use Rattle.gptman_plan.specs.Ends.{disk_bytes, length-disk_bytes, AreRangesKnown, HasEnds}
+use Rattle.gptman_plan.specs.Ends.{HaveRanges, IsDiskOf, length-zeroed, zeroed}
 use Rattle.gptman_plan.specs.Plan.{Act, LeftBy, plan_state}
 use Rattle.gptman_plan.specs.Planning.{Cause, ComesInTurns, IsNewPlan, IsReplaced, IsTablePlan, IsWrittenPlan, StopsNew, StopsTable}
 use Rattle.gptman_plan.specs.Planning.Cause.{bad_argument, a_fault, other_length, other_layout}
@@ -22,6 +22,7 @@ use Rattle.gptman_plan.proofs.AnyPlan.{at_side}
 use Rattle.gptman_plan.proofs.KnownActs.{are_known}
 use Rattle.gptman_plan.proofs.Middle.{AreKnown}
 use Rattle.gptman_plan.proofs.Planned.{IsAfter}
+use Rattle.gptman_plan.specs.declared.ends.Ends.{Ends}
 
 -- ---- what the write of a value does to the disk that records it
 
@@ -66,29 +67,29 @@ module _ (start : List ℕ) (size : ℕ) (g : GPT) (acts : List Act) (old new : 
 
 -- ---- and to every disk with these ends
 
-module _ (head tail : List ℕ) (size : ℕ) (apart : length head + length tail ≤ size) (g : GPT) (acts : List Act)
-    (places : AreInside (four_ranges (table_in g) g.sector_size size) size → AreRangesKnown (length head) (length tail) size (four_ranges (table_in g) g.sector_size size))
-    (written : HasLayout g size → IsWrittenPlan (disk_bytes head tail size) g.sector_size (table_in g) acts)
-    (turns : HasLayout g size → IsHeaderForm primary g.header → ComesInTurns (disk_bytes head tail size) g.sector_size (table_in g) acts)
-    (layout : HasLayout g size) (b : List ℕ) (ends : HasEnds b head tail size) where
+module _ (e : Ends) (g : GPT) (acts : List Act)
+    (places : AreInside (four_ranges (table_in g) g.sector_size e.size) e.size → HaveRanges e (four_ranges (table_in g) g.sector_size e.size))
+    (written : HasLayout g e.size → IsWrittenPlan (zeroed e) g.sector_size (table_in g) acts)
+    (turns : HasLayout g e.size → IsHeaderForm primary g.header → ComesInTurns (zeroed e) g.sector_size (table_in g) acts)
+    (layout : HasLayout g e.size) (b : List ℕ) (ends : IsDiskOf e b) where
   abbrev zero : List ℕ
-  zero = disk_bytes head tail size
+  zero = zeroed e
 
-  all : length zero ≡ size
-  all = length-disk_bytes head tail size apart
+  all : length zero ≡ e.size
+  all = length-zeroed e
 
   here : HasLayout g (length b)
   here = subst (λ (n : ℕ). HasLayout g n) (sym ends.long) layout
 
-  four : AreRangesKnown (length head) (length tail) size (four_ranges (table_in g) g.sector_size size)
+  four : HaveRanges e (four_ranges (table_in g) g.sector_size e.size)
   four = places layout.table.inside
 
-  others : (y : List ℕ) → LeftBy zero acts y → AgreesOutside (four_ranges (table_in g) g.sector_size size) zero y
+  others : (y : List ℕ) → LeftBy zero acts y → AgreesOutside (four_ranges (table_in g) g.sector_size e.size) zero y
   others y left = subst (λ (n : ℕ). AgreesOutside (four_ranges (table_in g) g.sector_size n) zero y) all ((written layout).others y left)
 
   -- they leave all bytes outside of the four ranges alone
-  known : AreKnown (length head) (length tail) size acts
-  known = are_known (length head) (length tail) size apart zero all (four_ranges (table_in g) g.sector_size size) four acts others
+  known : AreKnown (length e.head.now) (length e.tail.now) e.size acts
+  known = are_known (length e.head.now) (length e.tail.now) e.size e.apart zero all (four_ranges (table_in g) g.sector_size e.size) four acts others
 
   written_any : IsWrittenPlan b g.sector_size (table_in g) acts
   written_any =
@@ -96,10 +97,10 @@ module _ (head tail : List ℕ) (size : ℕ) (apart : length head + length tail 
       record {
         others = λ x left.
             subst (λ (n : ℕ). AgreesOutside (four_ranges (table_in g) g.sector_size n) b x) (sym ends.long)
-            (others_any head tail b size apart ends acts known (four_ranges (table_in g) g.sector_size size) others x left);
+            (others_any e.head.now e.tail.now b e.size e.apart ends acts known (four_ranges (table_in g) g.sector_size e.size) others x left);
         synced = plan.synced;
-        at_primary = after_any head tail b size apart ends acts known g.sector_size primary (table_in g) (at_side (length head) (length tail) size g.sector_size (table_in g) primary four) plan.at_primary;
-        at_backup = after_any head tail b size apart ends acts known g.sector_size backup (table_in g) (at_side (length head) (length tail) size g.sector_size (table_in g) backup four) plan.at_backup;
+        at_primary = after_any e.head.now e.tail.now b e.size e.apart ends acts known g.sector_size primary (table_in g) (at_side (length e.head.now) (length e.tail.now) e.size g.sector_size (table_in g) primary four) plan.at_primary;
+        at_backup = after_any e.head.now e.tail.now b e.size e.apart ends acts known g.sector_size backup (table_in g) (at_side (length e.head.now) (length e.tail.now) e.size g.sector_size (table_in g) backup four) plan.at_backup;
       }
 
   abbrev other : ℕ → Ranges
@@ -107,7 +108,7 @@ module _ (head tail : List ℕ) (size : ℕ) (apart : length head + length tail 
 
   turns_here : IsHeaderForm primary g.header → ComesInTurns b g.sector_size (table_in g) acts
   turns_here form = subst (λ (n : ℕ). (x : List ℕ) → LeftBy b acts x → AgreesOutside (other n) b x ⊎ Holds x g.sector_size backup (table_in g)) (sym ends.long)
-      (turns_any head tail b size apart ends acts known (other size) g.sector_size backup (table_in g) (at_side (length head) (length tail) size g.sector_size (table_in g) backup four)
+      (turns_any e.head.now e.tail.now b e.size e.apart ends acts known (other e.size) g.sector_size backup (table_in g) (at_side (length e.head.now) (length e.tail.now) e.size g.sector_size (table_in g) backup four)
       (subst (λ (n : ℕ). (y : List ℕ) → LeftBy zero acts y → AgreesOutside (other n) zero y ⊎ Holds y g.sector_size backup (table_in g)) all (turns layout form)))
 
   -- so one of the two places holds one of the two tables

@@ -2,7 +2,6 @@
 use Rattle.std.proofs.Common.{◌≡◌, ◌≢◌, ◌≤◌, ◌<◌, ◌^◌, ◌⊎◌, inl, inr, ◌&&◌, true, false, ℕ, suc, Bool, ◌+◌, List, [], length, ltb, refl, sym, ◌∙◌, ap, subst, arith}
 use Rattle.std.specs.Prelude.{if◌then◌else◌, Result, Ok, Err, IsErr, is_ok, MatchOption, Option, Some, None}
 use Rattle.std.proofs.lemmas.Bool.{le-leb}
-use Rattle.std.proofs.lemmas.List.{take_all}
 use Rattle.gptman.specs.Bytes.{part}
 use Rattle.gptman.specs.Coding.{header_of}
 use Rattle.gptman.specs.Fault.{Fault, io, invalid_signature, read_error, is_signature_fault, first_failing}
@@ -12,11 +11,11 @@ use Rattle.gptman.specs.declared.codec.entry.GPTPartitionEntry.{GPTPartitionEntr
 use Rattle.gptman.proofs.CopyParts.{header_refused, array_refused, both_pass}
 use Rattle.gptman.proofs.CopyTests.{entries_start, entries_length, header_short, array_size_wrong, array_beyond, array_short}
 use Rattle.gptman.specs.Reading.{Side, primary, backup, both, copy_start, copy_in, reading_of, taken_from}
-use Rattle.gptman_plan.specs.Ends.{disk_bytes, length-disk_bytes, HasEnds, IsKnown}
+use Rattle.gptman_plan.specs.Ends.{HaveRange, IsDiskOf, length-zeroed, zeroed}
 use Rattle.gptman.specs.Fault.{fault_number}
 use Rattle.gptman_plan.specs.Reading.{OfEvery, IsHeaderTold, IsArrayTold, IsCopyTold, IsToldAt}
-use Rattle.gptman_plan.proofs.Known.{known_head, known_tail}
-use Rattle.gptman_plan.proofs.Middle.{agree_in_ends}
+use Rattle.gptman_plan.proofs.Middle.{agree_in_ends, zero_ends}
+use Rattle.gptman_plan.specs.declared.ends.Ends.{Ends}
 
 -- what holds of an option, a case at a time
 pub at_none : {T : Type 0} (P : Type 0) (R : T → Type 0) (o : Option T) → o ≡ None → MatchOption o P R → P
@@ -25,12 +24,6 @@ at_none P R (Some x) is m = absurd (cc)
 
 pub at_some : {T : Type 0} (P : Type 0) (R : T → Type 0) (o : Option T) (x : T) → o ≡ Some x → MatchOption o P R → R x
 at_some P R o x is m = subst (λ p. MatchOption p P R) is m
-
--- ---- what two disks with the same ends share
-
--- a known range has the same bytes on both
-known_part : (head tail : List ℕ) (size : ℕ) (b c : List ℕ) → HasEnds b head tail size → HasEnds c head tail size → (from len : ℕ) → IsKnown (length head) (length tail) size (from, len) → part b from len ≡ part c from len
-known_part head tail size b c one other from len known = agree_in_ends b c head tail size from len one other known
 
 -- ---- a reading, by the two copies
 
@@ -68,30 +61,22 @@ reading_fault_of : (ss len : ℕ) (fault : Fault) (first second : Result Copy Fa
 reading_fault_of ss len fault (Ok copy) second is = absurd (cc)
 reading_fault_of ss len fault (Err one) second is = fallback_of one fault second (ltb len ss) is
 
-module _ (head tail : List ℕ) (size : ℕ) (apart : length head + length tail ≤ size) where
-  -- the disk with zeros between the ends has them
-  pub zeros_between : HasEnds (disk_bytes head tail size) head tail size
-  zeros_between = record {
-    long = length-disk_bytes head tail size apart;
-    at_head = known_head head tail size apart 0 (length head) (omega arith) ∙ take_all (length head) head (omega arith);
-    at_tail = ap (λ (k : ℕ). part (disk_bytes head tail size) k (length tail)) (omega arith) ∙ known_tail head tail size apart 0 (length tail) ∙ take_all (length tail) tail (omega arith);
-  }
+module _ (e : Ends) where
+  same_length : (b : List ℕ) → IsDiskOf e b → length b ≡ length (zeroed e)
+  same_length b ends = ends.long ∙ sym (length-zeroed e)
 
-  same_length : (b : List ℕ) → HasEnds b head tail size → length b ≡ length (disk_bytes head tail size)
-  same_length b ends = ends.long ∙ sym (length-disk_bytes head tail size apart)
-
-  same_part : (b : List ℕ) → HasEnds b head tail size → (from len : ℕ) → IsKnown (length head) (length tail) size (from, len) → part b from len ≡ part (disk_bytes head tail size) from len
-  same_part b ends from len known = known_part head tail size b (disk_bytes head tail size) ends zeros_between from len known
+  same_part : (b : List ℕ) → IsDiskOf e b → (from len : ℕ) → HaveRange e (from, len) → part b from len ≡ part (zeroed e) from len
+  same_part b ends from len known = agree_in_ends b (zeroed e) e.head.now e.tail.now e.size from len ends (zero_ends e) known
 
   -- ---- a header
 
   -- the disk ends before it
-  pub short_header : (p : ℕ) → size < p + 92 → IsHeaderTold head tail size p
+  pub short_header : (p : ℕ) → e.size < p + 92 → IsHeaderTold e p
   short_header p short = λ b ends.
       header_short b p (omega (arith, short, ends.long))
-      ∙ sym (header_short (disk_bytes head tail size) p (omega (arith, short, length-disk_bytes head tail size apart)))
+      ∙ sym (header_short (zeroed e) p (omega (arith, short, length-zeroed e)))
 
-  pub known_header : (p : ℕ) → IsKnown (length head) (length tail) size (p, 92) → IsHeaderTold head tail size p
+  pub known_header : (p : ℕ) → HaveRange e (p, 92) → IsHeaderTold e p
   unfolding header_result
   known_header p known = λ b ends.
       let of : ℕ → List ℕ → Result GPTHeader Fault = λ len x. unless (first_failing (header_tests len p x)) (header_of x) in
@@ -103,66 +88,66 @@ module _ (head tail : List ℕ) (size : ℕ) (apart : length head + length tail 
     abbrev array_of : ℕ → List ℕ → Result (List GPTPartitionEntry) Fault
     array_of len y = unless (first_failing (array_tests len ss h y)) (entries_of y h.number_of_partition_entries)
 
-    same_array : (b : List ℕ) → HasEnds b head tail size → part b (entries_start h ss) (entries_length h) ≡ part (disk_bytes head tail size) (entries_start h ss) (entries_length h) → array_result b ss h ≡ array_result (disk_bytes head tail size) ss h
+    same_array : (b : List ℕ) → IsDiskOf e b → part b (entries_start h ss) (entries_length h) ≡ part (zeroed e) (entries_start h ss) (entries_length h) → array_result b ss h ≡ array_result (zeroed e) ss h
     unfolding array_result
     same_array b ends same = λ i. array_of (same_length b ends i) (same i)
 
-    pub known_array : IsKnown (length head) (length tail) size (entries_start h ss, entries_length h) → IsArrayTold head tail size ss h
+    pub known_array : HaveRange e (entries_start h ss, entries_length h) → IsArrayTold e ss h
     known_array known = λ b ends. same_array b ends (same_part b ends (entries_start h ss) (entries_length h) known)
 
-    pub no_array : h.number_of_partition_entries ≡ 0 → IsArrayTold head tail size ss h
+    pub no_array : h.number_of_partition_entries ≡ 0 → IsArrayTold e ss h
     no_array none = λ b ends.
         let no_bytes : entries_length h ≡ 0 = omega (arith, none) in
         let empty : (x : List ℕ) → part x (entries_start h ss) (entries_length h) ≡ [] = λ x. ap (λ (n : ℕ). part x (entries_start h ss) n) no_bytes in
-        same_array b ends (empty b ∙ sym (empty (disk_bytes head tail size)))
+        same_array b ends (empty b ∙ sym (empty (zeroed e)))
 
-    pub wrong_array : h.number_of_partition_entries ≢ 0 → h.size_of_partition_entry ≢ 128 → IsArrayTold head tail size ss h
-    wrong_array some wrong = λ b ends. array_size_wrong b ss h some wrong ∙ sym (array_size_wrong (disk_bytes head tail size) ss h some wrong)
+    pub wrong_array : h.number_of_partition_entries ≢ 0 → h.size_of_partition_entry ≢ 128 → IsArrayTold e ss h
+    wrong_array some wrong = λ b ends. array_size_wrong b ss h some wrong ∙ sym (array_size_wrong (zeroed e) ss h some wrong)
 
-    pub beyond_array : h.number_of_partition_entries ≢ 0 → h.size_of_partition_entry ≡ 128 → 2 ^ 64 ≤ entries_start h ss → IsArrayTold head tail size ss h
-    beyond_array some right beyond = λ b ends. array_beyond b ss h some right beyond ∙ sym (array_beyond (disk_bytes head tail size) ss h some right beyond)
+    pub beyond_array : h.number_of_partition_entries ≢ 0 → h.size_of_partition_entry ≡ 128 → 2 ^ 64 ≤ entries_start h ss → IsArrayTold e ss h
+    beyond_array some right beyond = λ b ends. array_beyond b ss h some right beyond ∙ sym (array_beyond (zeroed e) ss h some right beyond)
 
-    pub short_array : h.number_of_partition_entries ≢ 0 → h.size_of_partition_entry ≡ 128 → entries_start h ss < 2 ^ 64 → size < entries_start h ss + entries_length h → IsArrayTold head tail size ss h
+    pub short_array : h.number_of_partition_entries ≢ 0 → h.size_of_partition_entry ≡ 128 → entries_start h ss < 2 ^ 64 → e.size < entries_start h ss + entries_length h → IsArrayTold e ss h
     short_array some right fits short = λ b ends.
         array_short b ss h some right fits (omega (arith, short, ends.long))
-        ∙ sym (array_short (disk_bytes head tail size) ss h some right fits (omega (arith, short, length-disk_bytes head tail size apart)))
+        ∙ sym (array_short (zeroed e) ss h some right fits (omega (arith, short, length-zeroed e)))
 
   -- ---- a copy
 
   module _ (p ss : ℕ) where
     -- a header that is refused tells the copy
-    copy_of_refused : (fault : Fault) → header_result (disk_bytes head tail size) p ≡ Err fault → IsHeaderTold head tail size p → IsCopyTold head tail size p ss
+    copy_of_refused : (fault : Fault) → header_result (zeroed e) p ≡ Err fault → IsHeaderTold e p → IsCopyTold e p ss
     copy_of_refused fault refused told = λ b ends.
-        header_refused b p ss fault (told b ends ∙ refused) ∙ sym (header_refused (disk_bytes head tail size) p ss fault refused)
+        header_refused b p ss fault (told b ends ∙ refused) ∙ sym (header_refused (zeroed e) p ss fault refused)
 
     -- the disk ends before the header
-    pub short_copy : size < p + 92 → IsCopyTold head tail size p ss
-    short_copy short = copy_of_refused io (header_short (disk_bytes head tail size) p (omega (arith, short, length-disk_bytes head tail size apart))) (short_header p short)
+    pub short_copy : e.size < p + 92 → IsCopyTold e p ss
+    short_copy short = copy_of_refused io (header_short (zeroed e) p (omega (arith, short, length-zeroed e))) (short_header p short)
 
-    pub refused_copy : IsErr (header_result (disk_bytes head tail size) p) → IsHeaderTold head tail size p → IsCopyTold head tail size p ss
-    refused_copy refused told = by_result (header_result (disk_bytes head tail size) p) refl refused
+    pub refused_copy : IsErr (header_result (zeroed e) p) → IsHeaderTold e p → IsCopyTold e p ss
+    refused_copy refused told = by_result (header_result (zeroed e) p) refl refused
       where
-        by_result : (r : Result GPTHeader Fault) → header_result (disk_bytes head tail size) p ≡ r → IsErr r → IsCopyTold head tail size p ss
+        by_result : (r : Result GPTHeader Fault) → header_result (zeroed e) p ≡ r → IsErr r → IsCopyTold e p ss
         by_result (Ok h) is bad = absurd (cc)
         by_result (Err fault) is bad = copy_of_refused fault is told
 
     -- one that passes tells it with its entries
-    pub whole_copy : (h : GPTHeader) → header_result (disk_bytes head tail size) p ≡ Ok h → IsHeaderTold head tail size p → IsArrayTold head tail size ss h → IsCopyTold head tail size p ss
-    whole_copy h good told array = by_result (array_result (disk_bytes head tail size) ss h) refl
+    pub whole_copy : (h : GPTHeader) → header_result (zeroed e) p ≡ Ok h → IsHeaderTold e p → IsArrayTold e ss h → IsCopyTold e p ss
+    whole_copy h good told array = by_result (array_result (zeroed e) ss h) refl
       where
-        by_result : (r : Result (List GPTPartitionEntry) Fault) → array_result (disk_bytes head tail size) ss h ≡ r → IsCopyTold head tail size p ss
+        by_result : (r : Result (List GPTPartitionEntry) Fault) → array_result (zeroed e) ss h ≡ r → IsCopyTold e p ss
         by_result (Ok es) is = λ b ends.
-            both_pass b p ss h es (told b ends ∙ good) (array b ends ∙ is) ∙ sym (both_pass (disk_bytes head tail size) p ss h es good is)
+            both_pass b p ss h es (told b ends ∙ good) (array b ends ∙ is) ∙ sym (both_pass (zeroed e) p ss h es good is)
         by_result (Err fault) is = λ b ends.
-            array_refused b p ss h fault (told b ends ∙ good) (array b ends ∙ is) ∙ sym (array_refused (disk_bytes head tail size) p ss h fault good is)
+            array_refused b p ss h fault (told b ends ∙ good) (array b ends ∙ is) ∙ sym (array_refused (zeroed e) p ss h fault good is)
 
   -- ---- the reading
 
   -- the fault that a reading has, if it has one
-  pub fault_told : (ss : ℕ) (fault : Fault) → OfEvery head tail size (λ b. reading_of b ss ≡ Err fault) → IsOfReading fault
+  pub fault_told : (ss : ℕ) (fault : Fault) → OfEvery e (λ b. reading_of b ss ≡ Err fault) → IsOfReading fault
   fault_told ss fault told =
-      let start : List ℕ = disk_bytes head tail size in
-      reading_fault_of ss (length start) fault (copy_at start ss ss) (copy_in backup start ss) (sym (reading_is ss start) ∙ told start zeros_between)
+      let start : List ℕ = zeroed e in
+      reading_fault_of ss (length start) fault (copy_at start ss ss) (copy_in backup start ss) (sym (reading_is ss start) ∙ told start (zero_ends e))
 
   module _ (ss : ℕ) where
     abbrev side_from : Result Copy Fault → Side
@@ -173,13 +158,13 @@ module _ (head tail : List ℕ) (size : ℕ) (apart : length head + length tail 
     side_is b = refl
 
     -- the primary copy has no fault
-    pub at_primary : IsCopyTold head tail size ss ss → is_ok (copy_at (disk_bytes head tail size) ss ss) ≡ true → IsToldAt head tail size ss primary
-    at_primary told good = by_result (copy_at (disk_bytes head tail size) ss ss) refl good
+    pub at_primary : IsCopyTold e ss ss → is_ok (copy_at (zeroed e) ss ss) ≡ true → IsToldAt e ss primary
+    at_primary told good = by_result (copy_at (zeroed e) ss ss) refl good
       where
         start : List ℕ
-        start = disk_bytes head tail size
+        start = zeroed e
 
-        by_result : (r : Result Copy Fault) → copy_at start ss ss ≡ r → is_ok r ≡ true → IsToldAt head tail size ss primary
+        by_result : (r : Result Copy Fault) → copy_at start ss ss ≡ r → is_ok r ≡ true → IsToldAt e ss primary
         by_result (Err fault) is bad = absurd (cc)
         by_result (Ok copy) is good = record {
           reading = λ b ends. one b (told b ends ∙ is) ∙ sym (one start is);
@@ -190,13 +175,13 @@ module _ (head tail : List ℕ) (size : ℕ) (apart : length head + length tail 
             one x at = reading_is ss x ∙ ap (λ r. reading_from ss (length x) r (copy_in backup x ss)) at
 
     -- it has one, and what the fallback says is told
-    at_backup : IsCopyTold head tail size ss ss → is_ok (copy_at (disk_bytes head tail size) ss ss) ≡ false → OfEvery head tail size (λ b. copy_in backup b ss ≡ copy_in backup (disk_bytes head tail size) ss) → IsToldAt head tail size ss backup
-    at_backup told bad second = by_result (copy_at (disk_bytes head tail size) ss ss) refl bad
+    at_backup : IsCopyTold e ss ss → is_ok (copy_at (zeroed e) ss ss) ≡ false → OfEvery e (λ b. copy_in backup b ss ≡ copy_in backup (zeroed e) ss) → IsToldAt e ss backup
+    at_backup told bad second = by_result (copy_at (zeroed e) ss ss) refl bad
       where
         start : List ℕ
-        start = disk_bytes head tail size
+        start = zeroed e
 
-        by_result : (r : Result Copy Fault) → copy_at start ss ss ≡ r → is_ok r ≡ false → IsToldAt head tail size ss backup
+        by_result : (r : Result Copy Fault) → copy_at start ss ss ≡ r → is_ok r ≡ false → IsToldAt e ss backup
         by_result (Ok copy) is bad = absurd (cc)
         by_result (Err fault) is bad = record {
           reading = λ b ends. reading_is ss b ∙ (λ i. reading_from ss (same_length b ends i) (told b ends i) (second b ends i)) ∙ sym (reading_is ss start);
@@ -211,30 +196,30 @@ module _ (head tail : List ℕ) (size : ℕ) (apart : length head + length tail 
     backup_is b = refl
 
     -- A copy that is told at the first byte of sector 1 is the primary one.
-    pub primary_told : IsCopyTold head tail size ss ss → OfEvery head tail size (λ b. copy_in primary b ss ≡ copy_in primary (disk_bytes head tail size) ss)
+    pub primary_told : IsCopyTold e ss ss → OfEvery e (λ b. copy_in primary b ss ≡ copy_in primary (zeroed e) ss)
     unfolding copy_in
     primary_told told = told
 
     -- A disk that is shorter than a sector has no backup copy.
-    pub no_backup_told : size < ss → OfEvery head tail size (λ b. copy_in backup b ss ≡ copy_in backup (disk_bytes head tail size) ss)
-    no_backup_told short = λ b ends. none b ends.long ∙ sym (none (disk_bytes head tail size) (length-disk_bytes head tail size apart))
+    pub no_backup_told : e.size < ss → OfEvery e (λ b. copy_in backup b ss ≡ copy_in backup (zeroed e) ss)
+    no_backup_told short = λ b ends. none b ends.long ∙ sym (none (zeroed e) (length-zeroed e))
       where
-        none : (x : List ℕ) → length x ≡ size → copy_in backup x ss ≡ Err invalid_signature
+        none : (x : List ℕ) → length x ≡ e.size → copy_in backup x ss ≡ Err invalid_signature
         none x long =
             let yes : ltb (length x) ss ≡ true = le-leb (suc (length x)) ss (omega (arith, short, long)) in
             backup_is x ∙ ap (λ (t : Bool). elim t [ true ↦ Err invalid_signature | false ↦ copy_at x (copy_start backup (length x) ss) ss ]) yes
 
     -- One that is told at the first byte of the last whole sector is the backup one.
-    pub backup_told : IsCopyTold head tail size (copy_start backup size ss) ss → OfEvery head tail size (λ b. copy_in backup b ss ≡ copy_in backup (disk_bytes head tail size) ss)
-    backup_told other = λ b ends. at_size b ends.long ∙ ap (backup_from size) (other b ends) ∙ sym (at_size (disk_bytes head tail size) (length-disk_bytes head tail size apart))
+    pub backup_told : IsCopyTold e (copy_start backup e.size ss) ss → OfEvery e (λ b. copy_in backup b ss ≡ copy_in backup (zeroed e) ss)
+    backup_told other = λ b ends. at_size b ends.long ∙ ap (backup_from e.size) (other b ends) ∙ sym (at_size (zeroed e) (length-zeroed e))
       where
-        at_size : (x : List ℕ) → length x ≡ size → copy_in backup x ss ≡ backup_from size (copy_at x (copy_start backup size ss) ss)
+        at_size : (x : List ℕ) → length x ≡ e.size → copy_in backup x ss ≡ backup_from e.size (copy_at x (copy_start backup e.size ss) ss)
         at_size x long = backup_is x ∙ ap (λ (n : ℕ). backup_from n (copy_at x (copy_start backup n ss) ss)) long
 
     -- the disk is shorter than a sector
-    pub without_backup : IsCopyTold head tail size ss ss → is_ok (copy_at (disk_bytes head tail size) ss ss) ≡ false → size < ss → IsToldAt head tail size ss backup
+    pub without_backup : IsCopyTold e ss ss → is_ok (copy_at (zeroed e) ss ss) ≡ false → e.size < ss → IsToldAt e ss backup
     without_backup told bad short = at_backup told bad (no_backup_told short)
 
     -- the backup copy is told
-    pub with_backup : IsCopyTold head tail size ss ss → is_ok (copy_at (disk_bytes head tail size) ss ss) ≡ false → IsCopyTold head tail size (copy_start backup size ss) ss → IsToldAt head tail size ss backup
+    pub with_backup : IsCopyTold e ss ss → is_ok (copy_at (zeroed e) ss ss) ≡ false → IsCopyTold e (copy_start backup e.size ss) ss → IsToldAt e ss backup
     with_backup told bad other = at_backup told bad (backup_told other)

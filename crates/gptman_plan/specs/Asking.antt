@@ -9,6 +9,7 @@ use Rattle.gptman_plan.specs.Crossing.{four_ranges}
 use Rattle.gptman_plan.specs.Planning.{fitted}
 use Rattle.gptman_plan.specs.Reading.{OfEvery}
 use Rattle.gptman_plan.specs.Rounds.{IsAmong, reading_ranges}
+use Rattle.gptman_plan.specs.declared.ends.Ends.{Ends}
 use Rattle.gptman_plan.specs.declared.planning.Refusal.{Refusal}
 use Rattle.gptman_plan.specs.declared.planning.Refusal.TheVariants.{BadArgument, Refused, Lacks, OtherLength, OtherLayout}
 
@@ -35,12 +36,12 @@ abbrev pub value_ranges : GPT → ℕ → List (ℕ × ℕ)
 value_ranges g len = four_ranges (table_in g) g.sector_size len
 
 -- the bytes that a refusal names are one of the places of every disk with these ends
-abbrev pub AsksAmong : (List ℕ → List (ℕ × ℕ)) → List ℕ → List ℕ → ℕ → Refusal → Type 0
-AsksAmong places head tail size BadArgument = Unit {0}
-AsksAmong places head tail size (Refused e) = Unit {0}
-AsksAmong places head tail size (Lacks lack) = OfEvery head tail size (λ b. IsAmong (lack.from, lack.length) (places b))
-AsksAmong places head tail size OtherLength = Unit {0}
-AsksAmong places head tail size OtherLayout = Unit {0}
+abbrev pub AsksAmong : (List ℕ → List (ℕ × ℕ)) → Ends → Refusal → Type 0
+AsksAmong places ends BadArgument = Unit {0}
+AsksAmong places ends (Refused e) = Unit {0}
+AsksAmong places ends (Lacks lack) = OfEvery ends (λ b. IsAmong (lack.from, lack.length) (places b))
+AsksAmong places ends OtherLength = Unit {0}
+AsksAmong places ends OtherLayout = Unit {0}
 
 -- it names none
 abbrev pub AsksNothing : Refusal → Type 0

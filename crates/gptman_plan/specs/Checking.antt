@@ -6,9 +6,9 @@ use Rattle.gptman.specs.Fault.{Fault}
 use Rattle.gptman.specs.Reading.{Side, primary, backup, copy_in}
 use Rattle.gptman.specs.Copies.{HoldOneTable}
 use Rattle.gptman.specs.declared.copies.BothCopies.{BothCopies}
-use Rattle.gptman_plan.specs.Ends.{disk_bytes}
+use Rattle.gptman_plan.specs.Ends.{zeroed}
 use Rattle.gptman.specs.Fault.{fault_number}
-use Rattle.gptman_plan.specs.Reading.{IsLackOf, OfEvery, OfEveryDisk}
+use Rattle.gptman_plan.specs.Reading.{IsLackOf, OfEvery}
 use Rattle.gptman_plan.specs.Rounds.{reading_ranges}
 use Rattle.gptman_plan.specs.declared.checking.Look.{Look}
 use Rattle.gptman_plan.specs.declared.checking.Look.TheVariants.{Told, Unknown}
@@ -29,8 +29,8 @@ pub record IsCheckTold (b : List ℕ) (ss : ℕ) (check : Check) : Type 0 where
   pub flag : check.are_same ≤ 1
 
 -- every disk of size bytes with these ends has at each side the copy of the one with zeros, or its fault
-abbrev pub AreCopiesTold : List ℕ → List ℕ → ℕ → ℕ → Type 0
-AreCopiesTold head tail size ss = (side : Side) → OfEvery head tail size (λ b. copy_in side b ss ≡ copy_in side (disk_bytes head tail size) ss)
+abbrev pub AreCopiesTold : Ends → ℕ → Type 0
+AreCopiesTold ends ss = (side : Side) → OfEvery ends (λ b. copy_in side b ss ≡ copy_in side (zeroed ends) ss)
 
 -- These are the two copies of a disk of these bytes.
 pub record AreFoundIn (b : List ℕ) (ss : ℕ) (copies : BothCopies) : Type 0 where
@@ -41,5 +41,5 @@ pub record AreFoundIn (b : List ℕ) (ss : ℕ) (copies : BothCopies) : Type 0 w
 
 -- what the ends tell of both copies, or what they lack
 abbrev pub IsLook : Ends → ℕ → Look → Type 0
-IsLook ends ss (Told check) = OfEveryDisk ends (λ b. IsCheckTold b ss check)
-IsLook ends ss (Unknown lack) = IsLackOf (λ b. reading_ranges b ss) ends.head.now ends.tail.now ends.size lack
+IsLook ends ss (Told check) = OfEvery ends (λ b. IsCheckTold b ss check)
+IsLook ends ss (Unknown lack) = IsLackOf (λ b. reading_ranges b ss) ends lack

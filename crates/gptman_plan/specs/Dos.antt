@@ -1,7 +1,7 @@
 -- An MBR with partitions of its own, as DOS had them: four entries of 16 bytes from byte 446 on.
 use Rattle.std.specs.Prelude.{◌≡◌, ◌≢◌, ◌⊎◌, ◌+◌, ℕ, List, [], ◌∷◌, get_or}
 use Rattle.gptman.specs.Bytes.{part}
-use Rattle.gptman_plan.specs.Reading.{IsLackOf, OfEveryDisk}
+use Rattle.gptman_plan.specs.Reading.{IsLackOf, OfEvery}
 use Rattle.gptman_plan.specs.Rounds.{first_sector}
 use Rattle.gptman_plan.specs.declared.dos.Seen.{Seen}
 use Rattle.gptman_plan.specs.declared.ends.Ends.{Ends}
@@ -45,6 +45,6 @@ IsDosDisk b = IsDosSector (part b 0 512)
 
 -- what the ends tell of it, on every disk with them, or what they lack
 abbrev pub IsSeen : Ends → Seen → Type 0
-IsSeen ends Clear = OfEveryDisk ends (λ b. ¬ IsDosDisk b)
-IsSeen ends DosDisk = OfEveryDisk ends IsDosDisk
-IsSeen ends (Unknown lack) = IsLackOf (λ _. first_sector ∷ []) ends.head.now ends.tail.now ends.size lack
+IsSeen ends Clear = OfEvery ends (λ b. ¬ IsDosDisk b)
+IsSeen ends DosDisk = OfEvery ends IsDosDisk
+IsSeen ends (Unknown lack) = IsLackOf (λ _. first_sector ∷ []) ends lack

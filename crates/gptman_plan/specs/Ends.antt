@@ -34,8 +34,21 @@ ArePlacesKnown first last size ss tables = (t : Table) → Contains tables t →
 abbrev pub disk_bytes : List ℕ → List ℕ → ℕ → List ℕ
 disk_bytes head tail size = head ++ (replicate (size - (length head + length tail)) 0 ++ tail)
 
+-- the same of these ends
 abbrev pub zeroed : Ends → List ℕ
 zeroed ends = disk_bytes ends.head.now ends.tail.now ends.size
+
+-- a disk of these bytes has the ends
+abbrev pub IsDiskOf : Ends → List ℕ → Type 0
+IsDiskOf ends b = HasEnds b ends.head.now ends.tail.now ends.size
+
+-- one of the ends has the range, or the two together have it
+abbrev pub HaveRange : Ends → ℕ × ℕ → Type 0
+HaveRange ends range = IsKnown (length ends.head.now) (length ends.tail.now) ends.size range
+
+-- each of these
+abbrev pub HaveRanges : Ends → List (ℕ × ℕ) → Type 0
+HaveRanges ends ranges = AreRangesKnown (length ends.head.now) (length ends.tail.now) ends.size ranges
 
 -- the bytes that a write left torn
 abbrev pub torn_ranges : Option Torn → List (ℕ × ℕ)

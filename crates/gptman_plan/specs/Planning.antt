@@ -17,6 +17,7 @@ use Rattle.gptman_plan.specs.Crossing.{content_in, content_of, four_ranges}
 use Rattle.gptman.specs.Fault.{fault_number}
 use Rattle.gptman_plan.specs.Plan.{Act, LeftBy, acts_of, pending_after, bytes_after}
 use Rattle.gptman_plan.specs.Reading.{IsLack, OfEvery}
+use Rattle.gptman_plan.specs.declared.ends.Ends.{Ends}
 use Rattle.gptman_plan.specs.declared.planning.Refusal.{Refusal}
 use Rattle.gptman_plan.specs.declared.planning.Refusal.TheVariants.{BadArgument, Refused, Lacks, OtherLength, OtherLayout}
 use Rattle.gptman_plan.specs.declared.records.Needed.{Needed}
@@ -115,12 +116,12 @@ pub data Cause : Type 0 where
   other_layout : Cause
 
 -- Why nothing is planned: a cause, of which this holds, or want of memory; or bytes of the disk that neither end has.
-abbrev pub IsRefusal : (Cause → Type 0) → List ℕ → List ℕ → ℕ → Refusal → Type 0
-IsRefusal why head tail size BadArgument = why bad_argument
-IsRefusal why head tail size (Refused e) = (fault_of e ≡ out_of_memory) ⊎ why (a_fault (fault_of e))
-IsRefusal why head tail size (Lacks lack) = IsLack head tail size lack
-IsRefusal why head tail size OtherLength = why other_length
-IsRefusal why head tail size OtherLayout = why other_layout
+abbrev pub IsRefusal : (Cause → Type 0) → Ends → Refusal → Type 0
+IsRefusal why ends BadArgument = why bad_argument
+IsRefusal why ends (Refused e) = (fault_of e ≡ out_of_memory) ⊎ why (a_fault (fault_of e))
+IsRefusal why ends (Lacks lack) = IsLack ends lack
+IsRefusal why ends OtherLength = why other_length
+IsRefusal why ends OtherLayout = why other_layout
 
 -- the cause is a fault, of which this holds
 abbrev pub IsOfFault : (Fault → Type 0) → Cause → Type 0
@@ -146,8 +147,8 @@ needed_after OtherLength needed = needed
 needed_after OtherLayout needed = needed
 
 -- of a write whose arguments are right
-abbrev pub IsRewriteRefusal : List ℕ → List ℕ → ℕ → GPT → List Partition → Refusal → Type 0
-IsRewriteRefusal head tail size g partitions refusal = IsRefusal (IsOfFault (IsUnfit g.header g.sector_size partitions size)) head tail size refusal
+abbrev pub IsRewriteRefusal : Ends → GPT → List Partition → Refusal → Type 0
+IsRewriteRefusal ends g partitions refusal = IsRefusal (IsOfFault (IsUnfit g.header g.sector_size partitions ends.size)) ends refusal
 
 -- why this table is not written to a disk of size bytes
 abbrev pub StopsTable : GPT → ℕ → Cause → Type 0
@@ -156,8 +157,8 @@ StopsTable g size (a_fault fault) = RefusesTable g size fault
 StopsTable g size other_length = ⊥
 StopsTable g size other_layout = ¬ HasLayout g size
 
-abbrev pub IsTableRefusal : List ℕ → List ℕ → ℕ → GPT → Refusal → Type 0
-IsTableRefusal head tail size g refusal = IsRefusal (StopsTable g size) head tail size refusal
+abbrev pub IsTableRefusal : Ends → GPT → Refusal → Type 0
+IsTableRefusal ends g refusal = IsRefusal (StopsTable g ends.size) ends refusal
 
 -- why the table of a disk of these bytes is not written with these for its entries
 abbrev pub StopsPlan : List ℕ → ℕ → List Partition → Cause → Type 0
@@ -166,8 +167,8 @@ StopsPlan b ss partitions (a_fault fault) = RefusesPlan b ss partitions fault
 StopsPlan b ss partitions other_length = IsOfOtherLength b ss
 StopsPlan b ss partitions other_layout = IsOfOtherLayout b ss
 
-abbrev pub IsPlanRefusal : List ℕ → List ℕ → ℕ → ℕ → List Partition → Refusal → Type 0
-IsPlanRefusal head tail size ss partitions refusal = IsRefusal (λ cause. OfEvery head tail size (λ b. StopsPlan b ss partitions cause)) head tail size refusal
+abbrev pub IsPlanRefusal : Ends → ℕ → List Partition → Refusal → Type 0
+IsPlanRefusal ends ss partitions refusal = IsRefusal (λ cause. OfEvery ends (λ b. StopsPlan b ss partitions cause)) ends refusal
 
 -- why a new table is not written
 abbrev pub StopsNew : ℕ → List ℕ → ℕ → ℕ → Cause → Type 0
@@ -176,8 +177,8 @@ StopsNew count guid ss size (a_fault fault) = RefusesNew count guid ss size faul
 StopsNew count guid ss size other_length = ⊥
 StopsNew count guid ss size other_layout = ¬ HasLayout (new_table_of count guid ss size) size
 
-abbrev pub IsNewRefusal : List ℕ → List ℕ → ℕ → ℕ → ℕ → List ℕ → Refusal → Type 0
-IsNewRefusal head tail size ss count guid refusal = IsRefusal (StopsNew count guid ss size) head tail size refusal
+abbrev pub IsNewRefusal : Ends → ℕ → ℕ → List ℕ → Refusal → Type 0
+IsNewRefusal ends ss count guid refusal = IsRefusal (StopsNew count guid ss ends.size) ends refusal
 
 -- After all of these acts both places hold the table, and nothing is pending; a stop among or within them leaves all bytes outside of its four ranges as they were.
 pub record IsWrittenPlan (start : List ℕ) (ss : ℕ) (next : Table) (acts : List Act) : Type 0 where
@@ -248,8 +249,8 @@ pub data RefusesFit (b : List ℕ) (ss : ℕ) (fault : Fault) : Type 0 where
   is_unfit_fitted : (copy : Copy) → reading_of b ss ≡ Ok copy → IsUnfitTable (fit_header copy.header ss (length b)) ss copy.entries (length b) fault → RefusesFit b ss fault
 
 -- of a table that is fitted to a disk of that size
-abbrev pub IsSizeRefusal : List ℕ → List ℕ → ℕ → GPT → Refusal → Type 0
-IsSizeRefusal head tail size g refusal = IsRefusal (IsOfFault (λ fault. fit_fault g.header g.sector_size size ≡ Some fault)) head tail size refusal
+abbrev pub IsSizeRefusal : Ends → GPT → Refusal → Type 0
+IsSizeRefusal ends g refusal = IsRefusal (IsOfFault (λ fault. fit_fault g.header g.sector_size ends.size ≡ Some fault)) ends refusal
 
 -- why the table of a disk of these bytes is not written fitted to its length
 abbrev pub StopsFit : List ℕ → ℕ → Cause → Type 0
@@ -259,5 +260,5 @@ StopsFit b ss other_length = ⊥
 StopsFit b ss other_layout = IsNotStatedToFit b ss
 
 -- of one that is read and fitted
-abbrev pub IsFitRefusal : List ℕ → List ℕ → ℕ → ℕ → Refusal → Type 0
-IsFitRefusal head tail size ss refusal = IsRefusal (λ cause. OfEvery head tail size (λ b. StopsFit b ss cause)) head tail size refusal
+abbrev pub IsFitRefusal : Ends → ℕ → Refusal → Type 0
+IsFitRefusal ends ss refusal = IsRefusal (λ cause. OfEvery ends (λ b. StopsFit b ss cause)) ends refusal

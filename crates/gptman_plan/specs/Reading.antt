@@ -1,5 +1,5 @@
 -- What the ends of a disk tell of its table, whatever lies between them.
-use Rattle.std.specs.Prelude.{◌≡◌, ◌≤◌, ◌<◌, ◌⊎◌, ◌+◌, ℕ, Bool, true, false, List, length, Ok, Err}
+use Rattle.std.specs.Prelude.{◌≡◌, ◌≤◌, ◌<◌, ◌⊎◌, ◌+◌, ℕ, Bool, true, false, List, Ok, Err}
 use Rattle.gptman.specs.Copy.{array_result, copy_at, header_result}
 use Rattle.gptman.specs.Fault.{fault_of, out_of_memory}
 use Rattle.gptman.specs.Layout.{IsLaidOut}
@@ -8,7 +8,7 @@ use Rattle.gptman.specs.Table.{table_in, IsHeaderForm}
 use Rattle.gptman.specs.TableReads.{copy_of, IsAsRead}
 use Rattle.gptman.specs.declared.codec.header.GPTHeader.{GPTHeader}
 use Rattle.gptman.specs.declared.table.GPT.{GPT}
-use Rattle.gptman_plan.specs.Ends.{HasEnds, IsKnown, disk_bytes}
+use Rattle.gptman_plan.specs.Ends.{HaveRange, IsDiskOf, zeroed}
 use Rattle.gptman_plan.specs.Rounds.{IsAmong, reading_ranges}
 use Rattle.gptman_plan.specs.declared.ends.Ends.{Ends}
 use Rattle.gptman_plan.specs.declared.reading.Lack.{Lack}
@@ -17,52 +17,49 @@ use Rattle.gptman_plan.specs.declared.reading.Place.TheVariants.{At, Unknown}
 use Rattle.gptman_plan.specs.declared.reading.Reading.{Reading}
 use Rattle.gptman_plan.specs.declared.reading.Reading.TheVariants.{Table, Fault, Lacks}
 
--- it holds of every disk of size bytes with these ends
-abbrev pub OfEvery : List ℕ → List ℕ → ℕ → (List ℕ → Type 0) → Type 0
-OfEvery head tail size P = (b : List ℕ) → HasEnds b head tail size → P b
-
-abbrev pub OfEveryDisk : Ends → (List ℕ → Type 0) → Type 0
-OfEveryDisk ends P = OfEvery ends.head.now ends.tail.now ends.size P
+-- it holds of every disk with these ends
+abbrev pub OfEvery : Ends → (List ℕ → Type 0) → Type 0
+OfEvery ends P = (b : List ℕ) → IsDiskOf ends b → P b
 
 -- the disk has these bytes, and neither end has them all
-abbrev pub IsLack : List ℕ → List ℕ → ℕ → Lack → Type 0
-IsLack head tail size lack = (¬ IsKnown (length head) (length tail) size (lack.from, lack.length)) × (lack.from + lack.length ≤ size)
+abbrev pub IsLack : Ends → Lack → Type 0
+IsLack ends lack = (¬ HaveRange ends (lack.from, lack.length)) × (lack.from + lack.length ≤ ends.size)
 
 -- Neither end has all of these bytes, which are one of the places of every disk with these ends.
-pub record IsLackOf (places : List ℕ → List (ℕ × ℕ)) (head tail : List ℕ) (size : ℕ) (lack : Lack) : Type 0 where
-  pub lacking : IsLack head tail size lack
-  pub among : OfEvery head tail size (λ b. IsAmong (lack.from, lack.length) (places b))
+pub record IsLackOf (places : List ℕ → List (ℕ × ℕ)) (ends : Ends) (lack : Lack) : Type 0 where
+  pub lacking : IsLack ends lack
+  pub among : OfEvery ends (λ b. IsAmong (lack.from, lack.length) (places b))
 
 -- every such disk has there, at byte p, the header of the one with zeros, or its fault
-abbrev pub IsHeaderTold : List ℕ → List ℕ → ℕ → ℕ → Type 0
-IsHeaderTold head tail size p = OfEvery head tail size (λ b. header_result b p ≡ header_result (disk_bytes head tail size) p)
+abbrev pub IsHeaderTold : Ends → ℕ → Type 0
+IsHeaderTold ends p = OfEvery ends (λ b. header_result b p ≡ header_result (zeroed ends) p)
 
 -- the entries of this header are the same on each of them, or their fault is
-abbrev pub IsArrayTold : List ℕ → List ℕ → ℕ → ℕ → GPTHeader → Type 0
-IsArrayTold head tail size ss h = OfEvery head tail size (λ b. array_result b ss h ≡ array_result (disk_bytes head tail size) ss h)
+abbrev pub IsArrayTold : Ends → ℕ → GPTHeader → Type 0
+IsArrayTold ends ss h = OfEvery ends (λ b. array_result b ss h ≡ array_result (zeroed ends) ss h)
 
 -- the copy at byte p is
-abbrev pub IsCopyTold : List ℕ → List ℕ → ℕ → ℕ → ℕ → Type 0
-IsCopyTold head tail size p ss = OfEvery head tail size (λ b. copy_at b p ss ≡ copy_at (disk_bytes head tail size) p ss)
+abbrev pub IsCopyTold : Ends → ℕ → ℕ → Type 0
+IsCopyTold ends p ss = OfEvery ends (λ b. copy_at b p ss ≡ copy_at (zeroed ends) p ss)
 
 abbrev pub side_of : Bool → Side
 side_of true = backup
 side_of false = primary
 
 -- Every such disk is read as the one with zeros, from this side.
-pub record IsToldAt (head tail : List ℕ) (size ss : ℕ) (side : Side) : Type 0 where
-  pub reading : OfEvery head tail size (λ b. reading_of b ss ≡ reading_of (disk_bytes head tail size) ss)
-  pub from : OfEvery head tail size (λ b. taken_from b ss ≡ side)
+pub record IsToldAt (ends : Ends) (ss : ℕ) (side : Side) : Type 0 where
+  pub reading : OfEvery ends (λ b. reading_of b ss ≡ reading_of (zeroed ends) ss)
+  pub from : OfEvery ends (λ b. taken_from b ss ≡ side)
 
 -- where the copy is that a reading takes, or what the ends lack
 abbrev pub IsPlace : Ends → ℕ → Place → Type 0
-IsPlace ends ss (At is_backup) = IsToldAt ends.head.now ends.tail.now ends.size ss (side_of is_backup)
-IsPlace ends ss (Unknown lack) = IsLackOf (λ b. reading_ranges b ss) ends.head.now ends.tail.now ends.size lack
+IsPlace ends ss (At is_backup) = IsToldAt ends ss (side_of is_backup)
+IsPlace ends ss (Unknown lack) = IsLackOf (λ b. reading_ranges b ss) ends lack
 
 -- Every such disk is read as this table, from this side.
-pub record IsTable (head tail : List ℕ) (size ss : ℕ) (table : GPT) (is_backup : Bool) : Type 0 where
-  pub reading : OfEvery head tail size (λ b. reading_of b ss ≡ Ok (copy_of table))
-  pub from : OfEvery head tail size (λ b. taken_from b ss ≡ side_of is_backup)
+pub record IsTable (ends : Ends) (ss : ℕ) (table : GPT) (is_backup : Bool) : Type 0 where
+  pub reading : OfEvery ends (λ b. reading_of b ss ≡ Ok (copy_of table))
+  pub from : OfEvery ends (λ b. taken_from b ss ≡ side_of is_backup)
   pub sector : table.sector_size ≡ ss
   pub value : IsAsRead table
   pub align : 0 < table.align
@@ -70,12 +67,12 @@ pub record IsTable (head tail : List ℕ) (size ss : ℕ) (table : GPT) (is_back
 -- Every such disk is read as this table, from a copy that is in the form of its place, and the table has the stated layout.
 pub record IsStatedTable (ends : Ends) (ss : ℕ) (table : GPT) : Type 0 where
   pub is_backup : Bool
-  pub read : IsTable ends.head.now ends.tail.now ends.size ss table is_backup
+  pub read : IsTable ends ss table is_backup
   pub form : IsHeaderForm (side_of is_backup) table.header
   pub laid : IsLaidOut (table_in table) ss ends.size
 
 -- What the ends tell: the table, or the fault, of every such disk; or what they lack.
 abbrev pub IsReading : Ends → ℕ → Reading → Type 0
-IsReading ends ss (Table table is_backup) = IsTable ends.head.now ends.tail.now ends.size ss table is_backup
-IsReading ends ss (Fault e) = (fault_of e ≡ out_of_memory) ⊎ OfEveryDisk ends (λ b. reading_of b ss ≡ Err (fault_of e))
-IsReading ends ss (Lacks lack) = IsLackOf (λ b. reading_ranges b ss) ends.head.now ends.tail.now ends.size lack
+IsReading ends ss (Table table is_backup) = IsTable ends ss table is_backup
+IsReading ends ss (Fault e) = (fault_of e ≡ out_of_memory) ⊎ OfEvery ends (λ b. reading_of b ss ≡ Err (fault_of e))
+IsReading ends ss (Lacks lack) = IsLackOf (λ b. reading_ranges b ss) ends lack

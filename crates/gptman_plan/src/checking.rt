@@ -44,8 +44,8 @@ pub fn look_at_both(alloc: Global, ends: &Ends, sector_size: u64) -> Result<Look
 // What the ends lack of the two copies.
 fn lack_of_copies(ends: &Ends, sector_size: u64) -> Option<Lack>
     requires sector { 0 < sector_size }
-    ensures told { MatchOption result (AreCopiesTold ends.now.head.now ends.now.tail.now ends.now.size sector_size)
-        (IsLackOf (λ b. reading_ranges b sector_size) ends.now.head.now ends.now.tail.now ends.now.size) }
+    ensures told { MatchOption result (AreCopiesTold ends.now sector_size)
+        (IsLackOf (λ b. reading_ranges b sector_size) ends.now) }
 {
     if let Some(lack) = lack_of_copy(ends, sector_size, sector_size) {
         return Some(lack);

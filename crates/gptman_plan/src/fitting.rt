@@ -7,7 +7,7 @@ ghost use Rattle.gptman.specs.Table.{entries_in, grow_to};
 ghost use Rattle.gptman_plan.specs.Asking.{fit_ranges, AsksAmong, AsksNothing};
 ghost use Rattle.gptman_plan.specs.Plan.{acts_of};
 ghost use Rattle.gptman_plan.specs.Planning.{IsFitPlan, IsFitRefusal, IsSizeRefusal};
-ghost use Rattle.gptman_plan.specs.Reading.{OfEveryDisk};
+ghost use Rattle.gptman_plan.specs.Reading.{OfEvery};
 
 use crate::ends::Ends;
 use crate::layout::is_of_side;
@@ -22,11 +22,11 @@ use std::alloc::Global;
 /// The steps that write the table that the ends hold, fitted to a disk of that size. The sector size is in bytes.
 pub fn plan_fit(alloc: Global, ends: &Ends, sector_size: u64) -> Result<Record, Refusal>
     requires sector { 0 < sector_size }
-    ensures plan { IfOk result (λ plan. OfEveryDisk ends.now
+    ensures plan { IfOk result (λ plan. OfEvery ends.now
         (λ b. IsFitPlan b sector_size (acts_of plan.bytes.items plan.steps.items))) }
     ensures size { IfOk result (λ plan. plan.size ≡ ends.now.size) }
-    ensures refused { IfErr result (IsFitRefusal ends.now.head.now ends.now.tail.now ends.now.size sector_size) }
-    ensures asked { IfErr result (AsksAmong (λ b. fit_ranges b sector_size) ends.now.head.now ends.now.tail.now ends.now.size) }
+    ensures refused { IfErr result (IsFitRefusal ends.now sector_size) }
+    ensures asked { IfErr result (AsksAmong (λ b. fit_ranges b sector_size) ends.now) }
 {
     let (table, is_backup) = match read(alloc, ends, sector_size) {
         Reading::Table { table, is_backup } => (table, is_backup),
@@ -45,7 +45,7 @@ fn fit(ends: &Ends, mut table: GPT) -> Result<GPT, Refusal>
     requires sector { 0 < table.sector_size }
     ensures value { IfOk result (λ g. g ≡ grow_to table ends.now.size) }
     ensures fits { IfOk result (λ _. fit_fault table.header table.sector_size ends.now.size ≡ None) }
-    ensures refused { IfErr result (IsSizeRefusal ends.now.head.now ends.now.tail.now ends.now.size table) }
+    ensures refused { IfErr result (IsSizeRefusal ends.now table) }
     ensures asked { IfErr result AsksNothing }
 {
     let mut disk = EndsReader::new(ends);

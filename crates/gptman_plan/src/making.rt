@@ -5,7 +5,7 @@ ghost use Rattle.gptman.specs.Table.{new_table_of};
 ghost use Rattle.gptman_plan.specs.Asking.{value_ranges, AsksAmong, AsksNothing};
 ghost use Rattle.gptman_plan.specs.Plan.{acts_of};
 ghost use Rattle.gptman_plan.specs.Planning.{IsNewPlan, IsNewRefusal};
-ghost use Rattle.gptman_plan.specs.Reading.{OfEveryDisk};
+ghost use Rattle.gptman_plan.specs.Reading.{OfEvery};
 
 use crate::ends::Ends;
 use crate::planning::Refusal;
@@ -24,13 +24,13 @@ pub fn plan_new(
     count: u32,
 ) -> Result<Record, Refusal>
     requires sector { 0 < sector_size }
-    ensures plan { IfOk result (λ plan. OfEveryDisk ends.now (λ b. IsNewPlan b
+    ensures plan { IfOk result (λ plan. OfEvery ends.now (λ b. IsNewPlan b
         (new_table_of count disk_guid sector_size ends.now.size)
         (acts_of plan.bytes.items plan.steps.items))) }
     ensures size { IfOk result (λ plan. plan.size ≡ ends.now.size) }
-    ensures refused { IfErr result (IsNewRefusal ends.now.head.now ends.now.tail.now ends.now.size sector_size count disk_guid) }
+    ensures refused { IfErr result (IsNewRefusal ends.now sector_size count disk_guid) }
     ensures asked { IfErr result (AsksAmong
-        (λ _. value_ranges (new_table_of count disk_guid sector_size ends.now.size) ends.now.size) ends.now.head.now ends.now.tail.now ends.now.size) }
+        (λ _. value_ranges (new_table_of count disk_guid sector_size ends.now.size) ends.now.size) ends.now) }
 {
     if count == 0 || ends.size < sector_size {
         return Err(Refusal::BadArgument);
@@ -49,7 +49,7 @@ fn make(
 ) -> Result<GPT, Refusal>
     requires sector { 0 < sector_size }
     ensures value { IfOk result (λ g. g ≡ new_table_of count disk_guid sector_size ends.now.size) }
-    ensures refused { IfErr result (IsNewRefusal ends.now.head.now ends.now.tail.now ends.now.size sector_size count disk_guid) }
+    ensures refused { IfErr result (IsNewRefusal ends.now sector_size count disk_guid) }
     ensures asked { IfErr result AsksNothing }
 {
     let mut disk = EndsReader::new(ends);

@@ -7,7 +7,7 @@ ghost use Rattle.gptman.specs.Reading.{primary, backup};
 ghost use Rattle.gptman.specs.Table.{table_in};
 ghost use Rattle.gptman_plan.specs.Asking.{value_ranges};
 ghost use Rattle.gptman_plan.specs.Crossing.{four_ranges};
-ghost use Rattle.gptman_plan.specs.Ends.{AreRangesKnown, IsKnown};
+ghost use Rattle.gptman_plan.specs.Ends.{HaveRange, HaveRanges};
 ghost use Rattle.gptman_plan.specs.Reading.{IsLack};
 ghost use Rattle.gptman_plan.specs.Rounds.{IsAmong};
 
@@ -24,9 +24,9 @@ pub fn lack_of_places(ends: &Ends, table: &GPT) -> Option<Lack>
     requires count { 0 < table.now.header.number_of_partition_entries }
     ensures known { MatchOption result
         (AreInside (four_ranges (table_in table.now) table.now.sector_size ends.now.size) ends.now.size
-        → AreRangesKnown (length ends.now.head.now) (length ends.now.tail.now) ends.now.size
+        → HaveRanges ends.now
         (four_ranges (table_in table.now) table.now.sector_size ends.now.size))
-        (IsLack ends.now.head.now ends.now.tail.now ends.now.size) }
+        (IsLack ends.now) }
     ensures asked { IfSome result (λ lack. IsAmong (lack.from, lack.length) (value_ranges table.now ends.now.size)) }
 {
     let sector_size = table.sector_size;
@@ -48,9 +48,9 @@ pub fn lack_of_places(ends: &Ends, table: &GPT) -> Option<Lack>
 // What the ends lack of a header and of an array of so many bytes, where these are on the disk.
 fn lack_of_both(ends: &Ends, header: u64, start: u64, array: u64) -> Option<Lack>
     ensures known { MatchOption result
-        ((header + 92 ≤ ends.now.size → IsKnown (length ends.now.head.now) (length ends.now.tail.now) ends.now.size (header, 92))
-        × (start + array ≤ ends.now.size → IsKnown (length ends.now.head.now) (length ends.now.tail.now) ends.now.size (start, array)))
-        (IsLack ends.now.head.now ends.now.tail.now ends.now.size) }
+        ((header + 92 ≤ ends.now.size → HaveRange ends.now (header, 92))
+        × (start + array ≤ ends.now.size → HaveRange ends.now (start, array)))
+        (IsLack ends.now) }
     ensures asked { IfSome result
         (λ lack. IsAmong (lack.from, lack.length) ((header, 92) ∷ (start, array) ∷ [])) }
 {
@@ -64,8 +64,8 @@ fn lack_of_both(ends: &Ends, header: u64, start: u64, array: u64) -> Option<Lack
 // What the ends lack of so many bytes, where these are on the disk.
 fn lack_inside(ends: &Ends, from: u64, len: u64) -> Option<Lack>
     ensures known { MatchOption result
-        (from + len ≤ ends.now.size → IsKnown (length ends.now.head.now) (length ends.now.tail.now) ends.now.size (from, len))
-        (IsLack ends.now.head.now ends.now.tail.now ends.now.size) }
+        (from + len ≤ ends.now.size → HaveRange ends.now (from, len))
+        (IsLack ends.now) }
     ensures asked { IfSome result (λ lack. (lack.from ≡ from) × (lack.length ≡ len)) }
 {
     if passes_end(ends.size, from, len) {

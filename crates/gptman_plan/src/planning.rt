@@ -10,7 +10,7 @@ ghost use Rattle.gptman_plan.specs.Crossing.{with_partitions};
 ghost use Rattle.gptman_plan.specs.Ends.{zeroed};
 ghost use Rattle.gptman_plan.specs.Plan.{acts_of};
 ghost use Rattle.gptman_plan.specs.Planning.{IsPlan, IsPlanRefusal, IsRewriteRefusal, IsSafePlan};
-ghost use Rattle.gptman_plan.specs.Reading.{IsStatedTable, OfEveryDisk};
+ghost use Rattle.gptman_plan.specs.Reading.{IsStatedTable, OfEvery};
 ghost use Rattle.gptman_plan.specs.Rounds.{reading_ranges};
 ghost use Rattle.gptman_plan.specs.declared.records.Partition.{Partition};
 
@@ -43,11 +43,11 @@ pub fn plan(
     partitions: &[Partition],
 ) -> Result<Record, Refusal>
     requires sector { 0 < sector_size }
-    ensures plan { IfOk result (λ plan. OfEveryDisk ends.now
+    ensures plan { IfOk result (λ plan. OfEvery ends.now
         (λ b. IsPlan b sector_size partitions.now (acts_of plan.bytes.items plan.steps.items))) }
     ensures size { IfOk result (λ plan. plan.size ≡ ends.now.size) }
-    ensures refused { IfErr result (IsPlanRefusal ends.now.head.now ends.now.tail.now ends.now.size sector_size partitions.now) }
-    ensures asked { IfErr result (AsksAmong (λ b. plan_ranges b sector_size) ends.now.head.now ends.now.tail.now ends.now.size) }
+    ensures refused { IfErr result (IsPlanRefusal ends.now sector_size partitions.now) }
+    ensures asked { IfErr result (AsksAmong (λ b. plan_ranges b sector_size) ends.now) }
 {
     let table = read_stated(alloc, ends, sector_size)?;
     let count = u64::from(table.header.number_of_partition_entries);
@@ -65,8 +65,8 @@ fn read_stated(alloc: Global, ends: &Ends, sector_size: u64) -> Result<GPT, Refu
     requires sector { 0 < sector_size }
     ensures table { IfOk result (IsStatedTable ends.now sector_size) }
     ensures refused { (partitions : List Partition)
-        → IfErr result (IsPlanRefusal ends.now.head.now ends.now.tail.now ends.now.size sector_size partitions) }
-    ensures asked { IfErr result (AsksAmong (λ b. reading_ranges b sector_size) ends.now.head.now ends.now.tail.now ends.now.size) }
+        → IfErr result (IsPlanRefusal ends.now sector_size partitions) }
+    ensures asked { IfErr result (AsksAmong (λ b. reading_ranges b sector_size) ends.now) }
 {
     let (table, is_backup) = match read(alloc, ends, sector_size) {
         Reading::Table { table, is_backup } => (table, is_backup),
@@ -93,7 +93,7 @@ fn record_write(
     requires coherent { IsCoherent table.now.header (entries_in table.now) }
     requires count { length partitions.now ≡ length (entries_in table.now) }
     ensures size { IfOk result (λ plan. plan.size ≡ ends.now.size) }
-    ensures refused { IfErr result (IsRewriteRefusal ends.now.head.now ends.now.tail.now ends.now.size table.now partitions.now) }
+    ensures refused { IfErr result (IsRewriteRefusal ends.now table.now partitions.now) }
     ensures asked { IfErr result AsksNothing }
     ensures safe { IfOk result (λ plan. IsReadInForm (zeroed ends.now) table.now
         → IsLaidOut (with_partitions table.now partitions.now) table.now.sector_size ends.now.size

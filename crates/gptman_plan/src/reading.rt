@@ -8,7 +8,7 @@ ghost use Rattle.gptman.specs.Copy.{copy_at, header_result};
 ghost use Rattle.gptman.specs.Fault.{fault_of, out_of_memory};
 ghost use Rattle.gptman.specs.Reading.{reading_of};
 ghost use Rattle.gptman.specs.TableReads.{copy_of, IsAsRead};
-ghost use Rattle.gptman_plan.specs.Ends.{IsKnown, zeroed};
+ghost use Rattle.gptman_plan.specs.Ends.{HaveRange, zeroed};
 ghost use Rattle.gptman_plan.specs.Reading.{IsArrayTold, IsCopyTold, IsLack, IsLackOf, IsPlace, IsReading};
 ghost use Rattle.gptman_plan.specs.Rounds.{copy_ranges, entries_range};
 
@@ -112,8 +112,8 @@ fn has_primary(alloc: Global, ends: &Ends, sector_size: u64) -> Result<bool>
 
 /// What the ends lack of the copy whose header is at this byte.
 pub fn lack_of_copy(ends: &Ends, at: u64, sector_size: u64) -> Option<Lack>
-    ensures told { MatchOption result (IsCopyTold ends.now.head.now ends.now.tail.now ends.now.size at sector_size)
-        (IsLackOf (λ b. copy_ranges b sector_size at) ends.now.head.now ends.now.tail.now ends.now.size) }
+    ensures told { MatchOption result (IsCopyTold ends.now at sector_size)
+        (IsLackOf (λ b. copy_ranges b sector_size at) ends.now) }
 {
     if passes_end(ends.size, at, 92) {
         return None;
@@ -137,8 +137,8 @@ fn header_at(ends: &Ends, at: u64) -> Option<GPTHeader>
 
 // What the ends lack of the entries of this header.
 fn lack_of_entries(header: &GPTHeader, ends: &Ends, sector_size: u64) -> Option<Lack>
-    ensures told { MatchOption result (IsArrayTold ends.now.head.now ends.now.tail.now ends.now.size sector_size header.now)
-        (IsLackOf (λ _. entries_range sector_size (Ok header.now)) ends.now.head.now ends.now.tail.now ends.now.size) }
+    ensures told { MatchOption result (IsArrayTold ends.now sector_size header.now)
+        (IsLackOf (λ _. entries_range sector_size (Ok header.now)) ends.now) }
 {
     if header.number_of_partition_entries == 0 || header.size_of_partition_entry != 128 {
         return None;
@@ -154,8 +154,8 @@ fn lack_of_entries(header: &GPTHeader, ends: &Ends, sector_size: u64) -> Option<
 // The range itself, where neither end has all of it.
 pub fn lack_of(ends: &Ends, from: u64, len: u64) -> Option<Lack>
     requires inside { from + len ≤ ends.now.size }
-    ensures known { MatchOption result (IsKnown (length ends.now.head.now) (length ends.now.tail.now) ends.now.size (from, len))
-        (IsLack ends.now.head.now ends.now.tail.now ends.now.size) }
+    ensures known { MatchOption result (HaveRange ends.now (from, len))
+        (IsLack ends.now) }
     ensures asked { IfSome result (λ lack. (lack.from ≡ from) × (lack.length ≡ len)) }
 {
     let first = ends.head.len() as u64;

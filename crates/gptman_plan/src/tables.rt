@@ -9,7 +9,7 @@ ghost use Rattle.gptman_plan.specs.Asking.{value_ranges, AsksAmong, AsksNothing}
 ghost use Rattle.gptman_plan.specs.Ends.{zeroed};
 ghost use Rattle.gptman_plan.specs.Plan.{acts_of};
 ghost use Rattle.gptman_plan.specs.Planning.{ComesInTurns, IsTablePlan, IsTableRefusal, IsWrittenPlan};
-ghost use Rattle.gptman_plan.specs.Reading.{OfEveryDisk};
+ghost use Rattle.gptman_plan.specs.Reading.{OfEvery};
 
 use crate::ends::Ends;
 use crate::places::lack_of_places;
@@ -25,11 +25,11 @@ pub fn plan_table(alloc: Global, ends: &Ends, table: GPT) -> Result<Record, Refu
     requires room { table.sector_size ≤ ends.now.size }
     requires count { 0 < table.header.number_of_partition_entries }
     requires coherent { IsCoherent table.header (entries_in table) }
-    ensures plan { IfOk result (λ plan. OfEveryDisk ends.now
+    ensures plan { IfOk result (λ plan. OfEvery ends.now
         (λ b. IsTablePlan b table (acts_of plan.bytes.items plan.steps.items))) }
     ensures size { IfOk result (λ plan. plan.size ≡ ends.now.size) }
-    ensures refused { IfErr result (IsTableRefusal ends.now.head.now ends.now.tail.now ends.now.size table) }
-    ensures asked { IfErr result (AsksAmong (λ _. value_ranges table ends.now.size) ends.now.head.now ends.now.tail.now ends.now.size) }
+    ensures refused { IfErr result (IsTableRefusal ends.now table) }
+    ensures asked { IfErr result (AsksAmong (λ _. value_ranges table ends.now.size) ends.now) }
 {
     let lack = lack_of_places(ends, &table);
     let is_laid_out = table.has_layout(ends.size);
@@ -48,7 +48,7 @@ fn record_table(alloc: Global, ends: &Ends, mut table: GPT) -> Result<Record, Re
     requires sector { 0 < table.sector_size }
     requires coherent { IsCoherent table.header (entries_in table) }
     ensures size { IfOk result (λ plan. plan.size ≡ ends.now.size) }
-    ensures refused { IfErr result (IsTableRefusal ends.now.head.now ends.now.tail.now ends.now.size table) }
+    ensures refused { IfErr result (IsTableRefusal ends.now table) }
     ensures asked { IfErr result AsksNothing }
     ensures written { IfOk result (λ plan. HasLayout table ends.now.size
         → IsWrittenPlan (zeroed ends.now) table.sector_size (table_in table)

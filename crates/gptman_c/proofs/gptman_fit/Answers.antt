@@ -3,9 +3,9 @@ use Rattle.gptman_plan.specs.Asking.{fit_ranges}
 use Rattle.gptman_plan.specs.Ends.{zeroed}
 use Rattle.gptman_plan.specs.Plan.{Act}
 use Rattle.gptman_plan.specs.Planning.{Cause, IsFitPlan, StopsFit}
-use Rattle.gptman_plan.specs.Reading.{OfEveryDisk}
+use Rattle.gptman_plan.specs.Reading.{OfEvery}
 use Rattle.gptman_plan.proofs.AskedPlans.{answer_asked}
-use Rattle.gptman_plan.proofs.Middle.{ends_zero, has_made}
+use Rattle.gptman_plan.proofs.Middle.{has_made, zero_ends}
 use Rattle.gptman_plan.proofs.Refused.{answer_bad, answer_fault, answer_length, answer_most, answer_not_102}
 use Rattle.gptman_c.proofs.gptman_fit.Goals as goal
 
@@ -31,35 +31,35 @@ pub returns-in-Err-clause-refused : goal.returns-in-Err-clause-refused
 returns-in-Err-clause-refused c = λ above below other b has.
     let a = c.args in
     let e = c.in-Some.ends in
-    let why : Cause → Type 0 = λ cause. OfEveryDisk e (λ b. StopsFit b a.sector_size cause) in
-    let told = answer_fault why e.head.now e.tail.now e.size c.in-Err.refusal c.in-Err.ensures.refused c.refuse.result c.refuse.ensures.answer below other in
+    let why : Cause → Type 0 = λ cause. OfEvery e (λ b. StopsFit b a.sector_size cause) in
+    let told = answer_fault why e c.in-Err.refusal c.in-Err.ensures.refused c.refuse.result c.refuse.ensures.answer below other in
     record { fault = told.fault; holds = told.holds b (has_made e a.head.now a.tail.now a.disk_size c.in-Some.ensures b has); number_is = told.number_is }
 
 pub returns-in-Err-clause-asked : goal.returns-in-Err-clause-asked
 returns-in-Err-clause-asked c = λ seventeen b has.
     let a = c.args in
     let e = c.in-Some.ends in
-    inr (answer_asked e.head.now e.tail.now e.size (λ b. fit_ranges b a.sector_size) c.in-Err.refusal c.in-Err.ensures.asked c.refuse.result c.refuse.ensures.answer
+    inr (answer_asked e (λ b. fit_ranges b a.sector_size) c.in-Err.refusal c.in-Err.ensures.asked c.refuse.result c.refuse.ensures.answer
     c.refuse_dos-seen.new.needed c.refuse.new.needed c.refuse.ensures.needed seventeen b (has_made e a.head.now a.tail.now a.disk_size c.in-Some.ensures b has))
 
 pub returns-in-Err-clause-bad : goal.returns-in-Err-clause-bad
 returns-in-Err-clause-bad c = λ nineteen.
     let e = c.in-Some.ends in
-    let why : Cause → Type 0 = λ cause. OfEveryDisk e (λ b. StopsFit b c.args.sector_size cause) in
-    absurd (answer_bad why e.head.now e.tail.now e.size c.in-Err.refusal c.in-Err.ensures.refused c.refuse.result c.refuse.ensures.answer nineteen (zeroed e) (ends_zero e.head.now e.tail.now e.size e.apart))
+    let why : Cause → Type 0 = λ cause. OfEvery e (λ b. StopsFit b c.args.sector_size cause) in
+    absurd (answer_bad why e c.in-Err.refusal c.in-Err.ensures.refused c.refuse.result c.refuse.ensures.answer nineteen (zeroed e) (zero_ends e))
 
 pub returns-in-Err-clause-dos_disk : goal.returns-in-Err-clause-dos_disk
 returns-in-Err-clause-dos_disk c = λ number.
     let e = c.in-Some.ends in
-    let why : Cause → Type 0 = λ cause. OfEveryDisk e (λ b. StopsFit b c.args.sector_size cause) in
-    absurd (answer_not_102 why e.head.now e.tail.now e.size c.in-Err.refusal c.in-Err.ensures.refused c.refuse.result c.refuse.ensures.answer number)
+    let why : Cause → Type 0 = λ cause. OfEvery e (λ b. StopsFit b c.args.sector_size cause) in
+    absurd (answer_not_102 why e c.in-Err.refusal c.in-Err.ensures.refused c.refuse.result c.refuse.ensures.answer number)
 
 pub returns-in-Err-clause-most : goal.returns-in-Err-clause-most
 returns-in-Err-clause-most c =
     let e = c.in-Some.ends in
-    let why : Cause → Type 0 = λ cause. OfEveryDisk e (λ b. StopsFit b c.args.sector_size cause) in
+    let why : Cause → Type 0 = λ cause. OfEvery e (λ b. StopsFit b c.args.sector_size cause) in
     ⊎_elim inl
     (λ is. ⊎_elim
-    (λ hundred. absurd (answer_length why e.head.now e.tail.now e.size c.in-Err.refusal c.in-Err.ensures.refused c.refuse.result c.refuse.ensures.answer hundred (zeroed e) (ends_zero e.head.now e.tail.now e.size e.apart)))
+    (λ hundred. absurd (answer_length why e c.in-Err.refusal c.in-Err.ensures.refused c.refuse.result c.refuse.ensures.answer hundred (zeroed e) (zero_ends e)))
     (λ n. inr (inl n)) is)
-    (answer_most why e.head.now e.tail.now e.size c.in-Err.refusal c.in-Err.ensures.refused c.refuse.result c.refuse.ensures.answer)
+    (answer_most why e c.in-Err.refusal c.in-Err.ensures.refused c.refuse.result c.refuse.ensures.answer)

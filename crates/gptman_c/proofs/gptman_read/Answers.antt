@@ -10,5 +10,5 @@ returns-in-Fault-clause-faults c = λ above below.
     ⊎_elim
     (λ none. inr (inr (number ∙ ap fault_number none)))
     (λ told. ⊎_elim (λ two. inl (number ∙ two)) (λ seven. inr (inl (number ∙ seven)))
-    (fault_told e.head.now e.tail.now e.size e.apart c.args.sector_size (fault_of c.in-Fault.fault) told))
+    (fault_told e c.args.sector_size (fault_of c.in-Fault.fault) told))
     c.in-Fault.ensures.reading

@@ -1,7 +1,7 @@
 use Rattle.std.proofs.Common.{inr, sym}
 use Rattle.gptman_plan.specs.Asking.{plan_ranges}
 use Rattle.gptman_plan.specs.Planning.{Cause, StopsPlan}
-use Rattle.gptman_plan.specs.Reading.{OfEveryDisk}
+use Rattle.gptman_plan.specs.Reading.{OfEvery}
 use Rattle.gptman_plan.proofs.AskedPlans.{answer_asked}
 use Rattle.gptman_plan.proofs.Middle.{has_made}
 use Rattle.gptman_plan.proofs.Refused.{answer_fault, answer_not_102}
@@ -23,20 +23,20 @@ pub returns-in-Err-clause-refused : goal.returns-in-Err-clause-refused
 returns-in-Err-clause-refused c = λ above below other b has.
     let a = c.args in
     let e = c.in-Some.ends in
-    let why : Cause → Type 0 = λ cause. OfEveryDisk e (λ b. StopsPlan b a.sector_size a.partitions.now cause) in
-    let told = answer_fault why e.head.now e.tail.now e.size c.in-Err.refusal c.in-Err.ensures.refused c.refuse.result c.refuse.ensures.answer below other in
+    let why : Cause → Type 0 = λ cause. OfEvery e (λ b. StopsPlan b a.sector_size a.partitions.now cause) in
+    let told = answer_fault why e c.in-Err.refusal c.in-Err.ensures.refused c.refuse.result c.refuse.ensures.answer below other in
     record { fault = told.fault; holds = told.holds b (has_made e a.head.now a.tail.now a.disk_size c.in-Some.ensures b has); number_is = told.number_is }
 
 pub returns-in-Err-clause-asked : goal.returns-in-Err-clause-asked
 returns-in-Err-clause-asked c = λ seventeen b has.
     let a = c.args in
     let e = c.in-Some.ends in
-    inr (answer_asked e.head.now e.tail.now e.size (λ b. plan_ranges b a.sector_size) c.in-Err.refusal c.in-Err.ensures.asked c.refuse.result c.refuse.ensures.answer
+    inr (answer_asked e (λ b. plan_ranges b a.sector_size) c.in-Err.refusal c.in-Err.ensures.asked c.refuse.result c.refuse.ensures.answer
     c.refuse_dos-seen.new.needed c.refuse.new.needed c.refuse.ensures.needed seventeen b (has_made e a.head.now a.tail.now a.disk_size c.in-Some.ensures b has))
 
 pub returns-in-Err-clause-dos_disk : goal.returns-in-Err-clause-dos_disk
 returns-in-Err-clause-dos_disk c = λ number.
     let a = c.args in
     let e = c.in-Some.ends in
-    let why : Cause → Type 0 = λ cause. OfEveryDisk e (λ b. StopsPlan b a.sector_size a.partitions.now cause) in
-    absurd (answer_not_102 why e.head.now e.tail.now e.size c.in-Err.refusal c.in-Err.ensures.refused c.refuse.result c.refuse.ensures.answer number)
+    let why : Cause → Type 0 = λ cause. OfEvery e (λ b. StopsPlan b a.sector_size a.partitions.now cause) in
+    absurd (answer_not_102 why e c.in-Err.refusal c.in-Err.ensures.refused c.refuse.result c.refuse.ensures.answer number)

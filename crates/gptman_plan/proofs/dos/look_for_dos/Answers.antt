@@ -1,7 +1,7 @@
-use Rattle.std.proofs.Common.{[], ◌∷◌, inl, length, refl, sym, ◌∙◌, arith}
+use Rattle.std.proofs.Common.{[], ◌∷◌, inl, refl, sym, ◌∙◌, arith}
 use Rattle.std.proofs.lemmas.Bool.{false≢true}
 use Rattle.gptman.specs.Bytes.{part}
-use Rattle.gptman_plan.specs.Ends.{IsKnown, zeroed}
+use Rattle.gptman_plan.specs.Ends.{HaveRange, zeroed}
 use Rattle.gptman_plan.specs.Reading.{IsLack}
 use Rattle.gptman_plan.specs.Rounds.{first_sector}
 use Rattle.gptman_plan.proofs.Asked.{lack_at}
@@ -16,8 +16,8 @@ pub returns-then-is_dos_sector : goal.returns-then-is_dos_sector
 returns-then-is_dos_sector c =
     let a = c.args in
     let made = c.new-disk.ensures in
-    let known = at_none (IsKnown (length a.ends.now.head.now) (length a.ends.now.tail.now) a.ends.now.size (0, 512)) (IsLack a.ends.now.head.now a.ends.now.tail.now a.ends.now.size) c.lack_of.result c.in_default.is c.lack_of.ensures.known in
-    is_dos a.ends.now.head.now a.ends.now.tail.now a.ends.now.size c.args.ends.now.apart known c.fill.new.buf
+    let known = at_none (HaveRange a.ends.now (0, 512)) (IsLack a.ends.now) c.lack_of.result c.in_default.is c.lack_of.ensures.known in
+    is_dos a.ends.now known c.fill.new.buf
     (c.fill.ensures ∙ (λ i. part (zeroed (made.ends i)) (made.position i) 512))
     (c.is_dos_sector.ensures.0 c.if-is_dos_sector.true)
 
@@ -25,8 +25,8 @@ pub returns-else-is_dos_sector : goal.returns-else-is_dos_sector
 returns-else-is_dos_sector c =
     let a = c.args in
     let made = c.new-disk.ensures in
-    let known = at_none (IsKnown (length a.ends.now.head.now) (length a.ends.now.tail.now) a.ends.now.size (0, 512)) (IsLack a.ends.now.head.now a.ends.now.tail.now a.ends.now.size) c.lack_of.result c.in_default.is c.lack_of.ensures.known in
-    is_clear a.ends.now.head.now a.ends.now.tail.now a.ends.now.size c.args.ends.now.apart known c.fill.new.buf
+    let known = at_none (HaveRange a.ends.now (0, 512)) (IsLack a.ends.now) c.lack_of.result c.in_default.is c.lack_of.ensures.known in
+    is_clear a.ends.now known c.fill.new.buf
     (c.fill.ensures ∙ (λ i. part (zeroed (made.ends i)) (made.position i) 512))
     (λ is. false≢true (sym c.if-is_dos_sector.false ∙ c.is_dos_sector.ensures.1 is))
 
@@ -34,4 +34,4 @@ pub returns-in-Some : goal.returns-in-Some
 returns-in-Some c =
     let a = c.args in
     let asked = c.in-Some.ensures.asked in
-    lack_at a.ends.now.head.now a.ends.now.tail.now a.ends.now.size (λ _. first_sector ∷ []) 0 512 c.in-Some.lack asked.0 asked.1 (λ b ends. inl refl) c.in-Some.ensures.known
+    lack_at a.ends.now (λ _. first_sector ∷ []) 0 512 c.in-Some.lack asked.0 asked.1 (λ b ends. inl refl) c.in-Some.ensures.known

@@ -2,7 +2,7 @@ use Rattle.std.proofs.Common.{◌<◌, ⊎_elim, inl, inr, ℕ, List, length, sy
 use Rattle.std.proofs.lemmas.Bool.{false≢true}
 use Rattle.std.proofs.lemmas.Result.{IfErr-weaker, IfOk-weaker, err_from_is_err_and}
 use Rattle.gptman.specs.declared.table.GPT.{GPT}
-use Rattle.gptman_plan.specs.Ends.{HasEnds}
+use Rattle.gptman_plan.specs.Ends.{IsDiskOf}
 use Rattle.gptman_plan.specs.Plan.{acts_of}
 use Rattle.gptman_plan.specs.Planning.{IsFitPlan, IsFitRefusal, IsTablePlan, IsTableRefusal}
 use Rattle.gptman_plan.specs.Planning.RefusesFit.{is_not_read_to_fit}
@@ -20,9 +20,9 @@ returns-clause-plan c =
     let a = c.args in
     let g : GPT = c.in-Table.table in
     let told = c.in-Table.ensures.reading in
-    IfOk-weaker c.plan_table.result (λ (plan : Record). (b : List ℕ) → HasEnds b a.ends.now.head.now a.ends.now.tail.now a.ends.now.size → IsTablePlan b c.in_ok-fitted.fitted (acts_of plan.bytes.items plan.steps.items))
-    (λ (plan : Record). (b : List ℕ) → HasEnds b a.ends.now.head.now a.ends.now.tail.now a.ends.now.size → IsFitPlan b a.sector_size (acts_of plan.bytes.items plan.steps.items))
-    (λ plan is. fit_plan a.ends.now.head.now a.ends.now.tail.now a.ends.now.size a.sector_size g c.in-Table.is_backup told (c.is_of_side.ensures.0 c.if-not-is_of_side.false) c.in_ok-fitted.fitted (acts_of plan.bytes.items plan.steps.items) c.in_ok-fitted.ensures.value is)
+    IfOk-weaker c.plan_table.result (λ (plan : Record). (b : List ℕ) → IsDiskOf a.ends.now b → IsTablePlan b c.in_ok-fitted.fitted (acts_of plan.bytes.items plan.steps.items))
+    (λ (plan : Record). (b : List ℕ) → IsDiskOf a.ends.now b → IsFitPlan b a.sector_size (acts_of plan.bytes.items plan.steps.items))
+    (λ plan is. fit_plan a.ends.now a.sector_size g c.in-Table.is_backup told (c.is_of_side.ensures.0 c.if-not-is_of_side.false) c.in_ok-fitted.fitted (acts_of plan.bytes.items plan.steps.items) c.in_ok-fitted.ensures.value is)
     c.plan_table.ensures.plan
 
 pub returns-clause-refused : goal.returns-clause-refused
@@ -30,8 +30,8 @@ returns-clause-refused c =
     let a = c.args in
     let g : GPT = c.in-Table.table in
     let told = c.in-Table.ensures.reading in
-    IfErr-weaker c.plan_table.result (IsTableRefusal a.ends.now.head.now a.ends.now.tail.now a.ends.now.size c.in_ok-fitted.fitted) (IsFitRefusal a.ends.now.head.now a.ends.now.tail.now a.ends.now.size a.sector_size)
-    (table_refused a.ends.now.head.now a.ends.now.tail.now a.ends.now.size a.sector_size g c.in-Table.is_backup told c.in_ok-fitted.fitted c.in_ok-fitted.ensures.value)
+    IfErr-weaker c.plan_table.result (IsTableRefusal a.ends.now c.in_ok-fitted.fitted) (IsFitRefusal a.ends.now a.sector_size)
+    (table_refused a.ends.now a.sector_size g c.in-Table.is_backup told c.in_ok-fitted.fitted c.in_ok-fitted.ensures.value)
     c.plan_table.ensures.refused
 
 pub returns-in-Fault-clause-refused : goal.returns-in-Fault-clause-refused
@@ -42,7 +42,7 @@ returns-in_err-fitted-clause-refused c =
     let a = c.args in
     let told = c.in-Table.ensures.reading in
     let p = err_from_is_err_and c.from_residual.result c.from_residual.ensures.1 in
-    rw (p.1, p.2) (size_refused a.ends.now.head.now a.ends.now.tail.now a.ends.now.size a.sector_size c.in-Table.table c.in-Table.is_backup told c.in_err-fitted.field-0.0 c.in_err-fitted.ensures.refused)
+    rw (p.1, p.2) (size_refused a.ends.now a.sector_size c.in-Table.table c.in-Table.is_backup told c.in_err-fitted.field-0.0 c.in_err-fitted.ensures.refused)
 
 pub plan_table-requires : goal.plan_table-requires
 plan_table-requires c =
@@ -55,7 +55,7 @@ plan_table-requires c =
 pub returns-then-not-is_of_side-clause-refused : goal.returns-then-not-is_of_side-clause-refused
 returns-then-not-is_of_side-clause-refused c =
     let a = c.args in
-    not_of_side a.ends.now.head.now a.ends.now.tail.now a.ends.now.size a.sector_size c.in-Table.table c.in-Table.is_backup c.in-Table.ensures.reading
+    not_of_side a.ends.now a.sector_size c.in-Table.table c.in-Table.is_backup c.in-Table.ensures.reading
     (λ form. false≢true (sym c.if-not-is_of_side.true ∙ c.is_of_side.ensures.1 form))
 
 pub returns-in-Lacks-clause-asked : goal.returns-in-Lacks-clause-asked
@@ -68,13 +68,13 @@ pub returns-in_err-fitted-clause-asked : goal.returns-in_err-fitted-clause-asked
 returns-in_err-fitted-clause-asked c =
     let a = c.args in
     let p = err_from_is_err_and c.from_residual.result c.from_residual.ensures.1 in
-    rw (p.1, p.2) (asks_none a.ends.now.head.now a.ends.now.tail.now a.ends.now.size (λ b. fit_ranges b a.sector_size) c.in_err-fitted.field-0.0 c.in_err-fitted.ensures.asked)
+    rw (p.1, p.2) (asks_none a.ends.now (λ b. fit_ranges b a.sector_size) c.in_err-fitted.field-0.0 c.in_err-fitted.ensures.asked)
 
 pub returns-clause-asked : goal.returns-clause-asked
 returns-clause-asked c =
     let a = c.args in
     let next : GPT = c.in_ok-fitted.fitted in
-    IfErr-weaker c.plan_table.result (AsksAmong (λ _. value_ranges next a.ends.now.size) a.ends.now.head.now a.ends.now.tail.now a.ends.now.size) (AsksAmong (λ b. fit_ranges b a.sector_size) a.ends.now.head.now a.ends.now.tail.now a.ends.now.size)
-    (asks_as a.ends.now.head.now a.ends.now.tail.now a.ends.now.size (λ _. value_ranges next a.ends.now.size) (λ b. fit_ranges b a.sector_size)
-    (λ b ends range is. fit_place a.ends.now.head.now a.ends.now.tail.now a.ends.now.size a.sector_size c.in-Table.table c.in-Table.is_backup c.in-Table.ensures.reading range next c.in_ok-fitted.ensures.value is b ends))
+    IfErr-weaker c.plan_table.result (AsksAmong (λ _. value_ranges next a.ends.now.size) a.ends.now) (AsksAmong (λ b. fit_ranges b a.sector_size) a.ends.now)
+    (asks_as a.ends.now (λ _. value_ranges next a.ends.now.size) (λ b. fit_ranges b a.sector_size)
+    (λ b ends range is. fit_place a.ends.now a.sector_size c.in-Table.table c.in-Table.is_backup c.in-Table.ensures.reading range next c.in_ok-fitted.ensures.value is b ends))
     c.plan_table.ensures.asked

@@ -7,7 +7,7 @@ use Rattle.gptman.specs.Ranges.{AreInside}
 use Rattle.gptman.specs.Table.{Table, table_in}
 use Rattle.gptman.specs.TableReads.{copy_of}
 use Rattle.gptman_plan.specs.Crossing.{four_ranges, with_partitions}
-use Rattle.gptman_plan.specs.Ends.{AreRangesKnown, HasEnds, disk_bytes}
+use Rattle.gptman_plan.specs.Ends.{HaveRanges, IsDiskOf, zeroed}
 use Rattle.gptman_plan.specs.Plan.{Act, acts_of}
 use Rattle.gptman_plan.specs.Planning.{IsOfFault, IsPlan, IsPlanRefusal, IsRewriteRefusal, IsSafePlan, IsUnfit, StopsPlan}
 use Rattle.gptman_plan.specs.Planning.RefusesPlan.{is_unfit}
@@ -31,19 +31,19 @@ returns-clause-plan c =
     let stated = c.in_ok-table.ensures.table in
     let same : g.sector_size ≡ a.sector_size = stated.read.sector in
     let all : List (ℕ × ℕ) = four_ranges (table_in g) g.sector_size a.ends.now.size in
-    let on_disk : Type 0 = AreInside all a.ends.now.size → AreRangesKnown (length a.ends.now.head.now) (length a.ends.now.tail.now) a.ends.now.size all in
-    let places : on_disk = at_none on_disk (IsLack a.ends.now.head.now a.ends.now.tail.now a.ends.now.size) c.lack_of_places.result c.in_default.is c.lack_of_places.ensures.known in
+    let on_disk : Type 0 = AreInside all a.ends.now.size → HaveRanges a.ends.now all in
+    let places : on_disk = at_none on_disk (IsLack a.ends.now) c.lack_of_places.result c.in_default.is c.lack_of_places.ensures.known in
     let next : Table = with_partitions g a.partitions.now in
-    let read : IsTable a.ends.now.head.now a.ends.now.tail.now a.ends.now.size g.sector_size g stated.is_backup = subst (λ (ss : ℕ). IsTable a.ends.now.head.now a.ends.now.tail.now a.ends.now.size ss g stated.is_backup) (sym same) stated.read in
+    let read : IsTable a.ends.now g.sector_size g stated.is_backup = subst (λ (ss : ℕ). IsTable a.ends.now ss g stated.is_backup) (sym same) stated.read in
     let laid : IsLaidOut (table_in g) g.sector_size a.ends.now.size = subst (λ (ss : ℕ). IsLaidOut (table_in g) ss a.ends.now.size) (sym same) stated.laid in
     let count : length a.partitions.now ≡ (table_in g).count = omega arith in
     IfOk-weaker c.record_write.result
-    (λ (plan : Record). IsReadInForm (disk_bytes a.ends.now.head.now a.ends.now.tail.now a.ends.now.size) g → IsLaidOut next g.sector_size a.ends.now.size
-    → IsSafePlan (disk_bytes a.ends.now.head.now a.ends.now.tail.now a.ends.now.size) g.sector_size (table_in g) next (acts_of plan.bytes.items plan.steps.items))
-    (λ (plan : Record). (b : List ℕ) → HasEnds b a.ends.now.head.now a.ends.now.tail.now a.ends.now.size → IsPlan b a.sector_size a.partitions.now (acts_of plan.bytes.items plan.steps.items))
+    (λ (plan : Record). IsReadInForm (zeroed a.ends.now) g → IsLaidOut next g.sector_size a.ends.now.size
+    → IsSafePlan (zeroed a.ends.now) g.sector_size (table_in g) next (acts_of plan.bytes.items plan.steps.items))
+    (λ (plan : Record). (b : List ℕ) → IsDiskOf a.ends.now b → IsPlan b a.sector_size a.partitions.now (acts_of plan.bytes.items plan.steps.items))
     (λ plan safe b ends. let acts : List Act = acts_of plan.bytes.items plan.steps.items in
     subst (λ (ss : ℕ). IsPlan b ss a.partitions.now acts) same
-    (plan_any a.ends.now.head.now a.ends.now.tail.now a.ends.now.size c.args.ends.now.apart g stated.is_backup a.partitions.now acts read stated.form laid count places safe b ends))
+    (plan_any a.ends.now g stated.is_backup a.partitions.now acts read stated.form laid count places safe b ends))
     c.record_write.ensures.safe
 
 pub returns-clause-refused : goal.returns-clause-refused
@@ -52,9 +52,9 @@ returns-clause-refused c =
     let g = c.in_ok-table.table in
     let told = c.in_ok-table.ensures.table.read in
     let why : Fault → Type 0 = IsUnfit g.header g.sector_size a.partitions.now a.ends.now.size in
-    IfErr-weaker c.record_write.result (IsRewriteRefusal a.ends.now.head.now a.ends.now.tail.now a.ends.now.size g a.partitions.now) (IsPlanRefusal a.ends.now.head.now a.ends.now.tail.now a.ends.now.size a.sector_size a.partitions.now)
-    (refused_as (IsOfFault why) (λ cause. OfEvery a.ends.now.head.now a.ends.now.tail.now a.ends.now.size (λ b. StopsPlan b a.sector_size a.partitions.now cause)) a.ends.now.head.now a.ends.now.tail.now a.ends.now.size
-    (fault_as why (λ cause. OfEvery a.ends.now.head.now a.ends.now.tail.now a.ends.now.size (λ b. StopsPlan b a.sector_size a.partitions.now cause)) (λ fault why b ends. is_unfit (copy_of g) (told.reading b ends)
+    IfErr-weaker c.record_write.result (IsRewriteRefusal a.ends.now g a.partitions.now) (IsPlanRefusal a.ends.now a.sector_size a.partitions.now)
+    (refused_as (IsOfFault why) (λ cause. OfEvery a.ends.now (λ b. StopsPlan b a.sector_size a.partitions.now cause)) a.ends.now
+    (fault_as why (λ cause. OfEvery a.ends.now (λ b. StopsPlan b a.sector_size a.partitions.now cause)) (λ fault why b ends. is_unfit (copy_of g) (told.reading b ends)
     (subst (λ (ss : ℕ). IsUnfit g.header ss a.partitions.now (length b) fault) told.sector
     (subst (λ (n : ℕ). IsUnfit g.header g.sector_size a.partitions.now n fault) (sym ends.long) why)))))
     c.record_write.ensures.refused
@@ -84,7 +84,7 @@ returns-in_err-table-clause-asked c =
     let a = c.args in
     let ss = a.sector_size in
     let p = err_from_is_err_and c.from_residual.result c.from_residual.ensures.1 in
-    rw (p.1, p.2) (asks_as a.ends.now.head.now a.ends.now.tail.now a.ends.now.size (λ b. reading_ranges b ss) (λ b. plan_ranges b ss)
+    rw (p.1, p.2) (asks_as a.ends.now (λ b. reading_ranges b ss) (λ b. plan_ranges b ss)
     (λ b ends range is. among_left (reading_ranges b ss) (table_ranges ss (length b) (reading_of b ss)) range is)
     c.in_err-table.field-0.0 c.in_err-table.ensures.asked)
 
@@ -92,10 +92,10 @@ pub returns-in-Some-clause-asked : goal.returns-in-Some-clause-asked
 returns-in-Some-clause-asked c =
     let a = c.args in
     let stated = c.in_ok-table.ensures.table in
-    plan_place a.ends.now.head.now a.ends.now.tail.now a.ends.now.size a.sector_size c.in_ok-table.table stated.is_backup stated.read (c.in-Some.lack.from, c.in-Some.lack.length) c.in-Some.ensures.asked
+    plan_place a.ends.now a.sector_size c.in_ok-table.table stated.is_backup stated.read (c.in-Some.lack.from, c.in-Some.lack.length) c.in-Some.ensures.asked
 
 pub returns-clause-asked : goal.returns-clause-asked
 returns-clause-asked c =
     let a = c.args in
     let places : List ℕ → List (ℕ × ℕ) = λ b. plan_ranges b a.sector_size in
-    IfErr-weaker c.record_write.result AsksNothing (AsksAmong places a.ends.now.head.now a.ends.now.tail.now a.ends.now.size) (asks_none a.ends.now.head.now a.ends.now.tail.now a.ends.now.size places) c.record_write.ensures.asked
+    IfErr-weaker c.record_write.result AsksNothing (AsksAmong places a.ends.now) (asks_none a.ends.now places) c.record_write.ensures.asked

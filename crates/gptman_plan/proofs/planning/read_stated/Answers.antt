@@ -18,11 +18,11 @@ returns-in-Fault-clause-refused c = λ partitions. ⊎_elim (λ none. inl none) 
 pub returns-then-not-is_made_for-clause-refused : goal.returns-then-not-is_made_for-clause-refused
 returns-then-not-is_made_for-clause-refused c = λ partitions.
     let a = c.args in
-    other_length a.ends.now.head.now a.ends.now.tail.now a.ends.now.size a.sector_size c.in-Table.table c.in-Table.is_backup c.in-Table.ensures.reading
+    other_length a.ends.now a.sector_size c.in-Table.table c.in-Table.is_backup c.in-Table.ensures.reading
     (λ made. false≢true (sym c.if-not-is_made_for.true ∙ c.is_made_for.ensures.1 made))
 
 pub returns-then-not-is_stated-clause-refused : goal.returns-then-not-is_stated-clause-refused
 returns-then-not-is_stated-clause-refused c = λ partitions.
     let a = c.args in
-    other_layout a.ends.now.head.now a.ends.now.tail.now a.ends.now.size a.sector_size c.in-Table.table c.in-Table.is_backup c.in-Table.ensures.reading
+    other_layout a.ends.now a.sector_size c.in-Table.table c.in-Table.is_backup c.in-Table.ensures.reading
     (c.is_made_for.ensures.0 c.if-not-is_made_for.false) (λ stated. false≢true (sym c.if-not-is_stated.true ∙ c.is_stated.ensures.1 stated))

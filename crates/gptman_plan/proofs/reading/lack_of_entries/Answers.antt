@@ -1,5 +1,5 @@
-use Rattle.std.proofs.Common.{◌≡◌, ◌<◌, ◌+◌, ◌*◌, ◌^◌, ℕ, Ok, inl, length, refl, subst, arith}
-use Rattle.gptman_plan.specs.Ends.{IsKnown}
+use Rattle.std.proofs.Common.{◌≡◌, ◌<◌, ◌+◌, ◌*◌, ◌^◌, ℕ, Ok, inl, refl, subst, arith}
+use Rattle.gptman_plan.specs.Ends.{HaveRange}
 use Rattle.gptman_plan.specs.Reading.{IsArrayTold}
 use Rattle.gptman_plan.specs.Rounds.{entries_range}
 use Rattle.gptman_plan.proofs.Asked.{told_or_lack}
@@ -12,9 +12,9 @@ returns-then-header-eq0 c =
     let h = c.args.header.now in
     elim c.then-header-eq0.branch [
       | then-header-eq0-via-then-header-eq0 w ↦
-          record { told = no_array c.args.ends.now.head.now c.args.ends.now.tail.now c.args.ends.now.size c.args.ends.now.apart c.args.sector_size h w.if-header-eq0.true }
+          record { told = no_array c.args.ends.now c.args.sector_size h w.if-header-eq0.true }
       | then-header-eq0-via-else-header-eq0+then-header-ne128 w ↦
-          record { told = wrong_array c.args.ends.now.head.now c.args.ends.now.tail.now c.args.ends.now.size c.args.ends.now.apart c.args.sector_size h w.if-header-eq0.false w.if-header-ne128.true }
+          record { told = wrong_array c.args.ends.now c.args.sector_size h w.if-header-eq0.false w.if-header-ne128.true }
     ]
 
 pub returns-in_err-start : goal.returns-in_err-start
@@ -22,7 +22,7 @@ returns-in_err-start c =
     let h = c.args.header.now in
     record {
       told = rw c.from_residual.ensures
-          (beyond_array c.args.ends.now.head.now c.args.ends.now.tail.now c.args.ends.now.size c.args.ends.now.apart c.args.sector_size h c.if-header-eq0.false c.if-header-ne128.false
+          (beyond_array c.args.ends.now c.args.sector_size h c.if-header-eq0.false c.if-header-ne128.false
           (omega (arith, c.in_err-start.ensures)));
     }
 
@@ -33,7 +33,7 @@ returns-then-passes_end c =
     let start : c.in_ok-start.start ≡ h.partition_entry_lba * c.args.sector_size = c.in_ok-start.ensures.1 in
     let short : c.args.ends.now.size < c.in_ok-start.start + 128 * c.from-len.result = c.if-passes_end.ensures.0 refl in
     record {
-      told = short_array c.args.ends.now.head.now c.args.ends.now.tail.now c.args.ends.now.size c.args.ends.now.apart c.args.sector_size h c.if-header-eq0.false c.if-header-ne128.false
+      told = short_array c.args.ends.now c.args.sector_size h c.if-header-eq0.false c.if-header-ne128.false
           fits (omega (arith, short, start, c.from-len.ensures));
     }
 
@@ -45,8 +45,8 @@ returns c =
     let long : 128 * c.from-len.result ≡ 128 * h.number_of_partition_entries = omega (arith, c.from-len.ensures) in
     let made : ◌≡◌ {A = ℕ × ℕ} (c.in_ok-start.start, 128 * c.from-len.result) (h.partition_entry_lba * a.sector_size, 128 * h.number_of_partition_entries) = λ i. (start i, long i) in
     record {
-      told = told_or_lack a.ends.now.head.now a.ends.now.tail.now a.ends.now.size (λ _. entries_range a.sector_size (Ok h)) (IsArrayTold a.ends.now.head.now a.ends.now.tail.now a.ends.now.size a.sector_size h)
+      told = told_or_lack a.ends.now (λ _. entries_range a.sector_size (Ok h)) (IsArrayTold a.ends.now a.sector_size h)
           c.in_ok-start.start (128 * c.from-len.result) c.lack_of.result (λ b ends. inl made)
-          (λ known. known_array a.ends.now.head.now a.ends.now.tail.now a.ends.now.size c.args.ends.now.apart a.sector_size h (subst (λ (r : ℕ × ℕ). IsKnown (length a.ends.now.head.now) (length a.ends.now.tail.now) a.ends.now.size r) made known))
+          (λ known. known_array a.ends.now a.sector_size h (subst (λ (r : ℕ × ℕ). HaveRange a.ends.now r) made known))
           c.lack_of.ensures.known c.lack_of.ensures.asked;
     }
