@@ -140,7 +140,7 @@ def try_errors(tally, library, program):
 
     def change(edit):
         def call():
-            with gptman.Disk(path, writable=True) as disk:
+            with gptman.Disk(path, writable=True, lock=False) as disk:
                 edit(disk)
         return call
 
@@ -159,7 +159,7 @@ def try_errors(tally, library, program):
             raises(tally, gptman, f"fitting, {what}", fit, change(lambda disk: disk.fit()))
         if write == "DosDisk":
             raises(tally, gptman, f"an MBR, {what}", write, change(lambda disk: disk.write_mbr()))
-            raises(tally, gptman, f"a new table, {what}", write, lambda: gptman.Disk.create(path))
+            raises(tally, gptman, f"a new table, {what}", write, lambda: gptman.Disk.create(path, lock=False))
     put_file(path, table.image_of(table.Table(GUID, 34, SIZE // 512 - 34, 128, {}), SIZE))
     raises(tally, gptman, "one GUID twice", "ConflictPartitionGUID", added((40, 49), (50, 59)))
     raises(tally, gptman, "a last sector before the first", "InvalidPartitionBoundaries", added((49, 40)))
@@ -168,7 +168,7 @@ def try_errors(tally, library, program):
     raises(tally, gptman, "sectors of 520 bytes", "BadArgument", lambda: gptman.Disk(path, 520))
     for size, name in (33 * 512, "Overflow"), (66 * 512, "InvalidPartitionBoundaries"):
         put_file(path, bytes(size))
-        raises(tally, gptman, f"a new table on {size} bytes", name, lambda: gptman.Disk.create(path))
+        raises(tally, gptman, f"a new table on {size} bytes", name, lambda: gptman.Disk.create(path, lock=False))
     loaded = gptman._calls.library
     for number, kind in [*classes_of(gptman).items(), (77, gptman.Error)]:
         gptman._calls.library = Answering(number)
