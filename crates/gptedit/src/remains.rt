@@ -30,14 +30,15 @@ pub fn find_remains(
         Ok(false) => (),
         Err(error) => return Err(refuse_error(alloc, image.name, &error)),
     }
-    match salvage(alloc, disk, Some(look.sector_size)) {
-        Ok(salvaged)
-            if salvaged
-                .copies
-                .iter()
-                .any(|copy| has_entries_at(copy, place)) => { Ok(Remains::OtherEntries) }
-        Ok(_) => Ok(Remains::Unknown),
-        Err(error) => Err(refuse_error(alloc, image.name, &error)),
+    let salvaged = match salvage(alloc, disk, Some(look.sector_size)) {
+        Ok(salvaged) => salvaged,
+        Err(error) => return Err(refuse_error(alloc, image.name, &error)),
+    };
+    let mut copies = salvaged.copies.iter();
+    if copies.any(|copy| has_entries_at(copy, place)) {
+        Ok(Remains::OtherEntries)
+    } else {
+        Ok(Remains::Unknown)
     }
 }
 
