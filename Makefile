@@ -75,7 +75,7 @@ test:
 
 # Has the prover take a right body in the place of each must-fail edit (trials/controls), the rows see wrong bodies that
 # no clause refuses (trials/caught), and the clauses refuse those that the gate leaves out (trials/wrong). Then it makes
-# wrong bodies for each function, and tells which of them still prove and are not on the list of docs/PLANTS.md.
+# wrong bodies for each function, and tells which of them still prove and are not in trials/plants/PROVES.txt.
 plants:
 	@scripts/controls
 	@scripts/caught

@@ -11,7 +11,7 @@ from makers import IMAGE, ONE, SIZE, TWO, entry, make, of, set_field
 
 NAMED = {0: "required", 1: "no-block-io", 2: "legacy-boot", 59: "grow-file-system", 60: "read-only", 63: "no-auto"}
 SFDISK = {0: "RequiredPartition", 1: "NoBlockIOProtocol", 2: "LegacyBIOSBootable"}
-TYPES = os.path.join(os.path.dirname(__file__), "..", "..", "docs", "TYPES.md")
+TYPES = os.path.join(os.path.dirname(__file__), "..", "..", "docs", "generated", "TYPES.md")
 
 
 def words_of(bits):
@@ -104,14 +104,14 @@ def state(tally, program, what, bad):
 
 
 def try_types(tally, program):
-    """The whole list of types: by docs/TYPES.md, by their digits there, and by sfdisk."""
+    """The whole list of types: by docs/generated/TYPES.md, by their digits there, and by sfdisk."""
     with open(TYPES, encoding="utf-8") as file:
-        rows = re.findall(r"^\| `([^`]*)` \| [^|]* \| `([0-9a-f]{32})` \| `([0-9A-F-]{36})` \|", file.read(), re.M)
+        rows = re.findall(r"^\| `([^`]*)` \| `([0-9a-f]{32})` \| `([0-9A-F-]{36})` \|", file.read(), re.M)
     known = {name: text.lower() for name, _, text in rows}
-    tally.equals("the digits of docs/TYPES.md", [], [name for name, digits, text in rows if
+    tally.equals("the digits of docs/generated/TYPES.md", [], [name for name, digits, text in rows if
                                                      table.guid_bytes(text).hex() != digits])
     listed = dict(line.rsplit(None, 1) for line in program.run("types")[1].splitlines()[1:])
-    tally.equals("types, by docs/TYPES.md", known, {name.strip(): guid for name, guid in listed.items()})
+    tally.equals("types, by docs/generated/TYPES.md", known, {name.strip(): guid for name, guid in listed.items()})
     found = program.json("types", "--json")
     tally.equals("types --json", known, {one["name"]: one["guid"].lower() for one in found})
     return try_their_types(tally, known)

@@ -15,7 +15,8 @@ def try_shown_program(tally, _program):
 
 def try_links(tally, _program):
     """Each link of a document leads to a file of the repository, and to a heading of it where it names one."""
-    for path in sorted(glob.glob(f"{TOP}/*.md")) + sorted(glob.glob(f"{TOP}/docs/*.md")):
+    folders = TOP, f"{TOP}/docs", f"{TOP}/docs/generated"
+    for path in [path for folder in folders for path in sorted(glob.glob(f"{folder}/*.md"))]:
         for link in re.findall(r"\]\(([^)\n]*)\)", text_of(path)):
             if not link.startswith("https:"):
                 try_link(tally, path, link)
