@@ -168,8 +168,7 @@ def clause_of(goal, call):
     told = re.search(r"clause-(\w+?)(?:-\d+)?(?:\.\.)?$", goal)
     names = [clause.name for clause in call.ensured()]
     if told:
-        name = OF_TRAITS.get(told[1], told[1])
-        return name if name in names else None
+        return next((name for name in (told[1], OF_TRAITS.get(told[1])) if name in names), None)
     return names[0] if len(names) == 1 and goal.startswith(("returns", "loop")) else None
 
 

@@ -108,10 +108,8 @@ mod tests {
         let outcome = widen(rt.alloc(), &mut disk, Some(512))?;
         assert!(rt; matches!(outcome, Outcome::Unchanged { .. }));
         let table = tables::read(rt.alloc(), &mut disk, 512)?;
-        assert_eq!(rt;
-            told::shown(rt.alloc(), &table)?.as_str(),
-            "512 1/199/2 34..166 align 2048"
-        );
+        let shown = told::shown(rt.alloc(), &table)?;
+        assert!(rt; shown.as_str() == "512 1/199/2 34..166 align 2048");
         Ok(())
     }
 

@@ -65,7 +65,7 @@ mod tests {
         assert!(rt; !needs_writing(rt.alloc(), 512)?);
         let mut printed = Vec::new(rt.alloc());
         let status = show(rt.alloc(), 512, &mut disk, &mut printed)?;
-        assert_eq!(rt; status, 0);
+        assert!(rt; status == 0);
         assert!(rt; printed.starts_with(b"sector 512 form primary "));
         Ok(())
     }

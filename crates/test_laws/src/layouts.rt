@@ -170,7 +170,7 @@ mod tests {
         table: &GPT,
         said: &str,
     ) -> std::result::Result<(), Fail> {
-        assert_eq!(rt; told::used(rt.alloc(), table)?.as_str(), said);
+        assert!(rt; told::used(rt.alloc(), table)?.as_str() == said);
         Ok(())
     }
 

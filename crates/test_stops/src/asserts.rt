@@ -18,12 +18,14 @@ pub(crate) fn got<T, E: Debug>(rt: &impl Abort, outcome: std::result::Result<T, 
 
 /// The call was answered so: with "ok", or with the text of its error.
 pub(crate) fn assert_said<T>(rt: &impl Host, outcome: &Result<T>, said: &str) {
-    assert_eq!(rt; got(rt, told::said(rt.alloc(), outcome)).as_str(), said);
+    let text = got(rt, told::said(rt.alloc(), outcome));
+    assert!(rt; text.as_str() == said, "{text}");
 }
 
 /// The call answered a table of this text, or with an error of this text.
 pub(crate) fn assert_told(rt: &impl Host, outcome: &Result<GPT>, said: &str) {
-    assert_eq!(rt; got(rt, told::told(rt.alloc(), outcome)).as_str(), said);
+    let text = got(rt, told::told(rt.alloc(), outcome));
+    assert!(rt; text.as_str() == said, "{text}");
 }
 
 /// The bytes are read with sectors of 512 as this says.
