@@ -85,12 +85,12 @@ enum {
     GPTMAN_OVERFLOW = 14,
     GPTMAN_OUT_OF_MEMORY = 15,
     GPTMAN_INVALID_PARTITION_ENTRY_SIZE = 16,
-    GPTMAN_LACKS_BYTES = 17,  /* neither end has all of needed->length bytes from needed->from on */
-    GPTMAN_LACKS_ROOM = 18,   /* an array is too short */
-    GPTMAN_BAD_ARGUMENT = 19,
     GPTMAN_OTHER_LENGTH = 100, /* the table was made for a disk of another length: gptman_fit fits it */
     GPTMAN_OTHER_LAYOUT = 101, /* the table, or the copy that is read, has not the layout of docs/FORMAT.md */
     GPTMAN_DOS_DISK = 102,     /* the first sector has partitions of its own */
+    GPTMAN_LACKS_BYTES = 103,  /* neither end has all of needed->length bytes from needed->from on */
+    GPTMAN_LACKS_ROOM = 104,   /* an array is too short */
+    GPTMAN_BAD_ARGUMENT = 105,
 
     /* Of gptman_fd.h alone: a call asked for bytes or room that it had, for bytes that no disk of that size has, or too
      * often. None is known to. */
@@ -106,9 +106,11 @@ static inline const char *gptman_fault_name(uint32_t answer) {
         "Ok", "Io", "InvalidSignature", "InvalidRevision", "InvalidHeaderSize", "InvalidChecksum",
         "InvalidPartitionEntryArrayChecksum", "ReadError", "NoSpaceLeft", "ConflictPartitionGUID",
         "InvalidPartitionBoundaries", "InvalidPartitionNumber", "UnusedPartition", "PartitionNotFound", "Overflow",
-        "OutOfMemory", "InvalidPartitionEntrySize", "LacksBytes", "LacksRoom", "BadArgument",
+        "OutOfMemory", "InvalidPartitionEntrySize",
     };
-    static const char *const more[] = {"OtherLength", "OtherLayout", "DosDisk"};
+    static const char *const more[] = {
+        "OtherLength", "OtherLayout", "DosDisk", "LacksBytes", "LacksRoom", "BadArgument",
+    };
     if (answer >= 100 && answer - 100 < sizeof more / sizeof *more) return more[answer - 100];
     if (answer == GPTMAN_FD_ASKS_AGAIN) return "AsksAgain";
     return answer < sizeof names / sizeof *names ? names[answer] : "Unknown";

@@ -123,24 +123,6 @@ class InvalidPartitionEntrySize(Error):
     number = 16
 
 
-class LacksBytes(Error):
-    """The table needs more than 256 MiB at one end of the disk."""
-
-    number = 17
-
-
-class LacksRoom(Error):
-    """The table has more than 1,048,576 entries."""
-
-    number = 18
-
-
-class BadArgument(Error):
-    """The sector size is not 512, 1024, 2048 or 4096 bytes, or another argument is invalid."""
-
-    number = 19
-
-
 class OtherLength(Error):
     """The table was made for a disk of another length; `Disk.fit` fits it."""
 
@@ -157,6 +139,24 @@ class DosDisk(Error):
     """The first sector is an MBR with partitions of its own; with `over_dos=True` it is overwritten."""
 
     number = 102
+
+
+class LacksBytes(Error):
+    """The table needs more than 256 MiB at one end of the disk."""
+
+    number = 103
+
+
+class LacksRoom(Error):
+    """The table has more than 1,048,576 entries."""
+
+    number = 104
+
+
+class BadArgument(Error):
+    """The sector size is not 512, 1024, 2048 or 4096 bytes, or another argument is invalid."""
+
+    number = 105
 
 
 class AsksAgain(Error):

@@ -485,7 +485,7 @@ def try_names(tally, library, program):
         size = random_.choice([len(wanted), len(wanted) + 1, 109])
         answer = calls.gptman_get_name(ctypes.byref(partition), room, ctypes.c_size_t(size))
         if size == len(wanted):
-            tally.equals("a name with no room for its zero", (18, b"x" * 120), (answer, room.raw))
+            tally.equals("a name with no room for its zero", (104, b"x" * 120), (answer, room.raw))
         else:
             tally.equals("the text of a name", (0, wanted + b"\0" + b"x" * (119 - len(wanted))), (answer, room.raw))
         text = "".join(random_.choice(["a", "ö", "中", "🚀"]) for _ in range(random_.randrange(40)))
@@ -494,11 +494,11 @@ def try_names(tally, library, program):
         if len(units) <= 72:
             tally.equals("the units of a text", (0, units.ljust(72, b"\0")), (answer, bytes(partition.name)))
         else:
-            tally.equals("a name of more than 36 units", (19, before), (answer, bytes(partition)))
+            tally.equals("a name of more than 36 units", (105, before), (answer, bytes(partition)))
     before = bytes(partition)
     for raw in b"\xff", b"a\0", b"\xed\xa0\x80", b"\xc3", b"\0":
         answer = calls.gptman_set_name(ctypes.byref(partition), raw, ctypes.c_size_t(len(raw)))
-        tally.equals(f"bytes that are no name: {raw}", (19, before), (answer, bytes(partition)))
+        tally.equals(f"bytes that are no name: {raw}", (105, before), (answer, bytes(partition)))
 
 
 def try_refusals(tally, library, program):
@@ -676,16 +676,16 @@ def try_flags(tally, library, program):
     used = bytes([0x80]) + bytes(3) + bytes([0x83]) + bytes(3) + (1).to_bytes(4, "little") + (9).to_bytes(4, "little")
     data = good[:446] + bytes(48) + used + b"\x55\xaa" + good[512:]
     head, tail, needed = data[:34 * 512], data[-33 * 512:], gptman._calls.Needed()
-    for flags, answer in (0, 102), (1, 18), (2, 19), (1 << 31, 19):
+    for flags, answer in (0, 102), (1, 104), (2, 105), (1 << 31, 105):
         tally.equals(f"fitting a disk of DOS with the flags {flags}", answer, gptman._calls.library.gptman_fit(
             head, len(head), tail, len(tail), SIZE, 512, None, 0, None, 0, ctypes.byref(needed), flags))
     for what, first, last, size, answer in (
             ("of DOS", data[:512], b"", SIZE, 102), ("of DOS, all of it at its end", b"", data, SIZE, 102),
             ("with a protective MBR", good[:512], b"", SIZE, 0), ("of 511 bytes", data[:511], b"", 511, 0),
-            ("of which 511 bytes are known", data[:511], b"", SIZE, 17),
-            ("shorter than its ends", data[:512], data[:1], 512, 19)):
+            ("of which 511 bytes are known", data[:511], b"", SIZE, 103),
+            ("shorter than its ends", data[:512], data[:1], 512, 105)):
         needed = gptman._calls.Needed()
-        tally.equals(f"a disk {what}", (answer, 0, 512 if answer == 17 else 0), (
+        tally.equals(f"a disk {what}", (answer, 0, 512 if answer == 103 else 0), (
             gptman._calls.library.gptman_dos(first, len(first), last, len(last), size, ctypes.byref(needed)),
             needed.from_, needed.length))
 

@@ -524,7 +524,7 @@ class Asking:
         needed.steps = needed.bytes = max(self.number if room > 0 else 0, 0)
         if hasattr(getattr(words[6], "_obj", None), "entry_count"):
             words[6]._obj.entry_count = 128 + needed.steps
-        return 18 if room else 17
+        return 104 if room else 103
 
 
 def try_asking(tally, library, program):

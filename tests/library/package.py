@@ -172,7 +172,7 @@ def try_errors(tally, library, program):
     loaded = gptman._calls.library
     for number, kind in [*classes_of(gptman).items(), (77, gptman.Error)]:
         gptman._calls.library = Answering(number)
-        # An answer of 17 names bytes that the ends have.
+        # An answer of 103 names bytes that the ends have.
         name = "AsksAgain" if kind is gptman.LacksBytes else kind.__name__
         raises(tally, gptman, f"an answer of {number}", name, lambda: gptman.check(path))
     gptman._calls.library = loaded

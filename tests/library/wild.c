@@ -82,12 +82,13 @@ static long done[CALLS];
 
 /* The answers from 100 on have the bits from 32 on. */
 #define BIT(n) (1ull << ((n) < 100 ? (n) : (n) - 68))
-enum { READS = BIT(2) | BIT(7) | BIT(17) | BIT(19), WRITES = BIT(8) | BIT(9) | BIT(10) | BIT(14) | BIT(18) };
+#define READS (BIT(2) | BIT(7) | BIT(103) | BIT(105))
+#define WRITES (BIT(8) | BIT(9) | BIT(10) | BIT(14) | BIT(104))
 #define PLANS (WRITES | BIT(101) | BIT(102))
 
 /* Counts a call, whose answer is 0 or one of these. */
 static void answered(int call, uint32_t answer, uint64_t others) {
-    if (answer != 0 && (answer > 119 || (answer > 19 && answer < 100) || (others & BIT(answer)) == 0)) {
+    if (answer != 0 && (answer > 119 || (answer > 16 && answer < 100) || (others & BIT(answer)) == 0)) {
         fprintf(stderr, "%s answers %u\n", names[call], (unsigned)answer);
         exit(4);
     }
@@ -122,8 +123,8 @@ typedef struct arguments {
 static void planned(const arguments *a, int call, uint32_t answer, uint64_t others) {
     answered(call, answer, others);
     expect(call, answer != 0 || (a->needed.steps <= a->step_count && a->needed.bytes <= a->byte_count));
-    expect(call, answer != 17 || (a->needed.from <= a->size && a->needed.length <= a->size - a->needed.from));
-    expect(call, answer != 18 || a->needed.steps > a->step_count || a->needed.bytes > a->byte_count);
+    expect(call, answer != 103 || (a->needed.from <= a->size && a->needed.length <= a->size - a->needed.from));
+    expect(call, answer != 104 || a->needed.steps > a->step_count || a->needed.bytes > a->byte_count);
 }
 
 /* Another entry, mostly one that is right. */
@@ -142,30 +143,30 @@ static void call_plans(arguments *a) {
     gptman_table table = a->table;
     table.entry_count = (uint32_t)mostly(1 + draw(200), draw_length());
     uint64_t no_memory = table.entry_count >> 20 != 0 ? BIT(15) : 0; /* some hundred MB of entries on a large disk */
-    planned(a, NEW, gptman_new(ENDS(a), &table, PLAN(a)), BIT(17) | BIT(19) | PLANS | no_memory);
+    planned(a, NEW, gptman_new(ENDS(a), &table, PLAN(a)), BIT(103) | BIT(105) | PLANS | no_memory);
     planned(a, FIT, gptman_fit(ENDS(a), PLAN(a)), READS | PLANS);
 }
 
 static void call_others(arguments *a) {
     gptman_copies copies = {77, 77, 77};
     uint32_t looked = gptman_check(ENDS(a), &copies, &a->needed);
-    answered(CHECK, looked, BIT(17) | BIT(19));
+    answered(CHECK, looked, BIT(103) | BIT(105));
     expect(CHECK, looked == 0 || (copies.primary_fault == 77 && copies.backup_fault == 77 && copies.are_same == 77));
     expect(CHECK, looked != 0 || (copies.primary_fault <= 16 && copies.backup_fault <= 16 && copies.are_same <= 1));
     uint32_t dos = gptman_dos(DISK(a), &a->needed);
-    answered(DOS, dos, BIT(17) | BIT(19) | BIT(102));
-    expect(DOS, dos != 17 || (a->needed.from == 0 && a->needed.length == 512 && a->size >= 512));
+    answered(DOS, dos, BIT(103) | BIT(105) | BIT(102));
+    expect(DOS, dos != 103 || (a->needed.from == 0 && a->needed.length == 512 && a->size >= 512));
     size_t count = a->byte_count < 130 ? a->byte_count : mostly(a->byte_count, draw(130));
     uint8_t *last = a->bytes.at + (a->byte_count - count);
     uint32_t mbr = gptman_mbr(a->size, a->sector, (uint32_t)mostly(draw(2), 2), last, count);
-    answered(MBR, mbr, BIT(8) | BIT(14) | BIT(18) | BIT(19));
-    expect(MBR, (mbr != 0 || count >= GPTMAN_MBR_LENGTH) && (mbr != 18 || count < GPTMAN_MBR_LENGTH));
+    answered(MBR, mbr, BIT(8) | BIT(14) | BIT(104) | BIT(105));
+    expect(MBR, (mbr != 0 || count >= GPTMAN_MBR_LENGTH) && (mbr != 104 || count < GPTMAN_MBR_LENGTH));
     uint64_t lba = 7;
     a->table.align = mostly(1 + draw(8), draw_length());
     uint64_t size = mostly(draw(20), draw_length());
     uint32_t choice = (uint32_t)mostly(1 + draw(3), draw(9));
     uint32_t place = gptman_place(&a->table, ENTRIES(a), size, choice, &lba);
-    answered(PLACE, place, BIT(8) | BIT(19));
+    answered(PLACE, place, BIT(8) | BIT(105));
     expect(PLACE, place == 0 || lba == 7);
 }
 
@@ -176,10 +177,10 @@ static void call_names(arguments *a) {
     for (int i = 0; i < 36; i++) last->name[i] = (uint16_t)(draw(4) == 0 ? 0xd800 + draw(2048) : draw(65536));
     uint8_t *text = a->bytes.at;
     uint32_t told = gptman_get_name(last, (uint8_t *)at(a->bytes, a->byte_count), a->byte_count);
-    answered(GET_NAME, told, BIT(18));
+    answered(GET_NAME, told, BIT(104));
     expect(GET_NAME, told == 0 ? memchr(text, 0, a->byte_count) != NULL : a->byte_count < GPTMAN_NAME_SIZE);
     size_t length = told == 0 ? mostly(strlen((const char *)text), draw(a->byte_count + 1)) : draw(a->byte_count + 1);
-    answered(SET_NAME, gptman_set_name(last, (const uint8_t *)at(a->bytes, length), length), BIT(19));
+    answered(SET_NAME, gptman_set_name(last, (const uint8_t *)at(a->bytes, length), length), BIT(105));
 }
 
 /* Turns some bits of an end. */
@@ -208,9 +209,9 @@ static void call_at_random(void) {
     memcpy(a.head.at, image, a.first), memcpy(a.tail.at, image + image_size - a.last, a.last);
     turn(a.head.at + (a.first > 512 ? 512 : 0), a.first > 512 ? a.first - 512 : 0), turn(a.tail.at, a.last);
     uint32_t read = gptman_read(ENDS(&a), &a.table, ENTRIES(&a), &a.needed);
-    answered(READ, read, READS | BIT(18));
+    answered(READ, read, READS | BIT(104));
     expect(READ, read != 0 || a.table.entry_count <= a.partition_count);
-    expect(READ, read != 17 || (a.needed.from <= a.size && a.needed.length <= a.size - a.needed.from));
+    expect(READ, read != 103 || (a.needed.from <= a.size && a.needed.length <= a.size - a.needed.from));
     call_plans(&a), call_others(&a), call_names(&a);
     give(a.head, a.first), give(a.tail, a.last), give(a.bytes, a.byte_count);
     give(a.partitions, a.partition_count * sizeof(gptman_partition)), give(a.steps, a.step_count * sizeof(gptman_step));

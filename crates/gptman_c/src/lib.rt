@@ -51,7 +51,7 @@ use std::alloc::Global;
 ///
 /// `head` has the first bytes of the disk and `tail` the last ones, as many as the caller likes; they do not
 /// overlap. `disk_size` and `sector_size` are in bytes. What is answered is so whatever the disk has between
-/// the two ends: where that decides, 17 is answered. Then read on, and call again with longer ends.
+/// the two ends: where that decides, 103 is answered. Then read on, and call again with longer ends.
 ///
 /// 0: `table` is what the disk holds, and its entries, the unused ones included, stand in the first
 /// `table.entry_count` places of `partitions`. What comes behind them means nothing.
@@ -60,11 +60,11 @@ use std::alloc::Global;
 /// signature or the disk is shorter than a sector, and 7, where the copies have other faults; and 15, where
 /// there is no memory, which tells nothing of the disk.
 ///
-/// 17: neither `head` nor `tail` has all of the `needed.length` bytes of the disk from byte `needed.from` on.
+/// 103: neither `head` nor `tail` has all of the `needed.length` bytes of the disk from byte `needed.from` on.
 ///
-/// 18: `partitions` is too short for the entries of the table, which are `table.entry_count`.
+/// 104: `partitions` is too short for the entries of the table, which are `table.entry_count`.
 ///
-/// 19: `sector_size` is 0, or the two ends together are longer than the disk.
+/// 105: `sector_size` is 0, or the two ends together are longer than the disk.
 #[unsafe(no_mangle)]
 pub extern "C" fn gptman_read(
     alloc: Global,
@@ -81,23 +81,23 @@ pub extern "C" fn gptman_read(
     ensures refused { 0 < result → result ≤ 16 → result ≢ 15 → (b : List ℕ)
         → HasEnds b head.now tail.now disk_size → IsRefused (reading_of b sector_size) result }
     ensures faults { 0 < result → result ≤ 16 → (result ≡ 2) ⊎ ((result ≡ 7) ⊎ (result ≡ 15)) }
-    ensures lacks { result ≡ 17
+    ensures lacks { result ≡ 103
         → ¬ IsKnown (length head.now) (length tail.now) disk_size (needed.new.from, needed.new.length) }
-    ensures within { result ≡ 17 → needed.new.from + needed.new.length ≤ disk_size }
-    ensures whole { result ≡ 17 → length head.now + length tail.now < disk_size }
-    ensures asked { result ≡ 17 → (b : List ℕ) → HasEnds b head.now tail.now disk_size
+    ensures within { result ≡ 103 → needed.new.from + needed.new.length ≤ disk_size }
+    ensures whole { result ≡ 103 → length head.now + length tail.now < disk_size }
+    ensures asked { result ≡ 103 → (b : List ℕ) → HasEnds b head.now tail.now disk_size
         → IsAmong (needed.new.from, needed.new.length) (reading_ranges b sector_size) }
-    ensures room { result ≡ 18 → length partitions.old < table.new.entry_count }
-    ensures count { result ≡ 18 → (b : List ℕ) → HasEnds b head.now tail.now disk_size
+    ensures room { result ≡ 104 → length partitions.old < table.new.entry_count }
+    ensures count { result ≡ 104 → (b : List ℕ) → HasEnds b head.now tail.now disk_size
         → HasCount (reading_of b sector_size) table.new.entry_count }
-    ensures bad { result ≡ 19
+    ensures bad { result ≡ 105
         → (sector_size ≡ 0) ⊎ (disk_size < length head.now + length tail.now) }
-    ensures most { result ≤ 19 }
+    ensures most { (result ≤ 16) ⊎ ((103 ≤ result) × (result ≤ 105)) }
 
     // What is not told stays as it was.
-    ensures table { result ≢ 0 → result ≢ 18 → table.new ≡ table.old }
+    ensures table { result ≢ 0 → result ≢ 104 → table.new ≡ table.old }
     ensures partitions { result ≢ 0 → partitions.new ≡ partitions.old }
-    ensures needed { result ≢ 17 → needed.new ≡ needed.old }
+    ensures needed { result ≢ 103 → needed.new ≡ needed.old }
 {
     if sector_size == 0 {
         return BAD_ARGUMENT;
@@ -130,9 +130,9 @@ pub extern "C" fn gptman_read(
 ///
 /// 15: there is no memory. This says nothing of the disk.
 ///
-/// 17: neither `head` nor `tail` has all of the `needed.length` bytes of the disk from byte `needed.from` on.
+/// 103: neither `head` nor `tail` has all of the `needed.length` bytes of the disk from byte `needed.from` on.
 ///
-/// 19: `sector_size` is 0, or the two ends together are longer than the disk.
+/// 105: `sector_size` is 0, or the two ends together are longer than the disk.
 #[unsafe(no_mangle)]
 pub extern "C" fn gptman_check(
     alloc: Global,
@@ -145,19 +145,19 @@ pub extern "C" fn gptman_check(
 ) -> u32
     ensures check { result ≡ 0 → (b : List ℕ) → HasEnds b head.now tail.now disk_size
         → IsCheckTold b sector_size check.new }
-    ensures lacks { result ≡ 17
+    ensures lacks { result ≡ 103
         → ¬ IsKnown (length head.now) (length tail.now) disk_size (needed.new.from, needed.new.length) }
-    ensures within { result ≡ 17 → needed.new.from + needed.new.length ≤ disk_size }
-    ensures whole { result ≡ 17 → length head.now + length tail.now < disk_size }
-    ensures asked { result ≡ 17 → (b : List ℕ) → HasEnds b head.now tail.now disk_size
+    ensures within { result ≡ 103 → needed.new.from + needed.new.length ≤ disk_size }
+    ensures whole { result ≡ 103 → length head.now + length tail.now < disk_size }
+    ensures asked { result ≡ 103 → (b : List ℕ) → HasEnds b head.now tail.now disk_size
         → IsAmong (needed.new.from, needed.new.length) (reading_ranges b sector_size) }
-    ensures bad { result ≡ 19
+    ensures bad { result ≡ 105
         → (sector_size ≡ 0) ⊎ (disk_size < length head.now + length tail.now) }
-    ensures answers { (result ≡ 0) ⊎ ((result ≡ 15) ⊎ ((result ≡ 17) ⊎ (result ≡ 19))) }
+    ensures answers { (result ≡ 0) ⊎ ((result ≡ 15) ⊎ ((result ≡ 103) ⊎ (result ≡ 105))) }
 
     // What is not told stays as it was.
     ensures kept { result ≢ 0 → check.new ≡ check.old }
-    ensures needed { result ≢ 17 → needed.new ≡ needed.old }
+    ensures needed { result ≢ 103 → needed.new ≡ needed.old }
 {
     if sector_size == 0 {
         return BAD_ARGUMENT;
@@ -195,14 +195,6 @@ pub extern "C" fn gptman_check(
 /// ends before it starts, two share a sector, or one lies outside of the usable sectors; 8 or 14, a copy would
 /// end past the disk; 15, there is no memory.
 ///
-/// 17: neither `head` nor `tail` has all of the `needed.length` bytes of the disk from byte `needed.from` on,
-/// which have to be known for a plan.
-///
-/// 18: `steps` has no room for the `needed.steps` steps of the plan, or `bytes` none for its `needed.bytes` bytes.
-///
-/// 19: `sector_size` is 0, the two ends together are longer than the disk, `partitions` has not as many
-/// entries as the table, or the table has none, or `flags` is above 1.
-///
 /// 100: the table was made for a disk of another length: its headers are not those of sector 1 and of the last
 /// whole sector. `gptman_fit` fits it.
 ///
@@ -212,6 +204,14 @@ pub extern "C" fn gptman_check(
 /// 102: `flags` is 0, and the first 512 bytes of the disk are an MBR with partitions of its own: signed, with a boot
 /// mark in each of its four entries, one of them used, and none of a protective MBR. Where `flags` is 1, these bytes
 /// are not looked at.
+///
+/// 103: neither `head` nor `tail` has all of the `needed.length` bytes of the disk from byte `needed.from` on,
+/// which have to be known for a plan.
+///
+/// 104: `steps` has no room for the `needed.steps` steps of the plan, or `bytes` none for its `needed.bytes` bytes.
+///
+/// 105: `sector_size` is 0, the two ends together are longer than the disk, `partitions` has not as many
+/// entries as the table, or the table has none, or `flags` is above 1.
 #[unsafe(no_mangle)]
 pub extern "C" fn gptman_write(
     alloc: Global,
@@ -234,17 +234,17 @@ pub extern "C" fn gptman_write(
     ensures refused { 0 < result → result ≤ 16 → result ≢ 15 → (b : List ℕ)
         → HasEnds b head.now tail.now disk_size
         → IsNumberOf (RefusesPlan b sector_size partitions.now) result }
-    ensures lacks { result ≡ 17
+    ensures lacks { result ≡ 103
         → ¬ IsKnown (length head.now) (length tail.now) disk_size (needed.new.from, needed.new.length) }
-    ensures within { result ≡ 17 → needed.new.from + needed.new.length ≤ disk_size }
-    ensures whole { result ≡ 17 → length head.now + length tail.now < disk_size }
-    ensures asked { result ≡ 17 → (b : List ℕ) → HasEnds b head.now tail.now disk_size
+    ensures within { result ≡ 103 → needed.new.from + needed.new.length ≤ disk_size }
+    ensures whole { result ≡ 103 → length head.now + length tail.now < disk_size }
+    ensures asked { result ≡ 103 → (b : List ℕ) → HasEnds b head.now tail.now disk_size
         → IsAmong (needed.new.from, needed.new.length) (first_sector ∷ plan_ranges b sector_size) }
-    ensures room { result ≡ 18
+    ensures room { result ≡ 104
         → (length steps.old < needed.new.steps) ⊎ (length bytes.old < needed.new.bytes) }
-    ensures suffices { result ≡ 18 → HasPlan (λ acts. (b : List ℕ) → HasEnds b head.now tail.now disk_size
+    ensures suffices { result ≡ 104 → HasPlan (λ acts. (b : List ℕ) → HasEnds b head.now tail.now disk_size
         → IsPlan b sector_size partitions.now acts) needed.new }
-    ensures bad { result ≡ 19 → AreNoEnds head.now tail.now disk_size sector_size ⊎ ((1 < flags)
+    ensures bad { result ≡ 105 → AreNoEnds head.now tail.now disk_size sector_size ⊎ ((1 < flags)
         ⊎ ((b : List ℕ) → HasEnds b head.now tail.now disk_size → IsMiscounted b sector_size partitions.now)) }
     ensures other_length { result ≡ 100 → (b : List ℕ) → HasEnds b head.now tail.now disk_size
         → IsOfOtherLength b sector_size }
@@ -254,12 +254,12 @@ pub extern "C" fn gptman_write(
         → IsDosDisk b) }
     ensures no_dos_disk { result ≡ 0 → flags ≡ 0 → (b : List ℕ) → HasEnds b head.now tail.now disk_size
         → ¬ IsDosDisk b }
-    ensures most { (result ≤ 19) ⊎ ((result ≡ 100) ⊎ ((result ≡ 101) ⊎ (result ≡ 102))) }
+    ensures most { (result ≤ 16) ⊎ ((100 ≤ result) × (result ≤ 105)) }
 
     // What is not told stays as it was.
     ensures steps { result ≢ 0 → steps.new ≡ steps.old }
     ensures bytes { result ≢ 0 → bytes.new ≡ bytes.old }
-    ensures needed { result ≢ 0 → result ≢ 17 → result ≢ 18 → needed.new ≡ needed.old }
+    ensures needed { result ≢ 0 → result ≢ 103 → result ≢ 104 → needed.new ≡ needed.old }
 {
     if sector_size == 0 || flags > OVER_DOS {
         return BAD_ARGUMENT;
@@ -286,8 +286,8 @@ pub extern "C" fn gptman_write(
 /// the steps leaves that one or the new one, where its primary copy lies clear of the new backup copy.
 ///
 /// The answers are those of `gptman_write` but 100, and nothing is read; 14 and 10 are a disk of too few sectors for
-/// two copies, 19 also a table of no entries, and a disk shorter than a sector, and 101 a table that would not have the
-/// stated layout, as with sectors that are too short for a header.
+/// two copies, 105 also a table of no entries, and a disk shorter than a sector, and 101 a table that would not have
+/// the stated layout, as with sectors that are too short for a header.
 #[unsafe(no_mangle)]
 pub extern "C" fn gptman_new(
     alloc: Global,
@@ -310,18 +310,18 @@ pub extern "C" fn gptman_new(
     ensures kinds { result ≡ 0 → All IsWriteOrSync (take needed.new.steps steps.new) }
     ensures refused { 0 < result → result ≤ 16 → result ≢ 15
         → IsNumberOf (RefusesNew table.now.entry_count table.now.disk_guid sector_size disk_size) result }
-    ensures lacks { result ≡ 17
+    ensures lacks { result ≡ 103
         → ¬ IsKnown (length head.now) (length tail.now) disk_size (needed.new.from, needed.new.length) }
-    ensures within { result ≡ 17 → needed.new.from + needed.new.length ≤ disk_size }
-    ensures whole { result ≡ 17 → length head.now + length tail.now < disk_size }
-    ensures asked { result ≡ 17 → IsAmong (needed.new.from, needed.new.length) (first_sector ∷ value_ranges
+    ensures within { result ≡ 103 → needed.new.from + needed.new.length ≤ disk_size }
+    ensures whole { result ≡ 103 → length head.now + length tail.now < disk_size }
+    ensures asked { result ≡ 103 → IsAmong (needed.new.from, needed.new.length) (first_sector ∷ value_ranges
         (new_table_of table.now.entry_count table.now.disk_guid sector_size disk_size) disk_size) }
-    ensures room { result ≡ 18
+    ensures room { result ≡ 104
         → (length steps.old < needed.new.steps) ⊎ (length bytes.old < needed.new.bytes) }
-    ensures suffices { result ≡ 18 → HasPlan (λ acts. (b : List ℕ) → HasEnds b head.now tail.now disk_size
+    ensures suffices { result ≡ 104 → HasPlan (λ acts. (b : List ℕ) → HasEnds b head.now tail.now disk_size
         → IsNewPlan b (new_table_of table.now.entry_count table.now.disk_guid sector_size disk_size) acts)
         needed.new }
-    ensures bad { result ≡ 19 → AreNoEnds head.now tail.now disk_size sector_size ⊎ ((1 < flags)
+    ensures bad { result ≡ 105 → AreNoEnds head.now tail.now disk_size sector_size ⊎ ((1 < flags)
         ⊎ ((table.now.entry_count ≡ 0) ⊎ (disk_size < sector_size))) }
     ensures other_layout { result ≡ 101
         → ¬ HasLayout (new_table_of table.now.entry_count table.now.disk_guid sector_size disk_size) disk_size }
@@ -329,12 +329,12 @@ pub extern "C" fn gptman_new(
         → IsDosDisk b) }
     ensures no_dos_disk { result ≡ 0 → flags ≡ 0 → (b : List ℕ) → HasEnds b head.now tail.now disk_size
         → ¬ IsDosDisk b }
-    ensures most { (result ≤ 19) ⊎ ((result ≡ 101) ⊎ (result ≡ 102)) }
+    ensures most { (result ≤ 16) ⊎ ((101 ≤ result) × (result ≤ 105)) }
 
     // What is not told stays as it was.
     ensures steps { result ≢ 0 → steps.new ≡ steps.old }
     ensures bytes { result ≢ 0 → bytes.new ≡ bytes.old }
-    ensures needed { result ≢ 0 → result ≢ 17 → result ≢ 18 → needed.new ≡ needed.old }
+    ensures needed { result ≢ 0 → result ≢ 103 → result ≢ 104 → needed.new ≡ needed.old }
 {
     if sector_size == 0 || flags > OVER_DOS {
         return BAD_ARGUMENT;
@@ -376,16 +376,16 @@ pub extern "C" fn gptman_new(
 /// a disk that has become too short; 8 or 14, the disk has too few sectors for two copies, or the table has no
 /// entries; 15, there is no memory.
 ///
-/// 17: neither `head` nor `tail` has all of the `needed.length` bytes of the disk from byte `needed.from` on,
-/// which have to be known for a plan.
-///
-/// 18: `steps` has no room for the `needed.steps` steps of the plan, or `bytes` none for its `needed.bytes` bytes.
-///
-/// 19: `sector_size` is 0, the two ends together are longer than the disk, or `flags` is above 1.
-///
 /// 101: the copy that is read is not in the form of its place, or the fitted table has not the stated layout.
 ///
 /// 102: as of `gptman_write`.
+///
+/// 103: neither `head` nor `tail` has all of the `needed.length` bytes of the disk from byte `needed.from` on,
+/// which have to be known for a plan.
+///
+/// 104: `steps` has no room for the `needed.steps` steps of the plan, or `bytes` none for its `needed.bytes` bytes.
+///
+/// 105: `sector_size` is 0, the two ends together are longer than the disk, or `flags` is above 1.
 #[unsafe(no_mangle)]
 pub extern "C" fn gptman_fit(
     alloc: Global,
@@ -406,29 +406,29 @@ pub extern "C" fn gptman_fit(
     ensures kinds { result ≡ 0 → All IsWriteOrSync (take needed.new.steps steps.new) }
     ensures refused { 0 < result → result ≤ 16 → result ≢ 15 → (b : List ℕ)
         → HasEnds b head.now tail.now disk_size → IsNumberOf (RefusesFit b sector_size) result }
-    ensures lacks { result ≡ 17
+    ensures lacks { result ≡ 103
         → ¬ IsKnown (length head.now) (length tail.now) disk_size (needed.new.from, needed.new.length) }
-    ensures within { result ≡ 17 → needed.new.from + needed.new.length ≤ disk_size }
-    ensures whole { result ≡ 17 → length head.now + length tail.now < disk_size }
-    ensures asked { result ≡ 17 → (b : List ℕ) → HasEnds b head.now tail.now disk_size
+    ensures within { result ≡ 103 → needed.new.from + needed.new.length ≤ disk_size }
+    ensures whole { result ≡ 103 → length head.now + length tail.now < disk_size }
+    ensures asked { result ≡ 103 → (b : List ℕ) → HasEnds b head.now tail.now disk_size
         → IsAmong (needed.new.from, needed.new.length) (first_sector ∷ fit_ranges b sector_size) }
-    ensures room { result ≡ 18
+    ensures room { result ≡ 104
         → (length steps.old < needed.new.steps) ⊎ (length bytes.old < needed.new.bytes) }
-    ensures suffices { result ≡ 18 → HasPlan (λ acts. (b : List ℕ) → HasEnds b head.now tail.now disk_size
+    ensures suffices { result ≡ 104 → HasPlan (λ acts. (b : List ℕ) → HasEnds b head.now tail.now disk_size
         → IsFitPlan b sector_size acts) needed.new }
-    ensures bad { result ≡ 19 → AreNoEnds head.now tail.now disk_size sector_size ⊎ (1 < flags) }
+    ensures bad { result ≡ 105 → AreNoEnds head.now tail.now disk_size sector_size ⊎ (1 < flags) }
     ensures other_layout { result ≡ 101 → (b : List ℕ) → HasEnds b head.now tail.now disk_size
         → IsNotStatedToFit b sector_size }
     ensures dos_disk { result ≡ 102 → (flags ≡ 0) × ((b : List ℕ) → HasEnds b head.now tail.now disk_size
         → IsDosDisk b) }
     ensures no_dos_disk { result ≡ 0 → flags ≡ 0 → (b : List ℕ) → HasEnds b head.now tail.now disk_size
         → ¬ IsDosDisk b }
-    ensures most { (result ≤ 19) ⊎ ((result ≡ 101) ⊎ (result ≡ 102)) }
+    ensures most { (result ≤ 16) ⊎ ((101 ≤ result) × (result ≤ 105)) }
 
     // What is not told stays as it was.
     ensures steps { result ≢ 0 → steps.new ≡ steps.old }
     ensures bytes { result ≢ 0 → bytes.new ≡ bytes.old }
-    ensures needed { result ≢ 0 → result ≢ 17 → result ≢ 18 → needed.new ≡ needed.old }
+    ensures needed { result ≢ 0 → result ≢ 103 → result ≢ 104 → needed.new ≡ needed.old }
 {
     if sector_size == 0 || flags > OVER_DOS {
         return BAD_ARGUMENT;
@@ -455,13 +455,13 @@ fn refuse_dos(ends: &Ends, flags: u32, needed: &mut Needed) -> u32
     requires flags { flags ≤ 1 }
     ensures none { result ≡ 0 → flags ≡ 0 → OfEvery ends.now (λ b. ¬ IsDosDisk b) }
     ensures dos_disk { result ≡ 102 → (flags ≡ 0) × OfEvery ends.now IsDosDisk }
-    ensures lacks { result ≡ 17
+    ensures lacks { result ≡ 103
         → ¬ HaveRange ends.now (needed.new.from, needed.new.length) }
-    ensures within { result ≡ 17 → needed.new.from + needed.new.length ≤ ends.now.size }
-    ensures whole { result ≡ 17 → length ends.now.head.now + length ends.now.tail.now < ends.now.size }
-    ensures asked { result ≡ 17 → IsAmong (needed.new.from, needed.new.length) (first_sector ∷ []) }
-    ensures answers { (result ≡ 0) ⊎ ((result ≡ 17) ⊎ (result ≡ 102)) }
-    ensures needed { result ≢ 17 → needed.new ≡ needed.old }
+    ensures within { result ≡ 103 → needed.new.from + needed.new.length ≤ ends.now.size }
+    ensures whole { result ≡ 103 → length ends.now.head.now + length ends.now.tail.now < ends.now.size }
+    ensures asked { result ≡ 103 → IsAmong (needed.new.from, needed.new.length) (first_sector ∷ []) }
+    ensures answers { (result ≡ 0) ⊎ ((result ≡ 103) ⊎ (result ≡ 102)) }
+    ensures needed { result ≢ 103 → needed.new ≡ needed.old }
 {
     if flags == OVER_DOS {
         return 0;
@@ -505,9 +505,9 @@ fn give(plan: &Record, steps: &mut [Step], bytes: &mut [u8], needed: &mut Needed
     ensures kinds { result ≡ 0 → All IsWriteOrSync (take needed.new.steps steps.new) }
     ensures count { needed.new.steps ≡ length plan.now.steps.items }
     ensures filled { needed.new.bytes ≡ length plan.now.bytes.items }
-    ensures room { result ≡ 18
+    ensures room { result ≡ 104
         → (length steps.old < needed.new.steps) ⊎ (length bytes.old < needed.new.bytes) }
-    ensures either { (result ≡ 0) ⊎ (result ≡ 18) }
+    ensures either { (result ≡ 0) ⊎ (result ≡ 104) }
     ensures steps { result ≢ 0 → steps.new ≡ steps.old }
     ensures bytes { result ≢ 0 → bytes.new ≡ bytes.old }
 {
@@ -527,23 +527,23 @@ fn give(plan: &Record, steps: &mut [Step], bytes: &mut [u8], needed: &mut Needed
 ///
 /// 0: they are not, or the disk is shorter. 102: they are.
 ///
-/// 17: neither `head` nor `tail` has all of the `needed.length` bytes of the disk from byte `needed.from` on.
+/// 103: neither `head` nor `tail` has all of the `needed.length` bytes of the disk from byte `needed.from` on.
 ///
-/// 19: the two ends together are longer than the disk.
+/// 105: the two ends together are longer than the disk.
 #[unsafe(no_mangle)]
 pub extern "C" fn gptman_dos(head: &[u8], tail: &[u8], disk_size: u64, needed: &mut Needed) -> u32
     ensures none { result ≡ 0 → (b : List ℕ) → HasEnds b head.now tail.now disk_size → ¬ IsDosDisk b }
     ensures dos_disk { result ≡ 102 → (b : List ℕ) → HasEnds b head.now tail.now disk_size → IsDosDisk b }
-    ensures lacks { result ≡ 17
+    ensures lacks { result ≡ 103
         → ¬ IsKnown (length head.now) (length tail.now) disk_size (needed.new.from, needed.new.length) }
-    ensures within { result ≡ 17 → needed.new.from + needed.new.length ≤ disk_size }
-    ensures whole { result ≡ 17 → length head.now + length tail.now < disk_size }
-    ensures asked { result ≡ 17 → IsAmong (needed.new.from, needed.new.length) (first_sector ∷ []) }
-    ensures bad { result ≡ 19 → disk_size < length head.now + length tail.now }
-    ensures answers { (result ≡ 0) ⊎ ((result ≡ 17) ⊎ ((result ≡ 19) ⊎ (result ≡ 102))) }
+    ensures within { result ≡ 103 → needed.new.from + needed.new.length ≤ disk_size }
+    ensures whole { result ≡ 103 → length head.now + length tail.now < disk_size }
+    ensures asked { result ≡ 103 → IsAmong (needed.new.from, needed.new.length) (first_sector ∷ []) }
+    ensures bad { result ≡ 105 → disk_size < length head.now + length tail.now }
+    ensures answers { (result ≡ 0) ⊎ ((result ≡ 103) ⊎ ((result ≡ 105) ⊎ (result ≡ 102))) }
 
     // What is not told stays as it was.
-    ensures needed { result ≢ 17 → needed.new ≡ needed.old }
+    ensures needed { result ≢ 103 → needed.new ≡ needed.old }
 {
     let Some(ends) = Ends::new(head, tail, disk_size) else {
         return BAD_ARGUMENT;
@@ -559,7 +559,7 @@ pub extern "C" fn gptman_dos(head: &[u8], tail: &[u8], disk_size: u64, needed: &
 ///
 /// 14: the disk is shorter than a sector. 8: it is not, but shorter than 512 bytes.
 ///
-/// 18: `bytes` is shorter than 66. 19: `sector_size` is 0, or `bootable` above 1.
+/// 104: `bytes` is shorter than 66. 105: `sector_size` is 0, or `bootable` above 1.
 #[unsafe(no_mangle)]
 pub extern "C" fn gptman_mbr(
     disk_size: u64,
@@ -572,10 +572,10 @@ pub extern "C" fn gptman_mbr(
     ensures fits { result ≡ 0 → mbr_fault sector_size disk_size ≡ None }
     ensures refused { 0 < result → result ≤ 14
         → IsNumberOf (λ fault. mbr_fault sector_size disk_size ≡ Some fault) result }
-    ensures room { result ≡ 18 → length bytes.old < 66 }
-    ensures bad { result ≡ 19 → (sector_size ≡ 0) ⊎ (1 < bootable) }
+    ensures room { result ≡ 104 → length bytes.old < 66 }
+    ensures bad { result ≡ 105 → (sector_size ≡ 0) ⊎ (1 < bootable) }
     ensures answers { (result ≡ 0) ⊎ ((result ≡ 8) ⊎ ((result ≡ 14)
-        ⊎ ((result ≡ 18) ⊎ (result ≡ 19)))) }
+        ⊎ ((result ≡ 104) ⊎ (result ≡ 105)))) }
     ensures kept { result ≢ 0 → bytes.new ≡ bytes.old }
 {
     if sector_size == 0 || bootable > 1 {
@@ -597,7 +597,7 @@ pub extern "C" fn gptman_mbr(
 /// these partitions has free. `choice` is 1 for the first place, 2 for the last, and 3 for one in the smallest run
 /// that has room. It is a multiple of `table.align`, and stays free until `partitions` change.
 ///
-/// 0: `first_lba` is the first sector of the place. 8: there is none. 15: there is no memory. 19: `table.align` is 0,
+/// 0: `first_lba` is the first sector of the place. 8: there is none. 15: there is no memory. 105: `table.align` is 0,
 /// `choice` none of these, or `partition_count` above 2^32 - 1.
 #[unsafe(no_mangle)]
 pub extern "C" fn gptman_place(
@@ -610,9 +610,9 @@ pub extern "C" fn gptman_place(
 ) -> u32
     ensures place { result ≡ 0 → IsOffer table.now partitions.now choice size (Some first_lba.new) }
     ensures none { result ≡ 8 → IsOffer table.now partitions.now choice size None }
-    ensures bad { result ≡ 19
+    ensures bad { result ≡ 105
         → (table.now.align ≡ 0) ⊎ ((choice ≡ 0) ⊎ ((3 < choice) ⊎ (4294967295 < length partitions.now))) }
-    ensures answers { (result ≡ 0) ⊎ ((result ≡ 8) ⊎ ((result ≡ 15) ⊎ (result ≡ 19))) }
+    ensures answers { (result ≡ 0) ⊎ ((result ≡ 8) ⊎ ((result ≡ 15) ⊎ (result ≡ 105))) }
     ensures first_lba { result ≢ 0 → first_lba.new ≡ first_lba.old }
 {
     let is_long = partitions.len() as u64 > u64::from(u32::MAX);
@@ -632,14 +632,14 @@ pub extern "C" fn gptman_place(
 /// Lays the name of a partition as UTF-8 into `text`, with a zero behind it. The name is what stands before its first
 /// unit of zero; a unit that is half of a pair gives U+FFFD.
 ///
-/// 0: it is there, and what is behind the zero is as it was. 15: there is no memory. 18: `text` has no room for it
+/// 0: it is there, and what is behind the zero is as it was. 15: there is no memory. 104: `text` has no room for it
 /// and the zero; 109 bytes are enough for each name.
 #[unsafe(no_mangle)]
 pub extern "C" fn gptman_get_name(alloc: Global, partition: &Partition, text: &mut [u8]) -> u32
     ensures text { result ≡ 0 → text.new ≡ name_text partition.now.name
         ++ 0 ∷ drop (length (name_text partition.now.name) + 1) text.old }
-    ensures room { result ≡ 18 → length text.old ≤ length (name_text partition.now.name) }
-    ensures answers { (result ≡ 0) ⊎ ((result ≡ 15) ⊎ (result ≡ 18)) }
+    ensures room { result ≡ 104 → length text.old ≤ length (name_text partition.now.name) }
+    ensures answers { (result ≡ 0) ⊎ ((result ≡ 15) ⊎ (result ≡ 104)) }
     ensures kept { result ≢ 0 → text.new ≡ text.old }
 {
     let Ok(name) = name_of(alloc, partition) else {
@@ -654,15 +654,15 @@ pub extern "C" fn gptman_get_name(alloc: Global, partition: &Partition, text: &m
 
 /// Gives a partition the name that these bytes of UTF-8 are, with zeros behind it.
 ///
-/// 0: it is read as these bytes. 15: there is no memory. 19: the bytes are no UTF-8, have a zero, or take more than 36
+/// 0: it is read as these bytes. 15: there is no memory. 105: the bytes are no UTF-8, have a zero, or take more than 36
 /// units of UTF-16.
 #[unsafe(no_mangle)]
 pub extern "C" fn gptman_set_name(alloc: Global, partition: &mut Partition, text: &[u8]) -> u32
     ensures name { result ≡ 0
         → partition.new ≡ record partition.old { name = units_of (chars text.now) } }
     ensures back { result ≡ 0 → name_text partition.new.name ≡ text.now }
-    ensures bad { result ≡ 19 → IsUtf8 text.now → name_text (units_of (chars text.now)) ≢ text.now }
-    ensures answers { (result ≡ 0) ⊎ ((result ≡ 15) ⊎ (result ≡ 19)) }
+    ensures bad { result ≡ 105 → IsUtf8 text.now → name_text (units_of (chars text.now)) ≢ text.now }
+    ensures answers { (result ≡ 0) ⊎ ((result ≡ 15) ⊎ (result ≡ 105)) }
     ensures kept { result ≢ 0 → partition.new ≡ partition.old }
 {
     let Ok(text) = str::from_utf8(text) else {

@@ -63,7 +63,7 @@ module _ (e : Ends) where
   asks_none places OtherLength asks = tt
   asks_none places OtherLayout asks = tt
 
-  asked_of : (places : Places) (r : Refusal) (needed : Needed) → AsksAmong places e r → refusal_number r ≡ 17
+  asked_of : (places : Places) (r : Refusal) (needed : Needed) → AsksAmong places e r → refusal_number r ≡ 103
       → OfEvery e (λ b. IsAmong ((needed_after r needed).from, (needed_after r needed).length) (places b))
   asked_of places BadArgument needed asks seventeen = absurd (omega (arith, seventeen))
   asked_of places (Refused error) needed asks seventeen = absurd (omega (arith, (within_16 (fault_of error)).1, seventeen))
@@ -73,7 +73,7 @@ module _ (e : Ends) where
 
   -- what is answered of it
   pub answer_asked : (places : Places) (r : Refusal) → AsksAmong places e r → (answer : ℕ) → answer ≡ refusal_number r → (old new : Needed) → new ≡ needed_after r old
-      → answer ≡ 17 → OfEvery e (λ b. IsAmong (new.from, new.length) (places b))
+      → answer ≡ 103 → OfEvery e (λ b. IsAmong (new.from, new.length) (places b))
   answer_asked places r asks answer is old new told seventeen =
       subst (λ (n : Needed). OfEvery e (λ b. IsAmong (n.from, n.length) (places b))) (sym told) (asked_of places r old asks (sym is ∙ seventeen))
 

@@ -41,15 +41,15 @@ within_16 out_of_memory = (omega arith, omega arith)
 within_16 (invalid_entry_size size) = (omega arith, omega arith)
 
 -- and of refusals
-pub numbers : (r : Refusal) → (0 < refusal_number r) × (refusal_number r ≢ 18) × ((refusal_number r ≤ 19) ⊎ ((refusal_number r ≡ 100) ⊎ (refusal_number r ≡ 101)))
-numbers BadArgument = (omega arith, λ is. absurd (omega (arith, is)), inl (omega arith))
-numbers (Refused error) = let n = within_16 (fault_of error) in (n.0, λ is. absurd (omega (arith, n.1, is)), inl (omega (arith, n.1)))
-numbers (Lacks lack) = (omega arith, λ is. absurd (omega (arith, is)), inl (omega arith))
-numbers OtherLength = (omega arith, λ is. absurd (omega (arith, is)), inr (inl refl))
-numbers OtherLayout = (omega arith, λ is. absurd (omega (arith, is)), inr (inr refl))
+pub numbers : (r : Refusal) → (0 < refusal_number r) × (refusal_number r ≢ 104) × (refusal_number r ≢ 102) × ((refusal_number r ≤ 16) ⊎ ((100 ≤ refusal_number r) × (refusal_number r ≤ 105)))
+numbers BadArgument = (omega arith, λ is. absurd (omega (arith, is)), λ is. absurd (omega (arith, is)), inr (omega arith, omega arith))
+numbers (Refused error) = let n = within_16 (fault_of error) in (n.0, λ is. absurd (omega (arith, n.1, is)), λ is. absurd (omega (arith, n.1, is)), inl (omega (arith, n.1)))
+numbers (Lacks lack) = (omega arith, λ is. absurd (omega (arith, is)), λ is. absurd (omega (arith, is)), inr (omega arith, omega arith))
+numbers OtherLength = (omega arith, λ is. absurd (omega (arith, is)), λ is. absurd (omega (arith, is)), inr (omega arith, omega arith))
+numbers OtherLayout = (omega arith, λ is. absurd (omega (arith, is)), λ is. absurd (omega (arith, is)), inr (omega arith, omega arith))
 
 -- what is told but for bytes that are lacking
-pub not_told : (r : Refusal) (needed : Needed) → refusal_number r ≢ 17 → needed_after r needed ≡ needed
+pub not_told : (r : Refusal) (needed : Needed) → refusal_number r ≢ 103 → needed_after r needed ≡ needed
 not_told BadArgument needed not = refl
 not_told (Refused error) needed not = refl
 not_told (Lacks lack) needed not = absurd (not refl)
@@ -81,7 +81,7 @@ ends_apart first last size from len not within = ⊎_elim (λ less. less) (λ me
 -- ---- the number of a refusal
 
 module _ (why : Cause → Type 0) (e : Ends) where
-  pub lacks_of : (r : Refusal) (needed : Needed) → IsRefusal why e r → refusal_number r ≡ 17
+  pub lacks_of : (r : Refusal) (needed : Needed) → IsRefusal why e r → refusal_number r ≡ 103
       → (¬ HaveRange e ((needed_after r needed).from, (needed_after r needed).length)) × ((needed_after r needed).from + (needed_after r needed).length ≤ e.size)
   lacks_of BadArgument needed is seventeen = absurd (omega (arith, seventeen))
   lacks_of (Refused error) needed is seventeen = absurd (omega (arith, (within_16 (fault_of error)).1, seventeen))
@@ -99,7 +99,7 @@ module _ (why : Cause → Type 0) (e : Ends) where
   fault_of_number OtherLength is below other = absurd (omega (arith, below))
   fault_of_number OtherLayout is below other = absurd (omega (arith, below))
 
-  bad_of : (r : Refusal) → IsRefusal why e r → refusal_number r ≡ 19 → why bad_argument
+  bad_of : (r : Refusal) → IsRefusal why e r → refusal_number r ≡ 105 → why bad_argument
   bad_of BadArgument is nineteen = is
   bad_of (Refused error) is nineteen = absurd (omega (arith, (within_16 (fault_of error)).1, nineteen))
   bad_of (Lacks lack) is nineteen = absurd (omega (arith, nineteen))
@@ -126,16 +126,16 @@ module _ (why : Cause → Type 0) (e : Ends) where
     pub answer_above : answer ≢ 0
     answer_above zero = omega (arith, zero, is, (numbers r).0)
 
-    pub answer_not_18 : answer ≢ 18
-    answer_not_18 eighteen = (numbers r).1 (sym is ∙ eighteen)
-
-    pub answer_most : (answer ≤ 19) ⊎ ((answer ≡ 100) ⊎ (answer ≡ 101))
-    answer_most = subst (λ (n : ℕ). (n ≤ 19) ⊎ ((n ≡ 100) ⊎ (n ≡ 101))) (sym is) (numbers r).2
+    pub answer_not_104 : answer ≢ 104
+    answer_not_104 number = (numbers r).1 (sym is ∙ number)
 
     pub answer_not_102 : answer ≢ 102
-    answer_not_102 number = ⊎_elim (λ low. omega (arith, low, number)) (λ more. ⊎_elim (λ one. omega (arith, one, number)) (λ other. omega (arith, other, number)) more) answer_most
+    answer_not_102 number = (numbers r).2 (sym is ∙ number)
 
-    pub answer_bad : answer ≡ 19 → why bad_argument
+    pub answer_most : (answer ≤ 16) ⊎ ((100 ≤ answer) × (answer ≤ 105))
+    answer_most = subst (λ (n : ℕ). (n ≤ 16) ⊎ ((100 ≤ n) × (n ≤ 105))) (sym is) (numbers r).3
+
+    pub answer_bad : answer ≡ 105 → why bad_argument
     answer_bad nineteen = bad_of r refused (sym is ∙ nineteen)
 
     pub answer_length : answer ≡ 100 → why other_length
@@ -149,14 +149,14 @@ module _ (why : Cause → Type 0) (e : Ends) where
         (fault_of_number r refused (omega (arith, is, below)) (λ fifteen. other (is ∙ fifteen)))
 
     module _ (old new : Needed) (told : new ≡ needed_after r old) where
-      pub answer_lacks : answer ≡ 17 → (¬ HaveRange e (new.from, new.length)) × (new.from + new.length ≤ e.size)
+      pub answer_lacks : answer ≡ 103 → (¬ HaveRange e (new.from, new.length)) × (new.from + new.length ≤ e.size)
       answer_lacks seventeen =
           subst (λ (n : Needed). (¬ HaveRange e (n.from, n.length)) × (n.from + n.length ≤ e.size)) (sym told) (lacks_of r old refused (sym is ∙ seventeen))
 
-      pub answer_whole : answer ≡ 17 → length e.head.now + length e.tail.now < e.size
+      pub answer_whole : answer ≡ 103 → length e.head.now + length e.tail.now < e.size
       answer_whole seventeen = let two = answer_lacks seventeen in ends_apart (length e.head.now) (length e.tail.now) e.size new.from new.length two.0 two.1
 
-      pub answer_kept : answer ≢ 17 → new ≡ old
+      pub answer_kept : answer ≢ 103 → new ≡ old
       answer_kept other = told ∙ not_told r old (λ seventeen. other (is ∙ seventeen))
 
 -- ---- a write that was tried

@@ -132,9 +132,9 @@ IsOfFault why other_layout = ⊥
 
 -- the number that a refusal has in C
 abbrev pub refusal_number : Refusal → ℕ
-refusal_number BadArgument = 19
+refusal_number BadArgument = 105
 refusal_number (Refused e) = fault_number (fault_of e)
-refusal_number (Lacks lack) = 17
+refusal_number (Lacks lack) = 103
 refusal_number OtherLength = 100
 refusal_number OtherLayout = 101
 

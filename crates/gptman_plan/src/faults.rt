@@ -1,13 +1,4 @@
-//! The numbers that calls answer.
-
-/// The ends lack bytes of the disk that the call has to see.
-pub const LACKS_BYTES: u32 = 17;
-
-/// An array of the caller's is too short.
-pub const LACKS_ROOM: u32 = 18;
-
-/// An argument that no disk or table has.
-pub const BAD_ARGUMENT: u32 = 19;
+//! The answers of calls: the faults of a table are below 100, what a call itself answers is from 100 on.
 
 /// The table was made for a disk of another length.
 pub const OTHER_LENGTH: u32 = 100;
@@ -17,6 +8,15 @@ pub const OTHER_LAYOUT: u32 = 101;
 
 /// The first sector of the disk has partitions of its own.
 pub const DOS_DISK: u32 = 102;
+
+/// The ends lack bytes of the disk that the call has to see.
+pub const LACKS_BYTES: u32 = 103;
+
+/// An array of the caller's is too short.
+pub const LACKS_ROOM: u32 = 104;
+
+/// An argument that no disk or table has.
+pub const BAD_ARGUMENT: u32 = 105;
 
 /// There is no place for a partition.
 pub const NO_SPACE_LEFT: u32 = 8;

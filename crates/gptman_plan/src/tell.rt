@@ -15,9 +15,9 @@ pub fn tell(found: &GPT, is_backup: bool, table: &mut Table, partitions: &mut [P
     requires { IsAsRead found.now }
     ensures told { result ≡ 0
         → IsTold (Ok (copy_of found.now)) (side_of is_backup) table.new partitions.new }
-    ensures room { result ≡ 18 → length partitions.old < table.new.entry_count }
+    ensures room { result ≡ 104 → length partitions.old < table.new.entry_count }
     ensures count { table.new.entry_count ≡ found.now.header.number_of_partition_entries }
-    ensures answers { (result ≡ 0) ⊎ (result ≡ 18) }
+    ensures answers { (result ≡ 0) ⊎ (result ≡ 104) }
     ensures partitions { result ≢ 0 → partitions.new ≡ partitions.old }
 {
     *table = Table {

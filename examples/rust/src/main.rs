@@ -49,8 +49,8 @@ struct Needed {
 
 const OK: u32 = 0;
 const IO: u32 = 1;
-const LACKS_BYTES: u32 = 17;
-const LACKS_ROOM: u32 = 18;
+const LACKS_BYTES: u32 = 103;
+const LACKS_ROOM: u32 = 104;
 
 /// An end is made no longer than this, as a table that asks for more is none that a system reads.
 const MOST_BYTES: u64 = 1 << 28;

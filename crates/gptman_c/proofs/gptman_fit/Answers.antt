@@ -1,4 +1,5 @@
-use Rattle.std.proofs.Common.{⊎_elim, inl, inr, List, sym, subst}
+use Rattle.std.proofs.Common.{⊎_elim, inl, inr, ℕ, List, sym, subst, arith}
+use Rattle.std.proofs.lemmas.Bool.{cases_lt}
 use Rattle.gptman_plan.specs.Asking.{fit_ranges}
 use Rattle.gptman_plan.specs.Ends.{zeroed}
 use Rattle.gptman_plan.specs.Plan.{Act}
@@ -58,8 +59,12 @@ pub returns-in-Err-clause-most : goal.returns-in-Err-clause-most
 returns-in-Err-clause-most c =
     let e = c.in-Some.ends in
     let why : Cause → Type 0 = λ cause. OfEvery e (λ b. StopsFit b c.args.sector_size cause) in
+    let n : ℕ = c.refuse.result in
     ⊎_elim inl
-    (λ is. ⊎_elim
-    (λ hundred. absurd (answer_length why e c.in-Err.refusal c.in-Err.ensures.refused c.refuse.result c.refuse.ensures.answer hundred (zeroed e) (zero_ends e)))
-    (λ n. inr (inl n)) is)
-    (answer_most why e c.in-Err.refusal c.in-Err.ensures.refused c.refuse.result c.refuse.ensures.answer)
+    (λ is. inr (
+      ⊎_elim (λ above. above)
+          (λ low. absurd (answer_length why e c.in-Err.refusal c.in-Err.ensures.refused n c.refuse.ensures.answer (omega (arith, is.0, low)) (zeroed e) (zero_ends e)))
+          (cases_lt 100 n),
+      is.1,
+    ))
+    (answer_most why e c.in-Err.refusal c.in-Err.ensures.refused n c.refuse.ensures.answer)
