@@ -122,7 +122,7 @@ def try_tables(tally, program):
         file.truncate(64 * MIB)
     for words in (ADD + ["--size", "1s"], ["repair", "disk.img"], ["remove", "disk.img", "1"]):
         refused(tally, program, words, "the table does not stand where gptedit writes one")
-    refused(tally, program, ["grow", "disk.img"], "outside of the usable ones")
+    refused(tally, program, ["grow", "disk.img"], "copy the image again, or run `truncate -s 134217728 disk.img`")
     tally.equals("the status of check of an image that was cut", 1, program.run("check", "disk.img")[0])
 
 

@@ -89,14 +89,8 @@ fn is_tried(sector_size: u64, asked: Option<u64>) -> bool {
 
 // Whether a header has this sector size, or there is no header.
 fn may_be_size(copies: &[FoundCopy], sector_size: u64) -> bool {
-    let mut has_header = false;
-    for copy in copies.iter().filter(|copy| copy.header.is_some()) {
-        if copy.spot.sector_size == sector_size {
-            return true;
-        }
-        has_header = true;
-    }
-    !has_header
+    !copies.iter().any(|copy| copy.header.is_some())
+        || copies.iter().any(|copy| copy.header.is_some() && copy.spot.sector_size == sector_size)
 }
 
 // The place of the primary copy, on a disk of so many bytes.
