@@ -1,4 +1,4 @@
--- What a stop may leave counts as left.
+-- Each image that a crash may leave counts as left.
 use Rattle.std.proofs.Common.{◌≡◌, true, ◌≤◌, ℕ, ◌+◌, List, [], ◌∷◌, ◌++◌, length, get_or, refl, sym, ◌∙◌, ap, subst, arith, append_assoc}
 use Rattle.std.proofs.lemmas.Bool.{and_from, and_parts, leb-true, le-leb}
 use Rattle.std.proofs.lemmas.List.{append-nil, length_push}
@@ -17,7 +17,7 @@ use Rattle.gptman_disk.proofs.Ranges.{agrees_back, agrees_then, agrees_wider, wi
 use Rattle.gptman_disk.proofs.Events.{synced}
 use Rattle.gptman_disk.proofs.Stops.{StopsAt, stops_first, stops_synced, stops_written, view_agrees}
 
--- What a stop with these fates leaves after these events, and the number of the next fate.
+-- The bytes that a crash with these fates leaves after these events, and the number of the next fate.
 record StopsWith (start : List ℕ) (fates : List Fate) (events : List Event) : Type 0 where
   view : List ℕ
   left : List ℕ
@@ -49,7 +49,7 @@ all_from start fates before (e ∷ events) fits s =
     let parts = and_parts _ _ fits in
     subst (λ es. StopsWith start fates es) (append_assoc before (e ∷ []) events) (all_from start fates (before ++ e ∷ []) events parts.1 (one_more start fates before e parts.0 s))
 
--- whatever the fates, a stop leaves an image
+-- whatever the fates, a crash leaves an image
 fated : (start : List ℕ) (fates : List Fate) (events : List Event) → list_all (event_fits (length start)) events ≡ true
     → AgreesOutside (pending_of events) (view_of start events) (bytes_left fates (record { start = start; events = events }))
 fated start fates events fits =

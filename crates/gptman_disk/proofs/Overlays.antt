@@ -1,4 +1,4 @@
--- Bytes that are laid over a list, and parts of lists.
+-- Lists of bytes that are overwritten in part, and parts of lists.
 use Rattle.std.proofs.Common.{add-zero, ◌≡◌, ◌⊎◌, inl, inr, ⊎_elim, ◌<◌, ◌≤◌, min, ℕ, ◌+◌, ◌-◌, List, [], ◌∷◌, ◌++◌, length, get_or, take, drop, refl, sym, ◌∙◌, ap, arith, length-append, length-take, length-drop, append_assoc}
 use Rattle.std.proofs.lemmas.List.{append-nil, take-append-drop, take_at, drop_at, get_or-take, get_or-drop, get_or_append_left, get_or-append_right, length-take-le, drop-take, take-take, drop-drop}
 use Rattle.std.proofs.lemmas.Grind.{same_number_lists}
@@ -19,19 +19,19 @@ part-part b at n k m h =
 abbrev pub IsApart : ℕ × ℕ → ℕ × ℕ → Type 0
 IsApart r s = (r.1 ≡ 0) ⊎ ((s.1 ≡ 0) ⊎ ((r.0 + r.1 ≤ s.0) ⊎ (s.0 + s.1 ≤ r.0)))
 
--- an index of a range is outside of one that it is apart from
+-- an index in a range is outside a range that is apart from it
 pub one_apart : (at n start long k : ℕ) → IsApart (at, n) (start, long) → at ≤ k → k < at + n → (k < start) ⊎ (start + long ≤ k)
 one_apart at n start long k (inl none) low high = absurd (omega (arith, none, low, high))
 one_apart at n start long k (inr (inl none)) low high = ⊎_elim (λ below. inl below) (λ above. inr (omega (arith, none, above))) (cases_lt k start)
 one_apart at n start long k (inr (inr (inl before))) low high = inl (omega (arith, before, low, high))
 one_apart at n start long k (inr (inr (inr after))) low high = inr (omega (arith, after, low, high))
 
--- and outside of all that it is apart from
+-- and outside all ranges that are apart from it
 pub outside_apart : (r : ℕ × ℕ) (rs : Ranges) (k : ℕ) → IsApartFromAll r rs → r.0 ≤ k → k < r.0 + r.1 → Outside rs k
 outside_apart r [] k apart low high = tt
 outside_apart r (s ∷ rs) k apart low high = (one_apart r.0 r.1 s.0 s.1 k apart.0 low high, outside_apart r rs k apart.1 low high)
 
--- a part is told by its elements
+-- two parts with equal elements are equal
 pub part_in : (a b : List ℕ) (at n : ℕ) → length b ≡ length a → ((k : ℕ) → at ≤ k → k < at + n → get_or b k 0 ≡ get_or a k 0) → part b at n ≡ part a at n
 part_in a b at n long same =
     same_number_lists (part b at n) (part a at n)
@@ -41,7 +41,7 @@ part_in a b at n long same =
     get_or-take n (drop at b) k 0 small ∙ get_or-drop at b k 0 ∙ same (at + k) (omega arith) (omega arith)
     ∙ sym (get_or-take n (drop at a) k 0 small ∙ get_or-drop at a k 0))
 
--- so one that is apart from where two lists may differ is the same in both
+-- a part is the same in two lists that agree outside ranges apart from it
 pub part_same : (rs : Ranges) (a b : List ℕ) (at n : ℕ) → AgreesOutside rs a b → IsApartFromAll (at, n) rs → part b at n ≡ part a at n
 part_same rs a b at n agrees apart = part_in a b at n agrees.long (λ k low high. agrees.same k (outside_apart (at, n) rs k apart low high))
 
@@ -81,7 +81,7 @@ overlay_inside old at bytes fits k low high =
     get_or_append_left (take at old ++ bytes) (drop (at + length bytes) old) 0 k (omega (arith, front_and_bytes old at bytes fits, high))
     ∙ get_or-append_right (take at old) bytes at k 0 (front old at bytes fits) low
 
--- two writes, the second where the first ends
+-- two adjacent writes are one
 pub overlay_more : (old : List ℕ) (at : ℕ) (xs ys : List ℕ) → at + length xs + length ys ≤ length old → overlay (overlay old at xs) (at + length xs) ys ≡ overlay old at (xs ++ ys)
 overlay_more old at xs ys fits = same_number_lists (overlay first (at + length xs) ys) (overlay old at (xs ++ ys)) (length-overlay first (at + length xs) ys second_fits ∙ length-overlay old at xs first_fits ∙ sym (length-overlay old at (xs ++ ys) both_fit))
     (λ k below. ⊎_elim (below_at k) (λ low. ⊎_elim (in_first k low) (λ mid. ⊎_elim (in_second k mid) (λ high. above k high) (cases_lt k (at + length xs + length ys))) (cases_lt k (at + length xs))) (cases_lt k at))
@@ -115,7 +115,7 @@ overlay_more old at xs ys fits = same_number_lists (overlay first (at + length x
     above : (k : ℕ) → at + length xs + length ys ≤ k → get_or (overlay (overlay old at xs) (at + length xs) ys) k 0 ≡ get_or (overlay old at (xs ++ ys)) k 0
     above k high = overlay_above (overlay old at xs) (at + length xs) ys second_fits k high ∙ overlay_above old at xs first_fits k (omega (arith, high)) ∙ sym (overlay_above old at (xs ++ ys) both_fit k (omega (arith, high, joined)))
 
--- no bytes change nothing
+-- writing no bytes changes nothing
 pub overlay_nothing : (old : List ℕ) (at : ℕ) → overlay old at [] ≡ old
 overlay_nothing old at =
     ap (λ (xs : List ℕ). xs ++ drop (at + 0) old) (append-nil (take at old)) ∙ ap (λ (k : ℕ). take at old ++ drop k old) (add-zero at) ∙ take-append-drop at old

@@ -1,4 +1,4 @@
--- Indexes outside of ranges, and lists that agree there.
+-- Indexes outside ranges, and lists that agree there.
 use Rattle.std.proofs.Common.{inl, inr, ⊎_elim, ◌≡◌, ◌⊎◌, ◌<◌, ◌≤◌, ℕ, suc, ◌+◌, List, [], ◌∷◌, ◌++◌, refl, sym, ◌∙◌, subst, arith}
 use Rattle.std.specs.List.{Contains}
 use Rattle.std.specs.Prelude.{Result, Ok, Err, OnOk, OnErr, length}
@@ -49,7 +49,7 @@ within_right rs ss = record { covers = λ k o. outside_right rs ss k o }
 pub within_both : {rs ss ts : Ranges} → Within rs ts → Within ss ts → Within (rs ++ ss) ts
 within_both {rs} {ss} a b = record { covers = λ k o. outside_both rs ss k (a.covers k o) (b.covers k o) }
 
--- a range that stands first among others, or later
+-- a range is within ranges that begin with it, or that contain it later
 pub within_first : {p at n : ℕ} {more : Ranges} → p ≡ at → Within ((p, n) ∷ []) ((at, n) ∷ more)
 within_first {n = n} is = record { covers = λ k o. (subst (λ x. (k < x) ⊎ (x + n ≤ k)) (sym is) o.0, tt) }
 
@@ -62,28 +62,28 @@ contains_first r rs = (0, omega arith, refl)
 pub contains_later : {X : Type 0} (r s : X) (rs : List X) → Contains rs r → Contains (s ∷ rs) r
 contains_later r s rs has = (suc has.0, omega (arith, has.1), has.2)
 
--- a range that lies within the first of others
+-- a range within the first range is within all
 pub within_range : {p n at m : ℕ} {more : Ranges} → at ≤ p → p + n ≤ at + m → Within ((p, n) ∷ []) ((at, m) ∷ more)
 within_range {p} {n} {at} {m} low high = record { covers = λ k o. (⊎_elim (λ below. inl (omega (arith, below, low))) (λ above. inr (omega (arith, above, high))) o.0, tt) }
 
--- equal lists have the same indexes
+-- equal lists cover the same indexes
 pub cover_equal : {rs ss : Ranges} → rs ≡ ss → CoverTheSame rs ss
 cover_equal {rs} is = subst (λ ps. CoverTheSame rs ps) is (record { there = within_self rs; back = within_self rs })
 
--- what was pending is pending after it grew by a range
+-- what was pending is pending after a range was added
 pub grown_keeps : {r : ℕ × ℕ} {old new : Ranges} → CoverTheSame new (r ∷ old) → Within old new
 grown_keeps {old = old} grown = within_then (within_later (within_self old)) grown.back
 
--- and so is the range
+-- and so is the added range
 pub grown_has : (p n at m : ℕ) {old new : Ranges} → p ≡ at → n ≡ m → CoverTheSame new ((p, n) ∷ old) → Within ((at, m) ∷ []) new
 grown_has p n at m at_is size grown = within_then (within_range (omega (arith, at_is)) (omega (arith, at_is, size))) grown.back
 
--- what was pending still is after one write, whether it was served or refused
+-- what was pending is still pending after a write, also after a failed one
 pub still_pending : {T E : Type 0} (r : Result T E) (bytes : List ℕ) (a b : DiskState) → OnOk r (IsLaid bytes a b) → OnErr r (MayBeLaid (length bytes) a b) → StaysPending a b
 still_pending (Ok v) bytes a b laid failed = grown_keeps laid.pending
 still_pending (Err e) bytes a b laid failed =
     ⊎_elim (λ same. subst (λ ps. Within a.pending ps) (sym same.pending) (within_self a.pending)) (λ grown. grown_keeps grown) failed
 
--- the growth, by what was written and pending before a call that only read
+-- the added range, in terms of the state before a call that only read
 pub grown_since : (p n at m : ℕ) {before old new : Ranges} → p ≡ at → n ≡ m → old ≡ before → CoverTheSame new ((p, n) ∷ old) → CoverTheSame new ((at, m) ∷ before)
 grown_since p n at m {new = new} at_is size was grown = subst (λ ps. CoverTheSame new ps) (λ i. (at_is i, size i) ∷ was i) grown

@@ -1,4 +1,4 @@
--- What a stop leaves after one event more, and that it is an image.
+-- A crash after one more event leaves an image.
 use Rattle.std.proofs.Common.{◌≡◌, true, false, cond, Bool, ◌≤◌, ℕ, ◌+◌, List, [], ◌∷◌, ◌++◌, length, get_or, replicate, ◌<◌, refl, sym, ◌∙◌, ap, subst, arith}
 use Rattle.std.proofs.Math.Bool.{or-true, or-false}
 use Rattle.std.proofs.lemmas.Bool.{cond-true, leb-true}
@@ -17,7 +17,7 @@ use Rattle.gptman_disk.specs.declared.disk.memory.Fate.TheVariants.{Old, New, Ga
 use Rattle.gptman_disk.proofs.Ranges.{Ranges, agrees_self, agrees_then, agrees_back, agrees_wider, within_left, within_later, within_self}
 use Rattle.gptman_disk.proofs.Overlays.{agrees_overlay}
 
--- a sync is the last one, and a write comes after it
+-- after a sync the last event is a sync; a write does not change whether there is one
 has_sync : (events : List Event) → list_any is_sync (events ++ Sync ∷ []) ≡ true
 has_sync events = list_any-append is_sync events (Sync ∷ []) ∙ or-true (list_any is_sync events)
 
@@ -51,7 +51,7 @@ since_more (Write v ∷ events) w =
     ∙ ap (λ ws. cond (list_any is_sync events) ws (v ∷ ws)) (since_more events w)
     ∙ either_more (list_any is_sync events) (since_sync events) v w
 
--- the last write has the fate at its place
+-- the last write has the fate at its index
 fate_more : (fates : List Fate) (writes : List Written) (w : Written) (bytes : List ℕ)
     → with_fates fates (writes ++ w ∷ []) bytes ≡ fate_step (get_or fates (length writes) Old) (with_fates fates writes bytes) w.at w.bytes.items
 fate_more [] [] w bytes = refl
@@ -72,13 +72,13 @@ pub view_agrees : (view : List ℕ) (w : Written) (done : Bool) → w.at + lengt
 view_agrees view w true fits = agrees_overlay view w.at w.bytes.items fits
 view_agrees view w false fits = agrees_self _ view
 
--- a write in the record lies within the disk
+-- a recorded write is within the disk
 pub written_fits : (size : ℕ) (events : List Event) (i : ℕ) (e : Event) (w : Written) → i < length events → e ≡ get_or events i e → e ≡ Write w
     → list_all (event_fits size) events ≡ true → w.at + length w.bytes.items ≤ size
 written_fits size events i e w below at_i is fits =
     leb-true _ _ (ap (λ x. event_fits size x) (sym is ∙ at_i) ∙ AllPass-from_list_all (event_fits size) events fits i e below)
 
--- After these events: the view, what a stop leaves, and the number of the next fate.
+-- After these events: the view, what a crash leaves, and the number of the next fate.
 pub record StopsAt (start : List ℕ) (fates : List Fate) (events : List Event) (view left : List ℕ) (next : ℕ) : Type 0 where
   pub view_is : view ≡ view_of start events
   pub left_is : left ≡ bytes_left fates (record { start = start; events = events })

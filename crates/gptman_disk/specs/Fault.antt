@@ -1,4 +1,4 @@
--- The kinds of error, with their numbers and no io::Error inside.
+-- The kinds of error, with their numbers, without the inner `io::Error`.
 use Rattle.std.specs.Prelude.{ℕ, Bool, true, false, List, [], ◌∷◌, Option, Some, None, if◌then◌else◌, codes}
 use Rattle.gptman_disk.specs.declared.error.Error.{Error, Io, InvalidSignature, InvalidRevision, InvalidHeaderSize, InvalidChecksum, InvalidPartitionEntryArrayChecksum, ReadError', NoSpaceLeft, ConflictPartitionGUID, InvalidPartitionBoundaries, InvalidPartitionNumber, UnusedPartition, PartitionNotFound, Overflow, OutOfMemory, InvalidPartitionEntrySize}
 
@@ -20,7 +20,7 @@ pub data Fault : Type 0 where
   out_of_memory : Fault
   invalid_entry_size : ℕ → Fault
 
--- an error as such a kind
+-- the kind of an error
 abbrev pub fault_of : Error → Fault
 fault_of (Io e) = io
 fault_of InvalidSignature = invalid_signature
@@ -39,7 +39,7 @@ fault_of Overflow = overflow
 fault_of OutOfMemory = out_of_memory
 fault_of (InvalidPartitionEntrySize size) = invalid_entry_size size
 
--- the fault of the first test that fails, of tests in order
+-- of tests in order, the fault of the first that fails
 abbrev pub first_failing : List (Bool × Fault) → Option Fault
 first_failing [] = None
 first_failing (test ∷ tests) = if test.0 then first_failing tests else Some test.1
@@ -67,7 +67,7 @@ variant_name overflow = codes "Overflow"
 variant_name out_of_memory = codes "OutOfMemory"
 variant_name (invalid_entry_size size) = codes "InvalidPartitionEntrySize"
 
--- the number that callers in C see
+-- the number for callers in C
 abbrev pub fault_number : Fault → ℕ
 fault_number io = 1
 fault_number invalid_signature = 2

@@ -1,4 +1,4 @@
--- A disk of which nothing is claimed but its length and position.
+-- A disk that is never honest: only its length, position and count of failures are specified.
 use Rattle.std.specs.Prelude.{ℕ, false, [], IsTrue}
 use Rattle.gptman_disk.specs.Disk.{DiskState}
 
@@ -14,6 +14,6 @@ file_state size position failures = record {
   is_honest = false;
 }
 
--- it is not taken for honest
+-- it is not honest
 pub never_honest : IsTrue false → ⊥
 never_honest h = cc

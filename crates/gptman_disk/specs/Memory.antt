@@ -1,4 +1,4 @@
--- A disk in memory: what its record of writes and syncs makes of the bytes that it had at first.
+-- A disk in memory: its bytes and pending ranges, given its bytes at the start and its record of writes and syncs.
 use Rattle.std.specs.Prelude.{◌≡◌, ◌≤◌, ◌+◌, ℕ, Bool, true, leb, nat_lt, Option, Some, None, ◌-◌, List, [], ◌∷◌, length, take, if◌then◌else◌}
 use Rattle.std.specs.List.{fold}
 use Rattle.std.proofs.Common.{subst, sym, arith}
@@ -7,17 +7,17 @@ use Rattle.gptman_disk.specs.Disk.{DiskState, IsSound, AgreesOutside, overlay}
 use Rattle.gptman_disk.specs.declared.disk.memory.Event.{Event}
 use Rattle.gptman_disk.specs.declared.disk.memory.Event.TheVariants.{Write, Sync}
 
--- what a read gives after the event
+-- the bytes that a read returns after the event
 abbrev pub view_step : List ℕ → Event → List ℕ
 view_step view (Write written) = if written.done then overlay view written.at written.bytes.items else view
 view_step view Sync = view
 
--- what is pending after it
+-- the pending ranges after the event
 abbrev pub pending_step : List (ℕ × ℕ) → Event → List (ℕ × ℕ)
 pending_step pending (Write written) = (written.at, length written.bytes.items) ∷ pending
 pending_step pending Sync = []
 
--- the bytes that a read gives after these events
+-- the bytes that a read returns after these events
 abbrev pub view_of : List ℕ → List Event → List ℕ
 view_of start events = fold view_step start events
 
@@ -25,19 +25,19 @@ view_of start events = fold view_step start events
 abbrev pub pending_of : List Event → List (ℕ × ℕ)
 pending_of events = fold pending_step [] events
 
--- the event lies within a disk of that size
+-- the event is within a disk of this size
 abbrev pub event_fits : ℕ → Event → Bool
 event_fits size (Write written) = leb (written.at + length written.bytes.items) size
 event_fits size Sync = true
 
--- b is an image of the disk as it was after some of the events, at least t of them
+-- b may be left by a crash after some of the events, at least t of them
 pub record LeftSince (start : List ℕ) (events : List Event) (t : ℕ) (b : List ℕ) : Type 0 where
   pub after : ℕ
   pub since : t ≤ after
   pub until : after ≤ length events
   pub image : AgreesOutside (pending_of (take after events)) (view_of start (take after events)) b
 
--- the disk as contracts see it; its clock counts the events
+-- the state of the disk, as contracts see it; its clock counts the events
 abbrev pub memory_state : List ℕ → List ℕ → List Event → ℕ → ℕ → DiskState
 memory_state start bytes events position failures = record {
   size = length bytes;
@@ -50,11 +50,11 @@ memory_state start bytes events position failures = record {
   is_honest = true;
 }
 
--- the range is pending, before those that were
+-- the range was added before the pending ones
 abbrev pub AddsPending : ℕ × ℕ → DiskState → DiskState → Type 0
 AddsPending range old new = new.pending ≡ range ∷ old.pending
 
--- the laws of an honest disk hold of it
+-- the laws of an honest disk hold for it
 pub memory_sound : (start bytes : List ℕ) (events : List Event) (position failures : ℕ) → bytes ≡ view_of start events → IsSound (memory_state start bytes events position failures)
 memory_sound start bytes events position failures replays = record {
   size = λ i. length bytes;
@@ -74,12 +74,12 @@ memory_sound start bytes events position failures replays = record {
     whole : take (length events) events ≡ events
     whole = take_all (length events) events (omega arith)
 
--- whether a fuse of so many calls serves one more; with no fuse every call is served
+-- whether a fuse with this many calls left serves one more; without a fuse every call is served
 abbrev pub serves : Option ℕ → Bool
 serves None = true
 serves (Some calls) = nat_lt 0 calls
 
--- the fuse after one call more
+-- the fuse after one more call
 abbrev pub after_call : Option ℕ → Option ℕ
 after_call None = None
 after_call (Some calls) = Some (calls - 1)

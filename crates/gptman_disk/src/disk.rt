@@ -1,7 +1,7 @@
-//! What a disk is: bytes of a fixed length that are read, written and stored.
+//! The trait `Disk`: bytes of a fixed length that are read, written and synced.
 //!
-//! A write may be lost, torn or kept in part until a sync succeeds. This module knows nothing of
-//! tables; it says what a read gives, and what a stop at any moment may leave.
+//! Until a sync succeeds, a write may be lost, torn or kept in part. The contracts say what a read returns, and what a
+//! crash at any moment may leave.
 
 ghost use Rattle.std.specs.Prelude.{◌≡◌, ◌≤◌, ◌<◌, ◌^◌, ◌+◌, ◌⊎◌, ◌↔◌, [], ◌∷◌, length, IfOk, OnOk, OnErr};
 ghost use Rattle.std.specs.Prelude.{IsErr, IsTrue};
@@ -21,17 +21,19 @@ pub mod plain;
 
 /// A disk of a fixed length in bytes, with a position at which it reads and writes.
 ///
-/// An honest disk gives back what was written to it, and loses nothing that was synced. Of a disk
-/// that is not honest only its length and position are known, and that it counts its failures.
+/// An honest disk returns what was written to it, and loses nothing that was synced. For any other disk only the
+/// length, the position and the count of failures are specified.
 ///
-/// For a disk of your own there are `passes_end`, `past_end` and `count_failure`.
+/// To implement it, use `passes_end`, `past_end` and `count_failure`.
 pub trait Disk {
-    /// The disk at this moment, as contracts see it.
+    /// The state of the disk, as contracts see it.
     ghost state: { Self → DiskState };
 
-    /// Goes to a byte, counted from 0, which may lie past the end. Answers it.
+    /// Moves the position to byte `at`, counted from 0, which may be past the end. Returns `at`.
     ///
-    /// An error comes only where the device failed.
+    /// # Errors
+    ///
+    /// Only if the device failed.
     fn seek_start(&mut self, at: u64) -> io::Result<u64>
         ensures reads { Reads (state self.old) (state self.new) }
         ensures answer { IfOk result (StandsAt (state self.new) at) }
@@ -39,9 +41,11 @@ pub trait Disk {
         ensures counts { OnOk result (HasFailedAsOften (state self.old) (state self.new)) }
         ensures once { OnErr result (HasFailedOnce (state self.old) (state self.new)) };
 
-    /// Goes to the end. Answers the length in bytes.
+    /// Moves the position to the end. Returns the length in bytes.
     ///
-    /// An error comes only where the device failed.
+    /// # Errors
+    ///
+    /// Only if the device failed.
     fn seek_end(&mut self) -> io::Result<u64>
         ensures reads { Reads (state self.old) (state self.new) }
         ensures answer { IfOk result (StandsAt (state self.new) (state self.old).size) }
@@ -49,10 +53,12 @@ pub trait Disk {
         ensures counts { OnOk result (HasFailedAsOften (state self.old) (state self.new)) }
         ensures once { OnErr result (HasFailedOnce (state self.old) (state self.new)) };
 
-    /// Fills the buffer with the bytes from the position on, and goes behind them.
+    /// Fills `buf` with the bytes from the position, and moves the position past them.
     ///
-    /// An error comes where the device failed, and always where the read passes the end. Such a read is
-    /// no failure of the device, and is not counted as one.
+    /// # Errors
+    ///
+    /// If the device failed, and always if the read passes the end. A read past the end is not counted as a failure of
+    /// the device.
     fn read_exact(&mut self, buf: &mut [u8]) -> io::Result<()>
         ensures reads { Reads (state self.old) (state self.new) }
         ensures within { OnOk result (HasNext (state self.old) (length buf.old)) }
@@ -67,12 +73,13 @@ pub trait Disk {
             → OnOk result (buf.new ≡ next_bytes (state self.old) (length buf.old)) }
         ensures moves { OnOk result (Moves (state self.old) (state self.new) (length buf.old)) };
 
-    /// Writes the bytes from the position on, over what is there, and goes behind them. Until a sync
-    /// succeeds, a stop may leave any bytes in their place. A disk may join that range with others that
-    /// are not synced. The caller sees to it that the bytes do not pass the end of the disk.
+    /// Writes `buf` over the bytes from the position, and moves the position past it. Until a sync succeeds, a crash
+    /// may leave any bytes in this range. A disk may merge the range with others that are not synced. The caller must
+    /// ensure that the bytes do not pass the end of the disk.
     ///
-    /// An error comes only where the device failed. Then nothing is written, or any bytes are left in
-    /// that place.
+    /// # Errors
+    ///
+    /// Only if the device failed. Then nothing is written, or the range may hold any bytes.
     fn write_all(&mut self, buf: &[u8]) -> io::Result<()>
         requires { HasNext (state self.old) (length buf.now) }
         ensures keeps { Keeps (state self.old) (state self.new) }
@@ -87,9 +94,11 @@ pub trait Disk {
         ensures failed { IsHonest (state self.old)
             → OnErr result (MayBeLaid (length buf.now) (state self.old) (state self.new)) };
 
-    /// Stores all that was written. After it, a stop leaves what a read gives.
+    /// Syncs all that was written. After it, a crash leaves what a read returns.
     ///
-    /// An error comes only where the device failed. Then what was written may still be lost.
+    /// # Errors
+    ///
+    /// Only if the device failed. Then what was written may still be lost.
     fn sync(&mut self) -> io::Result<()>
         ensures keeps { Keeps (state self.old) (state self.new) }
         ensures cause { OnErr result (Rose (state self.old) (state self.new)) }
@@ -102,29 +111,29 @@ pub trait Disk {
         ensures failed { IsHonest (state self.old)
             → OnErr result (CoverTheSame (state self.new).pending (state self.old).pending) };
 
-    /// The length of every disk is a number of 64 bits.
+    /// The length of a disk is below 2^64 bytes.
     ghost bounded: { (disk : Self) → (state disk).size < 2 ^ 64 };
 
-    /// What a stop may leave now counts as left since any time up to now, and since now there is no
-    /// other.
+    /// The laws of an honest disk: what a crash may leave now counts as left since any earlier moment, and since now
+    /// nothing more.
     ghost sound: { (disk : Self) → IsHonest (state disk) → IsSound (state disk) };
 }
 
-/// Whether so many bytes from this position on pass the end of a disk of that size.
+/// Reports whether `len` bytes from `position` pass the end of a disk of `size` bytes.
 pub fn passes_end(size: u64, position: u64, len: u64) -> bool
     ensures { IsTrue result ↔ (size < position + len) }
 {
     position > size || len > size - position
 }
 
-/// The error of a read that passes the end. It is no failure of the device, and is not counted.
+/// Returns the error of a read that passes the end, which is not counted as a failure of the device.
 pub fn past_end() -> io::Error
     ensures kind { error_kind result ≡ UnexpectedEof }
 {
     io::Error::new(io::ErrorKind::UnexpectedEof, "past the end")
 }
 
-/// Counts one failure of the device, up to the greatest number of 64 bits.
+/// Adds one to the count of failures, which stops at 2^64 - 1.
 pub fn count_failure(failures: &mut u64)
     ensures once { IsCountedOnce failures.old failures.new }
 {

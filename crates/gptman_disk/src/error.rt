@@ -1,4 +1,4 @@
-//! What the calls answer where they refuse: sixteen kinds of error, with their numbers and texts.
+//! The errors of all calls: sixteen kinds, with their numbers and texts.
 
 ghost use Rattle.std.specs.Prelude.{◌≡◌, ◌↔◌, ◌<◌, ◌≤◌, IsTrue};
 ghost use Rattle.gptman_disk.specs.Fault.{fault_number, fault_of, is_signature_fault, out_of_memory, variant_name};
@@ -8,7 +8,7 @@ use std::alloc::{AllocError, AllocFailed};
 use std::io;
 use thiserror::Error;
 
-/// Why a call refused.
+/// The error of a call.
 #[derive(Debug, Drop, Error)]
 pub enum Error {
     /// The disk failed, or a read passed its end.
@@ -23,26 +23,27 @@ pub enum Error {
     /// The header's size is not 92 bytes.
     #[error("invalid header size")]
     InvalidHeaderSize,
-    /// The header's checksum is not that of its bytes: the stored one, then the computed one.
+    /// The stored checksum of the header (first) is not the computed one (second).
     #[error("corrupted CRC32 checksum ({0} != {1})")]
     InvalidChecksum(u32, u32),
-    /// The checksum of the entry array is not that of its bytes: the stored one, then the computed one.
+    /// The stored checksum of the entry array (first) is not the computed one (second).
     #[error("corrupted partition entry array CRC32 checksum ({0} != {1})")]
     InvalidPartitionEntryArrayChecksum(u32, u32),
-    /// Neither copy of the table can be read: what is wrong with the primary one, then with the backup.
+    /// Neither copy can be read: the error of the primary copy, then of the backup copy.
     #[error("could not read primary header ({0}) nor backup header ({1})")]
     ReadError(Box<Error>, Box<Error>),
-    /// There is no room: a range of bytes ends past the end of the disk.
+    /// A range of bytes ends past the end of the disk, or no free range is large enough.
     #[error("no space left")]
     NoSpaceLeft,
-    /// Two used entries have one unique GUID.
+    /// Two used entries have the same unique GUID.
     #[error("conflict of partition GUIDs")]
     ConflictPartitionGUID,
-    /// The boundaries of the partitions, or the usable sectors, are not in order.
+    /// An entry ends before it starts, two used ones overlap, one is outside the usable sectors, or the first usable
+    /// sector is more than one after the last.
     #[error("invalid partition boundaries: partitions must have positive size, must not overlap, \
              and must fit within the disk")]
     InvalidPartitionBoundaries,
-    /// There is no entry of this number. Entries are numbered from 1.
+    /// No entry has this number. Entries are numbered from 1.
     #[error("invalid partition number: {0}")]
     InvalidPartitionNumber(u32),
     /// The entry is not used.
@@ -51,30 +52,30 @@ pub enum Error {
     /// No used entry covers the sector.
     #[error("partition not found")]
     PartitionNotFound,
-    /// A position does not fit in 64 bits, or a header cannot be fitted: its entries take no bytes, or
-    /// the disk has too few sectors.
+    /// A position does not fit in 64 bits, the disk has too few sectors, or the entries of a header to be fitted take
+    /// no bytes.
     #[error("an arithmetic operation overflowed")]
     Overflow,
-    /// There was no memory.
+    /// An allocation failed.
     #[error("no memory")]
     OutOfMemory,
-    /// The entries are not of 128 bytes, and there is at least one: the size that the header gives.
+    /// The header's entry size (in bytes) is not 128, and it counts at least one entry.
     #[error("invalid partition entry size: {0}")]
     InvalidPartitionEntrySize(u32),
 }
 
-/// What a call answers.
+/// The result of a call.
 pub type Result<T> = std::result::Result<T, Error>;
 
 impl Error {
-    // Whether there was no memory, which is no fault of a disk or of a copy.
+    // Reports whether an allocation failed, which is not a fault of a disk or a copy.
     pub fn is_out_of_memory(&self) -> bool
         ensures { IsTrue result ↔ (fault_of self.now ≡ out_of_memory) }
     {
         matches!(self, Error::OutOfMemory)
     }
 
-    // Whether it is that of a header which does not begin as a header.
+    // Reports whether the header does not begin with the signature.
     pub fn is_invalid_signature(&self) -> bool
         ensures { result ≡ is_signature_fault (fault_of self.now) }
     {
@@ -105,7 +106,7 @@ impl Error {
         }
     }
 
-    /// Returns the number that callers in C see, from 1 to 16.
+    /// Returns the number for callers in C, from 1 to 16.
     pub fn number(&self) -> u32
         ensures number { result ≡ fault_number (fault_of self.now) }
         ensures least { 0 < result }

@@ -1,8 +1,8 @@
-//! Disks: what a table is read from and written to, and why a call fails.
+//! Disks from which a table is read and to which it is written, and the errors of all calls.
 //!
-//! `disk` says what a disk is, and its modules are all disks of this repository: over a file, in memory, with a fuse, with
-//! one call that fails, longer than memory. `error` has the errors of all calls, with names and numbers, and `opening`
-//! opens a file or device safely. Nothing here knows of tables.
+//! `disk` has the trait `Disk` and its implementations: over a file, in memory, with a fuse, with one failing call, and
+//! longer than memory. `error` has the errors, with names and numbers. `opening` opens a file or device safely. Nothing
+//! here knows about tables.
 #![tactic(auto)]
 
 pub mod disk;

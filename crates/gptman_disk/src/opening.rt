@@ -1,5 +1,5 @@
-//! Opens a disk image or a block device so that nothing around the program can harm it: a file that is written to never
-//! gets the descriptor of a closed standard stream, and programs that write to the same image do so one after the other.
+//! Opens a disk image or a block device so that output of the program cannot end up in it, and so that programs that
+//! write to it do so one after another.
 
 pub mod streams;
 
@@ -9,9 +9,10 @@ use std::fs::File;
 use std::rt::Files;
 pub use streams::{Held, hold};
 
-/// The image as a disk, for reading alone where nothing is to be written. Else this waits until no other
-/// program holds the advisory lock of `flock` on the image, and holds it until the opening above the standard
-/// streams is closed. Where the lock cannot be had, as in a file system without locks, it goes on without.
+/// Opens the image as a disk, read-only unless `writes`.
+///
+/// For writing it first waits for the advisory `flock` lock on `held.above`, which is released when that file is
+/// closed. If locking fails, as in a file system without locks, the image is opened without a lock.
 pub fn open<R: Files<File = File>>(
     files: &R,
     image: &str,

@@ -1,4 +1,4 @@
-//! A disk of which one call fails.
+//! A disk with one failing call.
 
 ghost use Rattle.std.specs.Prelude.{◌≡◌};
 ghost use Rattle.gptman_disk.specs.Disk.{IsCountedOnce};
@@ -11,22 +11,22 @@ use crate::error::Result;
 use std::alloc::Global;
 use std::io;
 
-/// A disk that passes its calls on to one in memory, but for one of them, which fails. A write that fails so is
-/// passed on all the same, and no other call is. A read that passes the end fails below: that is no failure of
-/// the disk, and is not counted as one.
+/// A disk that passes its calls on to a disk in memory, except one chosen call, which fails. A chosen write is still
+/// passed on, so its bytes are written; no other chosen call is. A read past the end fails in the disk below, and is
+/// not counted as a failure.
 #[derive(Drop)]
 pub struct FaultyDisk {
     below: MemoryDisk,
     position: u64,
-    // How many calls come before the one that fails. None once it was made, or where none fails.
+    // The number of calls before the one that fails; `None` after that call, or if none fails.
     calls_left: Option<u64>,
     failures: u64,
     ghost stands: { position ≡ (⟦<MemoryDisk as Disk>⟧.state below).position },
 }
 
 impl FaultyDisk {
-    /// Over this disk, whose position is 0, with the failure at the call of this number, counted from 0, if one
-    /// is to fail.
+    /// Returns a disk over `below`, whose position must be 0. The call with number `failing`, counted from 0, fails;
+    /// with `None` no call is chosen to fail.
     pub fn new(below: MemoryDisk, failing: Option<u64>) -> FaultyDisk
         requires { (⟦<MemoryDisk as Disk>⟧.state below).position ≡ 0 }
     {
@@ -38,23 +38,23 @@ impl FaultyDisk {
         }
     }
 
-    /// How many calls come before the one that fails. None once it was made.
+    /// Returns the number of calls before the one that fails, or `None` after that call.
     pub fn calls_left(&self) -> Option<u64> {
         self.calls_left
     }
 
-    /// The bytes that a read gives.
+    /// Returns the bytes that a read returns.
     pub fn bytes(&self) -> &[u8] {
         self.below.bytes()
     }
 
-    /// The disk below, with all that was passed on to it.
+    /// Returns the disk below, with all that was passed on to it.
     pub fn into_inner(self) -> MemoryDisk {
         self.below
     }
 }
 
-// Whether this call is the one that fails. It counts the call.
+// Counts the call, and reports whether it is the one that fails.
 fn is_chosen(calls_left: &mut Option<u64>) -> bool {
     match *calls_left {
         None => false,
@@ -69,7 +69,7 @@ fn is_chosen(calls_left: &mut Option<u64>) -> bool {
     }
 }
 
-// The failure of that call, which is counted.
+// Counts the failure, and returns its error.
 fn fail(failures: &mut u64) -> io::Error
     ensures once { IsCountedOnce failures.old failures.new }
 {
@@ -132,7 +132,11 @@ impl Disk for FaultyDisk {
         d.below.failures d.below.replays) };
 }
 
-/// A disk of these bytes of which one call fails.
+/// Returns a disk of these bytes, in which the call with number `call`, counted from 0, fails.
+///
+/// # Errors
+///
+/// `OutOfMemory` if the copies of the bytes cannot be allocated.
 pub fn failing_once(alloc: Global, bytes: &[u8], call: u64) -> Result<FaultyDisk> {
     let below = MemoryDisk::new(alloc, bytes.to_vec(alloc)?)?;
     Ok(FaultyDisk::new(below, Some(call)))

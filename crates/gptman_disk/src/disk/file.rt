@@ -1,6 +1,6 @@
-//! A disk over a file or a block device of the system.
+//! A disk over a file or a block device.
 //!
-//! It counts the failures of the system's calls. Nothing is claimed of what the system keeps.
+//! It counts failed system calls. No contract says what the system keeps.
 
 ghost use Rattle.std.specs.Prelude.{◌≡◌, ◌<◌, ◌^◌, IfOk, IfErr};
 ghost use Rattle.gptman_disk.specs.File.{file_state, never_honest};
@@ -12,19 +12,19 @@ use std::io;
 use std::io::{Read, Seek, SeekFrom, Write};
 use std::rt::Files;
 
-/// A disk over an open file. Its length in bytes is that which the file had at the opening.
+/// A disk over an open file. Its length in bytes is that of the file when it was opened.
 ///
-/// Two things belong to the process, and not to the disk. A program that opens one sees to them:
+/// Two things belong to the process, and the program must take care of them:
 ///
-/// - **Standard streams.** A file that is opened gets the lowest descriptor that is free. Where the
-///   program was started with standard input, output or error closed, that is 0, 1 or 2, and what is
-///   printed then goes into the disk. So before that open the same path for reading alone, again and
-///   again until the descriptor is above 2, and hold these files as long as the program runs: what is
-///   printed to one of them fails.
-/// - **Several writers.** No lock is taken, and two programs that read the same table and write
-///   changes of it lose one of the two. Where others may write to the file, take `File::lock` on the
-///   last of those openings before this disk is opened, and hold it until the disk is dropped. It
-///   holds off programs that take this lock too, and no others.
+/// - **Standard streams.** A newly opened file gets the lowest free descriptor. If the program was started with
+///   standard input, output or error closed, that is 0, 1 or 2, and output then goes into the disk. So first open the
+///   same path read-only until the descriptor is above 2, and hold these files until the program ends: output to one of
+///   them fails.
+/// - **Several writers.** This type takes no lock, and if two programs read the same table and both write a change, one
+///   change is lost. If others may write to the file, take `File::lock` on the last of those openings before you open
+///   this disk, and hold it until the disk is dropped. Only programs that take this lock too are kept out.
+///
+/// `opening` does both.
 #[derive(Drop)]
 pub struct FileDisk {
     file: File,
@@ -37,11 +37,13 @@ pub struct FileDisk {
 impl FileDisk {
     ghost use Rattle.gptman_disk.specs.Fault.{fault_of, io as io_fault};
 
-    /// Opens the file or the block device at this path for reading and writing, at position 0.
+    /// Opens the file or block device at `path` for reading and writing, at position 0.
     ///
     ///     let mut disk = FileDisk::open(&rt, "disk.img")?;
     ///
-    /// `Io` where the system does not open it, or does not tell its length.
+    /// # Errors
+    ///
+    /// `Io` if the file cannot be opened, or its length cannot be found.
     pub fn open<R: Files<File = File>>(files: &R, path: &str) -> Result<FileDisk>
         ensures position { IfOk result (λ disk. (⟦<FileDisk as Disk>⟧.state disk).position ≡ 0) }
         ensures failures { IfOk result (λ disk. (⟦<FileDisk as Disk>⟧.state disk).failures ≡ 0) }
@@ -50,10 +52,12 @@ impl FileDisk {
         FileDisk::over(OpenOptions::new().read(true).write(true).open(files, path)?)
     }
 
-    /// Opens the file at this path for reading alone, at position 0. Its writes fail. A pipe is opened
-    /// no sooner than another program opens it for writing.
+    /// Opens the file at `path` read-only, at position 0. Writes to it fail. Opening a pipe waits until another program
+    /// opens it for writing.
     ///
-    /// `Io` where the system does not open it, or does not tell its length.
+    /// # Errors
+    ///
+    /// `Io` if the file cannot be opened, or its length cannot be found.
     pub fn open_read<R: Files<File = File>>(files: &R, path: &str) -> Result<FileDisk>
         ensures position { IfOk result (λ disk. (⟦<FileDisk as Disk>⟧.state disk).position ≡ 0) }
         ensures failures { IfOk result (λ disk. (⟦<FileDisk as Disk>⟧.state disk).failures ≡ 0) }
@@ -62,7 +66,7 @@ impl FileDisk {
         FileDisk::over(OpenOptions::new().read(true).open(files, path)?)
     }
 
-    // Takes the length, and goes to the start.
+    // Takes the length, and seeks to the start.
     fn over(file: File) -> Result<FileDisk>
         ensures position { IfOk result (λ disk. (⟦<FileDisk as Disk>⟧.state disk).position ≡ 0) }
         ensures failures { IfOk result (λ disk. (⟦<FileDisk as Disk>⟧.state disk).failures ≡ 0) }
@@ -101,7 +105,7 @@ impl Disk for FileDisk {
         Ok(self.size)
     }
 
-    /// As the trait says. A read that passes the end fails without a call of the system.
+    /// Reads as the trait says. A read past the end fails without a system call.
     fn read_exact(&mut self, buf: &mut [u8]) -> io::Result<()> {
         let len = buf.len() as u64;
         if passes_end(self.size, self.position, len) {

@@ -1,5 +1,4 @@
-//! A disk that may be longer than memory: it keeps what is written to it alone, and all else of it is
-//! zero.
+//! A disk that may be longer than memory: it stores only what is written to it, and reads zeros elsewhere.
 
 ghost use Rattle.std.specs.Prelude.{◌<◌, ◌^◌};
 ghost use Rattle.gptman_disk.specs.File.{file_state, never_honest};
@@ -9,7 +8,7 @@ use crate::error::Result;
 use std::alloc::Global;
 use std::io;
 
-// What was written from this byte on.
+// A write, and its first byte.
 #[derive(Drop)]
 struct Written {
     at: u64,
@@ -17,7 +16,7 @@ struct Written {
 }
 
 impl Written {
-    // Lays it over the bytes that stand from this place on.
+    // Copies the part that overlaps into `bytes`, which begin at byte `at` of the disk.
     fn lay(&self, at: u64, bytes: &mut [u8]) {
         let before = self.at.saturating_sub(at) as usize;
         let passed = at.saturating_sub(self.at) as usize;
@@ -31,8 +30,8 @@ impl Written {
     }
 }
 
-/// A disk of so many bytes, all of them zero where nothing was written. A write fails where there is no
-/// memory for it, and a read where the disk is damaged.
+/// A disk of `len` bytes, zero where nothing was written. A write fails on allocation failure; a read fails in the
+/// damaged range.
 #[derive(Drop)]
 pub struct LongDisk {
     alloc: Global,
@@ -44,7 +43,7 @@ pub struct LongDisk {
 }
 
 impl LongDisk {
-    /// A disk of so many zeros.
+    /// Returns a disk of `len` zeros.
     pub fn new(alloc: Global, len: u64) -> LongDisk {
         LongDisk {
             alloc,
@@ -55,25 +54,25 @@ impl LongDisk {
         }
     }
 
-    /// From now on a read fails that has one of the bytes from the first place up to the second.
+    /// Makes later reads fail that include a byte of `from..to`.
     pub fn damage(&mut self, from: u64, to: u64) {
         self.damage = (from, to);
     }
 
-    /// All its bytes.
+    /// Returns all bytes.
     pub fn into_bytes(self) -> Result<Vec<u8>> {
         let mut bytes = vec![in self.alloc; 0; self.len as usize]?;
         fill(&self.written, 0, &mut bytes);
         Ok(bytes)
     }
 
-    // Whether so many bytes from the position on have a damaged one.
+    // Reports whether the next `len` bytes include a damaged one.
     fn is_damaged(&self, len: u64) -> bool {
         self.position < self.damage.1 && self.damage.0 < self.position.saturating_add(len)
     }
 }
 
-// Fills the buffer with the bytes from this place on.
+// Fills `buf` with the bytes from byte `at`.
 fn fill(written: &[Written], at: u64, buf: &mut [u8]) {
     buf.fill(0);
     for write in written {
@@ -81,7 +80,7 @@ fn fill(written: &[Written], at: u64, buf: &mut [u8]) {
     }
 }
 
-// Nothing is claimed of what it keeps, and its count of failures stands where it stops.
+// This disk is never honest, and its count of failures is at the maximum from the start.
 impl Disk for LongDisk {
     ghost state = { λ d. file_state d.len d.position 18446744073709551615 };
 

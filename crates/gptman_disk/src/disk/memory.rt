@@ -1,7 +1,7 @@
-//! A disk in memory, which can be stopped.
+//! A disk in memory, for simulated crashes.
 //!
-//! It keeps a record of its writes and syncs. A stop goes through that record and makes of it one
-//! of the disks that a crash may leave. A fuse lets every call from a chosen one on fail.
+//! It records its writes and syncs. `stop` turns the record into one of the disks that a crash may leave. With a fuse,
+//! all calls after the first few fail.
 
 ghost use Rattle.std.specs.Prelude.{◌≡◌, ◌≤◌, ◌+◌, ◌<◌, ◌^◌, ◌⊎◌, ◌↔◌, [], ◌∷◌, true, false, length};
 ghost use Rattle.std.specs.Prelude.{Some, None};
@@ -23,18 +23,18 @@ use crate::error::Result;
 use std::alloc::Global;
 use std::io;
 
-/// What a stop leaves of one pending write.
+/// What a crash leaves of one pending write.
 #[derive(Clone, Copy, Debug, PartialEq, Eq)]
 pub enum Fate {
-    /// What was there before the write.
+    /// The bytes before the write.
     Old,
-    /// The bytes of the write.
+    /// The written bytes.
     New,
-    /// This byte, over the whole range of the write.
+    /// This byte, over the whole range.
     Garbage(u8),
 }
 
-// A write: its first byte, its bytes, and whether the device did it.
+// A write: its first byte, its bytes, and whether the device carried it out.
 #[derive(Drop)]
 struct Written {
     at: u64,
@@ -48,9 +48,9 @@ enum Event {
     Sync,
 }
 
-/// A disk over bytes in memory. It is honest, and keeps each of its writes and syncs in a record.
+/// A disk over bytes in memory. It is honest, and records each write and sync.
 ///
-/// A write or sync whose record finds no memory changes nothing, and fails as a device does.
+/// If a write or sync cannot allocate its record, it changes nothing and counts as a failure of the device.
 #[derive(Drop)]
 pub struct MemoryDisk {
     alloc: Global,
@@ -70,9 +70,11 @@ impl MemoryDisk {
     ghost use Rattle.gptman_disk.specs.Fault.{fault_of, out_of_memory};
     ghost use Rattle.gptman_disk.specs.Fate.{bytes_left, calls_left, history_of};
 
-    /// A disk of these bytes, all of them stored, at position 0, that serves every call.
+    /// Returns a disk of these bytes, all of them synced, at position 0, without a fuse.
     ///
-    /// It keeps a copy of the bytes; `OutOfMemory` where there is no room for it.
+    /// # Errors
+    ///
+    /// `OutOfMemory` if the copy of the bytes cannot be allocated.
     pub fn new(alloc: Global, bytes: Vec<u8>) -> Result<MemoryDisk>
         ensures refused { IfErr result (λ e. fault_of e ≡ out_of_memory) }
         ensures value { IfOk result (λ disk. IsFresh bytes.items (⟦<MemoryDisk as Disk>⟧.state disk)) }
@@ -89,10 +91,11 @@ impl MemoryDisk {
         })
     }
 
-    /// A disk of these bytes, as `new` makes it, of which the first `calls` calls are served and
-    /// every later one fails.
+    /// Returns a disk as `new` does, except that only the first `calls` calls are served and all later ones fail.
     ///
-    /// `OutOfMemory` where there is no room for the copy of the bytes.
+    /// # Errors
+    ///
+    /// `OutOfMemory` if the copy of the bytes cannot be allocated.
     pub fn with_fuse(alloc: Global, bytes: Vec<u8>, calls: u64) -> Result<MemoryDisk>
         ensures refused { IfErr result (λ e. fault_of e ≡ out_of_memory) }
         ensures value { IfOk result (λ disk. IsFresh bytes.items (⟦<MemoryDisk as Disk>⟧.state disk)) }
@@ -103,11 +106,14 @@ impl MemoryDisk {
         Ok(disk)
     }
 
-    /// The disk that a stop leaves, with all of its bytes stored, at position 0, with no fuse.
+    /// Returns the disk that a crash leaves, with all bytes synced, at position 0, without a fuse.
     ///
-    /// It has the bytes at the last sync that succeeded, or at the making, and the writes since
-    /// then in their order, each with its fate. A write with no fate of its own has `Old`, and
-    /// fates behind the last write are ignored. `OutOfMemory` where there is no room for the bytes.
+    /// It has the bytes of the last successful sync, or of the start, changed by the writes since then in their order,
+    /// each with its fate. A write without a fate has `Old`, and surplus fates are ignored.
+    ///
+    /// # Errors
+    ///
+    /// `OutOfMemory` if the bytes cannot be allocated.
     pub fn stop(self, fates: &[Fate]) -> Result<MemoryDisk>
         ensures refused { IfErr result (λ e. fault_of e ≡ out_of_memory) }
         ensures image { IfOk result (λ disk. Image (⟦<MemoryDisk as Disk>⟧.state self)
@@ -138,7 +144,7 @@ impl MemoryDisk {
         MemoryDisk::new(self.alloc, left)
     }
 
-    /// The bytes that a read gives, from the first to the last.
+    /// Returns the bytes that a read returns, from the first to the last.
     pub fn bytes(&self) -> &[u8]
         ensures { result.now ≡ (⟦<MemoryDisk as Disk>⟧.state self.now).view }
     {
@@ -149,7 +155,7 @@ impl MemoryDisk {
 impl Written {
     ghost use Rattle.gptman_disk.specs.Fate.{fate_step};
 
-    // Does with these bytes what the fate of this write says.
+    // Applies a fate of this write to the bytes.
     fn leave(&self, bytes: &mut Vec<u8>, fate: Fate)
         requires { self.now.at + length self.now.bytes.items ≤ length bytes.old.items }
         ensures after { bytes.new.items ≡ fate_step fate bytes.old.items self.now.at self.now.bytes.items }
@@ -164,7 +170,7 @@ impl Written {
     }
 }
 
-// Lays these bytes over others.
+// Overwrites the bytes from `at`.
 fn lay(bytes: &mut Vec<u8>, at: usize, over: &[u8])
     requires { at + length over.now ≤ length bytes.old.items }
     ensures after { bytes.new.items ≡ overlay bytes.old.items at over.now }
@@ -173,7 +179,7 @@ fn lay(bytes: &mut Vec<u8>, at: usize, over: &[u8])
     bytes[at..at + over.len()].copy_from_slice(over);
 }
 
-// Whether one more call is served. It counts the call.
+// Counts a call, and reports whether the fuse serves it.
 fn is_served(fuse: &mut Option<u64>) -> bool
     ensures answers { result ≡ serves fuse.old }
     ensures counts { fuse.new ≡ after_call fuse.old }
@@ -188,7 +194,7 @@ fn is_served(fuse: &mut Option<u64>) -> bool
     }
 }
 
-// The failure of a device, which is counted.
+// Counts a failure of the device, and returns its error.
 fn fail(failures: &mut u64) -> io::Error
     ensures once { IsCountedOnce failures.old failures.new }
 {
@@ -196,7 +202,7 @@ fn fail(failures: &mut u64) -> io::Error
     io::Error::other("the device failed")
 }
 
-// The failure of a disk that has no memory for its record, which is counted.
+// Counts a failed allocation of a record as a failure, and returns its error.
 fn lack_memory(failures: &mut u64) -> io::Error
     ensures once { IsCountedOnce failures.old failures.new }
     ensures kind { error_kind result ≡ OutOfMemory }
@@ -211,8 +217,7 @@ impl Disk for MemoryDisk {
 
     ghost state = { λ d. memory_state d.start.items d.bytes.items d.events.items d.position d.failures };
 
-    /// As the trait says. It fails where the fuse does not serve the call, and nowhere else. Then the
-    /// position stays.
+    /// Seeks as the trait says. Fails only if the fuse does not serve the call; the position is then unchanged.
     fn seek_start(&mut self, at: u64) -> io::Result<u64>
         ensures reads { Reads (⟦<MemoryDisk as Disk>⟧.state self.old)
             (⟦<MemoryDisk as Disk>⟧.state self.new) }
@@ -235,8 +240,7 @@ impl Disk for MemoryDisk {
         Ok(at)
     }
 
-    /// As the trait says. It fails where the fuse does not serve the call, and nowhere else. Then the
-    /// position stays.
+    /// Seeks as the trait says. Fails only if the fuse does not serve the call; the position is then unchanged.
     fn seek_end(&mut self) -> io::Result<u64>
         ensures reads { Reads (⟦<MemoryDisk as Disk>⟧.state self.old)
             (⟦<MemoryDisk as Disk>⟧.state self.new) }
@@ -260,9 +264,8 @@ impl Disk for MemoryDisk {
         Ok(self.position)
     }
 
-    /// As the trait says. It fails where the read passes the end, which is no failure of the device,
-    /// and where the fuse does not serve the call, and nowhere else. Then the position stays, and the
-    /// buffer is as it was.
+    /// Reads as the trait says. Fails only if the read passes the end, which is not counted as a failure, or if the
+    /// fuse does not serve the call. Position and buffer are then unchanged.
     fn read_exact(&mut self, buf: &mut [u8]) -> io::Result<()>
         ensures reads { Reads (⟦<MemoryDisk as Disk>⟧.state self.old)
             (⟦<MemoryDisk as Disk>⟧.state self.new) }
@@ -303,9 +306,9 @@ impl Disk for MemoryDisk {
         Ok(())
     }
 
-    /// As the trait says. It fails where the fuse does not serve the call: then the write is pending
-    /// with its bytes, which a read does not give. And it fails where there is no memory for the record:
-    /// then nothing changes, and the error is of the kind `OutOfMemory`.
+    /// Writes as the trait says. If the fuse does not serve the call, the write fails and is pending, and a read
+    /// returns the old bytes. If the record cannot be allocated, the write fails with an error of kind `OutOfMemory`
+    /// and changes nothing.
     fn write_all(&mut self, buf: &[u8]) -> io::Result<()>
         requires { HasNext (⟦<MemoryDisk as Disk>⟧.state self.old) (length buf.now) }
         ensures keeps { Keeps (⟦<MemoryDisk as Disk>⟧.state self.old)
@@ -367,8 +370,8 @@ impl Disk for MemoryDisk {
         Ok(())
     }
 
-    /// As the trait says. It fails where the fuse does not serve the call, and where there is no memory
-    /// for the record, with an error of the kind `OutOfMemory`. Then record and position stay.
+    /// Syncs as the trait says. Fails if the fuse does not serve the call, or, with an error of kind `OutOfMemory`, if
+    /// the record cannot be allocated. Record and position are then unchanged.
     fn sync(&mut self) -> io::Result<()>
         ensures keeps { Keeps (⟦<MemoryDisk as Disk>⟧.state self.old)
             (⟦<MemoryDisk as Disk>⟧.state self.new) }

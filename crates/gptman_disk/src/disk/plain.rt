@@ -6,7 +6,7 @@ ghost use Rattle.gptman_disk.specs.File.{file_state, never_honest};
 use super::{Disk, passes_end, past_end};
 use std::io;
 
-/// A disk of these bytes, which keeps no record of what is written to it.
+/// A disk over these bytes, without a record of its writes.
 #[derive(Drop)]
 pub struct PlainDisk {
     bytes: Vec<u8>,
@@ -20,7 +20,7 @@ impl PlainDisk {
     }
 }
 
-// Nothing is claimed of what it keeps, and its count of failures stands where it stops.
+// This disk is never honest, and its count of failures is at the maximum from the start.
 impl Disk for PlainDisk {
     ghost state = { λ d. file_state (length d.bytes.items) d.position 18446744073709551615 };
 

@@ -1,4 +1,4 @@
-//! The standard streams: descriptors 0, 1 and 2, in whose place nothing is opened for writing.
+//! The standard streams: nothing is opened for writing as descriptor 0, 1 or 2.
 
 use std::alloc::Global;
 use std::fs::File;
@@ -8,21 +8,23 @@ use std::os::unix::fs::FileTypeExt;
 use std::rt::Files;
 use std::{fs, io, mem};
 
-/// Openings of the image for reading alone. As long as they are held, no file is opened in the place of
-/// a standard stream, and what is printed to one that was closed fails.
+/// Read-only openings of the image. While they are held, no other file gets the descriptor of a closed standard stream,
+/// and output to that stream fails.
 #[derive(Drop)]
 pub struct Held {
-    /// One in the place of each standard stream that is closed.
+    /// One for each closed standard stream.
     pub streams: Vec<File>,
 
-    /// One above them.
+    /// The last one, whose descriptor is above 2.
     pub above: File,
 }
 
-/// Opens the image until its descriptor is above 2: the system gives a file the lowest one that is free.
+/// Opens the image until its descriptor is above 2: the system assigns the lowest free one.
 ///
-/// An error where the image cannot be opened for reading, or is no file and no device. So a pipe is
-/// refused before it is opened, which would wait for another program.
+/// # Errors
+///
+/// If the image cannot be opened for reading, or is neither a file nor a device. The type is tested first, because
+/// opening a pipe waits for another program.
 pub fn hold<R: Files<File = File>>(files: &R, alloc: Global, image: &str) -> io::Result<Held> {
     if !is_file_or_device(files, image)? {
         return Err(io::Error::from(ErrorKind::InvalidInput));
@@ -39,7 +41,7 @@ pub fn hold<R: Files<File = File>>(files: &R, alloc: Global, image: &str) -> io:
     Ok(Held { streams, above })
 }
 
-// Whether this is of a kind that may be a disk.
+// Reports whether the file type may be a disk.
 fn is_file_or_device<R: Files>(files: &R, image: &str) -> io::Result<bool> {
     let kind = fs::metadata(files, image)?.file_type();
     Ok(kind.is_file() || kind.is_block_device() || kind.is_char_device())
