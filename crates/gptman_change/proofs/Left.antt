@@ -1,4 +1,4 @@
--- What a write leaves that comes after calls that only read.
+-- The effect of a write that follows calls that only read.
 use Rattle.std.proofs.Common.{◌≡◌, sym, subst, ◌∙◌, ℕ, List, [], ◌∷◌, Option}
 use Rattle.gptman.specs.Crash.{IsKeptFor, other_side, StartsFromOne, StartsLaidOut}
 use Rattle.gptman.specs.Disk.{OnlyRead, DiskState, AgreesOutside, IsHonest, Keeps, LeavesOnly, Reads, Writes, Wrote}
@@ -19,12 +19,12 @@ use Rattle.gptman_change.specs.Planning.{Makes}
 use Rattle.gptman_change.specs.Reads.{IsReadFrom}
 use Rattle.gptman_change.proofs.Read.{read_before}
 
--- what holds one of two tables is read as one of them
+-- a disk that holds one of two tables is read as one of them
 pub either : (was next : Table) (ss : ℕ) (old new : DiskState) → StopsHold old new ss (was ∷ next ∷ []) → StopsLeaveEither was next ss old new
 either was next ss old new held = record { held = held; read = λ b left known. reads_one_of b ss (was ∷ next ∷ []) (held b left) known }
 
 module _ (next : GPT) (was : Table) (old mid : DiskState) (read : OnlyRead old mid) (keeps : Keeps old mid) where
-  -- what was good to write from still is
+  -- a good copy is still good after the reads
   kept_through : IsKeptFor old next was → IsKeptFor mid next was
   kept_through kept = record {
     synced = read.pending ∙ kept.synced;
@@ -35,7 +35,7 @@ module _ (next : GPT) (was : Table) (old mid : DiskState) (read : OnlyRead old m
         (sym keeps.size) kept.clear;
   }
 
-  -- while it is read, a stop leaves what was there
+  -- during the reads, a crash leaves the old table
   pub still_held : IsKeptFor old next was → LeavesOnly old mid (λ b. HoldsOneOf b next.sector_size (was ∷ table_in next ∷ []))
   still_held kept = λ b left.
       let agrees = subst (λ (ranges : List (ℕ × ℕ)). AgreesOutside ranges old.view b) kept.synced (read.wrote.crash b left) in
@@ -46,7 +46,7 @@ module _ (next : GPT) (was : Table) (old mid : DiskState) (read : OnlyRead old m
         holds = holds_local old.view b next.sector_size kept.side was kept.held (record { long = agrees.long; same = λ k within. agrees.same k tt });
       }
 
-  -- and while the write goes on, what it leaves
+  -- and during the write, the old table or the new one
   pub leaves_since : (new : DiskState) → Wrote (table_ranges next) mid new
       → (HasLayout next mid.size → (was : Table) → IsKeptFor mid next was
       → LeavesOnly mid new (λ b. HoldsOneOf b next.sector_size (was ∷ table_in next ∷ [])))
@@ -60,14 +60,14 @@ pub wrote_since : (next : GPT) (old mid new : DiskState) → OnlyRead old mid �
     → Wrote (table_ranges next) old new
 wrote_since next old mid new read wrote = wrote_then (within_self _) (wrote_wider within_none read.wrote) wrote
 
--- where a write begins on the stated layout, after calls that only read
+-- the stated layout holds where the write begins
 pub laid_since : (next : GPT) (old mid : DiskState) → OnlyRead old mid → Keeps old mid → HasLayout next old.size → StartsLaidOut mid next
 laid_since next old mid read keeps layout = record {
   honest = read.wrote.honest;
   layout = subst (λ (n : ℕ). HasLayout next n) (sym keeps.size) layout;
 }
 
--- What a write laid of the value and the header that it left, it laid of those with their checksums.
+-- the written bytes are those of the value and the header with their checksums
 pub both_laid : (view : List ℕ) (next left : GPT) (other : GPTHeader) → left ≡ value_with_checksums next → other ≡ other_with_checksums next
     → HasBothCopies view left other → HasBothCopies view (value_with_checksums next) (other_with_checksums next)
 both_laid view next left other value header laid = subst (λ (g : GPT). HasBothCopies view g (other_with_checksums next)) value

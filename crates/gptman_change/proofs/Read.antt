@@ -1,4 +1,4 @@
--- What is read from a disk, and what comes after it.
+-- The result of a read, also in terms of later states.
 use Rattle.std.proofs.Common.{◌≡◌, ⊎_elim, ◌⊎◌, ◌<◌, inl, inr, refl, sym, subst, ◌∙◌, ℕ, List, arith}
 use Rattle.std.specs.Prelude.{Result, Ok, Err, IfOk, Option, Some, None}
 use Rattle.std.proofs.lemmas.Bool.Decides.{eqb_tells}
@@ -19,9 +19,9 @@ use Rattle.gptman.proofs.ReadingLaw.{taken_second}
 use Rattle.gptman.proofs.Runs.{rose_before}
 use Rattle.gptman_change.specs.Reads.{IsReadFrom}
 
--- ---- with which size
+-- ---- the sector size
 
--- a disk with an accepted copy has a reading
+-- a disk with an accepted copy can be read
 record HasReading (view : List ℕ) (ss : ℕ) : Type 0 where
   copy : Copy
   taken : reading_of view ss ≡ Ok copy
@@ -34,7 +34,7 @@ has_reading : (old new : DiskState) (ss : ℕ) (copy : Copy) → MayBeRead old n
 has_reading old new ss copy (inl first) = record { copy = copy; taken = taken_first old.view ss copy first }
 has_reading old new ss copy (inr second) = with_backup old.view ss copy (copy_in primary old.view ss) refl second.0
 
--- The size with which a copy was read is the one that is found.
+-- The sector size of a copy that was read is the one that is found.
 found_is : (old new : DiskState) (g : GPT) → MayBeRead old new g.sector_size (copy_of g)
     → (g.sector_size ≡ 512) ⊎ ((g.sector_size ≡ 4096) × (reading_of old.view 512 ≡ Err invalid_signature)) → g.sector_size ≡ found_sector_size old.view
 found_is old new g accepted (inl small) =
@@ -42,9 +42,9 @@ found_is old new g accepted (inl small) =
     small ∙ sym (found_ok old.view read.copy read.taken)
 found_is old new g accepted (inr great) = great.0 ∙ sym (found_second old.view invalid_signature great.1 refl)
 
--- ---- what is read
+-- ---- the table
 
--- a reading with a size that is found
+-- a read with a sector size that is found
 pub found_read : (old new : DiskState) (r : Result GPT Error)
     → Rose old new ⊎ (Refuses r out_of_memory ⊎ (answer_of copy_of r ≡ reading_of old.view (found_sector_size old.view)))
     → IfOk r (λ g. MayBeRead old new g.sector_size (copy_of g))
@@ -64,7 +64,7 @@ found_read old new (Ok g) answer accepted second value =
       align = value.align;
     }
 
--- and with one that is given
+-- a read with a given sector size
 pub given_read : (ss : ℕ) (old new : DiskState) (r : Result GPT Error)
     → Rose old new ⊎ (Refuses r out_of_memory ⊎ (answer_of copy_of r ≡ reading_of old.view ss))
     → IfOk r (λ g. MayBeRead old new ss (copy_of g))
@@ -82,7 +82,7 @@ given_read ss old new (Ok g) answer accepted sector value = record {
   align = value.align;
 }
 
--- it stays what was read, whatever comes after it
+-- it remains what was read, whatever follows
 pub read_before : (size : Option ℕ) (old mid new : DiskState) (g : GPT) → IsReadFrom size old mid g → Keeps mid new → IsReadFrom size old new g
 read_before size old mid new g was keeps = record {
   sector = was.sector;
@@ -93,7 +93,7 @@ read_before size old mid new g was keeps = record {
   align = was.align;
 }
 
--- how often the disk failed in a reading, and in what comes after it without a failure
+-- the failures of a read, followed by calls that do not fail
 pub counts_before : (old mid new : DiskState) (table : GPT) → CountsReading old mid table → HasFailedAsOften mid new → CountsReading old new table
 counts_before old mid new table (inl none) still = inl (still ∙ none)
 counts_before old mid new table (inr once) still = inr (omega (arith, once.0, still), once.1)

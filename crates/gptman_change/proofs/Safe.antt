@@ -1,4 +1,4 @@
--- From one good copy and no other, a plan that keeps the places of a table leaves the old table or the planned one.
+-- If all good copies are of one table, a plan that keeps its places leaves that table or the planned one.
 use Rattle.std.proofs.Common.{◌≡◌, inl, inr, refl, sym, ◌∙◌, subst, ℕ, List, [], ◌∷◌, Ok, Option}
 use Rattle.gptman.specs.Crash.{IsReadInForm, KeepsWhatIsRead, StartsFromOne}
 use Rattle.gptman.specs.Disk.{AgreesOutside, DiskState, Keeps, LeavesOnly, OnlyRead, Wrote}
@@ -17,7 +17,7 @@ use Rattle.gptman_change.specs.Planning.{AlwaysKeepsPlaces, KeepsPlaces, Makes}
 use Rattle.gptman_change.specs.Reads.{size_for, IsReadFrom}
 use Rattle.gptman_change.proofs.Left.{either}
 
--- A value that is read where each accepted copy is this table is it, in the form of the place from which it was read.
+-- If each accepted copy is this table, the value that was read is it, in the form of its place.
 record IsOfTable (view : List ℕ) (ss : ℕ) (g : GPT) (was : Table) : Type 0 where
   same : table_in g ≡ was
   side : Side
@@ -33,7 +33,7 @@ of_table : (old mid : DiskState) (ss : ℕ) (g : GPT) (was : Table) → StartsGo
 of_table old mid ss g was good (inl first) = of_place old ss g was primary good first
 of_table old mid ss g was good (inr second) = of_place old ss g was backup good second.0
 
--- On a disk of that length such a value has the stated layout.
+-- On a disk of this length such a value has the stated layout.
 laid_out : (view : List ℕ) (ss len : ℕ) (table : GPT) (was : Table) → IsLaidOut was ss len → table.sector_size ≡ ss → IsOfTable view ss table was → HasLayout table len
 laid_out view ss len table was layout sector of = record {
   table = subst (λ (t : Table). IsLaidOut t table.sector_size len) (sym of.same) (subst (λ (n : ℕ). IsLaidOut was n len) (sym sector) layout);
@@ -41,14 +41,14 @@ laid_out view ss len table was layout sector of = record {
   form = of.form;
 }
 
--- What is read from a good copy is its table, and what keeps its places has the stated layout.
+-- A value read from a good copy is its table, and a plan that keeps its places keeps the stated layout.
 pub from_good : (table next : GPT) (was : Table) (old mid : DiskState) → MayBeRead old mid table.sector_size (copy_of table) → StartsGood old table.sector_size was
     → KeepsPlaces table next → (table_in table ≡ was) × HasLayout next old.size
 from_good table next was old mid accepted good stays =
     let of = of_table old mid table.sector_size table was good accepted in
     (of.same, stays.layout old.size (laid_out old.view table.sector_size old.size table was good.layout refl of))
 
--- While it is read, a stop leaves the table that was.
+-- During the read, a crash leaves the old table.
 still_holds : (old mid : DiskState) (ss : ℕ) (was : Table) (more : List Table) → StartsGood old ss was → OnlyRead old mid → LeavesOnly old mid (λ b. HoldsOneOf b ss (was ∷ more))
 still_holds old mid ss was more good only b left =
     let agrees : AgreesOutside [] old.view b = subst (λ (ranges : Ranges). AgreesOutside ranges old.view b) good.synced (only.wrote.crash b left) in
@@ -63,7 +63,7 @@ pub unwritten_safe : {A : Type 0} (planned : Makes A) (ss : ℕ) (was : Table) (
 unwritten_safe planned ss was old mid good only =
     nothing_written (λ b left known. reads_one_of b ss (was ∷ []) (still_holds old mid ss was [] good only b left) known)
 
--- The write begins on a disk that has one good copy of the old table for it.
+-- The write begins on a disk that has a good copy of the old table.
 starts : (old mid : DiskState) (ss : ℕ) (table next : GPT) (was : Table) → KeepsWhatIsRead mid → KeepsPlaces table next → StartsGood old ss was → OnlyRead old mid → Keeps old mid
     → table.sector_size ≡ ss → IsOfTable old.view ss table was → StartsFromOne mid next was
 starts old mid ss table next was law places good only keeps sector of =
@@ -76,7 +76,7 @@ starts old mid ss table next was law places good only keeps sector of =
     let layout : HasLayout table mid.size = laid_out old.view ss mid.size table was (subst (λ (len : ℕ). IsLaidOut was ss len) (sym keeps.size) good.layout) sector of in
     subst (λ (t : Table). StartsFromOne mid next t) of.same (law table next only.wrote.honest (only.pending ∙ good.synced) read places.places (places.layout mid.size layout))
 
--- A write of the planned table leaves the table that was or the planned one.
+-- A write of the planned table leaves the old table or the planned one.
 pub written_safe : {A : Type 0} (planned : Makes A) (size : Option ℕ) (was : Table) (table next : GPT) (answer : A) (old mid new : DiskState) (ranges : Ranges) → StartsGoodFor old size was
     → OnlyRead old mid → Keeps old mid → IsReadFrom size old mid table → planned table next answer → AlwaysKeepsPlaces planned → Wrote ranges mid new → KeepsWhatIsRead mid
     → (StartsFromOne mid next was → StopsHold mid new next.sector_size (was ∷ table_in next ∷ []))

@@ -1,4 +1,4 @@
--- A plan that leaves no table has written the one that it changed.
+-- A plan that never leaves a table has written the table that it changed.
 use Rattle.std.proofs.Common.{ℕ}
 use Rattle.std.specs.Prelude.{Option, Result, Ok, Err, IfOk}
 use Rattle.gptman.specs.Disk.{DiskState}

@@ -1,7 +1,7 @@
-//! One change of the table on a disk: it is read, changed in memory by a plan, and written.
+//! One change of the table on a disk: the table is read, changed in memory by a plan, and written.
 //!
-//! A plan is whatever changes a table: one edit or a whole layout. However much it changes, it is
-//! written once, so a stop leaves the old table or the planned one, and never a part of the plan.
+//! A plan can make one edit or a whole layout. It is written once, so a crash leaves the old table or the planned one,
+//! and never a part of the plan.
 #![tactic(auto)]
 
 ghost use Rattle.std.specs.Prelude.{◌≡◌, ◌<◌, ℕ, IfErr, IfOk, IfSome, OnErr, OnOk, Option};
@@ -22,37 +22,37 @@ use gptman::table::laws::what_is_read_is_kept;
 use gptman::{Disk, GPT, Result};
 use std::alloc::Global;
 
-/// What becomes of a table, and what is answered beside it.
+/// The decision of a plan, with its answer.
 #[derive(Drop)]
 pub enum Planned<A> {
-    /// The changed table is written.
+    /// Write the changed table.
     Write(A),
-    /// Nothing is written, and the table on the disk stays as it is.
+    /// Write nothing; the table on the disk is unchanged.
     Leave(A),
 }
 
 /// A change of a table in memory.
 pub trait Plan {
-    /// What is answered beside the changed table.
+    /// The value that is returned with the changed table.
     type Answer: Drop;
 
-    /// What has to hold of the plan before it is made.
+    /// The precondition of `change` on the plan.
     ghost ready: { Self → Type 0 } = { λ _. Unit {0} };
 
-    /// What the plan makes of a table on a disk of so many bytes, and answers.
+    /// The relation between the plan, the length of the disk in bytes, the table before, the table after, and the
+    /// answer.
     ghost makes: { Self → ℕ → GPT → GPT → Self.Answer → Type 0 };
 
-    /// Of which table on a disk of so many bytes it answers this, and has nothing written.
+    /// The relation between the plan, the length of the disk in bytes, a table that is left unchanged, and the answer.
     ghost leaves: { Self → ℕ → GPT → Self.Answer → Type 0 } = { λ _ _ _ _. ⊥ };
 
-    /// With which error it makes nothing of a table, on a disk of so many bytes that does not fail.
+    /// The errors with which the plan refuses a table, on a disk of this length in bytes that does not fail.
     ghost refuses: { Self → ℕ → GPT → Fault → Type 0 };
 
-    /// That it asks the disk for its length, and so may fail with it.
+    /// Holds if the plan may ask the disk for its length, and so may fail with the disk.
     ghost asks: { Self → Type 0 };
 
-    /// Changes the table, or leaves it. The disk is there for what has to know its length, and is only
-    /// read.
+    /// Changes the table, or leaves it. The disk is only for plans that need its length, and is only read.
     fn change<D: Disk>(
         &self,
         alloc: Global,
@@ -75,10 +75,12 @@ pub trait Plan {
         ensures coherent { OnOk result (IsCoherent table.new.header (entries_in table.new)) };
 }
 
-/// The table on the disk, with sectors of so many bytes, or of a size that is found: 512, or 4096
-/// where a reading with 512 shows no signature.
+/// Reads the table on the disk. Without a sector size it finds one: 512 bytes, or 4096 if a read with 512 finds no
+/// signature.
 ///
-/// The errors are those of `GPT::read_from` and `GPT::find_from`.
+/// # Errors
+///
+/// Those of `GPT::read_from` and `GPT::find_from`.
 pub fn read_table<D: Disk>(alloc: Global, disk: &mut D, sector_size: Option<u64>) -> Result<GPT>
     requires { IfSome sector_size (λ size. 0 < size) }
     ensures reads { Reads (D.state disk.old) (D.state disk.new) }
@@ -99,11 +101,12 @@ pub fn read_table<D: Disk>(alloc: Global, disk: &mut D, sector_size: Option<u64>
     }
 }
 
-/// Reads the table on the disk, with sectors of so many bytes or of a size that is found, has the plan
-/// change it, and writes it to both places, unless the plan leaves it. Answers what the plan answers.
+/// Reads the table on the disk as `read_table` does, lets the plan change it, and writes it to both places, unless the
+/// plan leaves it. Returns the answer of the plan.
 ///
-/// The errors are those of reading a table, of the plan, and of `GPT::write_into`. After one other than
-/// `Io` the disk is as it was.
+/// # Errors
+///
+/// Those of `read_table`, of the plan, and of `GPT::write_into`. After an error other than `Io` nothing was written.
 pub fn change_table<D: Disk, P: Plan>(
     alloc: Global,
     disk: &mut D,
@@ -114,15 +117,15 @@ pub fn change_table<D: Disk, P: Plan>(
     requires ready { P.ready plan.now }
     ensures keeps { Keeps (D.state disk.old) (D.state disk.new) }
 
-    // After Ok the plan gave its answer, and both places hold the planned table, or the plan left it and
-    // the disk was only read.
+    // After Ok the plan returned this answer, and either the planned table was written to both places, or the plan left
+    // the table and the disk was only read.
     ensures answer { IfOk result (IsAnswer (P.makes plan.now (D.state disk.old).size)
         (P.leaves plan.now (D.state disk.old).size)) }
     ensures changed { IsHonest (D.state disk.old) → IfOk result (λ answer. AnswersChange
         (P.makes plan.now (D.state disk.old).size) (P.leaves plan.now (D.state disk.old).size)
         sector_size answer (D.state disk.old) (D.state disk.new)) }
 
-    // An error has one of three reasons, and leaves the disk as it was unless it failed.
+    // An error has one of three reasons. Unless the disk failed, nothing was written.
     ensures refused { IsHonest (D.state disk.old) → IfErr result (λ e. RefusesChange
         (P.makes plan.now (D.state disk.old).size) (P.refuses plan.now (D.state disk.old).size)
         (P.asks plan.now) sector_size (fault_of e) (D.state disk.old) (D.state disk.new)) }
@@ -130,8 +133,8 @@ pub fn change_table<D: Disk, P: Plan>(
     ensures kept { IsHonest (D.state disk.old)
         → OnErr result (FailedOrUntouched (D.state disk.old) (D.state disk.new)) }
 
-    // A stop or a fault at any moment leaves the table that was or the planned one: from one good copy for
-    // the planned table, and where the plan keeps the places of a table, from one good copy and no other.
+    // A crash or fault at any moment leaves the old table or the planned one, if the disk starts with one good copy for
+    // the planned table, or if the plan keeps the places of a table and all good copies are of one table.
     ensures leaves { IsHonest (D.state disk.old) → LeavesChange
         (P.makes plan.now (D.state disk.old).size) sector_size (D.state disk.old) (D.state disk.new) }
     ensures safe { AlwaysKeepsPlaces (P.makes plan.now (D.state disk.old).size)

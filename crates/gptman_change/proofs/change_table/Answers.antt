@@ -28,7 +28,7 @@ pub returns-in_err-table-clause-safe : goal.returns-in_err-table-clause-safe
 returns-in_err-table-clause-safe g c = λ places was good.
     unwritten_safe _ _ was (g.D.Disk.state c.args.disk.now) (g.D.Disk.state c.read_table.new.disk) good (c.read_table.ensures.reads.only good.honest)
 
--- what a plan refuses after the reading it refuses since before it
+-- an error of the plan, in terms of the state before the read
 plan_since : (refuses : ℕ → GPT → Fault → Type 0) (asks : Type 0) (table : GPT) (fault : Fault) (old mid new : DiskState) → Keeps old mid
     → RefusesPlan (refuses mid.size) asks table fault mid new → RefusesPlan (refuses old.size) asks table fault old new
 plan_since refuses asks table fault old mid new keeps (inl why) = inl (subst (λ (n : ℕ). refuses n table fault) keeps.size why)
@@ -45,7 +45,7 @@ returns-in_err-planned-clause-refused g c = λ honest.
     (read_before c.args.sector_size old mid new table (c.in_ok-table.ensures.value honest) c.change.ensures.reads.keeps)
     (plan_since (g.P.Plan.refuses c.args.plan.now) _ table _ old mid new c.read_table.ensures.reads.keeps c.in_err-planned.ensures.refused))
 
--- up to the write the disk is read alone
+-- until the write the disk is only read
 only_read : (g : Over) (c : After-change g) → IsTrue (g.D.Disk.state c.args.disk.now).is_honest → OnlyRead (g.D.Disk.state c.args.disk.now) (g.D.Disk.state c.change.new.disk)
 only_read g c honest =
     let first = c.read_table.ensures.reads.only honest in
@@ -71,7 +71,7 @@ returns-in_err-write_into-clause-kept g c honest =
     (λ failed. inl (rose_since _ (g.D.Disk.state c.change.new.disk) (g.D.Disk.state c.write_into.new.disk) (keeps_to g at.After-change) (refused.cause failed)))
     (λ same. inr (record { view = same.view ∙ read.view; pending = same.pending ∙ read.pending })) (refused.untouched read.wrote.honest))
 
--- what the plan made, by the length of the disk after the reading
+-- what the plan made, in terms of the disk after the read
 made_here : (g : Over) (c : In-Write g)
     → g.P.Plan.makes c.args.plan.now (g.D.Disk.state c.read_table.new.disk).size c.in_ok-table.table c.change.new.table c.in-Write.answer
 made_here g c =
@@ -79,14 +79,14 @@ made_here g c =
     subst (λ planned. IsPlannedAs (g.P.Plan.makes c.args.plan.now size) (g.P.Plan.leaves c.args.plan.now size) c.in_ok-table.table c.change.new.table planned)
     c.in-Write.is c.in_ok-planned.ensures.value
 
--- and before the call
+-- and in terms of the disk before the call
 made : (g : Over) (c : In-Write g)
     → g.P.Plan.makes c.args.plan.now (g.D.Disk.state c.args.disk.now).size c.in_ok-table.table c.change.new.table c.in-Write.answer
 made g c =
     subst (λ (n : ℕ). g.P.Plan.makes c.args.plan.now n c.in_ok-table.table c.change.new.table c.in-Write.answer) c.read_table.ensures.reads.keeps.size
     (made_here g c)
 
--- what it answers to a table that it leaves
+-- the answer for a table that the plan left
 left : (g : Over) (c : In-Leave g) → g.P.Plan.leaves c.args.plan.now (g.D.Disk.state c.args.disk.now).size c.in_ok-table.table c.in-Leave.answer
 left g c =
     let size = (g.D.Disk.state c.read_table.new.disk).size in
@@ -121,7 +121,7 @@ returns-in-Leave-clause-safe g c = λ places was good.
     unwritten_safe _ _ was (g.D.Disk.state c.args.disk.now) (g.D.Disk.state c.change.new.disk) good
     (only_read g (goal.at.returns-in-Leave-clause-safe g c).After-change good.honest)
 
--- the table was read, also once the write is over
+-- the table was read, also in terms of the disk after the write
 was_read : (g : Over) (c : After-write_into g) → IsTrue (g.D.Disk.state c.args.disk.now).is_honest
     → IsReadFrom c.args.sector_size (g.D.Disk.state c.args.disk.now) (g.D.Disk.state c.write_into.new.disk) c.in_ok-table.table
 was_read g c honest =
@@ -168,7 +168,7 @@ returns-clause-changed g c honest =
       good = λ was good stays. from_good c.in_ok-table.table next was old mid (c.in_ok-table.ensures.value honest).accepted good stays;
     })
 
--- what the write leaves, whether it is done or fails
+-- what the write leaves, whether or not it fails
 leaves : (g : Over) (c : After-write_into g) → g.P.Plan.makes c.args.plan.now (g.D.Disk.state c.read_table.new.disk).size c.in_ok-table.table c.change.new.table c.in-Write.answer
     → IsTrue (g.D.Disk.state c.args.disk.now).is_honest
     → LeavesChange (g.P.Plan.makes c.args.plan.now (g.D.Disk.state c.args.disk.now).size) c.args.sector_size (g.D.Disk.state c.args.disk.now) (g.D.Disk.state c.write_into.new.disk)
