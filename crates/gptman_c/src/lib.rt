@@ -1,7 +1,8 @@
-//! The library for C, and for what calls C. It touches no file: the caller reads the first and the last bytes
-//! of a disk, is told the table that they hold, and for a write the steps to make, one after the other.
+//! The library for C. It does no I/O: the caller reads the first and last bytes of a disk, and the library returns the
+//! table in them or the steps of a write.
 //!
-//! Nothing is kept between two calls. No argument makes a call read or write outside of what it was given.
+//! No state is kept between two calls. Whatever the arguments, a call accesses no memory outside the arrays that it was
+//! given.
 #![tactic(auto)]
 
 ghost use Rattle.std.specs.Prelude.{◌≡◌, ◌≢◌, ◌≤◌, ◌<◌, ◌⊎◌, ◌+◌, ℕ, List, None, Some, length, take};
@@ -49,22 +50,20 @@ use std::alloc::Global;
 
 /// Reads the table of a disk.
 ///
-/// `head` has the first bytes of the disk and `tail` the last ones, as many as the caller likes; they do not
-/// overlap. `disk_size` and `sector_size` are in bytes. What is answered is so whatever the disk has between
-/// the two ends: where that decides, 103 is answered. Then read on, and call again with longer ends.
+/// `head` has the first bytes of the disk and `tail` the last ones; both may have any length, and they do not overlap.
+/// `disk_size` and `sector_size` are in bytes. The result is the same whatever the disk holds between the two ends; if
+/// it would depend on that, 17 is returned. Then read more, and call again with longer ends.
 ///
-/// 0: `table` is what the disk holds, and its entries, the unused ones included, stand in the first
-/// `table.entry_count` places of `partitions`. What comes behind them means nothing.
+/// Returns:
 ///
-/// 1 to 16: no copy of the table is without fault. Of these a reading knows 2, where neither copy shows a
-/// signature or the disk is shorter than a sector, and 7, where the copies have other faults; and 15, where
-/// there is no memory, which tells nothing of the disk.
-///
-/// 103: neither `head` nor `tail` has all of the `needed.length` bytes of the disk from byte `needed.from` on.
-///
-/// 104: `partitions` is too short for the entries of the table, which are `table.entry_count`.
-///
-/// 105: `sector_size` is 0, or the two ends together are longer than the disk.
+/// - 0: `table` is the table of the disk, and the first `table.entry_count` elements of `partitions` are its entries,
+///   unused ones included. The other elements are unspecified.
+/// - 1 to 16: no copy is good. 2 means that neither copy has a signature, or that the disk is shorter than a sector; 7,
+///   that the copies have other faults; 15, that an allocation failed, which says nothing about the disk. A read
+///   returns no other error.
+/// - 17: neither `head` nor `tail` has all `needed.length` bytes of the disk from byte `needed.from`.
+/// - 18: `partitions` is too short for the `table.entry_count` entries of the table.
+/// - 19: `sector_size` is 0, or the two ends together are longer than the disk.
 #[unsafe(no_mangle)]
 pub extern "C" fn gptman_read(
     alloc: Global,
@@ -94,8 +93,8 @@ pub extern "C" fn gptman_read(
         → (sector_size ≡ 0) ⊎ (disk_size < length head.now + length tail.now) }
     ensures most { (result ≤ 16) ⊎ ((103 ≤ result) × (result ≤ 105)) }
 
-    // What is not told stays as it was.
-    ensures table { result ≢ 0 → result ≢ 104 → table.new ≡ table.old }
+    // Outputs that the result does not define are unchanged.
+    ensures table { result ≢ 0 → result ≢ 18 → table.new ≡ table.old }
     ensures partitions { result ≢ 0 → partitions.new ≡ partitions.old }
     ensures needed { result ≢ 103 → needed.new ≡ needed.old }
 {
@@ -119,20 +118,18 @@ pub extern "C" fn gptman_read(
     }
 }
 
-/// Tells of each copy of a table by itself what its fault is, and whether both places hold one table: what
-/// `gptimg check` prints.
+/// Reports the fault of each copy, and whether both places hold one table, as `gptimg check` does.
 ///
-/// `head`, `tail`, `disk_size` and `sector_size` are as for `gptman_read`. What is answered is so whatever the disk
-/// has between the two ends.
+/// `head`, `tail`, `disk_size` and `sector_size` are as for `gptman_read`, and the result is the same whatever the disk
+/// holds between the two ends.
 ///
-/// 0: `check` tells of both copies. A disk shorter than a sector has no backup copy, and fault 2 there. Two copies
-/// without a fault are not the same where they are of two tables, or one is not in the form of its place.
+/// Returns:
 ///
-/// 15: there is no memory. This says nothing of the disk.
-///
-/// 103: neither `head` nor `tail` has all of the `needed.length` bytes of the disk from byte `needed.from` on.
-///
-/// 105: `sector_size` is 0, or the two ends together are longer than the disk.
+/// - 0: `check` describes both copies. A disk shorter than a sector has no backup copy, which is fault 2. Two good
+///   copies are not the same if they are of two tables, or if one is not in the form of its place.
+/// - 15: an allocation failed, which says nothing about the disk.
+/// - 17: neither `head` nor `tail` has all `needed.length` bytes of the disk from byte `needed.from`.
+/// - 19: `sector_size` is 0, or the two ends together are longer than the disk.
 #[unsafe(no_mangle)]
 pub extern "C" fn gptman_check(
     alloc: Global,
@@ -155,7 +152,7 @@ pub extern "C" fn gptman_check(
         → (sector_size ≡ 0) ⊎ (disk_size < length head.now + length tail.now) }
     ensures answers { (result ≡ 0) ⊎ ((result ≡ 15) ⊎ ((result ≡ 103) ⊎ (result ≡ 105))) }
 
-    // What is not told stays as it was.
+    // Outputs that the result does not define are unchanged.
     ensures kept { result ≢ 0 → check.new ≡ check.old }
     ensures needed { result ≢ 103 → needed.new ≡ needed.old }
 {
@@ -179,39 +176,33 @@ pub extern "C" fn gptman_check(
     }
 }
 
-/// Plans the write of the table that a disk holds, with other entries: the steps to make, one after the other.
+/// Plans a write of the table on the disk with other entries.
 ///
-/// `head`, `tail`, `disk_size` and `sector_size` are as for `gptman_read`. `partitions` has the entries as they
-/// are to be, the unused ones included, as many as the table has. The steps and the bytes that they write are
-/// laid into `steps` and `bytes`. Who makes them in their order, each after the one before it has succeeded,
-/// does to the disk what a write of the library does: the other copy is written and synced, and then the one
-/// that was read. A stop among or within the steps leaves the old table or the new one at one place at least,
-/// whatever the other copy was, and no byte outside of the two copies is touched; after all of them both places
-/// hold the new one.
+/// `head`, `tail`, `disk_size` and `sector_size` are as for `gptman_read`. `partitions` has all entries of the new
+/// table, unused ones included, as many as the table has. The steps are stored in `steps`, and the bytes that they
+/// write in `bytes`. Carry out the steps in order, each only after the previous one succeeded. They write and sync the
+/// other copy first, then the one that was read. A crash between or within the steps leaves the old table or the new
+/// one in one place at least, whatever the state of the other copy, and bytes outside the two copies are unchanged.
+/// After all steps both places hold the new table.
 ///
-/// 0: `needed.steps` steps are in `steps`, and their bytes in `bytes`.
+/// Returns:
 ///
-/// 1 to 16: the table cannot be read, as of `gptman_read`; or 9, two partitions would have one GUID; 10, one
-/// ends before it starts, two share a sector, or one lies outside of the usable sectors; 8 or 14, a copy would
-/// end past the disk; 15, there is no memory.
-///
-/// 100: the table was made for a disk of another length: its headers are not those of sector 1 and of the last
-/// whole sector. `gptman_fit` fits it.
-///
-/// 101: it was made for this length, but the copy that is read is not in the form of its place, or the table has
-/// not the stated layout otherwise.
-///
-/// 102: `flags` is 0, and the first 512 bytes of the disk are an MBR with partitions of its own: signed, with a boot
-/// mark in each of its four entries, one of them used, and none of a protective MBR. Where `flags` is 1, these bytes
-/// are not looked at.
-///
-/// 103: neither `head` nor `tail` has all of the `needed.length` bytes of the disk from byte `needed.from` on,
-/// which have to be known for a plan.
-///
-/// 104: `steps` has no room for the `needed.steps` steps of the plan, or `bytes` none for its `needed.bytes` bytes.
-///
-/// 105: `sector_size` is 0, the two ends together are longer than the disk, `partitions` has not as many
-/// entries as the table, or the table has none, or `flags` is above 1.
+/// - 0: `steps` has the `needed.steps` steps, and `bytes` their bytes.
+/// - 1 to 16: the table cannot be read, as for `gptman_read`; or 9: two partitions would have the same unique GUID; 10:
+///   an entry ends before it starts, two partitions overlap, or one is outside the usable sectors; 8 or 14: a copy
+///   would end past the disk; 15: an allocation failed.
+/// - 17: the plan needs `needed.length` bytes of the disk from byte `needed.from`, and neither `head` nor `tail` has
+///   all of them.
+/// - 18: `steps` has fewer than `needed.steps` elements, or `bytes` fewer than `needed.bytes`.
+/// - 19: `sector_size` is 0, the two ends together are longer than the disk, `partitions` does not have as many entries
+///   as the table, the table has none, or `flags` is above 1.
+/// - 100: the table was made for a disk of another length: its headers are not those of sector 1 and the last whole
+///   sector. `gptman_fit` fits it.
+/// - 101: the table was made for this length, but the copy that was read is not in the form of its place, or the table
+///   does not have the stated layout for another reason.
+/// - 102: `flags` is 0, and the first 512 bytes are an MBR with its own partitions: it has the signature, each of its
+///   four entries begins with a boot mark, one is used, and none is that of a protective MBR. If `flags` is 1, this is
+///   not checked.
 #[unsafe(no_mangle)]
 pub extern "C" fn gptman_write(
     alloc: Global,
@@ -256,7 +247,7 @@ pub extern "C" fn gptman_write(
         → ¬ IsDosDisk b }
     ensures most { (result ≤ 16) ⊎ ((100 ≤ result) × (result ≤ 105)) }
 
-    // What is not told stays as it was.
+    // Outputs that the result does not define are unchanged.
     ensures steps { result ≢ 0 → steps.new ≡ steps.old }
     ensures bytes { result ≢ 0 → bytes.new ≡ bytes.old }
     ensures needed { result ≢ 0 → result ≢ 103 → result ≢ 104 → needed.new ≡ needed.old }
@@ -277,17 +268,17 @@ pub extern "C" fn gptman_write(
     }
 }
 
-/// Plans the write of a new table, of unused entries alone: of `table` the GUID of the disk and the number of
-/// entries are read.
+/// Plans a write of a new table, in which all entries are unused. It takes the disk GUID and the number of entries from
+/// `table`.
 ///
-/// `head`, `tail`, `disk_size` and `sector_size` are as for `gptman_read`, and the steps are told and to be made
-/// as those of `gptman_write`. Both places hold the table after all of them, and no byte outside of the two copies
-/// is touched. The backup copy comes first. So of a table that stood in the primary place a stop among or within
-/// the steps leaves that one or the new one, where its primary copy lies clear of the new backup copy.
+/// `head`, `tail`, `disk_size` and `sector_size` are as for `gptman_read`; the steps are returned and carried out as
+/// for `gptman_write`. After all steps both places hold the table; bytes outside the two copies are unchanged. The
+/// backup copy is written first. So if the primary place holds a table, and its copy there does not overlap the new
+/// backup copy, a crash between or within the steps leaves that table or the new one.
 ///
-/// The answers are those of `gptman_write` but 100, and nothing is read; 14 and 10 are a disk of too few sectors for
-/// two copies, 105 also a table of no entries, and a disk shorter than a sector, and 101 a table that would not have
-/// the stated layout, as with sectors that are too short for a header.
+/// Returns what `gptman_write` returns, except 100 and the errors of a read. 14 and 10 mean that the disk has too few
+/// sectors for two copies; 19 also that the number of entries is 0, or that the disk is shorter than a sector; 101 that
+/// the table would not have the stated layout, as with sectors too short for a header.
 #[unsafe(no_mangle)]
 pub extern "C" fn gptman_new(
     alloc: Global,
@@ -331,7 +322,7 @@ pub extern "C" fn gptman_new(
         → ¬ IsDosDisk b }
     ensures most { (result ≤ 16) ⊎ ((101 ≤ result) × (result ≤ 105)) }
 
-    // What is not told stays as it was.
+    // Outputs that the result does not define are unchanged.
     ensures steps { result ≢ 0 → steps.new ≡ steps.old }
     ensures bytes { result ≢ 0 → bytes.new ≡ bytes.old }
     ensures needed { result ≢ 0 → result ≢ 103 → result ≢ 104 → needed.new ≡ needed.old }
@@ -359,33 +350,29 @@ pub extern "C" fn gptman_new(
     }
 }
 
-/// Plans the write of the table that a disk holds, fitted to the length that the disk has now: it has become
-/// longer or shorter than the table was made for. The last usable sector and the place of the backup copy become
-/// those of the new length; the entries stay as they are.
+/// Plans a write of the table on the disk, fitted to the length that the disk has now: it is longer or shorter than the
+/// disk for which the table was made. The last usable sector and the place of the backup copy become those of the new
+/// length; the entries are unchanged.
 ///
-/// `head`, `tail`, `disk_size` and `sector_size` are as for `gptman_read`, `disk_size` as it is now, and the steps
-/// are told and to be made as those of `gptman_write`. Both places hold the fitted table after all of them, and no
-/// byte outside of its two copies is touched. Where the primary copy is read, the backup copy comes first, at its
-/// new place: a stop among or within the steps leaves the old table or the fitted one at one place at least,
-/// whatever else is on the disk.
+/// `head`, `tail`, `disk_size` and `sector_size` are as for `gptman_read`, with the present `disk_size`; the steps are
+/// returned and carried out as for `gptman_write`. After all steps both places hold the fitted table; bytes outside its
+/// two copies are unchanged. If the primary copy was read, the backup copy is written first, at its new place, and a
+/// crash between or within the steps leaves the old table or the fitted one in one place at least, whatever else is on
+/// the disk.
 ///
-/// 0: `needed.steps` steps are in `steps`, and their bytes in `bytes`.
+/// Returns:
 ///
-/// 1 to 16: the table cannot be read, as of `gptman_read`; or 9, two partitions have one GUID; 10, one ends before
-/// it starts, two share a sector, or one lies outside of the usable sectors, as one behind the last of them does on
-/// a disk that has become too short; 8 or 14, the disk has too few sectors for two copies, or the table has no
-/// entries; 15, there is no memory.
-///
-/// 101: the copy that is read is not in the form of its place, or the fitted table has not the stated layout.
-///
-/// 102: as of `gptman_write`.
-///
-/// 103: neither `head` nor `tail` has all of the `needed.length` bytes of the disk from byte `needed.from` on,
-/// which have to be known for a plan.
-///
-/// 104: `steps` has no room for the `needed.steps` steps of the plan, or `bytes` none for its `needed.bytes` bytes.
-///
-/// 105: `sector_size` is 0, the two ends together are longer than the disk, or `flags` is above 1.
+/// - 0: `steps` has the `needed.steps` steps, and `bytes` their bytes.
+/// - 1 to 16: the table cannot be read, as for `gptman_read`; or 9: two partitions have the same unique GUID; 10: an
+///   entry ends before it starts, two partitions overlap, or one is outside the usable sectors, as on a disk that has
+///   become too short for it; 8 or 14: the disk has too few sectors for two copies, or the table has no entries; 15: an
+///   allocation failed.
+/// - 17: the plan needs `needed.length` bytes of the disk from byte `needed.from`, and neither `head` nor `tail` has
+///   all of them.
+/// - 18: `steps` has fewer than `needed.steps` elements, or `bytes` fewer than `needed.bytes`.
+/// - 19: `sector_size` is 0, the two ends together are longer than the disk, or `flags` is above 1.
+/// - 101: the copy that was read is not in the form of its place, or the fitted table does not have the stated layout.
+/// - 102: as for `gptman_write`.
 #[unsafe(no_mangle)]
 pub extern "C" fn gptman_fit(
     alloc: Global,
@@ -425,7 +412,7 @@ pub extern "C" fn gptman_fit(
         → ¬ IsDosDisk b }
     ensures most { (result ≤ 16) ⊎ ((101 ≤ result) × (result ≤ 105)) }
 
-    // What is not told stays as it was.
+    // Outputs that the result does not define are unchanged.
     ensures steps { result ≢ 0 → steps.new ≡ steps.old }
     ensures bytes { result ≢ 0 → bytes.new ≡ bytes.old }
     ensures needed { result ≢ 0 → result ≢ 103 → result ≢ 104 → needed.new ≡ needed.old }
@@ -446,11 +433,11 @@ pub extern "C" fn gptman_fit(
     }
 }
 
-// A disk may be written over whose first sector has partitions of its own.
+// The flag that permits a write to a disk whose first sector has its own partitions.
 const OVER_DOS: u32 = 1;
 
-// The answer where the first sector of the disk has partitions of its own, or is not known, unless the flag says
-// that it may be written over; else 0.
+// Returns 102 or 17 if the first sector of the disk has its own partitions, or is not known; 0 if it has none, or the
+// flag permits the write.
 fn refuse_dos(ends: &Ends, flags: u32, needed: &mut Needed) -> u32
     requires flags { flags ≤ 1 }
     ensures none { result ≡ 0 → flags ≡ 0 → OfEvery ends.now (λ b. ¬ IsDosDisk b) }
@@ -477,7 +464,7 @@ fn refuse_dos(ends: &Ends, flags: u32, needed: &mut Needed) -> u32
     }
 }
 
-// The answer of a call that plans nothing.
+// Returns the number of a refusal, and the range that it asks for.
 fn refuse(refusal: &Refusal, needed: &mut Needed) -> u32
     ensures answer { result ≡ refusal_number refusal.now }
     ensures needed { needed.new ≡ needed_after refusal.now needed.old }
@@ -495,7 +482,7 @@ fn refuse(refusal: &Refusal, needed: &mut Needed) -> u32
     }
 }
 
-// Lays the plan into the arrays of the caller, where these have room for it.
+// Copies the plan into the arrays of the caller, if they are long enough.
 fn give(plan: &Record, steps: &mut [Step], bytes: &mut [u8], needed: &mut Needed) -> u32
     ensures given { result ≡ 0 → acts_of bytes.new (take needed.new.steps steps.new)
         ≡ acts_of plan.now.bytes.items plan.now.steps.items }
@@ -520,16 +507,17 @@ fn give(plan: &Record, steps: &mut [Step], bytes: &mut [u8], needed: &mut Needed
     }
 }
 
-/// Tells whether the first 512 bytes of a disk are an MBR with partitions of its own, as of 102 of `gptman_write`. A
-/// protective MBR over it would lose these.
+/// Reports whether the first 512 bytes of a disk are an MBR with its own partitions, as for 102 of `gptman_write`. A
+/// protective MBR would overwrite them.
 ///
 /// `head`, `tail` and `disk_size` are as for `gptman_read`.
 ///
-/// 0: they are not, or the disk is shorter. 102: they are.
+/// Returns:
 ///
-/// 103: neither `head` nor `tail` has all of the `needed.length` bytes of the disk from byte `needed.from` on.
-///
-/// 105: the two ends together are longer than the disk.
+/// - 0: they are not, or the disk is shorter than 512 bytes.
+/// - 17: neither `head` nor `tail` has all `needed.length` bytes of the disk from byte `needed.from`.
+/// - 19: the two ends together are longer than the disk.
+/// - 102: they are.
 #[unsafe(no_mangle)]
 pub extern "C" fn gptman_dos(head: &[u8], tail: &[u8], disk_size: u64, needed: &mut Needed) -> u32
     ensures none { result ≡ 0 → (b : List ℕ) → HasEnds b head.now tail.now disk_size → ¬ IsDosDisk b }
@@ -542,8 +530,8 @@ pub extern "C" fn gptman_dos(head: &[u8], tail: &[u8], disk_size: u64, needed: &
     ensures bad { result ≡ 105 → disk_size < length head.now + length tail.now }
     ensures answers { (result ≡ 0) ⊎ ((result ≡ 103) ⊎ ((result ≡ 105) ⊎ (result ≡ 102))) }
 
-    // What is not told stays as it was.
-    ensures needed { result ≢ 103 → needed.new ≡ needed.old }
+    // Outputs that the result does not define are unchanged.
+    ensures needed { result ≢ 17 → needed.new ≡ needed.old }
 {
     let Some(ends) = Ends::new(head, tail, disk_size) else {
         return BAD_ARGUMENT;
@@ -551,15 +539,17 @@ pub extern "C" fn gptman_dos(head: &[u8], tail: &[u8], disk_size: u64, needed: &
     refuse_dos(&ends, 0, needed)
 }
 
-/// Lays the protective MBR of a disk of so many bytes into the first 66 places of `bytes`. They stand on the disk from
-/// byte 446 on, and show the whole disk as one partition to a program that knows no GUID partition tables. Where
-/// `bootable` is 1, that partition is marked as bootable; else it is 0.
+/// Encodes the protective MBR of a disk of `disk_size` bytes into the first 66 elements of `bytes`. They belong at byte
+/// 446 of the disk, and show the whole disk as one partition to programs that do not know GUID partition tables.
+/// `bootable` is 1 to mark that partition as bootable, else 0.
 ///
-/// 0: the 66 bytes are there, and those behind them as they were.
+/// Returns:
 ///
-/// 14: the disk is shorter than a sector. 8: it is not, but shorter than 512 bytes.
-///
-/// 104: `bytes` is shorter than 66. 105: `sector_size` is 0, or `bootable` above 1.
+/// - 0: the 66 bytes are stored; the other elements are unchanged.
+/// - 8: the disk is at least one sector long, but shorter than 512 bytes.
+/// - 14: the disk is shorter than a sector.
+/// - 18: `bytes` has fewer than 66 elements.
+/// - 19: `sector_size` is 0, or `bootable` is above 1.
 #[unsafe(no_mangle)]
 pub extern "C" fn gptman_mbr(
     disk_size: u64,
@@ -593,12 +583,16 @@ pub extern "C" fn gptman_mbr(
     }
 }
 
-/// Finds a place for a partition of `size` sectors, of which 0 is taken as 1, among the sectors that a table with
-/// these partitions has free. `choice` is 1 for the first place, 2 for the last, and 3 for one in the smallest run
-/// that has room. It is a multiple of `table.align`, and stays free until `partitions` change.
+/// Finds a place for a partition of `size` sectors (0 counts as 1) in the free sectors of a table with these
+/// partitions. `choice` is 1 for the first place, 2 for the last, and 3 for one in the smallest free range that is
+/// large enough. The place is a multiple of `table.align`, and stays free until `partitions` change.
 ///
-/// 0: `first_lba` is the first sector of the place. 8: there is none. 15: there is no memory. 105: `table.align` is 0,
-/// `choice` none of these, or `partition_count` above 2^32 - 1.
+/// Returns:
+///
+/// - 0: `first_lba` is the first sector of the place.
+/// - 8: there is no such place.
+/// - 15: an allocation failed.
+/// - 19: `table.align` is 0, `choice` is none of the above, or `partitions` has more than 2^32 - 1 elements.
 #[unsafe(no_mangle)]
 pub extern "C" fn gptman_place(
     alloc: Global,
@@ -629,11 +623,14 @@ pub extern "C" fn gptman_place(
     }
 }
 
-/// Lays the name of a partition as UTF-8 into `text`, with a zero behind it. The name is what stands before its first
-/// unit of zero; a unit that is half of a pair gives U+FFFD.
+/// Encodes the name of a partition as UTF-8 into `text`, followed by a zero. The name ends before its first zero unit;
+/// an unpaired surrogate becomes U+FFFD.
 ///
-/// 0: it is there, and what is behind the zero is as it was. 15: there is no memory. 104: `text` has no room for it
-/// and the zero; 109 bytes are enough for each name.
+/// Returns:
+///
+/// - 0: the name is stored; bytes after the zero are unchanged.
+/// - 15: an allocation failed.
+/// - 18: `text` is too short for the name and the zero; 109 bytes are always enough.
 #[unsafe(no_mangle)]
 pub extern "C" fn gptman_get_name(alloc: Global, partition: &Partition, text: &mut [u8]) -> u32
     ensures text { result ≡ 0 → text.new ≡ name_text partition.now.name
@@ -652,10 +649,13 @@ pub extern "C" fn gptman_get_name(alloc: Global, partition: &Partition, text: &m
     }
 }
 
-/// Gives a partition the name that these bytes of UTF-8 are, with zeros behind it.
+/// Sets the name of a partition to these bytes of UTF-8, padded with zeros.
 ///
-/// 0: it is read as these bytes. 15: there is no memory. 105: the bytes are no UTF-8, have a zero, or take more than 36
-/// units of UTF-16.
+/// Returns:
+///
+/// - 0: `gptman_get_name` returns these bytes.
+/// - 15: an allocation failed.
+/// - 19: the bytes are not UTF-8, contain a zero, or take more than 36 units of UTF-16.
 #[unsafe(no_mangle)]
 pub extern "C" fn gptman_set_name(alloc: Global, partition: &mut Partition, text: &[u8]) -> u32
     ensures name { result ≡ 0
@@ -678,7 +678,7 @@ pub extern "C" fn gptman_set_name(alloc: Global, partition: &mut Partition, text
     }
 }
 
-/// The CRC-32 of these bytes, as the table has it of its headers and of its entries.
+/// Returns the CRC-32 of these bytes, as used for headers and entries.
 #[unsafe(no_mangle)]
 pub extern "C" fn gptman_crc32(bytes: &[u8]) -> u32
     ensures { result ≡ crc_of bytes.now }
@@ -686,7 +686,7 @@ pub extern "C" fn gptman_crc32(bytes: &[u8]) -> u32
     crc32(bytes)
 }
 
-/// The version of the library, MAJOR.MINOR.PATCH, as MAJOR * 65536 + MINOR * 256 + PATCH.
+/// Returns the version MAJOR.MINOR.PATCH of the library as MAJOR * 65536 + MINOR * 256 + PATCH.
 #[unsafe(no_mangle)]
 pub extern "C" fn gptman_version() -> u32
     ensures { result ≡ 256 }
