@@ -28,7 +28,7 @@ pub used_line : (a b c : Option (List ℕ)) (p : ℕ × GPTPartitionEntry) (left
 used_line a b c p left rest is used line lines =
     subst (λ ps. Appends a c (entry_lines ps)) (sym is) (rw used (appends_then a b c (entry_line p) (entry_lines rest) line lines))
 
--- an unused entry has none
+-- an unused entry has no line
 pub unused_line : (a c : Option (List ℕ)) (p : ℕ × GPTPartitionEntry) (left rest : List (ℕ × GPTPartitionEntry)) → left ≡ p ∷ rest → is_used p.1 ≡ false
     → Appends a c (entry_lines rest) → Appends a c (entry_lines left)
 unused_line a c p left rest is unused lines = subst (λ ps. Appends a c (entry_lines ps)) (sym is) (rw unused lines)

@@ -1,4 +1,4 @@
--- A new table in the stead of an old one.
+-- A new table that replaces an old one.
 use Rattle.std.proofs.Common.{◌≡◌, subst, [], ◌∷◌}
 use Rattle.gptman.specs.Crash.{StartsFromOne}
 use Rattle.gptman.specs.Disk.{DiskState, Reads, Writes}
@@ -9,12 +9,12 @@ use Rattle.gptman.specs.declared.table.GPT.{GPT}
 use Rattle.gptman_change.proofs.Left.{either, leaves_since, still_held}
 use Rattle.gptimg_core.specs.Changes.{ReplacesTable}
 
--- calls that only read leave the old one
+-- calls that only read leave the old table
 pub read_replaces : (next : GPT) (old mid : DiskState) → Reads old mid → ReplacesTable next old mid
 read_replaces next old mid reads was from =
     either was (table_in next) next.sector_size old mid (still_held next was old mid (reads.only from.start.honest) reads.keeps from.kept)
 
--- so does the write of the new one after them, until it holds the new one
+-- a write of the new table after them leaves the old table or the new one
 pub write_replaces : (table next : GPT) (old mid new : DiskState) → table ≡ next → Reads old mid → Writes (table_ranges table) mid new
     → ((was : Table) → StartsFromOne mid table was → StopsHold mid new table.sector_size (was ∷ table_in table ∷ [])) → ReplacesTable next old new
 write_replaces table next old mid new is reads wrote one_good was from =

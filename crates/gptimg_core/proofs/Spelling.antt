@@ -1,4 +1,4 @@
--- What the readers of words answer is what the words spell.
+-- The parsers return what the words spell.
 use Rattle.std.proofs.Common.{◌≡◌, ◌≢◌, ◌∙◌, ◌⊎◌, ℕ, ◌+◌, ◌*◌, ◌/◌, ◌%◌, ◌^◌, ◌<◌, ◌&&◌, List, [], ◌∷◌, length, replicate, Bool, true, false, cond, inl, inr, sym, subst, ap, refl, arith, rules}
 use Rattle.std.proofs.lemmas.Bool.Decides.{nat_tests}
 use Rattle.std.proofs.lemmas.Fmt.{decimal_is_IsNumeral}
@@ -32,7 +32,7 @@ is_false : (b : Bool) → (b ≡ true → ⊥) → b ≡ false
 is_false true not = absurd (not refl)
 is_false false not = refl
 
--- which way a test of two texts went
+-- the result of a test of two texts
 chosen_by : {A : Type 0} (b : Bool) (P : Type 0) (x y z : A) → (b ≡ true → P) → cond b x y ≡ z → (P × (x ≡ z)) ⊎ (y ≡ z)
 chosen_by true P x y z is h = inl (is refl, h)
 chosen_by false P x y z is h = inr h
@@ -40,17 +40,17 @@ chosen_by false P x y z is h = inr h
 chosen : {A : Type 0} (text word : List ℕ) (x y z : A) → cond (bytes_eq text word) x y ≡ z → ((text ≡ word) × (x ≡ z)) ⊎ (y ≡ z)
 chosen text word x y z h = chosen_by (bytes_eq text word) (text ≡ word) x y z (bytes_decides text word).0 h
 
--- what stands beside the word that the text is, or else what is for any other text
+-- the value beside the word that is the text, or the other value
 abbrev pick : {A : Type 0} → List ℕ → List (List ℕ × A) → A → A
 pick text [] other = other
 pick text (row ∷ rows) other = cond (bytes_eq text row.0) row.1 (pick text rows other)
 
--- what stands beside each word has the property where it is some value and the text is the word
+-- each value has the property if the text is its word
 abbrev Each : {A : Type 0} → (A → Type 0) → List ℕ → List (List ℕ × Option A) → Type 0
 Each P text [] = Unit {0}
 Each P text (row ∷ rows) = ((a : _) → text ≡ row.0 → row.1 ≡ Some a → P a) × Each P text rows
 
--- then what is picked has it, if any other text does not spoil it
+-- the picked value has the property, if the other value has
 picked : {A : Type 0} (P : A → Type 0) (text : List ℕ) (rows : List (List ℕ × Option A)) (other : Option A) (a : A) → Each P text rows
     → (other ≡ Some a → P a) → pick text rows other ≡ Some a → P a
 picked P text [] other a each rest h = rest h
@@ -95,7 +95,7 @@ map_of f a x is = rw is refl
 
 -- ---- numbers
 
--- texts of digits, and the numbers that they write
+-- texts of digits, and their numbers
 digits : IsNumeralModel (λ ds. list_all is_ascii_digit ds ≡ true) (digits_value 10)
 digits = numerals_by_value _ (search rules)
 
@@ -162,7 +162,7 @@ entry_number_spelled text n h =
 entry_number_read : (text : List ℕ) (n : ℕ) → IsNumeral text n → IsEntryNumber n → entry_number_in text ≡ Some n
 entry_number_read text n h fits = entry_of (number_in text) n (number_read text n h (omega (arith, fits))) fits
 
--- `auto` is no number
+-- `auto` is not a number
 auto_is_none : (n : ℕ) → IsNumeral (codes "auto") n → ⊥
 auto_is_none n h = omega (arith, h.1.0)
 
@@ -185,7 +185,7 @@ sector_size_read text (Some n) h fits =
     (is_false (bytes_eq text (codes "auto")) (λ same. auto_is_none n (subst (λ t. IsNumeral t n) ((bytes_decides text (codes "auto")).0 same) h)))
     (size_read text n h fits)
 
--- ---- words of a few
+-- ---- words for a choice
 
 -- the text is the word of a value
 spelled_by : {A : Type 0} (word : A → List ℕ) (text : List ℕ) (x a : A) → text ≡ word x → Some x ≡ Some a → text ≡ word a
@@ -304,7 +304,7 @@ type_read text guid h other = type_of (guid_in text) guid (guid_read text guid h
 
 -- ---- changes
 
--- an addition whose words give each of its parts
+-- an addition, if each of its parts was parsed
 addition_from : (number : Option ℕ) (type unique : Option (List ℕ)) (size : Option ℕ) (choice : Option Choice) (align : Option ℕ) (name : List ℕ) (a : Addition)
     → addition_of number type unique size choice align name ≡ Some a
     → (number ≡ Some a.number) × (type ≡ Some a.type_guid) × (unique ≡ Some a.unique_guid) × (size ≡ Some a.size) × (choice ≡ Some a.choice)
@@ -369,7 +369,7 @@ remove_spelled name (number ∷ []) change is h =
     subst (Means (name ∷ number ∷ [])) p.2 ((is, n.0), n.1)
 remove_spelled name (number ∷ other ∷ words) change is h = cc h
 
--- a change that takes no words, where its name means it
+-- a change that takes no words
 alone_spelled : (one : Change) (name : List ℕ) (words : List (List ℕ)) (change : Change) → Means (name ∷ []) one → alone one words ≡ Some change → Means (name ∷ words) change
 alone_spelled one name [] change means h = subst (Means (name ∷ [])) (some_same one change h) means
 alone_spelled one name (other ∷ words) change means h = cc h
@@ -389,7 +389,7 @@ change_spelled name words change h =
 
 -- ---- commands
 
--- what `IsSpelled` says of a change, for any number of words
+-- the spelling of a change, for any number of words
 changing_spells : (sector : List ℕ) (words : List (List ℕ)) (size : Option ℕ) (change : Change) → IsSectorSize sector size → IsSpelledChange words change
     → IsSpelled (sector ∷ words) (Changing size change)
 changing_spells sector [] size change is h = (is, h)
@@ -401,7 +401,7 @@ changing_spells sector (name ∷ word ∷ other ∷ words) size change is h = (i
 abbrev IsMeant : List (List ℕ) → Command → Type 0
 IsMeant words command = IsSpelled words command × IsAllowed command
 
--- a command of the sector's word and one more word, by what is read of the two
+-- a command with a sector size and one more word
 two_words : {A B : Type 0} (make : A → B → Command) (first : Option A) (read : List ℕ → Option B) (of : List (List ℕ) → Option Command)
     (P : List (List ℕ) → Command → Type 0) → of [] ≡ None → ((word other : List ℕ) (words : List (List ℕ)) → of (word ∷ other ∷ words) ≡ None)
     → ((word : List ℕ) → of (word ∷ []) ≡ option_and_then (λ x. option_map (λ y. make x y) (read word)) first)
@@ -472,13 +472,13 @@ named_spelled sector name words command h =
       (mbr_spelled sector name words, (check_spelled sector name words, (show_spelled sector name words, (free_spelled sector name words, tt)))),
     ) (changing_spelled sector name words command) h
 
--- what is answered is spelled by the words, and allowed
+-- the command that is returned is spelled by the words, and allowed
 pub command_spelled : (words : List (List ℕ)) (command : Command) → command_in words ≡ Some command → IsMeant words command
 command_spelled [] command h = cc h
 command_spelled (sector ∷ []) command h = cc h
 command_spelled (sector ∷ name ∷ words) command h = named_spelled sector name words command h
 
--- a command with such a word for its name
+-- a command with this word for its name
 named : (sector name word : List ℕ) (words : List (List ℕ)) (command : Command) → name ≡ word → named_command_in sector word words ≡ Some command
     → named_command_in sector name words ≡ Some command
 named sector name word words command is h = ap (λ name. named_command_in sector name words) is ∙ h
@@ -501,7 +501,7 @@ changing_read sector (name ∷ []) size Grow is h fits =
     (both_of (λ size change. Changing size change) (sector_size_in sector) (Some Grow) size Grow is refl)
 changing_read sector words size change is h fits = absurd h
 
--- a command that the words spell, and that is allowed, is answered
+-- a command that is spelled, and allowed, is returned
 pub command_read : (words : List (List ℕ)) (command : Command) → IsSpelled words command → IsAllowed command → command_in words ≡ Some command
 command_read (sector ∷ name ∷ digits ∷ []) (New size guid) h fits =
     named sector name (codes "new") (digits ∷ []) (New size guid) h.1
@@ -519,7 +519,7 @@ command_read (sector ∷ name ∷ number ∷ []) (Free size align) h fits =
 command_read (sector ∷ words) (Changing size change) h fits = changing_read sector words size change (sector_size_read sector size h.0 fits.0) h.1 fits.1
 command_read words command h fits = absurd h
 
--- words spell one such command at most
+-- words spell at most one such command
 pub spelled_once : (words : List (List ℕ)) (a b : Command) → IsSpelled words a → IsAllowed a → IsSpelled words b → IsAllowed b → a ≡ b
 spelled_once words a b is_a fits_a is_b fits_b = some_same a b (sym (command_read words a is_a fits_a) ∙ command_read words b is_b fits_b)
 
@@ -564,7 +564,7 @@ usual_words (Free size align) fits = (sector_word_spells size fits.0, refl, deci
 usual_words (Changing size change) fits =
     changing_spells (sector_word size) (spell_change change) size change (sector_word_spells size fits.0) (usual_change change fits.1)
 
--- ---- what `parse` answers
+-- ---- the result of `parse`
 
 pub answers_spelled : (result : Option Command) (words : List (List ℕ)) → result ≡ command_in words → IfSome result (IsMeant words)
 answers_spelled None words is = tt
@@ -577,6 +577,6 @@ pub answers_usual : (result : Option Command) (words : List (List ℕ)) → resu
     → words ≡ spell command → result ≡ Some command
 answers_usual result words is command fits same = is ∙ ap command_in same ∙ command_read (spell command) command (usual_words command fits) fits
 
--- a command that is asked for reads alone, where none that writes is
+-- a command that does not write only reads
 pub only_reads : {A : Type 0} (words : List (String A)) (command : Command) → AskFor words command → ¬ AskToWrite words → writes command ≡ false
 only_reads words command asked never = is_false (writes command) (λ does. never (command, asked, does))

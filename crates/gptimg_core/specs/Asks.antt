@@ -1,4 +1,4 @@
--- What a command line asks for.
+-- The command that words ask for.
 use Rattle.std.specs.Prelude.{◌≡◌, Bool, true, false, List, String}
 use Rattle.gptimg_core.specs.Spelling.{texts_of, IsAllowed, IsSpelled}
 use Rattle.gptimg_core.specs.declared.words.Command.{Command}
@@ -8,7 +8,7 @@ use Rattle.gptimg_core.specs.declared.words.Command.TheVariants.{New, Mbr, Check
 abbrev pub AskFor : {A : Type 0} → List (String A) → Command → Type 0
 AskFor words command = IsSpelled (texts_of words) command × IsAllowed command
 
--- they ask for a command
+-- the words ask for some command
 abbrev pub AskForAny : {A : Type 0} → List (String A) → Type 0
 AskForAny words = (command : Command) × AskFor words command
 

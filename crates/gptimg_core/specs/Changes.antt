@@ -22,13 +22,13 @@ use Rattle.gptimg_core.specs.declared.words.Change.TheVariants.{Add, Remove, Sor
 use Rattle.gptimg_core.specs.declared.words.Choice.{Choice}
 use Rattle.gptimg_core.specs.declared.words.Choice.TheVariants.{First, Last, Best}
 
--- s is the place that is chosen for n sectors
+-- s is the chosen place for n sectors
 abbrev pub IsChosenPlace : Choice → (ℕ → Type 0) → ℕ → ℕ → ℕ → Type 0
 IsChosenPlace First free align n s = IsFirstPlace free align n s
 IsChosenPlace Last free align n s = IsLastPlace free align n s
 IsChosenPlace Best free align n s = IsBestPlace free align n s
 
--- the entry of a partition that is added from sector s on
+-- the entry of a partition that is added from sector s
 abbrev pub added_entry : Addition → ℕ → GPTPartitionEntry
 added_entry a s = record {
   partition_type_guid = a.type_guid;
@@ -39,11 +39,11 @@ added_entry a s = record {
   partition_name = record { text = a.name; units = units_of (chars a.name) };
 }
 
--- the value with it
+-- the value with this entry
 abbrev pub with_addition : GPT → Addition → ℕ → GPT
 with_addition g a s = record (with_entry g a.number (added_entry a s)) { align = a.align }
 
--- A partition was added at the chosen place, under the number of an unused entry.
+-- A partition was added at the chosen place, with the number of an unused entry.
 pub record IsAdded (a : Addition) (g next : GPT) : Type 0 where
   pub number : number_fault g a.number ≡ None
   pub unused : IsTrue (is_unused (entry_at g a.number))
@@ -51,24 +51,24 @@ pub record IsAdded (a : Addition) (g next : GPT) : Type 0 where
   pub place : IsChosenPlace a.choice (IsFreeIn g) a.align a.size start
   pub next_is : next ≡ with_addition g a start
 
--- What a change makes of a value, on a disk of len bytes.
+-- The effect of a change on a value, on a disk of len bytes.
 abbrev pub IsChanged : ℕ → Change → GPT → GPT → Type 0
 IsChanged len (Add a) g next = IsAdded a g next
 IsChanged len (Remove number) g next = (edit_fault g (RemoveEntry number) ≡ None) × (next ≡ after_edit g (RemoveEntry number))
 IsChanged len Sort g next = next ≡ after_edit g SortEntries
 IsChanged len Grow g next = (fit_fault g.header g.sector_size len ≡ None) × (next ≡ grow_to g len)
 
--- what there is to tell of a change
+-- the report of a change
 abbrev pub report_of : Change → GPT → Report
 report_of (Add a) next = let e = entry_at next a.number in Added a.number e.starting_lba e.ending_lba
 report_of (Remove number) next = Done
 report_of Sort next = Done
 report_of Grow next = Done
 
--- what a change makes of a value on a disk of len bytes, and what there is to tell of it
+-- the effect of a change on a value, on a disk of len bytes, and its report
 abbrev pub IsMade : Change → ℕ → GPT → GPT → Report → Type 0
 IsMade change len g next report = IsChanged len change g next × (report ≡ report_of change next)
 
--- The value's table replaces any table of which the disk has one good copy for it: a stop leaves the one or the other.
+-- If the disk starts with one good copy of a table for this value, a crash leaves that table or the value's.
 abbrev pub ReplacesTable : GPT → DiskState → DiskState → Type 0
 ReplacesTable g old new = (was : DiskTable) → StartsFromOne old g was → StopsLeaveEither was (table_in g) g.sector_size old new

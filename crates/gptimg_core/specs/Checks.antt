@@ -1,11 +1,11 @@
--- What is told of both copies of a table.
+-- The report on both copies of a table.
 use Rattle.std.specs.Prelude.{ℕ, Bool, true}
 use Rattle.gptman.specs.Copies.{IsChecked}
 use Rattle.gptman.specs.Disk.{DiskState}
 use Rattle.gptimg_core.specs.declared.commands.Report.{Report}
 use Rattle.gptimg_core.specs.declared.commands.Report.TheVariants.{Done, Table, Slots, Added, Copies}
 
--- the report is what was found of both copies
+-- the report has the result of the check of both copies
 abbrev pub TellsCopies : ℕ → DiskState → DiskState → Report → Type 0
 TellsCopies ss old new Done = ⊥
 TellsCopies ss old new (Table table) = ⊥
@@ -13,7 +13,7 @@ TellsCopies ss old new (Slots slots) = ⊥
 TellsCopies ss old new (Added number first last) = ⊥
 TellsCopies ss old new (Copies copies) = IsChecked ss old new copies
 
--- whether a command is done, and not only told what is wrong: copies that are not one table are wrong
+-- whether the status is 0: false only for copies that are not one table
 abbrev pub is_good : Report → Bool
 is_good Done = true
 is_good (Table table) = true

@@ -1,4 +1,4 @@
--- What a command does: of the disk before it and the disk after it, and of what there is to tell.
+-- The effect of a command on the disk, and its result.
 use Rattle.std.specs.Prelude.{◌≡◌, ◌⊎◌, ℕ, Bool, List, [], ◌∷◌, Option, Result, IsTrue, IfErr, IfOk, OnErr, OnOk}
 use Rattle.gptman.specs.Answers.{CountsFailure, HasCause, IsFailure}
 use Rattle.gptman.specs.Crash.{StartsLaidOut}
@@ -21,12 +21,12 @@ use Rattle.gptimg_core.specs.declared.words.Change.{Change}
 use Rattle.gptimg_core.specs.declared.words.Command.{Command}
 use Rattle.gptimg_core.specs.declared.words.Command.TheVariants.{New, Mbr, Check, Show, Free, Change as Changing}
 
--- what there is to tell of a command: a report, or why it was refused
+-- the result of a command: a report, or an error
 abbrev pub Told : Type 0
 Told = Result Report Error
 
--- A new table with this disk GUID is written to both places. Over an old table of which one good copy stands where the new one is not written first, a stop at any
--- moment leaves the old table or the new one.
+-- A new table with this disk GUID is written to both places. If the old table has one good copy where the new one is
+-- not written first, a crash at any moment leaves the old table or the new one.
 pub record DoesNew (ss : ℕ) (guid : List ℕ) (told : Told) (old new : DiskState) : Type 0 where
   pub refused : IfErr told (λ e. RefusesNew guid ss (fault_of e) old new)
   pub counts : CountsFailure told old new
@@ -43,7 +43,7 @@ pub record DoesMbr (ss : ℕ) (bootable : Bool) (told : Told) (old new : DiskSta
   pub made : IfOk told (λ report. report ≡ Done)
   pub stored : IsHonest old → OnOk told (IsMbrStored bootable ss old new)
 
--- Each copy is looked at by itself.
+-- Each copy is checked by itself.
 pub record DoesCheck (ss : ℕ) (told : Told) (old new : DiskState) : Type 0 where
   pub only : IsHonest old → OnlyRead old new
   pub refused : IfErr told (λ e. (fault_of e ≡ out_of_memory) ⊎ IsFailure (fault_of e) old new)
@@ -55,7 +55,7 @@ pub record DoesShow (size : Option ℕ) (told : Told) (old new : DiskState) : Ty
   pub refused : IsHonest old → IfErr told (λ e. RefusesReading size (fault_of e) old new)
   pub shown : IsHonest old → IfOk told (λ report. TellsOfTable (λ g. report ≡ Table g) size old new)
 
--- Its free sectors are listed, as slots that begin at multiples of align.
+-- The free ranges are listed, each from its first multiple of align.
 pub record DoesFree (size : Option ℕ) (align : ℕ) (told : Told) (old new : DiskState) : Type 0 where
   pub only : IsHonest old → OnlyRead old new
   pub refused : IsHonest old → IfErr told (λ e. RefusesReading size (fault_of e) old new)
@@ -68,7 +68,7 @@ pub record DoesChange (size : Option ℕ) (change : Change) (told : Told) (old n
   pub changed : IsHonest old → IfOk told (λ report. MakesChange (IsMade change old.size) size report old new)
   pub leaves : IsHonest old → LeavesChange (IsMade change old.size) size old new
 
--- by the command
+-- the effect, by command
 abbrev pub DoesCommand : Command → Told → DiskState → DiskState → Type 0
 DoesCommand (New ss guid) told old new = DoesNew ss guid told old new
 DoesCommand (Mbr ss bootable) told old new = DoesMbr ss bootable told old new
@@ -77,8 +77,8 @@ DoesCommand (Show size) told old new = DoesShow size told old new
 DoesCommand (Free size align) told old new = DoesFree size align told old new
 DoesCommand (Changing size change) told old new = DoesChange size change told old new
 
--- A command is done, or refused, and but for `check` no report tells what is wrong. A refused one leaves the disk as it was, unless it failed; and Io comes only
--- where it failed.
+-- A command succeeds or fails, and only the report of `check` can be bad. Unless the disk failed, a failed command
+-- leaves the disk unchanged. `Io` occurs only if the disk failed.
 pub record Does (command : Command) (told : Told) (old new : DiskState) : Type 0 where
   pub does : DoesCommand command told old new
   pub good : IfOk told (λ report. IsTrue (is_good report) ⊎ ((ss : ℕ) × (command ≡ Check ss)))

@@ -1,4 +1,4 @@
--- What is printed of a command, and the status that it ends with.
+-- The output of a command, and its exit status.
 use Rattle.std.specs.Prelude.{◌≡◌, ℕ, List, Option, Result, Ok, Err, IfOk, OnOk, if◌then◌else◌}
 use Rattle.std.specs.Io.KnownBytes.{Appends}
 use Rattle.gptman.specs.Disk.{DiskState}
@@ -10,17 +10,17 @@ use Rattle.gptimg_core.specs.Lines.{report_lines}
 use Rattle.gptimg_core.specs.Names.{fault_line}
 use Rattle.gptimg_core.specs.declared.words.Command.{Command}
 
--- the lines of what there is to tell
+-- the lines of a result
 abbrev pub told_lines : Told → List ℕ
 told_lines (Ok report) = report_lines report
 told_lines (Err e) = fault_line (fault_of e)
 
--- the status: 0 where the command is done, 1 where it was refused, or tells what is wrong
+-- the exit status: 0 if the command succeeded, 1 if it failed, or found copies that are not one table
 abbrev pub told_status : Told → ℕ
 told_status (Ok report) = if is_good report then 0 else 1
 told_status (Err e) = 1
 
--- A command did what it does to the disk, and what there is to tell of it was printed, unless `out` failed.
+-- A command had its effect on the disk, and its result was printed, unless `out` failed.
 pub record Runs (command : Command) (result : Result ℕ Error) (old new : DiskState) (from to : Option (List ℕ)) : Type 0 where
   pub told : Told
   pub does : Does command told old new

@@ -1,4 +1,4 @@
--- What is told of a table that was read from a disk.
+-- The report on a table that was read from a disk.
 use Rattle.std.specs.Prelude.{ℕ, Option}
 use Rattle.gptman.specs.Disk.{DiskState}
 use Rattle.gptman.specs.Place.{AreSlots, IsFreeIn}
@@ -7,13 +7,13 @@ use Rattle.gptman_change.specs.Reads.{IsReadFrom}
 use Rattle.gptimg_core.specs.declared.commands.Report.{Report}
 use Rattle.gptimg_core.specs.declared.commands.Report.TheVariants.{Done, Table, Slots, Added, Copies}
 
--- A table was read from the disk, and this is told of it.
+-- A table was read from the disk, and the report has this relation to it.
 pub record TellsOfTable (Told : GPT → Type 0) (size : Option ℕ) (old new : DiskState) : Type 0 where
   pub table : GPT
   pub read : IsReadFrom size old new table
   pub told : Told table
 
--- the report is the slots of the table's free sectors that begin at multiples of align
+-- the report has the free ranges of the table, each from its first multiple of align
 abbrev pub AreSlotsIn : GPT → ℕ → Report → Type 0
 AreSlotsIn g align Done = ⊥
 AreSlotsIn g align (Table table) = ⊥

@@ -1,4 +1,4 @@
--- Why a command is refused: which fault it answers.
+-- The errors of commands.
 use Rattle.std.specs.Prelude.{◌≡◌, ◌⊎◌, ℕ, List, Some, None, IsTrue}
 use Rattle.gptman.specs.Answers.{IsFailure}
 use Rattle.gptman.specs.TableWrites.{RefusesWrite}
@@ -15,7 +15,8 @@ use Rattle.gptimg_core.specs.declared.words.Addition.{Addition}
 use Rattle.gptimg_core.specs.declared.words.Change.{Change}
 use Rattle.gptimg_core.specs.declared.words.Change.TheVariants.{Add, Remove, Sort, Grow}
 
--- Why a new table is refused: there is no memory, its header does not fit the disk, or it cannot be written; or the disk failed.
+-- Why a new table is refused: an allocation failed, its header does not fit the disk, it cannot be written, or the disk
+-- failed.
 pub data RefusesNew (guid : List ℕ) (ss : ℕ) (fault : Fault) (old new : DiskState) : Type 0 where
   no_memory : fault ≡ out_of_memory → RefusesNew guid ss fault old new
   no_fit : fit_fault (new_header guid) ss old.size ≡ Some fault → RefusesNew guid ss fault old new
@@ -26,7 +27,7 @@ pub data RefusesNew (guid : List ℕ) (ss : ℕ) (fault : Fault) (old new : Disk
 abbrev pub RefusesMbr : ℕ → Fault → DiskState → DiskState → Type 0
 RefusesMbr ss fault old new = (mbr_fault ss old.size ≡ Some fault) ⊎ IsFailure fault old new
 
--- Why an addition is refused: there is no entry of its number, or it is used; else there is no place, or no memory.
+-- Why an addition is refused: no entry has its number, or it is used; else there is no place, or an allocation failed.
 pub data RefusesAddition (a : Addition) (g : GPT) (fault : Fault) : Type 0 where
   no_number : number_fault g a.number ≡ Some fault → RefusesAddition a g fault
   used : number_fault g a.number ≡ None → ¬ IsTrue (is_unused (entry_at g a.number)) → fault ≡ invalid_partition_number a.number → RefusesAddition a g fault
@@ -34,7 +35,7 @@ pub data RefusesAddition (a : Addition) (g : GPT) (fault : Fault) : Type 0 where
       → RefusesAddition a g fault
   no_memory : number_fault g a.number ≡ None → IsTrue (is_unused (entry_at g a.number)) → fault ≡ out_of_memory → RefusesAddition a g fault
 
--- Why a change makes nothing of a table on a disk of len bytes that does not fail.
+-- Why a change refuses a table, on a disk of len bytes that does not fail.
 abbrev pub RefusesMaking : Change → ℕ → GPT → Fault → Type 0
 RefusesMaking (Add a) len g fault = RefusesAddition a g fault
 RefusesMaking (Remove number) len g fault = number_fault g number ≡ Some fault

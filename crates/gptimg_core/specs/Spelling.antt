@@ -1,4 +1,4 @@
--- How a command is spelled in the words `SECTOR COMMAND ..` of a command line. A word is the list of its bytes.
+-- How the words `SECTOR COMMAND ..` of a command line spell a command. A word is the list of its bytes.
 use Rattle.std.specs.Prelude.{◌≡◌, ◌≢◌, ℕ, ◌^◌, ◌/◌, ◌%◌, ◌<◌, Bool, true, false, IfSome, List, [], ◌∷◌, length, map, codes, replicate, Option, Some, None, String, string_bytes}
 use Rattle.std.specs.Fmt.{decimal}
 use Rattle.std.specs.Str.Parse.{digits_value, AllDigits}
@@ -15,32 +15,32 @@ use Rattle.gptimg_core.specs.declared.words.Command.TheVariants.{New, Mbr, Check
 abbrev pub texts_of : {A : Type 0} → List (String A) → List (List ℕ)
 texts_of words = map string_bytes words
 
--- one or more decimal digits, whose value is n
+-- one or more decimal digits with the value n
 abbrev pub IsNumeral : List ℕ → ℕ → Type 0
 IsNumeral text n = (0 < length text) × AllDigits 10 text × (digits_value 10 text ≡ n)
 
--- two hexadecimal digits for each byte, in any case, the one of the high four bits first
+-- two hexadecimal digits for each byte, in either case, the high one first
 abbrev pub AreDigitPairs : List ℕ → List ℕ → Type 0
 AreDigitPairs [] [] = Unit {0}
 AreDigitPairs (high ∷ low ∷ text) (byte ∷ bytes) = (hex_digit_value high ≡ Some (byte / 16)) × (hex_digit_value low ≡ Some (byte % 16)) × AreDigitPairs text bytes
 AreDigitPairs text bytes = ⊥
 
--- 32 hexadecimal digits, in any case, of these 16 bytes
+-- 32 hexadecimal digits, in either case, of these 16 bytes
 abbrev pub IsDigits : List ℕ → List ℕ → Type 0
 IsDigits text guid = (length text ≡ 32) × AreDigitPairs text guid
 
--- the size of a sector, or the word `auto` where there is none
+-- the sector size, or the word `auto` for none
 abbrev pub IsSectorSize : List ℕ → Option ℕ → Type 0
 IsSectorSize text None = text ≡ codes "auto"
 IsSectorSize text (Some size) = IsNumeral text size
 
--- the word for which of the free places
+-- the word for a choice among the free places
 abbrev pub choice_word : Choice → List ℕ
 choice_word First = codes "first"
 choice_word Last = codes "last"
 choice_word Best = codes "best"
 
--- the word for whether an MBR is to be bootable
+-- the word for whether an MBR is bootable
 abbrev pub kind_word : Bool → List ℕ
 kind_word false = codes "plain"
 kind_word true = codes "bootable"
@@ -52,7 +52,7 @@ IsSpelledAddition (number ∷ type ∷ unique ∷ size ∷ choice ∷ align ∷ 
     × (choice ≡ choice_word a.choice) × IsNumeral align a.align × (name ≡ a.name)
 IsSpelledAddition words a = ⊥
 
--- the words of a change, after the one for the size of a sector
+-- the words of a change, after the sector size
 abbrev pub IsSpelledChange : List (List ℕ) → Change → Type 0
 IsSpelledChange (name ∷ words) (Add a) = (name ≡ codes "add") × IsSpelledAddition words a
 IsSpelledChange (name ∷ number ∷ []) (Remove n) = (name ≡ codes "remove") × IsNumeral number n
@@ -82,18 +82,18 @@ IsEntryNumber n = n < 2 ^ 32
 abbrev pub IsGuid : List ℕ → Type 0
 IsGuid guid = (length guid ≡ 16) × IsBytes guid
 
--- the values that an addition may have; its type is not all zero
+-- the allowed values of an addition; its type is not all zeros
 abbrev pub IsAllowedAddition : Addition → Type 0
 IsAllowedAddition a = IsEntryNumber a.number × IsGuid a.type_guid × (a.type_guid ≢ replicate 16 0) × IsGuid a.unique_guid × IsSize a.size × IsSize a.align
 
--- those of a change
+-- the allowed values of a change
 abbrev pub IsAllowedChange : Change → Type 0
 IsAllowedChange (Add a) = IsAllowedAddition a
 IsAllowedChange (Remove number) = IsEntryNumber number
 IsAllowedChange Sort = Unit {0}
 IsAllowedChange Grow = Unit {0}
 
--- those of a command
+-- the allowed values of a command
 abbrev pub IsAllowed : Command → Type 0
 IsAllowed (New size guid) = IsSize size × IsGuid guid
 IsAllowed (Mbr size bootable) = IsSize size
@@ -102,14 +102,14 @@ IsAllowed (Show size) = IfSome size IsSize
 IsAllowed (Free size align) = IfSome size IsSize × IsSize align
 IsAllowed (Changing size change) = IfSome size IsSize × IsAllowedChange change
 
--- The usual spelling has no zeros in front of a number, and the digits in lower case.
+-- The usual spelling has numbers without leading zeros, and digits in lower case.
 
--- the word for the size of a sector
+-- the word for the sector size
 abbrev pub sector_word : Option ℕ → List ℕ
 sector_word None = codes "auto"
 sector_word (Some size) = decimal size
 
--- the words of a change, after that one
+-- the words of a change, after the sector size
 abbrev pub spell_change : Change → List (List ℕ)
 spell_change (Add a) = codes "add" ∷ decimal a.number ∷ encode_lower a.type_guid ∷ encode_lower a.unique_guid ∷ decimal a.size ∷ choice_word a.choice
     ∷ decimal a.align ∷ a.name ∷ []

@@ -1,5 +1,6 @@
--- How `src/words.rt` reads words, step by step; a text is the list of its bytes. What the words ask for is `IsSpelled` of `Spelling`, which knows no step:
--- `command_in` answers the command that is spelled, where its values are allowed, and none else.
+-- How `src/words.rt` parses words, step by step; a text is the list of its bytes. `IsSpelled` of `Spelling` says which
+-- words are a command, without steps: `command_in` returns the command that is spelled, if its values are allowed, and
+-- no other.
 use Rattle.std.specs.Prelude.{ℕ, ◌^◌, ◌<◌, ◌&&◌, Bool, true, false, IfSome, List, [], ◌∷◌, length, codes, replicate, nat_eq, nat_lt, bytes_eq, Option, Some, None, if◌then◌else◌}
 use Rattle.std.specs.Option.{option_map, option_and_then}
 use Rattle.std.specs.Result.{result_ok}
@@ -32,15 +33,15 @@ entry_number_in text = option_and_then (λ n. if nat_lt n (2 ^ 32) then Some n e
 abbrev pub guid_in : List ℕ → Option (List ℕ)
 guid_in text = result_ok (decode_sized text 16)
 
--- such bytes that are not all zero
+-- such bytes, not all zeros
 abbrev pub type_in : List ℕ → Option (List ℕ)
 type_in text = option_and_then (λ guid. if bytes_eq guid (replicate 16 0) then None else Some guid) (guid_in text)
 
--- the size of a sector, or none where the word is `auto`
+-- the sector size, or none for the word `auto`
 abbrev pub sector_size_in : List ℕ → Option (Option ℕ)
 sector_size_in text = if bytes_eq text (codes "auto") then Some None else option_map (λ size. Some size) (size_in text)
 
--- which of the free places
+-- the choice among the free places
 abbrev pub choice_in : List ℕ → Option Choice
 choice_in text =
     if bytes_eq text (codes "first") then Some First
@@ -48,39 +49,39 @@ choice_in text =
     else if bytes_eq text (codes "best") then Some Best
     else None
 
--- whether an MBR is to be bootable
+-- whether an MBR is bootable
 abbrev pub kind_in : List ℕ → Option Bool
 kind_in text =
     if bytes_eq text (codes "plain") then Some false
     else if bytes_eq text (codes "bootable") then Some true
     else None
 
--- `new GUID`, with the word for the size of a sector
+-- `new GUID`, with the word for the sector size
 abbrev pub new_in : List ℕ → List (List ℕ) → Option Command
 new_in sector (guid ∷ []) = option_and_then (λ size. option_map (λ bytes. New size bytes) (guid_in guid)) (size_in sector)
 new_in sector _ = None
 
--- `mbr KIND`, with that word
+-- `mbr KIND`, with the word for the sector size
 abbrev pub mbr_in : List ℕ → List (List ℕ) → Option Command
 mbr_in sector (kind ∷ []) = option_and_then (λ size. option_map (λ bootable. Mbr size bootable) (kind_in kind)) (size_in sector)
 mbr_in sector _ = None
 
--- `check`, with that word
+-- `check`, with the word for the sector size
 abbrev pub check_in : List ℕ → List (List ℕ) → Option Command
 check_in sector [] = option_map (λ size. Check size) (size_in sector)
 check_in sector _ = None
 
--- `show`, with that word, which may be `auto`
+-- `show`, with the word for the sector size, which may be `auto`
 abbrev pub show_in : List ℕ → List (List ℕ) → Option Command
 show_in sector [] = option_map (λ size. Show size) (sector_size_in sector)
 show_in sector _ = None
 
--- `free ALIGN`, with that word
+-- `free ALIGN`, with the word for the sector size, which may be `auto`
 abbrev pub free_in : List ℕ → List (List ℕ) → Option Command
 free_in sector (align ∷ []) = option_and_then (λ size. option_map (λ n. Free size n) (size_in align)) (sector_size_in sector)
 free_in sector _ = None
 
--- an addition of what its words give
+-- the addition with these parts, if all of them were parsed
 abbrev pub addition_of : Option ℕ → Option (List ℕ) → Option (List ℕ) → Option ℕ → Option Choice → Option ℕ → List ℕ → Option Addition
 addition_of number type unique size choice align name =
     option_and_then (λ number. option_and_then (λ type_guid. option_and_then (λ unique_guid. option_and_then (λ size. option_and_then (λ choice.
@@ -111,7 +112,7 @@ abbrev pub alone : Change → List (List ℕ) → Option Change
 alone change [] = Some change
 alone change _ = None
 
--- the change of a name, with its words
+-- the change with this name and these words
 abbrev pub named_change_in : List ℕ → List (List ℕ) → Option Change
 named_change_in name words =
     if bytes_eq name (codes "add") then option_map (λ addition. Add addition) (addition_in words)
@@ -120,11 +121,11 @@ named_change_in name words =
     else if bytes_eq name (codes "grow") then alone Grow words
     else None
 
--- a command that changes the table, with the word for the size of a sector
+-- a command that changes the table, with the word for the sector size
 abbrev pub change_in : List ℕ → List ℕ → List (List ℕ) → Option Command
 change_in sector name words = option_and_then (λ size. option_map (λ change. Changing size change) (named_change_in name words)) (sector_size_in sector)
 
--- the command of a name, with that word and the others
+-- the command with this name, given the word for the sector size and the other words
 abbrev pub named_command_in : List ℕ → List ℕ → List (List ℕ) → Option Command
 named_command_in sector name words =
     if bytes_eq name (codes "new") then new_in sector words

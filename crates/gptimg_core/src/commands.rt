@@ -1,4 +1,4 @@
-//! What the commands do to a disk. Nothing is printed here.
+//! Runs commands on a disk. Prints nothing.
 
 ghost use Rattle.std.specs.Prelude.{◌≡◌, ◌⊎◌, ◌<◌, ◌∷◌, [], false, IfErr, IfOk, IfSome, IsTrue, OnErr, OnOk};
 ghost use Rattle.gptman.specs.Answers.{CountsFailure, HasCause, IsFailure};
@@ -27,24 +27,26 @@ use std::alloc::Global;
 
 pub mod change;
 
-/// What a command that is done has to tell.
+/// The result of a command, to be printed.
 #[derive(Drop)]
 pub enum Report {
-    /// That it is done, and no more.
+    /// Done, without a value.
     Done,
     /// The table on the disk.
     Table(GPT),
-    /// The slots of free sectors, each with its first sector and its length.
+    /// The free ranges, each with its first sector and its length in sectors.
     Slots(Vec<(u64, u64)>),
-    /// A partition was added under this number, from its first sector to its last.
+    /// A partition was added with this number, from its first sector to its last.
     Added { number: u32, first: u64, last: u64 },
-    /// What the two copies are.
+    /// Both copies of the table, or their faults.
     Copies(BothCopies),
 }
 
-/// Does what is asked for.
+/// Runs a command.
 ///
-/// The errors are those of making, reading, changing and writing a table, and of writing an MBR.
+/// # Errors
+///
+/// Those of making, reading, changing and writing a table, and of writing an MBR.
 pub fn perform<D: Disk>(alloc: Global, command: &Command, disk: &mut D) -> Result<Report>
     requires { IsSized command.now }
     ensures keeps { Keeps (D.state disk.old) (D.state disk.new) }
@@ -68,7 +70,7 @@ pub fn perform<D: Disk>(alloc: Global, command: &Command, disk: &mut D) -> Resul
     }
 }
 
-// What the two copies of the table are, with sectors of so many bytes.
+// Checks both copies of the table. The sector size is in bytes.
 fn look_at_copies<D: Disk>(alloc: Global, disk: &mut D, sector_size: u64) -> Result<Report>
     requires { 0 < sector_size }
     ensures reads { Reads (D.state disk.old) (D.state disk.new) }
@@ -80,7 +82,7 @@ fn look_at_copies<D: Disk>(alloc: Global, disk: &mut D, sector_size: u64) -> Res
     Ok(Report::Copies(check(alloc, disk, sector_size)?))
 }
 
-// The table on the disk, with sectors of so many bytes or of a size that is found.
+// Reads the table on the disk. Without a sector size it finds one.
 fn show_table<D: Disk>(alloc: Global, disk: &mut D, sector_size: Option<u64>) -> Result<Report>
     requires { IfSome sector_size (λ size. 0 < size) }
     ensures reads { Reads (D.state disk.old) (D.state disk.new) }
@@ -95,7 +97,7 @@ fn show_table<D: Disk>(alloc: Global, disk: &mut D, sector_size: Option<u64>) ->
     Ok(Report::Table(read_table(alloc, disk, sector_size)?))
 }
 
-// The slots of free sectors that begin at multiples of so many sectors.
+// Lists the free ranges, each from its first multiple of `align` sectors.
 fn list_free<D: Disk>(
     alloc: Global,
     disk: &mut D,
@@ -169,7 +171,7 @@ fn write_mbr<D: Disk>(disk: &mut D, sector_size: u64, bootable: bool) -> Result<
     Ok(Report::Done)
 }
 
-// Writes a protective MBR, which is not synced.
+// Writes a protective MBR, without a sync.
 fn lay_mbr<D: Disk>(disk: &mut D, sector_size: u64, bootable: bool) -> Result<()>
     requires { 0 < sector_size }
     ensures keeps { Keeps (D.state disk.old) (D.state disk.new) }

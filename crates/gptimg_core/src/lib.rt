@@ -1,7 +1,6 @@
-//! The image program: what its words ask for, what that does to a disk, and the lines it prints.
+//! The program `gptimg` as a library: parses its arguments, runs the command on a disk, and prints the result.
 //!
-//! `run` works over any disk and any writer. The program `gptimg` calls it with a file and with
-//! standard output.
+//! `run` works on any disk and any writer. The program calls it with a file and standard output.
 #![tactic(auto)]
 
 ghost use Rattle.std.specs.Prelude.{◌≡◌, ◌≢◌, ◌≤◌, ◌↔◌, ℕ, List, Ok, IfErr, IfOk, IsTrue, OnOk};
@@ -22,40 +21,40 @@ mod commands;
 mod lines;
 mod words;
 
-/// The line that says how the program is used, with its newline.
+/// The usage line, with its newline.
 pub const USAGE: &str = "usage: gptimg IMAGE SECTOR COMMAND [WORDS]\n";
 
-/// The status of a command that was done.
+/// The status of a successful command.
 const DONE: u8 = 0;
 
-/// The status of a command that was refused.
+/// The status of a failed command.
 const FAULT: u8 = 1;
 
-/// The status of words that ask for nothing.
+/// The status for words that are not a command.
 const NO_COMMAND: u8 = 2;
 
-/// Does on the disk what the words `SECTOR COMMAND ..` ask for, and prints the outcome to `out`.
-/// SECTOR is the size of a sector in bytes, or but for `new`, `mbr` and `check` the word `auto`: then
-/// it is found. Answers the status to end with: 0 where the command is done, 1 where it was refused,
-/// 2 where the words are none of a command.
+/// Runs the command `SECTOR COMMAND ..` on the disk, and prints the result to `out`. SECTOR is the sector size in
+/// bytes, or, except for `new`, `mbr` and `check`, the word `auto`: then the size is found. Returns the exit status: 0
+/// if the command succeeded, 1 if it failed, 2 if the words are not a command.
 ///
-/// - `new GUID` writes a new table with this disk GUID, in both places, and prints `ok`.
-/// - `show` prints a line that says what the table on the disk is, and a line for each used entry.
-/// - `free ALIGN` prints the slots of free sectors that begin at multiples of ALIGN, each as
-///   `START LENGTH`.
-/// - `add NUMBER TYPE UNIQUE SIZE WHERE ALIGN NAME` adds a partition of SIZE sectors at a multiple of
-///   ALIGN, under the number of an unused entry, and prints `NUMBER START..END`. WHERE is `first`,
-///   `last`, or `best`: the start of the shortest slot that has room.
-/// - `remove NUMBER` and `sort` remove an entry, and put the entries in order, and print `ok`.
+/// - `new GUID` writes a new table with this disk GUID to both places, and prints `ok`.
+/// - `show` prints a line for the table on the disk, and a line for each used entry.
+/// - `free ALIGN` prints the free ranges, each from its first multiple of ALIGN, as `START LENGTH`.
+/// - `add NUMBER TYPE UNIQUE SIZE WHERE ALIGN NAME` adds a partition of SIZE sectors at a multiple of ALIGN, with the
+///   number of an unused entry, and prints `NUMBER START..END`. WHERE is `first`, `last`, or `best`: the start of the
+///   shortest range of `free ALIGN` that is large enough.
+/// - `remove NUMBER` removes an entry, `sort` sorts the entries, and both print `ok`.
 /// - `grow` fits the table to the length of the disk, and prints `ok`.
 /// - `mbr KIND` writes a protective MBR, `plain` or `bootable`, and prints `ok`.
-/// - `check` prints of each copy whether it is good or its fault, and whether both are one table. Its
-///   status is 0 only where they are.
+/// - `check` prints for each copy whether it is good or its fault, and whether both are one table. If they are not, the
+///   status is 1.
 ///
-/// A refused command prints `fault: NAME` and no other line. Words of no command print the usage
-/// line, and the disk is left alone.
+/// If the command fails, it prints only `fault: NAME`. If the words are not a command, the usage line is printed and
+/// the disk is not used.
 ///
-/// `Io` where `out` failed, and no other error. The disk then holds what the command wrote.
+/// # Errors
+///
+/// `Io` if `out` failed, and no other error. The disk then holds what the command wrote.
 pub fn run<D: Disk, W: Write>(
     alloc: Global,
     words: &[String],
@@ -64,24 +63,24 @@ pub fn run<D: Disk, W: Write>(
 ) -> Result<u8>
     ensures keeps { Keeps (D.state disk.old) (D.state disk.new) }
 
-    // What is answered.
+    // The status is 2 exactly if the words are not a command. The only error is `Io`.
     ensures status { IfOk result (λ status. status ≤ 2) }
     ensures asks { IfOk result (λ status. (status ≡ 2) ↔ ¬ AskForAny words.now) }
     ensures asked { IfOk result (λ status. status ≢ 2 → AskForAny words.now) }
     ensures refused { IfErr result (λ e. fault_of e ≡ io_fault) }
 
-    // Words of no command leave the disk alone, and print how the program is used.
+    // If the words are not a command, the disk is not used, and the usage line is printed.
     ensures usage { result ≡ Ok 2 → disk.new ≡ disk.old }
     ensures not_asked { ¬ AskForAny words.now → disk.new ≡ disk.old }
     ensures prints_usage { ¬ AskForAny words.now
         → OnOk result (Appends (W.contents out.old) (W.contents out.new) USAGE.now) }
 
-    // Words of a command have it done, and print what there is to tell of it.
+    // If the words are a command, it is run, and its result is printed.
     ensures runs { (command : Command) → AskFor words.now command
         → Runs command result (D.state disk.old) (D.state disk.new)
         (W.contents out.old) (W.contents out.new) }
 
-    // Nothing is written but by a command that writes.
+    // Without a command that writes, the disk is only read.
     ensures reads { IsHonest (D.state disk.old) → ¬ AskToWrite words.now
         → OnlyRead (D.state disk.old) (D.state disk.new) }
 {
@@ -94,8 +93,8 @@ pub fn run<D: Disk, W: Write>(
     Ok(status_of(&told))
 }
 
-/// Whether the words `SECTOR COMMAND ..` ask for a command that writes to the disk. With any others `run`
-/// only reads it, if at all.
+/// Reports whether the words `SECTOR COMMAND ..` are a command that writes to the disk. Otherwise `run` at most reads
+/// it.
 pub fn may_write(words: &[String]) -> bool
     ensures { IsTrue result ↔ AskToWrite words.now }
 {
@@ -105,19 +104,19 @@ pub fn may_write(words: &[String]) -> bool
     }
 }
 
-/// Each command whose values are allowed is spelled by its usual words: decimal numbers without zeros
-/// in front, and digits in lower case. This call does nothing.
+/// A law: each command with allowed values is spelled by its usual words, with decimal numbers without leading zeros
+/// and digits in lower case. The call does nothing.
 pub fn usual_words_spell()
     ensures { (command : Command) → IsAllowed command → IsSpelled (spell command) command }
 {}
 
-/// Words spell one such command at most. This call does nothing.
+/// A law: words spell at most one such command. The call does nothing.
 pub fn words_spell_one()
     ensures { (words : List (List ℕ)) (a b : Command) → IsSpelled words a → IsAllowed a
         → IsSpelled words b → IsAllowed b → a ≡ b }
 {}
 
-// The status to end with, where this is what there is to tell.
+// Returns the exit status for a result.
 fn status_of(told: &Result<Report>) -> u8
     ensures { result ≡ told_status told.now }
 {

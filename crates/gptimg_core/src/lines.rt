@@ -1,4 +1,4 @@
-//! The lines that are printed: what a command did, or the name of its fault.
+//! Prints the result of a command, or the name of its fault.
 
 ghost use Rattle.std.specs.Prelude.{◌≡◌, ◌++◌, codes, OnOk};
 ghost use Rattle.std.specs.Io.KnownBytes.{Appends};
@@ -21,9 +21,11 @@ use gptman::{BothCopies, Error, GPT, GPTHeader, GPTPartitionEntry, Result};
 use std::io;
 use std::io::Write;
 
-/// Prints what there is to tell of a command: its report, or the name of its fault.
+/// Prints the result of a command, or the name of its fault.
 ///
-/// An error comes only where `out` failed.
+/// # Errors
+///
+/// Only if `out` failed.
 pub fn print_told<W: Write>(out: &mut W, told: &Result<Report>) -> io::Result<()>
     ensures { OnOk result (Appends (W.contents out.old) (W.contents out.new) (told_lines told.now)) }
 {
@@ -33,7 +35,7 @@ pub fn print_told<W: Write>(out: &mut W, told: &Result<Report>) -> io::Result<()
     }
 }
 
-// Prints what a command has to tell.
+// Prints the report of a command.
 fn print_report<W: Write>(out: &mut W, report: &Report) -> io::Result<()>
     ensures { OnOk result (Appends (W.contents out.old) (W.contents out.new) (report_lines report.now)) }
 {
@@ -50,7 +52,7 @@ fn print_report<W: Write>(out: &mut W, report: &Report) -> io::Result<()>
     }
 }
 
-// Prints a line for each slot: its start and its length.
+// Prints a line for each free range: its start and its length.
 fn print_slots<W: Write>(out: &mut W, slots: &[(u64, u64)]) -> io::Result<()>
     ensures { OnOk result (Appends (W.contents out.old) (W.contents out.new) (slot_lines slots.now)) }
 {
@@ -61,7 +63,7 @@ fn print_slots<W: Write>(out: &mut W, slots: &[(u64, u64)]) -> io::Result<()>
     Ok(())
 }
 
-// Prints what the two copies are, and whether they are one table.
+// Prints a line for each copy, and whether both are one table.
 fn print_copies<W: Write>(out: &mut W, copies: &BothCopies) -> io::Result<()>
     ensures { OnOk result (Appends (W.contents out.old) (W.contents out.new)
         (check_lines (answer_of copy_of_whole copies.now.primary)
@@ -77,7 +79,7 @@ fn print_copies<W: Write>(out: &mut W, copies: &BothCopies) -> io::Result<()>
     out.write_all(same.as_bytes())
 }
 
-// Prints that the copy at the place of this name is good, or its fault.
+// Prints whether the copy at this place is good, or its fault.
 fn print_copy<W: Write>(out: &mut W, place: &str, copy: &Result<WholeCopy>) -> io::Result<()>
     ensures { OnOk result (Appends
         (W.contents out.old) (W.contents out.new) (copy_line place.now (answer_of copy_of_whole copy.now))) }
@@ -91,8 +93,7 @@ fn print_copy<W: Write>(out: &mut W, place: &str, copy: &Result<WholeCopy>) -> i
     out.write_all(b"\n")
 }
 
-// Prints the table's own line, and a line for each used entry. GUIDs are printed as 32 lower-case
-// hexadecimal digits.
+// Prints the line of the table, and a line for each used entry. GUIDs are 32 hexadecimal digits in lower case.
 fn print_table<W: Write>(out: &mut W, table: &GPT) -> io::Result<()>
     ensures { OnOk result (Appends (W.contents out.old) (W.contents out.new) (table_lines table.now)) }
 {
@@ -113,7 +114,7 @@ fn print_entries<W: Write>(out: &mut W, table: &GPT) -> io::Result<()>
     Ok(())
 }
 
-// Prints the line of an entry under its number.
+// Prints the line of an entry.
 fn print_entry<W: Write>(out: &mut W, number: u32, entry: &GPTPartitionEntry) -> io::Result<()>
     ensures { OnOk result (Appends
         (W.contents out.old) (W.contents out.new) (entry_line (number, entry.now))) }
@@ -129,7 +130,7 @@ fn print_entry<W: Write>(out: &mut W, number: u32, entry: &GPTPartitionEntry) ->
     out.write_all(b"\n")
 }
 
-// Prints the type of the entry, and its own GUID.
+// Prints the type GUID and the unique GUID of an entry.
 fn print_guids<W: Write>(out: &mut W, entry: &GPTPartitionEntry) -> io::Result<()>
     ensures { OnOk result (Appends (W.contents out.old) (W.contents out.new)
         (encode_lower entry.now.partition_type_guid ++
@@ -140,7 +141,7 @@ fn print_guids<W: Write>(out: &mut W, entry: &GPTPartitionEntry) -> io::Result<(
     out.write_all(&guid_text(&entry.unique_partition_guid))
 }
 
-// Prints the text of a name.
+// Prints a name.
 fn print_text<W: Write>(out: &mut W, text: &str) -> io::Result<()>
     ensures { OnOk result (Appends (W.contents out.old) (W.contents out.new) (shown_text text.now)) }
 {
@@ -150,7 +151,7 @@ fn print_text<W: Write>(out: &mut W, text: &str) -> io::Result<()>
     Ok(())
 }
 
-// A byte of a name as it is shown: of a control character, which is one byte, a question mark.
+// Returns a byte of a name for printing: a question mark for a control character, which is one byte in UTF-8.
 fn shown(byte: u8) -> u8
     ensures { result ≡ shown_byte byte }
 {
@@ -161,7 +162,7 @@ fn shown(byte: u8) -> u8
     }
 }
 
-// The number as 16 hexadecimal digits, the highest first.
+// Returns the number as 16 hexadecimal digits, the highest first.
 fn number_text(number: u64) -> [u8; 16]
     ensures { result ≡ encode_lower (to_be_bytes w64 number) }
 {
@@ -170,7 +171,7 @@ fn number_text(number: u64) -> [u8; 16]
     text
 }
 
-// Prints the table's own line.
+// Prints the line of the table.
 fn print_header<W: Write>(out: &mut W, table: &GPT) -> io::Result<()>
     ensures { OnOk result (Appends (W.contents out.old) (W.contents out.new) (table_line table.now)) }
 {
@@ -186,7 +187,7 @@ fn print_header<W: Write>(out: &mut W, table: &GPT) -> io::Result<()>
     writeln!(out, " usable {first}..{last} entries {count} align {align}")
 }
 
-// The form that the header is in.
+// Returns the form of the header.
 fn form_name(header: &GPTHeader) -> &'static str
     ensures { result.now ≡ form_name_of header.now }
 {
@@ -197,7 +198,7 @@ fn form_name(header: &GPTHeader) -> &'static str
     }
 }
 
-// The 16 bytes as hexadecimal digits.
+// Returns the 16 bytes as hexadecimal digits.
 fn guid_text(guid: &[u8; 16]) -> [u8; 32]
     ensures { result ≡ encode_lower guid.now }
 {
@@ -206,7 +207,7 @@ fn guid_text(guid: &[u8; 16]) -> [u8; 32]
     text
 }
 
-// Prints the line of a refused command.
+// Prints the line of a failed command.
 fn print_fault<W: Write>(out: &mut W, fault: &Error) -> io::Result<()>
     ensures { OnOk result (Appends
         (W.contents out.old) (W.contents out.new) (fault_line (fault_of fault.now))) }
@@ -216,8 +217,7 @@ fn print_fault<W: Write>(out: &mut W, fault: &Error) -> io::Result<()>
     out.write_all(b"\n")
 }
 
-// Prints the error's name, without its numbers. Of a reading that failed in both places the two
-// faults follow.
+// Prints the name of the error without its numbers, and for `ReadError` the faults of both copies.
 fn print_name<W: Write>(out: &mut W, fault: &Error) -> io::Result<()>
     ensures { OnOk result (Appends
         (W.contents out.old) (W.contents out.new) (fault_name (fault_of fault.now))) }

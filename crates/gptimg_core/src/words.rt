@@ -1,6 +1,6 @@
-//! The words of a command line: which command they ask for, and with which numbers and GUIDs.
+//! Parses the words of a command line, without a disk.
 //!
-//! No disk is known here. Words that ask for no command are `None`, whatever is wrong with them.
+//! Words that are not a command are `None`, whatever is wrong with them.
 
 ghost use Rattle.std.specs.Prelude.{◌≡◌, IfSome, Some};
 ghost use Rattle.gptimg_core.specs.Asks.{writes, AskFor};
@@ -18,34 +18,33 @@ use std::marker::Model;
 
 mod values;
 
-/// What a command line asks for. Sizes of sectors are in bytes, and above 0. Where there is none, it
-/// is to be found.
+/// A command. Sector sizes are in bytes, and above 0; without one, the size is found.
 #[derive(Drop)]
 pub enum Command<'a> {
-    /// To write a new table with this disk GUID.
+    /// Writes a new table with this disk GUID.
     New {
         sector_size: u64,
         guid: [u8; 16],
     },
-    /// To write a protective MBR.
+    /// Writes a protective MBR.
     Mbr {
         sector_size: u64,
         bootable: bool,
     },
-    /// To look at both copies of the table.
+    /// Checks both copies of the table.
     Check {
         sector_size: u64,
     },
-    /// To print what the table on the disk is.
+    /// Prints the table on the disk.
     Show {
         sector_size: Option<u64>,
     },
-    /// To print the free sectors, as slots that begin at multiples of so many sectors.
+    /// Prints the free ranges, each from its first multiple of `align` sectors.
     Free {
         sector_size: Option<u64>,
         align: u64,
     },
-    /// To change the table on the disk.
+    /// Changes the table on the disk.
     Change {
         sector_size: Option<u64>,
         change: Change<'a>,
@@ -53,7 +52,7 @@ pub enum Command<'a> {
 }
 
 impl Command<'_> {
-    /// Whether the command writes to the disk. The others only read it.
+    /// Reports whether the command writes to the disk. The others only read it.
     pub fn writes(&self) -> bool
         ensures { result ≡ writes self.now }
     {
@@ -67,32 +66,32 @@ impl Command<'_> {
 /// A change of the table.
 #[derive(Drop)]
 pub enum Change<'a> {
-    /// A partition is added.
+    /// Adds a partition.
     Add(Addition<'a>),
-    /// The entry of this number is removed.
+    /// Removes the entry with this number.
     Remove(u32),
-    /// The entries are put in order.
+    /// Sorts the entries.
     Sort,
-    /// The table is fitted to the length of the disk.
+    /// Fits the table to the length of the disk.
     Grow,
 }
 
-/// A partition that is to be added. Its size and its alignment are in sectors, and above 0.
+/// A partition to be added. Its size and alignment are in sectors, and above 0.
 #[derive(Drop)]
 pub struct Addition<'a> {
     /// The number of its entry.
     pub number: u32,
-    /// The type of the partition, not all zero.
+    /// The type GUID, not all zeros.
     pub type_guid: [u8; 16],
-    /// The GUID of the partition.
+    /// The unique GUID.
     pub unique_guid: [u8; 16],
-    /// How many sectors it has.
+    /// The number of sectors.
     pub size: u64,
-    /// Which of the free places it gets.
+    /// The choice among the free places.
     pub choice: Choice,
-    /// It begins at a multiple of so many sectors.
+    /// The alignment: the first sector is a multiple of it.
     pub align: u64,
-    /// Its name.
+    /// The name.
     pub name: Word<'a>,
 }
 
@@ -109,7 +108,7 @@ impl<'a> Model for Word<'a> {
 }
 
 impl Word<'_> {
-    /// The text of the word.
+    /// Returns the text of the word.
     pub fn as_str(&self) -> &str
         ensures { result.now ≡ self.now }
     {
@@ -117,18 +116,18 @@ impl Word<'_> {
     }
 }
 
-/// Which of the free places a partition gets.
+/// The choice among the free places.
 #[derive(Clone, Copy)]
 pub enum Choice {
     /// The first.
     First,
     /// The last.
     Last,
-    /// The start of the shortest slot that has room.
+    /// The start of the shortest free range that is large enough.
     Best,
 }
 
-/// What the words `SECTOR COMMAND ..` ask for.
+/// Parses the words `SECTOR COMMAND ..`.
 pub fn parse(words: &[String]) -> Option<Command<'_>>
     ensures sized { IfSome result IsSized }
     ensures spelled { IfSome result (λ command. AskFor words.now command) }
@@ -142,7 +141,7 @@ pub fn parse(words: &[String]) -> Option<Command<'_>>
     parse_command(sector.as_str(), name.as_str(), arguments)
 }
 
-// The command of this name, with the word for the size of a sector.
+// Parses the command with this name, given the word for the sector size.
 fn parse_command<'a>(sector: &str, name: &str, arguments: &'a [String]) -> Option<Command<'a>>
     ensures sized { IfSome result IsSized }
     ensures value { result ≡ named_command_in sector.now name.now (texts_of arguments.now) }
@@ -157,7 +156,7 @@ fn parse_command<'a>(sector: &str, name: &str, arguments: &'a [String]) -> Optio
     }
 }
 
-// `new GUID`, with the size of a sector.
+// Parses `new GUID`.
 fn parse_new<'a>(sector: &str, arguments: &'a [String]) -> Option<Command<'a>>
     ensures sized { IfSome result IsSized }
     ensures value { result ≡ new_in sector.now (texts_of arguments.now) }
@@ -171,7 +170,7 @@ fn parse_new<'a>(sector: &str, arguments: &'a [String]) -> Option<Command<'a>>
     })
 }
 
-// `mbr KIND`, with the size of a sector.
+// Parses `mbr KIND`.
 fn parse_mbr<'a>(sector: &str, arguments: &'a [String]) -> Option<Command<'a>>
     ensures sized { IfSome result IsSized }
     ensures value { result ≡ mbr_in sector.now (texts_of arguments.now) }
@@ -185,7 +184,7 @@ fn parse_mbr<'a>(sector: &str, arguments: &'a [String]) -> Option<Command<'a>>
     })
 }
 
-// `check`, with the size of a sector.
+// Parses `check`.
 fn parse_check<'a>(sector: &str, arguments: &'a [String]) -> Option<Command<'a>>
     ensures sized { IfSome result IsSized }
     ensures value { result ≡ check_in sector.now (texts_of arguments.now) }
@@ -198,7 +197,7 @@ fn parse_check<'a>(sector: &str, arguments: &'a [String]) -> Option<Command<'a>>
     })
 }
 
-// `show`, with the size of a sector or with `auto`.
+// Parses `show`; the sector size may be `auto`.
 fn parse_show<'a>(sector: &str, arguments: &'a [String]) -> Option<Command<'a>>
     ensures sized { IfSome result IsSized }
     ensures value { result ≡ show_in sector.now (texts_of arguments.now) }
@@ -211,7 +210,7 @@ fn parse_show<'a>(sector: &str, arguments: &'a [String]) -> Option<Command<'a>>
     })
 }
 
-// `free ALIGN`, with the size of a sector or with `auto`.
+// Parses `free ALIGN`; the sector size may be `auto`.
 fn parse_free<'a>(sector: &str, arguments: &'a [String]) -> Option<Command<'a>>
     ensures sized { IfSome result IsSized }
     ensures value { result ≡ free_in sector.now (texts_of arguments.now) }
@@ -225,7 +224,7 @@ fn parse_free<'a>(sector: &str, arguments: &'a [String]) -> Option<Command<'a>>
     })
 }
 
-// A command that changes the table, with the size of a sector or with `auto`.
+// Parses a command that changes the table; the sector size may be `auto`.
 fn parse_change<'a>(sector: &str, name: &str, arguments: &'a [String]) -> Option<Command<'a>>
     ensures sized { IfSome result IsSized }
     ensures value { result ≡ change_in sector.now name.now (texts_of arguments.now) }
@@ -236,7 +235,7 @@ fn parse_change<'a>(sector: &str, name: &str, arguments: &'a [String]) -> Option
     })
 }
 
-// The change of this name.
+// Parses the change with this name.
 fn parse_named_change<'a>(name: &str, arguments: &'a [String]) -> Option<Change<'a>>
     ensures sized { IfSome result IsSizedChange }
     ensures value { result ≡ named_change_in name.now (texts_of arguments.now) }
@@ -250,7 +249,7 @@ fn parse_named_change<'a>(name: &str, arguments: &'a [String]) -> Option<Change<
     }
 }
 
-// A change that takes no words.
+// Parses a change that takes no words.
 fn parse_alone<'a>(change: Change<'a>, arguments: &'a [String]) -> Option<Change<'a>>
     requires sized { IsSizedChange change }
     ensures sized { IfSome result IsSizedChange }
@@ -263,7 +262,7 @@ fn parse_alone<'a>(change: Change<'a>, arguments: &'a [String]) -> Option<Change
     }
 }
 
-// `NUMBER`.
+// Parses `NUMBER`.
 fn parse_remove<'a>(arguments: &'a [String]) -> Option<Change<'a>>
     ensures sized { IfSome result IsSizedChange }
     ensures value { result ≡ remove_in (texts_of arguments.now) }
@@ -274,7 +273,7 @@ fn parse_remove<'a>(arguments: &'a [String]) -> Option<Change<'a>>
     Some(Change::Remove(parse_entry_number(number.as_str())?))
 }
 
-// `NUMBER TYPE UNIQUE SIZE WHERE ALIGN NAME`.
+// Parses `NUMBER TYPE UNIQUE SIZE WHERE ALIGN NAME`.
 fn parse_addition<'a>(arguments: &'a [String]) -> Option<Addition<'a>>
     ensures sized { IfSome result IsSizedAddition }
     ensures value { result ≡ addition_in (texts_of arguments.now) }

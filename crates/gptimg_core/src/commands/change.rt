@@ -24,7 +24,7 @@ use gptman::{Disk, Error, GPT, GPTPartitionEntry, PartitionName, Result};
 use gptman_change::{Plan, Planned};
 use std::alloc::Global;
 
-/// A change is a plan that tells what it did.
+/// A change is a plan whose answer is the report.
 impl Plan for Change<'_> {
     type Answer = Report;
 
@@ -36,7 +36,7 @@ impl Plan for Change<'_> {
 
     ghost asks = { AsksDisk };
 
-    /// The errors are those of removing, sorting, fitting and adding.
+    /// Changes the table. The errors are those of removing, sorting, fitting and adding.
     fn change<D: Disk>(
         &self,
         alloc: Global,
@@ -65,7 +65,7 @@ fn remove(table: &mut GPT, number: u32) -> Result<Report>
     Ok(Report::Done)
 }
 
-// Puts the entries in order.
+// Sorts the entries.
 fn sort(table: &mut GPT) -> Result<Report>
     requires coherent { IsCoherent table.old.header (entries_in table.old) }
     ensures told { IfOk result (λ report. report ≡ Done) }
@@ -78,7 +78,7 @@ fn sort(table: &mut GPT) -> Result<Report>
     Ok(Report::Done)
 }
 
-// Fits the table's header to the disk.
+// Fits the header of the table to the length of the disk.
 fn fit<D: Disk>(disk: &mut D, table: &mut GPT) -> Result<Report>
     requires sector { 0 < table.old.sector_size }
     requires coherent { IsCoherent table.old.header (entries_in table.old) }
@@ -98,10 +98,9 @@ fn fit<D: Disk>(disk: &mut D, table: &mut GPT) -> Result<Report>
     Ok(Report::Done)
 }
 
-// Adds a partition at a free place, under the number of an unused entry.
+// Adds a partition at a free place, with the number of an unused entry.
 //
-// `InvalidPartitionNumber` where there is no entry of this number or it is used, `NoSpaceLeft` where
-// there is no place.
+// `InvalidPartitionNumber` if no entry has this number, or it is used; `NoSpaceLeft` if there is no place.
 fn add(alloc: Global, table: &mut GPT, addition: &Addition) -> Result<Report>
     requires coherent { IsCoherent table.old.header (entries_in table.old) }
     requires sized { IsSizedAddition addition.now }
@@ -135,7 +134,7 @@ fn add(alloc: Global, table: &mut GPT, addition: &Addition) -> Result<Report>
     })
 }
 
-// Whether there is an entry of this number, and it is not used.
+// Reports whether the entry with this number exists and is unused.
 fn has_unused(table: &GPT, number: u32) -> bool
     requires { IsCoherent table.now.header (entries_in table.now) }
     ensures number { IsTrue result → (number_fault table.now number ≡ None) × IsNumber table.now number }
@@ -147,7 +146,7 @@ fn has_unused(table: &GPT, number: u32) -> bool
     number >= 1 && number <= table.header.number_of_partition_entries && table[number].is_unused()
 }
 
-// The place that is chosen for so many sectors.
+// Returns the chosen place for `size` sectors, if there is one.
 fn find_place(table: &GPT, choice: Choice, size: u64) -> Result<Option<u64>>
     requires aligned { 0 < table.now.align }
     ensures refused { IfErr result (λ e. fault_of e ≡ out_of_memory) }

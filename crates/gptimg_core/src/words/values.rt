@@ -1,4 +1,4 @@
-//! The values that single words spell: numbers, sizes, GUIDs and kinds.
+//! Parses single words: numbers, sizes, GUIDs and kinds.
 
 ghost use Rattle.std.specs.Prelude.{◌≡◌, ◌<◌, IfSome};
 ghost use Rattle.std.specs.Char.{is_ascii_digit};
@@ -9,7 +9,7 @@ ghost use Rattle.gptimg_core.specs.Words.{sector_size_in, size_in, type_in};
 use crate::words::Choice;
 use hex::FromHex;
 
-/// A number above 0, or none where the word is `auto`.
+/// Parses a number above 0, or the word `auto` as no number.
 pub fn parse_sector_size(text: &str) -> Option<Option<u64>>
     ensures sized { IfSome result (λ size. IfSome size (λ n. 0 < n)) }
     ensures value { result ≡ sector_size_in text.now }
@@ -21,7 +21,7 @@ pub fn parse_sector_size(text: &str) -> Option<Option<u64>>
     Some(Some(size))
 }
 
-/// A number above 0.
+/// Parses a number above 0.
 pub fn parse_size(text: &str) -> Option<u64>
     ensures sized { IfSome result (λ size. 0 < size) }
     ensures value { result ≡ size_in text.now }
@@ -30,14 +30,14 @@ pub fn parse_size(text: &str) -> Option<u64>
     if size == 0 { None } else { Some(size) }
 }
 
-/// The number of an entry, which fits in 32 bits.
+/// Parses the number of an entry, which fits in 32 bits.
 pub fn parse_entry_number(text: &str) -> Option<u32>
     ensures { result ≡ entry_number_in text.now }
 {
     u32::try_from(parse_number(text)?).ok()
 }
 
-// One or more decimal digits whose value fits in 64 bits.
+// Parses one or more decimal digits whose value fits in 64 bits.
 fn parse_number(text: &str) -> Option<u64>
     ensures { result ≡ number_in text.now }
 {
@@ -47,21 +47,21 @@ fn parse_number(text: &str) -> Option<u64>
     text.parse().ok()
 }
 
-// Whether each character is a decimal digit. Parsing a number takes a sign too.
+// Reports whether each character is a decimal digit: `parse` would accept a sign too.
 fn has_digits_alone(text: &str) -> bool
     ensures { result ≡ list_all is_ascii_digit text.now }
 {
     text.as_bytes().iter().all(|byte| byte.is_ascii_digit())
 }
 
-/// 32 hexadecimal digits, in any case, as the 16 bytes stand on the disk.
+/// Parses 32 hexadecimal digits, in either case, as the 16 bytes on the disk.
 pub fn parse_guid(text: &str) -> Option<[u8; 16]>
     ensures { result ≡ guid_in text.now }
 {
     <[u8; 16]>::from_hex(text).ok()
 }
 
-/// The GUID of a type, which is not all zero.
+/// Parses the GUID of a type, which is not all zeros.
 pub fn parse_type(text: &str) -> Option<[u8; 16]>
     ensures { result ≡ type_in text.now }
 {
@@ -69,7 +69,7 @@ pub fn parse_type(text: &str) -> Option<[u8; 16]>
     if guid == [0; 16] { None } else { Some(guid) }
 }
 
-/// `first`, `last` or `best`.
+/// Parses `first`, `last` or `best`.
 pub fn parse_choice(text: &str) -> Option<Choice>
     ensures { result ≡ choice_in text.now }
 {
@@ -81,7 +81,7 @@ pub fn parse_choice(text: &str) -> Option<Choice>
     }
 }
 
-/// Whether an MBR is to be bootable: `bootable`, or `plain`.
+/// Parses the kind of an MBR: true for `bootable`, false for `plain`.
 pub fn parse_kind(text: &str) -> Option<bool>
     ensures { result ≡ kind_in text.now }
 {

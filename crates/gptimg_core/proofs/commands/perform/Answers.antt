@@ -15,7 +15,7 @@ if_ok_as : {P Q : Report → Type 0} (r : Result Report Error) → ((report : Re
 if_ok_as (Ok report) turn is = turn report is
 if_ok_as (Err e) turn is = tt
 
--- what there is to tell of a change tells of nothing wrong
+-- the report of a change is good
 good_report : (change : Change) (g : GPT) → IsTrue (is_good (report_of change g))
 good_report (Add a) g = refl
 good_report (Remove number) g = refl

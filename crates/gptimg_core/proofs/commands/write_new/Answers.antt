@@ -18,12 +18,12 @@ use Rattle.gptman.proofs.Commits.{write_since}
 use Rattle.gptimg_core.proofs.Replacing.{read_replaces, write_replaces}
 use Rattle.gptimg_core.proofs.commands.write_new.Goals as goal
 
--- a new table was written, after the disk's length was taken
+-- a new table was written, after the length of the disk was taken
 new_wrote : (table next : GPT) (old mid new : DiskState) → table ≡ next → OnlyRead old mid → Wrote (table_ranges table) mid new → Wrote (table_ranges next) old new
 new_wrote table next old mid new is read wrote =
     wrote_then (within_self _) (wrote_wider within_none read.wrote) (subst (λ (t : GPT). Wrote (table_ranges t) mid new) is wrote)
 
--- it is stored where it has the layout
+-- it is stored if it has the layout
 new_stored : (table next : GPT) (old mid new : DiskState) → table ≡ next → Keeps old mid → (StartsLaidOut mid table → IsStored new table.sector_size (table_in table))
     → StartsLaidOut old next → IsStored new next.sector_size (table_in next)
 new_stored table next old mid new is keeps stored start =

@@ -6,7 +6,7 @@ use Rattle.gptimg_core.specs.Words.{command_in}
 use Rattle.gptimg_core.proofs.Spelling.{answers_only, answers_spelled, answers_usual}
 use Rattle.gptimg_core.proofs.words.parse.Goals as goal
 
--- fewer than two words ask for nothing
+-- fewer than two words are not a command
 too_few : {A : Type 0} (words : List (String A)) → length words < 2 → None ≡ command_in (texts_of words)
 too_few [] few = λ i. None
 too_few (a ∷ []) few = λ i. None

@@ -9,7 +9,7 @@ use Rattle.std.specs.Str.Parse.{digits_value}
 use Rattle.gptimg_core.specs.Words.{number_in}
 use Rattle.gptimg_core.proofs.words.values.parse_number.Goals as goal
 
--- texts of digits, and the numbers that they write
+-- texts of digits, and their numbers
 digits : IsNumeralModel (λ ds. list_all is_ascii_digit ds ≡ true) (digits_value 10)
 digits = numerals_by_value _ (search rules)
 
