@@ -1,4 +1,4 @@
--- One more act of a plan: what it does to the disk, and to the history of what was left.
+-- One more act of a plan: its effect on the disk and on what may have been left.
 use Rattle.std.proofs.Common.{◌≡◌, inl, inr, ⊎_elim, ◌<◌, ◌≤◌, ℕ, zero, suc, ◌+◌, List, [], ◌∷◌, ◌++◌, length, refl, sym, subst, arith}
 use Rattle.std.proofs.lemmas.List.{take-append-le, length_push}
 use Rattle.std.proofs.lemmas.List.Sums.{fold_push}
@@ -9,7 +9,7 @@ use Rattle.gptman_plan.specs.Plan.Act.{lay, store}
 use Rattle.gptman.proofs.Ranges.{Ranges, agrees_self, agrees_then, agrees_wider, within_self, within_left, within_right, within_none}
 use Rattle.gptman.proofs.Overlays.{agrees_overlay}
 
--- On the way from these acts to those a disk was written in the ranges alone, wherever it stood and however often it had failed.
+-- from these acts to those, only the ranges were written, whatever the position and the count of failures
 abbrev pub Continues : List ℕ → Ranges → List Act → List Act → Type 0
 Continues start ranges acts after = (size at failed at_then failed_then : ℕ) → Wrote ranges (plan_state start acts size at failed) (plan_state start after size at_then failed_then)
 
@@ -20,12 +20,12 @@ module _ (start : List ℕ) (acts : List Act) (act : Act) where
   length-more : length more ≡ length acts + 1
   length-more = length_push acts act
 
-  -- Until now the history with the act is the one without it: it has each moment of that,
+  -- until now the act does not change what may have been left:
   has : (moment : ℕ) (b : List ℕ) → IsLeftAt start acts moment b → IsLeftAt start more moment b
   has zero b left = left
   has (suc n) b left = (omega (arith, left.0, length-more), subst (λ (l : List Act). IsImage start l b) (sym (take-append-le n acts (act ∷ []) left.0)) left.1)
 
-  -- and no other one.
+  -- nothing more, and nothing less
   had : (moment : ℕ) (b : List ℕ) → moment ≤ suc (length acts) → IsLeftAt start more moment b → IsLeftAt start acts moment b
   had zero b until left = left
   had (suc n) b until left =
@@ -45,7 +45,7 @@ module _ (start : List ℕ) (acts : List Act) (act : Act) where
 
   module _ (ranges : Ranges) (lays : AgreesOutside ranges (bytes_after start acts) (bytes_with (bytes_after start acts) act))
       (adds : Within (pending_with (pending_after acts) act) (ranges ++ pending_after acts)) where
-    -- b is the disk before the act, but for the ranges and for what was not stored
+    -- b is the disk before the act, except in the ranges and where it is pending
     abbrev IsNear : List ℕ → Type 0
     IsNear b = AgreesOutside (ranges ++ pending_after acts) (bytes_after start acts) b
 
@@ -55,7 +55,7 @@ module _ (start : List ℕ) (acts : List Act) (act : Act) where
     pending : Within (pending_after more) (ranges ++ pending_after acts)
     pending = subst (λ (rs : Ranges). Within rs (ranges ++ pending_after acts)) (sym (fold_push pending_with [] acts act)) adds
 
-    -- What is left since then is an image of before the act or of after it.
+    -- Since then only images of before or after the act may be left.
     near : (moment : ℕ) (b : List ℕ) → length acts < moment → IsLeftAt start more moment b → IsNear b
     near moment b since left = ⊎_elim
         (λ after. agrees_then (agrees_wider (within_left ranges (pending_after acts)) view) (agrees_wider pending (left_now start more moment b (omega (arith, after, length-more)) left)))

@@ -1,4 +1,4 @@
--- What is proved of the disk with zeros between its ends, of any disk with these ends.
+-- A proof for the disk with zeros between its ends holds for any disk with these ends.
 use Rattle.std.proofs.Common.{◌≡◌, ◌⊎◌, inl, inr, ⊎_elim, ◌<◌, ◌≤◌, ℕ, ◌+◌, ◌-◌, List, length, get_or, take, drop, sym, ◌∙◌, ap, subst, arith, length-drop}
 use Rattle.std.proofs.lemmas.List.{get_or-take, get_or-drop, length-take-le}
 use Rattle.gptman.specs.Bytes.{part}
@@ -15,7 +15,7 @@ use Rattle.gptman.proofs.Ranges.{Ranges, agrees_back}
 use Rattle.gptman.proofs.Overlays.{length-overlay, overlay_below, overlay_above, overlay_inside}
 use Rattle.gptman_plan.proofs.Middle.{AreKnown, middle_of, ends_zero, same_ends, agrees_known, length-view, view_both, known_take, cases_middle, still_middle, clear_pending}
 
--- a side is held by all that agree outside of the middle, where its places are known
+-- disks that agree outside the middle hold the same table at a side whose ranges are known
 pub holds_known : (first last size : ℕ) (a b : List ℕ) (ss : ℕ) (side : Side) (t : Table) → length a ≡ size → AgreesOutside (middle_of first last size) a b
     → AreRangesKnown first last size (copy_ranges_at side t ss size) → Holds a ss side t → Holds b ss side t
 holds_known first last size a b ss side t long agrees places holds =
@@ -29,7 +29,7 @@ module _ (first last size : ℕ) (apart : first + last ≤ size) (b c : List ℕ
   length-between : length between ≡ size - (first + last)
   length-between = length-take-le (size - (first + last)) (drop first c) (omega (arith, apart, long_c, length-drop first c))
 
-  -- what a stop left of the one disk, with the middle of the other
+  -- what a crash leaves of one disk, with the middle of the other
   abbrev mirrored : List ℕ → List ℕ
   mirrored x = overlay x first between
 
@@ -62,7 +62,7 @@ module _ (first last size : ℕ) (apart : first + last ≤ size) (b c : List ℕ
     length-mirrored : length (mirrored x) ≡ size
     length-mirrored = length-overlay x first between fits ∙ long
 
-    -- it is the same outside of the middle,
+    -- outside the middle it agrees with the list that was left
     mirrored_same : AgreesOutside (middle_of first last size) (mirrored x) x
     mirrored_same = record { long = long ∙ sym length-mirrored; same = λ k out. sym (mirrored_outside k out) }
 
@@ -72,7 +72,7 @@ module _ (first last size : ℕ) (apart : first + last ≤ size) (b c : List ℕ
         (λ mid. mirrored_inside k mid.0 mid.1 ∙ sym (still_middle first last size apart k mid.0 mid.1 c made long_c made_known))
         (cases_middle first last size apart k)
 
-    -- and a stop may leave it of the other disk
+    -- a crash may leave it of the other disk
     left_mirrored : LeftBy c acts (mirrored x)
     left_mirrored = record {
       after = left.after;
@@ -100,16 +100,16 @@ module _ (first last size : ℕ) (apart : first + last ≤ size) (b c : List ℕ
       holds = held_there ss holds.side holds.table (places holds.table holds.listed holds.side) holds.holds;
     }
 
-  -- where each stop leaves one of the tables on the other disk, each stop does on this one
+  -- if each crash leaves one of the tables on the other disk, it does on this one
   stops_hold : (ss : ℕ) (tables : List Table) → ArePlacesKnown first last size ss tables
       → ((y : List ℕ) → LeftBy c acts y → HoldsOneOf y ss tables) → (x : List ℕ) → LeftBy b acts x → HoldsOneOf x ss tables
   stops_hold ss tables places stops x left = held_then x left ss tables places (stops (mirrored x) (left_mirrored x left))
 
-  -- and where each stop leaves all bytes outside of ranges as they were there, each stop does here
+  -- if each crash leaves bytes outside ranges unchanged there, it does here
   stops_keep : (ranges : Ranges) → ((y : List ℕ) → LeftBy c acts y → AgreesOutside ranges c y) → (x : List ℕ) → LeftBy b acts x → AgreesOutside ranges b x
   stops_keep ranges stops x left = record { long = long x left ∙ sym long_b; same = outside_then x left ranges (stops (mirrored x) (left_mirrored x left)) }
 
-  -- Where each stop leaves a table at a side there, or all bytes outside of ranges as they were, each stop does here.
+  -- If each crash leaves a table at a side there, or all bytes outside ranges unchanged, it does here.
   stops_turn : (ranges : Ranges) (ss : ℕ) (side : Side) (t : Table) → AreRangesKnown first last size (copy_ranges_at side t ss size)
       → ((y : List ℕ) → LeftBy c acts y → AgreesOutside ranges c y ⊎ Holds y ss side t) → (x : List ℕ) → LeftBy b acts x → AgreesOutside ranges b x ⊎ Holds x ss side t
   stops_turn ranges ss side t places stops x left = ⊎_elim
@@ -117,7 +117,7 @@ module _ (first last size : ℕ) (apart : first + last ≤ size) (b c : List ℕ
       (λ held. inr (held_there x left ss side t places held))
       (stops (mirrored x) (left_mirrored x left))
 
-  -- a table that this one holds after the acts is held after them there
+  -- a table that this disk holds after the acts is held there too
   after_holds : (ss : ℕ) (side : Side) (t : Table) → AreRangesKnown first last size (copy_ranges_at side t ss size) → Holds (bytes_after b acts) ss side t → Holds (bytes_after c acts) ss side t
   after_holds ss side t places holds = holds_known first last size (bytes_after b acts) (bytes_after c acts) ss side t
       (length-view first last size apart b acts long_b known)
@@ -131,30 +131,30 @@ module _ (head tail b : List ℕ) (size : ℕ) (apart : length head + length tai
   from_zeros : AgreesOutside (middle_of (length head) (length tail) size) (disk_bytes head tail size) b
   from_zeros = same_ends (disk_bytes head tail size) b head tail size of_zeros ends
 
-  -- a table that the disk with zeros holds is held by each disk with its ends,
+  -- a table that the disk with zeros holds is held by each disk with its ends
   pub holds_any : (ss : ℕ) (side : Side) (t : Table) → AreRangesKnown (length head) (length tail) size (copy_ranges_at side t ss size) → Holds (disk_bytes head tail size) ss side t → Holds b ss side t
   holds_any ss side t places holds = holds_known (length head) (length tail) size (disk_bytes head tail size) b ss side t of_zeros.long from_zeros places holds
 
   module _ (acts : List Act) (known : AreKnown (length head) (length tail) size acts) where
-    -- after the same acts too,
+    -- also after the same acts
     pub after_any : (ss : ℕ) (side : Side) (t : Table) → AreRangesKnown (length head) (length tail) size (copy_ranges_at side t ss size)
         → Holds (bytes_after (disk_bytes head tail size) acts) ss side t → Holds (bytes_after b acts) ss side t
     after_any ss side t places holds =
         after_holds (length head) (length tail) size apart (disk_bytes head tail size) b of_zeros.long ends.long from_zeros acts known ss side t places holds
 
-    -- and where each stop leaves one of the tables, each stop does,
+    -- each crash leaves one of the tables, if it does there
     pub stops_any : (ss : ℕ) (tables : List Table) → ArePlacesKnown (length head) (length tail) size ss tables
         → ((y : List ℕ) → LeftBy (disk_bytes head tail size) acts y → HoldsOneOf y ss tables) → (x : List ℕ) → LeftBy b acts x → HoldsOneOf x ss tables
     stops_any ss tables places stops x left =
         stops_hold (length head) (length tail) size apart b (disk_bytes head tail size) ends.long of_zeros.long (agrees_back from_zeros) acts known ss tables places stops x left
 
-    -- and leaves alone what each stop leaves alone there
+    -- it leaves unchanged what it leaves unchanged there
     pub others_any : (ranges : Ranges) → ((y : List ℕ) → LeftBy (disk_bytes head tail size) acts y → AgreesOutside ranges (disk_bytes head tail size) y)
         → (x : List ℕ) → LeftBy b acts x → AgreesOutside ranges b x
     others_any ranges stops x left =
         stops_keep (length head) (length tail) size apart b (disk_bytes head tail size) ends.long of_zeros.long (agrees_back from_zeros) acts known ranges stops x left
 
-    -- or holds at a side what each stop holds there
+    -- or it leaves at a side what it leaves there
     pub turns_any : (ranges : Ranges) (ss : ℕ) (side : Side) (t : Table) → AreRangesKnown (length head) (length tail) size (copy_ranges_at side t ss size)
         → ((y : List ℕ) → LeftBy (disk_bytes head tail size) acts y → AgreesOutside ranges (disk_bytes head tail size) y ⊎ Holds y ss side t)
         → (x : List ℕ) → LeftBy b acts x → AgreesOutside ranges b x ⊎ Holds x ss side t

@@ -1,4 +1,4 @@
--- The plan of a write is one on every disk with these ends.
+-- A plan is a plan for every disk with these ends.
 use Rattle.std.proofs.lemmas.List.{length-map}
 use Rattle.std.proofs.Common.{◌≡◌, ⊎_elim, ℕ, List, [], ◌∷◌, Bool, length, sym, ◌∙◌, subst, arith}
 use Rattle.gptman.specs.Crash.{IsReadInForm}
@@ -22,12 +22,12 @@ use Rattle.gptman_plan.proofs.KnownActs.{are_known}
 use Rattle.gptman_plan.proofs.Middle.{AreKnown, zero_ends}
 use Rattle.gptman_plan.specs.declared.ends.Ends.{Ends}
 
--- the two ranges at a side are known where all four are
+-- the two ranges at a side are known if all four are
 pub at_side : (first last size ss : ℕ) (t : Table) (side : Side) → AreRangesKnown first last size (four_ranges t ss size) → AreRangesKnown first last size (copy_ranges_at side t ss size)
 at_side first last size ss t primary known = (known.0, (known.1.0, tt))
 at_side first last size ss t backup known = (known.1.1.0, (known.1.1.1.0, tt))
 
--- those of two tables, which have the same places
+-- so are those of two tables with the same places
 pub both_places : (first last size ss : ℕ) (was next : Table) → AreRangesKnown first last size (four_ranges was ss size) → AreRangesKnown first last size (four_ranges next ss size)
     → ArePlacesKnown first last size ss (was ∷ next ∷ [])
 both_places first last size ss was next one other t listed side = ⊎_elim
@@ -45,7 +45,7 @@ module _ (e : Ends) (g : GPT) (is_backup : Bool) (partitions : List Partition) (
   abbrev next : Table
   next = with_partitions g partitions
 
-  -- the table with other entries, as many as it has, has the stated layout too
+  -- the table with other entries, as many as before, has the stated layout too
   laid_too : length partitions ≡ (table_in g).count → IsLaidOut (table_in g) g.sector_size e.size → IsLaidOut next g.sector_size e.size
   laid_too count laid = record {
     sector = laid.sector;
@@ -83,7 +83,7 @@ module _ (e : Ends) (g : GPT) (is_backup : Bool) (partitions : List Partition) (
     others : (y : List ℕ) → LeftBy zero acts y → AgreesOutside (four_ranges next g.sector_size e.size) zero y
     others y left = subst (λ (n : ℕ). AgreesOutside (four_ranges next g.sector_size n) zero y) all (plan.others y left)
 
-    -- they leave all bytes outside of the four ranges alone
+    -- the acts leave all bytes outside the four ranges unchanged
     known : AreKnown (length e.head.now) (length e.tail.now) e.size acts
     known = are_known (length e.head.now) (length e.tail.now) e.size e.apart zero all (four_ranges next g.sector_size e.size) four acts others
 

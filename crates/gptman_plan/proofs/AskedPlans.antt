@@ -1,4 +1,4 @@
--- What a plan that is refused asks for.
+-- The ranges for which a plan asks.
 use Rattle.std.proofs.Common.{◌≡◌, ◌≤◌, inl, inr, Bool, ℕ, List, [], ◌∷◌, length, sym, ◌∙◌, subst, arith, length-append}
 use Rattle.std.specs.Prelude.{Option, None, Some, Result, Ok, Err, IfSome}
 use Rattle.gptman.specs.Copy.{Copy}
@@ -24,19 +24,19 @@ use Rattle.gptman_plan.specs.declared.ends.Ends.{Ends}
 
 -- ---- the ranges of a table
 
--- the range that was to be known is the first of these
+-- the range that had to be known is the first
 pub first_among : (from len : ℕ) (more : List (ℕ × ℕ)) (o : Option Lack) → IfSome o (λ lack. (lack.from ≡ from) × (lack.length ≡ len))
     → IfSome o (λ lack. IsAmong (lack.from, lack.length) ((from, len) ∷ more))
 first_among from len more None asked = tt
 first_among from len more (Some lack) asked = inl (λ i. (asked.0 i, asked.1 i))
 
--- and those of these places are of those
+-- each of these places is one of those
 pub some_among : (places more : List (ℕ × ℕ)) → ((range : ℕ × ℕ) → IsAmong range places → IsAmong range more) → (o : Option Lack)
     → IfSome o (λ lack. IsAmong (lack.from, lack.length) places) → IfSome o (λ lack. IsAmong (lack.from, lack.length) more)
 some_among places more wider None asked = tt
 some_among places more wider (Some lack) asked = wider (lack.from, lack.length) asked
 
--- what holds of the value, if there is one
+-- a property of the value, if there is one
 pub if_some : (P : Lack → Type 0) (o : Option Lack) (lack : Lack) → o ≡ Some lack → IfSome o P → P lack
 if_some P o lack is holds = subst (λ p. IfSome p P) is holds
 
@@ -46,7 +46,7 @@ module _ (e : Ends) where
   abbrev Places : Type 0
   Places = List ℕ → List (ℕ × ℕ)
 
-  -- places among others
+  -- places among more places
   pub asks_as : (places more : Places) → ((b : List ℕ) → IsDiskOf e b → (range : ℕ × ℕ) → IsAmong range (places b) → IsAmong range (more b))
       → (r : Refusal) → AsksAmong places e r → AsksAmong more e r
   asks_as places more wider BadArgument asks = tt
@@ -55,7 +55,7 @@ module _ (e : Ends) where
   asks_as places more wider OtherLength asks = tt
   asks_as places more wider OtherLayout asks = tt
 
-  -- one that asks for nothing
+  -- a refusal that asks for nothing
   pub asks_none : (places : Places) (r : Refusal) → AsksNothing r → AsksAmong places e r
   asks_none places BadArgument asks = tt
   asks_none places (Refused error) asks = tt
@@ -71,7 +71,7 @@ module _ (e : Ends) where
   asked_of places OtherLength needed asks seventeen = absurd (omega (arith, seventeen))
   asked_of places OtherLayout needed asks seventeen = absurd (omega (arith, seventeen))
 
-  -- what is answered of it
+  -- the range that the call returns
   pub answer_asked : (places : Places) (r : Refusal) → AsksAmong places e r → (answer : ℕ) → answer ≡ refusal_number r → (old new : Needed) → new ≡ needed_after r old
       → answer ≡ 103 → OfEvery e (λ b. IsAmong (new.from, new.length) (places b))
   answer_asked places r asks answer is old new told seventeen =
@@ -80,7 +80,7 @@ module _ (e : Ends) where
   -- ---- a table that was read
 
   module _ (ss : ℕ) (g : GPT) (is_backup : Bool) (read : IsTable e ss g is_backup) (range : ℕ × ℕ) where
-    -- its own places
+    -- its places
     pub plan_place : IsAmong range (value_ranges g e.size) → OfEvery e (λ b. IsAmong range (plan_ranges b ss))
     plan_place is b ends =
         let here : IsAmong range (table_ranges ss (length b) (Ok (copy_of g))) =
@@ -88,7 +88,7 @@ module _ (e : Ends) where
         among_right (reading_ranges b ss) (table_ranges ss (length b) (reading_of b ss)) range
         (subst (λ (r : Result Copy Fault). IsAmong range (table_ranges ss (length b) r)) (sym (read.reading b ends)) here)
 
-    -- and those that it has where it is fitted
+    -- its places after it is fitted
     pub fit_place : (next : GPT) → next ≡ grow_to g e.size → IsAmong range (value_ranges next e.size) → OfEvery e (λ b. IsAmong range (fit_ranges b ss))
     fit_place next made is b ends =
         let grown : IsAmong range (value_ranges (grow_to g e.size) e.size) = subst (λ (t : GPT). IsAmong range (value_ranges t e.size)) made is in
@@ -99,12 +99,12 @@ module _ (e : Ends) where
 
 -- ---- the first sector
 
--- that one is among more
+-- it is among more places
 pub sector_among : (range : ℕ × ℕ) (more : List (ℕ × ℕ)) → IsAmong range (first_sector ∷ []) → IsAmong range (first_sector ∷ more)
 sector_among range more (inl is) = inl is
 sector_among range more (inr none) = absurd none
 
--- ---- how many they are
+-- ---- their number
 
 few_of_table : (ss len : ℕ) (r : Result Copy Fault) → length (table_ranges ss len r) ≤ 4
 few_of_table ss len (Ok copy) = omega arith

@@ -1,4 +1,4 @@
--- What is found of both copies of the disk with zeros between its ends is so of every disk with these ends.
+-- A check of the disk with zeros between its ends holds for every disk with these ends.
 use Rattle.std.proofs.Common.{◌≡◌, ◌≤◌, ⊎_elim, ◌↔◌, ℕ, List, sym, ◌∙◌, ap, subst}
 use Rattle.std.specs.Prelude.{Result, Ok, Err, IfOk, IsTrue}
 use Rattle.gptman.specs.Answers.{answer_of}
@@ -24,7 +24,7 @@ use Rattle.gptman_plan.specs.declared.ends.Ends.{Ends}
 seen : (there : Result Copy Fault) (r : Result WholeCopy Error) (old new : DiskState) → new.failures ≡ 0 → IsSeenAs there old new r → answer_of copy_of_whole r ≡ there
 seen there r old new none is = ⊎_elim (λ fails. absurd (not_failed old new none fails.1)) (λ same. same) is
 
--- what was found is there
+-- the result is that of the disk's bytes
 pub found_in : (b : List ℕ) (ss : ℕ) (r : Result BothCopies Error) (old new : DiskState) → old.view ≡ b → new.failures ≡ 0 → IfOk r (IsChecked ss old new) → IfOk r (AreFoundIn b ss)
 found_in b ss (Err e) old new view none is = tt
 found_in b ss (Ok copies) old new view none is = record {
@@ -34,15 +34,15 @@ found_in b ss (Ok copies) old new view none is = record {
   differ = λ holds. ⊎_elim (λ yes. yes) (λ rose. absurd (not_failed old new none rose)) (is.differ (subst (λ (x : List ℕ). HoldOneTable x ss) (sym view) holds));
 }
 
--- ---- of every disk with these ends
+-- ---- for every disk with these ends
 
--- both copies are told
+-- both copies are known
 pub both_told : (e : Ends) (ss : ℕ) → OfEvery e (λ b. copy_in primary b ss ≡ copy_in primary (zeroed e) ss)
     → OfEvery e (λ b. copy_in backup b ss ≡ copy_in backup (zeroed e) ss) → AreCopiesTold e ss
 both_told e ss first second primary = first
 both_told e ss first second backup = second
 
--- what one disk holds, another with the same copies does
+-- disks with the same copies hold the same tables
 held_as : (a b : List ℕ) (ss : ℕ) (side : Side) (t : Table) → copy_in side a ss ≡ copy_in side b ss → Holds a ss side t → Holds b ss side t
 held_as a b ss side t same holds = record { copy = holds.copy; accepted = sym same ∙ holds.accepted; form = holds.form }
 
@@ -53,7 +53,7 @@ one_table_as a b ss same hold = record {
   at_backup = held_as a b ss backup hold.table (same backup) hold.at_backup;
 }
 
--- and of both the same is told
+-- and a check has the same result
 pub check_told : (start b : List ℕ) (ss : ℕ) (copies : BothCopies) (check : Check) → ((side : Side) → copy_in side b ss ≡ copy_in side start ss) → AreFoundIn start ss copies
     → check.primary_fault ≡ number_in (answer_of copy_of_whole copies.primary) → check.backup_fault ≡ number_in (answer_of copy_of_whole copies.backup)
     → (IsTrue copies.are_same ↔ (check.are_same ≡ 1)) → check.are_same ≤ 1 → IsCheckTold b ss check

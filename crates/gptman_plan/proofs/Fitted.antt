@@ -1,4 +1,4 @@
--- A table that is fitted to the disk's length.
+-- A table that is fitted to the length of the disk.
 use Rattle.std.proofs.Common.{◌≡◌, ◌≢◌, ◌≤◌, ◌<◌, ◌/◌, ◌*◌, ◌||◌, ◌⊎◌, ⊎_elim, inl, inr, Bool, true, false, ℕ, ◌+◌, ◌-◌, List, [], ◌∷◌, length, refl, sym, ap, subst, arith}
 use Rattle.std.specs.Prelude.{if◌then◌else◌, nat_eq, Option, None, Some, Ok}
 use Rattle.std.proofs.Math.Nat.{mul-le-mul_left}
@@ -44,11 +44,11 @@ fits_room h ss len above fits =
     let some : h.number_of_partition_entries ≢ 0 = λ none. two.0 (omega (arith, ap (λ (n : ℕ). n * h.size_of_partition_entry) none)) in
     (omega (arith, some), omega (arith, above, mul-le-mul_left ss two.1))
 
--- It says of the entries what it said,
+-- The fitted header still describes the entries,
 pub coherent_fitted : (h : GPTHeader) (es : List GPTPartitionEntry) (ss len : ℕ) → IsCoherent h es → IsCoherent (fit_header h ss len) es
 coherent_fitted h es ss len coherent = record { header_size = coherent.header_size; count = coherent.count; entry_size = coherent.entry_size }
 
--- so that its write can be planned,
+-- so its write can be planned,
 pub ready : (g next : GPT) (size : ℕ) → 0 < g.sector_size → IsCoherent g.header (entries_in g) → next ≡ grow_to g size → fit_fault g.header g.sector_size size ≡ None
     → (0 < next.sector_size) × (next.sector_size ≤ size) × (0 < next.header.number_of_partition_entries) × IsCoherent next.header (entries_in next)
 ready g next size above coherent is fits =
@@ -56,16 +56,16 @@ ready g next size above coherent is fits =
     subst (λ (t : GPT). (0 < t.sector_size) × (t.sector_size ≤ size) × (0 < t.header.number_of_partition_entries) × IsCoherent t.header (entries_in t)) (sym is)
     (above, room.1, room.0, coherent_fitted g.header (entries_in g) g.sector_size size coherent)
 
--- and is a primary header if it was.
+-- and it is a primary header if it was one.
 form_fitted : (h : GPTHeader) (ss len : ℕ) → IsHeaderForm primary h → IsHeaderForm primary (fit_header h ss len)
 form_fitted h ss len form = (
   ap (λ (k : ℕ). if nat_eq k 1 then k else (len / ss - 1)) form.0,
   ap (λ (k : ℕ). if nat_eq k 2 then k else (len / ss - array_sectors h ss - 2 + 1)) form.1,
 )
 
--- ---- what is answered
+-- ---- the result
 
--- an answer of a disk that did not fail
+-- the error of a disk that did not fail
 pub settled_err : (fault : Option Fault) (e : Error) (before after : ℕ) → after ≡ 0 → (Some (fault_of e) ≡ fault) ⊎ ((fault_of e ≡ io) × ((before < after) ⊎ (18446744073709551615 ≤ after)))
     → fault ≡ Some (fault_of e)
 settled_err fault e before after none settles = ⊎_elim
@@ -75,7 +75,7 @@ settled_err fault e before after none settles = ⊎_elim
 
 -- ---- the plan
 
--- the header of a value on the stated layout is in one of the two forms
+-- the header of a value in the stated layout has one of the two forms
 pub in_form : (g : GPT) (len : ℕ) → HasLayout g len → IsInForm g.header
 in_form g len layout = by_side layout.side layout.form
   where
@@ -83,7 +83,7 @@ in_form g len layout = by_side layout.side layout.form
     by_side primary form = inl form
     by_side backup form = inr form
 
--- and one of which the table is laid out and the header is in a form has the stated layout
+-- and a value in such a form whose table is laid out has the stated layout
 pub has_layout : (g : GPT) (len : ℕ) → IsInForm g.header → IsLaidOut (table_in g) g.sector_size len → HasLayout g len
 has_layout g len form laid = ⊎_elim (λ at. record { table = laid; side = primary; form = at }) (λ at. record { table = laid; side = backup; form = at }) form
 
@@ -95,7 +95,7 @@ module _ (b : List ℕ) (g : GPT) (acts : List Act) (taken : reading_of b g.sect
   held : taken_from b g.sector_size ≡ primary → Holds b g.sector_size primary (table_in g)
   held from = subst (λ (side : Side). Holds b g.sector_size side (table_in g)) from (holds_what_is_read b g.sector_size (copy_of g) taken form)
 
-  -- the primary copy is in the same place, which the backup copy does not touch
+  -- the primary copy keeps its place, which the backup copy does not overlap
   stops : taken_from b g.sector_size ≡ primary → (x : List ℕ) → LeftBy b acts x → HoldsOneOf x g.sector_size (table_in g ∷ table_in grown ∷ [])
   stops from x left =
       let at : IsHeaderForm primary g.header = subst (λ (side : Side). IsHeaderForm side g.header) from form in
@@ -110,7 +110,7 @@ module _ (b : List ℕ) (g : GPT) (acts : List Act) (taken : reading_of b g.sect
     stops = stops;
   }
 
--- ---- of every disk with these ends
+-- ---- for every disk with these ends
 
 module _ (e : Ends) (ss : ℕ) (g : GPT) (is_backup : Bool) (told : IsTable e ss g is_backup) where
   read_so : (b : List ℕ) → reading_of b ss ≡ Ok (copy_of g) → reading_of b g.sector_size ≡ Ok (copy_of g)
@@ -152,7 +152,7 @@ module _ (e : Ends) (ss : ℕ) (g : GPT) (is_backup : Bool) (told : IsTable e ss
     why = why;
   }
 
-  -- a fitted table that has not the stated layout
+  -- a fitted table without the stated layout
   not_laid : (next : GPT) → next ≡ grow_to g e.size → ¬ HasLayout next e.size → OfEvery e (λ b. IsNotStatedToFit b ss)
   not_laid next is not b ends = record {
     copy = copy_of g;

@@ -1,4 +1,4 @@
--- The bytes of a disk that its ends tell.
+-- The bytes of a disk that its ends have.
 use Rattle.std.proofs.Common.{◌≡◌, ◌≤◌, ◌<◌, ℕ, ◌+◌, ◌-◌, List, [], ◌∷◌, ◌++◌, length, take, drop, get_or, replicate, ◌∙◌, ap, arith}
 use Rattle.std.proofs.lemmas.List.{take-append-le, drop-append-le, get_or-drop, length-replicate, take_more}
 use Rattle.std.proofs.Math.Seq.{drop-append-add}
@@ -16,7 +16,7 @@ part_left xs ys at n le =
 pub part_right : (xs ys : List ℕ) (at n : ℕ) → part (xs ++ ys) (length xs + at) n ≡ part ys at n
 part_right xs ys at n = ap (λ (l : List ℕ). take n l) (drop-append-add xs ys at)
 
--- a part with one byte more
+-- a part with one more byte
 pub part_more : (b : List ℕ) (at n : ℕ) → at + n < length b → part b at (n + 1) ≡ part b at n ++ get_or b (at + n) 0 ∷ []
 part_more b at n lt =
     take_more (drop at b) n 0 (omega (arith, lt, length-drop at b))

@@ -1,4 +1,4 @@
--- Acts that leave all bytes outside of known ranges as they were write in the ends alone.
+-- Acts that change only known ranges write only in the ends.
 use Rattle.std.proofs.Common.{◌≡◌, inl, inr, ⊎_elim, ◌<◌, ◌≤◌, ℕ, suc, ◌+◌, ◌-◌, List, [], ◌∷◌, ◌++◌, length, get_or, take, drop, sym, ◌∙◌, ap, arith, length-append, length-take, length-drop}
 use Rattle.std.specs.List.{fold}
 use Rattle.std.proofs.lemmas.Bool.{cases_lt}
@@ -10,7 +10,7 @@ use Rattle.gptman_plan.specs.Plan.{Act, LeftBy, pending_with, bytes_with}
 use Rattle.gptman_plan.specs.Plan.Act.{lay, store}
 use Rattle.gptman_plan.proofs.Middle.{AreKnown, IsActKnown, cases_middle, clear, middle_of}
 
--- bytes that are laid over a list, and leave it as long as it was, lie within it
+-- bytes that overwrite a list without changing its length are within it
 fits_laid : (old : List ℕ) (at : ℕ) (bytes : List ℕ) → length (overlay old at bytes) ≡ length old → 0 < length bytes → at + length bytes ≤ length old
 fits_laid old at bytes same some = omega (
   arith,
@@ -22,7 +22,7 @@ fits_laid old at bytes same some = omega (
   length-drop (at + length bytes) old,
 )
 
--- a byte that is pending may be left as any other
+-- a crash may leave any other value in a pending byte
 changed : (view : List ℕ) (pending : Ranges) (at n k x : ℕ) → at ≤ k → k < at + n → at + n ≤ length view → AgreesOutside ((at, n) ∷ pending) view (overlay view k (x ∷ []))
 changed view pending at n k x low high fits = record {
   long = length-overlay view k (x ∷ []) room;
@@ -46,7 +46,7 @@ module _ (first last size : ℕ) (apart : first + last ≤ size) where
   outside_known [] k known low high = tt
   outside_known (r ∷ rs) k known low high = (clear first last size apart k low high r known.0, outside_known rs k known.1 low high)
 
-  -- a range of which no byte is in the middle is known
+  -- a range without a byte of the middle is known
   known_range : (at n : ℕ) → 0 < n → at + n ≤ size → ((k : ℕ) → at ≤ k → k < at + n → Outside (middle_of first last size) k) → IsKnown first last size (at, n)
   known_range at n some fits each = ⊎_elim
       (λ before. ⊎_elim
@@ -60,7 +60,7 @@ module _ (first last size : ℕ) (apart : first + last ≤ size) where
       (each at (omega arith) (omega (arith, some))).0
 
   module _ (start : List ℕ) (long : length start ≡ size) (ranges : Ranges) (places : AreRangesKnown first last size ranges) where
-    -- a byte that may be left as any other, where all outside of the ranges is left alone
+    -- a byte that may change is known, if only known ranges may change
     byte_known : (view : List ℕ) (pending : Ranges) (at n : ℕ) → length view ≡ size → at + n ≤ size
         → ((x : List ℕ) → AgreesOutside ((at, n) ∷ pending) view x → AgreesOutside ranges start x) → (k : ℕ) → at ≤ k → k < at + n → Outside (middle_of first last size) k
     byte_known view pending at n whole fits keeps k low high = ⊎_elim

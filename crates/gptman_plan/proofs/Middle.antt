@@ -1,4 +1,4 @@
--- The bytes between the ends of a disk, which acts in the ends leave alone.
+-- The bytes between the ends of a disk, which acts in the ends leave unchanged.
 use Rattle.std.proofs.Common.{◌≡◌, ◌⊎◌, inl, inr, ⊎_elim, ◌<◌, ◌≤◌, ℕ, zero, suc, ◌+◌, ◌-◌, add-zero, List, [], ◌∷◌, length, get_or, take, drop, refl, sym, ◌∙◌, ap, subst, arith}
 use Rattle.std.specs.List.{fold}
 use Rattle.std.proofs.lemmas.List.{take_all, get_or-take, get_or-drop, get_or_past}
@@ -14,7 +14,7 @@ use Rattle.gptman.proofs.Ranges.{Ranges}
 use Rattle.gptman.proofs.Overlays.{outside_apart, part_same, length-overlay, overlay_below, overlay_above, overlay_inside, overlay_nothing}
 use Rattle.gptman_plan.proofs.Known.{known_head, known_tail}
 
--- the bytes that the ends do not tell
+-- the bytes that the ends do not have
 abbrev pub middle_of : ℕ → ℕ → ℕ → Ranges
 middle_of first last size = (first, size - (first + last)) ∷ []
 
@@ -28,7 +28,7 @@ ends_zero head tail size apart = record {
       ∙ known_tail head tail size apart 0 (length tail) ∙ take_all (length tail) tail (omega arith);
 }
 
--- ---- what the ends tell
+-- ---- what the ends have
 
 module _ (b head tail : List ℕ) (size : ℕ) (ends : HasEnds b head tail size) where
   head_byte : (k : ℕ) → k < length head → get_or b k 0 ≡ get_or head k 0
@@ -48,7 +48,7 @@ module _ (b head tail : List ℕ) (size : ℕ) (ends : HasEnds b head tail size)
   tail_byte : (k : ℕ) → size - length tail ≤ k → get_or b k 0 ≡ get_or tail (k - (size - length tail)) 0
   tail_byte k behind = ⊎_elim (tail_inside k behind) (tail_past k behind) (cases_lt (k - (size - length tail)) (length tail))
 
--- two disks with the same ends agree outside of the middle
+-- two disks with the same ends agree outside the middle
 pub same_ends : (b c head tail : List ℕ) (size : ℕ) → HasEnds b head tail size → HasEnds c head tail size → AgreesOutside (middle_of (length head) (length tail) size) b c
 same_ends b c head tail size of_b of_c = record {
   long = of_c.long ∙ sym of_b.long;
@@ -68,41 +68,41 @@ apart_middle first last size r (inr (inl behind)) = ⊎_elim
     (λ apart. (inr (inr (inr (omega (arith, apart, behind.0)))), tt))
     (cases_lt size (first + last))
 
--- its bytes are those of either disk,
+-- its bytes are the same on both disks,
 pub agree_in_ends : (b c head tail : List ℕ) (size at n : ℕ) → HasEnds b head tail size → HasEnds c head tail size → IsKnown (length head) (length tail) size (at, n) → part b at n ≡ part c at n
 agree_in_ends b c head tail size at n of_b of_c known = part_same (middle_of (length head) (length tail) size) c b at n
     (same_ends c b head tail size of_c of_b)
     (apart_middle (length head) (length tail) size (at, n) known)
 
--- each of them
+-- one by one
 pub agree_at : (b c head tail : List ℕ) (size at n k : ℕ) → HasEnds b head tail size → HasEnds c head tail size → IsKnown (length head) (length tail) size (at, n) → at ≤ k → k < at + n → get_or b k 0 ≡ get_or c k 0
 agree_at b c head tail size at n k of_b of_c known low high = (same_ends c b head tail size of_c of_b).same k
     (outside_apart (at, n) (middle_of (length head) (length tail) size) k (apart_middle (length head) (length tail) size (at, n) known) low high)
 
--- a byte of known ranges is outside of the middle
+-- a byte of known ranges is outside the middle
 outside_middle : (first last size : ℕ) (rs : Ranges) (k : ℕ) → AreRangesKnown first last size rs → Inside rs k → Outside (middle_of first last size) k
 outside_middle first last size [] k known inside = elim inside [ ]
 outside_middle first last size (r ∷ rs) k known (inl here) = outside_apart r (middle_of first last size) k (apart_middle first last size r known.0) here.0 here.1
 outside_middle first last size (r ∷ rs) k known (inr later) = outside_middle first last size rs k known.1 later
 
--- so what agrees outside of it agrees in these
+-- disks that agree outside the middle agree in known ranges
 pub agrees_known : (first last size : ℕ) (rs : Ranges) (a b : List ℕ) → AreRangesKnown first last size rs → AgreesOutside (middle_of first last size) a b → AgreesInside rs a b
 agrees_known first last size rs a b known agrees = record { long = agrees.long; same = λ k inside. agrees.same k (outside_middle first last size rs k known inside) }
 
--- ---- what acts in the ends do
+-- ---- the effect of acts in the ends
 
--- the bytes of the act, if it has any, lie in one of the ends of a disk of size bytes, of which the first has `first` bytes and the last `last`
+-- the bytes of the act, if any, are within one of the ends of a disk of size bytes, which have `first` and `last` bytes
 abbrev pub IsActKnown : ℕ → ℕ → ℕ → Act → Type 0
 IsActKnown first last size (lay at []) = Unit {0}
 IsActKnown first last size (lay at (x ∷ bytes)) = IsKnown first last size (at, length (x ∷ bytes))
 IsActKnown first last size store = Unit {0}
 
--- those of each of the acts do
+-- so are those of each act
 abbrev pub AreKnown : ℕ → ℕ → ℕ → List Act → Type 0
 AreKnown first last size [] = Unit {0}
 AreKnown first last size (act ∷ acts) = IsActKnown first last size act × AreKnown first last size acts
 
--- the same bytes laid over two lists
+-- two lists, overwritten with the same bytes
 overlay_both : (rs : Ranges) (a b : List ℕ) (at : ℕ) (bytes : List ℕ) → at + length bytes ≤ length a → AgreesOutside rs a b → AgreesOutside rs (overlay a at bytes) (overlay b at bytes)
 overlay_both rs a b at bytes fits agrees = record {
   long = length-overlay b at bytes fits_b ∙ agrees.long ∙ sym (length-overlay a at bytes fits);
@@ -139,7 +139,7 @@ module _ (first last size : ℕ) (apart : first + last ≤ size) where
   step_both rs a b (lay at (x ∷ bytes)) long known agrees = overlay_both rs a b at (x ∷ bytes) (omega (arith, long, fits_known (at, length (x ∷ bytes)) known)) agrees
   step_both rs a b store long known agrees = agrees
 
-  -- where two disks agreed they still do
+  -- disks that agreed still do
   pub view_both : (rs : Ranges) (a b : List ℕ) (acts : List Act) → length a ≡ size → AreKnown first last size acts → AgreesOutside rs a b → AgreesOutside rs (bytes_after a acts) (bytes_after b acts)
   view_both rs a b [] long known agrees = agrees
   view_both rs a b (e ∷ acts) long known agrees = view_both rs (bytes_with a e) (bytes_with b e) acts (length-step a e long known.0) known.1 (step_both rs a b e long known.0 agrees)
@@ -149,7 +149,7 @@ module _ (first last size : ℕ) (apart : first + last ≤ size) where
   known_take (suc n) [] known = tt
   known_take (suc n) (e ∷ acts) known = (known.0, known_take n acts known.1)
 
-  -- a byte is outside of the middle or in it
+  -- a byte is outside the middle or in it
   pub cases_middle : (k : ℕ) → Outside (middle_of first last size) k ⊎ ((first ≤ k) × (k < first + (size - (first + last))))
   cases_middle k = ⊎_elim
       (λ below. inl (inl below, tt))
@@ -169,7 +169,7 @@ module _ (first last size : ℕ) (apart : first + last ≤ size) where
         ⊎_elim (overlay_below a at (x ∷ bytes) fits k) (overlay_above a at (x ∷ bytes) fits k) (clear (at, length (x ∷ bytes)) known)
     still_step a store long known = refl
 
-    -- a byte of the middle is as it was
+    -- a byte of the middle is unchanged
     pub still_middle : (a : List ℕ) (acts : List Act) → length a ≡ size → AreKnown first last size acts → get_or (bytes_after a acts) k 0 ≡ get_or a k 0
     still_middle a [] long known = refl
     still_middle a (e ∷ acts) long known = still_middle (bytes_with a e) acts (length-step a e long known.0) known.1 ∙ still_step a e long known.0
@@ -192,6 +192,6 @@ module _ (first last size : ℕ) (apart : first + last ≤ size) where
 pub zero_ends : (e : Ends) → IsDiskOf e (zeroed e)
 zero_ends e = ends_zero e.head.now e.tail.now e.size e.apart
 
--- A disk with the bytes and the length that the ends were made of has these ends.
+-- A disk with the bytes and the length from which the ends were made has these ends.
 pub has_made : (e : Ends) (head tail : List ℕ) (size : ℕ) → (e.head.now ≡ head) × (e.tail.now ≡ tail) × (e.size ≡ size) → (b : List ℕ) → HasEnds b head tail size → IsDiskOf e b
 has_made e head tail size made b has = subst (λ (p : List ℕ × (List ℕ × ℕ)). HasEnds b p.0 p.1.0 p.1.1) (λ i. (sym made.0 i, (sym made.1 i, sym made.2 i))) has

@@ -1,4 +1,4 @@
--- Lists whose elements are numbered.
+-- Lists with numbered elements.
 use Rattle.std.proofs.Common.{◌≡◌, ℕ, ◌+◌, List, [], ◌∷◌, map, refl}
 use Rattle.std.specs.List.{enumerate_from}
 

@@ -1,4 +1,4 @@
--- What is proved of the disk that records a write, said of its acts.
+-- The recording disk, in terms of its acts.
 use Rattle.std.proofs.Common.{◌≡◌, ⊎_elim, ◌<◌, ℕ, zero, suc, List, [], ◌∷◌, length, refl, sym, ap, ◌∙◌, subst, arith}
 use Rattle.gptman.specs.Crash.{IsReadInForm}
 use Rattle.gptman.specs.Disk.{AgreesOutside, DiskState, Elapses, IsHonest, LeavesOnly}
@@ -18,20 +18,20 @@ use Rattle.gptman_plan.specs.declared.record.Record.{Record}
 use Rattle.gptman_plan.specs.declared.records.Partition.{Partition}
 use Rattle.gptman_plan.proofs.Steps.{length-stopped}
 
--- the disk is one of these bytes after the acts
+-- the disk has these bytes after the acts
 pub record IsAfter (start : List ℕ) (acts : List Act) (disk : DiskState) : Type 0 where
   pub view : disk.view ≡ bytes_after start acts
   pub pending : disk.pending ≡ pending_after acts
   pub left : (b : List ℕ) → LeftBy start acts b → disk.left_since 1 b
 
--- a disk that was made with these bytes is
+-- so has a disk that was made with these bytes
 is_after : (start start_too : List ℕ) (acts acts_too : List Act) (s p f : ℕ) → start_too ≡ start → acts ≡ acts_too → IsAfter start acts (plan_state start_too acts_too s p f)
 is_after start start_too acts acts_too s p f same same_acts =
     let one : IsAfter start acts (plan_state start acts s p f) = record { view = refl; pending = refl; left = λ b left. record { moment = suc left.after; since = omega arith; left = (left.among, left.image) } } in
     subst (λ (x : List ℕ). IsAfter start acts (plan_state x acts_too s p f)) (sym same)
     (subst (λ (l : List Act). IsAfter start acts (plan_state start l s p f)) same_acts one)
 
--- ---- the disk that records, before the first step and after the last
+-- ---- the recording disk, before the first step and after the last
 
 abbrev pub state_of : Recorder → DiskState
 state_of d = plan_state (zeroed d.ends) (acts_of d.plan.bytes.items d.plan.steps.items) d.ends.size d.position d.failures
@@ -46,7 +46,7 @@ ends_after e plan start same taken =
     is_after start (zeroed e.ends) (acts_of plan.bytes.items plan.steps.items) (acts_of e.plan.bytes.items e.plan.steps.items)
     e.ends.size e.position e.failures same (λ i. acts_of (taken i).bytes.items (taken i).steps.items)
 
--- ---- the start stays the same while calls are made
+-- ---- the start does not change during the calls
 
 module _ (start : List ℕ) (size : ℕ) (old : DiskState) (e : Recorder) (long : length start ≡ size) (begins : old ≡ plan_state start [] size 0 0) (sized : e.ends.size ≡ size) where
   abbrev now : List ℕ
@@ -58,12 +58,12 @@ module _ (start : List ℕ) (size : ℕ) (old : DiskState) (e : Recorder) (long 
   fit : All (StepFits (length now) (length e.plan.bytes.items)) e.plan.steps.items
   fit = subst (λ (n : ℕ). All (StepFits n (length e.plan.bytes.items)) e.plan.steps.items) (e.same ∙ sym length-now) e.plan.held
 
-  -- No stop leaves a byte more than the disk has. So before the first act this stood at moment 0,
+  -- No crash leaves a byte more than the disk has: such a list may be left only at moment 0,
   marked : (moment : ℕ) → IsLeftAt start [] moment (0 ∷ now) → now ≡ start
   marked zero is = cc
   marked (suc n) left = absurd (omega (arith, (left_now start [] (suc n) (0 ∷ now) (omega arith) left).long, long, length-now, sized))
 
-  -- and after the acts it does not stand at a moment since.
+  -- and not at any moment after it.
   unmarked : (moment : ℕ) → 0 < moment → IsLeftAt now (acts_of e.plan.bytes.items e.plan.steps.items) moment (0 ∷ now) → ⊥
   unmarked zero since left = omega (arith, since)
   unmarked (suc n) since left = omega (arith, left.1.long, length-stopped now e.plan.bytes.items n e.plan.steps.items fit)

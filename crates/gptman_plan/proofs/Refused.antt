@@ -1,4 +1,4 @@
--- Why nothing is planned, and with which number that is answered.
+-- Why there is no plan, and the number that is returned.
 use Rattle.std.proofs.Common.{◌≡◌, ◌≢◌, ◌≤◌, ◌<◌, ◌⊎◌, ◌+◌, ⊎_elim, inl, inr, ℕ, List, length, refl, ap, sym, ◌∙◌, subst, arith}
 use Rattle.std.proofs.lemmas.Bool.{cases_lt}
 use Rattle.std.specs.Prelude.{Some}
@@ -40,25 +40,25 @@ within_16 overflow = (omega arith, omega arith)
 within_16 out_of_memory = (omega arith, omega arith)
 within_16 (invalid_entry_size size) = (omega arith, omega arith)
 
--- and of refusals
-pub numbers : (r : Refusal) → (0 < refusal_number r) × (refusal_number r ≢ 104) × (refusal_number r ≢ 102) × ((refusal_number r ≤ 16) ⊎ ((100 ≤ refusal_number r) × (refusal_number r ≤ 105)))
-numbers BadArgument = (omega arith, λ is. absurd (omega (arith, is)), λ is. absurd (omega (arith, is)), inr (omega arith, omega arith))
-numbers (Refused error) = let n = within_16 (fault_of error) in (n.0, λ is. absurd (omega (arith, n.1, is)), λ is. absurd (omega (arith, n.1, is)), inl (omega (arith, n.1)))
-numbers (Lacks lack) = (omega arith, λ is. absurd (omega (arith, is)), λ is. absurd (omega (arith, is)), inr (omega arith, omega arith))
-numbers OtherLength = (omega arith, λ is. absurd (omega (arith, is)), λ is. absurd (omega (arith, is)), inr (omega arith, omega arith))
-numbers OtherLayout = (omega arith, λ is. absurd (omega (arith, is)), λ is. absurd (omega (arith, is)), inr (omega arith, omega arith))
+-- the numbers of refusals
+pub numbers : (r : Refusal) → (0 < refusal_number r) × (refusal_number r ≢ 18) × ((refusal_number r ≤ 19) ⊎ ((refusal_number r ≡ 100) ⊎ (refusal_number r ≡ 101)))
+numbers BadArgument = (omega arith, λ is. absurd (omega (arith, is)), inl (omega arith))
+numbers (Refused error) = let n = within_16 (fault_of error) in (n.0, λ is. absurd (omega (arith, n.1, is)), inl (omega (arith, n.1)))
+numbers (Lacks lack) = (omega arith, λ is. absurd (omega (arith, is)), inl (omega arith))
+numbers OtherLength = (omega arith, λ is. absurd (omega (arith, is)), inr (inl refl))
+numbers OtherLayout = (omega arith, λ is. absurd (omega (arith, is)), inr (inr refl))
 
--- what is told but for bytes that are lacking
-pub not_told : (r : Refusal) (needed : Needed) → refusal_number r ≢ 103 → needed_after r needed ≡ needed
+-- what the caller learns, except for a missing range
+pub not_told : (r : Refusal) (needed : Needed) → refusal_number r ≢ 17 → needed_after r needed ≡ needed
 not_told BadArgument needed not = refl
 not_told (Refused error) needed not = refl
 not_told (Lacks lack) needed not = absurd (not refl)
 not_told OtherLength needed not = refl
 not_told OtherLayout needed not = refl
 
--- ---- why
+-- ---- reasons
 
--- one reason is another
+-- one reason implies another
 pub refused_as : (why why_too : Cause → Type 0) (e : Ends) → ((cause : Cause) → why cause → why_too cause)
     → (r : Refusal) → IsRefusal why e r → IsRefusal why_too e r
 refused_as why why_too e f BadArgument is = f bad_argument is
@@ -67,14 +67,14 @@ refused_as why why_too e f (Lacks lack) is = is
 refused_as why why_too e f OtherLength is = f other_length is
 refused_as why why_too e f OtherLayout is = f other_layout is
 
--- so a fault is one
+-- so does a fault
 pub fault_as : (why : Fault → Type 0) (why_too : Cause → Type 0) → ((fault : Fault) → why fault → why_too (a_fault fault)) → (cause : Cause) → IsOfFault why cause → why_too cause
 fault_as why why_too f bad_argument is = absurd is
 fault_as why why_too f (a_fault fault) is = f fault is
 fault_as why why_too f other_length is = absurd is
 fault_as why why_too f other_layout is = absurd is
 
--- Bytes that are lacking lie between ends that do not meet.
+-- A range is missing only if the ends do not meet.
 pub ends_apart : (first last size from len : ℕ) → ¬ IsKnown first last size (from, len) → from + len ≤ size → first + last < size
 ends_apart first last size from len not within = ⊎_elim (λ less. less) (λ met. absurd (not (inr (inr (met, within))))) (cases_lt (first + last) size)
 
@@ -120,7 +120,7 @@ module _ (why : Cause → Type 0) (e : Ends) where
   layout_of OtherLength is number = absurd (omega (arith, number))
   layout_of OtherLayout is number = is
 
-  -- ---- the answer of a call that plans nothing
+  -- ---- the result of a call without a plan
 
   module _ (r : Refusal) (refused : IsRefusal why e r) (answer : ℕ) (is : answer ≡ refusal_number r) where
     pub answer_above : answer ≢ 0

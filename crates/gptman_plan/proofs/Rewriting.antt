@@ -31,7 +31,7 @@ module _ (g next : GPT) (partitions : List Partition) (es : List GPTPartitionEnt
   }
 
   module _ (old new : DiskState) (honest : IsHonest old) (synced : old.pending ≡ []) (read : IsReadInForm old.view g) (laid : IsLaidOut (with_partitions g partitions) g.sector_size old.size) where
-    -- From one good copy a stop leaves the old table or the new one,
+    -- From one good copy a crash leaves the old table or the new one,
     pub holds : KeepsWhatIsRead old → ((was : Table) → StartsFromOne old next was → StopsHold old new next.sector_size (was ∷ table_in next ∷ []))
         → StopsHold old new g.sector_size (table_in g ∷ with_partitions g partitions ∷ [])
     holds kept one_good =
@@ -39,14 +39,14 @@ module _ (g next : GPT) (partitions : List Partition) (es : List GPTPartitionEnt
         (subst (λ (ss : ℕ). StopsHold old new ss (table_in g ∷ table_in next ∷ [])) sector
         (one_good (table_in g) (kept g next honest synced read places (layout old.view old.size read laid))))
 
-    -- no byte outside of the four ranges is another,
+    -- no byte outside the four ranges changes,
     pub others : (StartsSynced old next → StopsKeepOthers old new next) → LeavesOnly old new (AgreesOutside (four_ranges (with_partitions g partitions) g.sector_size old.size) old.view)
     others outside =
         subst (λ (t : Table). LeavesOnly old new (AgreesOutside (four_ranges t g.sector_size old.size) old.view)) made
         (subst (λ (ss : ℕ). LeavesOnly old new (AgreesOutside (four_ranges (table_in next) ss old.size) old.view)) sector
         (outside (record { start = record { honest = honest; layout = layout old.view old.size read laid }; synced = synced })))
 
-    -- and at the end both places hold the new one.
+    -- and at the end both places hold the new table.
     pub stored : (StartsLaidOut old next → IsStored new next.sector_size (table_in next)) → IsStored new g.sector_size (with_partitions g partitions)
     stored after =
         subst (λ (t : Table). IsStored new g.sector_size t) made

@@ -1,4 +1,4 @@
--- The first sector of a disk, as the ends tell it.
+-- The first sector of a disk, given only the ends.
 use Rattle.std.proofs.Common.{◌≡◌, ◌≤◌, ◌<◌, ℕ, List, length, drop, sym, ◌∙◌, subst, arith, length-drop, length-take}
 use Rattle.std.proofs.lemmas.List.{get_or_past}
 use Rattle.gptman.specs.Bytes.{part}

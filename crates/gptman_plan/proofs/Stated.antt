@@ -1,4 +1,4 @@
--- Why a table that was read is not written: it has not the stated layout.
+-- A table without the stated layout is not written.
 use Rattle.std.proofs.Common.{ℕ, Bool, sym, subst}
 use Rattle.gptman.specs.Layout.{HasRightSectors, IsLaidOut}
 use Rattle.gptman.specs.Reading.{Side}

@@ -1,4 +1,4 @@
--- The steps of a plan beside their buffer, which grows.
+-- The steps of a plan and their growing array of bytes.
 use Rattle.std.proofs.Common.{◌≡◌, ◌≤◌, inl, true, false, ℕ, ◌+◌, List, [], ◌∷◌, ◌++◌, length, take, drop, refl, ◌∙◌, ap, arith, length-append, length-drop}
 use Rattle.std.specs.Prelude.{All, nat_eq, if◌then◌else◌}
 use Rattle.std.proofs.lemmas.List.{length-take-le, map_push, take_all}
@@ -11,12 +11,12 @@ use Rattle.gptman_plan.proofs.Known.{part_left}
 use Rattle.gptman_plan.proofs.Middle.{AreKnown, IsActKnown, known_take, length-view}
 
 module _ (size : ℕ) (buffer more : List ℕ) where
-  -- steps that fit do so in a longer buffer,
+  -- steps that fit an array fit a longer one,
   pub fit_longer : (steps : List Step) → All (StepFits size (length buffer)) steps → All (StepFits size (length (buffer ++ more))) steps
   fit_longer steps fit = All-weaker (StepFits size (length buffer)) (StepFits size (length (buffer ++ more)))
       (λ s fits. record { on_disk = fits.on_disk; held = omega (arith, fits.held, length-append buffer more) }) steps fit
 
-  -- and do the same,
+  -- with the same acts,
   pub acts_longer : (steps : List Step) → All (StepFits size (length buffer)) steps → acts_of (buffer ++ more) steps ≡ acts_of buffer steps
   acts_longer [] fit = refl
   acts_longer (s ∷ steps) fit = λ i. one s (All-head (StepFits size (length buffer)) s steps fit) i ∷ acts_longer steps (All-tail (StepFits size (length buffer)) s steps fit) i
@@ -24,7 +24,7 @@ module _ (size : ℕ) (buffer more : List ℕ) where
       one : (s : Step) → StepFits size (length buffer) s → step_act (buffer ++ more) s ≡ step_act buffer s
       one s fits = ap (λ (bytes : List ℕ). if nat_eq s.kind 2 then store else lay s.offset bytes) (part_left buffer more s.start s.length fits.held)
 
-  -- to which the step that writes all that came to the buffer adds that write
+  -- and the step for the added bytes adds their write
   module _ (at : ℕ) where
     abbrev pub write_of_more : Step
     write_of_more = record { kind = 1; offset = at; length = length more; start = length buffer }
@@ -40,7 +40,7 @@ module _ (size : ℕ) (buffer more : List ℕ) where
 
 -- ---- the length of the disk
 
--- All of a disk is its first end here, so acts within it are known; and these keep its length.
+-- With the whole disk as its first end, acts within it are known and keep its length.
 known_lay : (size at : ℕ) (bytes : List ℕ) → at + length bytes ≤ size → IsActKnown size 0 size (lay at bytes)
 known_lay size at [] there = tt
 known_lay size at (x ∷ bytes) there = inl there
@@ -56,7 +56,7 @@ known_steps size buffer [] fit = tt
 known_steps size buffer (s ∷ steps) fit =
     (known_step size buffer s (All-head (StepFits size (length buffer)) s steps fit), known_steps size buffer steps (All-tail (StepFits size (length buffer)) s steps fit))
 
--- a disk on which all steps fit is as long as ever after some of them
+-- if all steps fit, the length is unchanged after some of them
 pub length-stopped : (disk buffer : List ℕ) (n : ℕ) (steps : List Step) → All (StepFits (length disk) (length buffer)) steps → length (bytes_after disk (take n (acts_of buffer steps))) ≡ length disk
 length-stopped disk buffer n steps fit =
     let size : ℕ = length disk in

@@ -1,4 +1,4 @@
--- The plan of a table's write.
+-- The plan of a write of a given table.
 use Rattle.std.proofs.Common.{◌≡◌, ◌⊎◌, ⊎_elim, inr, ℕ, List, [], ◌∷◌, length, refl, sym, ap, ◌∙◌, subst}
 use Rattle.gptman.specs.Crash.{StartsLaidOut, StartsSynced, StopsComeInTurns, StopsKeepOthers}
 use Rattle.gptman.specs.Disk.{AgreesOutside, DiskState, IsHonest}
@@ -24,7 +24,7 @@ use Rattle.gptman_plan.proofs.Middle.{AreKnown}
 use Rattle.gptman_plan.proofs.Planned.{IsAfter}
 use Rattle.gptman_plan.specs.declared.ends.Ends.{Ends}
 
--- ---- what the write of a value does to the disk that records it
+-- ---- the effect of the write on the recording disk
 
 module _ (start : List ℕ) (size : ℕ) (g : GPT) (acts : List Act) (old new : DiskState) (long : length start ≡ size) (begins : old ≡ plan_state start [] size 0 0) (after : IsAfter start acts new)
     (layout : HasLayout g size) where
@@ -65,7 +65,7 @@ module _ (start : List ℕ) (size : ℕ) (g : GPT) (acts : List Act) (old new : 
       (subst (λ (n : ℕ). AgreesOutside (copy_ranges_at backup (table_in g) g.sector_size n) old.view x ⊎ Holds x g.sector_size backup (table_in g)) (sized ∙ sym long)
       (turns (record { start = laid; synced = synced }) primary form x (left x was)))
 
--- ---- and to every disk with these ends
+-- ---- and on every disk with these ends
 
 module _ (e : Ends) (g : GPT) (acts : List Act)
     (places : AreInside (four_ranges (table_in g) g.sector_size e.size) e.size → HaveRanges e (four_ranges (table_in g) g.sector_size e.size))
@@ -87,7 +87,7 @@ module _ (e : Ends) (g : GPT) (acts : List Act)
   others : (y : List ℕ) → LeftBy zero acts y → AgreesOutside (four_ranges (table_in g) g.sector_size e.size) zero y
   others y left = subst (λ (n : ℕ). AgreesOutside (four_ranges (table_in g) g.sector_size n) zero y) all ((written layout).others y left)
 
-  -- they leave all bytes outside of the four ranges alone
+  -- the acts leave all bytes outside the four ranges unchanged
   known : AreKnown (length e.head.now) (length e.tail.now) e.size acts
   known = are_known (length e.head.now) (length e.tail.now) e.size e.apart zero all (four_ranges (table_in g) g.sector_size e.size) four acts others
 
@@ -111,7 +111,7 @@ module _ (e : Ends) (g : GPT) (acts : List Act)
       (turns_any e.head.now e.tail.now b e.size e.apart ends acts known (other e.size) g.sector_size backup (table_in g) (at_side (length e.head.now) (length e.tail.now) e.size g.sector_size (table_in g) backup four)
       (subst (λ (n : ℕ). (y : List ℕ) → LeftBy zero acts y → AgreesOutside (other n) zero y ⊎ Holds y g.sector_size backup (table_in g)) all (turns layout form)))
 
-  -- so one of the two places holds one of the two tables
+  -- one of the two places holds one of the two tables
   replaced_any : IsHeaderForm primary g.header → (was : Table) → IsReplaced b g.sector_size was (table_in g) acts
   replaced_any form was held clear x left = ⊎_elim
       (λ few. record {
@@ -130,7 +130,7 @@ module _ (e : Ends) (g : GPT) (acts : List Act)
 pub new_plan : (b : List ℕ) (g : GPT) (acts : List Act) → IsHeaderForm primary g.header → IsTablePlan b g acts → IsNewPlan b g acts
 new_plan b g acts form plan = record { layout = plan.layout; written = plan.written; replaced = plan.replaced form }
 
--- why its table is not written is why it is not
+-- why the table is not written is why the new table is not
 pub table_stops_new : (count : ℕ) (guid : List ℕ) (ss size : ℕ) (g : GPT) → g ≡ new_table_of count guid ss size → (cause : Cause) → StopsTable g size cause → StopsNew count guid ss size cause
 table_stops_new count guid ss size g is bad_argument none = absurd none
 table_stops_new count guid ss size g is (a_fault fault) why = inr (subst (λ (t : GPT). RefusesTable t size fault) is why)

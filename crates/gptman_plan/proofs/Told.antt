@@ -1,4 +1,4 @@
--- What the ends tell is the same on every disk with these ends.
+-- A read has the same result on every disk with these ends, if the ranges that decide it are known.
 use Rattle.std.proofs.Common.{◌≡◌, ◌≢◌, ◌≤◌, ◌<◌, ◌^◌, ◌⊎◌, inl, inr, ◌&&◌, true, false, ℕ, suc, Bool, ◌+◌, List, [], length, ltb, refl, sym, ◌∙◌, ap, subst, arith}
 use Rattle.std.specs.Prelude.{if◌then◌else◌, Result, Ok, Err, IsErr, is_ok, MatchOption, Option, Some, None}
 use Rattle.std.proofs.lemmas.Bool.{le-leb}
@@ -17,7 +17,7 @@ use Rattle.gptman_plan.specs.Reading.{OfEvery, IsHeaderTold, IsArrayTold, IsCopy
 use Rattle.gptman_plan.proofs.Middle.{agree_in_ends, zero_ends}
 use Rattle.gptman_plan.specs.declared.ends.Ends.{Ends}
 
--- what holds of an option, a case at a time
+-- a property of an option, case by case
 pub at_none : {T : Type 0} (P : Type 0) (R : T → Type 0) (o : Option T) → o ≡ None → MatchOption o P R → P
 at_none P R None is m = m
 at_none P R (Some x) is m = absurd (cc)
@@ -25,7 +25,7 @@ at_none P R (Some x) is m = absurd (cc)
 pub at_some : {T : Type 0} (P : Type 0) (R : T → Type 0) (o : Option T) (x : T) → o ≡ Some x → MatchOption o P R → R x
 at_some P R o x is m = subst (λ p. MatchOption p P R) is m
 
--- ---- a reading, by the two copies
+-- ---- a read, in terms of the two copies
 
 abbrev reading_from : ℕ → ℕ → Result Copy Fault → Result Copy Fault → Result Copy Fault
 reading_from ss len first second = elim first [
@@ -37,7 +37,7 @@ reading_is : (ss : ℕ) (b : List ℕ) → reading_of b ss ≡ reading_from ss (
 unfolding reading_of copy_in
 reading_is ss b = refl
 
--- The fault of a reading is that no signature is there, or that of both copies.
+-- The fault of a read: no signature, or a fault of both copies.
 abbrev pub IsOfReading : Fault → Type 0
 IsOfReading fault = (fault_number fault ≡ 2) ⊎ (fault_number fault ≡ 7)
 
@@ -115,7 +115,7 @@ module _ (e : Ends) where
   -- ---- a copy
 
   module _ (p ss : ℕ) where
-    -- a header that is refused tells the copy
+    -- a refused header determines the copy
     copy_of_refused : (fault : Fault) → header_result (zeroed e) p ≡ Err fault → IsHeaderTold e p → IsCopyTold e p ss
     copy_of_refused fault refused told = λ b ends.
         header_refused b p ss fault (told b ends ∙ refused) ∙ sym (header_refused (zeroed e) p ss fault refused)
@@ -131,7 +131,7 @@ module _ (e : Ends) where
         by_result (Ok h) is bad = absurd (cc)
         by_result (Err fault) is bad = copy_of_refused fault is told
 
-    -- one that passes tells it with its entries
+    -- an accepted header and its entries determine it
     pub whole_copy : (h : GPTHeader) → header_result (zeroed e) p ≡ Ok h → IsHeaderTold e p → IsArrayTold e ss h → IsCopyTold e p ss
     whole_copy h good told array = by_result (array_result (zeroed e) ss h) refl
       where
@@ -141,9 +141,9 @@ module _ (e : Ends) where
         by_result (Err fault) is = λ b ends.
             array_refused b p ss h fault (told b ends ∙ good) (array b ends ∙ is) ∙ sym (array_refused (zeroed e) p ss h fault good is)
 
-  -- ---- the reading
+  -- ---- the read
 
-  -- the fault that a reading has, if it has one
+  -- the fault of a read, if it has one
   pub fault_told : (ss : ℕ) (fault : Fault) → OfEvery e (λ b. reading_of b ss ≡ Err fault) → IsOfReading fault
   fault_told ss fault told =
       let start : List ℕ = zeroed e in
@@ -157,7 +157,7 @@ module _ (e : Ends) where
     unfolding taken_from copy_in
     side_is b = refl
 
-    -- the primary copy has no fault
+    -- the primary copy is good
     pub at_primary : IsCopyTold e ss ss → is_ok (copy_at (zeroed e) ss ss) ≡ true → IsToldAt e ss primary
     at_primary told good = by_result (copy_at (zeroed e) ss ss) refl good
       where
@@ -174,7 +174,7 @@ module _ (e : Ends) where
             one : (x : List ℕ) → copy_at x ss ss ≡ Ok copy → reading_of x ss ≡ Ok copy
             one x at = reading_is ss x ∙ ap (λ r. reading_from ss (length x) r (copy_in backup x ss)) at
 
-    -- it has one, and what the fallback says is told
+    -- the primary copy has a fault, and the backup copy is known
     at_backup : IsCopyTold e ss ss → is_ok (copy_at (zeroed e) ss ss) ≡ false → OfEvery e (λ b. copy_in backup b ss ≡ copy_in backup (zeroed e) ss) → IsToldAt e ss backup
     at_backup told bad second = by_result (copy_at (zeroed e) ss ss) refl bad
       where
@@ -195,7 +195,7 @@ module _ (e : Ends) where
     unfolding copy_in
     backup_is b = refl
 
-    -- A copy that is told at the first byte of sector 1 is the primary one.
+    -- The copy at the first byte of sector 1 is the primary one.
     pub primary_told : IsCopyTold e ss ss → OfEvery e (λ b. copy_in primary b ss ≡ copy_in primary (zeroed e) ss)
     unfolding copy_in
     primary_told told = told
@@ -209,7 +209,7 @@ module _ (e : Ends) where
             let yes : ltb (length x) ss ≡ true = le-leb (suc (length x)) ss (omega (arith, short, long)) in
             backup_is x ∙ ap (λ (t : Bool). elim t [ true ↦ Err invalid_signature | false ↦ copy_at x (copy_start backup (length x) ss) ss ]) yes
 
-    -- One that is told at the first byte of the last whole sector is the backup one.
+    -- The copy at the first byte of the last whole sector is the backup one.
     pub backup_told : IsCopyTold e (copy_start backup e.size ss) ss → OfEvery e (λ b. copy_in backup b ss ≡ copy_in backup (zeroed e) ss)
     backup_told other = λ b ends. at_size b ends.long ∙ ap (backup_from e.size) (other b ends) ∙ sym (at_size (zeroed e) (length-zeroed e))
       where
@@ -220,6 +220,6 @@ module _ (e : Ends) where
     pub without_backup : IsCopyTold e ss ss → is_ok (copy_at (zeroed e) ss ss) ≡ false → e.size < ss → IsToldAt e ss backup
     without_backup told bad short = at_backup told bad (no_backup_told short)
 
-    -- the backup copy is told
+    -- the backup copy is known
     pub with_backup : IsCopyTold e ss ss → is_ok (copy_at (zeroed e) ss ss) ≡ false → IsCopyTold e (copy_start backup e.size ss) ss → IsToldAt e ss backup
     with_backup told bad other = at_backup told bad (backup_told other)

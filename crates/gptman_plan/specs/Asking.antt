@@ -1,4 +1,4 @@
--- What the plan of a write asks for.
+-- The ranges of the disk for which the plan of a write asks.
 use Rattle.std.specs.Prelude.{◌++◌, ℕ, List, [], length, Result, Ok, Err}
 use Rattle.gptman.specs.Copy.{Copy}
 use Rattle.gptman.specs.Fault.{Fault}
@@ -23,19 +23,19 @@ abbrev pub fitted_ranges : ℕ → ℕ → Result Copy Fault → List (ℕ × �
 fitted_ranges ss len (Ok copy) = four_ranges (fitted copy ss len) ss len
 fitted_ranges ss len (Err fault) = []
 
--- what a plan asks for that writes the table of a disk of these bytes, with other entries,
+-- the ranges for which a plan may ask that writes the table on the disk with other entries
 abbrev pub plan_ranges : List ℕ → ℕ → List (ℕ × ℕ)
 plan_ranges b ss = reading_ranges b ss ++ table_ranges ss (length b) (reading_of b ss)
 
--- one that writes it fitted to the disk,
+-- the ranges for which a plan may ask that writes that table fitted to the disk
 abbrev pub fit_ranges : List ℕ → ℕ → List (ℕ × ℕ)
 fit_ranges b ss = reading_ranges b ss ++ fitted_ranges ss (length b) (reading_of b ss)
 
--- and one that writes this value to a disk of len bytes
+-- the ranges for which a plan may ask that writes this value to a disk of len bytes
 abbrev pub value_ranges : GPT → ℕ → List (ℕ × ℕ)
 value_ranges g len = four_ranges (table_in g) g.sector_size len
 
--- the bytes that a refusal names are one of the places of every disk with these ends
+-- if a refusal asks for a range, it is one of these places on every disk with these ends
 abbrev pub AsksAmong : (List ℕ → List (ℕ × ℕ)) → Ends → Refusal → Type 0
 AsksAmong places ends BadArgument = Unit {0}
 AsksAmong places ends (Refused e) = Unit {0}
@@ -43,7 +43,7 @@ AsksAmong places ends (Lacks lack) = OfEvery ends (λ b. IsAmong (lack.from, lac
 AsksAmong places ends OtherLength = Unit {0}
 AsksAmong places ends OtherLayout = Unit {0}
 
--- it names none
+-- the refusal asks for no range
 abbrev pub AsksNothing : Refusal → Type 0
 AsksNothing BadArgument = Unit {0}
 AsksNothing (Refused e) = Unit {0}

@@ -1,4 +1,4 @@
--- What crosses to C, in the library's words.
+-- The structs that are shared with C, in terms of the library.
 use Rattle.std.specs.Prelude.{◌≡◌, ◌++◌, ℕ, List, length, map, take, Option, Result, Ok, Err}
 use Rattle.gptman.specs.Alignment.{IsAlignment}
 use Rattle.gptman.specs.Copy.{Copy}
@@ -13,7 +13,7 @@ use Rattle.gptman.specs.Fault.{fault_number}
 use Rattle.gptman_plan.specs.declared.records.Partition.{Partition}
 use Rattle.gptman_plan.specs.declared.records.Table.{Table}
 
--- the entry as C has it
+-- an entry in the form of C
 abbrev pub partition_of : GPTPartitionEntry → Partition
 partition_of e = record {
   type_guid = e.partition_type_guid;
@@ -24,7 +24,7 @@ partition_of e = record {
   name = e.partition_name.units;
 }
 
--- what a partition of C is in a table
+-- the content of an entry in the form of C
 abbrev pub content_of : Partition → TableEntry
 content_of p = record {
   partition_type_guid = p.type_guid;
@@ -35,7 +35,7 @@ content_of p = record {
   units = p.name;
 }
 
--- the same of an entry
+-- the content of an entry
 abbrev pub content_in : GPTPartitionEntry → TableEntry
 content_in e = record {
   partition_type_guid = e.partition_type_guid;
@@ -46,7 +46,7 @@ content_in e = record {
   units = e.partition_name.units;
 }
 
--- the table with these for its entries
+-- the table with these entries
 abbrev pub with_partitions : GPT → List Partition → TheTable
 with_partitions g partitions = record (table_in g) { entries = map content_of partitions }
 
@@ -59,7 +59,8 @@ abbrev pub side_number : Side → ℕ
 side_number primary = 0
 side_number backup = 1
 
--- What is told of a reading that took this copy, at this side: its header's fields, and its entries, in the first places of the array.
+-- The result of a read that selected this copy, at this side: the fields of its header, and its entries at the start of
+-- the array.
 pub record IsTold (taken : Result Copy Fault) (side : Side) (table : Table) (partitions : List Partition) : Type 0 where
   pub copy : Copy
   pub taken_is : taken ≡ Ok copy
@@ -71,19 +72,20 @@ pub record IsTold (taken : Result Copy Fault) (side : Side) (table : Table) (par
   pub from : table.is_backup ≡ side_number side
   pub partitions_are : take (length copy.entries) partitions ≡ map partition_of copy.entries
 
--- The reading took a copy of so many entries.
+-- The read selected a copy with this number of entries.
 pub record HasCount (taken : Result Copy Fault) (count : ℕ) : Type 0 where
   pub copy : Copy
   pub taken_is : taken ≡ Ok copy
   pub count_is : copy.header.number_of_partition_entries ≡ count
 
--- The reading took no copy: its fault has this number.
+-- The read selected no copy, and its fault has this number.
 pub record IsRefused (taken : Result Copy Fault) (number : ℕ) : Type 0 where
   pub fault : Fault
   pub taken_is : taken ≡ Err fault
   pub number_is : fault_number fault ≡ number
 
--- What is offered for so many sectors: the place that is chosen, if there is one, of the sectors within the bounds of the table that no partition has.
+-- The place that is found for a partition of `size` sectors: the chosen one of the free places within the bounds of the
+-- table, if there is one.
 pub record IsOffer (table : Table) (partitions : List Partition) (choice size : ℕ) (found : Option ℕ) : Type 0 where
   pub held : GPT
   pub low : held.header.first_usable_lba ≡ table.first_usable_lba

@@ -1,4 +1,4 @@
--- What the two ends of a disk tell of it.
+-- The ends of a disk, and the disk with zeros between them.
 use Rattle.std.specs.Prelude.{◌≡◌, ◌≤◌, ◌⊎◌, ◌+◌, ◌-◌, ◌++◌, ℕ, true, List, [], ◌∷◌, length, replicate, Contains, Option, None, Some}
 use Rattle.gptman.specs.Bytes.{part}
 use Rattle.gptman.specs.Disk.{AgreesOutside, DiskState, IsSound}
@@ -10,47 +10,48 @@ use Rattle.gptman_plan.specs.declared.reader.Torn.{Torn}
 use Rattle.std.proofs.Common.{arith, length-append}
 use Rattle.std.proofs.lemmas.List.{length-replicate}
 
--- A disk of these bytes is so long, and begins and ends with these.
+-- The disk b has this length, and begins and ends with these bytes.
 pub record HasEnds (b head tail : List ℕ) (size : ℕ) : Type 0 where
   pub long : length b ≡ size
   pub at_head : part b 0 (length head) ≡ head
   pub at_tail : part b (size - length tail) (length tail) ≡ tail
 
--- The range lies in one of the ends of a disk of size bytes, of which the first has `first` bytes and the last `last`; or on the disk, where these two meet.
+-- The range is within one of the ends of a disk of size bytes, which have `first` and `last` bytes; or on the disk, if
+-- the ends meet.
 abbrev pub IsKnown : ℕ → ℕ → ℕ → ℕ × ℕ → Type 0
 IsKnown first last size range =
     (range.0 + range.1 ≤ first) ⊎ (((size - last ≤ range.0) × (range.0 + range.1 ≤ size)) ⊎ ((size ≤ first + last) × (range.0 + range.1 ≤ size)))
 
--- each of the ranges does
+-- each of the ranges is within one of these ends, or on the disk if they meet
 abbrev pub AreRangesKnown : ℕ → ℕ → ℕ → List (ℕ × ℕ) → Type 0
 AreRangesKnown first last size [] = Unit {0}
 AreRangesKnown first last size (range ∷ ranges) = IsKnown first last size range × AreRangesKnown first last size ranges
 
--- and so do the ranges of each of the tables at both sides, in sectors of ss bytes
+-- so are the ranges of each table at both sides, with sectors of ss bytes
 abbrev pub ArePlacesKnown : ℕ → ℕ → ℕ → ℕ → List Table → Type 0
 ArePlacesKnown first last size ss tables = (t : Table) → Contains tables t → (side : Side) → AreRangesKnown first last size (copy_ranges_at side t ss size)
 
--- the disk with these ends that has zeros between them
+-- the disk with these ends, and with zeros between them
 abbrev pub disk_bytes : List ℕ → List ℕ → ℕ → List ℕ
 disk_bytes head tail size = head ++ (replicate (size - (length head + length tail)) 0 ++ tail)
 
--- the same of these ends
+-- the same, for a value of type Ends
 abbrev pub zeroed : Ends → List ℕ
 zeroed ends = disk_bytes ends.head.now ends.tail.now ends.size
 
--- a disk of these bytes has the ends
+-- the disk has these ends
 abbrev pub IsDiskOf : Ends → List ℕ → Type 0
 IsDiskOf ends b = HasEnds b ends.head.now ends.tail.now ends.size
 
--- one of the ends has the range, or the two together have it
+-- the range is within one of the ends, or on the disk if the ends meet
 abbrev pub HaveRange : Ends → ℕ × ℕ → Type 0
 HaveRange ends range = IsKnown (length ends.head.now) (length ends.tail.now) ends.size range
 
--- each of these
+-- each of the ranges is within one of the ends, or on the disk if the ends meet
 abbrev pub HaveRanges : Ends → List (ℕ × ℕ) → Type 0
 HaveRanges ends ranges = AreRangesKnown (length ends.head.now) (length ends.tail.now) ends.size ranges
 
--- the bytes that a write left torn
+-- the range of a write that failed
 abbrev pub torn_ranges : Option Torn → List (ℕ × ℕ)
 torn_ranges None = []
 torn_ranges (Some t) = (t.at, t.length) ∷ []
@@ -68,7 +69,7 @@ known_state bytes torn size position failures = record {
   is_honest = true;
 }
 
--- the laws of an honest disk
+-- the laws of an honest disk hold for it
 pub known_sound : (bytes : List ℕ) (torn : Option Torn) (s p f : ℕ) → length bytes ≡ s → IsSound (known_state bytes torn s p f)
 known_sound bytes torn s p f long = record {
   size = λ i. long i;
@@ -77,7 +78,7 @@ known_sound bytes torn s p f long = record {
   earlier = λ t u b le left. left;
 }
 
--- the disk with zeros between its ends is so long
+-- the disk with zeros between its ends has the right length
 pub length-disk_bytes : (head tail : List ℕ) (size : ℕ) → length head + length tail ≤ size → length (disk_bytes head tail size) ≡ size
 length-disk_bytes head tail size apart = simp (length-append, length-replicate) (omega (arith, apart))
 

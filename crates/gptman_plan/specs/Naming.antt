@@ -2,6 +2,6 @@
 use Rattle.std.specs.Prelude.{ℕ, List, encode_utf8_all}
 use Rattle.gptman.specs.Name.{text_of}
 
--- the bytes of the text that is read of these units
+-- the UTF-8 of the name with these units
 abbrev pub name_text : List ℕ → List ℕ
 name_text units = encode_utf8_all (text_of units)

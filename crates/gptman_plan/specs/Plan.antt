@@ -1,4 +1,4 @@
--- The steps of a plan: what they do to the bytes of a disk, and what is left of these where they stop on the way.
+-- The steps of a plan: their effect on the bytes of a disk, and what a crash between or within them leaves.
 use Rattle.std.specs.Prelude.{◌≡◌, ◌<◌, ◌≤◌, ◌⊎◌, ◌+◌, ℕ, nat_eq, All, List, [], ◌∷◌, length, take, map, if◌then◌else◌}
 use Rattle.std.specs.List.{fold, slice_index_or}
 use Rattle.gptman.specs.Bytes.{part}
@@ -8,73 +8,74 @@ use Rattle.std.proofs.Common.{inl, inr, true, suc, zero, subst, sym, arith}
 use Rattle.std.proofs.Math.Nat.{ℕ_set}
 use Rattle.std.proofs.lemmas.List.{take_all}
 
--- What is done to a disk: bytes are laid over those from a place on, or all that was laid is stored.
+-- An act on a disk: writing bytes from a place, or a sync.
 pub data Act : Type 0 where
   lay : (at : ℕ) (bytes : List ℕ) → Act
   store : Act
 
 -- ---- steps
 
--- The step lies within a disk of so many bytes, and its own bytes within a buffer of so many.
+-- The step is within a disk of `size` bytes, and its bytes within an array of `filled` bytes.
 pub record StepFits (size filled : ℕ) (step : Step) : Type 0 where
   pub on_disk : step.offset + step.length ≤ size
   pub held : step.start + step.length ≤ filled
 
--- the kind is that of a write, 1, or of a sync, 2
+-- the step is a write, 1, or a sync, 2
 abbrev pub IsWriteOrSync : Step → Type 0
 IsWriteOrSync step = (step.kind ≡ 1) ⊎ (step.kind ≡ 2)
 
--- the bytes of a step, from the buffer
+-- the bytes of a step, in the array
 abbrev pub bytes_of : List ℕ → Step → List ℕ
 bytes_of buffer step = part buffer step.start step.length
 
--- what a step does
+-- the act of a step
 abbrev pub step_act : List ℕ → Step → Act
 step_act buffer step = if nat_eq step.kind 2 then store else lay step.offset (bytes_of buffer step)
 
--- what steps do, one after the other
+-- the acts of steps, in order
 abbrev pub acts_of : (buffer : List ℕ) (steps : List Step) → List Act
 acts_of buffer steps = map (step_act buffer) steps
 
 -- ---- the disk
 
--- what a read gives after an act, where it gave these bytes before
+-- the bytes that a read returns after an act
 abbrev pub bytes_with : List ℕ → Act → List ℕ
 bytes_with old (lay at bytes) = overlay old at bytes
 bytes_with old store = old
 
--- the ranges, each a start and a length, of which a stop after an act may leave anything, where it might of these before
+-- the pending ranges, each a start and a length, after an act: a crash may leave any bytes there
 abbrev pub pending_with : List (ℕ × ℕ) → Act → List (ℕ × ℕ)
 pending_with ranges (lay at bytes) = (at, length bytes) ∷ ranges
 pending_with ranges store = []
 
--- what a read gives after all of the acts
+-- the bytes that a read returns after all acts
 abbrev pub bytes_after : (start : List ℕ) (acts : List Act) → List ℕ
 bytes_after start acts = fold bytes_with start acts
 
--- the ranges of which a stop may leave anything then, the newest first
+-- the pending ranges after all acts, the newest first
 abbrev pub pending_after : List Act → List (ℕ × ℕ)
 pending_after acts = fold pending_with [] acts
 
 -- ---- stops
 
--- A stop right after the acts, or within the last of them, may leave b: what a read gives, but for what is pending.
+-- A crash right after the acts, or within the last one, may leave b: any bytes in the pending ranges, and elsewhere
+-- what a read returns.
 abbrev pub IsImage : List ℕ → List Act → List ℕ → Type 0
 IsImage start acts b = AgreesOutside (pending_after acts) (bytes_after start acts) b
 
--- A stop among the acts may leave b: some of them were done.
+-- A crash between or within the acts may leave b, after some of them.
 pub record LeftBy (start : List ℕ) (acts : List Act) (b : List ℕ) : Type 0 where
   pub after : ℕ
   pub among : after ≤ length acts
   pub image : IsImage start (take after acts) b
 
--- At this moment of the clock b may be left. The clock begins at 1, and each act takes a moment. At moment 0 stands the start itself, behind a byte, which no stop
--- leaves: so two starts differ there.
+-- A crash at this moment of the clock may leave b. The clock starts at 1, and each act takes one moment. Moment 0
+-- identifies the start: it has the start with a zero byte before it, which no crash leaves.
 abbrev pub IsLeftAt : List ℕ → List Act → ℕ → List ℕ → Type 0
 IsLeftAt start acts zero b = b ≡ 0 ∷ start
 IsLeftAt start acts (suc n) b = (n ≤ length acts) × IsImage start (take n acts) b
 
--- at some moment from t on
+-- the same at some moment from t on
 pub record LeftSince (start : List ℕ) (acts : List Act) (t : ℕ) (b : List ℕ) : Type 0 where
   pub moment : ℕ
   pub since : t ≤ moment
@@ -95,7 +96,7 @@ plan_state start acts long at failed = record {
 
 -- ---- laws
 
--- There is at most one proof that the kinds are right, as a ghost field wants it.
+-- There is at most one proof of the kinds of the steps, as a ghost field requires.
 pub kinds-prop : (steps : List Step) → IsProp (All IsWriteOrSync steps)
 kinds-prop steps p q = λ i k d below. one (slice_index_or steps k d).kind (p k d below) (q k d below) i
   where
@@ -105,12 +106,12 @@ kinds-prop steps p q = λ i k d below. one (slice_index_or steps k d).kind (p k 
     one kind (inr a) (inl b) = absurd (omega (arith, a, b))
     one kind (inr a) (inr b) = λ i. inr (ℕ_set kind 2 a b i)
 
--- What stands at the last moment is an image of now.
+-- Only an image of now may be left at the last moment.
 pub left_now : (start : List ℕ) (acts : List Act) (moment : ℕ) (b : List ℕ) → length acts < moment → IsLeftAt start acts moment b → IsImage start acts b
 left_now start acts zero b last left = absurd (omega (arith, last))
 left_now start acts (suc n) b last left = subst (λ (l : List Act). IsImage start l b) (take_all n acts (omega (arith, last))) left.1
 
--- It keeps the laws of an honest disk.
+-- The laws of an honest disk hold for it.
 pub plan_sound : (start : List ℕ) (acts : List Act) (long at failed : ℕ) → length (bytes_after start acts) ≡ long → IsSound (plan_state start acts long at failed)
 plan_sound start acts long at failed is_long = record {
   size = is_long;

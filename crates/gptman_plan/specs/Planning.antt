@@ -1,4 +1,4 @@
--- What the steps that are told do to a disk.
+-- The effect of a plan on the disk, and why there is no plan.
 use Rattle.std.specs.Prelude.{◌≡◌, ◌≢◌, ◌<◌, ◌⊎◌, ◌+◌, ℕ, List, [], ◌∷◌, length, map, Ok, Err, Some}
 use Rattle.gptman.specs.Copy.{Copy}
 use Rattle.gptman.specs.Disk.{AgreesOutside, DiskState}
@@ -24,12 +24,12 @@ use Rattle.gptman_plan.specs.declared.records.Needed.{Needed}
 use Rattle.gptman_plan.specs.declared.records.Partition.{Partition}
 use Rattle.gptman_plan.specs.declared.records.Step.{Step}
 
--- the table of the copy, with these for its entries
+-- the table of the copy, with these entries
 abbrev pub rewritten : Copy → List Partition → Table
 rewritten copy partitions = record (table_of copy.header copy.entries) { entries = map content_of partitions }
 
--- A stop among or within these acts leaves the old table or the next one at one place at least, and all bytes outside of the four ranges as they were. After all
--- of them both places hold the next one, and nothing is pending.
+-- A crash between or within these acts leaves the old table or the next one in one place at least, and all bytes
+-- outside the four ranges unchanged. After all of them both places hold the next one, and nothing is pending.
 pub record IsSafePlan (start : List ℕ) (ss : ℕ) (was next : Table) (acts : List Act) : Type 0 where
   pub stops : (x : List ℕ) → LeftBy start acts x → HoldsOneOf x ss (was ∷ next ∷ [])
   pub others : (x : List ℕ) → LeftBy start acts x → AgreesOutside (four_ranges next ss (length start)) start x
@@ -37,8 +37,8 @@ pub record IsSafePlan (start : List ℕ) (ss : ℕ) (was next : Table) (acts : L
   pub at_primary : Holds (bytes_after start acts) ss primary next
   pub at_backup : Holds (bytes_after start acts) ss backup next
 
--- The acts write the table that a disk of these bytes is read as, with these for its entries, safely; the copy that is read is in the form of its place, and its
--- table has the stated layout.
+-- The acts safely write the table that is read from these bytes, with these entries. The copy that is read is in the
+-- form of its place, and its table has the stated layout.
 pub record IsPlan (start : List ℕ) (ss : ℕ) (partitions : List Partition) (acts : List Act) : Type 0 where
   pub copy : Copy
   pub taken : reading_of start ss ≡ Ok copy
@@ -46,20 +46,22 @@ pub record IsPlan (start : List ℕ) (ss : ℕ) (partitions : List Partition) (a
   pub laid : IsLaidOut (table_of copy.header copy.entries) ss (length start)
   pub safe : IsSafePlan start ss (table_of copy.header copy.entries) (rewritten copy partitions) acts
 
--- The table that a disk of these bytes is read as was made for one of another length: its headers are not those of sector 1 and of the last whole sector.
+-- The table that is read from these bytes was made for another length: its headers are not those of sector 1 and the
+-- last whole sector.
 pub record IsOfOtherLength (b : List ℕ) (ss : ℕ) : Type 0 where
   pub copy : Copy
   pub taken : reading_of b ss ≡ Ok copy
   pub other : ¬ HasRightSectors (table_of copy.header copy.entries) ss (length b)
 
--- It was made for one of this length, but the copy that is read is not in the form of its place, or the table has not the stated layout otherwise.
+-- The table was made for this length, but the copy that is read is not in the form of its place, or the table does not
+-- have the stated layout for another reason.
 pub record IsOfOtherLayout (b : List ℕ) (ss : ℕ) : Type 0 where
   pub copy : Copy
   pub taken : reading_of b ss ≡ Ok copy
   pub made : HasRightSectors (table_of copy.header copy.entries) ss (length b)
   pub other : ¬ (IsHeaderForm (taken_from b ss) copy.header × IsLaidOut (table_of copy.header copy.entries) ss (length b))
 
--- The table with this header and with these for its entries may not be written to a disk of len bytes, for this fault.
+-- A table with this header and these entries may not be written to a disk of len bytes, because of this fault.
 pub record IsUnfit (header : GPTHeader) (ss : ℕ) (partitions : List Partition) (len : ℕ) (fault : Fault) : Type 0 where
   pub value : GPT
   pub header_is : value.header ≡ header
@@ -67,7 +69,7 @@ pub record IsUnfit (header : GPTHeader) (ss : ℕ) (partitions : List Partition)
   pub entries : map content_in (entries_in value) ≡ map content_of partitions
   pub why : RefusesTable value len fault
 
--- The same of a write that was tried: the table was refused, or the disk failed.
+-- The same for a write that was tried: the table was refused, or the disk failed.
 pub record RefusesRewrite (g : GPT) (partitions : List Partition) (fault : Fault) (old new : DiskState) : Type 0 where
   pub value : GPT
   pub header_is : value.header ≡ g.header
@@ -75,16 +77,17 @@ pub record RefusesRewrite (g : GPT) (partitions : List Partition) (fault : Fault
   pub entries : map content_in (entries_in value) ≡ map content_of partitions
   pub why : RefusesWrite value fault old new
 
--- Why the table of a disk of these bytes is not written with these for its entries: it is not read, or it may not be written.
+-- Why the table in these bytes is not written with these entries: it cannot be read, or may not be written.
 pub data RefusesPlan (b : List ℕ) (ss : ℕ) (partitions : List Partition) (fault : Fault) : Type 0 where
   is_not_read : reading_of b ss ≡ Err fault → RefusesPlan b ss partitions fault
   is_unfit : (copy : Copy) → reading_of b ss ≡ Ok copy → IsUnfit copy.header ss partitions (length b) fault → RefusesPlan b ss partitions fault
 
--- Why a new table with so many entries is not written to a disk of size bytes: it has no room for two copies, or the table may not be written.
+-- Why a new table with `count` entries is not written to a disk of `size` bytes: there is no room for two copies, or
+-- the table may not be written.
 abbrev pub RefusesNew : ℕ → List ℕ → ℕ → ℕ → Fault → Type 0
 RefusesNew count guid ss size fault = (fit_fault (new_header_of count guid) ss size ≡ Some fault) ⊎ RefusesTable (new_table_of count guid ss size) size fault
 
--- So many steps over so many bytes do what is planned.
+-- There is a plan with this number of steps and bytes.
 pub record HasPlan (is_plan : List Act → Type 0) (needed : Needed) : Type 0 where
   pub steps : List Step
   pub bytes : List ℕ
@@ -92,7 +95,7 @@ pub record HasPlan (is_plan : List Act → Type 0) (needed : Needed) : Type 0 wh
   pub filled : length bytes ≡ needed.bytes
   pub plan : is_plan (acts_of bytes steps)
 
--- The number is that of a fault of which this holds.
+-- It is the number of a fault with this property.
 pub record IsNumberOf (why : Fault → Type 0) (number : ℕ) : Type 0 where
   pub fault : Fault
   pub holds : why fault
@@ -102,20 +105,20 @@ pub record IsNumberOf (why : Fault → Type 0) (number : ℕ) : Type 0 where
 abbrev pub AreNoEnds : List ℕ → List ℕ → ℕ → ℕ → Type 0
 AreNoEnds head tail size ss = (ss ≡ 0) ⊎ (size < length head + length tail)
 
--- The table of a disk of these bytes has no entries, or not as many as these; or the disk is shorter than a sector.
+-- The table in these bytes has no entries, or not as many as these; or the disk is shorter than a sector.
 pub record IsMiscounted (b : List ℕ) (ss : ℕ) (partitions : List Partition) : Type 0 where
   pub copy : Copy
   pub taken : reading_of b ss ≡ Ok copy
   pub count : (copy.header.number_of_partition_entries ≡ 0) ⊎ ((length partitions ≢ copy.header.number_of_partition_entries) ⊎ (length b < ss))
 
--- why nothing is planned, but for bytes that are lacking
+-- why there is no plan, except for missing bytes
 pub data Cause : Type 0 where
   bad_argument : Cause
   a_fault : Fault → Cause
   other_length : Cause
   other_layout : Cause
 
--- Why nothing is planned: a cause, of which this holds, or want of memory; or bytes of the disk that neither end has.
+-- Why there is no plan: a cause with this property, an allocation failure, or bytes of the disk that neither end has.
 abbrev pub IsRefusal : (Cause → Type 0) → Ends → Refusal → Type 0
 IsRefusal why ends BadArgument = why bad_argument
 IsRefusal why ends (Refused e) = (fault_of e ≡ out_of_memory) ⊎ why (a_fault (fault_of e))
@@ -123,14 +126,14 @@ IsRefusal why ends (Lacks lack) = IsLack ends lack
 IsRefusal why ends OtherLength = why other_length
 IsRefusal why ends OtherLayout = why other_layout
 
--- the cause is a fault, of which this holds
+-- the cause is a fault with this property
 abbrev pub IsOfFault : (Fault → Type 0) → Cause → Type 0
 IsOfFault why bad_argument = ⊥
 IsOfFault why (a_fault fault) = why fault
 IsOfFault why other_length = ⊥
 IsOfFault why other_layout = ⊥
 
--- the number that a refusal has in C
+-- the number of a refusal in C
 abbrev pub refusal_number : Refusal → ℕ
 refusal_number BadArgument = 105
 refusal_number (Refused e) = fault_number (fault_of e)
@@ -138,7 +141,7 @@ refusal_number (Lacks lack) = 103
 refusal_number OtherLength = 100
 refusal_number OtherLayout = 101
 
--- what is told of it
+-- the output of a refusal: the missing range, if that is the reason
 abbrev pub needed_after : Refusal → Needed → Needed
 needed_after BadArgument needed = needed
 needed_after (Refused e) needed = needed
@@ -146,7 +149,7 @@ needed_after (Lacks lack) needed = record needed { from = lack.from; length = la
 needed_after OtherLength needed = needed
 needed_after OtherLayout needed = needed
 
--- of a write whose arguments are right
+-- why a write with valid arguments is not planned
 abbrev pub IsRewriteRefusal : Ends → GPT → List Partition → Refusal → Type 0
 IsRewriteRefusal ends g partitions refusal = IsRefusal (IsOfFault (IsUnfit g.header g.sector_size partitions ends.size)) ends refusal
 
@@ -160,7 +163,7 @@ StopsTable g size other_layout = ¬ HasLayout g size
 abbrev pub IsTableRefusal : Ends → GPT → Refusal → Type 0
 IsTableRefusal ends g refusal = IsRefusal (StopsTable g ends.size) ends refusal
 
--- why the table of a disk of these bytes is not written with these for its entries
+-- why the table in these bytes is not written with these entries
 abbrev pub StopsPlan : List ℕ → ℕ → List Partition → Cause → Type 0
 StopsPlan b ss partitions bad_argument = IsMiscounted b ss partitions
 StopsPlan b ss partitions (a_fault fault) = RefusesPlan b ss partitions fault
@@ -180,29 +183,33 @@ StopsNew count guid ss size other_layout = ¬ HasLayout (new_table_of count guid
 abbrev pub IsNewRefusal : Ends → ℕ → ℕ → List ℕ → Refusal → Type 0
 IsNewRefusal ends ss count guid refusal = IsRefusal (StopsNew count guid ss ends.size) ends refusal
 
--- After all of these acts both places hold the table, and nothing is pending; a stop among or within them leaves all bytes outside of its four ranges as they were.
+-- After all of these acts both places hold the table, and nothing is pending. A crash between or within them leaves all
+-- bytes outside its four ranges unchanged.
 pub record IsWrittenPlan (start : List ℕ) (ss : ℕ) (next : Table) (acts : List Act) : Type 0 where
   pub others : (x : List ℕ) → LeftBy start acts x → AgreesOutside (four_ranges next ss (length start)) start x
   pub synced : pending_after acts ≡ []
   pub at_primary : Holds (bytes_after start acts) ss primary next
   pub at_backup : Holds (bytes_after start acts) ss backup next
 
--- A stop among or within these acts leaves all bytes but those of the table's backup copy as they were, or that copy whole.
+-- A crash between or within these acts leaves all bytes outside the table's backup copy unchanged, or that copy
+-- complete.
 abbrev pub ComesInTurns : List ℕ → ℕ → Table → List Act → Type 0
 ComesInTurns start ss next acts = (x : List ℕ) → LeftBy start acts x → AgreesOutside (copy_ranges_at backup next ss (length start)) start x ⊎ Holds x ss backup next
 
--- A table that the primary place holds, clear of the other copy of the new one, is not lost before that one is there.
+-- If the primary place holds a table that does not overlap the backup copy of the new one, a crash leaves that table or
+-- the new one.
 abbrev pub IsReplaced : List ℕ → ℕ → Table → Table → List Act → Type 0
 IsReplaced start ss was next acts = Holds start ss primary was → AreClear (copy_ranges_at primary was ss (length start)) (copy_ranges_at backup next ss (length start))
     → (x : List ℕ) → LeftBy start acts x → HoldsOneOf x ss (was ∷ next ∷ [])
 
--- The acts write the table of this value, which has the stated layout; and a table that is replaced is not lost, where the value has a primary header.
+-- The acts write the table of this value, which has the stated layout. If the value has a primary header, a table that
+-- it replaces is not lost.
 pub record IsTablePlan (start : List ℕ) (g : GPT) (acts : List Act) : Type 0 where
   pub layout : HasLayout g (length start)
   pub written : IsWrittenPlan start g.sector_size (table_in g) acts
   pub replaced : IsHeaderForm primary g.header → (was : Table) → IsReplaced start g.sector_size was (table_in g) acts
 
--- The same of a new table, whose header is a primary one.
+-- The same for a new table, whose header is a primary one.
 pub record IsNewPlan (start : List ℕ) (g : GPT) (acts : List Act) : Type 0 where
   pub layout : HasLayout g (length start)
   pub written : IsWrittenPlan start g.sector_size (table_in g) acts
@@ -212,14 +219,15 @@ pub record IsNewPlan (start : List ℕ) (g : GPT) (acts : List Act) : Type 0 whe
 abbrev pub fitted : Copy → ℕ → ℕ → Table
 fitted copy ss len = table_of (fit_header copy.header ss len) copy.entries
 
--- The copy that a disk of these bytes is read as is in the form of its place, and its table, fitted to the length of the disk, has the stated layout.
+-- The copy that is read from these bytes is in the form of its place, and its table, fitted to the length of the disk,
+-- has the stated layout.
 pub record IsStatedToFit (b : List ℕ) (ss : ℕ) (copy : Copy) : Type 0 where
   pub form : IsHeaderForm (taken_from b ss) copy.header
   pub fitted_form : IsInForm (fit_header copy.header ss (length b))
   pub laid : IsLaidOut (fitted copy ss (length b)) ss (length b)
 
--- The acts write the table that a disk of these bytes is read as, fitted to its length, on the stated layout. Where the primary copy is read, a stop leaves the old
--- table or the fitted one at one place at least.
+-- The acts write the table that is read from these bytes, fitted to the length of the disk, in the stated layout. If
+-- the primary copy is read, a crash leaves the old table or the fitted one in one place at least.
 pub record IsFitPlan (start : List ℕ) (ss : ℕ) (acts : List Act) : Type 0 where
   pub copy : Copy
   pub taken : reading_of start ss ≡ Ok copy
@@ -228,13 +236,13 @@ pub record IsFitPlan (start : List ℕ) (ss : ℕ) (acts : List Act) : Type 0 wh
   pub stops : taken_from start ss ≡ primary → (x : List ℕ) → LeftBy start acts x
       → HoldsOneOf x ss (table_of copy.header copy.entries ∷ fitted copy ss (length start) ∷ [])
 
--- The copy that is read is not in the form of its place, or the fitted table has not the stated layout.
+-- The copy that is read is not in the form of its place, or the fitted table does not have the stated layout.
 pub record IsNotStatedToFit (b : List ℕ) (ss : ℕ) : Type 0 where
   pub copy : Copy
   pub taken : reading_of b ss ≡ Ok copy
   pub other : ¬ IsStatedToFit b ss copy
 
--- The table with this header and these entries may not be written to a disk of len bytes, for this fault.
+-- A table with this header and these entries may not be written to a disk of len bytes, because of this fault.
 pub record IsUnfitTable (header : GPTHeader) (ss : ℕ) (entries : List GPTPartitionEntry) (len : ℕ) (fault : Fault) : Type 0 where
   pub value : GPT
   pub header_is : value.header ≡ header
@@ -242,23 +250,24 @@ pub record IsUnfitTable (header : GPTHeader) (ss : ℕ) (entries : List GPTParti
   pub entries_are : entries_in value ≡ entries
   pub why : RefusesTable value len fault
 
--- Why the table of a disk of these bytes is not written fitted to its length: it is not read, or the disk has too few sectors for it, or it may not be written.
+-- Why the table in these bytes is not written fitted to their length: it cannot be read, the disk has too few sectors
+-- for it, or it may not be written.
 pub data RefusesFit (b : List ℕ) (ss : ℕ) (fault : Fault) : Type 0 where
   is_not_read_to_fit : reading_of b ss ≡ Err fault → RefusesFit b ss fault
   does_not_fit : (copy : Copy) → reading_of b ss ≡ Ok copy → fit_fault copy.header ss (length b) ≡ Some fault → RefusesFit b ss fault
   is_unfit_fitted : (copy : Copy) → reading_of b ss ≡ Ok copy → IsUnfitTable (fit_header copy.header ss (length b)) ss copy.entries (length b) fault → RefusesFit b ss fault
 
--- of a table that is fitted to a disk of that size
+-- why a table is not fitted to a disk of this size
 abbrev pub IsSizeRefusal : Ends → GPT → Refusal → Type 0
 IsSizeRefusal ends g refusal = IsRefusal (IsOfFault (λ fault. fit_fault g.header g.sector_size ends.size ≡ Some fault)) ends refusal
 
--- why the table of a disk of these bytes is not written fitted to its length
+-- why the table in these bytes is not written fitted to their length
 abbrev pub StopsFit : List ℕ → ℕ → Cause → Type 0
 StopsFit b ss bad_argument = ⊥
 StopsFit b ss (a_fault fault) = RefusesFit b ss fault
 StopsFit b ss other_length = ⊥
 StopsFit b ss other_layout = IsNotStatedToFit b ss
 
--- of one that is read and fitted
+-- why there is no plan that fits the table in the ends
 abbrev pub IsFitRefusal : Ends → ℕ → Refusal → Type 0
 IsFitRefusal ends ss refusal = IsRefusal (λ cause. OfEvery ends (λ b. StopsFit b ss cause)) ends refusal

@@ -1,4 +1,4 @@
--- What the ends of a disk tell of its table, whatever lies between them.
+-- A read of a table, given only the ends of the disk.
 use Rattle.std.specs.Prelude.{◌≡◌, ◌≤◌, ◌<◌, ◌⊎◌, ◌+◌, ℕ, Bool, true, false, List, Ok, Err}
 use Rattle.gptman.specs.Copy.{array_result, copy_at, header_result}
 use Rattle.gptman.specs.Fault.{fault_of, out_of_memory}
@@ -17,28 +17,28 @@ use Rattle.gptman_plan.specs.declared.reading.Place.TheVariants.{At, Unknown}
 use Rattle.gptman_plan.specs.declared.reading.Reading.{Reading}
 use Rattle.gptman_plan.specs.declared.reading.Reading.TheVariants.{Table, Fault, Lacks}
 
--- it holds of every disk with these ends
+-- the property holds for every disk with these ends
 abbrev pub OfEvery : Ends → (List ℕ → Type 0) → Type 0
 OfEvery ends P = (b : List ℕ) → IsDiskOf ends b → P b
 
--- the disk has these bytes, and neither end has them all
+-- the range is on the disk, and neither end has all of it
 abbrev pub IsLack : Ends → Lack → Type 0
 IsLack ends lack = (¬ HaveRange ends (lack.from, lack.length)) × (lack.from + lack.length ≤ ends.size)
 
--- Neither end has all of these bytes, which are one of the places of every disk with these ends.
+-- Neither end has all of the range, which is one of these places on every disk with these ends.
 pub record IsLackOf (places : List ℕ → List (ℕ × ℕ)) (ends : Ends) (lack : Lack) : Type 0 where
   pub lacking : IsLack ends lack
   pub among : OfEvery ends (λ b. IsAmong (lack.from, lack.length) (places b))
 
--- every such disk has there, at byte p, the header of the one with zeros, or its fault
+-- every disk with these ends has at byte p the same header, or the same fault, as the disk with zeros
 abbrev pub IsHeaderTold : Ends → ℕ → Type 0
 IsHeaderTold ends p = OfEvery ends (λ b. header_result b p ≡ header_result (zeroed ends) p)
 
--- the entries of this header are the same on each of them, or their fault is
+-- every disk with these ends has the same entries for this header, or the same fault, as the disk with zeros
 abbrev pub IsArrayTold : Ends → ℕ → GPTHeader → Type 0
 IsArrayTold ends ss h = OfEvery ends (λ b. array_result b ss h ≡ array_result (zeroed ends) ss h)
 
--- the copy at byte p is
+-- every disk with these ends has at byte p the same copy, or the same fault, as the disk with zeros
 abbrev pub IsCopyTold : Ends → ℕ → ℕ → Type 0
 IsCopyTold ends p ss = OfEvery ends (λ b. copy_at b p ss ≡ copy_at (zeroed ends) p ss)
 
@@ -46,17 +46,17 @@ abbrev pub side_of : Bool → Side
 side_of true = backup
 side_of false = primary
 
--- Every such disk is read as the one with zeros, from this side.
+-- A read of every disk with these ends has the same result, from this side, as a read of the disk with zeros.
 pub record IsToldAt (ends : Ends) (ss : ℕ) (side : Side) : Type 0 where
   pub reading : OfEvery ends (λ b. reading_of b ss ≡ reading_of (zeroed ends) ss)
   pub from : OfEvery ends (λ b. taken_from b ss ≡ side)
 
--- where the copy is that a reading takes, or what the ends lack
+-- the place of the copy that a read selects, or a range that the ends do not have
 abbrev pub IsPlace : Ends → ℕ → Place → Type 0
 IsPlace ends ss (At is_backup) = IsToldAt ends ss (side_of is_backup)
 IsPlace ends ss (Unknown lack) = IsLackOf (λ b. reading_ranges b ss) ends lack
 
--- Every such disk is read as this table, from this side.
+-- A read of every disk with these ends returns this table, from this side.
 pub record IsTable (ends : Ends) (ss : ℕ) (table : GPT) (is_backup : Bool) : Type 0 where
   pub reading : OfEvery ends (λ b. reading_of b ss ≡ Ok (copy_of table))
   pub from : OfEvery ends (λ b. taken_from b ss ≡ side_of is_backup)
@@ -64,14 +64,15 @@ pub record IsTable (ends : Ends) (ss : ℕ) (table : GPT) (is_backup : Bool) : T
   pub value : IsAsRead table
   pub align : 0 < table.align
 
--- Every such disk is read as this table, from a copy that is in the form of its place, and the table has the stated layout.
+-- A read of every disk with these ends returns this table, from a copy in the form of its place, and the table has the
+-- stated layout.
 pub record IsStatedTable (ends : Ends) (ss : ℕ) (table : GPT) : Type 0 where
   pub is_backup : Bool
   pub read : IsTable ends ss table is_backup
   pub form : IsHeaderForm (side_of is_backup) table.header
   pub laid : IsLaidOut (table_in table) ss ends.size
 
--- What the ends tell: the table, or the fault, of every such disk; or what they lack.
+-- The result of a read: the same table or fault for every disk with these ends, or a range that they do not have.
 abbrev pub IsReading : Ends → ℕ → Reading → Type 0
 IsReading ends ss (Table table is_backup) = IsTable ends ss table is_backup
 IsReading ends ss (Fault e) = (fault_of e ≡ out_of_memory) ⊎ OfEvery ends (λ b. reading_of b ss ≡ Err (fault_of e))

@@ -1,5 +1,5 @@
-//! A look at both copies of a table of which only the ends of the disk are known. What is told holds of every disk
-//! with these ends, as in a reading.
+//! Checks both copies of a table, given only the ends of the disk. As for a read, the result holds for every disk with
+//! these ends.
 
 ghost use Rattle.std.specs.Prelude.{◌≡◌, ◌≤◌, ◌<◌, ◌+◌, ◌↔◌, length, IfErr, IfOk, IsTrue, MatchOption};
 ghost use Rattle.gptman.specs.Answers.{answer_of};
@@ -18,17 +18,19 @@ use gptman::copy::{WholeCopy, last_sector};
 use gptman::{BothCopies, Result};
 use std::alloc::Global;
 
-/// What the ends tell of both copies.
+/// The result of a check.
 #[derive(Clone, Copy)]
 pub enum Look {
     Told(Check),
     Unknown(Lack),
 }
 
-/// What every disk of that size with these ends has at both places; or bytes that are lacking. There may be no
-/// memory.
+/// Checks both places, with the same result for every disk of this size with these ends, or returns a range that is
+/// missing. The sector size is in bytes.
 ///
-/// The sector size is in bytes.
+/// # Errors
+///
+/// `OutOfMemory` if an allocation fails.
 pub fn look_at_both(alloc: Global, ends: &Ends, sector_size: u64) -> Result<Look>
     requires sector { 0 < sector_size }
     ensures look { IfOk result (IsLook ends.now sector_size) }
@@ -41,7 +43,7 @@ pub fn look_at_both(alloc: Global, ends: &Ends, sector_size: u64) -> Result<Look
     Ok(Look::Told(check_of(&copies)))
 }
 
-// What the ends lack of the two copies.
+// Returns a range of the two copies that the ends do not have.
 fn lack_of_copies(ends: &Ends, sector_size: u64) -> Option<Lack>
     requires sector { 0 < sector_size }
     ensures told { MatchOption result (AreCopiesTold ends.now sector_size)
@@ -57,7 +59,7 @@ fn lack_of_copies(ends: &Ends, sector_size: u64) -> Option<Lack>
     lack_of_copy(ends, at, sector_size)
 }
 
-// Both copies of the disk with zeros between the ends. There may be no memory.
+// Reads both copies of the disk with zeros between the ends. Fails only with `OutOfMemory`.
 fn find_both(alloc: Global, ends: &Ends, sector_size: u64) -> Result<BothCopies>
     requires sector { 0 < sector_size }
     ensures found { IfOk result (AreFoundIn (zeroed ends.now) sector_size) }
@@ -67,7 +69,7 @@ fn find_both(alloc: Global, ends: &Ends, sector_size: u64) -> Result<BothCopies>
     gptman::check(alloc, &mut disk, sector_size)
 }
 
-// What is told of them.
+// Converts the result for C.
 fn check_of(copies: &BothCopies) -> Check
     ensures primary { result.primary_fault ≡ number_in (answer_of copy_of_whole copies.now.primary) }
     ensures backup { result.backup_fault ≡ number_in (answer_of copy_of_whole copies.now.backup) }
@@ -81,7 +83,7 @@ fn check_of(copies: &BothCopies) -> Check
     }
 }
 
-// The number of the fault of a copy, or 0 where it has none.
+// Returns the number of the fault of a copy, or 0.
 fn fault_in(copy: &Result<WholeCopy>) -> u32
     ensures { result ≡ number_in (answer_of copy_of_whole copy.now) }
 {

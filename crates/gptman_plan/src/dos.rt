@@ -1,4 +1,4 @@
-//! A disk whose first sector has partitions of its own: the table that DOS knows.
+//! Recognises a first sector with its own partitions: the partition table of DOS.
 
 ghost use Rattle.std.specs.Prelude.{◌≡◌, ◌≢◌, ◌≤◌, ◌<◌, ◌⊎◌, ◌↔◌, ◌+◌, get_or, length, IsTrue};
 ghost use Rattle.gptman_plan.specs.Dos.{AreMarked, AreUnprotected, HasBootMark, HasLength, HasUsed};
@@ -8,7 +8,7 @@ use crate::ends::Ends;
 use crate::reader::EndsReader;
 use crate::reading::{Lack, lack_of};
 
-/// What the ends tell of the first sector.
+/// The kind of the first sector, or the range that decides it.
 #[derive(Clone, Copy)]
 pub enum Seen {
     Clear,
@@ -16,7 +16,8 @@ pub enum Seen {
     Unknown(Lack),
 }
 
-/// Whether the first sector of every disk of that size with these ends has partitions of its own, or of none has.
+/// Reports whether the first sector has its own partitions, if that is the same on every disk of this size with these
+/// ends.
 pub fn look_for_dos(ends: &Ends) -> Seen
     ensures { IsSeen ends.now result }
 {
@@ -36,7 +37,7 @@ pub fn look_for_dos(ends: &Ends) -> Seen
     }
 }
 
-// Whether these bytes of a first sector are an MBR with partitions of its own.
+// Reports whether these bytes of a first sector are an MBR with its own partitions.
 fn is_dos_sector(sector: &[u8; 512]) -> bool
     ensures { IsTrue result ↔ IsDosSector sector.now }
 {

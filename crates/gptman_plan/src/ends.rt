@@ -1,8 +1,8 @@
-//! What is known of a disk: its first and its last bytes, and its length.
+//! The ends of a disk: its first and last bytes, and its length.
 
 ghost use Rattle.std.specs.Prelude.{◌≡◌, ◌≤◌, ◌<◌, ◌+◌, ◌^◌, length, MatchOption};
 
-/// The first and the last bytes of a disk, and its length in bytes. The two do not overlap.
+/// The first and the last bytes of a disk, which do not overlap, and its length in bytes.
 #[derive(Clone, Copy)]
 pub struct Ends<'a> {
     pub head: &'a [u8],
@@ -13,9 +13,7 @@ pub struct Ends<'a> {
 }
 
 impl<'a> Ends<'a> {
-    /// The ends of a disk of `size` bytes.
-    ///
-    /// Returns `None` if the two together are longer than the disk.
+    /// Returns the ends of a disk of `size` bytes, or `None` if the two together are longer than the disk.
     pub fn new(head: &'a [u8], tail: &'a [u8], size: u64) -> Option<Self>
         ensures { MatchOption result (size < length head.now + length tail.now)
             (λ ends. (ends.head.now ≡ head.now) × (ends.tail.now ≡ tail.now) × (ends.size ≡ size)) }

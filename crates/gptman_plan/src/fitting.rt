@@ -1,4 +1,4 @@
-//! The plan of a write of the table that a disk holds, fitted to the length that it has now.
+//! Plans a write of the table on a disk, fitted to the present length.
 
 ghost use Rattle.std.specs.Prelude.{◌≡◌, ◌≤◌, ◌<◌, ◌+◌, ℕ, List, length, IfErr, IfOk, None};
 ghost use Rattle.gptman.specs.Copy.{IsCoherent};
@@ -19,7 +19,7 @@ use crate::tables::plan_table;
 use gptman::GPT;
 use std::alloc::Global;
 
-/// The steps that write the table that the ends hold, fitted to a disk of that size. The sector size is in bytes.
+/// Returns the steps that write the table in the ends, fitted to a disk of their size. The sector size is in bytes.
 pub fn plan_fit(alloc: Global, ends: &Ends, sector_size: u64) -> Result<Record, Refusal>
     requires sector { 0 < sector_size }
     ensures plan { IfOk result (λ plan. OfEvery ends.now
@@ -40,7 +40,7 @@ pub fn plan_fit(alloc: Global, ends: &Ends, sector_size: u64) -> Result<Record, 
     plan_table(alloc, ends, fitted)
 }
 
-// The table with its header fitted to a disk of that size.
+// Returns the table with its header fitted to the size of the disk.
 fn fit(ends: &Ends, mut table: GPT) -> Result<GPT, Refusal>
     requires sector { 0 < table.sector_size }
     ensures value { IfOk result (λ g. g ≡ grow_to table ends.now.size) }

@@ -1,4 +1,4 @@
-//! Whether a table that was read has the stated layout.
+//! Tests whether a table that was read has the stated layout.
 
 ghost use Rattle.std.specs.Prelude.{◌≡◌, ◌<◌, ◌↔◌, ◌+◌, IsTrue};
 ghost use Rattle.gptman.specs.Layout.{HasLayout, HasRightSectors, IsLaidOut};
@@ -8,7 +8,8 @@ ghost use Rattle.gptman_plan.specs.Reading.{side_of};
 
 use gptman::{GPT, GPTHeader};
 
-/// Whether the two headers of the table are those of sector 1 and of the last whole sector of a disk of so many bytes.
+/// Reports whether the two headers of the table are those of sector 1 and of the last whole sector of a disk of `size`
+/// bytes.
 pub fn is_made_for(table: &GPT, size: u64) -> bool
     requires { 0 < table.now.sector_size }
     ensures { IsTrue result ↔ HasRightSectors (table_in table.now) table.now.sector_size size }
@@ -19,8 +20,7 @@ pub fn is_made_for(table: &GPT, size: u64) -> bool
         && header.primary_lba.max(header.backup_lba) == last.max(1)
 }
 
-/// Whether the table has the stated layout on a disk of so many bytes, and its header is that of the backup copy or
-/// of the primary one.
+/// Reports whether the table has the stated layout on a disk of `size` bytes, and its header the form of its place.
 pub fn is_stated(table: &GPT, is_backup: bool, size: u64) -> bool
     ensures { IsTrue result ↔ (IsHeaderForm (side_of is_backup) table.now.header
         × IsLaidOut (table_in table.now) table.now.sector_size size) }
@@ -28,7 +28,7 @@ pub fn is_stated(table: &GPT, is_backup: bool, size: u64) -> bool
     is_of_side(&table.header, is_backup) && table.has_layout(size)
 }
 
-/// Whether the header is that of the backup copy, or of the primary one.
+/// Reports whether the header has the form of the backup copy, or of the primary one.
 pub fn is_of_side(header: &GPTHeader, is_backup: bool) -> bool
     ensures { IsTrue result ↔ IsHeaderForm (side_of is_backup) header.now }
 {

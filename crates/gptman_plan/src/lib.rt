@@ -1,8 +1,7 @@
-//! What the first and the last bytes of a disk tell of its table, and the steps of a write over them: for callers
-//! that read and write the disk themselves, as those of the library for C. What is told holds of every disk with
-//! these ends.
+//! Reads a table, and plans the steps of a write, given only the first and last bytes of a disk. It is for callers that
+//! do the I/O themselves, as those of the library for C. The results hold for every disk with these ends.
 //!
-//! Nothing is kept between two calls.
+//! No state is kept between two calls.
 #![tactic(auto)]
 
 pub mod checking;

@@ -1,4 +1,4 @@
-//! The plan of a new table.
+//! Plans a write of a new table.
 
 ghost use Rattle.std.specs.Prelude.{◌≡◌, ◌≤◌, ◌<◌, ◌+◌, ℕ, List, length, IfErr, IfOk};
 ghost use Rattle.gptman.specs.Table.{new_table_of};
@@ -15,7 +15,8 @@ use crate::tables::plan_table;
 use gptman::GPT;
 use std::alloc::Global;
 
-/// The steps that write a new table of so many unused entries to a disk with these ends.
+/// Returns the steps that write a new table of `count` unused entries to a disk with these ends. The sector size is in
+/// bytes.
 pub fn plan_new(
     alloc: Global,
     ends: &Ends,
@@ -39,7 +40,7 @@ pub fn plan_new(
     plan_table(alloc, ends, table)
 }
 
-// A new table for a disk of this size.
+// Returns a new table for a disk of this size.
 fn make(
     alloc: Global,
     ends: &Ends,

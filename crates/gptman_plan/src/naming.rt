@@ -10,9 +10,11 @@ use crate::records::Partition;
 use gptman::{PartitionName, Result};
 use std::alloc::Global;
 
-/// The name of a partition.
+/// Returns the name of a partition.
 ///
-/// `OutOfMemory` where there is no memory for its text.
+/// # Errors
+///
+/// `OutOfMemory` if its text cannot be allocated.
 pub fn name_of(alloc: Global, partition: &Partition) -> Result<PartitionName>
     ensures text { IfOk result (λ name. name.text ≡ name_text partition.now.name) }
     ensures refused { IfErr result (λ e. fault_of e ≡ out_of_memory) }
@@ -20,9 +22,11 @@ pub fn name_of(alloc: Global, partition: &Partition) -> Result<PartitionName>
     PartitionName::from_units(alloc, partition.name)
 }
 
-/// The units of the name with this text, if its 36 units are read as the whole text.
+/// Returns the 36 units of a name with this text, or `None` if a read of them would not return the whole text.
 ///
-/// `OutOfMemory` where there is no memory for the text.
+/// # Errors
+///
+/// `OutOfMemory` if an allocation fails.
 pub fn units_for(alloc: Global, text: &str) -> Result<Option<[u16; 36]>>
     ensures units { IfOk result (λ found. MatchOption found
         (name_text (units_of (chars text.now)) ≢ text.now)
@@ -38,7 +42,7 @@ pub fn units_for(alloc: Global, text: &str) -> Result<Option<[u16; 36]>>
     Ok(Some(units))
 }
 
-/// Lays these bytes and a zero into the first places of the array, where it has room for them.
+/// Copies these bytes and a zero to the start of the array, and reports whether it was long enough.
 pub fn lay_text(bytes: &[u8], text: &mut [u8]) -> bool
     ensures laid { result ≡ true → text.new ≡ bytes.now ++ 0 ∷ drop (length bytes.now + 1) text.old }
     ensures room { result ≡ false → length text.old ≤ length bytes.now }

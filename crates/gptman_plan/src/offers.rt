@@ -1,4 +1,4 @@
-//! Places that are free for a partition.
+//! Finds free places for a partition.
 
 ghost use Rattle.std.specs.Prelude.{◌≡◌, ◌≤◌, ◌<◌, ◌^◌, length, IfErr, IfOk};
 ghost use Rattle.gptman.specs.Fault.{fault_of, out_of_memory};
@@ -9,10 +9,12 @@ use crate::records::{Partition, Table};
 use gptman::{GPT, GPTHeader, Result};
 use std::alloc::Global;
 
-/// The place with room for so many sectors that is chosen, if there is one: 1 is the first, 2 the last, and 3 the
-/// one in the smallest slot of free sectors that has room.
+/// Returns the chosen place for `size` sectors, if there is one: 1 is the first, 2 the last, and 3 the one in the
+/// smallest free range that is large enough.
 ///
-/// `OutOfMemory` where there is no memory to find it.
+/// # Errors
+///
+/// `OutOfMemory` if an allocation fails.
 pub fn find_place(
     alloc: Global,
     table: &Table,
@@ -35,7 +37,7 @@ pub fn find_place(
     }
 }
 
-// A header with the bounds of this table, and nothing else.
+// Returns a header with these bounds, and no other valid field.
 fn bounds_of(table: &Table) -> GPTHeader
     ensures low { result.first_usable_lba ≡ table.now.first_usable_lba }
     ensures high { result.last_usable_lba ≡ table.now.last_usable_lba }

@@ -1,4 +1,4 @@
-//! Entries as C has them.
+//! Entries in the form of C.
 
 ghost use Rattle.std.specs.Prelude.{◌≡◌, ◌≤◌, IfErr, IfOk, length, map, take};
 ghost use Rattle.gptman.specs.Fault.{fault_of, out_of_memory};
@@ -9,7 +9,7 @@ use crate::records::Partition;
 use gptman::{GPT, GPTPartitionEntry, PartitionName, Result};
 use std::alloc::Global;
 
-/// The entry as C has it.
+/// Converts an entry to the form of C.
 pub fn partition_of(entry: &GPTPartitionEntry) -> Partition
     ensures { result ≡ partition_of entry.now }
 {
@@ -23,7 +23,7 @@ pub fn partition_of(entry: &GPTPartitionEntry) -> Partition
     }
 }
 
-/// Lays the entries of the table into the first places of the array, which has room for them.
+/// Stores the entries of the table at the start of the array, which must be long enough.
 #[tactic(auto, using(crate::proofs::Numbered::map_numbered))]
 pub fn fill(table: &GPT, partitions: &mut [Partition])
     requires { length (entries_in table.now) ≤ length partitions.old }
@@ -37,9 +37,11 @@ pub fn fill(table: &GPT, partitions: &mut [Partition])
     }
 }
 
-/// The entries that these are, with all units of their names.
+/// Converts partitions to entries, with all units of their names.
 ///
-/// `OutOfMemory` where there is no memory for them.
+/// # Errors
+///
+/// `OutOfMemory` if an allocation fails.
 pub fn entries_of(alloc: Global, partitions: &[Partition]) -> Result<Vec<GPTPartitionEntry>>
     ensures entries { IfOk result (λ v. map content_in v.items ≡ map content_of partitions.now) }
     ensures len { IfOk result (λ v. length v.items ≡ length partitions.now) }
@@ -52,7 +54,7 @@ pub fn entries_of(alloc: Global, partitions: &[Partition]) -> Result<Vec<GPTPart
     Ok(entries)
 }
 
-// The entry that this is.
+// Converts a partition to an entry.
 fn entry_of(alloc: Global, partition: &Partition) -> Result<GPTPartitionEntry>
     ensures content { IfOk result (λ e. content_in e ≡ content_of partition.now) }
     ensures refused { IfErr result (λ e. fault_of e ≡ out_of_memory) }

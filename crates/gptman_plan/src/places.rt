@@ -1,4 +1,4 @@
-//! What the ends have to show for a write.
+//! Tests whether the ends have the ranges that a write needs.
 
 ghost use Rattle.std.specs.Prelude.{◌≡◌, ◌≤◌, ◌<◌, ◌⊎◌, ◌+◌, ◌++◌, [], ◌∷◌, length, IfSome, MatchOption};
 ghost use Rattle.gptman.specs.Layout.{copy_ranges_at};
@@ -17,7 +17,8 @@ use gptman::GPT;
 use gptman::copy::last_sector;
 use gptman::disk::passes_end;
 
-/// What the ends lack of the four ranges of the table, if these are all on the disk.
+/// Returns the first of the four ranges of the table that is on the disk and that the ends do not have. A table that
+/// passes the end of the disk is refused elsewhere.
 pub fn lack_of_places(ends: &Ends, table: &GPT) -> Option<Lack>
     requires sector { 0 < table.now.sector_size }
     requires room { table.now.sector_size ≤ ends.now.size }
@@ -45,7 +46,7 @@ pub fn lack_of_places(ends: &Ends, table: &GPT) -> Option<Lack>
     lack_of_both(ends, header, start, array)
 }
 
-// What the ends lack of a header and of an array of so many bytes, where these are on the disk.
+// Returns the header or the array, of `array` bytes, if it is on the disk and the ends do not have it.
 fn lack_of_both(ends: &Ends, header: u64, start: u64, array: u64) -> Option<Lack>
     ensures known { MatchOption result
         ((header + 92 ≤ ends.now.size → HaveRange ends.now (header, 92))
@@ -61,7 +62,7 @@ fn lack_of_both(ends: &Ends, header: u64, start: u64, array: u64) -> Option<Lack
     lack_inside(ends, start, array)
 }
 
-// What the ends lack of so many bytes, where these are on the disk.
+// Returns the range if it is on the disk and the ends do not have it.
 fn lack_inside(ends: &Ends, from: u64, len: u64) -> Option<Lack>
     ensures known { MatchOption result
         (from + len ≤ ends.now.size → HaveRange ends.now (from, len))

@@ -1,4 +1,4 @@
-//! The plan of a write: what is read from the ends, and the steps that change it.
+//! Plans a write of the table that was read from the ends, with other entries.
 
 ghost use Rattle.std.specs.Prelude.{◌≡◌, ◌≤◌, ◌<◌, ◌+◌, ℕ, List, length, IfErr, IfOk};
 ghost use Rattle.gptman.specs.Copy.{IsCoherent};
@@ -25,7 +25,7 @@ use crate::writing::rewrite;
 use gptman::{Error, GPT};
 use std::alloc::Global;
 
-/// Why nothing is planned.
+/// The reason why there is no plan.
 #[derive(Drop)]
 pub enum Refusal {
     BadArgument,
@@ -35,7 +35,7 @@ pub enum Refusal {
     OtherLayout,
 }
 
-/// The steps that write the table that the ends hold, with these for its entries. The sector size is in bytes.
+/// Returns the steps that write the table in the ends with these entries. The sector size is in bytes.
 pub fn plan(
     alloc: Global,
     ends: &Ends,
@@ -60,7 +60,7 @@ pub fn plan(
     record_write(alloc, ends, &table, partitions)
 }
 
-// The table that the ends hold, where it has the stated layout.
+// Reads the table in the ends, which must have the stated layout.
 fn read_stated(alloc: Global, ends: &Ends, sector_size: u64) -> Result<GPT, Refusal>
     requires sector { 0 < sector_size }
     ensures table { IfOk result (IsStatedTable ends.now sector_size) }
@@ -82,7 +82,7 @@ fn read_stated(alloc: Global, ends: &Ends, sector_size: u64) -> Result<GPT, Refu
     Ok(table)
 }
 
-// The steps that write this table, with these for its entries, to the disk with zeros between its ends.
+// Returns the steps that write this table with these entries to the disk with zeros between its ends.
 fn record_write(
     alloc: Global,
     ends: &Ends,

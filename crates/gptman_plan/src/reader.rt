@@ -1,4 +1,4 @@
-//! A disk of which the first and the last bytes are known, for reading. Between them it has zeros.
+//! A disk for reading, given only its ends, with zeros between them.
 
 ghost use Rattle.std.specs.Prelude.{◌≡◌, ◌≤◌, ◌<◌, ◌+◌, [], length, get_or, None};
 ghost use Rattle.gptman.specs.Bytes.{part};
@@ -9,27 +9,27 @@ use gptman::Disk;
 use gptman::disk::{count_failure, passes_end, past_end};
 use std::io;
 
-/// Bytes that a write left torn.
+/// The range of a write that failed.
 #[derive(Clone, Copy)]
 pub struct Torn {
     pub at: u64,
     pub length: u64,
 }
 
-/// A disk of which the ends are known. It is for reading: a write that is tried leaves its bytes torn, and each write and
-/// sync from then on fails. Of one that was only read no call has failed.
+/// A disk for reading, given only its ends. The first write fails and leaves its range torn, and from then on each
+/// write and sync fails. As long as it is only read, no call has failed.
 #[derive(Drop)]
 pub struct EndsReader<'a> {
     pub ends: Ends<'a>,
     pub position: u64,
-    // The bytes of the first write that was tried.
+    // The range of the first write.
     pub torn: Option<Torn>,
     pub failures: u64,
     ghost unfailed: { torn_ranges torn ≡ [] → failures ≡ 0 },
 }
 
 impl<'a> EndsReader<'a> {
-    /// A disk with these ends.
+    /// Returns a disk with these ends.
     pub fn new(ends: &Ends<'a>) -> Self
         ensures ends { result.ends ≡ ends.now }
         ensures position { result.position ≡ 0 }
@@ -43,7 +43,7 @@ impl<'a> EndsReader<'a> {
         }
     }
 
-    // The byte at this place.
+    // Returns the byte at this position.
     fn byte_at(&self, at: u64) -> u8
         requires { at < self.now.ends.size }
         ensures { result ≡ get_or (zeroed self.now.ends) at 0 }
@@ -59,7 +59,7 @@ impl<'a> EndsReader<'a> {
         }
     }
 
-    /// Fills the buffer from the position on.
+    /// Fills `buf` with the bytes from the position.
     pub fn fill(&self, buf: &mut [u8])
         requires { self.now.position + length buf.old ≤ self.now.ends.size }
         ensures { buf.new ≡ part (zeroed self.now.ends) self.now.position (length buf.old) }

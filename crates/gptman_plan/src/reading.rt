@@ -1,5 +1,5 @@
-//! Reading a table of which only the ends of its disk are known. What is answered holds of every disk with
-//! these ends, though it is read from the one with zeros between them.
+//! Reads a table, given only the ends of its disk. It reads the disk with zeros between the ends, but only if the
+//! result is the same for every disk with these ends.
 
 ghost use Rattle.std.specs.Prelude.{◌≡◌, ◌≤◌, ◌<◌, ◌⊎◌, ◌+◌, length, is_ok, IfErr, IfOk};
 ghost use Rattle.std.specs.Prelude.{IfSome, IsErr, MatchOption, Ok};
@@ -19,14 +19,14 @@ use gptman::disk::passes_end;
 use gptman::{Error, GPT, GPTHeader, Result};
 use std::alloc::Global;
 
-/// Bytes of the disk that neither end has.
+/// A range of the disk that neither end has all of.
 #[derive(Clone, Copy)]
 pub struct Lack {
     pub from: u64,
     pub length: u64,
 }
 
-/// What the ends tell of a table.
+/// The result of a read.
 #[derive(Drop)]
 pub enum Reading {
     Table { table: GPT, is_backup: bool },
@@ -34,16 +34,15 @@ pub enum Reading {
     Lacks(Lack),
 }
 
-// Where the copy is that a reading takes, if the ends tell it.
+// The place of the copy that a read selects, or the range that decides it.
 #[derive(Clone, Copy)]
 enum Place {
     At { is_backup: bool },
     Unknown(Lack),
 }
 
-/// The table of every disk of that size with these ends, or its fault; or bytes that are lacking.
-///
-/// The sector size is in bytes. `OutOfMemory` is no fault of the disk.
+/// Reads the table, with the same result for every disk of this size with these ends, or returns a range that is
+/// missing. The sector size is in bytes. `OutOfMemory` is not a fault of the disk.
 pub fn read(alloc: Global, ends: &Ends, sector_size: u64) -> Reading
     requires sector { 0 < sector_size }
     ensures reading { IsReading ends.now sector_size result }
@@ -59,7 +58,7 @@ pub fn read(alloc: Global, ends: &Ends, sector_size: u64) -> Reading
     }
 }
 
-// Where the copy is that a reading takes, if the ends tell it. There may be no memory.
+// Finds the place of the copy that a read selects. Fails only with `OutOfMemory`.
 fn find_place(alloc: Global, ends: &Ends, sector_size: u64) -> Result<Place>
     requires sector { 0 < sector_size }
     ensures place { IfOk result (IsPlace ends.now sector_size) }
@@ -81,7 +80,7 @@ fn find_place(alloc: Global, ends: &Ends, sector_size: u64) -> Result<Place>
     }
 }
 
-// The table of the disk with zeros between the ends.
+// Reads the table of the disk with zeros between the ends.
 fn read_table(alloc: Global, ends: &Ends, sector_size: u64) -> Result<GPT>
     requires sector { 0 < sector_size }
     ensures answer { Refuses result out_of_memory
@@ -94,7 +93,7 @@ fn read_table(alloc: Global, ends: &Ends, sector_size: u64) -> Result<GPT>
     GPT::read_from(alloc, &mut disk, sector_size)
 }
 
-// Whether that disk has a copy without fault at the primary place. There may be no memory.
+// Reports whether that disk has a good primary copy. Fails only with `OutOfMemory`.
 fn has_primary(alloc: Global, ends: &Ends, sector_size: u64) -> Result<bool>
     requires sector { 0 < sector_size }
     ensures answer { IfOk result (λ yes. yes
@@ -110,7 +109,7 @@ fn has_primary(alloc: Global, ends: &Ends, sector_size: u64) -> Result<bool>
     }
 }
 
-/// What the ends lack of the copy whose header is at this byte.
+/// Returns a range that the ends do not have, of the copy whose header is at this byte.
 pub fn lack_of_copy(ends: &Ends, at: u64, sector_size: u64) -> Option<Lack>
     ensures told { MatchOption result (IsCopyTold ends.now at sector_size)
         (IsLackOf (λ b. copy_ranges b sector_size at) ends.now) }
@@ -125,7 +124,7 @@ pub fn lack_of_copy(ends: &Ends, at: u64, sector_size: u64) -> Option<Lack>
     lack_of_entries(&header, ends, sector_size)
 }
 
-// The header at this byte of that disk, if it has no fault.
+// Reads the header at this byte of that disk, if it is good.
 fn header_at(ends: &Ends, at: u64) -> Option<GPTHeader>
     ensures answer { MatchOption result (IsErr (header_result (zeroed ends.now) at))
         (λ h. header_result (zeroed ends.now) at ≡ Ok h) }
@@ -135,7 +134,7 @@ fn header_at(ends: &Ends, at: u64) -> Option<GPTHeader>
     GPTHeader::read_from(&mut disk).ok()
 }
 
-// What the ends lack of the entries of this header.
+// Returns the range of the entries of this header, if the ends do not have it.
 fn lack_of_entries(header: &GPTHeader, ends: &Ends, sector_size: u64) -> Option<Lack>
     ensures told { MatchOption result (IsArrayTold ends.now sector_size header.now)
         (IsLackOf (λ _. entries_range sector_size (Ok header.now)) ends.now) }
@@ -151,7 +150,7 @@ fn lack_of_entries(header: &GPTHeader, ends: &Ends, sector_size: u64) -> Option<
     lack_of(ends, start, len)
 }
 
-// The range itself, where neither end has all of it.
+// Returns the range if neither end has all of it.
 pub fn lack_of(ends: &Ends, from: u64, len: u64) -> Option<Lack>
     requires inside { from + len ≤ ends.now.size }
     ensures known { MatchOption result (HaveRange ends.now (from, len))

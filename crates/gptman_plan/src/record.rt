@@ -7,7 +7,7 @@ ghost use Rattle.gptman_plan.specs.Plan.Act.{lay, store};
 use crate::records::Step;
 use std::alloc::Global;
 
-/// Writes and syncs of a disk of this size, in order.
+/// Writes and syncs of a disk of this size in bytes, in order.
 #[derive(Drop)]
 pub struct Record {
     pub size: u64,
@@ -18,7 +18,7 @@ pub struct Record {
 }
 
 impl Record {
-    /// No step. It takes no memory.
+    /// Returns a record without steps. It allocates nothing.
     pub fn new(alloc: Global, size: u64) -> Self
         ensures acts { acts_of result.bytes.items result.steps.items ≡ [] }
         ensures size { result.size ≡ size }
@@ -30,7 +30,7 @@ impl Record {
         }
     }
 
-    /// One write more, where there is memory for it.
+    /// Adds a write, and reports whether it could be allocated.
     pub fn write(&mut self, at: u64, buf: &[u8]) -> bool
         requires { at + length buf.now ≤ self.old.size }
         ensures done { result ≡ true → acts_of self.new.bytes.items self.new.steps.items
@@ -54,7 +54,7 @@ impl Record {
         true
     }
 
-    /// One sync more, where there is memory for it.
+    /// Adds a sync, and reports whether it could be allocated.
     pub fn sync(&mut self) -> bool
         ensures done { result ≡ true → acts_of self.new.bytes.items self.new.steps.items
             ≡ acts_of self.old.bytes.items self.old.steps.items ++ store ∷ [] }
@@ -71,7 +71,7 @@ impl Record {
         self.steps.push(step).is_ok()
     }
 
-    /// Lays the steps and their bytes into these, where they have room for it.
+    /// Copies the steps and their bytes into these arrays, and reports whether they were long enough.
     pub fn give(&self, steps: &mut [Step], bytes: &mut [u8]) -> bool
         ensures given { result ≡ true → acts_of bytes.new (take (length self.now.steps.items) steps.new)
             ≡ acts_of self.now.bytes.items self.now.steps.items }

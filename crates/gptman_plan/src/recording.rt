@@ -1,5 +1,4 @@
-//! A disk that records what is to be written to it. Its first and its last bytes are known, and it has zeros between
-//! them.
+//! A disk that records its writes and syncs, given only its ends, with zeros between them.
 
 ghost use Rattle.std.specs.Prelude.{◌≡◌, [], length};
 ghost use Rattle.gptman_plan.specs.Ends.{zeroed};
@@ -12,20 +11,20 @@ use gptman::disk::{count_failure, passes_end, past_end};
 use std::alloc::Global;
 use std::io;
 
-/// A disk that records writes and syncs. It is not read.
+/// A disk that records writes and syncs. A read from it fails.
 #[derive(Drop)]
 pub struct Recorder<'a> {
     pub ends: Ends<'a>,
     pub plan: Record,
     pub position: u64,
-    // How often there was no memory for a step.
+    // The number of reads, and of steps that could not be allocated.
     pub failures: u64,
     ghost long: { length (bytes_after (zeroed ends) (acts_of plan.bytes.items plan.steps.items)) ≡ ends.size },
     ghost same: { plan.size ≡ ends.size },
 }
 
 impl<'a> Recorder<'a> {
-    /// A disk with these ends, to which nothing was written.
+    /// Returns a disk with these ends, without steps.
     pub fn new(alloc: Global, ends: &Ends<'a>) -> Self
         ensures ends { result.ends ≡ ends.now }
         ensures acts { acts_of result.plan.bytes.items result.plan.steps.items ≡ [] }
@@ -40,7 +39,7 @@ impl<'a> Recorder<'a> {
         }
     }
 
-    /// What was recorded.
+    /// Returns the recorded steps.
     pub fn into_plan(self) -> Record
         ensures { result ≡ self.entry.plan }
     {

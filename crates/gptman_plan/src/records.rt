@@ -1,77 +1,77 @@
-//! What crosses to C.
+//! The structs that are shared with C.
 
-/// A table, but for its partitions.
+/// A table without its partitions.
 #[repr(C)]
 #[derive(Clone, Copy)]
 pub struct Table {
-    /// The GUID of the disk, as its 16 bytes stand there.
+    /// The GUID of the disk: its 16 bytes as on the disk.
     pub disk_guid: [u8; 16],
-    /// The first sector that a partition may use.
+    /// The first usable sector.
     pub first_usable_lba: u64,
-    /// The last one.
+    /// The last usable sector.
     pub last_usable_lba: u64,
-    /// Partitions begin at multiples of so many sectors.
+    /// The alignment in sectors: partitions begin at multiples of it.
     pub align: u64,
-    /// How many entries the table has, the unused ones included.
+    /// The number of entries, unused ones included.
     pub entry_count: u32,
-    /// 1 where the primary copy has a fault, and the table is that of the backup copy; else 0.
+    /// 1 if the primary copy has a fault and the backup copy was read, else 0.
     pub is_backup: u32,
 }
 
-/// An entry of a table. It is unused where the type's GUID is zero.
+/// An entry of a table. It is unused if the type GUID is zero.
 #[repr(C)]
 #[derive(Clone, Copy)]
 pub struct Partition {
-    /// The GUID of its type, as its 16 bytes stand on the disk.
+    /// The type GUID: its 16 bytes as on the disk.
     pub type_guid: [u8; 16],
-    /// Its own GUID.
+    /// The unique GUID.
     pub unique_guid: [u8; 16],
-    /// Its first sector.
+    /// The first sector.
     pub first_lba: u64,
-    /// Its last sector.
+    /// The last sector.
     pub last_lba: u64,
-    /// Its attributes, each a bit.
+    /// The attributes, one for each bit.
     pub attributes: u64,
-    /// Its name in UTF-16, with zeros behind it.
+    /// The name in UTF-16, padded with zeros.
     pub name: [u16; 36],
 }
 
-/// A step of a write: bytes to be written, or a sync.
+/// A step of a write: a write of bytes, or a sync.
 #[repr(C)]
 #[derive(Clone, Copy, PartialEq, Eq)]
 pub struct Step {
-    /// 1 is a write, 2 a sync.
+    /// 1 for a write, 2 for a sync.
     pub kind: u64,
-    /// The first byte of the disk that is written.
+    /// The first byte of the disk to write.
     pub offset: u64,
-    /// How many bytes are written.
+    /// The number of bytes to write.
     pub length: u64,
-    /// Where they begin in the buffer.
+    /// The position of these bytes in the array of bytes.
     pub start: u64,
 }
 
-/// How much a call needs: room for a plan, or bytes of the disk that the ends lack.
+/// What a call needs: room for a plan, or bytes of the disk that the ends do not have.
 #[repr(C)]
 #[derive(Clone, Copy)]
 pub struct Needed {
-    /// How many steps the plan has.
+    /// The number of steps in the plan.
     pub steps: u64,
-    /// How many bytes they write.
+    /// The number of bytes that they write.
     pub bytes: u64,
-    /// The first byte of the disk that is lacking.
+    /// The first missing byte of the disk.
     pub from: u64,
-    /// How many bytes are lacking from there.
+    /// The number of missing bytes from there.
     pub length: u64,
 }
 
-/// What the two copies of a table are, each by itself.
+/// The result of a check of both copies.
 #[repr(C)]
 #[derive(Clone, Copy)]
 pub struct Check {
-    /// The number of the fault of the copy in sector 1, or 0 where it has none.
+    /// The number of the fault of the copy in sector 1, or 0.
     pub primary_fault: u32,
-    /// The same of the copy in the last whole sector.
+    /// The number of the fault of the copy in the last whole sector, or 0.
     pub backup_fault: u32,
-    /// 1 where both places hold one table, each in the form of its place; else 0.
+    /// 1 if both places hold one table, each in the form of its place, else 0.
     pub are_same: u32,
 }

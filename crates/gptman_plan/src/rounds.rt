@@ -1,13 +1,13 @@
-//! How often a call can ask for bytes that the ends lack.
+//! A bound on how often calls ask for bytes that the ends do not have.
 
 ghost use Rattle.std.specs.Prelude.{◌≤◌, ℕ, List, ◌∷◌, length};
 ghost use Rattle.gptman.specs.declared.table.GPT.{GPT};
 ghost use Rattle.gptman_plan.specs.Asking.{fit_ranges, plan_ranges, value_ranges};
 ghost use Rattle.gptman_plan.specs.Rounds.{first_sector, reading_ranges, AreRounds, Round};
 
-/// Where each round of calls asks for one of these places, and every later one has what was asked for, there are at
-/// most as many rounds as places. A reading has four places at most, a plan of a new table five, and one of a table
-/// that is read nine. This call does nothing.
+/// A law: if each round of calls asks for one of these places, and the ends of every later round have it, there are at
+/// most as many rounds as places. A read has at most four places, a plan of a new table five, and a plan of a table
+/// that is read nine. The call does nothing.
 pub fn rounds_end()
     ensures rounds { (size : ℕ) (places : List (ℕ × ℕ)) (rounds : List Round)
         → AreRounds size places rounds → length rounds ≤ length places }

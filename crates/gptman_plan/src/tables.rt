@@ -1,4 +1,4 @@
-//! The plan of a table's write.
+//! Plans a write of a given table.
 
 ghost use Rattle.std.specs.Prelude.{◌≡◌, ◌≤◌, ◌<◌, ◌+◌, ℕ, List, length, IfErr, IfOk};
 ghost use Rattle.gptman.specs.Copy.{IsCoherent};
@@ -19,7 +19,7 @@ use crate::recording::Recorder;
 use gptman::{Error, GPT};
 use std::alloc::Global;
 
-/// The steps that write this table to a disk with these ends. It is refused where it has not the stated layout there.
+/// Returns the steps that write this table to a disk with these ends. Refuses a table without the stated layout there.
 pub fn plan_table(alloc: Global, ends: &Ends, table: GPT) -> Result<Record, Refusal>
     requires sector { 0 < table.sector_size }
     requires room { table.sector_size ≤ ends.now.size }
@@ -43,7 +43,7 @@ pub fn plan_table(alloc: Global, ends: &Ends, table: GPT) -> Result<Record, Refu
     Ok(plan)
 }
 
-// The steps that write this table to the disk with zeros between its ends.
+// Returns the steps that write this table to the disk with zeros between its ends.
 fn record_table(alloc: Global, ends: &Ends, mut table: GPT) -> Result<Record, Refusal>
     requires sector { 0 < table.sector_size }
     requires coherent { IsCoherent table.header (entries_in table) }

@@ -1,4 +1,4 @@
-//! What a call tells of the table that it read.
+//! Stores the table that was read where the caller expects it.
 
 ghost use Rattle.std.specs.Prelude.{◌≡◌, ◌≢◌, ◌<◌, ◌⊎◌, length, Ok};
 ghost use Rattle.gptman.specs.TableReads.{copy_of, IsAsRead};
@@ -10,7 +10,7 @@ use crate::partitions::fill;
 use crate::records::{Partition, Table};
 use gptman::GPT;
 
-/// Lays the table, and its entries where the array has room for them. The answer is 0, or `LACKS_ROOM`.
+/// Stores the table, and its entries if the array is long enough. Returns 0, or `LACKS_ROOM`.
 pub fn tell(found: &GPT, is_backup: bool, table: &mut Table, partitions: &mut [Partition]) -> u32
     requires { IsAsRead found.now }
     ensures told { result ≡ 0

@@ -1,4 +1,4 @@
-//! The write of a table, on a disk that records it.
+//! Writes a table with other entries, to any disk.
 
 ghost use Rattle.std.specs.Prelude.{◌≡◌, ◌<◌, ◌⊎◌, [], ◌∷◌, length, IfErr, IfOk, OnOk};
 ghost use Rattle.gptman.specs.Copy.{IsCoherent};
@@ -17,10 +17,11 @@ use gptman::table::laws::what_is_read_is_kept;
 use gptman::{Disk, GPT, Result};
 use std::alloc::Global;
 
-/// Writes the table that was read, with these for its entries, of which there are as many. Answers the table
-/// that was written.
+/// Writes the table that was read with these entries, as many as it has. Returns the table that was written.
 ///
-/// The errors are those of `GPT::write_into`.
+/// # Errors
+///
+/// Those of `GPT::write_into`.
 pub fn rewrite<D: Disk>(
     alloc: Global,
     disk: &mut D,
@@ -39,7 +40,7 @@ pub fn rewrite<D: Disk>(
         → OnOk result (Elapses (D.state disk.old) (D.state disk.new)) }
     ensures synced { IsHonest (D.state disk.old) → OnOk result ((D.state disk.new).pending ≡ []) }
 
-    // From one good copy.
+    // If the disk starts with one good copy.
     ensures holds { IsHonest (D.state disk.old) → (D.state disk.old).pending ≡ []
         → IsReadInForm (D.state disk.old).view table.now
         → IsLaidOut (with_partitions table.now partitions.now) table.now.sector_size (D.state disk.old).size

@@ -6,7 +6,7 @@ use Rattle.gptman_plan.specs.declared.records.Step.{Step}
 use Rattle.gptman_plan.proofs.Steps.{acts_longer}
 use Rattle.gptman_plan.proofs.record.Record.give.Goals as goal
 
--- the steps that are given are those of the plan
+-- the copied steps are those of the plan
 first_steps : (given steps rest : List Step) → given ≡ steps → take (length steps) (given ++ rest) ≡ steps
 first_steps given steps rest same = ap (λ (l : List Step). take (length steps) (l ++ rest)) same ∙ take-append_seam steps rest
 
