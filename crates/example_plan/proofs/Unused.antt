@@ -1,4 +1,4 @@
--- The first of the numbered entries that is not used.
+-- The first unused one of the numbered entries.
 use Rattle.std.proofs.Common.{◌≡◌, ℕ, ◌+◌, ◌-◌, ◌<◌, List, length, get_or, sym, ap, ◌∙◌, subst, arith, IsTrue}
 use Rattle.std.proofs.lemmas.List.FromFn.{get_or-enumerate_from}
 use Rattle.std.specs.Prelude.{Option, None, Some, IfNone}

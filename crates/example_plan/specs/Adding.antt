@@ -8,7 +8,7 @@ use Rattle.gptman.specs.Table.{entries_in}
 use Rattle.gptman.specs.declared.codec.entry.GPTPartitionEntry.{GPTPartitionEntry}
 use Rattle.gptman.specs.declared.table.GPT.{GPT}
 
--- The number of the first entry that is not used.
+-- The number of the first unused entry.
 pub record IsFirstUnused (g : GPT) (number : ℕ) : Type 0 where
   pub is_number : IsNumber g number
   pub unused : IsTrue (is_unused (entry_at g number))
@@ -18,18 +18,18 @@ pub record IsFirstUnused (g : GPT) (number : ℕ) : Type 0 where
 abbrev pub AreAllUsed : GPT → Type 0
 AreAllUsed g = All (λ e. IsTrue (is_used e)) (entries_in g)
 
--- the partition with size sectors from first on
+-- the partition with size sectors from first
 abbrev pub placed : GPTPartitionEntry → ℕ → ℕ → GPTPartitionEntry
 placed partition size first = record partition { starting_lba = first; ending_lba = first + (size - 1) }
 
--- The first unused entry became the partition, in sectors that were free: the first place for so many.
+-- The first unused entry became the partition, in the first free place for its size.
 pub record IsWith (partition : GPTPartitionEntry) (size : ℕ) (table next : GPT) (first : ℕ) : Type 0 where
   pub number : ℕ
   pub unused : IsFirstUnused table number
   pub place : IsFirstPlace (IsFreeIn table) table.align size first
   pub next_is : next ≡ with_entry table number (placed partition size first)
 
--- Why a table gets no partition: there is no memory, no entry or no place for it.
+-- Why a table gets no partition: an allocation failed, no entry is unused, or there is no place.
 pub data HasNoRoom (size : ℕ) (table : GPT) (fault : Fault) : Type 0 where
   no_memory : fault ≡ out_of_memory → HasNoRoom size table fault
   no_entry : AreAllUsed table → fault ≡ no_space_left → HasNoRoom size table fault

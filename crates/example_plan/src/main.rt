@@ -17,12 +17,12 @@ use std::fs::File;
 use std::process::ExitCode;
 use std::rt::Files;
 
-/// A partition of so many sectors, which is to have the first unused entry and the first free place.
+/// A partition of `size` sectors, for the first unused entry and the first free place.
 #[derive(Drop)]
 pub struct NewPartition {
-    /// How many sectors it has, above 0.
+    /// The number of sectors, above 0.
     pub size: u64,
-    /// All else of it.
+    /// The other fields.
     pub partition: GPTPartitionEntry,
 }
 
@@ -59,27 +59,29 @@ impl Plan for NewPartition {
     }
 }
 
-/// Adds the partition to the table on a disk with sectors of 512 bytes, and answers its first sector.
+/// Adds the partition to the table on a disk with sectors of 512 bytes, and returns its first sector.
 ///
-/// `NoSpaceLeft` where no entry is unused or no free place is long enough.
+/// # Errors
+///
+/// `NoSpaceLeft` if no entry is unused or no free range is large enough, and those of `change_table`.
 pub fn add_partition<D: Disk>(alloc: Global, disk: &mut D, new: &NewPartition) -> Result<u64>
     requires { 0 < new.now.size }
     ensures keeps { Keeps (D.state disk.old) (D.state disk.new) }
 
-    // After Ok the sectors were free before, and the table with the partition stands in both places.
+    // After Ok the sectors were free before, and the table with the partition was written to both places.
     ensures added { IsHonest (D.state disk.old) → IfOk result (λ first. MakesChange
         (IsWith new.now.partition new.now.size) (Some 512) first
         (D.state disk.old) (D.state disk.new)) }
 
-    // An error has its reason, and leaves the disk as it was unless it failed.
+    // An error has its reason. Unless the disk failed, nothing was written.
     ensures refused { IsHonest (D.state disk.old) → IfErr result (λ e. RefusesChange
         (IsWith new.now.partition new.now.size) (HasNoRoom new.now.size) ⊥ (Some 512) (fault_of e)
         (D.state disk.old) (D.state disk.new)) }
     ensures kept { IsHonest (D.state disk.old)
         → OnErr result (FailedOrUntouched (D.state disk.old) (D.state disk.new)) }
 
-    // From one good copy and no other, a stop or a fault at any moment leaves the old table or the one
-    // with the partition.
+    // If all good copies are of one table, a crash or fault at any moment leaves that table or the one with the
+    // partition.
     ensures safe { (was : Table) → StartsGood (D.state disk.old) 512 was
         → IsSafe (IsWith new.now.partition new.now.size) 512 was
         (D.state disk.old) (D.state disk.new) }
@@ -88,7 +90,7 @@ pub fn add_partition<D: Disk>(alloc: Global, disk: &mut D, new: &NewPartition) -
     change_table(alloc, disk, Some(512), new)
 }
 
-// The number of the first entry that no partition uses.
+// Returns the number of the first unused entry.
 fn first_unused(table: &GPT) -> Option<u32>
     ensures found { IfSome result (IsFirstUnused table.now) }
     ensures none { IfNone result (AreAllUsed table.now) }
@@ -107,10 +109,10 @@ fn main(rt: HostRuntime) -> Result<ExitCode> {
     Ok(ExitCode::SUCCESS)
 }
 
-// The image is closed again when this returns, before anything is printed: where standard output was
-// closed from the start, the line would else go into the image.
+// Closes the image before it returns, so that nothing is printed while it is open: with a closed standard output, the
+// line would go into the image.
 fn add_to_image<R: Files<File = File>>(files: &R, alloc: Global, image: &str) -> Result<u64> {
-    // Other programs that take this lock wait until it is let go, when this returns.
+    // Other programs that take this lock wait until it is released, when this returns.
     let turn = File::open(files, image)?;
     turn.lock()?;
     let mut disk = FileDisk::open(files, image)?;
