@@ -52,7 +52,7 @@ use std::alloc::Global;
 ///
 /// `head` has the first bytes of the disk and `tail` the last ones; both may have any length, and they do not overlap.
 /// `disk_size` and `sector_size` are in bytes. The result is the same whatever the disk holds between the two ends; if
-/// it would depend on that, 17 is returned. Then read more, and call again with longer ends.
+/// it would depend on that, 103 is returned. Then read more, and call again with longer ends.
 ///
 /// Returns:
 ///
@@ -61,9 +61,9 @@ use std::alloc::Global;
 /// - 1 to 16: no copy is good. 2 means that neither copy has a signature, or that the disk is shorter than a sector; 7,
 ///   that the copies have other faults; 15, that an allocation failed, which says nothing about the disk. A read
 ///   returns no other error.
-/// - 17: neither `head` nor `tail` has all `needed.length` bytes of the disk from byte `needed.from`.
-/// - 18: `partitions` is too short for the `table.entry_count` entries of the table.
-/// - 19: `sector_size` is 0, or the two ends together are longer than the disk.
+/// - 103: neither `head` nor `tail` has all `needed.length` bytes of the disk from byte `needed.from`.
+/// - 104: `partitions` is too short for the `table.entry_count` entries of the table.
+/// - 105: `sector_size` is 0, or the two ends together are longer than the disk.
 #[unsafe(no_mangle)]
 pub extern "C" fn gptman_read(
     alloc: Global,
@@ -94,7 +94,7 @@ pub extern "C" fn gptman_read(
     ensures most { (result ≤ 16) ⊎ ((103 ≤ result) × (result ≤ 105)) }
 
     // Outputs that the result does not define are unchanged.
-    ensures table { result ≢ 0 → result ≢ 18 → table.new ≡ table.old }
+    ensures table { result ≢ 0 → result ≢ 104 → table.new ≡ table.old }
     ensures partitions { result ≢ 0 → partitions.new ≡ partitions.old }
     ensures needed { result ≢ 103 → needed.new ≡ needed.old }
 {
@@ -128,8 +128,8 @@ pub extern "C" fn gptman_read(
 /// - 0: `check` describes both copies. A disk shorter than a sector has no backup copy, which is fault 2. Two good
 ///   copies are not the same if they are of two tables, or if one is not in the form of its place.
 /// - 15: an allocation failed, which says nothing about the disk.
-/// - 17: neither `head` nor `tail` has all `needed.length` bytes of the disk from byte `needed.from`.
-/// - 19: `sector_size` is 0, or the two ends together are longer than the disk.
+/// - 103: neither `head` nor `tail` has all `needed.length` bytes of the disk from byte `needed.from`.
+/// - 105: `sector_size` is 0, or the two ends together are longer than the disk.
 #[unsafe(no_mangle)]
 pub extern "C" fn gptman_check(
     alloc: Global,
@@ -191,10 +191,10 @@ pub extern "C" fn gptman_check(
 /// - 1 to 16: the table cannot be read, as for `gptman_read`; or 9: two partitions would have the same unique GUID; 10:
 ///   an entry ends before it starts, two partitions overlap, or one is outside the usable sectors; 8 or 14: a copy
 ///   would end past the disk; 15: an allocation failed.
-/// - 17: the plan needs `needed.length` bytes of the disk from byte `needed.from`, and neither `head` nor `tail` has
+/// - 103: the plan needs `needed.length` bytes of the disk from byte `needed.from`, and neither `head` nor `tail` has
 ///   all of them.
-/// - 18: `steps` has fewer than `needed.steps` elements, or `bytes` fewer than `needed.bytes`.
-/// - 19: `sector_size` is 0, the two ends together are longer than the disk, `partitions` does not have as many entries
+/// - 104: `steps` has fewer than `needed.steps` elements, or `bytes` fewer than `needed.bytes`.
+/// - 105: `sector_size` is 0, the two ends together are longer than the disk, `partitions` does not have as many entries
 ///   as the table, the table has none, or `flags` is above 1.
 /// - 100: the table was made for a disk of another length: its headers are not those of sector 1 and the last whole
 ///   sector. `gptman_fit` fits it.
@@ -277,7 +277,7 @@ pub extern "C" fn gptman_write(
 /// backup copy, a crash between or within the steps leaves that table or the new one.
 ///
 /// Returns what `gptman_write` returns, except 100 and the errors of a read. 14 and 10 mean that the disk has too few
-/// sectors for two copies; 19 also that the number of entries is 0, or that the disk is shorter than a sector; 101 that
+/// sectors for two copies; 105 also that the number of entries is 0, or that the disk is shorter than a sector; 101 that
 /// the table would not have the stated layout, as with sectors too short for a header.
 #[unsafe(no_mangle)]
 pub extern "C" fn gptman_new(
@@ -367,10 +367,10 @@ pub extern "C" fn gptman_new(
 ///   entry ends before it starts, two partitions overlap, or one is outside the usable sectors, as on a disk that has
 ///   become too short for it; 8 or 14: the disk has too few sectors for two copies, or the table has no entries; 15: an
 ///   allocation failed.
-/// - 17: the plan needs `needed.length` bytes of the disk from byte `needed.from`, and neither `head` nor `tail` has
+/// - 103: the plan needs `needed.length` bytes of the disk from byte `needed.from`, and neither `head` nor `tail` has
 ///   all of them.
-/// - 18: `steps` has fewer than `needed.steps` elements, or `bytes` fewer than `needed.bytes`.
-/// - 19: `sector_size` is 0, the two ends together are longer than the disk, or `flags` is above 1.
+/// - 104: `steps` has fewer than `needed.steps` elements, or `bytes` fewer than `needed.bytes`.
+/// - 105: `sector_size` is 0, the two ends together are longer than the disk, or `flags` is above 1.
 /// - 101: the copy that was read is not in the form of its place, or the fitted table does not have the stated layout.
 /// - 102: as for `gptman_write`.
 #[unsafe(no_mangle)]
@@ -436,7 +436,7 @@ pub extern "C" fn gptman_fit(
 // The flag that permits a write to a disk whose first sector has its own partitions.
 const OVER_DOS: u32 = 1;
 
-// Returns 102 or 17 if the first sector of the disk has its own partitions, or is not known; 0 if it has none, or the
+// Returns 102 or 103 if the first sector of the disk has its own partitions, or is not known; 0 if it has none, or the
 // flag permits the write.
 fn refuse_dos(ends: &Ends, flags: u32, needed: &mut Needed) -> u32
     requires flags { flags ≤ 1 }
@@ -515,8 +515,8 @@ fn give(plan: &Record, steps: &mut [Step], bytes: &mut [u8], needed: &mut Needed
 /// Returns:
 ///
 /// - 0: they are not, or the disk is shorter than 512 bytes.
-/// - 17: neither `head` nor `tail` has all `needed.length` bytes of the disk from byte `needed.from`.
-/// - 19: the two ends together are longer than the disk.
+/// - 103: neither `head` nor `tail` has all `needed.length` bytes of the disk from byte `needed.from`.
+/// - 105: the two ends together are longer than the disk.
 /// - 102: they are.
 #[unsafe(no_mangle)]
 pub extern "C" fn gptman_dos(head: &[u8], tail: &[u8], disk_size: u64, needed: &mut Needed) -> u32
@@ -531,7 +531,7 @@ pub extern "C" fn gptman_dos(head: &[u8], tail: &[u8], disk_size: u64, needed: &
     ensures answers { (result ≡ 0) ⊎ ((result ≡ 103) ⊎ ((result ≡ 105) ⊎ (result ≡ 102))) }
 
     // Outputs that the result does not define are unchanged.
-    ensures needed { result ≢ 17 → needed.new ≡ needed.old }
+    ensures needed { result ≢ 103 → needed.new ≡ needed.old }
 {
     let Some(ends) = Ends::new(head, tail, disk_size) else {
         return BAD_ARGUMENT;
@@ -548,8 +548,8 @@ pub extern "C" fn gptman_dos(head: &[u8], tail: &[u8], disk_size: u64, needed: &
 /// - 0: the 66 bytes are stored; the other elements are unchanged.
 /// - 8: the disk is at least one sector long, but shorter than 512 bytes.
 /// - 14: the disk is shorter than a sector.
-/// - 18: `bytes` has fewer than 66 elements.
-/// - 19: `sector_size` is 0, or `bootable` is above 1.
+/// - 104: `bytes` has fewer than 66 elements.
+/// - 105: `sector_size` is 0, or `bootable` is above 1.
 #[unsafe(no_mangle)]
 pub extern "C" fn gptman_mbr(
     disk_size: u64,
@@ -592,7 +592,7 @@ pub extern "C" fn gptman_mbr(
 /// - 0: `first_lba` is the first sector of the place.
 /// - 8: there is no such place.
 /// - 15: an allocation failed.
-/// - 19: `table.align` is 0, `choice` is none of the above, or `partitions` has more than 2^32 - 1 elements.
+/// - 105: `table.align` is 0, `choice` is none of the above, or `partitions` has more than 2^32 - 1 elements.
 #[unsafe(no_mangle)]
 pub extern "C" fn gptman_place(
     alloc: Global,
@@ -630,7 +630,7 @@ pub extern "C" fn gptman_place(
 ///
 /// - 0: the name is stored; bytes after the zero are unchanged.
 /// - 15: an allocation failed.
-/// - 18: `text` is too short for the name and the zero; 109 bytes are always enough.
+/// - 104: `text` is too short for the name and the zero; 109 bytes are always enough.
 #[unsafe(no_mangle)]
 pub extern "C" fn gptman_get_name(alloc: Global, partition: &Partition, text: &mut [u8]) -> u32
     ensures text { result ≡ 0 → text.new ≡ name_text partition.now.name
@@ -655,7 +655,7 @@ pub extern "C" fn gptman_get_name(alloc: Global, partition: &Partition, text: &m
 ///
 /// - 0: `gptman_get_name` returns these bytes.
 /// - 15: an allocation failed.
-/// - 19: the bytes are not UTF-8, contain a zero, or take more than 36 units of UTF-16.
+/// - 105: the bytes are not UTF-8, contain a zero, or take more than 36 units of UTF-16.
 #[unsafe(no_mangle)]
 pub extern "C" fn gptman_set_name(alloc: Global, partition: &mut Partition, text: &[u8]) -> u32
     ensures name { result ≡ 0

@@ -41,15 +41,15 @@ within_16 out_of_memory = (omega arith, omega arith)
 within_16 (invalid_entry_size size) = (omega arith, omega arith)
 
 -- the numbers of refusals
-pub numbers : (r : Refusal) → (0 < refusal_number r) × (refusal_number r ≢ 18) × ((refusal_number r ≤ 19) ⊎ ((refusal_number r ≡ 100) ⊎ (refusal_number r ≡ 101)))
-numbers BadArgument = (omega arith, λ is. absurd (omega (arith, is)), inl (omega arith))
-numbers (Refused error) = let n = within_16 (fault_of error) in (n.0, λ is. absurd (omega (arith, n.1, is)), inl (omega (arith, n.1)))
-numbers (Lacks lack) = (omega arith, λ is. absurd (omega (arith, is)), inl (omega arith))
-numbers OtherLength = (omega arith, λ is. absurd (omega (arith, is)), inr (inl refl))
-numbers OtherLayout = (omega arith, λ is. absurd (omega (arith, is)), inr (inr refl))
+pub numbers : (r : Refusal) → (0 < refusal_number r) × (refusal_number r ≢ 104) × (refusal_number r ≢ 102) × ((refusal_number r ≤ 16) ⊎ ((100 ≤ refusal_number r) × (refusal_number r ≤ 105)))
+numbers BadArgument = (omega arith, λ is. absurd (omega (arith, is)), λ is. absurd (omega (arith, is)), inr (omega arith, omega arith))
+numbers (Refused error) = let n = within_16 (fault_of error) in (n.0, λ is. absurd (omega (arith, n.1, is)), λ is. absurd (omega (arith, n.1, is)), inl (omega (arith, n.1)))
+numbers (Lacks lack) = (omega arith, λ is. absurd (omega (arith, is)), λ is. absurd (omega (arith, is)), inr (omega arith, omega arith))
+numbers OtherLength = (omega arith, λ is. absurd (omega (arith, is)), λ is. absurd (omega (arith, is)), inr (omega arith, omega arith))
+numbers OtherLayout = (omega arith, λ is. absurd (omega (arith, is)), λ is. absurd (omega (arith, is)), inr (omega arith, omega arith))
 
 -- what the caller learns, except for a missing range
-pub not_told : (r : Refusal) (needed : Needed) → refusal_number r ≢ 17 → needed_after r needed ≡ needed
+pub not_told : (r : Refusal) (needed : Needed) → refusal_number r ≢ 103 → needed_after r needed ≡ needed
 not_told BadArgument needed not = refl
 not_told (Refused error) needed not = refl
 not_told (Lacks lack) needed not = absurd (not refl)

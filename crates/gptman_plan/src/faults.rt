@@ -1,13 +1,5 @@
-//! The numbers that calls return, beside those of `Error`.
-
-/// The call needs bytes of the disk that the ends do not have.
-pub const LACKS_BYTES: u32 = 17;
-
-/// An array of the caller is too short.
-pub const LACKS_ROOM: u32 = 18;
-
-/// An argument that fits no disk or table.
-pub const BAD_ARGUMENT: u32 = 19;
+//! The numbers that calls return beside those of `Error`: errors of a table are below 100, results of the calls
+//! themselves from 100 on.
 
 /// The table was made for a disk of another length.
 pub const OTHER_LENGTH: u32 = 100;
@@ -18,13 +10,13 @@ pub const OTHER_LAYOUT: u32 = 101;
 /// The first sector of the disk has its own partitions.
 pub const DOS_DISK: u32 = 102;
 
-/// The ends lack bytes of the disk that the call has to see.
+/// The call needs bytes of the disk that the ends do not have.
 pub const LACKS_BYTES: u32 = 103;
 
-/// An array of the caller's is too short.
+/// An array of the caller is too short.
 pub const LACKS_ROOM: u32 = 104;
 
-/// An argument that no disk or table has.
+/// An argument that fits no disk or table.
 pub const BAD_ARGUMENT: u32 = 105;
 
 /// There is no place for a partition.
