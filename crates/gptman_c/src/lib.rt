@@ -194,8 +194,8 @@ pub extern "C" fn gptman_check(
 /// - 103: the plan needs `needed.length` bytes of the disk from byte `needed.from`, and neither `head` nor `tail` has
 ///   all of them.
 /// - 104: `steps` has fewer than `needed.steps` elements, or `bytes` fewer than `needed.bytes`.
-/// - 105: `sector_size` is 0, the two ends together are longer than the disk, `partitions` does not have as many entries
-///   as the table, the table has none, or `flags` is above 1.
+/// - 105: `sector_size` is 0, the two ends together are longer than the disk, `partitions` does not have as many
+///   entries as the table, the table has none, or `flags` is above 1.
 /// - 100: the table was made for a disk of another length: its headers are not those of sector 1 and the last whole
 ///   sector. `gptman_fit` fits it.
 /// - 101: the table was made for this length, but the copy that was read is not in the form of its place, or the table
@@ -277,8 +277,8 @@ pub extern "C" fn gptman_write(
 /// backup copy, a crash between or within the steps leaves that table or the new one.
 ///
 /// Returns what `gptman_write` returns, except 100 and the errors of a read. 14 and 10 mean that the disk has too few
-/// sectors for two copies; 105 also that the number of entries is 0, or that the disk is shorter than a sector; 101 that
-/// the table would not have the stated layout, as with sectors too short for a header.
+/// sectors for two copies; 105 also that the number of entries is 0, or that the disk is shorter than a sector; 101
+/// that the table would not have the stated layout, as with sectors too short for a header.
 #[unsafe(no_mangle)]
 pub extern "C" fn gptman_new(
     alloc: Global,
