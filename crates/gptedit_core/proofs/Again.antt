@@ -1,4 +1,4 @@
--- A layout that was put into a table, put into it again.
+-- A layout is applied again to the table that it made.
 use Rattle.std.proofs.Common.{◌≡◌, ◌≢◌, ◌≤◌, ◌⊎◌, inl, inr, ℕ, ◌-◌, List, [], ◌∷◌, refl, sym, ap, ◌∙◌, subst, arith, zero, suc, IsTrue, Bool, true, false, length}
 use Rattle.std.specs.Prelude.{Option, Some, None, Result, Ok, Err, All, nat_eq, nat_le, not, slice_get, unwrap_or, if◌then◌else◌}
 use Rattle.std.proofs.lemmas.Bool.{eqb-false, eqb-true, leb-true}
@@ -34,7 +34,7 @@ twice : {A : Type 0} (o : Option A) (x : A) → unwrap_or o (unwrap_or o x) ≡ 
 twice None x = refl
 twice (Some a) x = refl
 
--- What was asked of an entry is what it has, wherever it came to be.
+-- An entry that was put has the requested fields, at any place.
 pub asked_again : (a : Asked) (x : GPTPartitionEntry) (random : List ℕ) (first last : ℕ) →
     let y : GPTPartitionEntry = record x {
       partition_type_guid = unwrap_or a.type_guid x.partition_type_guid;
@@ -57,7 +57,7 @@ pub used_of : (b : Bool) → (¬ IsTrue b) → IsTrue (not b)
 used_of true unused = absurd (unused refl)
 used_of false unused = refl
 
--- The number that is given is the one of an entry.
+-- The requested number is that of an entry.
 given_at : (o : Option GPTPartitionEntry) (i n : ℕ) → ◌≡◌ {A = Result ℕ Refusal} (elim o [ None ↦ Err (NoEntry i) | Some e ↦ Ok i ]) (Ok n)
     → (i ≡ n) × ((e : GPTPartitionEntry) × (o ≡ Some e))
 given_at None i n is = absurd (cc)
@@ -67,7 +67,7 @@ pub given : (g : GPT) (a : Asked) (i n : ℕ) → a.number ≡ Some i → number
 given g a i n number is =
     given_at (entry_of_number g i) i n (subst (λ (o : Option ℕ). number_asked_or g o (lowest_unused g) ≡ Ok n) number is)
 
--- It is above zero, and the entry is there.
+-- Its number is above zero, and the entry exists.
 pub of_by : (g : GPT) (i : ℕ) (e : GPTPartitionEntry) (b : Bool) → nat_le 1 i ≡ b
     → ◌≡◌ {A = Option GPTPartitionEntry} (if b then slice_get (entries_in g) (i - 1) else None) (Some e) → (1 ≤ i) × (entry_at g i ≡ e)
 of_by g i e false low is = absurd (cc)
@@ -77,7 +77,7 @@ of_by g i e true low is =
     let same : entry_at g i ≡ e = cc in
     (leb-true 1 i low, same)
 
--- What was put first, where its number was given.
+-- The partition that was put first, under a requested number.
 pub record IsFirst (a : Asked) (i : ℕ) (p : Partition) : Type 0 where
   pub number : i ≡ p.number
   pub x : GPTPartitionEntry
@@ -102,7 +102,7 @@ is_first g mode a random i p number_is is =
     let same : i ≡ n = (given g a i n number_is number.1).0 in
     subst (IsFirst a i) end.1 (record { number = same; x = entry_there used random; used = end.0; entry = refl })
 
--- Put again, it is the entry that is there.
+-- Requested again, it is the entry that is in the table.
 own_again : (g t next : GPT) (mode : Mode) (a : Asked) (random other : List ℕ) (i : ℕ) (p q : Partition) → a.number ≡ Some i → resolved g mode a random ≡ Ok p → IsThere p t next
     → resolved next (Become false) a other ≡ Ok q → IsOwn next q
 own_again g t next mode a random other i p q number_is is there again =
@@ -127,7 +127,7 @@ own_again g t next mode a random other i p q number_is is there again =
     let with : with_used next a other i (Some y) ≡ Ok q = subst (λ (u : Option GPTPartitionEntry). with_used next a other i u ≡ Ok q) (used_is next i y found used) part in
     (own_part next a i y other q at.0 stands used (asked_again a first.x other there.first there.last) with).1
 
--- ---- all of them
+-- ---- all entries
 
 pub all_again : (g t next : GPT) (mode : Mode) (asked : List Asked) (randoms others : List (List ℕ)) (ps qs : List Partition) → AreNumbered asked
     → length asked ≤ length randoms → length asked ≤ length others → resolved_all g mode asked randoms ≡ Ok ps → AreThere ps t next
@@ -148,7 +148,7 @@ all_again g t next mode (a ∷ asked) (random ∷ randoms) (other ∷ others) ps
       all_again g (with_entry t p.0.number (entry_at next p.0.number)) next mode asked randoms others rest.0 last.0 numbered.1 (omega (arith, long)) (omega (arith, more)) rest.1 both.1 last.1,
     )
 
--- ---- what that leaves under each number
+-- ---- the entries of the resulting table
 
 pub unnamed_more : (j : ℕ) (p : Partition) (ps : List Partition) → p.number ≢ j → IsUnnamed j ps → IsUnnamed j (p ∷ ps)
 unnamed_more j p ps differ rest zero q below = differ

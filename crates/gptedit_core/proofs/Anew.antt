@@ -1,4 +1,4 @@
--- A new table is made, and written where none is read.
+-- A new table is made without reading an old one.
 use Rattle.std.proofs.Common.{◌≡◌, ◌⊎◌, inl, inr, sym, ap, ◌∙◌, subst, ℕ, ◌<◌, false, [], ◌∷◌}
 use Rattle.std.specs.Prelude.{Option, Some, None}
 use Rattle.gptman.specs.Crash.{AreReadAlone, StartsFromOne, StartsLaidOut}
@@ -24,7 +24,7 @@ use Rattle.gptedit_core.specs.declared.refusal.Stop.{Stop}
 use Rattle.gptedit_core.specs.declared.refusal.Stop.TheVariants.{Refused, Failed}
 use Rattle.gptedit_core.proofs.Bounded.{new_layout, new_sector}
 
--- A table that is fitted and has the layout is the empty one.
+-- A fitted table with the stated layout is the empty one.
 pub is_empty : (creation : Creation) (ss len : ℕ) (table kept : Option GPT) → IsFitted creation ss len table → KeepsLaidOut table len kept → IsEmpty creation ss len kept
 is_empty creation ss len None None fitted keeps = λ room. let both = sym fitted ∙ room.fits in absurd (cc)
 is_empty creation ss len None (Some k) fitted keeps = absurd (cc)
@@ -38,7 +38,7 @@ some_empty creation ss len o g is has = subst (IsEmpty creation ss len) is has
 pub some_sector : (creation : Creation) (ss len : ℕ) (o : Option GPT) (g : GPT) → o ≡ Some g → IsEmpty creation ss len o → g.sector_size ≡ ss
 some_sector creation ss len o g is has = ap (λ (m : GPT). m.sector_size) (some_empty creation ss len o g is has).1
 
--- What is refused of the new table is refused of the old one.
+-- A refusal of the new table is a refusal of the replacement.
 pub stop_remade : (creation : Creation) (len ss : ℕ) (g : GPT) → MayBeReplaced creation g len → ss ≡ g.sector_size → (s : Stop) → IsStopOf (RefusesNew creation ss len) s
     → IsStopOf (RefusesRemaking creation len g) s
 stop_remade creation len ss g may same (Refused r) refused = not_new may (subst (λ (n : ℕ). RefusesNew creation n len r) same refused)
@@ -47,11 +47,11 @@ stop_remade creation len ss g may same (Failed e) refused = refused
 pub planned_new : (creation : Creation) (ss len : ℕ) (made : Made) (next w : GPT) → made ≡ New next → w ≡ next → IsPlannedNew creation ss len made → IsNew creation ss len w
 planned_new creation ss len made next w is same planned = subst (IsNew creation ss len) (sym same) (subst (IsPlannedNew creation ss len) is planned)
 
--- it may be written
+-- The sector size of a new table is above 0.
 pub new_above : (creation : Creation) (ss len : ℕ) (next : GPT) → IsNew creation ss len next → 0 < ss → 0 < next.sector_size
 new_above creation ss len next is some = subst (λ (n : ℕ). 0 < n) (sym (new_sector creation ss len next is)) some
 
--- ---- what becomes of the disk
+-- ---- the disk after the write
 
 module _ (creation : Creation) (ss : ℕ) (next : GPT) (old mid new : DiskState) (read : OnlyRead old mid) (keeps : Keeps old mid) (is : IsNew creation ss old.size next)
     (wrote : Wrote (table_ranges next) mid new) where

@@ -1,4 +1,4 @@
--- A new table has the stated layout, whatever its bounds and partitions are.
+-- A new table has the stated layout, whatever its bounds and partitions.
 use Rattle.std.proofs.Common.{◌≡◌, ⊎_elim, inl, inr, refl, sym, ap, ◌∙◌, subst, ℕ, ◌+◌, ◌-◌, ◌*◌, ◌/◌, ◌≤◌, ◌<◌, ◌^◌, ◌||◌, Bool, true, false, not, List, ◌++◌, arith}
 use Rattle.std.specs.Prelude.{if◌then◌else◌, nat_eq, nat_lt, Option, Some, None}
 use Rattle.std.proofs.Math.Nat.{add-mul, mul-le-mul_right}
@@ -32,7 +32,7 @@ use Rattle.gptedit_core.proofs.Kept.{done_keeps}
 
 -- ---- sums of sectors
 
--- what lies before the first usable sector ends before the one after the last
+-- The primary copy ends before the sector after the last usable one.
 before : (ss n a first last : ℕ) → n ≤ a * ss → 2 + a ≤ first → first ≤ last + 1 → 2 * ss + n ≤ (last + 1) * ss
 before ss n a first last takes low ordered =
     let order : 2 + a ≤ last + 1 = omega (arith, low, ordered) in
@@ -40,7 +40,7 @@ before ss n a first last takes low ordered =
     let sum : (2 + a) * ss ≡ 2 * ss + a * ss = add-mul 2 a ss in
     omega (arith, takes, up, sum)
 
--- and what is behind the last one, before the last sector
+-- The backup entries end before the last sector.
 behind : (ss n a last sectors : ℕ) → n ≤ a * ss → last + a + 2 ≤ sectors → (last + 1) * ss + n ≤ (sectors - 1) * ss
 behind ss n a last sectors takes high =
     let order : last + 1 + a ≤ sectors - 1 = omega (arith, high) in
@@ -97,7 +97,7 @@ module _ (creation : Creation) (ss len : ℕ) (room : HasRoomOf creation ss len)
   few : array + 2 ≤ len / ss
   few = ltb-false (len / ss) (array + 2) (not_small (nat_eq (array_size (new_header_of creation.entries creation.guid)) 0) (is_too_small (len / ss) array) room.fits)
 
-  -- With legal bounds it has the layout still,
+  -- With valid bounds the empty table still has the layout.
   module _ (first last : ℕ) (bounds : AreBounds g.header.first_usable_lba g.header.last_usable_lba first last) where
     high : last + array + 2 ≤ len / ss
     high = high_from last array (len / ss) bounds.last_is few
@@ -145,7 +145,7 @@ module _ (creation : Creation) (ss len : ℕ) (room : HasRoomOf creation ss len)
       entry_size = inl refl;
     }
 
--- ---- what is put into it
+-- ---- the layout is applied
 
 no_change : (g next : GPT) → next ≡ g → KeepsRanges g next
 no_change g next same = subst (KeepsRanges g) (sym same) (record { sector = refl; header = refl; long = refl })
@@ -154,7 +154,7 @@ laid_keeps : (layout : Option Layout) (randoms : List (List ℕ)) (g next : GPT)
 laid_keeps None randoms g next is = no_change g next is
 laid_keeps (Some layout) randoms g next is = done_keeps (Lay layout) randoms g next is
 
--- so the new table has the layout,
+-- The new table has the stated layout,
 pub laid_layout : (creation : Creation) (ss len : ℕ) (next : GPT) → HasRoomOf creation ss len → HasBounds creation (empty_of creation ss len)
     → IsLaidIf creation.layout creation.random.items (bounded creation (empty_of creation ss len)) next → HasLayout next len
 laid_layout creation ss len next room bounds laid =
@@ -172,7 +172,7 @@ module _ (creation : Creation) (ss len : ℕ) (next : GPT) (is : IsNew creation 
   pub new_layout : HasLayout next len
   new_layout = laid_layout creation ss len next is.room is.filled.bounds is.filled.laid
 
-  -- sectors of that size,
+  -- the same sector size,
   pub new_sector : next.sector_size ≡ ss
   new_sector = keeps.sector
 
@@ -180,7 +180,7 @@ module _ (creation : Creation) (ss len : ℕ) (next : GPT) (is : IsNew creation 
   pub new_form : IsHeaderForm primary next.header
   new_form = form_still start next keeps primary (refl, refl)
 
-  -- and as many entries as its header says.
+  -- and as many entries as its header counts.
   pub new_coherent : IsCoherent next.header (entries_in next)
   new_coherent =
       coherent_still start next keeps
@@ -190,12 +190,12 @@ or_second : (a b : Bool) → b ≡ true → (a || b) ≡ true
 or_second true b is = refl
 or_second false b is = is
 
--- A table with the layout has another header.
+-- In the stated layout the header of the other copy exists.
 pub layout_other : (g : GPT) (len : ℕ) → HasLayout g len → has_other_header g.header ≡ true
 layout_other g len layout =
     or_second (not (nat_eq g.header.partition_entry_lba 2)) (nat_lt (g.header.last_usable_lba + 1) (2 ^ 64)) (lt-ltb (g.header.last_usable_lba + 1) (2 ^ 64) layout.table.fits)
 
--- ---- what becomes of an empty table
+-- ---- from the empty table to the new one
 
 module _ (creation : Creation) (len : ℕ) (empty mid next : GPT) (is : empty ≡ empty_of creation empty.sector_size len) (room : HasRoomOf creation empty.sector_size len)
     (bounds : HasBounds creation empty) (value : mid ≡ bounded creation empty) (laid : IsLaidIf creation.layout creation.random.items mid next) where
@@ -215,7 +215,7 @@ module _ (creation : Creation) (len : ℕ) (empty mid next : GPT) (is : empty �
   filled_refused (Refused r) refused = not_valid next room bounds_there laid_there refused
   filled_refused (Failed e) refused = refused
 
--- What is refused of the empty table is refused of the new one.
+-- A refusal for the empty table is a refusal of the new one.
 pub laying_refused : (creation : Creation) (len : ℕ) (empty mid : GPT) → empty ≡ empty_of creation empty.sector_size len → HasRoomOf creation empty.sector_size len
     → HasBounds creation empty → mid ≡ bounded creation empty → (s : Stop) → IsStopOf (RefusesLaidIf creation.layout creation.random.items mid) s
     → IsStopOf (RefusesNew creation empty.sector_size len) s

@@ -1,4 +1,4 @@
--- The slots of free sectors, where some sectors are not free any more.
+-- The free slots after some sectors are taken.
 use Prim.Native.Nat.{◌∣◌}
 use Rattle.std.proofs.Common.{add-one, drop, drop-cons, length-drop, length-take, get_or-drop, get_or-take, ◌≡◌, ℕ, zero, suc, ◌+◌, ◌-◌, ◌%◌, ◌<◌, ◌≤◌, min, max, nat_lt, List, [], ◌∷◌, ◌++◌, length, get_or, take, append_assoc, ◌⊎◌, inl, inr, Option, Some, None, refl, sym, ap, ◌∙◌, subst, arith}
 use Rattle.std.specs.List.{All, AllPairs, Contains, flat_map}
@@ -29,14 +29,14 @@ round_up_is align x s positive first = one_first_multiple align x (round_up alig
 
 -- ---- the runs
 
--- Of the free sectors those from first to last are not free any more.
+-- The sectors from first to last are free in F and not in G.
 pub record IsLess (F G : ℕ → Type 0) (first last : ℕ) : Type 0 where
   pub down : (x : ℕ) → G x → F x
   pub out : (x : ℕ) → first ≤ x → x ≤ last → ¬ G x
   pub back : (x : ℕ) → F x → (x < first) ⊎ (last < x) → G x
 
 module _ (F G : ℕ → Type 0) (first last : ℕ) (less : IsLess F G first last) (ordered : first ≤ last) where
-  -- what a run has before the sectors
+  -- The part of a run before the sectors is a run.
   run_before : (a b : ℕ) → IsRun F a b → a < first → IsRun G a (min b (first - 1))
   run_before a b run low =
       let up = run.ordered in
@@ -52,7 +52,7 @@ module _ (F G : ℕ → Type 0) (first last : ℕ) (less : IsLess F G first last
         ];
       }
 
-  -- and what it has behind them
+  -- The part of a run after the sectors is a run.
   run_behind : (a b : ℕ) → IsRun F a b → last < b → IsRun G (max a (last + 1)) b
   run_behind a b run high =
       let up = run.ordered in
@@ -102,7 +102,7 @@ module _ (F G : ℕ → Type 0) (first last : ℕ) (less : IsLess F G first last
         long = omega arith;
       }
 
-  -- a slot that is left and begins in one is what that has before the sectors or behind them
+  -- A remaining slot that starts in an old one is its part before or after the sectors.
   left_of : (align s n t k : ℕ) → IsAlignedSlot F align s n → IsAlignedSlot G align t k → s ≤ t → t < s + n
       → ((s ≡ t) × (s < first) × (min n (first - s) ≡ k)) ⊎ (IsFirstMultiple align (max s (last + 1)) t × (s + n - t ≡ k))
   left_of align s n t k slot left from to =
@@ -134,7 +134,7 @@ module _ (F G : ℕ → Type 0) (first last : ℕ) (less : IsLess F G first last
 
 -- ---- the list
 
--- the pairs of two lists, and of one with the other
+-- The pairs of two lists, and those across them.
 all_pairs_append : {X : Type 0} (R : X → X → Type 0) (xs ys : List X) → AllPairs R xs → AllPairs R ys → All (λ x. All (R x) ys) xs → AllPairs R (xs ++ ys)
 all_pairs_append R [] ys p q across = q
 all_pairs_append R (x ∷ xs) ys p q across =
@@ -142,12 +142,12 @@ all_pairs_append R (x ∷ xs) ys p q across =
     (All-append (R x) xs ys (AllPairs-head R x xs p) (All-head (λ x. All (R x) ys) x xs across))
     (all_pairs_append R xs ys (AllPairs-tail R x xs p) q (All-tail (λ x. All (R x) ys) x xs across))
 
--- what holds of all pieces of each element
+-- A property of all pieces of each element.
 all_pieces : {X Y : Type 0} (f : X → List Y) (P : X → Type 0) (Q : Y → Type 0) → ((x : X) → P x → All Q (f x)) → (xs : List X) → All P xs → All Q (flat_map f xs)
 all_pieces f P Q to [] all = All-nil Q
 all_pieces f P Q to (x ∷ xs) all = All-append Q (f x) (flat_map f xs) (to x (All-head P x xs all)) (all_pieces f P Q to xs (All-tail P x xs all))
 
--- a piece of an element is one of all
+-- A piece of an element is one of all pieces.
 piece_at : {X Y : Type 0} (f : X → List Y) (k : ℕ) (xs : List X) (x : X) (y : Y) → k < length xs → get_or xs k x ≡ x → Contains (f x) y → Contains (flat_map f xs) y
 piece_at f k [] x y within is has = absurd (omega arith)
 piece_at f zero (z ∷ xs) x y within is has = Contains-append_left (f z) (flat_map f xs) y (subst (λ u. Contains (f u) y) (sym is) has)
@@ -156,18 +156,18 @@ piece_at f (suc k) (z ∷ xs) x y within is has = Contains-append_right (f z) (f
 piece_of : {X Y : Type 0} (f : X → List Y) (xs : List X) (x : X) (y : Y) → Contains xs x → Contains (f x) y → Contains (flat_map f xs) y
 piece_of f xs x y at has = piece_at f at.0 xs x y at.1 at.2 has
 
--- x begins within s
+-- x starts within s.
 abbrev BeginsIn : ℕ × ℕ → ℕ × ℕ → Type 0
 BeginsIn s x = (s.0 ≤ x.0) × (x.0 < s.0 + s.1)
 
 abbrev Begins : ℕ × ℕ → ℕ × ℕ → Type 0
 Begins s t = s.0 < t.0
 
--- the pieces begin within the element, one after the other
+-- The pieces start within the element, in order.
 abbrev AreInOrder : (ℕ × ℕ → List (ℕ × ℕ)) → ℕ × ℕ → Type 0
 AreInOrder f s = All (BeginsIn s) (f s) × AllPairs Begins (f s)
 
--- pieces of elements that stand one behind the other begin one after the other
+-- Pieces of ordered elements start in order.
 pieces_ascend : (f : ℕ × ℕ → List (ℕ × ℕ)) (xs : List (ℕ × ℕ)) → All (AreInOrder f) xs → AllPairs (λ s t. s.0 + s.1 ≤ t.0) xs → AllPairs Begins (flat_map f xs)
 pieces_ascend f [] all apart = AllPairs-nil Begins
 pieces_ascend f (s ∷ xs) all apart =
@@ -181,7 +181,7 @@ pieces_ascend f (s ∷ xs) all apart =
     (λ k d within. (behind k d within, (rest k d within).0)))
     (f s) here.0)
 
--- ---- what is left of one slot
+-- ---- the rest of one slot
 
 all_option : {X : Type 0} (Q : X → Type 0) (o : Option X) → ((x : X) → o ≡ Some x → Q x) → All Q (option_to_list o)
 all_option Q None to = All-nil Q
@@ -195,7 +195,7 @@ has_option : {X : Type 0} (o : Option X) (x : X) → o ≡ Some x → Contains (
 has_option None x is = absurd (cc)
 has_option (Some y) x is = let same : y ≡ x = cc in (0, omega arith, same)
 
--- The part x of s before first.
+-- x is the part of s before first.
 record IsBeforePart (first : ℕ) (s x : ℕ × ℕ) : Type 0 where
   low : s.0 < first
   is : ◌≡◌ {A = ℕ × ℕ} (s.0, min s.1 (first - s.0)) x
@@ -205,7 +205,7 @@ before_is first s x h =
     let given = cond_some (nat_lt s.0 first) (s.0, min s.1 (first - s.0)) x h in
     record { low = ltb-true s.0 first given.0; is = given.1 }
 
--- The part x of s behind last.
+-- x is the part of s after last.
 record IsBehindPart (align last : ℕ) (s x : ℕ × ℕ) : Type 0 where
   next : IsFirstMultiple align (max s.0 (last + 1)) x.0
   low : x.0 < s.0 + s.1
@@ -223,7 +223,7 @@ behind_is align last s x positive h =
       is = subst (λ (y : ℕ). ◌≡◌ {A = ℕ × ℕ} (y, s.0 + s.1 - y) x) same given.1;
     }
 
--- what holds of both parts
+-- A property of both parts.
 all_rest : (align first last : ℕ) (s : ℕ × ℕ) (Q : ℕ × ℕ → Type 0) → 0 < align → ((x : ℕ × ℕ) → IsBeforePart first s x → Q x)
     → ((x : ℕ × ℕ) → IsBehindPart align last s x → Q x) → All Q (rest_of align first last s)
 all_rest align first last s Q positive here there =
@@ -251,7 +251,7 @@ rest_in_order align first last s positive ordered some = (
 before_some : (first : ℕ) (s x : ℕ × ℕ) → s.0 < first → ◌≡◌ {A = ℕ × ℕ} (s.0, min s.1 (first - s.0)) x → before_of first s ≡ Some x
 before_some first s x low is = subst (λ (y : ℕ × ℕ). before_of first s ≡ Some y) is (sym (cond_below s.0 first (Some (s.0, min s.1 (first - s.0))) None low))
 
--- by the first multiple behind last, and how far it is from there to the end
+-- The part after last, by the first multiple there and the distance to the end.
 behind_some : (align last : ℕ) (s : ℕ × ℕ) (t k : ℕ) → 0 < align → IsFirstMultiple align (max s.0 (last + 1)) t → t < s.0 + s.1 → s.0 + s.1 - t ≡ k
     → behind_of align last s ≡ Some (t, k)
 behind_some align last s t k positive next low long =
@@ -275,14 +275,14 @@ rest_has F G align first last s t k less ordered positive slot left from to =
           (has_option (behind_of align last s) (t, k) (behind_some align last s t k positive part.0 to part.1))
     ]
 
--- the first multiple, where it is within the slot
+-- If the first multiple is within the slot,
 pub behind_found : (align last : ℕ) (s : ℕ × ℕ) (from skipped : ℕ) → 0 < align → IsFirstMultiple align from (from + skipped) → from ≡ max s.0 (last + 1) → 0 < s.1
     → from ≤ s.0 + (s.1 - 1) → skipped ≤ s.0 + (s.1 - 1) - from → ◌≡◌ {A = Option (ℕ × ℕ)} (Some (from + skipped, s.0 + (s.1 - 1) - from - skipped + 1)) (behind_of align last s)
 behind_found align last s from skipped positive next is some within low =
     sym (behind_some align last s (from + skipped) (s.0 + (s.1 - 1) - from - skipped + 1) positive
     (subst (λ (y : ℕ). IsFirstMultiple align y (from + skipped)) is next) (omega arith) (omega arith))
 
--- and where it is not
+-- and if it is not.
 pub behind_gone : (align last : ℕ) (s : ℕ × ℕ) (from skipped : ℕ) → 0 < align → IsFirstMultiple align from (from + skipped) → from ≡ max s.0 (last + 1) → 0 < s.1
     → from ≤ s.0 + (s.1 - 1) → s.0 + (s.1 - 1) - from < skipped → ◌≡◌ {A = Option (ℕ × ℕ)} None (behind_of align last s)
 behind_gone align last s from skipped positive next is some within high =
@@ -291,9 +291,9 @@ behind_gone align last s from skipped positive next is some within high =
     round_up_is align (max s.0 (last + 1)) (from + skipped) positive (subst (λ (y : ℕ). IsFirstMultiple align y (from + skipped)) is next) in
     cond_above {X = Option (ℕ × ℕ)} start (s.0 + s.1) (Some (start, s.0 + s.1 - start)) None None (omega (arith, same)) refl
 
--- ---- what is left of all
+-- ---- the rest of all slots
 
--- slots stand one behind the other
+-- Slots do not overlap.
 pub slots_apart : (F : ℕ → Type 0) (align : ℕ) (slots : List (ℕ × ℕ)) → AreSlots F align slots → AllPairs (λ s t. s.0 + s.1 ≤ t.0) slots
 slots_apart F align slots are i j d less within =
     let a = are.each i d (omega arith) in
@@ -309,7 +309,7 @@ slots_apart F align slots are i j d less within =
       | inr behind ↦ behind
     ]
 
--- a slot has a sector
+-- A slot has a sector.
 pub slot_long : (F : ℕ → Type 0) (align s n : ℕ) → IsAlignedSlot F align s n → 0 < n
 slot_long F align s n slot = let within = slot.within in let long = slot.long in omega arith
 
@@ -335,7 +335,7 @@ slots_left F G align first last slots less ordered positive settled are = record
       (slots_apart F align slots are);
 }
 
--- and no slot ends later than before
+-- No slot ends later than before.
 pub rest_fits : (align first last n : ℕ) (slots : List (ℕ × ℕ)) → 0 < align → All (λ s. s.0 + s.1 ≤ n) slots
     → All (λ s. s.0 + s.1 ≤ n) (flat_map (rest_of align first last) slots)
 rest_fits align first last n slots positive fit =
@@ -345,7 +345,7 @@ rest_fits align first last n slots positive fit =
     (λ x p. let low = p.low in let long = ap (λ (r : ℕ × ℕ). r.1) p.is in omega arith))
     slots fit
 
--- one more of them
+-- One more slot.
 pub one_more : (align first last : ℕ) (slots : List (ℕ × ℕ)) (i : ℕ) → i < length slots
     → (flat_map (rest_of align first last) (take i slots) ++ option_to_list (before_of first (get_or slots i (0, 0)))) ++ option_to_list (behind_of align last (get_or slots i (0, 0)))
     ≡ flat_map (rest_of align first last) (take (i + 1) slots)
@@ -357,9 +357,9 @@ one_more align first last slots i within =
     ap (λ (l : List (ℕ × ℕ)). flat_map f l) (take_more slots i (0, 0) within) ∙ flat_map-append f (take i slots) (s ∷ []) in
     parts ∙ sym (more ∙ ap (λ (l : List (ℕ × ℕ)). flat_map f (take i slots) ++ l) (append-nil (f s)))
 
--- ---- where one slot has all the sectors
+-- ---- one slot contains all the sectors
 
--- a slot before or behind them stays
+-- A slot before or after the sectors is unchanged.
 spared : (align first last : ℕ) (t : ℕ × ℕ) → 0 < align → first ≤ last → 0 < t.1 → align ∣ t.0 → (t.0 + t.1 ≤ first) ⊎ (last < t.0) → rest_of align first last t ≡ t ∷ []
 spared align first last t positive ordered some multiple (inl before) =
     let start : ℕ = round_up align (max t.0 (last + 1)) in

@@ -1,4 +1,4 @@
--- The layout of a table, put into it, gives the same table.
+-- Applying the layout of a table to that table gives the same table.
 use Rattle.std.proofs.Common.{◌≡◌, ◌≢◌, ◌≤◌, ◌<◌, ◌⊎◌, inl, inr, ℕ, ◌+◌, ◌-◌, ◌&&◌, List, [], ◌∷◌, refl, sym, ap, ◌∙◌, subst, arith, zero, suc, IsTrue, Bool, true, false, length}
 use Rattle.std.specs.Prelude.{Option, Some, None, Result, Ok, Err, All, get_or, nat_eq, nat_le, slice_get, unwrap_or, if◌then◌else◌}
 use Rattle.std.specs.List.{enumerate_from}
@@ -31,7 +31,7 @@ use Rattle.gptedit_core.proofs.Kept.{done_keeps}
 use Rattle.gptedit_core.proofs.Laid.{change_named}
 use Rattle.gptedit_core.proofs.Steps.{and_then_ok, else_ok}
 
--- ---- one entry that is asked for as it is
+-- ---- one entry that is requested unchanged
 
 pub unless_ok : {A : Type 0} (o : Option Refusal) (a b : A) → unless o a ≡ Ok b → (o ≡ None) × (a ≡ b)
 unless_ok None a b is = let same : a ≡ b = cc in (refl, same)
@@ -62,7 +62,7 @@ place_stays a i ss e place is =
     let stay = unless_ok (stay_fault (Become false) i (there_of (Some e)) at.0) at.0 place at.2 in
     sym stay.1 ∙ stays_at i (e.starting_lba, e.ending_lba) at.0 stay.0
 
--- The partition is the used entry of its number, where it stands.
+-- The partition is the used entry of its number, at its place.
 pub record IsOwn (g : GPT) (p : Partition) : Type 0 where
   pub low : 1 ≤ p.number
   pub e : GPTPartitionEntry
@@ -78,7 +78,7 @@ with_used g a random i used =
     and_then (place_asked (Become false) a i used g.sector_size) (λ place.
     if is_unused e then Err (NoType i) else Ok (record { number = i; entry = e; place = place })))
 
--- What is asked of a used entry that makes it what it is.
+-- A request that makes a used entry what it is.
 pub own_part : (g : GPT) (a : Asked) (i : ℕ) (e : GPTPartitionEntry) (random : List ℕ) (p : Partition) → 1 ≤ i → entry_at g i ≡ e → IsTrue (is_used e)
     → entry_asked a (Some e) random ≡ e → with_used g a random i (Some e) ≡ Ok p → (p.number ≡ i) × IsOwn g p
 own_part g a i e random p low at used same is =
@@ -107,7 +107,7 @@ own_one g i e random p low found at used is =
     let part : partition_at g (Become false) a random i ≡ Ok p = subst (λ (n : ℕ). partition_at g (Become false) a random n ≡ Ok p) same number.2 in
     own_part g a i e random p low at used refl (subst (λ (u : Option GPTPartitionEntry). with_used g a random i u ≡ Ok p) (used_is g i e found used) part)
 
--- ---- all of them
+-- ---- all entries
 
 abbrev pub OwnedBy : GPT → List Partition → Type 0
 OwnedBy g [] = Unit {0}
@@ -117,12 +117,12 @@ abbrev pub HasNumber : ℕ → List Partition → Type 0
 HasNumber i [] = ⊥
 HasNumber i (p ∷ ps) = (p.number ≡ i) ⊎ HasNumber i ps
 
--- the table has these entries from number k on
+-- The table has these entries from number k on.
 abbrev pub HasFrom : GPT → ℕ → List GPTPartitionEntry → Type 0
 HasFrom g k [] = Unit {0}
 HasFrom g k (e ∷ es) = (entry_of_number g k ≡ Some e) × (entry_at g k ≡ e) × HasFrom g (k + 1) es
 
--- each used one of them is asked for
+-- Each used one of them is requested.
 abbrev pub CoversFrom : List Partition → ℕ → List GPTPartitionEntry → Type 0
 CoversFrom ps k [] = Unit {0}
 CoversFrom ps k (e ∷ es) = (IsTrue (is_used e) → HasNumber k ps) × CoversFrom ps (k + 1) es
@@ -163,9 +163,9 @@ all_own g k (e ∷ es) randoms ps low has enough all =
     own_more g (is_used e) k e es randoms ps low refl has.0 has.1 enough all
     (λ rs qs long is. all_own g (k + 1) es rs qs (omega (arith, low)) has.2 long is)
 
--- ---- what that leaves under each number
+-- ---- the entries of the resulting table
 
--- What is there under the number of a partition that was the table's own is the entry that it had.
+-- The entry of a partition that was the table's own is unchanged.
 pub own_there : (g t next : GPT) (j : ℕ) (ps : List Partition) → OwnedBy g ps → AreThere ps t next → HasNumber j ps → entry_at next j ≡ entry_at g j
 own_there g t next j [] own there has = absurd has
 own_there g t next j (p ∷ ps) own there (inr has) = own_there g (with_entry t p.number (entry_at next p.number)) next j ps own.1 there.1 has
@@ -179,7 +179,7 @@ own_there g t next j (p ∷ ps) own there (inl same) =
     put.entry ∙ (λ i. record (own.entry i) { starting_lba = first i; ending_lba = last i }) in
     subst (λ (n : ℕ). entry_at next n ≡ entry_at g n) same (there ∙ sym own.at)
 
--- One that is not used is not named.
+-- An unused entry is not named.
 pub own_unnamed : (g : GPT) (j : ℕ) (ps : List Partition) → OwnedBy g ps → is_used (entry_at g j) ≡ false → IsUnnamed j ps
 own_unnamed g j [] own unused k p below = absurd (omega (arith, below))
 own_unnamed g j (p ∷ ps) own unused zero q below = λ same.
@@ -202,7 +202,7 @@ has_from g k (e ∷ es) at =
           subst (λ (n : ℕ). (entry_of_number g n ≡ Some (get_or es m empty_entry)) × (entry_at g n ≡ get_or es m empty_entry)) shift (at (suc m) (omega (arith, below)))),
     )
 
--- the entry of the number that is one above its index
+-- The entry of the number that is one above its index.
 pub at_number : (g : GPT) (m n : ℕ) → n ≡ m + 1 → entry_at g n ≡ get_or (entries_in g) m empty_entry
 at_number g m n is = let index : n - 1 ≡ m = omega (arith, is) in ap (λ (k : ℕ). get_or (entries_in g) k empty_entry) index
 
@@ -223,13 +223,13 @@ covers_at ps k (e ∷ es) (suc m) is below used =
     let shift : k + 1 + m ≡ k + suc m = omega arith in
     subst (λ (n : ℕ). HasNumber n ps) shift (covers_at ps (k + 1) es m is.1 (omega (arith, below)) used)
 
--- An entry that is used is one of the list.
+-- A used entry is in the list.
 pub used_below : (es : List GPTPartitionEntry) (m : ℕ) → IsTrue (is_used (get_or es m empty_entry)) → m < length es
 used_below [] m used = absurd (cc)
 used_below (e ∷ es) zero used = omega arith
 used_below (e ∷ es) (suc m) used = let less = used_below es m used in omega (arith, less)
 
--- The number of one is named where each used one is asked for.
+-- If each used entry is requested, its number is named.
 pub used_named : (g : GPT) (ps : List Partition) (m : ℕ) → CoversFrom ps 1 (entries_in g) → is_used (entry_at g (suc m)) ≡ true → HasNumber (suc m) ps
 used_named g ps m is used =
     let at : entry_at g (suc m) ≡ get_or (entries_in g) m empty_entry = at_number g m (suc m) (omega arith) in
@@ -238,7 +238,7 @@ used_named g ps m is used =
     let shift : 1 + m ≡ suc m = omega arith in
     subst (λ (n : ℕ). HasNumber n ps) shift (covers_at ps 1 (entries_in g) m is below here)
 
--- Tables that have the same under each number have the same entries.
+-- Tables with equal entries under each number have equal lists of entries.
 pub equal_entries : (g next : GPT) → length (entries_in next) ≡ length (entries_in g) → ((m : ℕ) → entry_at next (suc m) ≡ entry_at g (suc m)) → entries_in next ≡ entries_in g
 equal_entries g next long each =
     same_lists (entries_in next) (entries_in g) long (λ k d below.

@@ -1,4 +1,4 @@
--- The last sector before a multiple of the alignment, and how far free sectors reach behind a sector.
+-- The last sector before a multiple of the alignment, and the end of the free sectors after a sector.
 use Prim.Native.Nat.{◌∣◌}
 use Rattle.std.proofs.Common.{◌≡◌, ◌≢◌, ◌≤◌, ◌<◌, inl, inr, ℕ, ◌+◌, ◌-◌, ◌*◌, ◌/◌, ◌%◌, max, List, [], ◌∷◌, refl, subst, arith, zero, suc, IsTrue}
 use Rattle.std.specs.Prelude.{All}
@@ -44,7 +44,7 @@ none_before n far pos over short t m within =
     let long : n ≤ t + 1 = le_of_dvd (omega arith) m in
     omega arith
 
--- ---- where a partition ends
+-- ---- the end of a partition
 
 module _ (free : ℕ → Type 0) (align first last far : ℕ) (low : last ≤ far) (inside : AreFreeBehind free last far) (ends : ¬ free (far + 1)) where
   blocked : (end : ℕ) → ((t : ℕ) → align ∣ t + 1 → t ≤ far → t ≤ end) → (e : ℕ) → align ∣ e + 1 → end < e → IsBlocked free last e
@@ -53,7 +53,7 @@ module _ (free : ℕ → Type 0) (align first last far : ℕ) (low : last ≤ fa
     | inr within ↦ let no = greatest e m within in absurd (omega arith)
   ]
 
-  -- It stays where no sector up to there is one before a multiple,
+  -- The end is unchanged if no sector up to far is before a multiple.
   pub no_end : HasNoEnd align far → IsFurthestEnd free align first last last
   no_end none = record {
     kept = omega arith;
@@ -61,7 +61,7 @@ module _ (free : ℕ → Type 0) (align first last far : ℕ) (low : last ≤ fa
     furthest = λ ordered. blocked last (λ t m within. absurd (none t m within));
   }
 
-  -- and else ends at the last of them, where that is longer.
+  -- Otherwise it is the last such sector, if that is later.
   pub end_at : (e : ℕ) → first ≤ last → IsLastEnd align far e → IsFurthestEnd free align first last (max e last)
   end_at e ordered is =
       let below = is.low in
@@ -88,7 +88,7 @@ module _ (free : ℕ → Type 0) (align first last far : ℕ) (low : last ≤ fa
 abbrev pub Uncovered : ℕ → List GPTPartitionEntry → Type 0
 Uncovered x es = All (λ e. ¬ IsTrue (covers x e)) es
 
--- the same of entries with their numbers
+-- The same for entries with their numbers.
 abbrev pub UncoveredBy : ℕ → List (ℕ × GPTPartitionEntry) → Type 0
 UncoveredBy x es = All (λ e. ¬ IsTrue (covers x e.1)) es
 
@@ -106,9 +106,10 @@ uncovered_more : (x : ℕ) (e : ℕ × GPTPartitionEntry) (es : List (ℕ × GPT
 uncovered_more x e es first rest zero d below = first
 uncovered_more x e es first rest (suc k) d below = rest k d (omega (arith, below))
 
--- ---- how far the free sectors reach
+-- ---- the end of the free sectors
 
--- Up to far the entries but the rest cover no sector behind last; far is what it was at first, or an entry covers the next one.
+-- The entries except rest cover no sector after last and up to far. Either far is its first value, or an entry covers
+-- the next sector.
 pub record IsFarSoFar (es : List GPTPartitionEntry) (rest : List (ℕ × GPTPartitionEntry)) (last far at_first : ℕ) : Type 0 where
   pub kept : last ≤ far
   pub low : far ≤ at_first
@@ -145,11 +146,11 @@ far_next es whole rest e last far less at_first so_far is kept low free ends =
       ];
     }
 
--- The sectors up to the first guess are usable,
+-- The sectors up to the first value of far are usable,
 pub usable_at : (h : GPTHeader) (last far x : ℕ) → h.first_usable_lba - 1 ≤ last → far ≡ max last h.last_usable_lba → last < x → x ≤ far → IsUsable h x
 usable_at h last far x low is above within = record { positive = omega arith; low = omega arith; high = omega arith }
 
--- so they are free as far as no entry covers them.
+-- so they are free up to the first one that an entry covers.
 pub free_so_far : (h : GPTHeader) (es : List GPTPartitionEntry) (last far at_first x : ℕ) → IsFarSoFar es [] last far at_first
     → ((last < at_first) → (h.first_usable_lba - 1 ≤ last) × (at_first ≡ max last h.last_usable_lba)) → last < x → x ≤ far → IsFree h es x
 free_so_far h es last far at_first x so_far guess above within =

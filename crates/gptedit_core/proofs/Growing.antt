@@ -1,4 +1,4 @@
--- What a growth keeps of a table.
+-- Parts of a table that a growth keeps.
 use Rattle.std.proofs.Common.{◌≡◌, ℕ, None, refl, sym, subst}
 use Rattle.std.specs.Prelude.{Result, Ok, Err, IfErr, OnOk}
 use Rattle.gptman.specs.Fit.{fit_fault}
@@ -13,13 +13,14 @@ use Rattle.gptedit_core.specs.declared.growth.Bounds.{Bounds}
 use Rattle.gptedit_core.specs.declared.refusal.Stop.{Stop}
 use Rattle.gptedit_core.specs.declared.refusal.Stop.TheVariants.{Refused, Failed}
 
--- the sector size
+-- The sector size.
 pub fitted_sector : (bounds : Bounds) (len : ℕ) (g next : GPT) → IsFitted bounds len g next → next.sector_size ≡ g.sector_size
 fitted_sector bounds len g next (stays kept ends is) = subst (λ (m : GPT). m.sector_size ≡ g.sector_size) (sym is) refl
 fitted_sector bounds len g next (follows kept ends first may is) = subst (λ (m : GPT). m.sector_size ≡ g.sector_size) (sym is) refl
 fitted_sector bounds len g next (is_usual usual ends is) = subst (λ (m : GPT). m.sector_size ≡ g.sector_size) (sym is) refl
 
--- What was fitted is grown where it has the stated layout and may be written; else the growth is refused as it is.
+-- The fitted table is grown if it has the stated layout and may be written. Otherwise the growth is refused for the
+-- same reason.
 module _ (bounds : Bounds) (len : ℕ) (g next : GPT) (fits : fit_fault g.header g.sector_size len ≡ None) (fitted : IsFitted bounds len g next) where
   pub all_grown : (r : Result (Unit {0}) Stop) → OnOk r (HasLayout next len × MayBeWritten next len) → OnOk r (IsGrown bounds len g next)
   all_grown (Ok done) is = record { fits = fits; fitted = fitted; layout = is.0; may = is.1 }

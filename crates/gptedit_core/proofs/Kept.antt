@@ -1,4 +1,4 @@
--- What a request makes of a table keeps its places.
+-- A request keeps the places of the table, at each step.
 use Rattle.std.proofs.Common.{◌≡◌, ℕ, List, [], ◌∷◌, refl, sym, subst}
 use Rattle.std.specs.Prelude.{Option, Some, None, Result, Ok, Err, unwrap_or}
 use Rattle.gptman.specs.Coding.{empty_entry}
@@ -25,11 +25,11 @@ use Rattle.gptedit_core.proofs.Steps.{and_then_ok, else_ok}
 put_keeps : (g : GPT) (i : ℕ) (e : GPTPartitionEntry) → KeepsRanges g (with_entry g i e)
 put_keeps g i e = edited_keeps g (Put i e)
 
--- another alignment is taken,
+-- the alignment is set,
 align_keeps : (g : GPT) (align : ℕ) → KeepsRanges g (record g { align = align })
 align_keeps g align = record { sector = refl; header = refl; long = refl }
 
--- entries are removed,
+-- entries are removed
 removed_keeps : (i : ℕ) (g h : GPT) (found : Option GPTPartitionEntry) → without_entry i g found ≡ Ok h → KeepsRanges g h
 removed_keeps i g h None is = absurd (cc)
 removed_keeps i g h (Some e) is =
@@ -63,7 +63,7 @@ all_put_keep (p ∷ ps) g h is =
     let mid_keeps = subst (KeepsRanges g) (sym put.next_is) (put_keeps g p.number (record p.entry { starting_lba = put.first; ending_lba = put.last })) in
     keeps_both g is.0 h mid_keeps (all_put_keep ps is.0 h is.2)
 
--- the disk's GUID is another.
+-- and the GUID of the disk is set.
 guid_keeps : (g : GPT) (align : ℕ) (guid : List ℕ) → KeepsRanges g (record g { align = align; header = record g.header { disk_guid = guid } })
 guid_keeps g align guid = record { sector = refl; header = refl; long = refl }
 
@@ -78,7 +78,7 @@ laid_keeps g next guid align ps is rest free last removed clear put next_is =
     let end : GPT = record last { align = g.align; header = record last.header { disk_guid = unwrap_or guid last.header.disk_guid } } in
     subst (KeepsRanges g) (sym next_is) (keeps_both g last end to_last (guid_keeps last g.align (unwrap_or guid last.header.disk_guid)))
 
--- So does whatever a job makes.
+-- So each job keeps them.
 pub done_keeps : (job : Job) (randoms : List (List ℕ)) (g next : GPT) → IsDone job randoms g next → KeepsRanges g next
 done_keeps (Lay layout) randoms g next is =
     laid_keeps g next layout.disk_guid is.align is.partitions layout.removed.items is.rest is.free is.last is.removed is.clear is.put is.next_is

@@ -1,4 +1,4 @@
--- What a layout that is put into a table leaves of the others, and that what it names is there.
+-- A layout leaves other entries unchanged, and puts the named ones.
 use Rattle.std.proofs.Common.{◌≡◌, ◌≢◌, ◌≤◌, ℕ, ◌+◌, ◌-◌, List, [], ◌∷◌, refl, sym, ap, ◌∙◌, subst, arith, zero, suc, IsTrue}
 use Rattle.std.specs.Prelude.{Option, Some, None, Result, Ok, Err, All, Bool, true, false, not, get_or, if◌then◌else◌}
 use Rattle.std.proofs.lemmas.List.{get_or-set_other, get_or-set_same}
@@ -20,7 +20,7 @@ use Rattle.gptedit_core.specs.declared.resolve.Partition.{Partition}
 use Rattle.gptedit_core.proofs.Resolved.{used_all, AreUsed}
 use Rattle.gptedit_core.proofs.Steps.{and_then_ok, else_ok}
 
--- Another entry stays.
+-- Another entry is unchanged.
 pub other_entry : (g : GPT) (i j : ℕ) (e : GPTPartitionEntry) → 1 ≤ i → 1 ≤ j → i ≢ j → entry_at (with_entry g i e) j ≡ entry_at g j
 other_entry g i j e low_i low_j differ = get_or-set_other (entries_in g) (i - 1) (j - 1) e empty_entry (λ same. differ (omega (arith, same, low_i, low_j)))
 
@@ -33,7 +33,7 @@ put_other p g next j put low differ =
     subst (λ (m : GPT). entry_at m j ≡ entry_at g j) (sym put.next_is)
     (other_entry g p.number j (record p.entry { starting_lba = put.first; ending_lba = put.last }) put.number.0 low differ)
 
--- An entry that is used stays, as nothing is put in its stead;
+-- A used entry is unchanged, since nothing is put over it.
 pub put_stays : (p : Partition) (g next : GPT) (j : ℕ) → IsPut p g next → 1 ≤ j → ¬ IsTrue (is_unused (entry_at g j)) → entry_at next j ≡ entry_at g j
 put_stays p g next j put low used =
     put_other p g next j put low (λ same. used (subst (λ (i : ℕ). IsTrue (is_unused (entry_at g i))) same put.unused))
@@ -44,14 +44,14 @@ stay (p ∷ ps) g next j is low used =
     let first = put_stays p g is.0 j is.1 low used in
     stay ps is.0 next j is.2 low (λ unused. used (subst (λ (e : GPTPartitionEntry). IsTrue (is_unused e)) first unused)) ∙ first
 
--- and so does one whose number no partition has.
+-- An entry whose number no partition has is unchanged.
 pub keep : (ps : List Partition) (g next : GPT) (j : ℕ) → ArePut ps g next → 1 ≤ j → IsUnnamed j ps → entry_at next j ≡ entry_at g j
 keep [] g next j is low unnamed = ap (λ (m : GPT). entry_at m j) is
 keep (p ∷ ps) g next j is low unnamed =
     keep ps is.0 next j is.2 low (λ k d below. unnamed (suc k) d (omega (arith, below)))
     ∙ put_other p g is.0 j is.1 low (unnamed 0 p (omega arith))
 
--- What was put is there at the end.
+-- A partition that was put is there at the end.
 pub there : (ps : List Partition) (g last next : GPT) → ((i : ℕ) → entry_at next i ≡ entry_at last i) → ArePut ps g last → AreUsed ps → AreThere ps g next
 there [] g last next same is used = tt
 there (p ∷ ps) g last next same is used =
@@ -63,13 +63,13 @@ there (p ∷ ps) g last next same is used =
     let mid : is.0 ≡ with_entry g p.number (entry_at next p.number) = put.next_is ∙ ap (with_entry g p.number) (sym end) in
     (record { first = put.first; last = put.last; span = put.span; entry = end }, subst (λ (m : GPT). AreThere ps m next) mid (there ps is.0 last next same is.2 used.1))
 
--- ---- what is cleared and removed before
+-- ---- entries that are cleared or removed first
 
 low_number : (g : GPT) (i : ℕ) (e : GPTPartitionEntry) → entry_of_number g i ≡ Some e → 1 ≤ i
 low_number g zero e is = absurd (cc)
 low_number g (suc i) e is = omega arith
 
--- An entry of another number stays where one is cleared,
+-- An entry of another number is unchanged if one is cleared,
 cleared_step : (i j : ℕ) (g r : GPT) (next : GPT → Result GPT Refusal) (found : Option GPTPartitionEntry) → entry_of_number g i ≡ found
     → ◌≡◌ {A = Result GPT Refusal} (elim found [ None ↦ Err (NoEntry i) | Some e ↦ next (with_entry g i empty_entry) ]) (Ok r) → 1 ≤ j → i ≢ j
     → ((h : GPT) → next h ≡ Ok r → entry_at r j ≡ entry_at h j) → entry_at r j ≡ entry_at g j
@@ -82,7 +82,7 @@ cleared_keep (p ∷ ps) g r j is low unnamed =
     cleared_step p.number j g r (cleared ps) (entry_of_number g p.number) refl is low (unnamed 0 p (omega arith))
     (λ h done. cleared_keep ps h r j done low (λ k d below. unnamed (suc k) d (omega (arith, below))))
 
--- where one is removed,
+-- or removed.
 removed_step : (i j : ℕ) (g r : GPT) (found : Option GPTPartitionEntry) → entry_of_number g i ≡ found → without_entry i g found ≡ Ok r → 1 ≤ j → i ≢ j
     → entry_at r j ≡ entry_at g j
 removed_step i j g r None found is low differ = absurd (cc)
@@ -97,7 +97,7 @@ removed_keep (i ∷ is) g r j done low others =
     removed_keep is step.0 r j step.2 low (λ k d below. others (suc k) d (omega (arith, below)))
     ∙ removed_step i j g step.0 (entry_of_number g i) refl step.1 low (others 0 i (omega arith))
 
--- and where there may be none that is not asked for, it is not used.
+-- All unnamed entries are unused if none is refused.
 unused_of : (b : Bool) → not b ≡ false → IsTrue b
 unused_of true is = refl
 unused_of false is = absurd (cc)
@@ -115,7 +115,7 @@ pub others_unused : (h : GPT) (j : ℕ) (found : Option ℕ) → lowest_used h �
 others_unused h j None found is = none_used 1 (entries_in h) (j - 1) found
 others_unused h j (Some i) found is = absurd (cc)
 
--- What stays equal stays as its mode says.
+-- An equal entry fulfils StaysAs.
 stays_as : (mode : Mode) (e : GPTPartitionEntry) (h : GPT) (j : ℕ) (after : GPTPartitionEntry) → entry_at h j ≡ e → after ≡ e → others_fault mode h ≡ None → StaysAs mode e after
 stays_as Add e h j after before same none = same
 stays_as Change e h j after before same none = same

@@ -1,4 +1,4 @@
--- An entry that is changed to have the rest is lengthened as far as may be.
+-- A change to the rest lengthens an entry to the furthest end.
 use Prim.Native.Nat.{◌∣◌}
 use Rattle.std.proofs.Common.{◌≡◌, ◌≢◌, ◌≤◌, ◌<◌, ◌⊎◌, inl, inr, ℕ, ◌+◌, ◌-◌, List, [], ◌∷◌, refl, sym, ap, ◌∙◌, subst, arith, zero, suc, IsTrue, Bool, true, false, length}
 use Rattle.std.specs.Prelude.{Option, Some, None, Result, Ok, Err, All, Contains, get_or, nat_eq, if◌then◌else◌}
@@ -36,7 +36,7 @@ use Rattle.gptedit_core.proofs.Resolved.{resolved_used}
 use Rattle.gptedit_core.proofs.Same.{cleared_same, put_same, removed_same}
 use Rattle.gptedit_core.proofs.Steps.{and_then_ok, else_ok}
 
--- ---- what is asked of it
+-- ---- the request
 
 used_by : (used : Option GPTPartitionEntry) (i j : ℕ) → unless (use_fault Change i used) i ≡ Ok j → (e : GPTPartitionEntry) × (used ≡ Some e)
 used_by None i j is = absurd (cc)
@@ -51,7 +51,7 @@ found_by : (o : Option GPTPartitionEntry) (e : GPTPartitionEntry)
 found_by None e is = absurd (cc)
 found_by (Some x) e is = ap Some (if_found (is_used x) x e is)
 
--- It is longer, where it begins there,
+-- The place is Longer if the entry starts there.
 place_longer : (a : Asked) (i ss : ℕ) (e : GPTPartitionEntry) → a.size ≡ Some Rest → BeginsThere a ss e → place_asked Change a i (Some e) ss ≡ Ok (Longer e.starting_lba e.ending_lba)
 place_longer a i ss e size (inl none) =
     let room : room_asked a.size i ss ≡ Ok (Some RoomRest) = ap (λ (s : Option Size). room_asked s i ss) size in
@@ -92,7 +92,7 @@ asked_longer g a random i p number_is size begins is =
       place = sym (ap (λ (q : Partition). q.place) end.1) ∙ same;
     }
 
--- ---- the step that puts it
+-- ---- the step that puts the entry
 
 record IsStep (g : GPT) (mode : Mode) (a : Asked) (free last : GPT) : Type 0 where
   random : List ℕ
@@ -146,7 +146,7 @@ find_step g mode (b ∷ asked) (random ∷ randoms) ps free last (suc k) a below
       later = step.later;
     }
 
--- ---- what is free in the table that comes of it
+-- ---- the free sectors of the resulting table
 
 used_of_covers : (x : ℕ) (e : GPTPartitionEntry) (b : Bool) → is_unused e ≡ b → IsTrue (covers x e) → b ≡ false
 used_of_covers x e false is covered = refl
@@ -183,7 +183,7 @@ module _ (p : Partition) (before mid last next : GPT) (rest : List Partition) (p
         uncovered x free.uncovered k below (subst (λ (e : GPTPartitionEntry). IsTrue (covers x e)) (get_or_default (entries_in before) k d empty_entry below ∙ sym (at_number before k (suc k) (omega arith))) covered);
   }
 
--- One that is free was free before partitions were put.
+-- A free sector was free before partitions were put.
 free_earlier : (ps : List Partition) (g last : GPT) → ArePut ps g last → (x : ℕ) → IsFreeIn last x → IsFreeIn g x
 free_earlier ps g last put x free =
     let header : last.header ≡ g.header = put_same (λ (m : GPT). m.header) (λ m j e. refl) ps g last put in
@@ -209,7 +209,7 @@ module _ (layout : Layout) (randoms : List (List ℕ)) (g next : GPT) (a : Asked
   longer : IsAskedLonger g i step.p
   longer = asked_longer g a step.random i step.p number size begins (subst (λ (m : Mode). resolved g m a step.random ≡ Ok step.p) mode step.asked)
 
-  -- the entry that comes of it
+  -- The resulting entry.
   put_entry : entry_at next i ≡ record step.p.entry { starting_lba = step.put.first; ending_lba = step.put.last }
   put_entry =
       let p = step.p in

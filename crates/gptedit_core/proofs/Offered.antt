@@ -1,4 +1,4 @@
--- What is chosen of the slots of a table that are kept, and what is left of them once an entry is put.
+-- The choice among the kept slots, and the slots after an entry is put.
 use Prim.Native.Nat.{◌∣◌}
 use Rattle.std.proofs.Common.{◌≡◌, ◌≢◌, ℕ, ◌+◌, ◌-◌, ◌^◌, ◌<◌, ◌≤◌, max, List, length, get_or, take, inl, inr, Option, Some, None, refl, sym, ap, ◌∙◌, subst, arith, not, IsTrue}
 use Rattle.std.specs.Prelude.{IfSome, IsSomeAnd}
@@ -50,7 +50,7 @@ no_worse_than Last s t u p q = omega arith
 no_worse_than Best s t u p q = tighter_than s t u p q
 no_worse_than InLongest s t u p q = longer_than s t u p q
 
--- the slot at i is taken
+-- The slot at i is chosen.
 pub pick_taken : (choice : Choice) (n : ℕ) (slots : List (ℕ × ℕ)) (i : ℕ) (found : Option (ℕ × ℕ)) → i < length slots
     → SoFar (IsNoWorse choice) n (take i slots) found → n ≤ (get_or slots i (0, 0)).1 → IfSome found (IsNoWorse choice (get_or slots i (0, 0)))
     → SoFar (IsNoWorse choice) n (take (i + 1) slots) (Some (get_or slots i (0, 0)))
@@ -62,7 +62,7 @@ pick_taken choice n slots i (Some b) h c fits better =
     (All-weaker (λ t. n ≤ t.1 → IsNoWorse choice b t) (λ t. n ≤ t.1 → IsNoWorse choice (get_or slots i (0, 0)) t)
     (λ t than long. no_worse_than choice (get_or slots i (0, 0)) b t better (than long)) (take i slots) c.best)
 
--- the slot at i is passed over
+-- The slot at i is skipped.
 pub pick_kept : (choice : Choice) (n : ℕ) (slots : List (ℕ × ℕ)) (i : ℕ) (found : Option (ℕ × ℕ)) → i < length slots
     → SoFar (IsNoWorse choice) n (take i slots) found
     → (n ≤ (get_or slots i (0, 0)).1 → IsSomeAnd found (λ s. IsNoWorse choice s (get_or slots i (0, 0))))
@@ -76,7 +76,7 @@ pick_kept choice n slots i (Some b) h c no_better = kept_more (IsNoWorse choice)
 asked_of : (g : GPT) (n : ℕ) (slots : List (ℕ × ℕ)) → 0 < g.align → 0 < n → AreSlotsOf g g.align slots → IsAsked g n n slots
 asked_of g n slots positive some are = record { positive = positive; is = omega arith; found = are.are; fits = are.fit }
 
--- The span is the one that is chosen, and its last sector is one of 64 bits.
+-- The span is the chosen one, and ends at a 64-bit sector.
 pub record IsOffered (g : GPT) (choice : Choice) (n start : ℕ) : Type 0 where
   pub chosen : IsChosen choice (IsFreeIn g) g.align (max 1 n) start
   pub fits : start + max 1 n ≤ 2 ^ 64
@@ -100,7 +100,7 @@ none_of InLongest g n slots other positive some are short = absurd (other refl)
 unused_covers : (e : GPTPartitionEntry) (x : ℕ) → IsTrue (is_unused e) → ¬ IsTrue (covers x e)
 unused_covers e x unused covered = false≢true (sym (ap not unused) ∙ (covered_if e x covered).used)
 
--- Where an entry that is not used is put, its sectors are not free any more.
+-- The sectors of an entry that was put are no longer free.
 pub less_free : (g : GPT) (i : ℕ) (e : GPTPartitionEntry) → IsNumber g i → IsTrue (is_unused (entry_at g i)) → IsTrue (is_used e)
     → IsLess (IsFreeIn g) (IsFreeIn (with_entry g i e)) e.starting_lba e.ending_lba
 less_free g i e number unused used =
@@ -140,11 +140,11 @@ kept_after g align i e slots positive number unused used ordered are = record {
   fit = rest_fits align e.starting_lba e.ending_lba (2 ^ 64) slots positive are.fit;
 }
 
--- each slot of a table has a sector
+-- Each slot of a table has a sector
 pub all_long : (g : GPT) (align : ℕ) (slots : List (ℕ × ℕ)) → AreSlotsOf g align slots → All (λ s. 0 < s.1) slots
 all_long g align slots are = λ k d within. slot_long (IsFreeIn g) align (get_or slots k d).0 (get_or slots k d).1 (are.are.each k d within)
 
--- and begins at a multiple
+-- and starts at a multiple.
 pub all_multiples : (g : GPT) (align : ℕ) (slots : List (ℕ × ℕ)) → AreSlotsOf g align slots → All (λ s. align ∣ s.0) slots
 all_multiples g align slots are = λ k d within. (are.are.each k d within).start.multiple
 
@@ -174,7 +174,7 @@ no_longest_of g runs are short s n slot =
     let none = All-contains (λ s. s.1 < 1) runs (s, n) short (are.are.every s n slot) in
     omega arith
 
--- so many sectors from its first multiple of the alignment on
+-- The n sectors from its first multiple of the alignment on.
 pub in_longest : (g : GPT) (n start long skipped : ℕ) → IsLongestRun (IsFreeIn g) start long → IsFirstMultiple g.align start (start + skipped)
     → start + skipped + max 1 n ≤ start + long → IsLongestPlace (IsFreeIn g) g.align (max 1 n) (start + skipped)
 in_longest g n start long skipped longest first within = (

@@ -1,4 +1,4 @@
--- In which order a new table is written over an old one.
+-- Safe orders for the write of a new table over an old one.
 use Rattle.std.proofs.Common.{◌≡◌, ◌≢◌, ◌↔◌, refl, sym, ap, ◌∙◌, subst, ℕ, Bool, true, false, not, IsTrue, List}
 use Rattle.std.specs.Prelude.{if◌then◌else◌, nat_eq}
 use Rattle.std.proofs.lemmas.Bool.{ne_eqb}
@@ -21,7 +21,7 @@ side_first h one = ap (λ (n : ℕ). side_if (nat_eq n 1)) one
 pub side_second : (h : GPTHeader) → h.primary_lba ≢ 1 → side_of h ≡ backup
 side_second h other = ap side_if (ne_eqb h.primary_lba 1 other)
 
--- The place of a header, by whether it is that of the primary copy.
+-- The place of a header, by whether it is the primary one.
 pub side_is : (h : GPTHeader) (b : Bool) → IsTrue b ↔ (h.primary_lba ≡ 1) → side_of h ≡ side_if b
 side_is h true is = side_first h (is.0 refl)
 side_is h false is = side_second h (λ first. let one : false ≡ true = is.1 first in absurd (cc))
@@ -36,7 +36,7 @@ same_side false false same = refl
 same_side true false same = absurd (cc)
 same_side false true same = absurd (cc)
 
--- Two headers are of one place where both are that of the primary copy, or neither is.
+-- Two headers are of one place if both are primary, or neither is.
 pub one_place : (g h : GPTHeader) (a b : Bool) → IsTrue a ↔ (g.primary_lba ≡ 1) → IsTrue b ↔ (h.primary_lba ≡ 1) → (a ≡ b) ↔ (side_of h ≡ side_of g)
 one_place g h a b first second =
     let left = side_is g a first in

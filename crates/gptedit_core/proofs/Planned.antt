@@ -1,4 +1,4 @@
--- What a request makes of a table, and what is told of it.
+-- The table that a request makes, and its outcome.
 use Rattle.std.proofs.Common.{◌≡◌, ◌⊎◌, ◌↔◌, inl, inr, refl, sym, subst, ℕ, Bool, true, false, not, IsTrue}
 use Rattle.std.specs.Prelude.{Result, Ok, Err, IfErr, IfOk, OnOk}
 use Rattle.gptman.specs.Answers.{IsFailure}
@@ -22,7 +22,7 @@ use Rattle.gptedit_core.specs.declared.refusal.Stop.{Stop}
 use Rattle.gptedit_core.specs.declared.refusal.Stop.TheVariants.{Refused, Failed}
 use Rattle.gptedit_core.proofs.Kept.{done_places}
 
--- A refusal of the last check is one of the request.
+-- A refusal by the last check refuses the request.
 stop_check : (request : Request) (len : ℕ) (g next : GPT) → HasLayout g len → IsDone request.job request.random.items g next
     → (s : Stop) → IsStopOf (RefusesCheck next) s → IsStopOf (RefusesRequest request len g) s
 stop_check request len g next layout done (Refused r) is = not_written next layout done is
@@ -33,7 +33,7 @@ pub refused_check : (request : Request) (len : ℕ) (g next : GPT) (r : Result (
 refused_check request len g next (Ok u) layout done is = tt
 refused_check request len g next (Err s) layout done is = stop_check request len g next layout done s is
 
--- What is told of a table of which a plan makes another.
+-- The outcome of a plan that makes another table.
 module _ (P N : GPT → GPT → Type 0) (R : GPT → Refusal → Type 0) (dry needed : Bool) (g next new : GPT) (planned : P g next) (need : N g next ↔ IsTrue needed) where
   is_needed : needed ≡ true → N g next
   is_needed same = need.1 same
@@ -49,23 +49,23 @@ module _ (P N : GPT → GPT → Type 0) (R : GPT → Refusal → Type 0) (dry ne
   all_told (Ok answer) is = told_as answer is
   all_told (Err e) is = tt
 
--- What is told of a table that is refused.
+-- The outcome of a refusal.
 pub all_refused : (P N : GPT → GPT → Type 0) (R : GPT → Refusal → Type 0) (dry : Bool) (g : GPT) (refusal : Refusal) → R g refusal → (r : Result (Planned Outcome) Error)
     → IfOk r (λ planned. planned ≡ Leave (Told g refusal)) → IfOk r (IsPlannedAs (IsWrittenAs P N dry) (IsLeftAs P N R dry) g g)
 all_refused P N R dry g refusal is (Ok planned) told = subst (IsPlannedAs (IsWrittenAs P N dry) (IsLeftAs P N R dry) g g) (sym told) (is_refused refusal is refl)
 all_refused P N R dry g refusal is (Err e) told = tt
 
--- An overflow is no failure of the disk.
+-- An overflow is not a failure of the disk.
 pub no_failure : (P : Type 0) (fault : Fault) (old new : DiskState) → fault ≡ overflow → ((fault ≡ overflow) × P) ⊎ IsFailure fault old new → P
 no_failure P fault old new is (inl small) = small.1
 no_failure P fault old new is (inr failure) = let other : fault ≡ io = failure.0 in absurd (cc)
 
--- Two tables are not the same.
+-- The tables differ, by the result of a comparison.
 pub differs : (same : Bool) (g next : GPT) → IsTrue same ↔ (g ≡ next) → Differs g next ↔ IsTrue (not same)
 differs true g next is = (λ no. absurd (no (is.0 refl)), λ yes. absurd (cc yes))
 differs false g next is = (λ no. refl, λ yes same. absurd (cc (is.1 same)))
 
--- It has what the table and the other have.
+-- The resulting table has each property that both tables have.
 module _ (Q : GPT → Type 0) (dry needed : Bool) (g next new : GPT) (has : Q g) (next_has : Q next) where
   new_has : (answer : Planned Outcome) → TellsOf needed dry g next new answer → Q new
   new_has (Write answer) is = subst Q (sym is.0) next_has
@@ -75,6 +75,6 @@ module _ (Q : GPT → Type 0) (dry needed : Bool) (g next new : GPT) (has : Q g)
   all_have (Ok answer) is = new_has answer is
   all_have (Err e) is = tt
 
--- What is written keeps the places of the table.
+-- The written table keeps the places of the old one.
 pub written_keeps : (request : Request) (len : ℕ) → AlwaysKeepsPlaces (IsWritten request len)
 written_keeps request len table next answer is = done_places request.job request.random.items table next is.planned.done

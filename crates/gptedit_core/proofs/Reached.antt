@@ -1,4 +1,4 @@
--- What growths come to.
+-- Consequences of growths.
 use Rattle.std.proofs.Common.{◌≡◌, ◌≢◌, ◌≤◌, ◌<◌, ◌+◌, ◌-◌, ◌*◌, ◌/◌, ◌||◌, ℕ, zero, suc, Bool, true, false, Some, None, arith, refl, sym, subst, ap, ◌∙◌, if◌then◌else◌}
 use Rattle.std.specs.Prelude.{nat_eq, nat_lt}
 use Rattle.std.proofs.lemmas.Bool.Decides.{nat_tests}
@@ -15,11 +15,11 @@ use Rattle.gptedit_core.specs.Growing.IsKeptFirst.{stays_first, was_too_high, wa
 use Rattle.gptedit_core.specs.declared.growth.Bounds.{Bounds}
 use Rattle.gptedit_core.specs.declared.growth.Bounds.TheVariants.{Kept, Usual}
 
--- A table that is grown ends where the disk does.
+-- A grown table ends where the disk does.
 grown_ends : (bounds : Bounds) (len : ℕ) (g next : GPT) → IsGrown bounds len g next → EndsAt len next
 grown_ends bounds len g next is = record { low = is.layout.table.low_sector; high = is.layout.table.high_sector }
 
--- A disk on which a table fits has sectors for both copies.
+-- A disk that fits a table has sectors for both copies.
 has_none : (b : Bool) → (if b then Some overflow else None) ≡ None → b ≡ false
 has_none true is = absurd (cc)
 has_none false is = refl
@@ -30,11 +30,11 @@ room_of size sectors array is = (grind (arith, nat_tests), grind (arith, nat_tes
 has_room : (h : GPTHeader) (ss len : ℕ) → fit_fault h ss len ≡ None → (array_size h ≢ 0) × (array_sectors h ss + 2 ≤ len / ss)
 has_room h ss len fits = room_of (array_size h) (len / ss) (array_sectors h ss) (has_none (nat_eq (array_size h) 0 || nat_lt (len / ss) (array_sectors h ss + 2)) fits)
 
--- the last usable sector of the fitted table, and its backup entries
+-- The last usable sector of the fitted table, and its backup entries.
 last_is : (sectors array : ℕ) → array + 2 ≤ sectors → sectors - array - 2 + 1 + array ≡ sectors - 1
 last_is sectors array room = omega arith
 
--- the first usable sector that is kept
+-- The first usable sector that is kept.
 kept_above : (was lowest last first : ℕ) → IsKeptFirst was lowest last first → lowest ≤ first
 kept_above was lowest last first (stays_first above below is) = omega arith
 kept_above was lowest last first (was_too_low low is) = omega arith
@@ -45,7 +45,7 @@ kept_same was lowest last first (stays_first above below is) legal_low legal_hig
 kept_same was lowest last first (was_too_low low is) legal_low legal_high = absurd (omega arith)
 kept_same was lowest last first (was_too_high high is) legal_low legal_high = absurd (omega arith)
 
--- ---- the end is reached
+-- ---- the table reaches the end
 
 with_first_reaches : (len : ℕ) (g : GPT) (first : ℕ) → fit_fault g.header g.sector_size len ≡ None → lowest_usable g ≤ first → EndsAt len (with_first first (grow_to g len))
     → ReachesEnd len g (with_first first (grow_to g len))
@@ -97,9 +97,9 @@ usual_of len g next fits ends (is_usual usual here is) = (
 pub usual_bounds_reach_end : UsualBoundsReachEnd
 usual_bounds_reach_end len g next is = usual_of len g next is.fits (grown_ends Usual len g next is) is.fitted
 
--- ---- a grown table stays
+-- ---- a grown table is unchanged by growing
 
--- A header that was fitted is fitted as it is.
+-- Fitting a fitted header changes nothing.
 own_again : (p last : ℕ) → (let q = (if nat_eq p 1 then p else last) in if nat_eq q 1 then q else last) ≡ (if nat_eq p 1 then p else last)
 own_again p last = grind (arith, nat_tests)
 
@@ -134,7 +134,7 @@ grow_again g len sector fits =
     let far = far_end (len / g.sector_size) (array_sectors g.header g.sector_size) room.1 (has_sectors g.header g.sector_size sector room.0) in
     ap (λ (h : GPTHeader). record g { header = h }) (fit_again g.header (len / g.sector_size) (array_sectors g.header g.sector_size) far)
 
--- it still fits
+-- It still fits.
 fits_still : (bounds : Bounds) (len : ℕ) (g next : GPT) → IsFitted bounds len g next → fit_fault g.header g.sector_size len ≡ None
     → fit_fault next.header next.sector_size len ≡ None
 fits_still bounds len g next (stays kept ends is) fits = subst (λ (m : GPT). fit_fault m.header m.sector_size len ≡ None) (sym is) fits

@@ -1,4 +1,4 @@
--- A new table over an old one leaves one of the two.
+-- A crash during the write of a new table over an old one leaves one of the two.
 use Rattle.std.proofs.Common.{◌≡◌, ◌≢◌, ◌⊎◌, ◌↔◌, IsTrue, inl, inr, refl, sym, ap, ◌∙◌, subst, ℕ, ◌+◌, ◌-◌, ◌*◌, ◌/◌, ◌≤◌, Bool, true, false, List, [], Ok, Option, min, max, arith}
 use Rattle.std.proofs.Math.Nat.{one-mul}
 use Rattle.gptman.specs.Copy.{IsCoherent}
@@ -23,7 +23,7 @@ use Rattle.gptedit_core.proofs.Ordered.{side_first, side_second}
 last_is : (p b last : ℕ) → p ≡ 1 → b ≡ 1 → min p b ≡ min 1 last → max p b ≡ max 1 last → last ≡ 1
 last_is p b last first second low high = omega (arith, first, second, low, high)
 
--- two headers in one sector are not apart
+-- Two headers in one sector overlap.
 never_apart : (a b : ℕ) → b ≡ a → ◌≡◌ {A = ℕ} 92 0 ⊎ (◌≡◌ {A = ℕ} 92 0 ⊎ ((a + 92 ≤ b) ⊎ (b + 92 ≤ a))) → ⊥
 never_apart a b same (inl none) = omega (arith, none)
 never_apart a b same (inr (inl none)) = omega (arith, none)
@@ -38,7 +38,7 @@ not_both g len layout second first =
     let same : (len / g.sector_size - 1) * g.sector_size ≡ g.sector_size = ap (λ (n : ℕ). n * g.sector_size) last ∙ one-mul g.sector_size in
     never_apart g.sector_size ((len / g.sector_size - 1) * g.sector_size) same t.apart.0.1.0
 
--- On the stated layout a header's form is that of its place.
+-- In the stated layout the form of a header is that of its place.
 form_there : (side : Side) (g : GPT) (len : ℕ) → HasLayout g len → IsHeaderForm side g.header → side_of g.header ≡ side
 form_there primary g len layout form = side_first g.header form.0
 form_there backup g len layout form = side_second g.header (not_both g len layout form.0)
@@ -46,7 +46,7 @@ form_there backup g len layout form = side_second g.header (not_both g len layou
 pub form_at : (g : GPT) (len : ℕ) → HasLayout g len → IsHeaderForm (side_of g.header) g.header
 form_at g len layout = subst (λ (side : Side). IsHeaderForm side g.header) (sym (form_there layout.side g len layout layout.form)) layout.form
 
--- ---- what a safe order keeps
+-- ---- consequences of a safe order
 
 module _ (disk : DiskState) (g next : GPT) (synced : disk.pending ≡ []) (read : IsReadInForm disk.view g) (order : IsSafeOrder g next disk.size) where
   there : side_of g.header ≡ read.side
@@ -72,9 +72,9 @@ module _ (disk : DiskState) (g next : GPT) (synced : disk.pending ≡ []) (read 
 pub kept_in_order : (disk : DiskState) → SafeOrdersKeepACopy disk
 kept_in_order disk g next synced read order = kept disk g next synced read order
 
--- ---- what is left
+-- ---- the disk after a crash
 
--- A value that is read where each accepted copy is this table is it, in the form of its place.
+-- A value that is read is this table in the form of its place, if each accepted copy is this table.
 record IsOfTable (view : List ℕ) (g : GPT) (was : Table) : Type 0 where
   same : table_in g ≡ was
   read : IsReadInForm view g
@@ -99,7 +99,7 @@ order_else creation g next len b keeps is = (λ yes. inr (is.0 yes), λ order. i
 pub refuted : {P : Type 0} (b : Bool) → b ≡ false → IsTrue b ↔ P → P → ⊥
 refuted b lacks is p = let holds : b ≡ true = is.1 p in absurd (cc)
 
--- Where it may not lose both, a stop leaves the table that was or the new one.
+-- A crash leaves the old or the new table, unless the write may lose both.
 pub safe_anew : (creation : Creation) (size : Option ℕ) (was : Table) (old new : DiskState) → creation.may_lose ≡ false → StartsGoodFor old size was
     → LeavesChange (IsWrittenAnew creation old.size) size old new → IsSafe (IsWrittenAnew creation old.size) (size_for old.view size) was old new
 safe_anew creation size was old new keeps good (unwritten only) = unwritten_safe _ (size_for old.view size) was old new good only

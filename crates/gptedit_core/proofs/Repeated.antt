@@ -1,4 +1,4 @@
--- A layout that was put into a table is not refused a second time.
+-- A layout is not refused a second time.
 use Rattle.std.proofs.Common.{◌≡◌, ◌≤◌, ◌<◌, ◌⊎◌, inl, inr, ℕ, ◌+◌, ◌-◌, ◌^◌, List, [], ◌∷◌, refl, sym, ap, ◌∙◌, subst, arith, zero, suc, IsTrue, Bool, true, false, length}
 use Rattle.std.specs.Prelude.{Option, Some, None, Result, Ok, Err, All, Contains, get_or, max, nat_eq, nat_le, nat_lt, not, slice_get, unwrap_or, if◌then◌else◌}
 use Rattle.std.proofs.lemmas.Bool.{eq-eqb, eqb-false, eqb-true, le-leb, leb-true}
@@ -42,13 +42,13 @@ use Rattle.gptedit_core.proofs.Same.{put_same}
 use Rattle.gptedit_core.proofs.Steps.{and_then_ok, else_ok}
 use Rattle.gptedit_core.proofs.Taken.{all_placed, has_type, not_refused_where, own_partition, span_to, stays, DifferInNumber, IsPlaced}
 
--- ---- the place of one that is asked for again
+-- ---- the place of an entry that is requested again
 
 span_by : (i first more : ℕ) (b : Bool) (place : Place) → ◌≡◌ {A = Result Place Refusal} (if b then Ok (At first (first + more)) else Err (TooLarge i)) (Ok place) → At first (first + more) ≡ place
 span_by i first more true place is = cc
 span_by i first more false place is = absurd (cc)
 
--- Where so many sectors come to be from a first one on.
+-- The sectors of a place from first on.
 span_at : (i first more : ℕ) (place : Place) (g : GPT) (s : ℕ × ℕ) → span_from i first more ≡ Ok place → IsSpan place g s → s ≡ (first, first + more)
 span_at i first more place g s is span = subst (λ (p : Place). IsSpan p g s) (sym (span_by i first more (nat_lt (first + more) (2 ^ 64)) place is)) span
 
@@ -56,7 +56,7 @@ sized_by : (i : ℕ) (b : Bool) (r : Result Place Refusal) (place : Place) → �
 sized_by i true r place is = is
 sized_by i false r place is = absurd (cc)
 
--- The rest begins at the start that is asked for.
+-- The rest starts at the requested start.
 there_begins : (mode : Mode) (there s : ℕ × ℕ) (g : GPT) → IsSpan (rest_there mode there) g s → s.0 ≡ there.0
 there_begins Add there s g span = span.0
 there_begins Change there s g span = span.0
@@ -70,7 +70,7 @@ begins : (mode : Mode) (x : ℕ) (there : Option (ℕ × ℕ)) (s : ℕ × ℕ) 
 begins mode x None s g span = ap (λ (p : ℕ × ℕ). p.0) span.2
 begins mode x (Some there) s g span = begins_by mode x there s g (nat_eq x there.0) refl span
 
--- what is asked of an entry that is used, by its steps
+-- The place of a used entry, by its steps.
 place_from : (a : Asked) (i ss : ℕ) (y : GPTPartitionEntry) (s : Option ℕ) (r : Option Room) (place : Place) → start_asked a.start ss ≡ Ok s → room_asked a.size i ss ≡ Ok r
     → place_of (Become false) i r s (Some (y.starting_lba, y.ending_lba)) a.choice ≡ Ok place
     → stay_fault (Become false) i (Some (y.starting_lba, y.ending_lba)) place ≡ None → place_asked (Become false) a i (Some y) ss ≡ Ok place
@@ -83,7 +83,7 @@ place_from a i ss y s r place start room at stay =
     ∙ (ap (λ (x : Result Place Refusal). and_then x stay_of) at
     ∙ ap (λ (o : Option Refusal). unless o place) stay))
 
--- It is where it is, whatever was asked.
+-- The place is unchanged, whatever was requested.
 module _ (i first last : ℕ) (choice : Choice) (g : GPT) (ordered : first ≤ last) (fits : last + 1 < 2 ^ 64) where
   place_again : (mode : Mode) (room : Option Room) (start : Option ℕ) (there : Option (ℕ × ℕ)) (place : Place) → place_of mode i room start there choice ≡ Ok place
       → IsSpan place g (first, last) → place_of (Become false) i room start (Some (first, last)) choice ≡ Ok (At first last)
@@ -135,9 +135,9 @@ module _ (i first last : ℕ) (choice : Choice) (g : GPT) (ordered : first ≤ l
       (subst (λ (x : ℕ). stay_fault (Become false) i (Some (first, x)) (At first last) ≡ None) (sym high) (stays i first last)) in
       place_from a i ss y start.0 room.0 (At first last) start.1 room.1 there fault
 
--- ---- one that is asked for again
+-- ---- one entry that is requested again
 
--- the place that was asked for
+-- Its first requested place.
 first_place : (g : GPT) (mode : Mode) (a : Asked) (random : List ℕ) (p : Partition) → resolved g mode a random ≡ Ok p
     → (used : Option GPTPartitionEntry) × (place_asked mode a p.number used g.sector_size ≡ Ok p.place)
 first_place g mode a random p is =
@@ -151,7 +151,7 @@ first_place g mode a random p is =
     let end = else_ok (is_unused e) (NoType i) (record { number = i; entry = e; place = place.0 }) p place.2 in
     (used, subst (λ (q : Partition). place_asked mode a q.number used g.sector_size ≡ Ok q.place) end.1 place.1)
 
--- What is asked again of an entry that was put is that entry.
+-- Requested again, an entry that was put is that entry.
 resolved_again : (g t next : GPT) (mode : Mode) (a : Asked) (random other : List ℕ) (i : ℕ) (p : Partition) → a.number ≡ Some i → resolved g mode a random ≡ Ok p
     → next.sector_size ≡ g.sector_size → entry_of_number next p.number ≡ Some (entry_at next p.number) → IsPlaced (entry_at next p.number) → IsThere p t next
     → resolved next (Become false) a other ≡ Ok (own_partition p.number (entry_at next p.number))
@@ -190,13 +190,13 @@ resolved_again g t next mode a random other i p number_is is sector found placed
     let end : ◌≡◌ {A = Result Partition Refusal} (Ok (own_partition n y)) (Ok (own_partition n (entry_at next n))) = ap (λ (e : GPTPartitionEntry). Ok (own_partition n e)) (sym put) in
     ap (λ (r : Result ℕ Refusal). and_then r (partition_at next (Become false) a other)) number ∙ (ap (with_used next a other n) at ∙ (part ∙ end))
 
--- ---- all of them
--- the entries that are there under the partitions' numbers, as partitions
+-- ---- all entries
+-- The entries under the numbers of the partitions, as partitions.
 abbrev those_there : GPT → List Partition → List Partition
 those_there next [] = []
 those_there next (p ∷ ps) = own_partition p.number (entry_at next p.number) ∷ those_there next ps
 
--- each of them has a number
+-- Each of them has a number.
 abbrev AllFound : GPT → List Partition → Type 0
 AllFound next [] = Unit {0}
 AllFound next (p ∷ ps) = ((entry_of_number next p.number ≡ Some (entry_at next p.number)) × IsPlaced (entry_at next p.number)) × AllFound next ps
@@ -222,7 +222,7 @@ all_resolved_again g t next mode (a ∷ asked) (random ∷ randoms) (other ∷ o
 
 -- ---- their numbers
 
--- Each that was put has a number of the table,
+-- Each partition that was put has a number of the table,
 numbers_found : (g next : GPT) (ps : List Partition) (last : GPT) → ArePut ps g last → length (entries_in next) ≡ length (entries_in g) → All IsPlaced (entries_in next) → AllFound next ps
 numbers_found g next [] last put long placed = tt
 numbers_found g next (p ∷ ps) last put long placed =
@@ -235,7 +235,7 @@ numbers_found g next (p ∷ ps) last put long placed =
     let mid : length (entries_in put.0) ≡ length (entries_in g) = put_same (λ (m : GPT). length (entries_in m)) (λ m i e. length-set (entries_in m) (i - 1) e) (p ∷ []) g put.0 (put.0, put.1, refl) in
     ((found, is_placed), numbers_found put.0 next ps last put.2 (long ∙ sym mid) placed)
 
--- and no other has it.
+-- and no partition has the number of a used entry.
 unnamed_where : (ps : List Partition) (g last : GPT) (j : ℕ) → ArePut ps g last → 1 ≤ j → (¬ IsTrue (is_unused (entry_at g j))) → IsUnnamed j ps
 unnamed_where [] g last j put low used = λ k d below. absurd (omega (arith, below))
 unnamed_where (p ∷ ps) g last j put low used =
@@ -265,7 +265,7 @@ has_there next j [] has = absurd has
 has_there next j (p ∷ ps) (inl same) = inl same
 has_there next j (p ∷ ps) (inr has) = inr (has_there next j ps has)
 
--- A number that is asked for is one of theirs.
+-- A requested number is one of theirs.
 asks_has : (g : GPT) (mode : Mode) (asked : List Asked) (randoms : List (List ℕ)) (ps : List Partition) (j : ℕ) → length asked ≤ length randoms
     → resolved_all g mode asked randoms ≡ Ok ps → Asks j asked → HasNumber j ps
 asks_has g mode [] randoms ps j long all asks = absurd asks
@@ -281,7 +281,7 @@ asks_has g mode (a ∷ asked) (random ∷ randoms) ps j long all (inr asks) =
     let whole : p.0 ∷ rest.0 ≡ ps = cc in
     subst (HasNumber j) whole (inr (asks_has g mode asked randoms rest.0 j (omega (arith, long)) rest.1 asks))
 
--- ---- what is removed
+-- ---- removed entries
 number_by : (g : GPT) (i : ℕ) (e : GPTPartitionEntry) (b : Bool) → nat_le 1 i ≡ b
     → ◌≡◌ {A = Option GPTPartitionEntry} (if b then slice_get (entries_in g) (i - 1) else None) (Some e) → IsNumber g i
 number_by g i e false low is = absurd (cc)
@@ -297,7 +297,7 @@ emptied_by g i j true same number low unused =
 emptied_by g i j false differ number low unused =
     subst (λ (e : GPTPartitionEntry). IsTrue (is_unused e)) (sym (other_entry g i j empty_entry number.0 low (eqb-false i j differ))) unused
 
--- the one that is removed, or one that is not used before
+-- An entry that is removed, or was unused, is unused.
 removed_one_unused : (i j : ℕ) (g r : GPT) (found : Option GPTPartitionEntry) → entry_of_number g i ≡ found → without_entry i g found ≡ Ok r → 1 ≤ j
     → ((i ≡ j) ⊎ IsTrue (is_unused (entry_at g j))) → IsTrue (is_unused (entry_at r j))
 removed_one_unused i j g r None found is low which = absurd (cc)
@@ -311,14 +311,14 @@ removed_one_unused i j g r (Some e) found is low (inr unused) =
     let end = else_ok (is_blank e) (IsUnused i) (with_entry g i empty_entry) r is in
     subst (λ (m : GPT). IsTrue (is_unused (entry_at m j))) end.1 (emptied_by g i j (nat_eq i j) refl (number_by g i e _ refl found) low unused)
 
--- One that is not used stays so,
+-- An unused entry remains unused,
 removed_unused : (is : List ℕ) (g r : GPT) (j : ℕ) → removed_all is g ≡ Ok r → 1 ≤ j → IsTrue (is_unused (entry_at g j)) → IsTrue (is_unused (entry_at r j))
 removed_unused [] g r j done low unused = let same : g ≡ r = cc in subst (λ (m : GPT). IsTrue (is_unused (entry_at m j))) same unused
 removed_unused (i ∷ is) g r j done low unused =
     let step = and_then_ok (removed_one i g) (removed_all is) r done in
     removed_unused is step.0 r j step.2 low (removed_one_unused i j g step.0 (entry_of_number g i) refl step.1 low (inr unused))
 
--- and one that is removed is not used.
+-- and a removed entry is unused.
 removed_gone : (is : List ℕ) (g r : GPT) (j k : ℕ) → removed_all is g ≡ Ok r → 1 ≤ j → k < length is → get_or is k j ≡ j → IsTrue (is_unused (entry_at r j))
 removed_gone [] g r j k done low below at = absurd (omega (arith, below))
 removed_gone (i ∷ is) g r j zero done low below at =
@@ -328,7 +328,7 @@ removed_gone (i ∷ is) g r j (suc k) done low below at =
     let step = and_then_ok (removed_one i g) (removed_all is) r done in
     removed_gone is step.0 r j k step.2 low (omega (arith, below)) at
 
--- ---- what is left
+-- ---- the remaining entries
 not_both : (b : Bool) → IsTrue b → ¬ IsTrue (not b)
 not_both true is other = absurd (cc)
 not_both false is other = absurd (cc)

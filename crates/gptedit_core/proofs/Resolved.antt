@@ -1,4 +1,4 @@
--- What is asked of entries, one after the other.
+-- Requests are resolved one by one.
 use Rattle.std.proofs.Common.{◌≡◌, ℕ, List, [], ◌∷◌, refl, subst, IsTrue}
 use Rattle.std.specs.Prelude.{Result, Ok, Err, if◌then◌else◌}
 use Rattle.gptman.specs.Entry.{is_unused}
@@ -13,12 +13,12 @@ use Rattle.gptedit_core.specs.declared.refusal.Refusal.{Refusal}
 use Rattle.gptedit_core.specs.declared.resolve.Partition.{Partition}
 use Rattle.gptedit_core.proofs.Steps.{and_then_ok, else_ok}
 
--- none of the partitions' entries is unused
+-- No partition has an unused entry.
 abbrev pub AreUsed : List Partition → Type 0
 AreUsed [] = Unit {0}
 AreUsed (p ∷ ps) = (¬ IsTrue (is_unused p.entry)) × AreUsed ps
 
--- What is asked of an entry has a type.
+-- A resolved partition has a type.
 pub resolved_used : (g : GPT) (mode : Mode) (a : Asked) (random : List ℕ) (p : Partition) → resolved g mode a random ≡ Ok p → ¬ IsTrue (is_unused p.entry)
 resolved_used g mode a random p is =
     let number = and_then_ok (number_asked g a) (partition_at g mode a random) p is in
@@ -40,14 +40,14 @@ used_all g mode (a ∷ asked) (random ∷ randoms) ps is =
     let same : first.0 ∷ rest.0 ≡ ps = cc in
     subst AreUsed same (resolved_used g mode a random first.0 first.1, used_all g mode asked randoms rest.0 rest.1)
 
--- ---- a list that grows by one
+-- ---- a list with one more element
 
--- One more is asked of, and the rest.
+-- One more request is resolved.
 pub resolved_more : (g : GPT) (mode : Mode) (a : Asked) (random : List ℕ) (asked : List Asked) (randoms : List (List ℕ)) (p : Partition) (ps : List Partition)
     → resolved g mode a random ≡ Ok p → resolved_all g mode asked randoms ≡ Ok ps → resolved_all g mode (a ∷ asked) (random ∷ randoms) ≡ Ok (p ∷ ps)
 resolved_more g mode a random asked randoms p ps first rest = rw (first, rest) refl
 
--- The next is refused, or one of the rest.
+-- The next request is refused, or a later one.
 pub refused_more : (g : GPT) (mode : Mode) (a : Asked) (random : List ℕ) (asked : List Asked) (randoms : List (List ℕ)) (r : Refusal)
     → resolved g mode a random ≡ Err r → resolved_all g mode (a ∷ asked) (random ∷ randoms) ≡ Err r
 refused_more g mode a random asked randoms r first = rw first refl

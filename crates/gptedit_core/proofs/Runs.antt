@@ -1,4 +1,4 @@
--- The run of free sectors that has a sector, and the longest of them.
+-- The run of free sectors that contains a sector, and the longest run.
 use Rattle.std.proofs.Common.{◌≡◌, ◌≤◌, ℕ, ◌+◌, ◌-◌, ◌%◌, max, List, arith, subst, sym}
 use Rattle.std.specs.Prelude.{All, Contains}
 use Rattle.std.proofs.lemmas.List.Elements.{All-contains}
@@ -22,7 +22,7 @@ run_at free slots s run are has inside =
 pub no_run : (free : ℕ → Type 0) (slots : List (ℕ × ℕ)) (s : ℕ) → AreSlots free 1 slots → All (λ r. ¬ HasSector s r) slots → HasNoRunWith free s
 no_run free slots s are none start long slot = All-contains (λ r. ¬ HasSector s r) slots (start, long) none (are.every start long slot)
 
--- where the shortest of the runs that are no shorter than the longest one begins
+-- The start of the shortest run that is at least as long as the longest one.
 pub longest_at : (free : ℕ → Type 0) (long s : ℕ) → IsMaximumSize free 1 long → IsBestPlace free 1 (max 1 long) s → IsLongestRun free s long
 longest_at free long s greatest best =
     let high : best.long - best.long % 1 ≤ long = greatest.greatest s best.long best.slot in

@@ -1,4 +1,4 @@
--- From the primary copy a growth leaves the table that was or the grown one.
+-- From the primary copy a growth leaves the old or the grown table.
 use Rattle.std.proofs.Common.{◌≡◌, ◌*◌, ◌∙◌, ℕ, List, [], ◌∷◌, inl, inr, refl, sym, subst, ap, Option}
 use Rattle.gptman.specs.Crash.{IsKeptFor}
 use Rattle.gptman.specs.Disk.{AgreesOutside, DiskState, OnlyRead}
@@ -21,7 +21,7 @@ use Rattle.gptedit_core.specs.declared.growth.Bounds.{Bounds}
 use Rattle.gptedit_core.specs.declared.growth.Growth.{Growth}
 use Rattle.gptedit_core.proofs.Growing.{fitted_sector}
 
--- A growth keeps the primary form, and the number of entries.
+-- A growth keeps the primary form and the number of entries.
 fitted_form : (bounds : Bounds) (len : ℕ) (g next : GPT) → IsFitted bounds len g next → IsHeaderForm primary g.header → IsHeaderForm primary next.header
 fitted_form bounds len g next (stays kept ends is) form = subst (λ (m : GPT). IsHeaderForm primary m.header) (sym is) form
 fitted_form bounds len g next (follows kept ends first may is) form = subst (λ (m : GPT). IsHeaderForm primary m.header) (sym is) (rw (form.0, form.1) (refl, refl))
@@ -32,7 +32,7 @@ fitted_count bounds len g next (stays kept ends is) = ap (λ (m : GPT). m.header
 fitted_count bounds len g next (follows kept ends first may is) = ap (λ (m : GPT). m.header.number_of_partition_entries) is
 fitted_count bounds len g next (is_usual usual ends is) = ap (λ (m : GPT). m.header.number_of_partition_entries) is
 
--- The primary ranges are those of the grown table, which are apart from its backup ranges.
+-- The primary ranges are those of the grown table, and do not overlap its backup ranges.
 clear_of : (was : Table) (next : GPT) (len : ℕ) → next.header.number_of_partition_entries ≡ was.count → HasLayout next len
     → AreClear (copy_ranges_at primary was next.sector_size len) (copy_ranges_at backup (table_in next) next.sector_size len)
 clear_of was next len count layout =
@@ -49,14 +49,14 @@ growths_keep_primary disk bounds was g next synced held form count is = record {
   clear = clear_of was next disk.size (fitted_count bounds disk.size g next is.fitted ∙ count) is.layout;
 }
 
--- What is read is the table that the primary place holds.
+-- A read returns the table in the primary place.
 read_primary : (old new : DiskState) (ss : ℕ) (was : Table) (g : GPT) → StartsPrimary old ss was → MayBeRead old new ss (copy_of g) → IsForm primary was (copy_of g)
 read_primary old new ss was g good (inl first) =
     let same : good.held.copy ≡ copy_of g = cc (good.held.accepted, first) in
     subst (IsForm primary was) same good.held.form
 read_primary old new ss was g good (inr second) = absurd (good.alone (copy_of g) second.0)
 
--- Where nothing is written a stop leaves it.
+-- If nothing is written, a crash leaves it.
 still_held : (old new : DiskState) (ss : ℕ) (was : Table) → StartsPrimary old ss was → OnlyRead old new → (b : List ℕ) → AgreesOutside [] old.view b → HoldsOneOf b ss (was ∷ [])
 still_held old new ss was good only b agrees = record {
   side = primary;

@@ -1,4 +1,4 @@
--- What putting an entry leaves as it is stays through the steps of a layout.
+-- A property that each put keeps is kept by a whole layout.
 use Rattle.std.proofs.Common.{◌≡◌, ℕ, List, [], ◌∷◌, sym, ap, ◌∙◌}
 use Rattle.std.specs.Prelude.{Option, Some, None, Result, Ok, Err}
 use Rattle.gptman.specs.Coding.{empty_entry}

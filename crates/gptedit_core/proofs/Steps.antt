@@ -1,10 +1,10 @@
--- Two steps of which each may be refused.
+-- Two steps, each of which may be refused.
 use Rattle.std.proofs.Common.{◌≡◌, refl, Bool, true, false, IsTrue}
 use Rattle.std.specs.Prelude.{Result, Ok, Err, if◌then◌else◌}
 use Rattle.gptedit_core.specs.Resolving.{and_then}
 use Rattle.gptedit_core.specs.declared.refusal.Refusal.{Refusal}
 
--- both came to a value
+-- Both steps returned a value.
 pub and_then_ok : {A B : Type 0} (r : Result A Refusal) (f : A → Result B Refusal) (b : B) → and_then r f ≡ Ok b → (a : A) × (r ≡ Ok a) × (f a ≡ Ok b)
 and_then_ok (Ok a) f b is = (a, refl, is)
 and_then_ok (Err e) f b is = absurd (cc)

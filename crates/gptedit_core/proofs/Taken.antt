@@ -1,4 +1,4 @@
--- The layout of a table is refused nowhere where it is put into that table again.
+-- The layout of a table is not refused for that table.
 use Rattle.std.proofs.Common.{◌≡◌, ◌≢◌, ◌≤◌, ◌<◌, ◌⊎◌, inl, inr, ℕ, ◌+◌, ◌-◌, ◌^◌, List, [], ◌∷◌, refl, sym, ap, ◌∙◌, subst, arith, suc, IsTrue, Bool, true, false, length}
 use Rattle.std.specs.Prelude.{Option, Some, None, Result, Ok, Err, All, get_or, nat_eq, not, if◌then◌else◌}
 use Rattle.std.specs.List.{enumerate_from}
@@ -46,17 +46,17 @@ use Rattle.gptedit_core.proofs.Kept.{all_cleared_keep, done_keeps}
 use Rattle.gptedit_core.proofs.Laid.{cleared_keep, put_other, this_entry}
 use Rattle.gptedit_core.proofs.Resolved.{resolved_more}
 
--- ---- one entry that is asked for as it is
+-- ---- one entry that is requested unchanged
 
--- An entry that is used has a first and a last sector, in this order and within 64 bits.
+-- A used entry has its first and last sector in order and within 64 bits.
 abbrev pub IsPlaced : GPTPartitionEntry → Type 0
 IsPlaced e = IsTrue (is_used e) → (e.starting_lba ≤ e.ending_lba) × (e.ending_lba + 1 < 2 ^ 64)
 
--- the partition that it is, where it stands
+-- The partition that an entry is.
 abbrev pub own_partition : ℕ → GPTPartitionEntry → Partition
 own_partition i e = record { number = i; entry = e; place = At e.starting_lba e.ending_lba }
 
--- So many sectors are asked for,
+-- It requests the number of sectors of the entry,
 more_is : (first last : ℕ) → first ≤ last → last + 1 < 2 ^ 64 → more_sectors first last ≡ last - first + 1
 more_is first last low high = rw (le-leb first last low, lt-ltb (last - first) (2 ^ 64 - 1) (omega arith)) refl
 
@@ -76,7 +76,7 @@ span_to i first more last whole high =
     (subst (λ (b : Bool). ◌≡◌ {A = Result Place Refusal} (if b then Ok (At first (first + more)) else Err (TooLarge i)) (Ok (At first (first + more))))
     (sym (lt-ltb (first + more) (2 ^ 64) (omega (arith, whole, high)))) refl)
 
--- so that it stays there.
+-- so the place is unchanged.
 pub stays : (i first last : ℕ) → stay_fault (Become false) i (Some (first, last)) (At first last) ≡ None
 stays i first last = rw (eq-eqb first first refl, eq-eqb last last refl) refl
 
@@ -91,7 +91,7 @@ place_own i ss e low high =
     ∙ (ap (λ (place : Result Place Refusal). and_then place stay) (span_to i first (last - first + 1 - 1) last (omega (arith, low)) (omega (arith, high)))
     ∙ ap (λ (o : Option Refusal). unless o (At first last)) (stays i first last))
 
--- It has a type, so what is asked of it is the partition that it is.
+-- It has a type, so the request is resolved to it.
 pub has_type : (b : Bool) (i : ℕ) (p : Partition) → IsTrue (not b) → ◌≡◌ {A = Result Partition Refusal} (if b then Err (NoType i) else Ok p) (Ok p)
 has_type true i p used = absurd (cc)
 has_type false i p used = refl
@@ -112,9 +112,9 @@ resolved_own g i e random found used placed =
     ap (λ (n : Result ℕ Refusal). and_then n (partition_at g (Become false) a random)) here
     ∙ (ap (with_used g a random i) (used_is g i e found used) ∙ part_own g i e random used placed)
 
--- ---- all of them
+-- ---- all entries
 
--- the partitions that the entries are which are used, from number k on
+-- The partitions of the used entries from number k on.
 abbrev part_if_used : Bool → ℕ → GPTPartitionEntry → List Partition → List Partition
 part_if_used b k e ps = if b then own_partition k e ∷ ps else ps
 
@@ -122,7 +122,7 @@ abbrev own_partitions : ℕ → List GPTPartitionEntry → List Partition
 own_partitions k [] = []
 own_partitions k (e ∷ es) = part_if_used (is_used e) k e (own_partitions (k + 1) es)
 
--- What is asked of them is these.
+-- The requests are resolved to these.
 abbrev Resolves : GPT → List Asked → List Partition → Type 0
 Resolves g asked ps = (randoms : List (List ℕ)) → length asked ≤ length randoms → resolved_all g (Become false) asked randoms ≡ Ok ps
 
@@ -139,7 +139,7 @@ resolves_all g k (e ∷ es) has placed =
     resolves_more g (is_used e) k e (asked_of_all (enumerate_from (k + 1) es)) (own_partitions (k + 1) es) refl has.0 (placed 0 e (omega arith))
     (resolves_all g (k + 1) es has.2 (λ m d below. placed (suc m) d (omega (arith, below))))
 
--- No two have one number.
+-- No two have the same number.
 abbrev pub DifferInNumber : List Partition → Type 0
 DifferInNumber [] = Unit {0}
 DifferInNumber (p ∷ ps) = IsUnnamed p.number ps × DifferInNumber ps
@@ -180,9 +180,9 @@ numbers_stay g h [] long has = tt
 numbers_stay g h (p ∷ ps) long has =
     let number = has.0 in ((number.0, omega (arith, long, number.1)), numbers_stay g h ps long has.1)
 
--- ---- what is cleared
+-- ---- the clearing
 
--- the table with the entry of that number unused
+-- The table with that entry made unused.
 abbrev clear_of : GPT → ℕ → GPT
 clear_of g i = with_entry g i empty_entry
 
@@ -196,12 +196,12 @@ clear_first p ps g number =
 clear_numbers : (p : Partition) (ps : List Partition) (g : GPT) → HaveNumbers g ps → HaveNumbers (clear_of g p.number) ps
 clear_numbers p ps g has = numbers_stay g (clear_of g p.number) ps (length-set (entries_in g) (p.number - 1) empty_entry) has
 
--- All of them are cleared.
+-- Clearing is not refused.
 clears : (ps : List Partition) (g : GPT) (r : Refusal) → HaveNumbers g ps → cleared ps g ≢ Err r
 clears [] g r has = λ is. absurd (cc)
 clears (p ∷ ps) g r has = λ is. clears ps (clear_of g p.number) r (clear_numbers p ps g has.1) (sym (clear_first p ps g has.0) ∙ is)
 
--- Each of their entries is empty then,
+-- The cleared entries are empty,
 gone_by : (ps : List Partition) (g h : GPT) (j : ℕ) → cleared ps g ≡ Ok h → 1 ≤ j → entry_at g j ≡ empty_entry → (HasNumber j ps → entry_at h j ≡ empty_entry)
     → (HasNumber j ps ⊎ IsUnnamed j ps) → entry_at h j ≡ empty_entry
 gone_by ps g h j done low here again (inl named) = again named
@@ -216,16 +216,16 @@ gone (p ∷ ps) g h j has done low (inl same) =
     let here : entry_at next j ≡ empty_entry = subst (λ (n : ℕ). entry_at next n ≡ empty_entry) same (this_entry g p.number empty_entry has.0) in
     gone_by ps next h j rest low here (gone ps next h j (clear_numbers p ps g has.1) rest low) (named_or j ps)
 
--- and where none is used, no number of a used one is found.
+-- and if none is used, no used number is found.
 none_found : (k : ℕ) (es : List GPTPartitionEntry) → ((m : ℕ) → IsTrue (is_unused (get_or es m empty_entry))) → first_numbered is_used (enumerate_from k es) ≡ None
 none_found k [] unused = refl
 none_found k (e ∷ es) unused =
     let rest : Option ℕ = first_numbered is_used (enumerate_from (k + 1) es) in
     subst (λ (b : Bool). ◌≡◌ {A = Option ℕ} (if not b then Some k else rest) None) (sym (unused 0)) (none_found (k + 1) es (λ m. unused (suc m)))
 
--- ---- what is put
+-- ---- the putting
 
--- A partition that has its place, under the number of an entry that is not used.
+-- A partition with a given place, under the number of an unused entry.
 record IsFree (g : GPT) (p : Partition) : Type 0 where
   number : IsNumber g p.number
   unused : IsTrue (is_unused (entry_at g p.number))
@@ -243,7 +243,7 @@ put_one g p r free (no_entry none is) = none free.number
 put_one g p r free (twice number used is) = used free.unused
 put_one g p r free (no_room number unused full is) = subst (λ (place : Place). HasNoRoom place g) free.place full
 
--- and leaves what is free for the others,
+-- the others can still be put,
 free_still : (g next : GPT) (p q : Partition) → IsPut p g next → q.number ≢ p.number → IsFree g q → IsFree next q
 free_still g next p q put other free =
     let number = free.number in
@@ -262,7 +262,7 @@ all_free g next p [] put unnamed free = tt
 all_free g next p (q ∷ ps) put unnamed free =
     (free_still g next p q put (unnamed 0 q (omega arith)) free.0, all_free g next p ps put (λ k d below. unnamed (suc k) d (omega (arith, below))) free.1)
 
--- so all are put.
+-- and so all are put.
 puts : (g : GPT) (ps : List Partition) (r : Refusal) → DifferInNumber ps → AreFree g ps → ¬ RefusesPutting ps g r
 puts g [] r own free refused = refused
 puts g (p ∷ ps) r own free (inl refused) = put_one g p r free.0 refused
@@ -282,7 +282,7 @@ module _ (g : GPT) (ps : List Partition) (owned : OwnedBy g ps) (covers : Covers
       let stays = cleared_keep ps (record g { align = align }) h (suc m) done (omega arith) (own_unnamed g (suc m) ps owned unused) in
       subst (λ (e : GPTPartitionEntry). IsTrue (is_unused e)) (sym stays) (not-false (is_unused (entry_at g (suc m))) unused)
 
-  -- No entry is used that is not asked for,
+  -- No unnamed entry is used,
   none_other : others_fault (Become false) h ≡ None
   none_other =
       ap (others_fault_of (Become false)) (none_found 1 (entries_in h) (λ m.
@@ -304,14 +304,14 @@ module _ (g : GPT) (ps : List Partition) (owned : OwnedBy g ps) (covers : Covers
         free_all qs own.1 (λ j named. among j (inr named)),
       )
 
--- It is not refused where each used entry is asked for as it is, each one once.
+-- A layout that requests each used entry unchanged, once, is not refused.
 module _ (g : GPT) (layout : Layout) (randoms : List (List ℕ)) (own : List Partition) (n : ℕ) (all_asked : resolved_all g layout.mode layout.asked.items randoms ≡ Ok own)
     (owned : OwnedBy g own) (covers : CoversFrom own 1 (entries_in g)) (once : DifferInNumber own) (mode : layout.mode ≡ Become false) (none : layout.removed.items ≡ [])
     (align_is : align_asked layout.align g.sector_size ≡ Ok n) where
   none_removed : (h : GPT) → removed_all layout.removed.items h ≡ Ok h
   none_removed h = ap (λ (numbers : List ℕ). removed_all numbers h) none
 
-  -- What the steps before a refused one came to is what they come to here.
+  -- The results of the steps are those computed here.
   as_own : (ps : List Partition) → resolved_all g layout.mode layout.asked.items randoms ≡ Ok ps → own ≡ ps
   as_own ps all = let both : Ok own ≡ Ok ps = sym all_asked ∙ all in cc
 
@@ -368,7 +368,7 @@ module _ (g : GPT) (layout : Layout) (randoms : List (List ℕ)) (is : IsLayoutO
   taken : (r : Refusal) → ¬ RefusesAsked layout randoms g r
   taken = not_refused_where g layout randoms own g.align all_asked owned.0 owned.1 (differ 1 (entries_in g)) is.mode is.removed align_is
 
--- What comes of it may be written, as the table may be.
+-- The result may be written if the table may.
 module _ (g next : GPT) (layout : Layout) (randoms : List (List ℕ)) (is : IsLayoutOf g layout) (enough : length layout.asked.items ≤ length randoms)
     (laid : IsLaid layout randoms g next) (valid : IsValid g.header (entries_in g)) where
   same : entries_in g ≡ entries_in next

@@ -1,4 +1,4 @@
--- The layout that a table is.
+-- The layout that describes a table.
 use Rattle.std.specs.Prelude.{◌≡◌, ℕ, ◌+◌, ◌-◌, ◌^◌, ◌&&◌, nat_le, nat_lt, false, if◌then◌else◌, List, [], ◌∷◌, Some}
 use Rattle.std.specs.List.{enumerate_from}
 use Rattle.gptman.specs.Entry.{is_used}
@@ -12,11 +12,11 @@ use Rattle.gptedit_core.specs.declared.asked.Layout.{Layout}
 use Rattle.gptedit_core.specs.declared.asked.Mode.TheVariants.{Become}
 use Rattle.gptedit_core.specs.declared.asked.Size.TheVariants.{Exactly}
 
--- how many sectors there are from the first to the last, where they are so many that fit in 64 bits
+-- The number of sectors from first to last, or 0 if there are none or if the number exceeds 64 bits.
 abbrev pub more_sectors : ℕ → ℕ → ℕ
 more_sectors first last = if nat_le first last && nat_lt (last - first) (2 ^ 64 - 1) then last - first + 1 else 0
 
--- what is asked where the entry of number i is to be as it is
+-- The request that leaves entry i unchanged.
 abbrev pub asked_of : ℕ → GPTPartitionEntry → Asked
 asked_of i e = record {
   number = Some i;
@@ -29,12 +29,12 @@ asked_of i e = record {
   choice = First;
 }
 
--- the same of each entry that is used
+-- The requests that leave all used entries unchanged.
 abbrev pub asked_of_all : List (ℕ × GPTPartitionEntry) → List Asked
 asked_of_all [] = []
 asked_of_all (e ∷ es) = if is_used e.1 then asked_of e.0 e.1 ∷ asked_of_all es else asked_of_all es
 
--- The layout has the disk's GUID, and each used entry as it is; nothing is replaced or removed.
+-- The layout has the GUID of the disk and requests each used entry unchanged. It replaces and removes nothing.
 pub record IsLayoutOf (g : GPT) (layout : Layout) : Type 0 where
   pub mode : layout.mode ≡ Become false
   pub disk_guid : layout.disk_guid ≡ Some g.header.disk_guid

@@ -1,4 +1,4 @@
--- What a growth makes of a table.
+-- The table that a growth makes.
 use Rattle.std.specs.Prelude.{◌≡◌, ◌≤◌, ◌<◌, ◌+◌, ◌-◌, ◌/◌, ℕ, [], Option, Some, None, Ok}
 use Rattle.gptman.specs.Copy.{Copy}
 use Rattle.gptman.specs.Crash.{IsKeptFor}
@@ -19,26 +19,28 @@ use Rattle.gptedit_core.specs.declared.plan.Outcome.{Outcome}
 use Rattle.gptedit_core.specs.declared.refusal.Refusal.{Refusal}
 use Rattle.gptedit_core.specs.declared.refusal.Refusal.TheVariants.{NotLaidOut, TooSmall}
 
--- The table ends where a disk of len bytes does: its headers are those of sector 1 and of the last whole sector.
+-- The table ends where a disk of len bytes does: its headers are in sector 1 and in the last whole sector.
 abbrev pub EndsAt : ℕ → GPT → Type 0
 EndsAt len g = HasRightSectors (table_in g) g.sector_size len
 
--- the first sector behind the entries of the primary copy
+-- The first sector after the entries of the primary copy.
 abbrev pub lowest_usable : GPT → ℕ
 lowest_usable g = 2 + array_sectors g.header g.sector_size
 
--- The first usable sector stays where it may: behind the entries of the primary copy, and not behind the last usable one. Else it is the one behind those entries.
+-- The first usable sector stays if it is after the entries of the primary copy and not after the last usable sector.
+-- Otherwise it is the one after those entries.
 pub data IsKeptFirst (was lowest last first : ℕ) : Type 0 where
   stays_first : lowest ≤ was → was ≤ last → first ≡ was → IsKeptFirst was lowest last first
   was_too_low : was < lowest → first ≡ lowest → IsKeptFirst was lowest last first
   was_too_high : last < was → first ≡ lowest → IsKeptFirst was lowest last first
 
--- the table with another first usable sector
+-- The table with another first usable sector.
 abbrev pub with_first : ℕ → GPT → GPT
 with_first first g = record g { header = record g.header { first_usable_lba = first } }
 
--- What a table becomes on a disk of len bytes: where it keeps its bounds and ends there, itself; where it keeps them and ends elsewhere, the one that the library fits
--- to the disk, with its first usable sector kept; and where it gets the usual bounds, the one that the library fits, if it ends there.
+-- A growth on a disk of len bytes makes next of g. If the bounds are kept and g ends there, it is unchanged. If they
+-- are kept and g ends elsewhere, the library fits it to the disk, and its first usable sector is kept. With the usual
+-- bounds the library fits it, and g must end there.
 pub data IsFitted (bounds : Bounds) (len : ℕ) (g next : GPT) : Type 0 where
   stays : bounds ≡ Kept → EndsAt len g → next ≡ g → IsFitted bounds len g next
   follows : bounds ≡ Kept → (¬ EndsAt len g) → (first : ℕ)
@@ -46,34 +48,35 @@ pub data IsFitted (bounds : Bounds) (len : ℕ) (g next : GPT) : Type 0 where
       → next ≡ with_first first (grow_to g len) → IsFitted bounds len g next
   is_usual : bounds ≡ Usual → EndsAt len g → next ≡ grow_to g len → IsFitted bounds len g next
 
--- A table is fitted to a disk of len bytes: it has the stated layout there, and may be written.
+-- The table is fitted to a disk of len bytes. It has the stated layout there, and may be written.
 pub record IsGrown (bounds : Bounds) (len : ℕ) (g next : GPT) : Type 0 where
   pub fits : fit_fault g.header g.sector_size len ≡ None
   pub fitted : IsFitted bounds len g next
   pub layout : HasLayout next len
   pub may : MayBeWritten next len
 
--- Why a table that was fitted to a disk of len bytes is not written: it has not the stated layout, or it may not be.
+-- A table that was fitted to a disk of len bytes is refused: it does not have the stated layout, or may not be
+-- written.
 pub data RefusesGrown (next : GPT) (len : ℕ) (r : Refusal) : Type 0 where
   grown_not_laid_out : ¬ HasLayout next len → r ≡ NotLaidOut → RefusesGrown next len r
   grown_not_written : HasLayout next len → RefusesCheck next r → RefusesGrown next len r
 
--- Why a table is not fitted to a disk of len bytes, by the first of these that is so.
+-- A growth to a disk of len bytes is refused, for the first of these reasons that applies.
 pub data RefusesGrowth (bounds : Bounds) (len : ℕ) (g : GPT) (r : Refusal) : Type 0 where
   too_small : fit_fault g.header g.sector_size len ≡ Some overflow → r ≡ TooSmall → RefusesGrowth bounds len g r
   ends_elsewhere : fit_fault g.header g.sector_size len ≡ None → bounds ≡ Usual → (¬ EndsAt len g) → r ≡ NotLaidOut → RefusesGrowth bounds len g r
   not_grown : fit_fault g.header g.sector_size len ≡ None → (next : GPT) → IsFitted bounds len g next → RefusesGrown next len r → RefusesGrowth bounds len g r
 
--- what is written of a growth, and what is left
+-- The table that a growth writes and its outcome; the outcome if it writes nothing.
 abbrev pub IsWrittenGrown : Growth → ℕ → GPT → GPT → Outcome → Type 0
 IsWrittenGrown growth len = IsWrittenAs (IsGrown growth.bounds len) Differs growth.is_dry
 
 abbrev pub IsLeftGrown : Growth → ℕ → GPT → Outcome → Type 0
 IsLeftGrown growth len = IsLeftAs (IsGrown growth.bounds len) Differs (RefusesGrowth growth.bounds len) growth.is_dry
 
--- ---- what it comes to
+-- ---- consequences
 
--- The tables differ in the places of their copies and in their bounds, and in nothing else.
+-- The tables differ only in the sectors of their copies and in their bounds.
 abbrev pub HasOthersOf : GPT → GPT → Type 0
 HasOthersOf g next = next ≡ record g {
   header = record g.header {
@@ -85,8 +88,8 @@ HasOthersOf g next = next ≡ record g {
   };
 }
 
--- The table ends where a disk of len bytes does, and its usable sectors with it: the backup entries, which follow the last usable one, reach to the last whole sector. The
--- first usable one is behind the primary entries.
+-- The table ends where a disk of len bytes does. The backup entries follow the last usable sector and reach to the
+-- last whole sector. The first usable sector is after the primary entries.
 pub record ReachesEnd (len : ℕ) (g next : GPT) : Type 0 where
   pub ends : EndsAt len next
   pub last : next.header.last_usable_lba + 1 + array_sectors g.header g.sector_size ≡ len / g.sector_size - 1
@@ -97,11 +100,12 @@ pub record ReachesEnd (len : ℕ) (g next : GPT) : Type 0 where
 abbrev pub GrowthsReachEnd : Type 0
 GrowthsReachEnd = (len : ℕ) (g next : GPT) → IsGrown Kept len g next → (¬ EndsAt len g) → ReachesEnd len g next
 
--- A table that ends there stays.
+-- A growth that keeps the bounds leaves a table that ends where the disk does unchanged.
 abbrev pub GrowthsLeaveEnds : Type 0
 GrowthsLeaveEnds = (len : ℕ) (g next : GPT) → IsGrown Kept len g next → EndsAt len g → next ≡ g
 
--- The first usable sector stays, where it is behind the primary entries and not behind the last usable one of the grown table.
+-- The first usable sector stays if it is after the primary entries and not after the last usable sector of the grown
+-- table.
 abbrev pub GrowthsKeepFirst : Type 0
 GrowthsKeepFirst = (len : ℕ) (g next : GPT) → IsGrown Kept len g next → lowest_usable g ≤ g.header.first_usable_lba → g.header.first_usable_lba ≤ next.header.last_usable_lba
     → next.header.first_usable_lba ≡ g.header.first_usable_lba
@@ -110,22 +114,23 @@ GrowthsKeepFirst = (len : ℕ) (g next : GPT) → IsGrown Kept len g next → lo
 abbrev pub UsualBoundsReachEnd : Type 0
 UsualBoundsReachEnd = (len : ℕ) (g next : GPT) → IsGrown Usual len g next → ReachesEnd len g next × (next.header.first_usable_lba ≡ lowest_usable g)
 
--- A table that was grown is as it would be grown, and as nothing else.
+-- A grown table can be grown again on the same disk, and is unchanged by it.
 abbrev pub GrowthsStay : Type 0
 GrowthsStay = (bounds : Bounds) (len : ℕ) (g next : GPT) → IsGrown bounds len g next → IsGrown bounds len next next × ((after : GPT) → IsGrown bounds len next after → after ≡ next)
 
--- A table that the primary place holds is one good copy for the write of the grown one, whose value was read in primary form and counts as many entries.
+-- A table in the primary place is one good copy for the write of the grown one, if nothing is pending and the value
+-- that is grown is in primary form and has the same number of entries.
 abbrev pub GrowthsKeepPrimary : DiskState → Type 0
 GrowthsKeepPrimary disk = (bounds : Bounds) (was : Table) (g next : GPT) → disk.pending ≡ [] → Holds disk.view g.sector_size primary was → IsHeaderForm primary g.header
     → g.header.number_of_partition_entries ≡ was.count → IsGrown bounds disk.size g next → IsKeptFor disk next was
 
--- An honest disk with nothing pending, whose primary place holds this table, and at whose end no copy is accepted.
+-- An honest disk without pending bytes has this table in its primary place, and no accepted copy in its backup place.
 pub record StartsPrimary (disk : DiskState) (ss : ℕ) (was : Table) : Type 0 where
   pub honest : IsHonest disk
   pub synced : disk.pending ≡ []
   pub held : Holds disk.view ss primary was
   pub alone : (copy : Copy) → ¬ (copy_in backup disk.view ss ≡ Ok copy)
 
--- the same with sectors of a size that is given or found
+-- StartsPrimary with sectors of a size that is given or found.
 abbrev pub StartsPrimaryFor : DiskState → Option ℕ → Table → Type 0
 StartsPrimaryFor disk size was = StartsPrimary disk (size_for disk.view size) was

@@ -1,4 +1,4 @@
--- Which entries a layout names, and what becomes of these and of the others.
+-- The entries that a layout names, and those that it does not.
 use Prim.Native.Nat.{◌∣◌}
 use Rattle.std.specs.Prelude.{◌≡◌, ◌≢◌, ◌≤◌, ◌<◌, ◌⊎◌, ℕ, ◌+◌, List, [], ◌∷◌, Some, None, Ok, false, length, All, Contains, IsTrue}
 use Rattle.gptman.specs.Coding.{empty_entry}
@@ -25,52 +25,55 @@ use Rattle.gptedit_core.specs.declared.plan.Request.{Request}
 use Rattle.gptedit_core.specs.declared.refusal.Refusal.{Refusal}
 use Rattle.gptedit_core.specs.declared.resolve.Partition.{Partition}
 
--- no partition has the number
+-- No partition has the number.
 abbrev pub IsUnnamed : ℕ → List Partition → Type 0
 IsUnnamed i ps = All (λ p. p.number ≢ i) ps
 
--- What becomes of an entry that is not named: it stays; where the table may only become what is asked for, it is not used.
+-- An entry that is not named is unchanged. If the table may only become the layout, it is unused.
 abbrev pub StaysAs : Mode → GPTPartitionEntry → GPTPartitionEntry → Type 0
 StaysAs (Become false) e after = (after ≡ e) × IsTrue (is_unused e)
 StaysAs mode e after = after ≡ e
 
--- The partition is in the table, under its number, where its place was in the table g, in which it was put.
+-- The partition is in the table next under its number, at the place that it had in g.
 pub record IsThere (p : Partition) (g next : GPT) : Type 0 where
   pub first : ℕ
   pub last : ℕ
   pub span : IsSpan p.place g (first, last)
   pub entry : entry_at next p.number ≡ record p.entry { starting_lba = first; ending_lba = last }
 
--- All of them are: the first was put in the table g, and each other in that with those before it, which are there still.
+-- All partitions are in the table next. The first had its place in g, and each other one in the table with those
+-- before it.
 abbrev pub AreThere : List Partition → GPT → GPT → Type 0
 AreThere [] g next = Unit {0}
 AreThere (p ∷ ps) g next = IsThere p g next × AreThere ps (with_entry g p.number (entry_at next p.number)) next
 
--- Entries that a layout does not name or remove stay, and those that it names are there, put in the table without what is named or removed.
+-- Entries that a layout neither names nor removes are unchanged. Those that it names are there, put into the table
+-- without the named and removed ones.
 pub record ChangesNamed (layout : Layout) (randoms : List (List ℕ)) (g next : GPT) (is : IsLaid layout randoms g next) : Type 0 where
   pub others : (i : ℕ) → 1 ≤ i → IsUnnamed i is.partitions → All (λ j. j ≢ i) layout.removed.items → StaysAs layout.mode (entry_at g i) (entry_at next i)
   pub named : AreThere is.partitions is.free next
 
--- of each layout and table
+-- Each layout changes only the entries that it names or removes.
 abbrev pub LayoutsChangeNamed : Type 0
 LayoutsChangeNamed = (layout : Layout) (randoms : List (List ℕ)) (g next : GPT) (is : IsLaid layout randoms g next) → ChangesNamed layout randoms g next is
 
--- A layout that is one of a table gives that table where it is put into it.
+-- Applying the layout of a table to that table results in an equal table.
 abbrev pub LayoutsGiveTable : Type 0
 LayoutsGiveTable = (g next : GPT) (layout : Layout) (randoms : List (List ℕ)) → IsLayoutOf g layout → length layout.asked.items ≤ length randoms → IsLaid layout randoms g next
     → table_in next ≡ table_in g
 
--- A request that puts the layout of a table into it is not refused, where the table has the stated layout and is valid, its alignment is above 0, and there are random GUIDs enough.
+-- A request that applies the layout of a table to it is not refused, if the table has the stated layout and is valid,
+-- its alignment is above 0, and there are enough random GUIDs.
 abbrev pub LayoutsAreTaken : Type 0
 LayoutsAreTaken = (g : GPT) (len : ℕ) (layout : Layout) (request : Request) (r : Refusal) → IsLayoutOf g layout → request.job ≡ Lay layout
     → length layout.asked.items ≤ length request.random.items → 0 < g.align → HasLayout g len → IsValid g.header (entries_in g) → ¬ RefusesRequest request len g r
 
--- each of them gives its number
+-- Each request has a number.
 abbrev pub AreNumbered : List Asked → Type 0
 AreNumbered [] = Unit {0}
 AreNumbered (a ∷ asked) = ((i : ℕ) × (a.number ≡ Some i)) × AreNumbered asked
 
--- The second layout asks for the same, of a table that may only become that.
+-- The second layout requests the same, and the table may only become it.
 pub record IsAgain (layout again : Layout) : Type 0 where
   pub asked : again.asked.items ≡ layout.asked.items
   pub disk_guid : again.disk_guid ≡ layout.disk_guid
@@ -78,40 +81,45 @@ pub record IsAgain (layout again : Layout) : Type 0 where
   pub mode : again.mode ≡ Become false
   pub removed : again.removed.items ≡ []
 
--- A layout that was put into a table, in whatever mode, changes nothing where the table is to become it again and nothing may be replaced.
+-- A layout that numbers each entry and was applied, in any mode, changes nothing if it is applied again and the table
+-- may only become it.
 abbrev pub LayoutsStay : Type 0
 LayoutsStay = (g next after : GPT) (layout again : Layout) (randoms others : List (List ℕ)) → AreNumbered layout.asked.items → IsAgain layout again
     → length layout.asked.items ≤ length randoms → length layout.asked.items ≤ length others
     → IsLaid layout randoms g next → IsLaid again others next after → after ≡ next
 
--- the number is asked for
+-- The number is requested.
 abbrev pub Asks : ℕ → List Asked → Type 0
 Asks i [] = ⊥
 Asks i (a ∷ asked) = (a.number ≡ Some i) ⊎ Asks i asked
 
--- Nothing else is left of the table: it may only become what is asked for, or each entry that is used is asked for or removed.
+-- The table has no other used entries: it may only become the layout, or each used entry is requested or removed.
 abbrev pub IsWhole : Layout → GPT → Type 0
 IsWhole layout g = (layout.mode ≡ Become false) ⊎ ((i : ℕ) → 1 ≤ i → IsTrue (is_used (entry_at g i)) → Asks i layout.asked.items ⊎ Contains layout.removed.items i)
 
--- A request that put a whole layout into a table is not refused a second time, where nothing may be replaced.
+-- A request with a whole layout that numbers each entry is not refused a second time, if the table may only become
+-- the layout.
 abbrev pub LayoutsAreTakenAgain : Type 0
 LayoutsAreTakenAgain = (g next : GPT) (len : ℕ) (layout again : Layout) (request other : Request) (r : Refusal) → request.job ≡ Lay layout → other.job ≡ Lay again
     → AreNumbered layout.asked.items → IsAgain layout again → IsWhole layout g → has_random request → has_random other
     → IsPlanned request len g next → ¬ RefusesRequest other len next r
 
--- no start is asked for, or the one of the entry, with sectors of ss bytes
+-- No start is requested, or that of the entry, with sectors of ss bytes.
 abbrev pub BeginsThere : Asked → ℕ → GPTPartitionEntry → Type 0
 BeginsThere a ss e = (a.start ≡ None) ⊎ (start_asked a.start ss ≡ Ok (Some e.starting_lba))
 
--- An entry begins where it began and ends no earlier: where it ended, or before a multiple of align and behind sectors that were free.
--- It could end before no later multiple: a sector on the way there is not left. One that ended before it began may stay so.
+-- An entry starts where it did and ends no earlier: where it ended, or before a multiple of align and after sectors
+-- that were free.
+-- It could not end before a later multiple: a sector up to there is not left. An entry that ended before it started
+-- may be unchanged.
 pub record IsLengthened (align : ℕ) (before after : GPTPartitionEntry) (free left : ℕ → Type 0) : Type 0 where
   pub start : after.starting_lba ≡ before.starting_lba
   pub end : before.ending_lba ≤ after.ending_lba
   pub reached : (after.ending_lba ≡ before.ending_lba) ⊎ ((align ∣ after.ending_lba + 1) × AreFreeBehind free before.ending_lba after.ending_lba)
   pub furthest : before.starting_lba ≤ before.ending_lba → (e : ℕ) → align ∣ e + 1 → after.ending_lba < e → IsBlocked left before.ending_lba e
 
--- A change to the rest where it begins only lengthens an entry: over what is free in the table without what the layout names or removes, and as far as the table that comes of it has room without the entry.
+-- A change to the rest, from where the entry starts, only lengthens it: over sectors that are free in the table
+-- without the named and removed entries, and as far as the resulting table has room without the entry.
 abbrev pub LayoutsOnlyLengthen : Type 0
 LayoutsOnlyLengthen = (layout : Layout) (randoms : List (List ℕ)) (g next : GPT) (a : Asked) (i : ℕ) → layout.mode ≡ Change → length layout.asked.items ≤ length randoms
     → Contains layout.asked.items a → a.number ≡ Some i → a.size ≡ Some Rest → BeginsThere a g.sector_size (entry_at g i)

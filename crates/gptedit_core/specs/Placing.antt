@@ -1,4 +1,4 @@
--- Where a partition comes to be.
+-- The sectors that a place becomes.
 use Prim.Native.Nat.{◌∣◌}
 use Rattle.std.specs.Prelude.{◌≡◌, ◌≤◌, ◌<◌, ◌⊎◌, ℕ, ◌+◌, ◌-◌, ◌%◌, ◌&&◌, max, nat_le, nat_lt, if◌then◌else◌, Option, MatchOption}
 use Rattle.gptman.specs.Place.{HasNoPlace, HasNoSlot, IsAlignedSlot, IsBestPlace, IsFirstMultiple, IsFirstPlace, IsFreeIn, IsLastPlace, IsMaximumSize}
@@ -8,19 +8,19 @@ use Rattle.gptedit_core.specs.declared.asked.Choice.TheVariants.{First, Last, Be
 use Rattle.gptedit_core.specs.declared.place.Place.{Place}
 use Rattle.gptedit_core.specs.declared.place.Place.TheVariants.{At, From, Longer, Free, Longest}
 
--- the last sector without those from the last multiple of align on, unless the first is among them or they end before a multiple
+-- The last sector, moved down to the one before a multiple of align, unless no sector would be left.
 abbrev pub trimmed : ℕ → ℕ → ℕ → ℕ
 trimmed align first last =
     let spare = last % align + 1 in
     if nat_lt spare align && nat_le (first + spare) last then last - spare else last
 
--- The longest run of free sectors, and the first of equals, by its start and its length.
+-- The longest run of free sectors, the first of equals, by its start and its length.
 pub record IsLongestRun (free : ℕ → Type 0) (start long : ℕ) : Type 0 where
   pub run : IsAlignedSlot free 1 start long
   pub longest : (t k : ℕ) → IsAlignedSlot free 1 t k → k ≤ long
   pub leftmost : (t : ℕ) → IsAlignedSlot free 1 t long → start ≤ t
 
--- s is the first multiple of align from the start of the longest run on, and the run ends before the sector end.
+-- s is the first multiple of align from the start of the longest run on, and the run ends before sector end.
 pub record IsStartInLongest (free : ℕ → Type 0) (align s end : ℕ) : Type 0 where
   pub start : ℕ
   pub long : ℕ
@@ -28,33 +28,33 @@ pub record IsStartInLongest (free : ℕ → Type 0) (align s end : ℕ) : Type 0
   pub first : IsFirstMultiple align start s
   pub is : start + long ≡ end
 
--- n sectors from s on, the first multiple of align in the longest run, are in it
+-- The n sectors from s, the first multiple of align in the longest run, are within the run.
 abbrev pub IsLongestPlace : (ℕ → Type 0) → ℕ → ℕ → ℕ → Type 0
 IsLongestPlace free align n s = (end : ℕ) × IsStartInLongest free align s end × (s + n ≤ end)
 
--- there is no run, or fewer than n sectors are left in the longest one from its first multiple of align on
+-- There is no run, or the longest one has fewer than n sectors from its first multiple of align on.
 abbrev pub HasNoLongestPlace : (ℕ → Type 0) → ℕ → ℕ → Type 0
 HasNoLongestPlace free align n = HasNoSlot free 1 ⊎ ((s end : ℕ) × IsStartInLongest free align s end × (end < s + n))
 
--- s is the place that is chosen for n sectors
+-- s is the chosen place for n sectors.
 abbrev pub IsChosen : Choice → (ℕ → Type 0) → ℕ → ℕ → ℕ → Type 0
 IsChosen First free align n s = IsFirstPlace free align n s
 IsChosen Last free align n s = IsLastPlace free align n s
 IsChosen Best free align n s = IsBestPlace free align n s
 IsChosen InLongest free align n s = IsLongestPlace free align n s
 
--- there is no such place
+-- There is no place for n sectors by this choice.
 abbrev pub HasNoneChosen : Choice → (ℕ → Type 0) → ℕ → ℕ → Type 0
 HasNoneChosen First free align n = HasNoPlace free align n
 HasNoneChosen Last free align n = HasNoPlace free align n
 HasNoneChosen Best free align n = HasNoPlace free align n
 HasNoneChosen InLongest free align n = HasNoLongestPlace free align n
 
--- the run, by its start and its length, has the sector
+-- The run, given by its start and its length, contains the sector.
 abbrev pub HasSector : ℕ → ℕ × ℕ → Type 0
 HasSector s run = (run.0 ≤ s) × (s < run.0 + run.1)
 
--- The sectors from s to last are free, and the one behind them is not; and s is one of the run of free sectors that ends there.
+-- last is the last sector of the run of free sectors that contains s.
 pub record IsRunWith (free : ℕ → Type 0) (s last : ℕ) : Type 0 where
   pub start : ℕ
   pub long : ℕ
@@ -63,39 +63,40 @@ pub record IsRunWith (free : ℕ → Type 0) (s last : ℕ) : Type 0 where
   pub within : s ≤ last
   pub end : start + long ≡ last + 1
 
--- there is no such run
+-- No run of free sectors contains s.
 abbrev pub HasNoRunWith : (ℕ → Type 0) → ℕ → Type 0
 HasNoRunWith free s = (start long : ℕ) → IsAlignedSlot free 1 start long → ¬ HasSector s (start, long)
 
--- e is the last sector up to far that ends before a multiple of align
+-- e is the last sector up to far that is directly before a multiple of align.
 pub record IsLastEnd (align far e : ℕ) : Type 0 where
   pub low : e ≤ far
   pub multiple : align ∣ e + 1
   pub greatest : (t : ℕ) → align ∣ t + 1 → t ≤ far → t ≤ e
 
--- no sector up to far does
+-- No sector up to far is directly before a multiple of align.
 abbrev pub HasNoEnd : ℕ → ℕ → Type 0
 HasNoEnd align far = (t : ℕ) → align ∣ t + 1 → ¬ (t ≤ far)
 
--- the sectors behind last and up to end are free
+-- The sectors after last and up to end are free.
 abbrev pub AreFreeBehind : (ℕ → Type 0) → ℕ → ℕ → Type 0
 AreFreeBehind free last end = (x : ℕ) → last < x → x ≤ end → free x
 
--- a sector behind last and up to end is not free
+-- A sector after last and up to end is not free.
 abbrev pub IsBlocked : (ℕ → Type 0) → ℕ → ℕ → Type 0
 IsBlocked free last end = (x : ℕ) × (last < x) × (x ≤ end) × (¬ free x)
 
--- A partition from first to last that gets what is free behind it ends there: where it ended, or behind free sectors and before a multiple of align; and it could end at no later such sector. One that ends before it begins stays.
+-- A partition from first to last that is lengthened ends at end: where it ended, or after free sectors and before a
+-- multiple of align; and it could not end at a later such sector. One that ends before it starts is unchanged.
 pub record IsFurthestEnd (free : ℕ → Type 0) (align first last end : ℕ) : Type 0 where
   pub kept : last ≤ end
   pub reached : (end ≡ last) ⊎ ((first ≤ last) × (align ∣ end + 1) × AreFreeBehind free last end)
   pub furthest : first ≤ last → (e : ℕ) → align ∣ e + 1 → end < e → IsBlocked free last e
 
--- the span is that of n sectors at the place that is chosen for them
+-- The span has n sectors, at least one, at the chosen place.
 abbrev pub IsFreeSpan : Choice → ℕ → GPT → ℕ × ℕ → Type 0
 IsFreeSpan choice n g span = IsChosen choice (IsFreeIn g) g.align (max 1 n) span.0 × (span.1 ≡ span.0 + (max 1 n - 1))
 
--- The sectors from first to last are what the place is in the table.
+-- The sectors, from the first to the last, that the place becomes in the table.
 abbrev pub IsSpan : Place → GPT → ℕ × ℕ → Type 0
 IsSpan (At first last) g span = span ≡ (first, last)
 IsSpan (From first) g span = (last : ℕ) × IsRunWith (IsFreeIn g) first last × (span ≡ (first, trimmed g.align first last))
@@ -103,7 +104,7 @@ IsSpan (Longer first last) g span = (span.0 ≡ first) × IsFurthestEnd (IsFreeI
 IsSpan (Free size choice) g span = IsFreeSpan choice size g span
 IsSpan Longest g span = (size : ℕ) × IsMaximumSize (IsFreeIn g) g.align size × (0 < size) × IsFreeSpan Best size g span
 
--- the table has no room for the place
+-- The table has no room for the place.
 abbrev pub HasNoRoom : Place → GPT → Type 0
 HasNoRoom (At first last) g = ⊥
 HasNoRoom (From first) g = HasNoRunWith (IsFreeIn g) first
@@ -112,6 +113,6 @@ HasNoRoom (Free size choice) g = HasNoneChosen choice (IsFreeIn g) g.align (max 
 HasNoRoom Longest g = HasNoSlot (IsFreeIn g) g.align
     ⊎ ((size : ℕ) × IsMaximumSize (IsFreeIn g) g.align size × ((size ≡ 0) ⊎ HasNoPlace (IsFreeIn g) g.align (max 1 size)))
 
--- the place is found, or there is no room for it
+-- The place is found, or there is no room for it.
 abbrev pub FindsSpan : Place → GPT → Option (ℕ × ℕ) → Type 0
 FindsSpan place g found = MatchOption found (HasNoRoom place g) (IsSpan place g)

@@ -1,4 +1,4 @@
--- What a request makes of a table.
+-- The table that a request makes.
 use Rattle.std.specs.Prelude.{◌≡◌, ◌≢◌, ◌≤◌, ◌⊎◌, ℕ, Bool, true, false, List, length}
 use Rattle.gptman.specs.Fault.{Fault, out_of_memory}
 use Rattle.gptman.specs.Layout.{HasLayout}
@@ -19,7 +19,7 @@ use Rattle.gptedit_core.specs.declared.plan.Request.{Request}
 use Rattle.gptedit_core.specs.declared.refusal.Refusal.{Refusal}
 use Rattle.gptedit_core.specs.declared.refusal.Refusal.TheVariants.{BadBoundaries, NotLaidOut, SharedGuid}
 
--- so many random GUIDs are enough for the job
+-- n random GUIDs are enough for the job.
 abbrev pub asks_random : Job → ℕ → Type 0
 asks_random (Lay layout) n = length layout.asked.items ≤ n
 asks_random job n = Unit {0}
@@ -27,70 +27,73 @@ asks_random job n = Unit {0}
 abbrev pub has_random : Request → Type 0
 has_random request = asks_random request.job (length request.random.items)
 
--- The job makes this of the table.
+-- The job makes next of g.
 abbrev pub IsDone : Job → List (List ℕ) → GPT → GPT → Type 0
 IsDone (Lay layout) randoms g next = IsLaid layout randoms g next
 IsDone Sort randoms g next = next ≡ with_entries g (by_rank rank (entries_in g))
 IsDone Rewrite randoms g next = next ≡ g
 
--- The job cannot be done.
+-- The job is refused.
 abbrev pub RefusesJob : Job → List (List ℕ) → GPT → Refusal → Type 0
 RefusesJob (Lay layout) randoms g r = RefusesAsked layout randoms g r
 RefusesJob job randoms g r = ⊥
 
--- Why a table with the stated layout may not be written: two entries would have one GUID, or partitions would overlap or lie outside of the usable sectors.
+-- A table with the stated layout may not be written: two entries have the same GUID, or partitions overlap or are
+-- outside the usable sectors.
 pub data RefusesCheck (g : GPT) (r : Refusal) : Type 0 where
   shared : ¬ HasOwnGuids (entries_in g) → r ≡ SharedGuid → RefusesCheck g r
   boundaries : HasOwnGuids (entries_in g) → ¬ HasGoodBoundaries g.header (entries_in g) → r ≡ BadBoundaries → RefusesCheck g r
 
--- On a disk of len bytes a request makes this of a table: it has the stated layout, and what the job makes of it may be written.
+-- A request makes next of g on a disk of len bytes: g has the stated layout, and the result of the job may be
+-- written.
 pub record IsPlanned (request : Request) (len : ℕ) (g next : GPT) : Type 0 where
   pub layout : HasLayout g len
   pub done : IsDone request.job request.random.items g next
   pub may : MayBeWritten next len
 
--- Why it makes nothing of it, by the first of these that is so.
+-- A request is refused on a disk of len bytes, for the first of these reasons that applies.
 pub data RefusesRequest (request : Request) (len : ℕ) (g : GPT) (r : Refusal) : Type 0 where
   not_laid_out : ¬ HasLayout g len → r ≡ NotLaidOut → RefusesRequest request len g r
   not_done : HasLayout g len → RefusesJob request.job request.random.items g r → RefusesRequest request len g r
   not_written : (next : GPT) → HasLayout g len → IsDone request.job request.random.items g next → RefusesCheck next r → RefusesRequest request len g r
 
--- There is something to write: another table, or the same one that is to be written.
+-- There is something to write: the table changes, or the job always writes.
 abbrev pub IsNeeded : Job → GPT → GPT → Type 0
 IsNeeded Rewrite g next = Unit {0}
 IsNeeded job g next = g ≢ next
 
--- What is told of a table and of what it becomes, and what is left in its place.
+-- The outcome of a change from g to next, and the table new that is left in memory: next if it is to be written, else
+-- g.
 abbrev pub TellsOf : Bool → Bool → GPT → GPT → GPT → Planned Outcome → Type 0
 TellsOf needed dry g next new (Write answer) = (new ≡ next) × (dry ≡ false) × (needed ≡ true) × (answer ≡ Changed g next)
 TellsOf needed dry g next new (Leave answer) =
     (new ≡ g) × (((needed ≡ false) × (answer ≡ Unchanged g)) ⊎ ((dry ≡ true) × (needed ≡ true) × (answer ≡ Changed g next)))
 
--- The table that is written, and what is told then: one that is made of it, where there is something to write, and not only told.
+-- The table that is written, and the outcome. The plan makes it, the write is needed, and it is not a dry run.
 pub record IsWrittenAs (P N : GPT → GPT → Type 0) (dry : Bool) (g next : GPT) (answer : Outcome) : Type 0 where
   pub planned : P g next
   pub needed : N g next
   pub wet : dry ≡ false
   pub told : answer ≡ Changed g next
 
--- What is told of a table that is left: why it is refused, that there is nothing to write, or what it would become.
+-- The outcome if nothing is written: a refusal, no need to write, or a dry run.
 pub data IsLeftAs (P N : GPT → GPT → Type 0) (R : GPT → Refusal → Type 0) (dry : Bool) (g : GPT) (answer : Outcome) : Type 0 where
   is_refused : (r : Refusal) → R g r → answer ≡ Refused g r → IsLeftAs P N R dry g answer
   is_unchanged : (next : GPT) → P g next → (¬ N g next) → answer ≡ Unchanged g → IsLeftAs P N R dry g answer
   is_dry : (next : GPT) → P g next → N g next → dry ≡ true → answer ≡ Changed g next → IsLeftAs P N R dry g answer
 
--- so of a request
+-- The table that a request writes, and the outcome; the outcome if it writes nothing.
 abbrev pub IsWritten : Request → ℕ → GPT → GPT → Outcome → Type 0
 IsWritten request len = IsWrittenAs (IsPlanned request len) (IsNeeded request.job) request.is_dry
 
 abbrev pub IsLeft : Request → ℕ → GPT → Outcome → Type 0
 IsLeft request len = IsLeftAs (IsPlanned request len) (IsNeeded request.job) (RefusesRequest request len) request.is_dry
 
--- what is written is another table
+-- The tables differ.
 abbrev pub Differs : GPT → GPT → Type 0
 Differs g next = g ≢ next
 
--- a plan ends with no other error of its own, and asks the disk for its length
+-- A plan itself fails only with an allocation failure. It also asks the disk for its length, which may fail.
 abbrev pub IsMemoryFault : {P : Type 0} → P → ℕ → GPT → Fault → Type 0
 IsMemoryFault plan len g fault = fault ≡ out_of_memory
 

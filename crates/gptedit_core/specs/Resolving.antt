@@ -1,4 +1,4 @@
--- What is asked of an entry of a table.
+-- The meaning of a request for an entry of a table.
 use Rattle.std.specs.Prelude.{◌≡◌, ℕ, ◌+◌, ◌-◌, ◌/◌, ◌%◌, ◌^◌, Bool, false, ◌&&◌, nat_eq, nat_le, nat_lt, if◌then◌else◌, List, [], ◌∷◌, Option, None, Some, Result, Ok, Err, option_map, unwrap_or}
 use Rattle.std.specs.List.{enumerate_from}
 use Rattle.gptman.specs.Coding.{empty_entry}
@@ -27,25 +27,25 @@ use Rattle.gptedit_core.specs.declared.resolve.Partition.{Partition}
 use Rattle.gptedit_core.specs.declared.resolve.Room.{Room}
 use Rattle.gptedit_core.specs.declared.resolve.Room.TheVariants.{Sectors as RoomSectors, Rest as RoomRest}
 
--- nothing is asked of the entry of that number
+-- A request for an entry with no field set.
 abbrev pub nothing_of : Option ℕ → Asked
 nothing_of number = record { number = number; type_guid = None; unique_guid = None; attributes = None; name = None; start = None; size = None; choice = First }
 
--- how many sectors of ss bytes an amount is, where it is a whole number of them
+-- An amount in sectors of ss bytes, if it is a whole number of them.
 abbrev pub sectors_in : Amount → ℕ → Option ℕ
 sectors_in (Sectors n) ss = Some n
 sectors_in (Bytes n) ss = if nat_eq (n % ss) 0 then Some (n / ss) else None
 
--- the number of the first entry that passes a test
+-- The number of the first entry that passes the test.
 abbrev pub first_numbered : (GPTPartitionEntry → Bool) → List (ℕ × GPTPartitionEntry) → Option ℕ
 first_numbered test [] = None
 first_numbered test (e ∷ es) = if test e.1 then Some e.0 else first_numbered test es
 
--- the lowest number of an entry that is not used
+-- The lowest number of an unused entry.
 abbrev pub lowest_unused : GPT → Option ℕ
 lowest_unused g = first_numbered is_unused (enumerate_from 1 (entries_in g))
 
--- the number that is asked for
+-- The requested number, or the lowest one of an unused entry.
 abbrev pub number_asked_or : GPT → Option ℕ → Option ℕ → Result ℕ Refusal
 number_asked_or g (Some i) unused = elim (entry_of_number g i) [ None ↦ Err (NoEntry i) | Some e ↦ Ok i ]
 number_asked_or g None (Some i) = Ok i
@@ -54,11 +54,11 @@ number_asked_or g None None = Err NoUnusedEntry
 abbrev pub number_asked : GPT → Asked → Result ℕ Refusal
 number_asked g a = number_asked_or g a.number (lowest_unused g)
 
--- the entry of a number where it is used
+-- The entry of a number, if it is used.
 abbrev pub used_at : GPT → ℕ → Option GPTPartitionEntry
 used_at g i = elim (entry_of_number g i) [ None ↦ None | Some e ↦ if is_used e then Some e else None ]
 
--- what is refused of putting or changing an entry that is used or not
+-- Adding to a used entry is refused, and changing an unused one.
 abbrev pub use_fault : Mode → ℕ → Option GPTPartitionEntry → Option Refusal
 use_fault Add i None = None
 use_fault Add i (Some e) = Some (IsUsed i)
@@ -66,35 +66,35 @@ use_fault Change i None = Some (IsUnused i)
 use_fault Change i (Some e) = None
 use_fault (Become replace) i used = None
 
--- the first sector that is asked for, if one is
+-- The requested first sector, if there is one.
 abbrev pub start_asked : Option Amount → ℕ → Result (Option ℕ) Refusal
 start_asked None ss = Ok None
 start_asked (Some amount) ss = elim (sectors_in amount ss) [ None ↦ Err (NotWhole amount) | Some s ↦ Ok (Some s) ]
 
--- how many sectors are asked for, if that is said
+-- The requested size in sectors, if there is one.
 abbrev pub room_asked : Option Size → ℕ → ℕ → Result (Option Room) Refusal
 room_asked None i ss = Ok None
 room_asked (Some Rest) i ss = Ok (Some RoomRest)
 room_asked (Some (Exactly amount)) i ss =
     elim (sectors_in amount ss) [ None ↦ Err (NotWhole amount) | Some n ↦ if nat_eq n 0 then Err (NoSize i) else Ok (Some (RoomSectors n)) ]
 
--- the sector and so many more behind it
+-- The place from first to more sectors after it.
 abbrev pub span_from : ℕ → ℕ → ℕ → Result Place Refusal
 span_from i first more = if nat_lt (first + more) (2 ^ 64) then Ok (At first (first + more)) else Err (TooLarge i)
 
--- where a partition is to be that was there and has the rest: what a table becomes leaves it where it is, and a change may lengthen it
+-- The place of a used entry that gets the rest: unchanged if the table becomes the layout, else lengthened.
 abbrev pub rest_there : Mode → ℕ × ℕ → Place
 rest_there (Become replace) there = At there.0 there.1
 rest_there mode there = Longer there.0 there.1
 
--- the same of one that begins here and was there, as far as that is known
+-- The place of a partition that gets the rest, by its requested start and its present place.
 abbrev pub rest_of : Mode → Option ℕ → Option (ℕ × ℕ) → Place
 rest_of mode None None = Longest
 rest_of mode (Some first) None = From first
 rest_of mode None (Some there) = rest_there mode there
 rest_of mode (Some first) (Some there) = if nat_eq first there.0 then rest_there mode there else From first
 
--- where a partition is to be that has so much room, begins here, and was there, as far as that is known
+-- The place of a partition, by its requested size and start and its present place.
 abbrev pub place_of : Mode → ℕ → Option Room → Option ℕ → Option (ℕ × ℕ) → Choice → Result Place Refusal
 place_of mode i (Some (RoomSectors n)) (Some first) there choice = span_from i first (n - 1)
 place_of mode i (Some (RoomSectors n)) None (Some there) choice = span_from i there.0 (n - 1)
@@ -104,27 +104,27 @@ place_of mode i None None (Some there) choice = Ok (At there.0 there.1)
 place_of mode i None (Some start) (Some there) choice = if nat_le there.0 there.1 then span_from i start (there.1 - there.0) else Err (NoSize i)
 place_of mode i None start None choice = Err (NoSize i)
 
--- where an entry stands
+-- The present place of an entry.
 abbrev pub there_of : Option GPTPartitionEntry → Option (ℕ × ℕ)
 there_of used = option_map (λ e. (e.starting_lba, e.ending_lba)) used
 
--- what is refused of a place where a partition stays or may not move
+-- A used entry is refused another place if the table may only become the layout.
 abbrev pub stay_fault : Mode → ℕ → Option (ℕ × ℕ) → Place → Option Refusal
 stay_fault (Become false) i (Some there) (At first last) = if nat_eq first there.0 && nat_eq last there.1 then None else Some (WouldMove i)
 stay_fault (Become false) i (Some there) place = Some (WouldMove i)
 stay_fault mode i there place = None
 
--- a value unless something is refused of it
+-- The value, or the refusal if there is one.
 abbrev pub unless : {A : Type 0} → Option Refusal → A → Result A Refusal
 unless None a = Ok a
 unless (Some r) a = Err r
 
--- the first step's value, and what the second makes of it
+-- The second step applied to the value of the first.
 abbrev pub and_then : {A B : Type 0} → Result A Refusal → (A → Result B Refusal) → Result B Refusal
 and_then (Ok a) f = f a
 and_then (Err r) f = Err r
 
--- where a partition is to be that is asked for under number i, with sectors of ss bytes
+-- The requested place of entry i, with sectors of ss bytes.
 abbrev pub place_asked : Mode → Asked → ℕ → Option GPTPartitionEntry → ℕ → Result Place Refusal
 place_asked mode a i used ss =
     and_then (start_asked a.start ss) (λ start.
@@ -132,12 +132,12 @@ place_asked mode a i used ss =
     and_then (place_of mode i room start (there_of used) a.choice) (λ place.
     unless (stay_fault mode i (there_of used) place) place)))
 
--- the entry that is there where it is used, or one that is not with a random GUID
+-- The used entry, or an empty one with the random GUID.
 abbrev pub entry_there : Option GPTPartitionEntry → List ℕ → GPTPartitionEntry
 entry_there None random = record empty_entry { unique_partition_guid = random }
 entry_there (Some e) random = e
 
--- it with what is asked for
+-- The entry with the requested fields.
 abbrev pub entry_asked : Asked → Option GPTPartitionEntry → List ℕ → GPTPartitionEntry
 entry_asked a used random = let e = entry_there used random in record e {
   partition_type_guid = unwrap_or a.type_guid e.partition_type_guid;
@@ -146,7 +146,7 @@ entry_asked a used random = let e = entry_there used random in record e {
   partition_name = unwrap_or a.name e.partition_name;
 }
 
--- what is put under number i
+-- The partition to be put into entry i.
 abbrev pub partition_at : GPT → Mode → Asked → List ℕ → ℕ → Result Partition Refusal
 partition_at g mode a random i =
     let used = used_at g i in
@@ -155,21 +155,21 @@ partition_at g mode a random i =
     and_then (place_asked mode a i used g.sector_size) (λ place.
     if is_unused e then Err (NoType i) else Ok (record { number = i; entry = e; place = place })))
 
--- what is asked of one entry of a table
+-- The partition of one request.
 abbrev pub resolved : GPT → Mode → Asked → List ℕ → Result Partition Refusal
 resolved g mode a random = and_then (number_asked g a) (partition_at g mode a random)
 
--- a plan is stopped by what is refused, or for want of memory
+-- A plan ends with the refusal, or since an allocation failed.
 abbrev pub IsStopFor : {A : Type 0} → Result A Refusal → Stop → Type 0
 IsStopFor r (Refused refusal) = r ≡ Err refusal
 IsStopFor r (Failed e) = fault_of e ≡ out_of_memory
 
--- what is refused
+-- The refusal, if there is one.
 abbrev pub refusal_in : Result (Unit {0}) Refusal → Option Refusal
 refusal_in (Ok _) = None
 refusal_in (Err r) = Some r
 
--- what is asked of the entries of a table, each with a random GUID
+-- The partitions of all requests, each with a random GUID.
 abbrev pub resolved_all : GPT → Mode → List Asked → List (List ℕ) → Result (List Partition) Refusal
 resolved_all g mode [] randoms = Ok []
 resolved_all g mode (a ∷ asked) [] = Ok []

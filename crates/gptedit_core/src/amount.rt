@@ -1,22 +1,22 @@
-//! Amounts of sectors, as people give them.
+//! Amounts in sectors or bytes.
 
 ghost use Rattle.std.specs.Prelude.{◌≡◌, ◌<◌};
 ghost use Rattle.gptedit_core.specs.Resolving.{sectors_in};
 
-/// So many sectors, or so many bytes that are to be whole sectors.
+/// A number of sectors, or a number of bytes that has to be a multiple of the sector size.
 #[derive(Clone, Copy, PartialEq, Eq, Debug)]
 pub enum Amount {
-    /// Sectors.
+    /// A number of sectors.
     Sectors(u64),
-    /// Bytes.
+    /// A number of bytes.
     Bytes(u64),
 }
 
-/// Places begin at multiples of this, unless the user says otherwise.
+/// The alignment of partitions, unless the user sets another.
 pub const DEFAULT_ALIGN: Amount = Amount::Bytes(1 << 20);
 
 impl Amount {
-    /// How many sectors of so many bytes they are. `None` where that is no whole number.
+    /// Returns the amount in sectors, or `None` if it is not a multiple of `sector_size`, which is in bytes.
     pub fn sectors(self, sector_size: u64) -> Option<u64>
         requires { 0 < sector_size }
         ensures { result ≡ sectors_in self sector_size }

@@ -1,4 +1,4 @@
-//! What is asked of a table.
+//! Requests: layouts, and what they ask of each entry.
 
 ghost use Rattle.std.specs.Prelude.{◌≡◌};
 ghost use Rattle.gptedit_core.specs.Resolving.{nothing_of};
@@ -6,54 +6,52 @@ ghost use Rattle.gptedit_core.specs.Resolving.{nothing_of};
 use crate::amount::Amount;
 use gptman::PartitionName;
 
-/// Which of the free places a partition gets.
+/// Which free place a partition gets.
 #[derive(Clone, Copy, PartialEq, Eq, Debug)]
 pub enum Choice {
     /// The first.
     First,
     /// The last.
     Last,
-    /// The start of the shortest slot that has room.
+    /// The start of the smallest free range that is large enough; the first of equals.
     Best,
-    /// The start of the longest run of free sectors, the first of equals, at the first multiple of the
-    /// alignment there.
+    /// The first multiple of the alignment in the longest free range; the first of equals.
     Longest,
 }
 
 /// How large a partition is to be.
 #[derive(Clone, Copy, PartialEq, Eq, Debug)]
 pub enum Size {
-    /// So large.
+    /// Exactly this size.
     Exactly(Amount),
-    /// As large as there is room: from its first sector to the end of the free sectors there, or where it
-    /// has no first sector yet, the longest run of free sectors. An entry that is used and begins there is
-    /// never shortened: a change lengthens it where it can, and what a table becomes leaves it as it is.
+    /// All free sectors from its first sector on; without a first sector, the longest free range. A used entry that
+    /// starts there is never shortened: `Mode::Change` lengthens it if it can, `Mode::Become` leaves it unchanged.
     Rest,
 }
 
-/// What is asked of one entry. What is not given stays as it is in an entry that is used.
+/// A request for one entry. A field that is `None` keeps the value of a used entry.
 #[derive(Drop, Debug)]
 pub struct Asked {
-    /// Its number, from 1; else the lowest of an unused entry.
+    /// The number of the entry, from 1. `None` means the lowest unused one.
     pub number: Option<u32>,
-    /// The type of the partition.
+    /// The type of the partition. An unused entry needs one.
     pub type_guid: Option<[u8; 16]>,
-    /// Its own GUID; else a random one for an entry that was not used.
+    /// The GUID of the partition. `None` means a random one for an unused entry.
     pub unique_guid: Option<[u8; 16]>,
-    /// Its attributes; else none for an entry that was not used.
+    /// The attributes. `None` means no attributes for an unused entry.
     pub attributes: Option<u64>,
-    /// Its name; else none for an entry that was not used.
+    /// The name. `None` means an empty name for an unused entry.
     pub name: Option<PartitionName>,
-    /// Its first sector; else that of the entry, or one that is chosen.
+    /// The first sector. `None` means that of a used entry, or a chosen one.
     pub start: Option<Amount>,
-    /// How large it is; else as large as the entry.
+    /// The size. `None` means that of a used entry; an unused entry needs one.
     pub size: Option<Size>,
-    /// Which of the free places it gets, where one is chosen.
+    /// Which free place the partition gets, if one is chosen.
     pub choice: Choice,
 }
 
 impl Asked {
-    /// Nothing, of the entry of this number.
+    /// Returns a request for the entry of this number with no other field set.
     pub fn nothing(number: Option<u32>) -> Asked
         ensures { result ≡ nothing_of number }
     {
@@ -70,29 +68,29 @@ impl Asked {
     }
 }
 
-/// What may be done with the entries.
+/// The entries that a layout may name, and what happens to the others.
 #[derive(Clone, Copy, PartialEq, Eq, Debug)]
 pub enum Mode {
-    /// Entries that are not used are put.
+    /// It fills unused entries, and may not name a used one.
     Add,
-    /// Entries that are used are changed.
+    /// It changes used entries, and may not name an unused one.
     Change,
-    /// The table becomes what is asked for. Unless it may be replaced, each entry that is used is asked for or
-    /// removed, and stays where it is.
+    /// The table becomes the layout. Unless `replace` is set, the layout must name or remove each used entry, and no
+    /// used entry may move or change its size.
     Become { replace: bool },
 }
 
-/// What is asked of a table.
+/// A request for a table.
 #[derive(Drop, Debug)]
 pub struct Layout {
-    /// What may be done with the entries.
+    /// The permitted changes of the named entries.
     pub mode: Mode,
-    /// The GUID of the disk; else it stays.
+    /// The GUID of the disk. `None` keeps it.
     pub disk_guid: Option<[u8; 16]>,
-    /// Places are chosen at multiples of so much.
+    /// The alignment of places that are chosen.
     pub align: Amount,
-    /// The numbers of entries that are removed.
+    /// The numbers of the entries to remove.
     pub removed: Vec<u32>,
-    /// What is asked of entries.
+    /// The requests for entries.
     pub asked: Vec<Asked>,
 }

@@ -1,4 +1,4 @@
-//! The layout that a table is.
+//! The layout that describes a table.
 
 ghost use Rattle.std.specs.Prelude.{◌≡◌, IfErr, IfOk};
 ghost use Rattle.std.specs.List.{enumerate_from};
@@ -11,11 +11,11 @@ use crate::asked::{Asked, Choice, Layout, Mode, Size};
 use gptman::{GPT, GPTPartitionEntry, Result};
 use std::alloc::Global;
 
-/// The layout that the table is: the GUID of the disk, and each used entry with all that it has, under its
-/// number. Put into the table it came from, it changes nothing; and it is not refused there where that table
-/// has the stated layout and may be written, its alignment is above 0, and each entry has a random GUID.
+/// Returns the layout that describes the table: the GUID of the disk, and each used entry with all its fields and its
+/// number. Applying it to the same table changes nothing. It is not refused there if the table has the stated layout
+/// and may be written, its alignment is above 0, and there is a random GUID for each entry.
 ///
-/// `OutOfMemory` where there is no memory for it.
+/// Fails only with `OutOfMemory`.
 pub fn layout_of(alloc: Global, table: &GPT) -> Result<Layout>
     ensures value { IfOk result (IsLayoutOf table.now) }
     ensures refused { IfErr result (λ e. fault_of e ≡ out_of_memory) }
@@ -30,7 +30,7 @@ pub fn layout_of(alloc: Global, table: &GPT) -> Result<Layout>
     })
 }
 
-// What is asked where each used entry is to be as it is.
+// Returns a request for each used entry that leaves it unchanged.
 fn ask_for_all(alloc: Global, table: &GPT) -> Result<Vec<Asked>>
     ensures value { IfOk result (λ asked. asked.items
         ≡ asked_of_all (enumerate_from 1 (entries_in table.now))) }
@@ -45,7 +45,7 @@ fn ask_for_all(alloc: Global, table: &GPT) -> Result<Vec<Asked>>
     Ok(asked)
 }
 
-// What is asked where the entry of this number is to be as it is.
+// Returns a request that leaves this entry unchanged.
 fn ask_for(number: u32, entry: &GPTPartitionEntry) -> Result<Asked>
     ensures value { IfOk result (λ a. a ≡ asked_of number entry.now) }
     ensures refused { IfErr result (λ e. fault_of e ≡ out_of_memory) }
@@ -63,7 +63,7 @@ fn ask_for(number: u32, entry: &GPTPartitionEntry) -> Result<Asked>
     })
 }
 
-// How many sectors there are from the first to the last, where they are so many that fit in 64 bits.
+// Returns the number of sectors from `first` to `last`, or 0 if there are none or if the number exceeds 64 bits.
 fn count_sectors(first: u64, last: u64) -> u64
     ensures { result ≡ more_sectors first last }
 {

@@ -1,4 +1,4 @@
-//! A request is done on a disk.
+//! Changes of the table on a disk.
 
 ghost use Rattle.std.specs.Prelude.{◌≡◌, ◌<◌, true, IfErr, IfOk, IfSome, OnErr};
 ghost use Rattle.gptman.specs.Answers.{HasCause};
@@ -17,12 +17,14 @@ use gptman::{Disk, Result};
 use gptman_change::change_table;
 use std::alloc::Global;
 
-/// Reads the table on the disk, with sectors of so many bytes or of a size that is found, and makes it what
-/// is asked for: in both places and in one write, unless the request only tells it, refuses it or asks for
-/// what is there.
+/// Reads the table on the disk, changes it as requested, and writes it to both places in one write. Writes nothing if
+/// the request is a dry run, is refused or changes nothing; `Job::Rewrite` always writes. `sector_size` is in bytes;
+/// `None` means 512, or 4096 if a read with 512 finds no signature.
 ///
-/// The errors are those of reading a table and of `GPT::write_into`, `Io` where the disk's length cannot be
-/// taken, and `OutOfMemory`. After one other than `Io` the disk is as it was.
+/// # Errors
+///
+/// Those of reading a table and of `GPT::write_into`, `Io` if the length of the disk cannot be read, and
+/// `OutOfMemory`. After any error other than `Io` the disk is unchanged.
 pub fn edit<D: Disk>(
     alloc: Global,
     disk: &mut D,
@@ -33,13 +35,13 @@ pub fn edit<D: Disk>(
     requires random { has_random request.now }
     ensures keeps { Keeps (D.state disk.old) (D.state disk.new) }
 
-    // What was asked for is written to both places, each copy alone gives it, and it is told; or the table
-    // is left, and it is told why.
+    // After `Ok` both places hold the planned table, and each copy by itself is read as it; or the disk was only
+    // read, and the outcome says why nothing was written.
     ensures done { IsHonest (D.state disk.old) → IfOk result (λ outcome. AnswersChange
         (IsWritten request.now (D.state disk.old).size) (IsLeft request.now (D.state disk.old).size)
         sector_size outcome (D.state disk.old) (D.state disk.new)) }
 
-    // An error leaves the disk as it was unless it failed.
+    // After an error the disk is unchanged, unless the disk failed.
     ensures refused { IsHonest (D.state disk.old) → IfErr result (λ e. RefusesChange
         (IsWritten request.now (D.state disk.old).size) (IsMemoryFault request.now (D.state disk.old).size)
         (MayAsk request.now) sector_size (fault_of e) (D.state disk.old) (D.state disk.new)) }
@@ -47,12 +49,13 @@ pub fn edit<D: Disk>(
     ensures kept { IsHonest (D.state disk.old)
         → OnErr result (FailedOrUntouched (D.state disk.old) (D.state disk.new)) }
 
-    // A request that only tells has only read.
+    // A dry run only reads.
     ensures dry { IsHonest (D.state disk.old) → request.now.is_dry ≡ true
         → OnlyRead (D.state disk.old) (D.state disk.new) }
 
-    // A stop or a fault at any moment leaves the table that was or the planned one, from one good copy and
-    // no other. What is read from two good copies is one of them.
+    // If nothing was unsynced before, a crash or disk fault at any moment leaves the old or the planned table.
+    // `leaves`: from one good copy that is clear of the ranges written first. `safe`: from at least one good copy, if
+    // all good copies are of one table.
     ensures leaves { IsHonest (D.state disk.old) → LeavesChange
         (IsWritten request.now (D.state disk.old).size) sector_size (D.state disk.old) (D.state disk.new) }
     ensures safe { (was : Table) → StartsGoodFor (D.state disk.old) sector_size was
@@ -62,11 +65,13 @@ pub fn edit<D: Disk>(
     change_table(alloc, disk, sector_size, request)
 }
 
-/// Reads the table on the disk, with sectors of so many bytes or of a size that is found, and fits it to the
-/// disk's length, or gives it the usual bounds there: in both places and in one write, unless it is only to
-/// be told, is refused or is so already.
+/// Reads the table on the disk, fits it to the length of the disk or sets the usual bounds there, and writes it to
+/// both places in one write. Writes nothing if the growth is a dry run, is refused or changes nothing. `sector_size`
+/// is as for `edit`.
 ///
-/// The errors are those of `edit`.
+/// # Errors
+///
+/// Those of `edit`.
 pub fn grow<D: Disk>(
     alloc: Global,
     disk: &mut D,
@@ -88,9 +93,9 @@ pub fn grow<D: Disk>(
     ensures dry { IsHonest (D.state disk.old) → growth.now.is_dry ≡ true
         → OnlyRead (D.state disk.old) (D.state disk.new) }
 
-    // From one good copy of a table for the grown one, a stop at any moment leaves one of the two. The copy
-    // in the primary place is such a one (`growths_keep_the_primary_copy`), so where it is the only one, a
-    // stop or a fault leaves the table that was or the grown one.
+    // If nothing was unsynced before, a crash or disk fault at any moment leaves the old or the grown table.
+    // `leaves`: from one good copy that is clear of the ranges written first, as the primary copy is
+    // (`growths_keep_the_primary_copy`). `safe`: from the primary copy, if it is the only good one.
     ensures leaves { IsHonest (D.state disk.old) → LeavesChange
         (IsWrittenGrown growth.now (D.state disk.old).size) sector_size
         (D.state disk.old) (D.state disk.new) }

@@ -1,4 +1,4 @@
-//! A table is fitted to the length of its disk, or gets its usual bounds, as a plan.
+//! A plan that fits a table to the length of its disk, or sets its usual bounds.
 
 ghost use Rattle.std.specs.Prelude.{◌≡◌, ◌↔◌, ◌⊎◌, ◌<◌, None, Some, IfErr, IfOk, IsTrue, OnOk};
 ghost use Rattle.gptman.specs.Answers.{CountsFailure, HasCause, IsFailure};
@@ -23,27 +23,27 @@ use gptman::{Disk, Error, GPT};
 use gptman_change::{Plan, Planned};
 use std::alloc::Global;
 
-/// Which sectors a table counts as usable.
+/// Which sectors become usable.
 #[derive(Clone, Copy, PartialEq, Eq, Debug)]
 pub enum Bounds {
-    /// The last one follows the end of a disk that has another length. The first one stays where it
-    /// may, and both stay on a disk that has the length of the table.
+    /// On a disk of another length the last usable sector follows the end, and the first one stays if it can. On a
+    /// disk of the table's own length both stay.
     Kept,
-    /// All sectors between the two copies. The disk has the length of the table.
+    /// All sectors between the two copies. The table must already end where the disk does.
     Usual,
 }
 
-/// The table gets the length of the disk, or its usual bounds there.
+/// A change of a table to the length of the disk, or to its usual bounds there.
 #[derive(Clone, Copy, PartialEq, Eq, Debug)]
 pub struct Growth {
-    /// Which sectors are usable then.
+    /// Which sectors become usable.
     pub bounds: Bounds,
-    /// That nothing is written.
+    /// If true, nothing is written.
     pub is_dry: bool,
 }
 
-/// A growth is a plan. It refuses a table that has not the stated layout then, and the usual bounds where
-/// the table does not end at the disk's last whole sector.
+/// The plan refuses a disk that is too small, a table that would not have the stated layout afterwards or may not be
+/// written, and `Bounds::Usual` if the table does not end at the last whole sector of the disk.
 impl Plan for Growth {
     type Answer = Outcome;
 
@@ -55,7 +55,7 @@ impl Plan for Growth {
 
     ghost asks = { MayAsk };
 
-    /// The errors are those of the disk's length, and `OutOfMemory`.
+    /// Fails with `Io` if the length of the disk cannot be read, and with `OutOfMemory`.
     fn change<D: Disk>(
         &self,
         alloc: Global,
@@ -79,7 +79,7 @@ impl Plan for Growth {
     }
 }
 
-// Fits the table's header to the disk, and answers its length in bytes.
+// Fits the header to the disk, and returns the length of the disk in bytes.
 fn fit<D: Disk>(disk: &mut D, table: &mut GPT) -> gptman::Result<u64>
     requires sector { 0 < table.old.sector_size }
     ensures reads { Reads (D.state disk.old) (D.state disk.new) }
@@ -99,8 +99,7 @@ fn fit<D: Disk>(disk: &mut D, table: &mut GPT) -> gptman::Result<u64>
     Ok(size)
 }
 
-// Gives the bounds that are asked for to a table that was fitted to a disk of so many bytes, and refuses it
-// where it may not be written.
+// Sets the bounds of a table that was fitted to a disk of `size` bytes, and refuses it if it may not be written.
 fn settle(bounds: Bounds, was: &GPT, size: u64, table: &mut GPT) -> Result<(), Stop>
     requires sector { 0 < was.now.sector_size }
     requires fits { fit_fault was.now.header was.now.sector_size size ≡ None }
@@ -112,7 +111,6 @@ fn settle(bounds: Bounds, was: &GPT, size: u64, table: &mut GPT) -> Result<(), S
     check_grown(table, size)
 }
 
-// Gives it these bounds.
 fn set_bounds(bounds: Bounds, was: &GPT, size: u64, table: &mut GPT) -> Result<(), Refusal>
     requires sector { 0 < was.now.sector_size }
     requires fitted { table.old ≡ grow_to was.now size }
@@ -129,7 +127,7 @@ fn set_bounds(bounds: Bounds, was: &GPT, size: u64, table: &mut GPT) -> Result<(
     Ok(())
 }
 
-// Keeps the first usable sector that was, where it may stay.
+// Keeps the old first usable sector, if it is within the new bounds.
 fn keep_first(table: &mut GPT, was: u64)
     ensures kept { IsKeptFirst was table.old.header.first_usable_lba table.old.header.last_usable_lba
         table.new.header.first_usable_lba }
@@ -141,7 +139,7 @@ fn keep_first(table: &mut GPT, was: u64)
     }
 }
 
-// Whether the table ends where a disk of so many bytes does.
+// Reports whether the headers are in sector 1 and the last whole sector of a disk of `size` bytes.
 fn ends_at(table: &GPT, size: u64) -> bool
     requires { 0 < table.now.sector_size }
     ensures { IsTrue result ↔ EndsAt size table.now }
@@ -152,7 +150,7 @@ fn ends_at(table: &GPT, size: u64) -> bool
         && header.primary_lba.max(header.backup_lba) == last.max(1)
 }
 
-// Refuses a table that has not the stated layout on a disk of so many bytes, or may not be written to it.
+// Refuses a table that does not have the stated layout on a disk of `size` bytes, or may not be written to it.
 fn check_grown(table: &GPT, size: u64) -> Result<(), Stop>
     ensures may { OnOk result (HasLayout table.now size × MayBeWritten table.now size) }
     ensures refused { IfErr result (IsStopOf (RefusesGrown table.now size)) }
@@ -163,7 +161,6 @@ fn check_grown(table: &GPT, size: u64) -> Result<(), Stop>
     check(table, size)
 }
 
-// What is told of a table that stays as it is.
 fn refuse(table: &GPT, refusal: Refusal) -> gptman::Result<Planned<Outcome>>
     ensures told { IfOk result (λ planned. planned ≡ Leave (Refused table.now refusal)) }
     ensures refused { IfErr result (λ e. fault_of e ≡ out_of_memory) }

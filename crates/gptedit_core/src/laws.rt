@@ -1,39 +1,40 @@
-//! Laws of what is asked for, over definitions alone. These calls do nothing.
+//! Laws of layouts. The calls do nothing; their clauses state theorems about the definitions.
 
 ghost use Rattle.gptedit_core.specs.Named.{LayoutsAreTaken, LayoutsAreTakenAgain, LayoutsChangeNamed};
 ghost use Rattle.gptedit_core.specs.Named.{LayoutsGiveTable, LayoutsOnlyLengthen, LayoutsStay};
 
-/// A layout that is put into a table changes the entries that it names or removes, and no other: each that
-/// it names is there with what was asked for, at a place that the table had for it, and each other stays.
-/// Where the table becomes what is asked for, no other is used, or those that are go.
+/// A layout changes only the entries that it names or removes. Each named entry has the requested fields afterwards,
+/// at a place that was free for it; each other entry is unchanged. With `Mode::Become { replace: false }` no other
+/// entry is used.
 pub fn layouts_change_what_they_name()
     ensures { LayoutsChangeNamed }
 {}
 
-/// The layout of a table (`layout_of`) gives that table where it is put into it.
+/// Applying the layout of a table (`layout_of`) to that table changes nothing.
 pub fn layouts_of_tables_give_them()
     ensures { LayoutsGiveTable }
 {}
 
-/// A request that puts the layout of a table into that table is not refused, where the table has the stated
-/// layout and may be written, its alignment is above 0, and each entry that is asked for has a random GUID.
+/// A request that applies the layout of a table to that table is not refused, if the table has the stated layout and
+/// may be written, its alignment is above 0, and there is a random GUID for each requested entry.
 pub fn layouts_of_tables_are_taken()
     ensures { LayoutsAreTaken }
 {}
 
-/// A layout that gives each entry its number, put into a table that it was put into before, leaves that table.
+/// A layout that numbers each entry changes nothing if it is applied again, with `Mode::Become { replace: false }`
+/// and nothing to remove.
 pub fn layouts_again_change_nothing()
     ensures { LayoutsStay }
 {}
 
-/// A request that puts such a layout into a table is not refused a second time, where the first was planned and
-/// the table may only become what is asked for, or each entry that was used is asked for or removed.
+/// A request that applies such a layout again is not refused, if the first one was planned and either the table could
+/// only become the layout, or the layout names or removes each used entry.
 pub fn layouts_again_are_taken()
     ensures { LayoutsAreTakenAgain }
 {}
 
-/// A layout that changes an entry to have the rest, where it begins, never shortens or moves it. It ends before
-/// the highest multiple of the alignment that the free sectors behind it reach, or where it ended.
+/// A change of an entry to `Size::Rest`, from where it starts, never shortens or moves it. It ends before the highest
+/// multiple of the alignment that the free sectors after it reach, or where it ended before.
 pub fn layouts_only_lengthen()
     ensures { LayoutsOnlyLengthen }
 {}

@@ -1,4 +1,4 @@
-//! What is asked for is put into a table, in memory.
+//! Applies a layout to a table in memory.
 
 ghost use Rattle.std.specs.Prelude.{◌≡◌, ◌<◌, ◌≤◌, Ok, Err, IfErr, IfOk, OnOk, length};
 ghost use Rattle.gptedit_core.specs.Laying.{align_asked, cleared, is_blank, lowest_used, others_fault};
@@ -16,8 +16,8 @@ use crate::slots::Slots;
 use gptman::{GPT, GPTPartitionEntry};
 use std::alloc::Global;
 
-/// Makes the table what is asked for. Entries that were not used get the random GUIDs, each the one of its
-/// place in the list, where none is given.
+/// Applies the layout to the table. A named entry that was unused and has no GUID in the layout gets the random GUID
+/// at its index in the list of requests.
 pub fn lay(alloc: Global, table: &mut GPT, layout: &Layout, random: &[[u8; 16]]) -> Result<(), Stop>
     requires sector { 0 < table.old.sector_size }
     requires random { length layout.now.asked.items ≤ length random.now }
@@ -36,7 +36,6 @@ pub fn lay(alloc: Global, table: &mut GPT, layout: &Layout, random: &[[u8; 16]])
     Ok(())
 }
 
-// What is asked of each entry.
 fn resolve_all(
     alloc: Global,
     table: &GPT,
@@ -57,7 +56,7 @@ fn resolve_all(
     Ok(partitions)
 }
 
-// At multiples of how many sectors places are chosen.
+// Returns the alignment in sectors.
 fn find_align(align: Amount, sector_size: u64) -> Result<u64, Refusal>
     requires { 0 < sector_size }
     ensures { result ≡ align_asked align sector_size }
@@ -69,7 +68,6 @@ fn find_align(align: Amount, sector_size: u64) -> Result<u64, Refusal>
     }
 }
 
-// Removes entries, one after the other.
 fn remove_all(alloc: Global, table: &mut GPT, numbers: &[u32]) -> Result<(), Refusal>
     ensures ok { OnOk result (removed_all numbers.now table.old ≡ Ok table.new) }
     ensures refused { IfErr result (λ r. removed_all numbers.now table.old ≡ Err r) }
@@ -81,7 +79,7 @@ fn remove_all(alloc: Global, table: &mut GPT, numbers: &[u32]) -> Result<(), Ref
     Ok(())
 }
 
-// Removes an entry, also one that is not used and has bytes yet.
+// Removes an entry. An unused entry is removed too, unless all its bytes are zero.
 fn remove(alloc: Global, table: &mut GPT, number: u32) -> Result<(), Refusal>
     ensures ok { OnOk result (removed_one number table.old ≡ Ok table.new) }
     ensures refused { IfErr result (λ r. removed_one number table.old ≡ Err r) }
@@ -97,14 +95,14 @@ fn remove(alloc: Global, table: &mut GPT, number: u32) -> Result<(), Refusal>
     Ok(())
 }
 
-// Whether no byte of the entry is set.
+// Reports whether all bytes of the entry are zero.
 fn is_blank(entry: &GPTPartitionEntry) -> bool
     ensures { result ≡ is_blank entry.now }
 {
     entry.encode().iter().all(|byte| *byte == 0)
 }
 
-// Makes the entries of the partitions' numbers unused.
+// Makes the entries of these partitions unused, so that their own sectors are free.
 fn clear(alloc: Global, table: &mut GPT, partitions: &[Partition]) -> Result<(), Refusal>
     ensures ok { OnOk result (cleared partitions.now table.old ≡ Ok table.new) }
     ensures refused { IfErr result (λ r. cleared partitions.now table.old ≡ Err r) }
@@ -119,7 +117,7 @@ fn clear(alloc: Global, table: &mut GPT, partitions: &[Partition]) -> Result<(),
     Ok(())
 }
 
-// Refuses a table that is to become what is asked for, and has entries that are not asked for.
+// Refuses a table that is to become the layout and still has used entries that the layout does not name.
 fn check_others(table: &GPT, mode: Mode) -> Result<(), Refusal>
     ensures { refusal_in result ≡ others_fault mode table.now }
 {
@@ -134,7 +132,7 @@ fn check_others(table: &GPT, mode: Mode) -> Result<(), Refusal>
     }
 }
 
-// The lowest number of an entry that is used.
+// Returns the lowest number of a used entry.
 fn find_used(table: &GPT) -> Option<u32>
     ensures { result ≡ lowest_used table.now }
 {
@@ -146,7 +144,6 @@ fn find_used(table: &GPT) -> Option<u32>
     None
 }
 
-// Puts the partitions into the table, one after the other.
 fn put_all(table: &mut GPT, partitions: &[Partition]) -> Result<(), Stop>
     requires { 0 < table.old.align }
     ensures put { OnOk result (ArePut partitions.now table.old table.new) }
@@ -159,7 +156,7 @@ fn put_all(table: &mut GPT, partitions: &[Partition]) -> Result<(), Stop>
     Ok(())
 }
 
-// Puts a partition into the table, under the number of an entry that is not used.
+// Puts the partition into an unused entry.
 fn put(table: &mut GPT, slots: &mut Slots, partition: &Partition) -> Result<(), Stop>
     requires aligned { 0 < table.old.align }
     requires kept { AreKept slots.old table.old }

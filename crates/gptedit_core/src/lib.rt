@@ -1,6 +1,7 @@
-//! The daily work on a table of partitions: what is asked of its entries, and what the table becomes by it.
+//! Plans changes of a partition table: requests for its entries, layouts, growths and new tables.
 //!
-//! `edit` and `grow` do it on a disk, in one write. What they write is a plan over tables in memory.
+//! `edit`, `grow`, `make` and `remake` carry out a plan on a disk, in one write of the table. Plans are made in
+//! memory.
 #![tactic(auto)]
 
 pub mod amount;

@@ -1,4 +1,4 @@
-//! A new table is made for a disk, and written once: over an old one, or where none is read.
+//! Makes a new table, and writes it once: over an old table, or without reading one.
 
 ghost use Rattle.std.specs.Prelude.{◌≡◌, ◌⊎◌, ◌<◌, ◌↔◌, true, false, IfErr, IfOk, IfSome, IsTrue, OnErr, OnOk};
 ghost use Rattle.gptman.specs.Answers.{CountsFailure, HasCause, IsFailure};
@@ -27,41 +27,43 @@ use gptman::{Disk, Error, GPT};
 use gptman_change::{Plan, Planned, change_table};
 use std::alloc::Global;
 
-/// What a new table has, and how it is written.
+/// A new table, and how it is written.
 #[derive(Drop, Debug)]
 pub struct Creation {
-    /// The GUID of the disk, unless the layout gives one.
+    /// The GUID of the disk, unless the layout has one.
     pub guid: [u8; 16],
-    /// How many entries it has.
+    /// The number of entries.
     pub entries: u32,
-    /// Its first usable sector; else the first one behind the primary copy.
+    /// The first usable sector. `None` means the first one after the primary copy.
     pub first_usable: Option<u64>,
-    /// Its last usable sector; else the last one before the backup copy.
+    /// The last usable sector. `None` means the last one before the backup copy.
     pub last_usable: Option<u64>,
-    /// What is put into it, where something is.
+    /// The partitions of the new table, if any.
     pub layout: Option<Layout>,
-    /// Random GUIDs, for each entry that is asked for one.
+    /// Random GUIDs, at least one for each entry that the layout names.
     pub random: Vec<[u8; 16]>,
-    /// That a stop while it is written may leave neither the old table nor the new one.
+    /// If true, a crash during the write may leave neither the old table nor the new one.
     pub may_lose: bool,
-    /// That nothing is written.
+    /// If true, nothing is written.
     pub is_dry: bool,
 }
 
-/// What became of a table that is made where none is read.
+/// The outcome of `make`.
 #[derive(Drop, Debug)]
 pub enum Made {
-    /// The table that was written, or would be where nothing was to be written.
+    /// The new table. It was written, unless `is_dry` is set.
     New { next: GPT },
-    /// Why there is none.
+    /// Why there is no new table. Nothing was written.
     Refused { refusal: Refusal },
 }
 
-/// Reads the table on the disk, with sectors of so many bytes or of a size that is found, and writes the new
-/// one over it, with the same sectors: in both places and in one write, unless it is only to be told or is
-/// refused. The new table is written in the form of the copy that was read, so that this copy is written last.
+/// Reads the table on the disk, and writes a new one with the same sector size over it, to both places in one write.
+/// Writes nothing if the creation is a dry run or is refused. The new table is written in the form of the copy that
+/// was read, so that this copy is overwritten last. `sector_size` is as for `edit`.
 ///
-/// The errors are those of `edit`. After one other than `Io` the disk is as it was.
+/// # Errors
+///
+/// Those of `edit`.
 pub fn remake<D: Disk>(
     alloc: Global,
     disk: &mut D,
@@ -72,13 +74,13 @@ pub fn remake<D: Disk>(
     requires random { has_random_in creation.now }
     ensures keeps { Keeps (D.state disk.old) (D.state disk.new) }
 
-    // The new table was written to both places, and each copy alone gives it; or the old one is left, and it
-    // is told why.
+    // After `Ok` both places hold the new table, and each copy by itself is read as it; or the disk was only read,
+    // and the outcome says why nothing was written.
     ensures done { IsHonest (D.state disk.old) → IfOk result (λ outcome. AnswersChange
         (IsWrittenAnew creation.now (D.state disk.old).size) (IsLeftAnew creation.now (D.state disk.old).size)
         sector_size outcome (D.state disk.old) (D.state disk.new)) }
 
-    // An error leaves the disk as it was unless it failed.
+    // After an error the disk is unchanged, unless the disk failed.
     ensures refused { IsHonest (D.state disk.old) → IfErr result (λ e. RefusesChange
         (IsWrittenAnew creation.now (D.state disk.old).size)
         (IsMemoryFault creation.now (D.state disk.old).size)
@@ -87,19 +89,21 @@ pub fn remake<D: Disk>(
     ensures kept { IsHonest (D.state disk.old)
         → OnErr result (FailedOrUntouched (D.state disk.old) (D.state disk.new)) }
 
-    // What is only told has only read.
+    // A dry run only reads.
     ensures dry { IsHonest (D.state disk.old) → creation.now.is_dry ≡ true
         → OnlyRead (D.state disk.old) (D.state disk.new) }
 
-    // Unless it may lose both, a stop or a fault at any moment leaves the table that was or the new one, from
-    // one good copy and no other, whatever their numbers of entries are.
+    // Unless `may_lose` is set: if at least one copy is good, all good copies are of one table, and nothing was
+    // unsynced before, a crash or disk fault at any moment leaves that table or the new one. The numbers of entries
+    // may differ.
     ensures safe { creation.now.may_lose ≡ false → (was : Table)
         → StartsGoodFor (D.state disk.old) sector_size was
         → IsSafe (IsWrittenAnew creation.now (D.state disk.old).size)
         (size_for (D.state disk.old).view sector_size) was (D.state disk.old) (D.state disk.new) }
 
-    // The same where it may, from one good copy of a table for the new one. The law
-    // `safe_orders_keep_a_copy` says when the copy that was read is such a one.
+    // Also if `may_lose` is set: if one good copy is clear of the ranges written first, and nothing was unsynced
+    // before, a crash or disk fault leaves its table or the new one. The law `safe_orders_keep_a_copy` says when the
+    // copy that was read is clear of them.
     ensures leaves { IsHonest (D.state disk.old) → LeavesChange
         (IsWrittenAnew creation.now (D.state disk.old).size) sector_size
         (D.state disk.old) (D.state disk.new) }
@@ -107,12 +111,14 @@ pub fn remake<D: Disk>(
     change_table(alloc, disk, sector_size, creation)
 }
 
-/// Writes the new table to a disk, with sectors of so many bytes, and reads none: the backup copy first and
-/// then the primary one, with a sync after each, unless it is only to be told or is refused. All refusals come
-/// before the first write.
+/// Writes a new table without reading an old one: the backup copy, then the primary copy, with a sync after each.
+/// Writes nothing if the creation is a dry run or is refused; it is refused before the first write. `sector_size` is
+/// in bytes.
 ///
-/// The errors are those of `GPT::write_into`, `Io` where the disk's length cannot be taken, and `OutOfMemory`.
-/// After one other than `Io` the disk is as it was.
+/// # Errors
+///
+/// Those of `GPT::write_into`, `Io` if the length of the disk cannot be read, and `OutOfMemory`. After any error
+/// other than `Io` the disk is unchanged.
 pub fn make<D: Disk>(
     alloc: Global,
     disk: &mut D,
@@ -123,23 +129,23 @@ pub fn make<D: Disk>(
     requires random { has_random_in creation.now }
     ensures keeps { Keeps (D.state disk.old) (D.state disk.new) }
 
-    // The new table was written to both places, and each copy alone gives it; or it is only told; or it is
-    // refused, and nothing is written.
+    // After `Ok` both places hold the new table, and each copy by itself is read as it; or it was a dry run; or the
+    // table is refused. In the last two cases nothing was written.
     ensures done { IsHonest (D.state disk.old) → IfOk result (λ made. AnswersMaking creation.now sector_size
         made (D.state disk.old) (D.state disk.new)) }
 
-    // An error leaves the disk as it was unless it failed while the table was written.
+    // After an error the disk is unchanged, unless it failed during the write of the table.
     ensures refused { IsHonest (D.state disk.old) → IfErr result (λ e. RefusesMaking creation.now sector_size
         (fault_of e) (D.state disk.old) (D.state disk.new)) }
     ensures cause { HasCause result (D.state disk.old) (D.state disk.new) }
     ensures kept { IsHonest (D.state disk.old)
         → OnErr result (FailedOrUntouched (D.state disk.old) (D.state disk.new)) }
 
-    // What is only told has only read.
+    // A dry run only reads.
     ensures dry { IsHonest (D.state disk.old) → creation.now.is_dry ≡ true
         → OnlyRead (D.state disk.old) (D.state disk.new) }
 
-    // No byte outside of the new table's four ranges is another, at any moment.
+    // At no moment does a byte outside the four ranges of the new table change.
     ensures leaves { IsHonest (D.state disk.old) → LeavesMaking creation.now sector_size
         (D.state disk.old) (D.state disk.new) }
 {
@@ -155,8 +161,8 @@ pub fn make<D: Disk>(
     Ok(Made::New { next })
 }
 
-/// A new table is a plan for an old one. It refuses an old one that has not the stated layout, and one whose
-/// copy would be overwritten first, unless a stop may leave neither.
+/// The plan replaces an old table. Unless `may_lose` is set, it refuses an old table that does not have the stated
+/// layout, and one whose copy would be overwritten first.
 impl Plan for Creation {
     type Answer = Outcome;
 
@@ -170,7 +176,7 @@ impl Plan for Creation {
 
     ghost asks = { MayAsk };
 
-    /// The errors are those of the disk's length, and `OutOfMemory`.
+    /// Fails with `Io` if the length of the disk cannot be read, and with `OutOfMemory`.
     fn change<D: Disk>(
         &self,
         alloc: Global,
@@ -189,7 +195,7 @@ impl Plan for Creation {
     }
 }
 
-// The new table, in primary form, or why there is none.
+// Plans the new table, in primary form.
 fn plan<D: Disk>(
     alloc: Global,
     disk: &mut D,
@@ -216,8 +222,8 @@ fn plan<D: Disk>(
     }
 }
 
-// The length of the disk, and a table without partitions that is fitted to it. `None` where it has no room for
-// two copies.
+// Returns the length of the disk and a table without partitions that is fitted to it, or `None` in its place if the
+// disk has no room for two copies.
 fn make_empty<D: Disk>(
     alloc: Global,
     disk: &mut D,
@@ -239,7 +245,7 @@ fn make_empty<D: Disk>(
     Ok((size, keep_laid_out(table, size)))
 }
 
-// A table without partitions, fitted to the disk. `None` where its header cannot be.
+// Returns a table without partitions that is fitted to the disk, or `None` if its header cannot be fitted.
 fn fit_new<D: Disk>(
     alloc: Global,
     disk: &mut D,
@@ -262,7 +268,7 @@ fn fit_new<D: Disk>(
     }
 }
 
-// The table, where it has the stated layout on a disk of so many bytes.
+// Returns the table if it has the stated layout on a disk of `size` bytes.
 fn keep_laid_out(table: Option<GPT>, size: u64) -> Option<GPT>
     ensures { KeepsLaidOut table size result }
 {
@@ -272,7 +278,7 @@ fn keep_laid_out(table: Option<GPT>, size: u64) -> Option<GPT>
     }
 }
 
-// The new table in the form of the one that was read.
+// Plans the new table in the form of the one that was read.
 fn replace(
     creation: &Creation,
     alloc: Global,
@@ -300,21 +306,19 @@ fn replace(
     Ok(next)
 }
 
-// Whether the old table has the stated layout, or a stop may leave neither.
 fn may_be_replaced(creation: &Creation, was: &GPT, size: u64) -> bool
     ensures { IsTrue result ↔ MayBeReplaced creation.now was.now size }
 {
     creation.may_lose || was.has_layout(size)
 }
 
-// Whether there is a safe order, or a stop may leave neither.
 fn has_order(creation: &Creation, was: &GPT, next: &GPT, size: u64) -> bool
     ensures { IsTrue result ↔ HasOrder creation.now was.now next.now size }
 {
     creation.may_lose || has_safe_order(was, next, size)
 }
 
-// The new table, in primary form, of one without partitions.
+// Makes the new table, in primary form, from one without partitions.
 fn fill(creation: &Creation, alloc: Global, size: u64, empty: GPT) -> Result<GPT, Stop>
     requires random { has_random_in creation.now }
     requires room { HasRoomOf creation.now empty.sector_size size }
@@ -329,7 +333,7 @@ fn fill(creation: &Creation, alloc: Global, size: u64, empty: GPT) -> Result<GPT
     Ok(table)
 }
 
-// Gives the table the bounds that are asked for, where they are among those that it has.
+// Sets the requested bounds, if they are within those of the table.
 fn bound(creation: &Creation, table: &mut GPT) -> Result<(), Refusal>
     ensures bounds { OnOk result (HasBounds creation.now table.old) }
     ensures value { OnOk result (table.new ≡ bounded creation.now table.old) }
@@ -347,7 +351,6 @@ fn bound(creation: &Creation, table: &mut GPT) -> Result<(), Refusal>
     Ok(())
 }
 
-// Puts what is asked for into the table, where something is.
 fn put_layout(creation: &Creation, alloc: Global, table: &mut GPT) -> Result<(), Stop>
     requires random { has_random_in creation.now }
     requires sector { 0 < table.old.sector_size }
@@ -362,7 +365,7 @@ fn put_layout(creation: &Creation, alloc: Global, table: &mut GPT) -> Result<(),
     }
 }
 
-// The new table, which is in primary form, with the header of the same place as the old one's.
+// Puts the new table, which is in primary form, into the form of the old one.
 fn put_in_form(was: &GPT, next: GPT) -> GPT
     requires { has_other_header next.header ≡ true }
     ensures { result ≡ put_at (side_of was.now.header) next }

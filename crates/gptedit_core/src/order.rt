@@ -1,4 +1,4 @@
-//! In which order the two copies of a new table may be written over an old one.
+//! The order of writes when a new table replaces an old one.
 
 ghost use Rattle.std.specs.Prelude.{◌≡◌, ◌↔◌, ◌⊎◌, ◌<◌, ◌≤◌, ◌+◌, ◌*◌, ◌∷◌, [], ℕ, if◌then◌else◌, IsTrue};
 ghost use Rattle.gptman.specs.Layout.{copy_ranges_at, HasLayout};
@@ -9,15 +9,15 @@ ghost use Rattle.gptedit_core.specs.Making.{ranges_of, AreOfOnePlace, IsSafeOrde
 
 use gptman::{Disk, GPT};
 
-// The bytes of a header.
+// The length of a header in bytes.
 const HEADER_SIZE: u64 = 92;
 
-// The bytes of an entry.
+// The length of an entry in bytes.
 const ENTRY_SIZE: u64 = 128;
 
-/// Whether a write of the new table over the old one that was read, on a disk of so many bytes, keeps a good
-/// copy at each moment: both have the stated layout, their headers are those of the same place, and the other
-/// copy of the new table, which is written first, touches no byte of the old one's copy at that place.
+/// Reports whether a write of the new table over the old one that was read, on a disk of `size` bytes, keeps a good
+/// copy at each moment: both have the stated layout and are in the form of the same place, and the other copy of the
+/// new table, which is written first, does not overlap the old copy at that place.
 pub fn has_safe_order(was: &GPT, next: &GPT, size: u64) -> bool
     ensures { IsTrue result ↔ IsSafeOrder was.now next.now size }
 {
@@ -36,20 +36,19 @@ pub fn has_safe_order(was: &GPT, next: &GPT, size: u64) -> bool
     read.is_clear_of(first)
 }
 
-// Whether the two tables have sectors of one size, and headers of one place.
 fn are_of_one_place(was: &GPT, next: &GPT) -> bool
     ensures { IsTrue result ↔ AreOfOnePlace was.now next.now }
 {
     was.sector_size == next.sector_size && was.is_primary() == next.is_primary()
 }
 
-/// A table that was read in the form of its place is one good copy for the write of a new one in a safe order.
-/// Nothing may be pending. This call does nothing.
+/// A table that was read in the form of its place is one good copy for the write of a new one in a safe order, if
+/// nothing is unsynced. This call does nothing; its clause states a theorem about the definitions.
 pub fn safe_orders_keep_a_copy<D: Disk>(disk: &D)
     ensures { SafeOrdersKeepACopy (D.state disk.now) }
 {}
 
-// The bytes of a copy: its header and its entries.
+// The byte ranges of a copy.
 #[derive(Clone, Copy)]
 struct Copy {
     header: Bytes,
@@ -57,7 +56,7 @@ struct Copy {
 }
 
 impl Copy {
-    // The primary or the backup copy of a table with the stated layout on a disk of so many bytes.
+    // Returns the primary or the backup copy of a table with the stated layout on a disk of `size` bytes.
     fn of(table: &GPT, is_primary: bool, size: u64) -> Copy
         requires { HasLayout table.now size }
         ensures { ranges_of result ≡ copy_ranges_at (if is_primary then primary else backup)
@@ -76,7 +75,7 @@ impl Copy {
         }
     }
 
-    // Whether the two copies have no byte in common.
+    // Reports whether the copies do not overlap.
     fn is_clear_of(self, other: Copy) -> bool
         ensures { IsTrue result ↔ AreClear (ranges_of self) (ranges_of other) }
     {
@@ -87,7 +86,7 @@ impl Copy {
     }
 }
 
-// A range of bytes.
+// A range of bytes. The start is a product of two 64-bit numbers.
 #[derive(Clone, Copy)]
 struct Bytes {
     start: u128,
@@ -95,7 +94,7 @@ struct Bytes {
 }
 
 impl Bytes {
-    // So many bytes from the start of this sector on.
+    // Returns a range of `length` bytes that begins at this sector.
     fn new(sector: u64, sector_size: u64, length: u64) -> Bytes
         ensures start { result.start ≡ sector * sector_size }
         ensures length { result.length ≡ length }
@@ -106,7 +105,7 @@ impl Bytes {
         }
     }
 
-    // Whether one of the two has no bytes, or they have none in common.
+    // Reports whether the ranges do not overlap. An empty range overlaps no other.
     fn is_apart(self, other: Bytes) -> bool
         ensures { IsTrue result ↔ (self.length ≡ 0) ⊎ ((other.length ≡ 0)
             ⊎ ((self.start + self.length ≤ other.start) ⊎ (other.start + other.length ≤ self.start))) }
@@ -114,7 +113,6 @@ impl Bytes {
         self.length == 0 || other.length == 0 || self.is_before(other) || other.is_before(self)
     }
 
-    // Whether it ends where the other begins, or before.
     fn is_before(self, other: Bytes) -> bool
         ensures { IsTrue result ↔ (self.start + self.length ≤ other.start) }
     {

@@ -1,4 +1,4 @@
-//! Where a partition is to be, and where it comes to be.
+//! The requested place of a partition, and the sectors that it gets.
 
 ghost use Rattle.std.specs.Prelude.{◌≡◌, ◌≢◌, ◌≤◌, ◌<◌, ℕ, ◌+◌, ◌^◌, All, Contains, IfErr, IfOk, IfSome};
 ghost use Rattle.std.specs.Prelude.{IsTrue, MatchOption};
@@ -13,27 +13,27 @@ ghost use Rattle.gptedit_core.specs.declared.place.Place.TheVariants.{Free, From
 use crate::asked::Choice;
 use gptman::{Error, GPT, GPTPartitionEntry, Result};
 
-/// Where a partition is to be, in sectors.
+/// The requested place of a partition, in sectors.
 #[derive(Clone, Copy, PartialEq, Eq, Debug)]
 pub enum Place {
-    /// From this sector to that.
+    /// From `first` to `last`.
     At { first: u64, last: u64 },
-    /// From this sector to the end of the free sectors there.
+    /// From `first` to the end of the free range there.
     From { first: u64 },
-    /// From this sector to that, and on to the last of the free sectors behind it that ends before a multiple
-    /// of the alignment, if one does.
+    /// From `first` to `last`, and on over the free sectors after it to the last one before a multiple of the
+    /// alignment, if there is one.
     Longer { first: u64, last: u64 },
-    /// So many sectors, at least one, at a place that is chosen.
+    /// `size` sectors, but at least one, at a chosen place.
     Free { size: u64, choice: Choice },
-    /// As many sectors as the longest slot has room for, of multiples of the alignment.
+    /// As many sectors as the longest free range has room for, rounded down to a multiple of the alignment.
     Longest,
 }
 
 impl Place {
-    /// The first and the last sector that this is in the table; `None` where it has no room for it. What has
-    /// no size of its own ends before a multiple of the alignment, where it can.
+    /// Returns the first and the last sector of this place in the table, or `None` if there is no room for it. A
+    /// place without a size ends before a multiple of the alignment, if it can.
     ///
-    /// `OutOfMemory` where there is no memory to find it.
+    /// Fails only with `OutOfMemory`.
     pub fn find(self, table: &GPT) -> Result<Option<(u64, u64)>>
         requires aligned { 0 < table.now.align }
         ensures refused { IfErr result (λ e. fault_of e ≡ out_of_memory) }
@@ -49,7 +49,6 @@ impl Place {
     }
 }
 
-// From this sector to the end of the free sectors there.
 #[tactic(auto, using(crate::proofs::Runs::run_at, crate::proofs::Runs::no_run))]
 fn find_rest(table: &GPT, first: u64) -> Result<Option<(u64, u64)>>
     requires aligned { 0 < table.now.align }
@@ -63,7 +62,7 @@ fn find_rest(table: &GPT, first: u64) -> Result<Option<(u64, u64)>>
     }
 }
 
-// Where a partition ends that has these sectors, and gets the free ones behind it: before a multiple of the
+// Returns where a partition ends that is lengthened over the free sectors after it: before a multiple of the
 // alignment, or where it ended.
 fn find_end(table: &GPT, first: u64, last: u64) -> u64
     requires aligned { 0 < table.now.align }
@@ -78,7 +77,7 @@ fn find_end(table: &GPT, first: u64, last: u64) -> u64
     }
 }
 
-// The last of the free sectors that follow this one; this one, where none does.
+// Returns the last of the free sectors that directly follow this one, or this one if the next is not free.
 fn find_far(table: &GPT, last: u64) -> u64
     ensures kept { last ≤ result }
     ensures free { AreFreeBehind (IsFreeIn table.now) last result }
@@ -94,7 +93,7 @@ fn find_far(table: &GPT, last: u64) -> u64
     far
 }
 
-// The last sector from this one up to that which the entry leaves.
+// Returns `far`, or the last sector before an entry after `last` if that is lower, but at least `last`.
 fn far_before(entry: &GPTPartitionEntry, last: u64, far: u64) -> u64
     requires { last ≤ far }
     ensures low { last ≤ result }
@@ -110,7 +109,7 @@ fn far_before(entry: &GPTPartitionEntry, last: u64, far: u64) -> u64
     }
 }
 
-// The last sector up to this one that ends before a multiple of the alignment, if there is one.
+// Returns the last sector up to `far` that is followed by a multiple of the alignment.
 #[tactic(auto, using(crate::proofs::Ends::last_here, crate::proofs::Ends::last_before, crate::proofs::Ends::none_before))]
 fn last_end(align: u64, far: u64) -> Option<u64>
     requires { 0 < align }
@@ -126,7 +125,7 @@ fn last_end(align: u64, far: u64) -> Option<u64>
     Some(far - over)
 }
 
-// The runs of free sectors, each as its first sector and its length.
+// Returns the runs of free sectors, each as (start, length).
 pub(crate) fn find_runs(table: &GPT) -> Result<Vec<(u64, u64)>>
     ensures refused { IfErr result (λ e. fault_of e ≡ out_of_memory) }
     ensures value { IfOk result (λ v. AreSlots (IsFreeIn table.now) 1 v.items) }
@@ -137,7 +136,7 @@ pub(crate) fn find_runs(table: &GPT) -> Result<Vec<(u64, u64)>>
     table.find_free_sectors()
 }
 
-// The run of free sectors that has this sector.
+// Returns the run that contains this sector.
 fn run_with(runs: &[(u64, u64)], sector: u64) -> Option<(u64, u64)>
     ensures { MatchOption result (All (λ r. ¬ HasSector sector r) runs.now)
         (λ r. Contains runs.now r × HasSector sector r) }
@@ -145,7 +144,6 @@ fn run_with(runs: &[(u64, u64)], sector: u64) -> Option<(u64, u64)>
     runs.iter().copied().find(|(start, long)| *start <= sector && sector - *start < *long)
 }
 
-// So many sectors at the place that is chosen.
 fn find_free(table: &GPT, size: u64, choice: Choice) -> Result<Option<(u64, u64)>>
     requires aligned { 0 < table.now.align }
     requires sized { 0 < size }
@@ -164,7 +162,8 @@ fn find_free(table: &GPT, size: u64, choice: Choice) -> Result<Option<(u64, u64)
     }
 }
 
-// The first multiple of the alignment in the longest run of free sectors, where so many are left from there.
+// Returns the first multiple of the alignment in the longest run, if at least `size` sectors of the run are left from
+// there.
 fn find_in_longest(table: &GPT, size: u64) -> Result<Option<u64>>
     requires aligned { 0 < table.now.align }
     requires sized { 0 < size }
@@ -184,7 +183,7 @@ fn find_in_longest(table: &GPT, size: u64) -> Result<Option<u64>>
     }
 }
 
-// The longest run of free sectors, and the first of equals, as its first sector and its length.
+// Returns the longest run of free sectors, the first of equals, as (start, length).
 fn find_longest_run(table: &GPT) -> Result<Option<(u64, u64)>>
     ensures refused { IfErr result (λ e. fault_of e ≡ out_of_memory) }
     ensures value { IfOk result (λ found. MatchOption found (HasNoSlot (IsFreeIn table.now) 1)
@@ -203,7 +202,7 @@ fn find_longest_run(table: &GPT) -> Result<Option<(u64, u64)>>
     }
 }
 
-// How many sectors stand from this one on before the next multiple of the alignment.
+// Returns the number of sectors from this one to the next multiple of the alignment.
 pub(crate) fn skip(align: u64, sector: u64) -> u64
     requires { 0 < align }
     ensures { IsFirstMultiple align sector (sector + result) }
@@ -214,7 +213,7 @@ pub(crate) fn skip(align: u64, sector: u64) -> u64
     }
 }
 
-// The longest slot of free sectors, without those behind its last multiple of the alignment.
+// Returns the longest free range, rounded down to a multiple of the alignment.
 fn find_longest(table: &GPT) -> Result<Option<(u64, u64)>>
     requires aligned { 0 < table.now.align }
     ensures refused { IfErr result (λ e. fault_of e ≡ out_of_memory) }
@@ -228,8 +227,7 @@ fn find_longest(table: &GPT) -> Result<Option<(u64, u64)>>
     }
 }
 
-// The last sector without those from the last multiple of the alignment on, unless the first is among them
-// or they end before a multiple.
+// Moves `last` down to the sector before a multiple of the alignment, unless no sector would be left.
 fn trim(align: u64, first: u64, last: u64) -> u64
     requires { 0 < align }
     ensures { result ≡ trimmed align first last }

@@ -18,40 +18,40 @@ use gptman::{Disk, Error, GPT};
 use gptman_change::{Plan, Planned};
 use std::alloc::Global;
 
-/// What is done to a table.
+/// A kind of change.
 #[derive(Drop, Debug)]
 pub enum Job {
-    /// What is asked for is put into it.
+    /// The layout is applied to it.
     Lay(Layout),
-    /// Its entries are put in the order of their first sectors.
+    /// Its entries are sorted by their first sectors.
     Sort,
-    /// It is written as it is.
+    /// It is written unchanged.
     Rewrite,
 }
 
-/// A change of a table, which is written or only told.
+/// A change of a table.
 #[derive(Drop, Debug)]
 pub struct Request {
-    /// What is done.
+    /// The kind of change.
     pub job: Job,
-    /// Random GUIDs, for each entry that is asked for one.
+    /// Random GUIDs, at least one for each entry that the layout names.
     pub random: Vec<[u8; 16]>,
-    /// That nothing is written.
+    /// If true, nothing is written.
     pub is_dry: bool,
 }
 
-/// What became of a request.
+/// The outcome of a request.
 #[derive(Drop, Debug)]
 pub enum Outcome {
-    /// The table, and what it became, or would become where nothing was to be written.
+    /// The old and the new table. The new one was written, unless `is_dry` is set.
     Changed { was: GPT, next: GPT },
-    /// The table, which is as it is asked for.
+    /// The table, which is already as requested.
     Unchanged { table: GPT },
-    /// The table, and why it stays as it is.
+    /// The unchanged table, and why the request was refused.
     Refused { table: GPT, refusal: Refusal },
 }
 
-/// A request is a plan. It keeps the places of a table, and refuses one that has not the stated layout.
+/// The plan keeps the places of a table, and refuses one that does not have the stated layout.
 impl Plan for Request {
     type Answer = Outcome;
 
@@ -65,7 +65,7 @@ impl Plan for Request {
 
     ghost asks = { MayAsk };
 
-    /// The errors are those of the disk's length, and `OutOfMemory`.
+    /// Fails with `Io` if the length of the disk cannot be read, and with `OutOfMemory`.
     fn change<D: Disk>(
         &self,
         alloc: Global,
@@ -88,8 +88,8 @@ impl Plan for Request {
     }
 }
 
-// Makes the table what is asked for, where it has the stated layout on a disk of so many bytes and may be
-// written to it.
+// Changes the table as requested, if it has the stated layout on a disk of `size` bytes and the result may be written
+// to it.
 fn make(request: &Request, alloc: Global, size: u64, table: &mut GPT) -> Result<(), Stop>
     requires ready { has_random request.now }
     requires sector { 0 < table.old.sector_size }
@@ -103,7 +103,6 @@ fn make(request: &Request, alloc: Global, size: u64, table: &mut GPT) -> Result<
     check(table, size)
 }
 
-// Does it in memory.
 fn do_job(alloc: Global, job: &Job, random: &[[u8; 16]], table: &mut GPT) -> Result<(), Stop>
     requires sector { 0 < table.old.sector_size }
     requires ready { asks_random job.now (length random.now) }
@@ -117,9 +116,9 @@ fn do_job(alloc: Global, job: &Job, random: &[[u8; 16]], table: &mut GPT) -> Res
     }
 }
 
-/// Refuses a table that may not be written to a disk of so many bytes.
+/// Refuses a table that may not be written to a disk of `size` bytes, with `SharedGuid` or `BadBoundaries`.
 ///
-/// `SharedGuid` or `BadBoundaries`; `OutOfMemory` where there is no memory to tell.
+/// Fails only with `OutOfMemory`.
 pub fn check(table: &GPT, size: u64) -> Result<(), Stop>
     requires { HasLayout table.now size }
     ensures may { OnOk result (MayBeWritten table.now size) }
@@ -133,10 +132,10 @@ pub fn check(table: &GPT, size: u64) -> Result<(), Stop>
     }
 }
 
-/// What is told of a table and of what it becomes, which the table is made where there is something to
-/// write, and it is not only told.
+/// Returns the outcome of a change from `table` to `next`. Sets `table` to `next` only if the change is needed and is
+/// not a dry run.
 ///
-/// `OutOfMemory` where there is no memory for it.
+/// Fails only with `OutOfMemory`.
 pub fn tell(
     table: &mut GPT,
     next: GPT,
@@ -157,7 +156,7 @@ pub fn tell(
     Ok(Planned::Write(Outcome::Changed { was, next }))
 }
 
-// Whether there is something to write.
+// Reports whether there is something to write.
 fn is_needed(job: &Job, was: &GPT, next: &GPT) -> bool
     ensures { IsTrue result ↔ IsNeeded job.now was.now next.now }
 {
@@ -168,7 +167,7 @@ fn is_needed(job: &Job, was: &GPT, next: &GPT) -> bool
     }
 }
 
-/// Whether the two tables are equal.
+/// Reports whether the two tables are equal.
 pub fn is_same(was: &GPT, next: &GPT) -> bool
     ensures { IsTrue result ↔ (was.now ≡ next.now) }
 {

@@ -1,4 +1,4 @@
-//! Why what is asked for cannot be had.
+//! Why a request is refused.
 
 ghost use Rattle.std.specs.Prelude.{◌≡◌};
 ghost use Rattle.gptman.specs.Error.{OutOfMemory};
@@ -8,58 +8,58 @@ use crate::amount::Amount;
 use gptman::Error;
 use std::alloc::AllocFailed;
 
-/// Why what is asked for cannot be had of this table.
+/// Why a request is refused for this table. A number is that of an entry, unless another meaning is given.
 #[derive(Clone, Copy, PartialEq, Eq, Debug)]
 pub enum Refusal {
     /// All entries are used.
     NoUnusedEntry,
-    /// There is no entry of this number.
+    /// There is no entry with this number.
     NoEntry(u32),
-    /// The entry of this number is used, and one that is not was asked for.
+    /// The entry is used, and the request needs an unused one.
     IsUsed(u32),
-    /// The entry of this number is not used, and one that is was asked for.
+    /// The entry is unused, and the request needs a used one.
     IsUnused(u32),
-    /// The number is asked for twice.
+    /// The number is requested twice.
     Twice(u32),
-    /// No type is given for the entry of this number.
+    /// The entry would have no type.
     NoType(u32),
-    /// No size is given for the entry of this number, or one of no sectors.
+    /// The size is missing or zero.
     NoSize(u32),
-    /// The amount is no whole number of sectors.
+    /// The amount is not a whole number of sectors.
     NotWhole(Amount),
-    /// The partition of this number would end past 2^64 sectors.
+    /// The partition would end at or after sector 2^64.
     TooLarge(u32),
-    /// The partition of this number would not stay where it is.
+    /// The partition would move or change its size.
     WouldMove(u32),
-    /// The entry of this number is used, and is not asked for.
+    /// The entry is used, and the layout does not name it.
     NotAsked(u32),
-    /// There is no room for the partition of this number.
+    /// There is no room for the partition.
     NoRoom(u32),
-    /// Places are to be chosen at multiples of nothing.
+    /// The alignment is zero.
     NoAlignment,
-    /// The table has not the stated layout on this disk.
+    /// The table does not have the stated layout on this disk.
     NotLaidOut,
     /// The disk is too small for the table, or the table has no entries.
     TooSmall,
-    /// Two entries would have one GUID.
+    /// Two entries would have the same GUID.
     SharedGuid,
-    /// Partitions would overlap, or lie outside of the usable sectors.
+    /// Partitions would overlap, or be outside the usable sectors.
     BadBoundaries,
-    /// The disk has no room for two copies of a table of so many entries, or that is none.
+    /// The disk has no room for two copies of a table with this number of entries, or the number is 0.
     TooSmallFor(u32),
-    /// The usable sectors that are asked for end before they begin, or are not all among these, the first and
-    /// the last that both copies leave.
+    /// The requested usable sectors are not a range, empty or not, within these: the first and the last usable sector
+    /// between the two copies.
     OutOfBounds(u64, u64),
-    /// The new table would be written over the only good copy of the old one before a copy of it is there.
+    /// The new table would overwrite the only good copy of the old one before a copy of the new one is complete.
     NoSafeOrder,
 }
 
-/// Why a plan was not made.
+/// Why no plan was made.
 #[derive(Drop, Debug)]
 pub enum Stop {
-    /// What is asked for cannot be had.
+    /// The request is refused.
     Refused(Refusal),
-    /// There was no memory, or the disk failed.
+    /// An allocation failed.
     Failed(Error),
 }
 

@@ -1,4 +1,4 @@
-//! What is asked of an entry, where a table is at hand: its number, its fields and its place.
+//! Resolves a request for an entry against a table: its number, its fields and its place.
 
 ghost use Rattle.std.specs.Prelude.{◌≡◌, ◌<◌, ◌≤◌, None, IfErr, IfOk, length, option_map};
 ghost use Rattle.gptman.specs.Fault.{fault_of, out_of_memory};
@@ -14,28 +14,27 @@ use crate::refusal::{Refusal, Stop};
 use gptman::{Error, GPT, GPTPartitionEntry};
 use std::alloc::Global;
 
-/// What is put under a number.
+/// A partition to be put into a table.
 #[derive(Drop, Debug)]
 pub struct Partition {
-    /// The number.
+    /// The number of its entry.
     pub number: u32,
-    /// The type, the GUID, the attributes and the name of the entry.
+    /// The type, the GUID, the attributes and the name.
     pub entry: GPTPartitionEntry,
-    /// Where it is to be.
+    /// Its place.
     pub place: Place,
 }
 
-/// How many sectors a partition is to have.
+/// The size of a partition in sectors.
 #[derive(Clone, Copy, PartialEq, Eq, Debug)]
 pub enum Room {
-    /// So many, at least one.
+    /// Exactly this number, which is at least one.
     Sectors(u64),
-    /// As many as there are.
+    /// All free ones.
     Rest,
 }
 
-/// What is asked of an entry of this table, which gets the random GUID where it was not used and none is
-/// given.
+/// Resolves the request. An unused entry that is requested without a GUID gets the random one.
 pub fn resolve(
     alloc: Global,
     table: &GPT,
@@ -62,7 +61,7 @@ pub fn resolve(
     })
 }
 
-// The number that is asked for, or the lowest of an unused entry.
+// Returns the requested number, or the lowest one of an unused entry.
 fn find_number(table: &GPT, asked: &Asked) -> Result<u32, Refusal>
     ensures { result ≡ number_asked table.now asked.now }
 {
@@ -75,7 +74,7 @@ fn find_number(table: &GPT, asked: &Asked) -> Result<u32, Refusal>
     }
 }
 
-// The lowest number of an entry that is not used.
+// Returns the lowest number of an unused entry.
 fn find_unused(table: &GPT) -> Option<u32>
     ensures { result ≡ lowest_unused table.now }
 {
@@ -87,7 +86,7 @@ fn find_unused(table: &GPT) -> Option<u32>
     None
 }
 
-// The entry of the number, where it is used.
+// Returns the entry of this number, if it is used.
 fn used_entry(table: &GPT, number: u32) -> Option<&GPTPartitionEntry>
     ensures { option_map (λ e. e.now) result ≡ used_at table.now number }
 {
@@ -95,7 +94,7 @@ fn used_entry(table: &GPT, number: u32) -> Option<&GPTPartitionEntry>
     if entry.is_used() { Some(entry) } else { None }
 }
 
-// Whether the entry may be put or changed.
+// Refuses to add to a used entry, and to change an unused one.
 fn check_use(mode: Mode, number: u32, used: Option<&GPTPartitionEntry>) -> Result<(), Refusal>
     ensures { refusal_in result ≡ use_fault mode number (option_map (λ e. e.now) used.entry) }
 {
@@ -106,7 +105,7 @@ fn check_use(mode: Mode, number: u32, used: Option<&GPTPartitionEntry>) -> Resul
     }
 }
 
-// The fields of the entry that is used, or of one that is not, and those that are asked for.
+// Returns the requested fields, over those of the used entry or of an empty one with the random GUID.
 fn make_entry(
     alloc: Global,
     asked: &Asked,
@@ -132,7 +131,6 @@ fn make_entry(
     Ok(entry)
 }
 
-// Where the partition is to be.
 fn find_place(
     mode: Mode,
     asked: &Asked,
@@ -154,7 +152,6 @@ fn find_place(
     Ok(place)
 }
 
-// The first sector that is asked for, if one is.
 fn find_start(start: Option<Amount>, sector_size: u64) -> Result<Option<u64>, Refusal>
     requires { 0 < sector_size }
     ensures { result ≡ start_asked start sector_size }
@@ -166,7 +163,6 @@ fn find_start(start: Option<Amount>, sector_size: u64) -> Result<Option<u64>, Re
     }
 }
 
-// How many sectors are asked for, if that is said.
 fn find_room(size: Option<Size>, number: u32, sector_size: u64) -> Result<Option<Room>, Refusal>
     requires { 0 < sector_size }
     ensures { result ≡ room_asked size number sector_size }
@@ -183,7 +179,7 @@ fn find_room(size: Option<Size>, number: u32, sector_size: u64) -> Result<Option
     }
 }
 
-// Where a partition is to be that has so much room, begins here, and was there, as far as that is known.
+// Returns the requested place. The used entry, if there is one, is at `there`.
 fn place_of(
     mode: Mode,
     number: u32,
@@ -211,7 +207,7 @@ fn place_of(
     }
 }
 
-// Where a partition is to be that has the rest, begins here, and was there, as far as that is known.
+// Returns the place of a partition of size `Rest`.
 fn rest_of(mode: Mode, start: Option<u64>, there: Option<(u64, u64)>) -> Place
     ensures { result ≡ rest_of mode start there }
 {
@@ -224,7 +220,8 @@ fn rest_of(mode: Mode, start: Option<u64>, there: Option<(u64, u64)>) -> Place
     }
 }
 
-// Where a partition is to be that was there and has the rest: there, or longer where it is changed.
+// Returns the place of a partition of size `Rest` that starts where the used entry does: unchanged if the table
+// becomes the layout, else lengthened.
 fn rest_there(mode: Mode, there: (u64, u64)) -> Place
     ensures { result ≡ rest_there mode there }
 {
@@ -235,7 +232,7 @@ fn rest_there(mode: Mode, there: (u64, u64)) -> Place
     }
 }
 
-// The sector and so many more behind it.
+// Returns the place from `first` to `more` sectors after it.
 fn span_from(number: u32, first: u64, more: u64) -> Result<Place, Refusal>
     ensures { result ≡ span_from number first more }
 {
@@ -245,7 +242,7 @@ fn span_from(number: u32, first: u64, more: u64) -> Result<Place, Refusal>
     }
 }
 
-// Whether the partition stays where it is, or may move.
+// Refuses to move a partition, unless the mode permits it.
 fn check_stay(
     mode: Mode,
     number: u32,

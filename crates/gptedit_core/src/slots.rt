@@ -1,4 +1,4 @@
-//! The free slots of a table, kept while partitions are put into it one after the other.
+//! The free slots of a table, kept up to date while partitions are put into it.
 
 ghost use Prim.Native.Nat.{◌∣◌};
 ghost use Rattle.std.specs.Prelude.{◌≡◌, ◌≢◌, ◌≤◌, ◌<◌, ◌+◌, ◌^◌, ◌++◌, drop, length, slice_index_or, take, vec_len, All, AllPairs, IfErr, IfOk, IfSome, IsSomeAnd};
@@ -19,8 +19,8 @@ use crate::place::{Place, find_runs, skip};
 use gptman::{GPT, GPTPartitionEntry, Result};
 use std::alloc::AllocError;
 
-/// The free slots of a table: those at multiples of its alignment, and the runs of free sectors, as far as
-/// they are known.
+/// The free slots of a table, at multiples of its alignment, and its runs of free sectors, each as (start, length).
+/// `None` means not computed yet.
 #[derive(Drop, Debug)]
 pub struct Slots {
     slots: Option<Vec<(u64, u64)>>,
@@ -28,7 +28,7 @@ pub struct Slots {
 }
 
 impl Slots {
-    /// Those of any table, not known.
+    /// Returns a value in which no slot is computed. It is right for any table.
     pub fn unknown() -> Slots
         ensures slots { result.slots ≡ None }
         ensures runs { result.runs ≡ None }
@@ -39,9 +39,9 @@ impl Slots {
         }
     }
 
-    /// The first and the last sector that the place is in the table; `None` where it has no room for it.
+    /// Returns the first and the last sector of the place in the table, or `None` if there is no room for it.
     ///
-    /// `OutOfMemory` where there is no memory to find it.
+    /// Fails only with `OutOfMemory`.
     pub fn find(&mut self, table: &GPT, place: Place) -> Result<Option<(u64, u64)>>
         requires aligned { 0 < table.now.align }
         requires kept { AreKept self.old table.now }
@@ -60,7 +60,7 @@ impl Slots {
         }
     }
 
-    // So many sectors at the place that is chosen of the slots.
+    // Returns `size` sectors at the chosen place in the slots.
     fn find_chosen(&mut self, table: &GPT, size: u64, choice: Choice) -> Result<Option<(u64, u64)>>
         requires aligned { 0 < table.now.align }
         requires sized { 0 < size }
@@ -79,7 +79,7 @@ impl Slots {
         Ok(found)
     }
 
-    // So many sectors in the longest run.
+    // Returns `size` sectors in the longest run.
     fn find_in_longest(&mut self, table: &GPT, size: u64) -> Result<Option<(u64, u64)>>
         requires aligned { 0 < table.now.align }
         requires sized { 0 < size }
@@ -97,9 +97,9 @@ impl Slots {
         Ok(found)
     }
 
-    /// The slots of the table, once it has this entry under the number of one that is not used.
+    /// Updates the slots for the table in which this entry replaces the unused one of this number.
     ///
-    /// `OutOfMemory` where there is no memory for them.
+    /// Fails only with `OutOfMemory`.
     pub fn leave_out(&mut self, table: &GPT, number: u32, entry: &GPTPartitionEntry) -> Result<()>
         requires aligned { 0 < table.now.align }
         requires kept { AreKept self.old table.now }
@@ -114,7 +114,7 @@ impl Slots {
     }
 }
 
-// The slots at multiples of the alignment, once the table has this entry.
+// Returns the slots of the table with this entry, or `None` if they have to be computed again.
 fn leave_out(
     slots: Option<Vec<(u64, u64)>>,
     align: u64,
@@ -138,7 +138,7 @@ fn leave_out(
     Ok(Some(cut(slots, align, first, last)?))
 }
 
-// What is left of the slots without the sectors from `first` to `last`.
+// Returns the slots without the sectors from `first` to `last`.
 fn cut(
     slots: Vec<(u64, u64)>,
     align: u64,
@@ -159,7 +159,7 @@ fn cut(
     }
 }
 
-// The index of a slot with all these sectors, if one has them.
+// Returns the index of a slot that contains all these sectors.
 fn index_with(slots: &[(u64, u64)], first: u64, last: u64) -> Option<usize>
     requires { first ≤ last }
     ensures { IfSome result (λ i. (i < length slots.now) × HasSpan first last (slice_index_or slots.now i (0, 0))) }
@@ -174,7 +174,7 @@ fn index_with(slots: &[(u64, u64)], first: u64, last: u64) -> Option<usize>
     None
 }
 
-// The slots, of which this one has the sectors, without them.
+// Removes the sectors from the slot that contains them.
 fn cut_at(
     mut slots: Vec<(u64, u64)>,
     i: usize,
@@ -195,7 +195,6 @@ fn cut_at(
     Ok(slots)
 }
 
-// Puts a slot before the one of this index, if there is one.
 fn insert_some(
     slots: &mut Vec<(u64, u64)>,
     i: usize,
@@ -211,7 +210,7 @@ fn insert_some(
     Ok(())
 }
 
-// What is left of each slot without the sectors from `first` to `last`.
+// Removes the sectors from each slot.
 fn cut_all(
     slots: &Vec<(u64, u64)>,
     align: u64,
@@ -231,7 +230,6 @@ fn cut_all(
     Ok(rest)
 }
 
-// Puts a slot at the end, if there is one.
 fn push_some(
     slots: &mut Vec<(u64, u64)>,
     slot: Option<(u64, u64)>,
@@ -244,7 +242,7 @@ fn push_some(
     Ok(())
 }
 
-// What stands of the slot before the sector.
+// Returns the part of the slot before sector `first`.
 fn before(slot: (u64, u64), first: u64) -> Option<(u64, u64)>
     ensures { result ≡ before_of first slot }
 {
@@ -256,7 +254,7 @@ fn before(slot: (u64, u64), first: u64) -> Option<(u64, u64)>
     }
 }
 
-// The slot of what stands of this one behind the sector.
+// Returns the slot in the part after sector `last`.
 fn behind(slot: (u64, u64), align: u64, last: u64) -> Option<(u64, u64)>
     requires aligned { 0 < align }
     requires some { 0 < slot.1 }
@@ -277,7 +275,7 @@ fn behind(slot: (u64, u64), align: u64, last: u64) -> Option<(u64, u64)>
     }
 }
 
-// The span of so many sectors in the slot that is chosen.
+// Returns the first and the last of `size` sectors in the chosen slot.
 fn span_in(slots: &[(u64, u64)], table: &GPT, size: u64, choice: Choice) -> Option<(u64, u64)>
     requires aligned { 0 < table.now.align }
     requires sized { 0 < size }
@@ -292,7 +290,7 @@ fn span_in(slots: &[(u64, u64)], table: &GPT, size: u64, choice: Choice) -> Opti
     Some((first, first + (size - 1)))
 }
 
-// Where so many sectors begin in the slot that is chosen for them.
+// Returns where `size` sectors start in the chosen slot.
 fn start_in(slot: (u64, u64), align: u64, size: u64, choice: Choice) -> u64
     requires aligned { 0 < align }
     requires within { size ≤ slot.1 }
@@ -308,7 +306,8 @@ fn start_in(slot: (u64, u64), align: u64, size: u64, choice: Choice) -> u64
     }
 }
 
-// The span of so many sectors in the longest run, from the first multiple of the alignment there on.
+// Returns the first and the last of `size` sectors in the longest run, from the first multiple of the alignment in
+// it.
 fn span_in_longest(runs: &[(u64, u64)], table: &GPT, size: u64) -> Option<(u64, u64)>
     requires aligned { 0 < table.now.align }
     requires sized { 0 < size }
@@ -327,7 +326,7 @@ fn span_in_longest(runs: &[(u64, u64)], table: &GPT, size: u64) -> Option<(u64, 
     }
 }
 
-// The slot that is chosen of those of at least `size` sectors.
+// Returns the chosen one of the slots with at least `size` sectors.
 fn pick(slots: &[(u64, u64)], size: u64, choice: Choice) -> Option<(u64, u64)>
     ensures { MatchOption result (AreShort size slots.now) (IsBestSlot (IsNoWorse choice) size slots.now) }
 {
@@ -340,7 +339,7 @@ fn pick(slots: &[(u64, u64)], size: u64, choice: Choice) -> Option<(u64, u64)>
     found
 }
 
-// Whether the slot has at least `size` sectors and is chosen over the one that was found.
+// Reports whether the slot has at least `size` sectors and is chosen over the one found so far.
 fn is_taken(slot: (u64, u64), found: Option<(u64, u64)>, size: u64, choice: Choice) -> bool
     ensures { MatchBool result (size ≤ slot.1 × IfSome found (IsNoWorse choice slot))
         (size ≤ slot.1 → IsSomeAnd found (λ s. IsNoWorse choice s slot)) }
@@ -352,7 +351,7 @@ fn is_taken(slot: (u64, u64), found: Option<(u64, u64)>, size: u64, choice: Choi
         }
 }
 
-// Whether the slot is chosen over the other.
+// Reports whether the slot is chosen over the other.
 fn is_better(slot: (u64, u64), other: (u64, u64), choice: Choice) -> bool
     ensures { MatchBool result (IsNoWorse choice slot other) (IsNoWorse choice other slot) }
 {

@@ -6,7 +6,7 @@ use Rattle.gptedit_core.specs.declared.asked.Mode.TheVariants.{Become}
 use Rattle.gptedit_core.specs.declared.refusal.Refusal.{Refusal}
 use Rattle.gptedit_core.proofs.laying.check_others.Goals as goal
 
--- where a table may be replaced, nothing is refused
+-- A table that may be replaced is not refused.
 nothing : (used : Option ℕ) → ◌≡◌ {A = Option Refusal} None (others_fault_of (Become true) used)
 nothing None = refl
 nothing (Some i) = refl
