@@ -1,4 +1,4 @@
--- A text is that of one amount at most.
+-- A text is one amount at most.
 use Rattle.std.proofs.Common.{◌≡◌, ◌*◌, ◌^◌, ◌<◌, ℕ, List, [], ◌∷◌, ◌++◌, Contains, subst, sym, ap, ◌∙◌, arith, refl, codes}
 use Rattle.std.specs.Prelude.{◌≢◌, Option, Some, None, Result, Ok, Err, if◌then◌else◌}
 use Rattle.std.specs.Result.{OkIff}
@@ -13,7 +13,7 @@ use Rattle.gptedit_text.specs.Words.{FitsAmount, FitsSize, HasUnit, SaysAmount, 
 use Rattle.gptedit_text.specs.declared.values.wrong.Wrong.{Wrong}
 use Rattle.gptedit_text.proofs.Tables.{each_of}
 
--- ---- digits, and what is behind them
+-- ---- digits, and the text after them
 
 abbrev Other : List ℕ → Type 0
 Other [] = ⊥

@@ -1,4 +1,4 @@
--- Attributes, as the words of a list say them one after the other.
+-- Attributes are read from a list word by word.
 use Rattle.std.proofs.Common.{◌≡◌, ◌<◌, ◌^◌, ℕ, suc, List, [], ◌∷◌, All, ◌==◌, length, subst, sym, ap, ◌∙◌, refl, arith, inl, inr}
 use Rattle.std.specs.Prelude.{◌≢◌, Contains, Option, Some, None, bit_or}
 use Rattle.std.specs.Int.{bit_at}
@@ -66,12 +66,12 @@ has_more {A} says x xs bit rest said more = record {
   ];
 }
 
--- ---- a list of which some was read
+-- ---- a list that is partly read
 
 abbrev pub IsSaid : {A : Type 0} → (A → ℕ → Type 0) → A → Type 0
 IsSaid says x = (bit : ℕ) × says x bit
 
--- the attributes so far, with those of what is left, are those of all
+-- The attributes so far, with those of the remaining elements, are those of all.
 pub record Sofar {A : Type 0} (says : A → ℕ → Type 0) (all left : List A) (done : ℕ) : Type 0 where
   pub bits : (rest : ℕ) → HasBitsOf says left rest → HasBitsOf says all (bit_or done rest)
   pub known : All (IsSaid says) all → All (IsSaid says) left
@@ -98,7 +98,7 @@ pub sofar_wrong : {A : Type 0} (says : A → ℕ → Type 0) (all : List A) (x :
     → ¬ (IsSaid says x) → ¬ (All (IsSaid says) all)
 sofar_wrong says all x xs done sofar wrong = λ h. wrong (All-head (IsSaid says) x xs (sofar.known h))
 
--- what comes of the iterator is the rest of the list, of which the front gave these attributes
+-- The iterator returns the rest of the list, after elements with these attributes.
 pub record Reads {S A B : Type 0} (steps : S → Option A → S → Type 0) (v : A → B) (says : B → ℕ → Type 0) (all : List B) (s : S) (done : ℕ) : Type 0 where
   pub left : List B
   pub comes : YieldsList steps v s left

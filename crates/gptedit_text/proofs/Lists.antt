@@ -1,4 +1,4 @@
--- Attributes, as the values of a list in TOML say them.
+-- Attributes are read from a TOML list value by value.
 use Rattle.std.proofs.Common.{◌≡◌, ◌+◌, ◌<◌, ◌≤◌, ℕ, List, [], ◌∷◌, All, drop, get_or, length, map, subst, sym, ap, refl}
 use Rattle.std.specs.Prelude.{Some, Vec, bit_or}
 use Rattle.std.specs.declared.alloc.Global.{Global}
@@ -10,7 +10,7 @@ use Rattle.gptedit_text.specs.Layouts.{IsAttributeOf, SaysAttributeOf, SaysAttri
 use Rattle.gptedit_text.specs.Words.{HasBitsOf}
 use Rattle.gptedit_text.proofs.BitLists.{Sofar, sofar_all, sofar_first, sofar_next, sofar_wrong}
 
--- the attributes of the values before i, of a list
+-- The attributes of the values of a list before index i.
 abbrev pub SofarAt : List Value → ℕ → ℕ → Type 0
 SofarAt list i done = Sofar SaysBitOf (map view list) (map view (drop i list)) done
 

@@ -1,4 +1,4 @@
--- Tables of names, of which a loop has seen the first rows.
+-- Tables of names, of which a loop has read the first rows.
 use Rattle.std.proofs.Common.{◌≡◌, ◌+◌, ◌<◌, ◌≤◌, ℕ, zero, suc, List, [], ◌∷◌, length, take, get_or, All, Contains, map, subst, sym, ap, refl, arith}
 use Rattle.std.specs.List.{AllByRecursion}
 use Rattle.std.proofs.lemmas.List.{take_all}
@@ -10,13 +10,13 @@ use Rattle.std.proofs.lemmas.Bool.{false≢true}
 use Rattle.std.proofs.lemmas.Slice.Eq.{bytes_eq-Decides}
 use denote.Ref.{Bor}
 
--- what holds of each row holds of one that is there
+-- A property of each row holds for one of them.
 pub each_of : {X : Type 0} (Q : X → Type 0) (rows : List X) → AllByRecursion Q rows → (row : X) → Contains rows row → Q row
 each_of Q [] h row (k, within, at) = absurd (omega (arith, within))
 each_of Q (q ∷ qs) h row (zero, within, at) = subst Q at h.0
 each_of Q (q ∷ qs) h row (suc k, within, at) = each_of Q qs h.1 row (k, omega (arith, within), at)
 
--- P holds of the name of no row
+-- P holds for the name of no row.
 pub record Lacks (P : List ℕ → Type 0) (rows : List (Bor (List ℕ) × ℕ)) : Type 0 where
   pub none : All (λ row. ¬ (P row.0.now)) rows
 
@@ -41,7 +41,7 @@ lacks_all P rows i sofar over =
 pub other_name : (word name : List ℕ) → false ≡ bytes_eq word name → word ≢ name
 other_name word name differs same = false≢true (differs ∙ (bytes_eq-Decides word name).1 same)
 
--- each row is among the rows of a table
+-- Each row is a row of the table.
 pub record AreRows (table : List (List ℕ × ℕ)) (rows : List (Bor (List ℕ) × ℕ)) : Type 0 where
   pub row : (i : ℕ) (d : Bor (List ℕ) × ℕ) → i < length rows → Contains {X = List ℕ × ℕ} table ((get_or rows i d).0.now, (get_or rows i d).1)
 

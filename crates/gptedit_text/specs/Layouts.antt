@@ -1,9 +1,9 @@
--- What values of a layout in TOML say.
+-- The meaning of values of a layout in TOML.
 use Rattle.std.specs.Prelude.{◌≡◌, ◌<◌, ◌^◌, ℕ, pos, List, [], ◌∷◌, Option, None, Some}
 use Rattle.toml.specs.Data.{Data, Items, array, boolean, datetime, float, integer, item, no_items, string, table}
 use Rattle.gptedit_text.specs.Words.{HasBitsOf, SaysBit}
 
--- the value says the bit of an attribute: by a word, or by its number
+-- The value is the bit of an attribute, as a word or as a number.
 abbrev pub SaysBitOf : Data → ℕ → Type 0
 SaysBitOf (string word) bit = SaysBit word bit
 SaysBitOf (integer number) bit = (number ≡ pos bit) × (bit < 64)
@@ -13,20 +13,20 @@ SaysBitOf (datetime _) bit = ⊥
 SaysBitOf (array _) bit = ⊥
 SaysBitOf (table _) bit = ⊥
 
--- the value is that of an attribute
+-- The value is an attribute.
 abbrev pub IsAttributeOf : Data → Type 0
 IsAttributeOf value = (bit : ℕ) × SaysBitOf value bit
 
--- the attributes are those with the bit of the value, and no other
+-- The attributes are exactly the bit of the value.
 abbrev pub SaysAttributeOf : Data → ℕ → Type 0
 SaysAttributeOf value attributes = (bit : ℕ) × SaysBitOf value bit × (attributes ≡ 2 ^ bit)
 
--- the values of a list
+-- The values of a list.
 abbrev pub list_of : Items → List Data
 list_of no_items = []
 list_of (item value items) = value ∷ list_of items
 
--- the value is a list, and these are the attributes of all of it
+-- The value is a list, and these are the attributes of all its elements.
 abbrev pub SaysAttributesOf : Data → ℕ → Type 0
 SaysAttributesOf (array items) attributes = HasBitsOf SaysBitOf (list_of items) attributes
 SaysAttributesOf (string _) attributes = ⊥
@@ -36,7 +36,7 @@ SaysAttributesOf (boolean _) attributes = ⊥
 SaysAttributesOf (datetime _) attributes = ⊥
 SaysAttributesOf (table _) attributes = ⊥
 
--- the attributes of the value that stands there, if one does
+-- These are the attributes of the value, if there is one.
 abbrev pub GivesAttributesOf : Option Data → Option ℕ → Type 0
 GivesAttributesOf None None = Unit {0}
 GivesAttributesOf (Some value) (Some attributes) = SaysAttributesOf value attributes

@@ -7,10 +7,10 @@ use gptedit_core::Creation;
 use gptman::sizes::DEFAULT_ENTRY_COUNT;
 
 impl Parsed {
-    /// Returns the new table that the text describes, of which nothing may be lost and which is to be written.
+    /// Returns the new table that the text describes. `may_lose` and `is_dry` are not set.
     ///
-    /// Its entries and bounds are those of the header, or 128 entries and the widest bounds. `guid` is the GUID
-    /// of the disk, unless the text has one. `random` has a GUID for each partition.
+    /// Entries and bounds are those of the header, or 128 entries and the widest bounds. `guid` is the GUID of the
+    /// disk, unless the text has one. `random` must have a GUID for each partition.
     pub fn into_creation(self, guid: [u8; 16], random: Vec<[u8; 16]>) -> Creation
         ensures guid { result.guid ≡ guid }
         ensures entries { result.entries ≡ unwrap_or self.header.entries 128 }

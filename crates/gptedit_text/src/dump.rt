@@ -1,4 +1,4 @@
-//! Layouts written as TOML.
+//! Writes layouts as TOML.
 
 use crate::table_header::Header;
 use crate::values::{AmountText, AttributeName, SizeText, TomlText, UnitsText};
@@ -7,16 +7,15 @@ use gptman::PartitionName;
 use std::alloc::{AllocError, Global};
 use std::fmt;
 
-/// Writes a layout and its header as TOML, which `read_layout` reads as the same layout and header. A type is
+/// Writes a layout and its header as TOML, from which `read_layout` reads the same layout and header. A type is
 /// written by its name, if it has one.
 ///
-/// A name whose text does not give its 36 UTF-16 units, as half a surrogate pair or units after a zero, is
-/// written as these units. Hidden characters of a name are escaped.
+/// A name is written as its UTF-16 units if its text does not encode to the same 36 units, as with half a surrogate
+/// pair or units after a zero. Hidden characters of a name are escaped.
 pub fn write_layout(alloc: Global, layout: &Layout, header: &Header) -> Result<String, AllocError> {
     format!(in alloc; "{}", LayoutText { layout, header })
 }
 
-// A layout and its header, as TOML.
 #[derive(Clone, Copy)]
 struct LayoutText<'a> {
     layout: &'a Layout,
@@ -38,7 +37,6 @@ impl fmt::Display for LayoutText<'_> {
     }
 }
 
-// Writes the keys of a header.
 fn write_header<W: fmt::Write>(f: &mut fmt::Formatter<W>, header: &Header) -> fmt::Result {
     if let Some(size) = header.sector_size {
         writeln!(f, "sector-size = \"{size}B\"")?;
@@ -55,7 +53,7 @@ fn write_header<W: fmt::Write>(f: &mut fmt::Formatter<W>, header: &Header) -> fm
     Ok(())
 }
 
-// Writes what is asked of an entry.
+// Writes the request for one entry.
 fn write_partition<W: fmt::Write>(f: &mut fmt::Formatter<W>, asked: &Asked) -> fmt::Result {
     f.write_str("\n[[partition]]\n")?;
     if let Some(number) = asked.number {
@@ -82,7 +80,7 @@ fn write_partition<W: fmt::Write>(f: &mut fmt::Formatter<W>, asked: &Asked) -> f
     }
 }
 
-// Writes a key and its text, which has no character that would have to be escaped.
+// Writes a key and a text in which no character has to be escaped.
 fn write_text<W: fmt::Write, D: fmt::Display>(
     f: &mut fmt::Formatter<W>,
     key: &str,
@@ -91,7 +89,6 @@ fn write_text<W: fmt::Write, D: fmt::Display>(
     writeln!(f, "{key} = \"{text}\"")
 }
 
-// Writes a name by its text, or by its units if the text does not give them.
 fn write_name<W: fmt::Write>(f: &mut fmt::Formatter<W>, name: &PartitionName) -> fmt::Result {
     if is_given_by_text(name) {
         writeln!(f, "name = {}", TomlText(name.as_str()))
@@ -100,7 +97,7 @@ fn write_name<W: fmt::Write>(f: &mut fmt::Formatter<W>, name: &PartitionName) ->
     }
 }
 
-// Whether the text of a name gives its 36 units.
+// Reports whether the text of a name encodes to its 36 units.
 fn is_given_by_text(name: &PartitionName) -> bool {
     let mut units = name.units().iter();
     for unit in name.as_str().encode_utf16() {
@@ -111,7 +108,7 @@ fn is_given_by_text(name: &PartitionName) -> bool {
     units.all(|unit| *unit == 0)
 }
 
-// Writes each attribute, by its name or the number of its bit.
+// Writes each attribute by its name, or by the number of its bit.
 fn write_attributes<W: fmt::Write>(f: &mut fmt::Formatter<W>, bits: u64) -> fmt::Result {
     f.write_str("attributes = [")?;
     let mut comma = "";
@@ -138,7 +135,7 @@ impl fmt::Display for TypeText<'_> {
     }
 }
 
-// The text of a GUID, in lower case.
+// The text of a GUID in lower case.
 #[derive(Clone, Copy)]
 struct GuidText<'a>(&'a [u8; 16]);
 

@@ -1,4 +1,4 @@
-//! The entries that a text asks for, as they are read one after the other.
+//! The requests for entries, collected while a text is read.
 
 use crate::error::{Fault, LayoutError, Place};
 use crate::values::is_long_name;
@@ -7,7 +7,7 @@ use gptman::PartitionName;
 use std::alloc::Global;
 use std::collections::BTreeSet;
 
-/// The entries that were read.
+/// The requests that were read.
 #[derive(Drop)]
 pub struct Entries {
     asked: Vec<Asked>,
@@ -18,7 +18,7 @@ pub struct Entries {
 }
 
 impl Entries {
-    /// None.
+    /// Returns an empty collection.
     pub fn new(alloc: Global) -> Entries {
         Entries {
             asked: Vec::new(alloc),
@@ -29,22 +29,23 @@ impl Entries {
         }
     }
 
-    /// Whether there is none.
+    /// Reports whether there are no requests.
     pub fn is_empty(&self) -> bool {
         self.asked.is_empty()
     }
 
-    /// The number behind that of the last entry, and 1 for the first. `None` where there is none.
+    /// Returns the number after that of the last request, or 1 for the first one. `None` if it would exceed 32 bits.
     pub fn next_number(&self) -> Option<u32> {
         self.last.checked_add(1)
     }
 
-    /// The lowest number that none has.
+    /// Returns the lowest number that no request has.
     pub fn lowest_number(&self) -> u32 {
         self.lowest
     }
 
-    /// Adds an entry of this number, which is at this place. A number that is taken is refused.
+    /// Adds the request for the entry with this number, from this place in the text. Fails with `Taken` if another
+    /// request has the number.
     pub fn add(&mut self, place: Place, number: u32, asked: Asked) -> Result<(), LayoutError> {
         if !self.numbers.insert(number)? {
             return Err(place.fault("number", Fault::Taken(number)));
@@ -55,7 +56,7 @@ impl Entries {
         Ok(())
     }
 
-    /// Refuses a second partition that has the rest, at this place.
+    /// Fails with `SecondRest` if this request has the size `rest` and an earlier one has it too.
     pub fn check_rest(&mut self, place: Place, asked: &Asked) -> Result<(), LayoutError> {
         if asked.size != Some(Size::Rest) {
             return Ok(());
@@ -67,7 +68,6 @@ impl Entries {
         Ok(())
     }
 
-    // Raises the lowest number past those that are taken.
     fn raise_lowest(&mut self) {
         for _ in 0..self.numbers.len() {
             if !self.numbers.contains(&self.lowest) {
@@ -77,7 +77,7 @@ impl Entries {
         }
     }
 
-    /// The layout that a table becomes by these entries, and by no other.
+    /// Returns the layout. A table becomes it, and no entry may be moved or left out.
     pub fn into_layout(self, alloc: Global, disk_guid: Option<[u8; 16]>, align: Amount) -> Layout {
         Layout {
             mode: Mode::Become { replace: false },
@@ -89,8 +89,8 @@ impl Entries {
     }
 }
 
-/// The name of a partition, at this place. One that an entry has no room for is refused, and one with a
-/// zero, which would end there.
+/// Reads the name of a partition from this place in the text. Fails with `LongName` if it has more than 36 UTF-16
+/// units, and with `ZeroInName` if it contains a zero character, which would end it.
 pub fn read_name(alloc: Global, place: Place, text: &str) -> Result<PartitionName, LayoutError> {
     if text.contains('\0') {
         return Err(place.fault("name", Fault::ZeroInName));

@@ -1,4 +1,4 @@
-//! What is wrong with a text that says no layout.
+//! Errors of texts that are not layouts.
 
 mod fault;
 mod section;
@@ -9,42 +9,42 @@ pub use section::Section;
 use std::alloc::{AllocError, AllocFailed};
 use std::fmt;
 
-/// Why a text says no layout.
+/// Why a text is not a layout.
 #[derive(Drop, Debug)]
 pub enum LayoutError {
-    /// It is no TOML, from this line and column on, both from 1.
+    /// It is not TOML. The line and the column count from 1.
     Syntax {
         line: usize,
         column: usize,
         error: toml::de::Error,
     },
-    /// It has no key and no header.
+    /// It has no key.
     Empty,
-    /// There is no such key.
+    /// The key is unknown.
     Unknown {
         place: Place,
         key: String,
     },
-    /// What stands under this key does not belong there.
+    /// The value under the key is wrong.
     Fault {
         place: Place,
         key: &'static str,
         fault: Fault,
     },
-    /// There is no memory.
+    /// An allocation failed.
     OutOfMemory,
 }
 
-/// Where something stands in a text.
+/// A place in a text.
 #[derive(Clone, Copy, PartialEq, Eq, Debug)]
 pub struct Place {
-    /// The line, from 1, where it is known.
+    /// The line, from 1, if it is known.
     pub line: Option<usize>,
     /// The section.
     pub section: Section,
 }
 
-/// Where it is, what is wrong, and what would be right, in one line.
+/// Prints the place, the fault and the rule.
 impl fmt::Display for LayoutError {
     fn fmt<W: fmt::Write>(&self, f: &mut fmt::Formatter<W>) -> fmt::Result {
         match self {
@@ -71,7 +71,6 @@ impl fmt::Display for LayoutError {
     }
 }
 
-// The line of a place, where it is known.
 fn write_line<W: fmt::Write>(f: &mut fmt::Formatter<W>, place: Place) -> fmt::Result {
     match place.line {
         Some(line) => write!(f, "line {line}: "),
@@ -79,7 +78,6 @@ fn write_line<W: fmt::Write>(f: &mut fmt::Formatter<W>, place: Place) -> fmt::Re
     }
 }
 
-// That there is no such key, and the keys that there are.
 fn write_unknown<W: fmt::Write>(f: &mut fmt::Formatter<W>, place: Place, key: &str) -> fmt::Result {
     write_line(f, place)?;
     let section = place.section;
@@ -111,7 +109,7 @@ impl<T: Drop> From<AllocFailed<T>> for LayoutError {
 }
 
 impl Place {
-    /// That what stands under this key does not belong there.
+    /// Returns the error for a wrong value under this key.
     pub(crate) fn fault(self, key: &'static str, fault: Fault) -> LayoutError {
         LayoutError::Fault {
             place: self,

@@ -1,4 +1,4 @@
-//! Layouts in TOML.
+//! Reads layouts in TOML.
 
 ghost use Rattle.std.specs.Prelude.{◌≡◌, codes, IfOk, Some};
 ghost use Rattle.toml.specs.Data.{get_member};
@@ -19,7 +19,7 @@ use gptman::PartitionName;
 use std::alloc::Global;
 use toml::{Table, Value};
 
-/// Reads a layout in TOML, and what it says of the header of its table, which the caller has to compare:
+/// Reads a layout in TOML, and its values for the header of the table, which the caller has to compare:
 ///
 /// ```toml
 /// [disk]
@@ -39,12 +39,11 @@ use toml::{Table, Value};
 /// attributes = ["required", 60]
 /// ```
 ///
-/// Each key may be left out. Without `number` a partition has the number behind the one before it, and the
-/// first 1; without `align` places are chosen at multiples of 1 MiB. One partition may have the size
-/// `rest`. In place of `name` there may be `name-utf16 = "0041 d800"`, the UTF-16 units of the name. A table
-/// becomes the layout, and its other entries stay.
+/// All keys are optional. The default of `number` is the number after that of the previous partition, or 1 for the
+/// first; the default of `align` is 1 MiB. One partition may have the size `rest`. Instead of `name` there may be
+/// `name-utf16 = "0041 d800"`, the UTF-16 units of the name. The mode of the layout is `Become { replace: false }`.
 ///
-/// A text without any key is refused with `Empty`. `[disk]` alone is a layout without partitions.
+/// A text without any key fails with `Empty`; one with only `[disk]` is a layout without partitions.
 pub fn read_layout(alloc: Global, text: &str) -> Result<Parsed, LayoutError> {
     let table = match toml::table_from_str(alloc, text) {
         Ok(table) => table,
@@ -59,7 +58,7 @@ pub fn read_layout(alloc: Global, text: &str) -> Result<Parsed, LayoutError> {
     }
 }
 
-// That the text is no TOML, or that there is no memory.
+// An error without a span is an allocation failure.
 fn syntax_error(text: &str, error: toml::de::Error) -> LayoutError {
     match error.span() {
         Some(span) => {
@@ -74,7 +73,6 @@ fn syntax_error(text: &str, error: toml::de::Error) -> LayoutError {
     }
 }
 
-// The layout of a table, and its header.
 fn parsed_of(alloc: Global, table: &Table) -> Result<Parsed, LayoutError> {
     let file = Keyed::new(table, Section::File);
     file.check_keys(alloc)?;
@@ -87,7 +85,7 @@ fn parsed_of(alloc: Global, table: &Table) -> Result<Parsed, LayoutError> {
     })
 }
 
-// What is said of the disk.
+// The values of `[disk]`.
 #[derive(Clone, Copy)]
 struct Disk {
     guid: Option<[u8; 16]>,
@@ -95,7 +93,6 @@ struct Disk {
     header: Header,
 }
 
-// What is said of the disk.
 fn read_disk(alloc: Global, file: &Keyed<'_>) -> Result<Disk, LayoutError> {
     let Some(value) = file.get("disk") else {
         return Ok(Disk {
@@ -116,7 +113,6 @@ fn read_disk(alloc: Global, file: &Keyed<'_>) -> Result<Disk, LayoutError> {
     })
 }
 
-// What is said of the header of the table.
 fn read_header(disk: &Keyed<'_>) -> Result<Header, LayoutError> {
     Ok(Header {
         sector_size: read_sector_size(disk)?,
@@ -126,7 +122,7 @@ fn read_header(disk: &Keyed<'_>) -> Result<Header, LayoutError> {
     })
 }
 
-// The bytes of a sector.
+// Reads the size of a sector in bytes.
 fn read_sector_size(disk: &Keyed<'_>) -> Result<Option<u64>, LayoutError> {
     match disk.word("sector-size", read_amount)? {
         None => Ok(None),
@@ -135,7 +131,6 @@ fn read_sector_size(disk: &Keyed<'_>) -> Result<Option<u64>, LayoutError> {
     }
 }
 
-// The entries of the partitions.
 fn read_entries(alloc: Global, file: &Keyed<'_>) -> Result<Entries, LayoutError> {
     let mut entries = Entries::new(alloc);
     let Some(value) = file.get("partition") else {
@@ -154,7 +149,7 @@ fn read_entries(alloc: Global, file: &Keyed<'_>) -> Result<Entries, LayoutError>
     Ok(entries)
 }
 
-// The entry of a partition more.
+// Adds the request of one `[[partition]]`.
 fn add_entry(
     alloc: Global,
     entries: &mut Entries,
@@ -173,7 +168,6 @@ fn add_entry(
     entries.add(partition.place(), number, asked)
 }
 
-// A number of a partition.
 fn read_number(value: &Value) -> Option<u32> {
     match value {
         Value::Integer(number) if *number > 0 => u32::try_from(*number).ok(),
@@ -181,7 +175,7 @@ fn read_number(value: &Value) -> Option<u32> {
     }
 }
 
-// What is asked of the entry of this number.
+// Reads the request for the entry of this number.
 fn read_entry(alloc: Global, partition: &Keyed<'_>, number: u32) -> Result<Asked, LayoutError>
     ensures number { IfOk result (λ asked. asked.number ≡ Some number) }
     ensures attributes { IfOk result (λ asked. GivesAttributesOf (get_member (codes "attributes") (table_view partition.now.table.now)) asked.attributes) }
@@ -197,7 +191,7 @@ fn read_entry(alloc: Global, partition: &Keyed<'_>, number: u32) -> Result<Asked
     })
 }
 
-// The name of a partition, by its text or by its units.
+// Reads the name of a partition, from its text or from its units.
 fn read_some_name(
     alloc: Global,
     partition: &Keyed<'_>,

@@ -1,7 +1,7 @@
-//! Values and layouts as texts: what people write of a table of partitions is read, and told again.
+//! Reads and writes values and layouts of partition tables as text.
 //!
-//! A value is read from one word, and a refused word says what would be right there. A layout is read from
-//! TOML or from a script of `sfdisk`, and written as TOML.
+//! A value is one word; the error for a wrong word says what would be right. A layout is read from TOML or from a
+//! script of `sfdisk`, and written as TOML.
 #![tactic(auto)]
 
 mod creation;
@@ -21,15 +21,15 @@ pub use layout::read_layout;
 pub use script::{is_script, read_script};
 pub use table_header::{Form, Header, OtherValue};
 
-/// The most bytes that the text of a layout may have.
+/// The maximum length of the text of a layout, in bytes.
 pub const MAX_LAYOUT_BYTES: u64 = 64 << 20;
 
-/// What a text says: a layout, and the header of its table.
+/// A layout that was read, and the header of its table.
 #[derive(Drop, Debug)]
 pub struct Parsed {
     /// The layout.
     pub layout: Layout,
-    /// What is said of the header of its table.
+    /// The values for the header of the table.
     pub header: Header,
     /// The form of the text.
     pub form: Form,

@@ -1,9 +1,9 @@
-//! The lines on which something stands.
+//! Finds the line of an error in a TOML text.
 
 use crate::error::{LayoutError, Place, Section};
 use std::str::Lines;
 
-/// The error with the line on which its key stands in the text, where it is found.
+/// Returns the error with the line of its key, if the line is found.
 pub fn with_line(error: LayoutError, text: &str) -> LayoutError {
     match error {
         LayoutError::Unknown { place, key } => LayoutError::Unknown {
@@ -19,7 +19,7 @@ pub fn with_line(error: LayoutError, text: &str) -> LayoutError {
     }
 }
 
-/// The line and the column, both from 1, of this byte. A column counts characters.
+/// Returns the line and the column, from 1, of the byte at this index. A column counts characters.
 pub fn position_of(text: &str, at: usize) -> (usize, usize) {
     let mut line = 1usize;
     let mut column = 1usize;
@@ -34,7 +34,7 @@ pub fn position_of(text: &str, at: usize) -> (usize, usize) {
     (line, column)
 }
 
-// Where the key of the section stands: its line, or that of the section's header.
+// Returns the line of the key, or else that of the header of its section.
 fn find_place(text: &str, section: Section, key: &str) -> Place {
     let line = match find_key(text, section, key) {
         Some(line) => Some(line),
@@ -43,7 +43,7 @@ fn find_place(text: &str, section: Section, key: &str) -> Place {
     Place { line, section }
 }
 
-// The headers that were passed: the section that lines are in, and how many partitions there were.
+// The headers before a line: its section, and the number of partitions so far.
 #[derive(Clone, Copy)]
 struct Passed {
     section: Option<Section>,
@@ -58,7 +58,7 @@ impl Passed {
         }
     }
 
-    // Passes a line. Answers whether it is a header.
+    // Passes a line, and reports whether it is a header.
     fn pass(&mut self, line: &str) -> bool {
         let Some(name) = line.strip_prefix('[') else {
             return false;
@@ -75,7 +75,7 @@ impl Passed {
     }
 }
 
-// The line of the section's header.
+// Returns the line of the header of this section.
 fn find_header(text: &str, section: Section) -> Option<usize> {
     let mut passed = Passed::new();
     for (index, line) in plain_lines(text).enumerate() {
@@ -86,7 +86,7 @@ fn find_header(text: &str, section: Section) -> Option<usize> {
     None
 }
 
-// The line that begins with the key, in its section or, of the whole text, as a header.
+// Returns the line that begins with the key in this section. A key of the whole text may also be in a header.
 fn find_key(text: &str, section: Section, key: &str) -> Option<usize> {
     let mut passed = Passed::new();
     for (index, line) in plain_lines(text).enumerate() {
@@ -103,7 +103,7 @@ fn find_key(text: &str, section: Section, key: &str) -> Option<usize> {
     None
 }
 
-// The lines, where none can be inside of a text. Else there is none that is known to be what it looks like.
+// Returns no lines if the text has a multi-line string, since a line inside it could look like a header or a key.
 fn plain_lines(text: &str) -> Lines<'_> {
     if text.contains("\"\"\"") || text.contains("'''") {
         "".lines()
@@ -112,7 +112,7 @@ fn plain_lines(text: &str) -> Lines<'_> {
     }
 }
 
-// Whether the name comes first, and then a bracket.
+// Reports whether the text is this name and a closing bracket.
 fn is_closed(text: &str, name: &str) -> bool {
     match text.trim_start().strip_prefix(name) {
         Some(rest) => rest.trim_start().starts_with(']'),
@@ -120,7 +120,7 @@ fn is_closed(text: &str, name: &str) -> bool {
     }
 }
 
-// Whether the key comes first, maybe behind brackets, and then what stands behind a key.
+// Reports whether the line is the key, maybe in brackets, followed by `=`, `.` or `]`.
 fn begins_with(line: &str, key: &str) -> bool {
     match line.trim_start_matches('[').trim_start().strip_prefix(key) {
         Some(rest) => rest.trim_start().starts_with(&['=', '.', ']']),

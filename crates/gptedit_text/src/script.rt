@@ -1,4 +1,4 @@
-//! Scripts of `sfdisk`, as `sfdisk --dump` prints them.
+//! Reads scripts of `sfdisk`, as `sfdisk --dump` prints them.
 
 mod extent;
 mod fields;
@@ -14,7 +14,7 @@ use crate::script::header_lines::{HeaderLines, header_of};
 use crate::table_header::Form;
 use std::alloc::Global;
 
-/// Whether the text is a script: its first line that is not empty or a comment begins with `label:`.
+/// Reports whether the text is a script: its first line that is not empty or a comment begins with `label:`.
 pub fn is_script(text: &str) -> bool {
     match text
         .lines()
@@ -26,15 +26,14 @@ pub fn is_script(text: &str) -> bool {
     }
 }
 
-/// Reads a script: its layout, and what its headers say of the table, which the caller has to compare.
+/// Reads a script: its layout, and its values for the header of the table, which the caller has to compare.
 ///
-/// Its headers are `label: gpt`, `label-id`, `device` (which is passed over), `unit: sectors`, `first-lba`,
-/// `last-lba`, `table-length`, `sector-size` and `grain`. Behind them each line is a partition:
-/// `NODE : start=.., size=.., type=.., uuid=.., name="..", attrs=".."`, where each part may be left out, or
-/// `START,SIZE,TYPE`. The number is the one that NODE ends with, else the lowest that no line before it has.
-/// A start that is left out is that of the longest run of free sectors, a size that is left out is the rest,
-/// such a type is `linux`, and there is no name and no attribute but those that are said.
-/// Starts and sizes are sectors of the table, or bytes with a unit, from `KiB` to `EiB`.
+/// The headers are `label: gpt`, `label-id`, `device` (which is ignored), `unit: sectors`, `first-lba`, `last-lba`,
+/// `table-length`, `sector-size` and `grain`. Each line after them is a partition: `NODE : start=.., size=..,
+/// type=.., uuid=.., name="..", attrs=".."`, where each part is optional, or `START,SIZE,TYPE`. Its number is the one
+/// at the end of NODE, or else the lowest that no earlier line has. By default a partition starts in the longest run
+/// of free sectors, has the size `rest` and the type `linux`, and has no name and no attributes. Starts and sizes are
+/// sectors of the table, or bytes with a unit, from `KiB` to `EiB`.
 pub fn read_script(alloc: Global, text: &str) -> Result<Parsed, LayoutError> {
     let mut headers = HeaderLines::new();
     let mut entries = Entries::new(alloc);
@@ -57,12 +56,11 @@ pub fn read_script(alloc: Global, text: &str) -> Result<Parsed, LayoutError> {
     })
 }
 
-// Whether the line is not empty and no comment.
+// Reports whether the line is neither empty nor a comment.
 fn is_said(line: &str) -> bool {
     !line.is_empty() && !line.starts_with('#')
 }
 
-// The place on this line.
 fn place_in(section: Section, line: Option<usize>) -> Place {
     Place { line, section }
 }

@@ -1,22 +1,22 @@
-//! What a layout says of the header of its table.
+//! The values of a layout for the header of its table.
 
 use gptman::GPT;
 use std::fmt;
 
-/// What a layout says of the header of its table; `None` for what it does not say.
+/// The values of a layout for the header of its table. `None` means that the layout does not have the value.
 #[derive(Clone, Copy, PartialEq, Eq, Debug)]
 pub struct Header {
-    /// The bytes of a sector.
+    /// The size of a sector in bytes.
     pub sector_size: Option<u64>,
     /// The number of entries.
     pub entries: Option<u32>,
-    /// The first sector that partitions may use.
+    /// The first usable sector.
     pub first_usable: Option<u64>,
-    /// The last sector that partitions may use.
+    /// The last usable sector.
     pub last_usable: Option<u64>,
 }
 
-/// The text in which a layout is written.
+/// The form of the text of a layout.
 #[derive(Clone, Copy, PartialEq, Eq, Debug)]
 pub enum Form {
     /// TOML.
@@ -25,7 +25,7 @@ pub enum Form {
     Script,
 }
 
-/// A value of a header that differs from the one of a table.
+/// A value of a header that differs from that of a table.
 #[derive(Clone, Copy, PartialEq, Eq, Debug)]
 pub struct OtherValue {
     /// The key of the value.
@@ -37,7 +37,7 @@ pub struct OtherValue {
 }
 
 impl Header {
-    /// Returns the header that says nothing.
+    /// Returns a header without values.
     pub fn nothing() -> Header {
         Header {
             sector_size: None,
@@ -47,7 +47,7 @@ impl Header {
         }
     }
 
-    /// Returns the header that says all of the table.
+    /// Returns the header with all values of the table.
     pub fn of(table: &GPT) -> Header {
         Header {
             sector_size: Some(table.sector_size),
@@ -57,8 +57,8 @@ impl Header {
         }
     }
 
-    /// Refuses a table that has another value than this header says. The value is named as texts of this form
-    /// name it.
+    /// Fails if the table has another value than this header. The error has the key of the value in this form of
+    /// text.
     pub fn check(&self, form: Form, table: &GPT) -> Result<(), OtherValue> {
         let [sector_size, entries, first_usable, last_usable] = form.keys();
         let header = &table.header;
@@ -70,7 +70,6 @@ impl Header {
     }
 }
 
-// Refuses a value that is said and is another one.
 fn expect(key: &'static str, said: Option<u64>, is: u64) -> Result<(), OtherValue> {
     match said {
         Some(said) if said != is => Err(OtherValue { key, said, is }),
@@ -79,7 +78,7 @@ fn expect(key: &'static str, said: Option<u64>, is: u64) -> Result<(), OtherValu
 }
 
 impl Form {
-    // The keys of the size of a sector, the number of entries, and the first and the last usable sector.
+    // Returns the keys of the sector size, the number of entries, and the first and the last usable sector.
     fn keys(self) -> [&'static str; 4] {
         match self {
             Form::Toml => ["sector-size", "entries", "first-usable", "last-usable"],
@@ -88,7 +87,7 @@ impl Form {
     }
 }
 
-/// Both values, and what to do.
+/// Prints both values, and what to do.
 impl fmt::Display for OtherValue {
     fn fmt<W: fmt::Write>(&self, f: &mut fmt::Formatter<W>) -> fmt::Result {
         let OtherValue { key, said, is } = *self;

@@ -1,4 +1,4 @@
-//! Values as one word each: sizes, types, GUIDs, attributes, choices.
+//! Values of one word each: sizes, types, GUIDs, attributes, choices.
 
 mod amount;
 mod attributes;

@@ -1,62 +1,62 @@
-//! What is wrong under a key.
+//! Faults of values.
 
 use crate::values::Wrong;
 use std::fmt;
 
-/// What is wrong under a key.
+/// Why the value under a key is wrong.
 #[derive(Clone, Copy, PartialEq, Eq, Debug)]
 pub enum Fault {
-    /// It is no table.
+    /// It is not a table.
     NotTable,
-    /// It is no list of tables.
+    /// It is not a list of tables.
     NotTables,
-    /// It is no text.
+    /// It is not a string.
     NotText,
-    /// It is no text of a size or a position.
+    /// It is not the string of a size or a position.
     NotSize,
-    /// It is no number of a partition.
+    /// It is not the number of a partition.
     NotNumber,
-    /// It is no list of attributes.
+    /// It is not a list of attributes.
     NotAttributes,
-    /// It is a word that is not right.
+    /// The word is wrong.
     Value(Wrong),
-    /// The number is that of a partition before.
+    /// An earlier partition has this number.
     Taken(u32),
-    /// A partition before has the size `rest`.
+    /// An earlier partition has the size `rest`.
     SecondRest,
-    /// The name has too many units of UTF-16.
+    /// The name has too many UTF-16 units.
     LongName,
-    /// The name has a zero character.
+    /// The name contains a zero character.
     ZeroInName,
-    /// They are not the units of a name.
+    /// It is not the units of a name.
     NotUnits,
-    /// The name is given twice, as text and as units.
+    /// The partition has a name as text and as units.
     TwoNames,
-    /// It is no number of entries.
+    /// It is not a number of entries.
     NotEntries,
-    /// It is no size of a sector.
+    /// It is not the size of a sector.
     NotSectorSize,
-    /// It is no text of a sector.
+    /// It is not the string of a sector.
     NotSector,
-    /// The label is another one.
+    /// The label is not `gpt`.
     NotGpt,
-    /// The unit is another one.
+    /// The unit is not `sectors`.
     NotInSectors,
-    /// It is no whole number below 2^64.
+    /// It is not a whole number below 2^64.
     NotCount,
-    /// It is no place or size as scripts have them.
+    /// It is not a position or size as in scripts.
     NotExtent,
-    /// It is no list of attributes as scripts have them.
+    /// It is not a list of attributes as in scripts.
     NotScriptAttributes,
-    /// It is bootable, which no partition of such a table is.
+    /// The partition is marked bootable, which a GPT cannot express.
     Bootable,
-    /// A double quote has no second one, or no separator behind it.
+    /// A double quote is not closed, or no separator follows the closing one.
     OpenQuote,
     /// It is not UTF-8.
     NotUtf8,
 }
 
-/// What would be right.
+/// Prints the rule that the value breaks.
 impl fmt::Display for Fault {
     fn fmt<W: fmt::Write>(&self, f: &mut fmt::Formatter<W>) -> fmt::Result {
         match self {
@@ -73,7 +73,7 @@ impl fmt::Display for Fault {
 }
 
 impl Fault {
-    // What would be right, where no value has to be told.
+    // Returns the rule for a fault without a value.
     fn rule(self) -> &'static str {
         match self {
             Fault::NotTable => "it is one table, as [disk]",

@@ -1,24 +1,24 @@
-//! The parts of a text that have keys.
+//! The sections of a text, and their keys.
 
 use std::fmt;
 
-/// The part of a text that has keys of its own.
+/// A section of a text. Each has its own keys.
 #[derive(Clone, Copy, PartialEq, Eq, Debug)]
 pub enum Section {
     /// The whole text.
     File,
     /// `[disk]`.
     Disk,
-    /// The `[[partition]]` of this place among all of them, from 1.
+    /// A `[[partition]]`, by its index from 1.
     Partition(usize),
     /// The headers of a script.
     Header,
-    /// A line of a script that says a partition.
+    /// A line of a script that describes a partition.
     Line,
 }
 
 impl Section {
-    /// The keys that it has.
+    /// Returns the keys of the section.
     pub fn keys(self) -> &'static [&'static str] {
         match self {
             Section::File => &["disk", "partition"],

@@ -1,4 +1,4 @@
-//! What stands under the keys of a table.
+//! The values under the keys of a TOML table.
 
 ghost use Rattle.std.specs.Prelude.{◌≡◌, ◌≢◌, ◌<◌, ℕ, pos, All, IfErr, IfOk, MatchOption, map, option_map};
 ghost use Rattle.toml.specs.Data.{get_member};
@@ -11,7 +11,7 @@ use crate::values::{Wrong, read_attribute};
 use std::alloc::Global;
 use toml::{Table, Value};
 
-/// A table and the section that it is.
+/// A TOML table, and its section.
 #[derive(Clone, Copy)]
 pub struct Keyed<'a> {
     table: &'a Table,
@@ -19,12 +19,12 @@ pub struct Keyed<'a> {
 }
 
 impl<'a> Keyed<'a> {
-    /// The table as this section.
+    /// Returns the table as this section.
     pub fn new(table: &'a Table, section: Section) -> Keyed<'a> {
         Keyed { table, section }
     }
 
-    /// Where the section stands, on a line that is not known yet.
+    /// Returns the place of the section, without a line.
     pub fn place(&self) -> Place {
         Place {
             line: None,
@@ -32,12 +32,12 @@ impl<'a> Keyed<'a> {
         }
     }
 
-    /// That what stands under this key does not belong there.
+    /// Returns the error for a wrong value under this key.
     pub fn fault(&self, key: &'static str, fault: Fault) -> LayoutError {
         self.place().fault(key, fault)
     }
 
-    /// Refuses a key that the section has not.
+    /// Fails with `Unknown` if the section does not have one of the keys.
     pub fn check_keys(&self, alloc: Global) -> Result<(), LayoutError> {
         for key in self.table.keys() {
             if !self
@@ -55,14 +55,14 @@ impl<'a> Keyed<'a> {
         Ok(())
     }
 
-    /// What stands under this key.
+    /// Returns the value under this key.
     pub fn get(&self, key: &'static str) -> Option<&'a Value>
         ensures { option_map (λ value. view value.now) result ≡ get_member key.now (table_view self.now.table.now) }
     {
         self.table.get(key)
     }
 
-    /// The text under this key.
+    /// Returns the string under this key.
     pub fn text(&self, key: &'static str) -> Result<Option<&'a str>, LayoutError> {
         match self.get(key) {
             None => Ok(None),
@@ -76,7 +76,7 @@ impl<'a> Keyed<'a> {
         }
     }
 
-    /// The value that the word under this key says.
+    /// Reads the word under this key.
     pub fn word<T, F: Fn(&str) -> Result<T, Wrong>>(
         &self,
         key: &'static str,
@@ -93,7 +93,7 @@ impl<'a> Keyed<'a> {
         }
     }
 
-    /// The number of entries under this key.
+    /// Reads the number of entries under this key.
     pub fn count(&self, key: &'static str) -> Result<Option<u32>, LayoutError> {
         let count = match self.get(key) {
             None => return Ok(None),
@@ -106,7 +106,7 @@ impl<'a> Keyed<'a> {
         }
     }
 
-    /// The attributes that the list under this key says, by names and numbers of bits.
+    /// Reads the list of attributes under this key, by names and numbers of bits.
     pub fn attributes(&self, key: &'static str) -> Result<Option<u64>, LayoutError>
         ensures { IfOk result (GivesAttributesOf (get_member key.now (table_view self.now.table.now))) }
     {
@@ -122,7 +122,6 @@ impl<'a> Keyed<'a> {
         }
     }
 
-    // The attributes of all values of a list.
     fn attributes_of(&self, key: &'static str, list: &[Value]) -> Result<u64, LayoutError>
         ensures said { IfOk result (HasBitsOf SaysBitOf (map view list.now)) }
         ensures refused { IfErr result (λ error. ¬ (All IsAttributeOf (map view list.now))) }
@@ -135,7 +134,6 @@ impl<'a> Keyed<'a> {
         Ok(bits)
     }
 
-    // One attribute.
     fn attribute(&self, key: &'static str, value: &Value) -> Result<u64, LayoutError>
         ensures said { IfOk result (SaysAttributeOf (view value.now)) }
         ensures refused { IfErr result (λ error. ¬ (IsAttributeOf (view value.now))) }
@@ -154,7 +152,7 @@ impl<'a> Keyed<'a> {
     }
 }
 
-// The bit of an attribute of this number.
+// Returns the number if it is that of a bit.
 fn bit_of(number: i64) -> Option<u64>
     ensures { MatchOption result ((bit : ℕ) → bit < 64 → number ≢ pos bit) (λ bit. (bit < 64) × (number ≡ pos bit)) }
 {

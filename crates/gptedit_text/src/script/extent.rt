@@ -6,7 +6,7 @@ ghost use Rattle.gptedit_text.specs.Scripts.{HasScriptUnit, SaysExtent, SaysNoSc
 
 use gptedit_core::Amount;
 
-// The units of bytes.
+// The units, in bytes.
 const UNITS: [(&str, u64); 12] = [
     ("K", 1 << 10),
     ("KiB", 1 << 10),
@@ -22,8 +22,7 @@ const UNITS: [(&str, u64); 12] = [
     ("EiB", 1 << 60),
 ];
 
-/// The sectors of a number, or the bytes of one with a unit, as `64MiB` or `64M`. A last `E` is a digit where
-/// the text is hexadecimal with it.
+/// Reads a number of sectors, or of bytes with a unit, as `64MiB` or `64M`. `0x1E` is hexadecimal, not 1 EiB.
 pub fn read_extent(text: &str) -> Option<Amount>
     ensures { IfSome result (SaysExtent text.now) }
 {
@@ -39,7 +38,7 @@ pub fn read_extent(text: &str) -> Option<Amount>
     }
 }
 
-// The number before a unit of bytes, and the bytes of that unit.
+// Returns the number before a unit, and the unit in bytes.
 fn split_unit(text: &str) -> Option<(&str, u64)>
     ensures { IfSome result (λ parts. HasScriptUnit text.now parts.0.now parts.1) }
 {
@@ -51,7 +50,7 @@ fn split_unit(text: &str) -> Option<(&str, u64)>
     None
 }
 
-/// A whole number: hexadecimal behind `0x`, octal behind another `0`, else decimal.
+/// Reads a whole number: hexadecimal after `0x`, octal after another `0`, otherwise decimal.
 pub fn read_number(text: &str) -> Option<u64>
     ensures said { IfSome result (SaysScriptNumber text.now) }
     ensures refused { result ≡ None → SaysNoScriptNumber text.now }
@@ -65,7 +64,7 @@ pub fn read_number(text: &str) -> Option<u64>
     }
 }
 
-// The number of octal digits behind a 0, which alone is the number 0.
+// Reads the octal digits after a `0`. Without digits the number is 0.
 fn read_octal(digits: &str) -> Option<u64>
     ensures { MatchOption result ((0 < length digits.now) × ¬ (IsNumeral 8 digits.now × (digits_value 8 digits.now < 2 ^ 64)))
         (λ number. ((digits.now ≡ []) × (number ≡ 0)) ⊎ (IsNumeral 8 digits.now × (digits_value 8 digits.now ≡ number))) }
@@ -77,14 +76,14 @@ fn read_octal(digits: &str) -> Option<u64>
     }
 }
 
-// What stands behind this text at the front.
+// Returns the text after this prefix.
 fn behind<'a>(text: &'a str, front: &str) -> Option<&'a str>
     ensures { MatchOption result ((rest : List ℕ) → text.now ≢ front.now ++ rest) (λ rest. text.now ≡ front.now ++ rest.now) }
 {
     text.strip_prefix(front)
 }
 
-// The number that the digits write.
+// Reads the digits of a number, without a sign.
 fn read_digits(digits: &str, radix: u32) -> Option<u64>
     requires from { 2 ≤ radix }
     requires to { radix ≤ 36 }

@@ -1,4 +1,4 @@
-//! The lines of a script that say partitions.
+//! The lines of a script that describe partitions.
 
 use crate::entries::{Entries, read_name};
 use crate::error::{Fault, LayoutError, Place};
@@ -12,7 +12,7 @@ use std::alloc::Global;
 // The parts of a line without names, in their order.
 const ORDER: [&str; 4] = ["start", "size", "type", "bootable"];
 
-/// Reads a line that says a partition, which stands at this place.
+/// Reads a line that describes a partition.
 pub fn read_line(
     alloc: Global,
     entries: &mut Entries,
@@ -51,7 +51,7 @@ pub fn read_line(
     entries.add(place, number, asked)
 }
 
-// The node, which stands before the last colon before the first name, and what is behind it.
+// Splits the line into the node, which ends at the last colon before the first `=`, and the text after it.
 fn split_node(line: &str) -> (&str, &str) {
     let Some((front, _)) = line.split_once('=') else {
         return ("", line);
@@ -63,13 +63,13 @@ fn split_node(line: &str) -> (&str, &str) {
     (node.trim_end(), rest.strip_prefix(':').unwrap_or(rest))
 }
 
-// The digits that a node ends with.
+// Returns the digits at the end of a node.
 fn digits_behind(node: &str) -> &str {
     let stem = node.trim_end_matches(|c: char| c.is_ascii_digit());
     node.strip_prefix(stem).unwrap_or("")
 }
 
-// The parts of a line, as they are read.
+// The request of a line, while it is read.
 #[derive(Drop)]
 struct Line<'a> {
     alloc: Global,
@@ -78,7 +78,7 @@ struct Line<'a> {
 }
 
 impl Line<'_> {
-    // Reads parts that have names. Each takes at least one byte.
+    // Reads named parts. Each takes at least one byte, which bounds the loop.
     fn read_named(&mut self, fields: &str) -> Result<(), LayoutError> {
         let mut rest = fields.trim_start();
         for _ in 0..fields.len() {
@@ -101,7 +101,7 @@ impl Line<'_> {
         Ok(())
     }
 
-    // Reads parts that have no names.
+    // Reads parts without names, in their order.
     fn read_ordered(&mut self, fields: &str) -> Result<(), LayoutError> {
         let mut rest = fields.trim_start();
         for key in ORDER {
@@ -118,7 +118,7 @@ impl Line<'_> {
         }
     }
 
-    // Reads the value of a part. One that is empty is not said.
+    // Reads the value of a part. An empty value leaves the default.
     fn read_field(&mut self, key: &'static str, value: &str) -> Result<(), LayoutError> {
         if value.is_empty() {
             return Ok(());
@@ -145,7 +145,7 @@ impl Line<'_> {
     }
 }
 
-// The key of a name, in any case.
+// Returns the key of a name, in any case.
 fn key_of(place: Place, name: &str) -> Option<&'static str> {
     if name.eq_ignore_ascii_case("Id") {
         return Some("type");
@@ -156,7 +156,6 @@ fn key_of(place: Place, name: &str) -> Option<&'static str> {
         .find(|key| key.eq_ignore_ascii_case(name))
 }
 
-// That there is no such part.
 fn unknown(alloc: Global, place: Place, name: &str) -> LayoutError {
     match String::from_str(alloc, name) {
         Ok(key) => LayoutError::Unknown { place, key },
@@ -164,7 +163,7 @@ fn unknown(alloc: Global, place: Place, name: &str) -> LayoutError {
     }
 }
 
-// The value of a part, and the parts behind it.
+// Returns the value of a part, and the text after it.
 fn token_of<'a>(
     place: Place,
     key: &'static str,
@@ -176,7 +175,7 @@ fn token_of<'a>(
     }
 }
 
-// A size without the sign before its digits.
+// Removes a `+` before the digits of a size.
 fn without_plus(value: &str) -> &str {
     match value.strip_prefix('+') {
         Some(digits) if !digits.is_empty() => digits,
@@ -184,7 +183,7 @@ fn without_plus(value: &str) -> &str {
     }
 }
 
-// A start or a size, where it is not the default.
+// Reads a start or a size. `+` means the default.
 fn extent_of(place: Place, key: &'static str, value: &str) -> Result<Option<Amount>, LayoutError> {
     if value == "+" {
         return Ok(None);
@@ -195,7 +194,6 @@ fn extent_of(place: Place, key: &'static str, value: &str) -> Result<Option<Amou
     }
 }
 
-// What a word says.
 fn word_of(
     place: Place,
     key: &'static str,
@@ -204,7 +202,6 @@ fn word_of(
     value.map_err(|wrong| place.fault(key, Fault::Value(wrong)))
 }
 
-// The attributes of a list.
 fn attributes_of(place: Place, key: &'static str, value: &str) -> Result<u64, LayoutError> {
     read_script_attributes(value).ok_or(place.fault(key, Fault::NotScriptAttributes))
 }

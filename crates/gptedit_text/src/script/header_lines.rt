@@ -15,11 +15,11 @@ pub struct HeaderLines {
     pub disk_guid: Option<[u8; 16]>,
     /// The alignment.
     pub align: Amount,
-    /// What is said of the table.
+    /// The values for the header of the table.
     pub header: Header,
 }
 
-/// The name and the value of a line that is a header.
+/// Returns the name and the value of a line, if it is a header.
 pub fn header_of(line: &str) -> Option<(&str, &str)> {
     if line.contains('=') {
         return None;
@@ -32,7 +32,7 @@ pub fn header_of(line: &str) -> Option<(&str, &str)> {
 }
 
 impl HeaderLines {
-    /// None.
+    /// Returns the defaults.
     pub fn new() -> HeaderLines {
         HeaderLines {
             has_label: false,
@@ -42,7 +42,7 @@ impl HeaderLines {
         }
     }
 
-    /// Reads a header more.
+    /// Reads one more header.
     pub fn read(
         &mut self,
         alloc: Global,
@@ -69,7 +69,7 @@ impl HeaderLines {
         }
     }
 
-    // Reads a header that is a number.
+    // Reads a header with a number.
     fn read_count(
         &mut self,
         alloc: Global,
@@ -91,7 +91,7 @@ impl HeaderLines {
         Ok(())
     }
 
-    /// Returns the headers of the whole script. A script without a label is refused.
+    /// Returns the headers of the whole script. Fails with `NotGpt` if it has no label.
     pub fn finish(self) -> Result<HeaderLines, LayoutError> {
         if !self.has_label {
             let place = Place {
@@ -104,7 +104,7 @@ impl HeaderLines {
     }
 }
 
-// Refuses a value that is not the only one.
+// Refuses a value other than the only permitted one.
 fn expect(
     place: Place,
     key: &'static str,
@@ -119,18 +119,15 @@ fn expect(
     }
 }
 
-// A number.
 fn count_in(place: Place, key: &'static str, value: &str) -> Result<u64, LayoutError> {
     read_number(value).ok_or(place.fault(key, Fault::NotCount))
 }
 
-// A number of entries.
 fn entries_in(place: Place, value: &str) -> Result<u32, LayoutError> {
     let count = count_in(place, "table-length", value)?;
     u32::try_from(count).map_err(|_| place.fault("table-length", Fault::NotEntries))
 }
 
-// The GUID of the disk.
 fn guid_in(place: Place, value: &str) -> Result<[u8; 16], LayoutError> {
     match read_guid(value) {
         Ok(guid) => Ok(guid),
@@ -138,7 +135,7 @@ fn guid_in(place: Place, value: &str) -> Result<[u8; 16], LayoutError> {
     }
 }
 
-// The alignment, in bytes also where it has no unit.
+// Reads the alignment, which is in bytes also without a unit.
 fn grain_in(place: Place, value: &str) -> Result<Amount, LayoutError> {
     match read_extent(value) {
         Some(Amount::Sectors(bytes)) => Ok(Amount::Bytes(bytes)),

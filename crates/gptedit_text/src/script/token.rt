@@ -2,13 +2,13 @@
 
 use crate::error::Fault;
 
-// What stands between two parts.
+// The characters between two parts.
 const SEPARATORS: [char; 2] = [',', ';'];
 
-// What a part without quotes ends before.
+// The characters that end a part without quotes.
 const ENDS: [char; 4] = [',', ';', ' ', '\t'];
 
-/// The part at the front of a text, without its double quotes, and the text behind its separator.
+/// Returns the first part of a text, without its double quotes, and the text after its separator.
 pub fn next_token(text: &str) -> Result<(&str, &str), Fault> {
     let text = text.trim_start();
     if let Some(quoted) = text.strip_prefix('"') {
@@ -24,7 +24,7 @@ pub fn next_token(text: &str) -> Result<(&str, &str), Fault> {
     Ok((token, skip_separator(rest)))
 }
 
-/// The text behind the separator at its front, if there is one, and behind blanks.
+/// Returns the text after blanks, an optional separator and more blanks.
 pub fn skip_separator(text: &str) -> &str {
     let text = text.trim_start();
     match text.strip_prefix(SEPARATORS) {

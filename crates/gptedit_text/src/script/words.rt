@@ -4,14 +4,14 @@ use crate::error::{Fault, LayoutError, Place};
 use crate::values::{Wrong, read_type};
 use std::alloc::Global;
 
-// The attributes that have a name, and their bits.
+// The named attributes, and their bits.
 const NAMES: [(&str, u64); 3] = [
     ("RequiredPartition", 0),
     ("NoBlockIOProtocol", 1),
     ("LegacyBIOSBootable", 2),
 ];
 
-/// The type that a word says: a letter or a short name as scripts have them, a name, or a GUID.
+/// Reads a type: a letter or a short name of `sfdisk`, a name, or a GUID.
 pub fn read_script_type(word: &str) -> Result<[u8; 16], Wrong> {
     read_type(match word {
         "L" => "linux",
@@ -24,7 +24,7 @@ pub fn read_script_type(word: &str) -> Result<[u8; 16], Wrong> {
     })
 }
 
-/// The attributes of a list, with commas or blanks between them.
+/// Reads a list of attributes, separated by commas or blanks.
 pub fn read_script_attributes(text: &str) -> Option<u64> {
     let mut bits = 0;
     for word in text.split([',', ' ', '\t']) {
@@ -35,7 +35,7 @@ pub fn read_script_attributes(text: &str) -> Option<u64> {
     Some(bits)
 }
 
-// One attribute: its name, or the number of its bit, maybe behind `GUID:`.
+// Reads one attribute: its name, or the number of its bit, maybe after `GUID:`.
 fn read_attribute(word: &str) -> Option<u64> {
     for (name, bit) in NAMES {
         if word == name {
@@ -52,7 +52,8 @@ fn read_attribute(word: &str) -> Option<u64> {
     }
 }
 
-/// The text of a name, in which `\x22` stands for a byte of UTF-8.
+/// Returns the name with each escape, such as `\x22`, replaced by its byte. Fails with `NotUtf8` if the result is not
+/// UTF-8.
 pub fn unescaped(alloc: Global, place: Place, text: &str) -> Result<String, LayoutError> {
     let mut bytes = Vec::new(alloc);
     let mut pieces = text.split("\\x");
@@ -77,7 +78,7 @@ pub fn unescaped(alloc: Global, place: Place, text: &str) -> Result<String, Layo
     }
 }
 
-// The byte of the two hexadecimal digits at the front, and what is behind them.
+// Returns the byte of the two hexadecimal digits at the start, and the text after them.
 fn split_byte(text: &str) -> Option<(u8, &str)> {
     let (digits, rest) = text.split_at_checked(2)?;
     if digits.starts_with('+') {

@@ -12,7 +12,7 @@ use gptedit_core::{Amount, Size};
 use std::fmt;
 use std::num::IntErrorKind;
 
-// The units of bytes, the largest first. `B` is the end of each other, so it is the last.
+// The units in bytes, the largest first. `B` is last, since each other unit ends with it.
 const UNITS: [(&str, u64); 5] = [
     ("TiB", 1 << 40),
     ("GiB", 1 << 30),
@@ -21,8 +21,8 @@ const UNITS: [(&str, u64); 5] = [
     ("B", 1),
 ];
 
-/// The amount that a word says: a whole number with a unit, as `2048s` of sectors, and `512B`, `64KiB`,
-/// `64MiB`, `1GiB`, `2TiB` of bytes.
+/// Reads an amount: a whole number with a unit, as `2048s` in sectors, or `512B`, `64KiB`, `64MiB`, `1GiB`, `2TiB` in
+/// bytes.
 pub fn read_amount(text: &str) -> Result<Amount, Wrong>
     ensures said { IfOk result (SaysAmount text.now) }
     ensures read { (amount : Amount) → SaysAmount text.now amount → FitsAmount amount → result ≡ Ok amount }
@@ -36,7 +36,7 @@ pub fn read_amount(text: &str) -> Result<Amount, Wrong>
     }
 }
 
-// What is wrong with a text that has no unit behind its digits.
+// Returns the fault of a text without a unit after its digits.
 fn wrong_amount(text: &str) -> Wrong {
     match read_number(text) {
         Ok(_) => Wrong::NoUnit,
@@ -44,7 +44,6 @@ fn wrong_amount(text: &str) -> Wrong {
     }
 }
 
-// The sectors of a number.
 fn read_sectors(number: &str) -> Result<Amount, Wrong>
     requires { IsNumeral 10 number.now }
     ensures { OkIff result (digits_value 10 number.now < 2 ^ 64) (Sectors (digits_value 10 number.now)) }
@@ -55,7 +54,6 @@ fn read_sectors(number: &str) -> Result<Amount, Wrong>
     }
 }
 
-// The bytes of a number of this unit.
 fn read_bytes(number: &str, unit: u64) -> Result<Amount, Wrong>
     requires number { IsNumeral 10 number.now }
     requires unit { 0 < unit }
@@ -70,7 +68,7 @@ fn read_bytes(number: &str, unit: u64) -> Result<Amount, Wrong>
     }
 }
 
-// The number before a unit of bytes, and the bytes of that unit.
+// Returns the number before a unit of bytes, and the unit in bytes.
 fn split_unit(text: &str) -> Option<(&str, u64)>
     ensures found { IfSome result (λ parts. IsNumeral 10 parts.0.now × HasUnit text.now parts.0.now parts.1) }
     ensures some { IfSome result (λ parts. 0 < parts.1) }
@@ -85,7 +83,7 @@ fn split_unit(text: &str) -> Option<(&str, u64)>
     None
 }
 
-// The digits before a unit, where there is nothing else.
+// Returns the digits before a unit, if the text is only digits and the unit.
 fn number_before<'a>(text: &'a str, unit: &str) -> Option<&'a str>
     ensures { MatchOption result ((number : List ℕ) → IsNumeral 10 number → text.now ≢ number ++ unit.now)
         (λ number. IsNumeral 10 number.now × (text.now ≡ number.now ++ unit.now)) }
@@ -94,21 +92,20 @@ fn number_before<'a>(text: &'a str, unit: &str) -> Option<&'a str>
     if is_whole(number) { Some(number) } else { None }
 }
 
-// Reports whether the text is a whole number: digits, and nothing else.
+// Reports whether the text is one or more digits.
 fn is_whole(text: &str) -> bool
     ensures { IsTrue result ↔ IsNumeral 10 text.now }
 {
     !text.is_empty() && are_digits(text.as_bytes())
 }
 
-// Reports whether each byte is a digit.
 fn are_digits(bytes: &[u8]) -> bool
     ensures { IsTrue result ↔ EachIndex bytes.now (λ k. IsInRange 48 57 (slice_index bytes.now k)) }
 {
     bytes.iter().all(|byte| byte.is_ascii_digit())
 }
 
-/// The sector that a word says: a number with `s`, as `34s`.
+/// Reads a sector: a number with `s`, as `34s`.
 pub fn read_sector(text: &str) -> Result<u64, Wrong>
     ensures said { IfOk result (λ sector. SaysAmount text.now (Sectors sector)) }
     ensures read { (sector : ℕ) → SaysAmount text.now (Sectors sector) → sector < 2 ^ 64 → result ≡ Ok sector }
@@ -122,7 +119,7 @@ pub fn read_sector(text: &str) -> Result<u64, Wrong>
     }
 }
 
-/// The size that a word says: an amount, or `rest`.
+/// Reads a size: an amount, or `rest`.
 pub fn read_size(text: &str) -> Result<Size, Wrong>
     ensures said { IfOk result (SaysSize text.now) }
     ensures read { (size : Size) → SaysSize text.now size → FitsSize size → result ≡ Ok size }
@@ -137,7 +134,7 @@ pub fn read_size(text: &str) -> Result<Size, Wrong>
     }
 }
 
-// A whole number: digits alone.
+// Reads a whole number, without a sign.
 fn read_number(text: &str) -> Result<u64, Wrong>
     ensures { OkIff result (IsNumeral 10 text.now × (digits_value 10 text.now < 2 ^ 64)) (digits_value 10 text.now) }
 {
@@ -151,7 +148,7 @@ fn read_number(text: &str) -> Result<u64, Wrong>
     }
 }
 
-/// An amount as `read_amount` reads it, of bytes in the largest unit of which they are a whole number.
+/// An amount in the form that `read_amount` reads. Bytes are printed in the largest unit that divides them.
 #[derive(Clone, Copy, PartialEq, Eq, Debug)]
 pub struct AmountText(pub Amount);
 
@@ -164,7 +161,6 @@ impl fmt::Display for AmountText {
     }
 }
 
-// So many bytes, in the largest unit of which they are a whole number.
 fn write_bytes<W: fmt::Write>(f: &mut fmt::Formatter<W>, bytes: u64) -> fmt::Result {
     for (name, unit) in UNITS {
         if bytes >= unit && bytes % unit == 0 {
@@ -174,7 +170,7 @@ fn write_bytes<W: fmt::Write>(f: &mut fmt::Formatter<W>, bytes: u64) -> fmt::Res
     write!(f, "{bytes}B")
 }
 
-/// A size as `read_size` reads it.
+/// A size in the form that `read_size` reads.
 #[derive(Clone, Copy, PartialEq, Eq, Debug)]
 pub struct SizeText(pub Size);
 

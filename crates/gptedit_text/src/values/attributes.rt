@@ -1,4 +1,4 @@
-//! Attributes of partitions, as names and as numbers of bits.
+//! Attributes of partitions, by names and by numbers of bits.
 
 ghost use Rattle.std.specs.Prelude.{◌≡◌, ◌<◌, ◌^◌, ℕ, All, Contains, IfErr, IfOk, IfSome};
 ghost use Rattle.std.specs.Result.{OkIff};
@@ -19,9 +19,9 @@ const NAMES: [(&str, u64); 6] = [
     ("no-auto", 63),
 ];
 
-/// The attributes that a word says: nothing; or with commas between them, `required` (bit 0),
-/// `no-block-io` (1), `legacy-boot` (2), `grow-file-system` (59), `read-only` (60), `no-auto` (63) and
-/// numbers of bits, from 0 to 63; or all bits as `0x` and hexadecimal digits.
+/// Reads attributes: an empty text for none; or, separated by commas, `required` (bit 0), `no-block-io` (1),
+/// `legacy-boot` (2), `grow-file-system` (59), `read-only` (60), `no-auto` (63) and numbers of bits, from 0 to 63; or
+/// all bits as `0x` and hexadecimal digits.
 pub fn read_attributes(text: &str) -> Result<u64, Wrong>
     ensures said { IfOk result (SaysAttributes text.now) }
     ensures refused { IfErr result (λ wrong. SaysNoAttributes text.now) }
@@ -35,7 +35,7 @@ pub fn read_attributes(text: &str) -> Result<u64, Wrong>
     read_list(text)
 }
 
-// The attributes of all the words with commas between them.
+// Reads attributes separated by commas.
 fn read_list(text: &str) -> Result<u64, Wrong>
     ensures said { IfOk result (SaysEach text.now) }
     ensures refused { IfErr result (λ wrong. ¬ (All IsAttribute (words_of text.now))) }
@@ -48,7 +48,7 @@ fn read_list(text: &str) -> Result<u64, Wrong>
     Ok(bits)
 }
 
-// All bits, as hexadecimal digits.
+// Reads all bits as hexadecimal digits.
 fn read_digits(digits: &str) -> Result<u64, Wrong>
     ensures { OkIff result (IsNumeral 16 digits.now × (digits_value 16 digits.now < 2 ^ 64)) (digits_value 16 digits.now) }
 {
@@ -58,7 +58,7 @@ fn read_digits(digits: &str) -> Result<u64, Wrong>
     u64::from_str_radix(digits, 16).map_err(|_| Wrong::NoAttribute)
 }
 
-/// The one attribute that a word says, by its name or the number of its bit.
+/// Reads one attribute, by its name or the number of its bit.
 pub fn read_attribute(word: &str) -> Result<u64, Wrong>
     ensures said { IfOk result (SaysAttribute word.now) }
     ensures refused { IfErr result (λ wrong. ¬ (IsAttribute word.now)) }
@@ -72,7 +72,6 @@ pub fn read_attribute(word: &str) -> Result<u64, Wrong>
     }
 }
 
-// The bit of a name.
 fn find_bit(word: &str) -> Option<u64>
     ensures found { IfSome result (λ bit. (bit < 64) × Contains attribute_names (word.now, bit)) }
     ensures unknown { result ≡ None → (bit : ℕ) → ¬ (Contains attribute_names (word.now, bit)) }
@@ -85,7 +84,6 @@ fn find_bit(word: &str) -> Option<u64>
     None
 }
 
-// A bit by its number.
 fn read_bit(word: &str) -> Result<u64, Wrong>
     ensures { OkIff result (IsNumeral 10 word.now × (digits_value 10 word.now < 64)) (digits_value 10 word.now) }
 {
@@ -98,7 +96,7 @@ fn read_bit(word: &str) -> Result<u64, Wrong>
     }
 }
 
-/// Attributes as `read_attributes` reads them: names and numbers of bits, with commas; nothing for none.
+/// Attributes in the form that `read_attributes` reads: names and numbers of bits, separated by commas.
 #[derive(Clone, Copy, PartialEq, Eq, Debug)]
 pub struct AttributeNames(pub u64);
 
@@ -116,7 +114,7 @@ impl fmt::Display for AttributeNames {
     }
 }
 
-/// The attribute of this bit as `read_attribute` reads it: its name, or its number.
+/// The attribute of this bit in the form that `read_attribute` reads: its name, or else its number.
 #[derive(Clone, Copy, PartialEq, Eq, Debug)]
 pub struct AttributeName(pub u64);
 

@@ -1,4 +1,4 @@
-//! Sizes for people.
+//! Numbers of bytes, printed for people.
 
 ghost use Rattle.std.specs.Prelude.{◌<◌, ◌≤◌, ◌^◌};
 
@@ -14,8 +14,8 @@ const UNITS: [(&str, u64); 6] = [
     ("KiB", 1 << 10),
 ];
 
-/// So many bytes, for people: in the largest unit of which there is at least one, with at most one decimal,
-/// cut down. `512 B`, `64 MiB`, `1.5 GiB`.
+/// A number of bytes, printed in the largest unit that is not larger, with at most one decimal, rounded down: `512
+/// B`, `64 MiB`, `1.5 GiB`.
 #[derive(Clone, Copy, PartialEq, Eq, Debug)]
 pub struct ByteCount(pub u64);
 
@@ -31,7 +31,6 @@ impl fmt::Display for ByteCount {
     }
 }
 
-// So many bytes in this unit.
 fn write_in<W: fmt::Write>(
     f: &mut fmt::Formatter<W>,
     bytes: u64,

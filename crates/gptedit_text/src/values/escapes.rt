@@ -1,12 +1,12 @@
-//! Characters that a terminal does not show as themselves, and texts in which they are escaped.
+//! Hidden characters, and texts in which they are escaped.
 
 use std::fmt;
 
-/// Reports whether a terminal may take the character for a command or a line break, may change the direction
-/// of writing by it, or may show nothing for it.
+/// Reports whether a terminal may interpret the character as a command or a line break, may change the direction of
+/// writing at it, or may show nothing for it.
 ///
 /// These are the control characters, the line and paragraph separators, the marks of direction, and the other
-/// invisible characters of formatting (soft hyphen, zero-width characters, annotations and tags).
+/// invisible formatting characters (soft hyphen, zero-width characters, annotations and tags).
 pub fn is_hidden(c: char) -> bool {
     matches!(
         c,
@@ -24,7 +24,7 @@ pub fn is_hidden(c: char) -> bool {
     )
 }
 
-/// A text for people: each hidden character is written as `\u{202e}`.
+/// A text in which hidden characters are printed as `\u{202e}`.
 #[derive(Clone, Copy, PartialEq, Eq, Debug)]
 pub struct Escaped<'a>(pub &'a str);
 
@@ -37,7 +37,7 @@ impl fmt::Display for Escaped<'_> {
     }
 }
 
-/// A character for people: a hidden one is written as `\u{202e}`.
+/// A character. A hidden one is printed as `\u{202e}`.
 #[derive(Clone, Copy, PartialEq, Eq, Debug)]
 pub struct EscapedChar(pub char);
 
@@ -51,7 +51,7 @@ impl fmt::Display for EscapedChar {
     }
 }
 
-/// A code point, or a surrogate that is not part of a pair, as `\u{d800}`.
+/// A code point, or a surrogate without its pair, printed as `\u{d800}`.
 #[derive(Clone, Copy, PartialEq, Eq, Debug)]
 pub struct EscapedCode(pub u32);
 
@@ -63,8 +63,8 @@ impl fmt::Display for EscapedCode {
     }
 }
 
-/// A text as a basic string of TOML, in double quotes, which is read back as the same text. Each hidden
-/// character is written as `\u0085` or `\U000e0001`.
+/// A basic string of TOML, in double quotes, that is read as this text. Hidden characters are printed as `\u0085` or
+/// `\U000e0001`.
 #[derive(Clone, Copy, PartialEq, Eq, Debug)]
 pub struct TomlText<'a>(pub &'a str);
 
@@ -78,7 +78,6 @@ impl fmt::Display for TomlText<'_> {
     }
 }
 
-// Writes a character of a basic string of TOML.
 fn write_toml_char<W: fmt::Write>(f: &mut fmt::Formatter<W>, c: char) -> fmt::Result {
     let code = u32::from(c);
     match c {

@@ -2,15 +2,15 @@
 
 use std::fmt;
 
-// The most UTF-16 units that a name has.
+// The maximum number of UTF-16 units of a name.
 const NAME_UNITS: usize = 36;
 
-/// Whether a text is longer than the name of a partition may be, 36 units of UTF-16.
+/// Reports whether the text has more UTF-16 units than a name may have, which is 36.
 pub fn is_long_name(text: &str) -> bool {
     text.encode_utf16().count() > NAME_UNITS
 }
 
-/// Reads the units of a name: at most 36 numbers of four hexadecimal digits each, with a space between, as
+/// Reads the units of a name: at most 36 numbers of four hexadecimal digits each, separated by single spaces, as
 /// `0041 d800`. The units after them are zero.
 pub fn read_units(text: &str) -> Option<[u16; 36]> {
     let mut units = [0; NAME_UNITS];
@@ -24,7 +24,6 @@ pub fn read_units(text: &str) -> Option<[u16; 36]> {
     Some(units)
 }
 
-// The unit of four hexadecimal digits.
 fn read_unit(word: &str) -> Option<u16> {
     if word.len() != 4 || word.starts_with('+') {
         return None;
@@ -32,7 +31,7 @@ fn read_unit(word: &str) -> Option<u16> {
     u16::from_str_radix(word, 16).ok()
 }
 
-/// The units of a name as `read_units` reads them, without the zeros at the end.
+/// The units of a name in the form that `read_units` reads, without the zeros at the end.
 #[derive(Clone, Copy, PartialEq, Eq, Debug)]
 pub struct UnitsText<'a>(pub &'a [u16; 36]);
 
@@ -48,7 +47,7 @@ impl fmt::Display for UnitsText<'_> {
     }
 }
 
-// How many units there are before the zeros at the end.
+// Returns the number of units before the zeros at the end.
 fn used_units(units: &[u16; 36]) -> usize {
     match units.iter().rposition(|unit| *unit != 0) {
         Some(last) => last.saturating_add(1),

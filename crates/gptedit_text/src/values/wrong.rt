@@ -1,33 +1,33 @@
-//! What is wrong with a word.
+//! Faults of words.
 
 use std::fmt;
 
-/// Why a word is not the value that belongs there.
+/// Why a word is wrong.
 #[derive(Clone, Copy, PartialEq, Eq, Debug)]
 pub enum Wrong {
     /// It is a number without a unit.
     NoUnit,
-    /// It is no whole number with a unit.
+    /// It is not a whole number with a unit.
     NoAmount,
-    /// It is no number of a sector.
+    /// It is not the number of a sector.
     NoSector,
-    /// It is no whole number with a unit, nor `rest`.
+    /// It is not a whole number with a unit, and not `rest`.
     NoSize,
-    /// The amount is past 64 bits.
+    /// The amount exceeds 64 bits.
     TooLarge,
-    /// It is no name of a type, and no GUID.
+    /// It is neither the name of a type nor a GUID.
     NoType,
-    /// It is no GUID.
+    /// It is not a GUID.
     NoGuid,
-    /// It is no list of attributes.
+    /// It is not a list of attributes.
     NoAttribute,
-    /// It is no choice of a place.
+    /// It is not the choice of a place.
     NoChoice,
-    /// It is not what is done where an image is locked.
+    /// It does not say what to do if an image is locked.
     NoLock,
 }
 
-/// What would be right.
+/// Prints the rule that the word breaks.
 impl fmt::Display for Wrong {
     fn fmt<W: fmt::Write>(&self, f: &mut fmt::Formatter<W>) -> fmt::Result {
         f.write_str(match self {

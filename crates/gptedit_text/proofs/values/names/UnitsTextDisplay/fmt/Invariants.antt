@@ -2,7 +2,7 @@ use denote.Text.{Utf8}
 use denote.Shadow.{shadow}
 use Rattle.gptedit_text.proofs.values.names.UnitsTextDisplay.fmt.Given as goal
 
--- says that each `&str` the loop changes is text: keep it, and add clauses with ×
+-- Each `&str` that the loop changes is text.
 abbrev pub invariant-loop-unit : goal.invariant-loop-unit
 invariant-loop-unit g l =
     (goal.iterator-loop-unit g).can_next l.unit-iterator ×
