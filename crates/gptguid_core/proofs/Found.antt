@@ -1,4 +1,4 @@
--- The number of a name, one type after another.
+-- The number of a name is found type by type.
 use Rattle.std.proofs.Common.{◌≡◌, ℕ, List, ◌∷◌, true, false, sym, ap, cond}
 use Rattle.std.specs.Prelude.{Some, find}
 use Rattle.std.specs.Option.{option_map}

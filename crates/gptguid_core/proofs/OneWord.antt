@@ -1,4 +1,4 @@
--- One word, which is not `list`.
+-- One word other than `list`.
 use Rattle.std.proofs.Common.{◌≡◌, ◌∙◌, ◌<◌, ◌≤◌, ℕ, List, [], ◌∷◌, Bool, true, false, if◌then◌else◌, length, slice_index_or, arith, refl, sym, ap}
 use Rattle.std.proofs.lemmas.Slice.Eq.{bytes_eq-Decides}
 use Rattle.std.specs.Bool.{Decides}
@@ -18,7 +18,7 @@ unlisted : (b : Bool) (P : Type 0) (l w : ℕ × List ℕ) → Decides b P → (
 unlisted true P l w decides not = absurd (not (decides.0 refl))
 unlisted false P l w decides not = refl
 
--- what is answered to a word that is not `list`
+-- The output for a word other than `list`.
 pub other_word : (text : List ℕ) → (text ≡ codes "list" → ⊥) → answer_to (text ∷ []) ≡ word_answer text (guid_of_digits text)
 other_word text not =
     unlisted (bytes_eq text (codes "list")) (text ≡ codes "list") (0, type_lines types) (word_answer text (guid_of_digits text))

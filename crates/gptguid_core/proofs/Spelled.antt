@@ -1,4 +1,4 @@
--- Texts that are read and written again.
+-- Texts survive a round trip.
 use Rattle.std.proofs.Common.{◌≡◌, ℕ, ◌+◌, ◌*◌, ◌/◌, ◌<◌, ◌==◌, ◌&&◌, ◌↔◌, ◌⊎◌, inl, inr, List, [], length, slice_index, get_or, Bool, true, false, true≢false, if◌then◌else◌, Option, Some, None, is_some, unwrap_or, Result, Ok, Err, IsOk, IfOk, arith, refl, sym, subst, ap, ◌∙◌}
 use Rattle.std.proofs.lemmas.Bool.{and_parts, eqb-true}
 use Rattle.std.proofs.lemmas.Bool.Decides.{nat_tests}
@@ -11,13 +11,13 @@ use Rattle.std.specs.Str.{str_to_ascii_lowercase, str_to_ascii_uppercase}
 use Rattle.uuid.specs.Text.{by_index, byte_of_digits, digit_place, digits_of, has_hyphens, hex_digit, hyphen_place, hyphenated_text, is_hex_digit, is_hyphen_place, lower, nibble, parsed, parsed_hyphenated, parsed_simple, simple_text, upper, value_of}
 use Rattle.uuid.proofs.TextLemmas.{by_index_at, by_index_length, by_index_same, nibble_even, nibble_odd}
 
--- what a reading gives, as an option
+-- The result of a read, as an option.
 pub read_as : {E : Type 0} (r : Result (List ℕ) E) (o : Option (List ℕ)) → (IsOk r ↔ ((u : List ℕ) × (o ≡ Some u))) → IfOk r (λ u. Some u ≡ o) → result_ok r ≡ o
 read_as (Ok u) o ok bytes = bytes
 read_as (Err e) None ok bytes = refl
 read_as (Err e) (Some u) ok bytes = absurd (true≢false (sym (ok.1 (u, refl))))
 
--- the reader of all forms, by the length of a text
+-- The parser of all forms, by the length of a text.
 pub parsed_at_32 : (s : List ℕ) → length s ≡ 32 → parsed s ≡ parsed_simple s
 parsed_at_32 s len = rw len refl
 
@@ -32,12 +32,12 @@ both_parts : (b : Bool) (x o : Option (List ℕ)) (v : List ℕ) → o ≡ (if b
 both_parts true x o v is e = (refl, sym is ∙ e)
 both_parts false x o v is e = absurd (true≢false (sym (ap is_some (sym is ∙ e))))
 
--- what passes a test of all passes it at each place
+-- A test of all elements holds at each index.
 passes_at : (p : ℕ → Bool) (xs : List ℕ) (k : ℕ) (b : Bool) → p (get_or xs k 0) ≡ b → list_all p xs ≡ true → k < length xs → b ≡ true
 passes_at p xs k true is all within = refl
 passes_at p xs k false is all within = absurd (true≢false (sym all ∙ list_all_at p xs k 0 within is))
 
--- a digit has a value below 16, and is that value's digit in one of the two cases
+-- A digit has a value below 16, and is the digit of that value in one of the two cases.
 value_small : (c : ℕ) → is_hex_digit c ≡ true → value_of c < 16
 value_small c hex = grind (arith, nat_tests)
 
@@ -47,7 +47,7 @@ lower_again c hex = grind (arith, nat_tests)
 upper_again : (c : ℕ) → is_hex_digit c ≡ true → to_ascii_uppercase c ≡ hex_digit upper (value_of c)
 upper_again c hex = grind (arith, nat_tests)
 
--- what 32 digits were read as: each place of the bytes has the value of its digit
+-- The result of reading 32 digits: each half byte has the value of its digit.
 record IsRead (hex u : List ℕ) : Type 0 where
   pub long : length hex ≡ 32
   pub all : list_all is_hex_digit hex ≡ true
@@ -82,7 +82,7 @@ nibble_at hex u is k within =
       | inr odd ↦ subst (λ j. nibble u j ≡ value_of (slice_index hex j)) odd both.1
     ]
 
--- digits are written again in lower case
+-- Digits are written back in lower case.
 pub digits_again : (s u : List ℕ) → parsed_simple s ≡ Some u → simple_text lower u ≡ str_to_ascii_lowercase s
 digits_again s u e =
     let is = is_read s u e in
@@ -91,11 +91,11 @@ digits_again s u e =
     ∙ lower_again (slice_index s k) (digit_at s u is k within)
     ∙ ap (λ v. hex_digit lower v) (sym (nibble_at s u is k within))))
 
--- a hyphen stands at its place
+-- A hyphen is at its place.
 hyphens_at : (s : List ℕ) (k : ℕ) → has_hyphens s ≡ true → is_hyphen_place k ≡ true → slice_index s k ≡ 45
 hyphens_at s k stand is = grind (arith, nat_tests)
 
--- a place of a text, as it is written again
+-- A character of a text, written back.
 place_again : (s u : List ℕ) → length s ≡ 36 → has_hyphens s ≡ true → IsRead (digits_of s) u → (k : ℕ) (b : Bool) → k < 36 → is_hyphen_place k ≡ b
     → to_ascii_uppercase (slice_index s k) ≡ (if b then 45 else hex_digit upper (nibble u (digit_place k)))
 place_again s u long stand is k true within place = ap to_ascii_uppercase (hyphens_at s k stand place)
@@ -108,7 +108,7 @@ place_again s u long stand is k false within place =
     ap to_ascii_uppercase (sym same) ∙ upper_again (slice_index (digits_of s) i) (digit_at (digits_of s) u is i inside)
     ∙ ap (λ v. hex_digit upper v) (sym (nibble_at (digits_of s) u is i inside))
 
--- a text is written again in upper case
+-- A text is written back in upper case.
 pub text_again : (s u : List ℕ) → parsed_hyphenated s ≡ Some u → hyphenated_text upper u ≡ str_to_ascii_uppercase s
 text_again s u e =
     let parts = both_parts ((length s == 36) && has_hyphens s) (parsed_simple (digits_of s)) (parsed_hyphenated s) u refl e in
@@ -120,7 +120,7 @@ text_again s u e =
     (λ k d within. get_or-map to_ascii_uppercase s k 0 d (rw long within)
     ∙ place_again s u long tests.1 is k (is_hyphen_place k) within refl))
 
--- the bytes that are read are 16
+-- 16 bytes are read.
 pub read_long : (hex u : List ℕ) → parsed_simple hex ≡ Some u → length u ≡ 16
 read_long hex u e = subst (λ l. length l ≡ 16) (is_read hex u e).bytes (by_index_length 16 (byte_of_digits hex))
 

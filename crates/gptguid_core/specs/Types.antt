@@ -1,11 +1,11 @@
--- The types of partitions that have a name.
+-- The named types of partitions.
 use Rattle.std.specs.Prelude.{ℕ, List, [], ◌∷◌, Option, codes, find}
 use Rattle.std.specs.Int.{to_be_bytes, w128}
 use Rattle.std.specs.Option.{option_map}
 use Rattle.std.specs.Str.{bytes_eq}
 use Rattle.gptguid_core.specs.Forms.{disk_order}
 
--- each name, and the number of 128 bits that the text of its GUID writes without the hyphens
+-- Each name, and the text of its GUID without hyphens as a number of 128 bits.
 unfoldable pub types : List (List ℕ × ℕ)
 types =
     (codes "efi", 0xC12A7328F81F11D2BA4B00A0C93EC93B) ∷
@@ -233,22 +233,22 @@ types =
     (codes "marvell-armada-3700-boot", 0x6828311ABA5542A4BCDEA89BB5EDECAE) ∷
     []
 
--- the GUID that such a number writes
+-- The GUID whose text without hyphens is this number.
 abbrev pub guid_of_number : ℕ → List ℕ
 guid_of_number number = disk_order (to_be_bytes w128 number)
 
--- the number of a name among some types
+-- The number of a name in a list of types.
 abbrev pub number_in : List (List ℕ × ℕ) → List ℕ → Option ℕ
 number_in ts name = option_map (λ t. t.1) (find (λ t. bytes_eq t.0 name) ts)
 
--- the GUID of a name
+-- The GUID of a name.
 abbrev pub guid_of_name : List ℕ → Option (List ℕ)
 guid_of_name name = option_map guid_of_number (number_in types name)
 
--- the first name of a GUID among some types
+-- The first name of a GUID in a list of types.
 abbrev pub name_in : List (List ℕ × ℕ) → List ℕ → Option (List ℕ)
 name_in ts guid = option_map (λ t. t.0) (find (λ t. bytes_eq (guid_of_number t.1) guid) ts)
 
--- the first name of a GUID
+-- The first name of a GUID.
 abbrev pub name_of_guid : List ℕ → Option (List ℕ)
 name_of_guid guid = name_in types guid

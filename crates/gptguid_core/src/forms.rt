@@ -6,8 +6,8 @@ ghost use Rattle.gptguid_core.specs.Forms.{digits_form, guid_of_digits, guid_of_
 
 use uuid::{Builder, Uuid};
 
-/// The GUID of a text, as `C12A7328-F81F-11D2-BA4B-00A0C93EC93B`, in any case: its 16 bytes as they
-/// stand on a disk. There each of the first three groups stands the other way round.
+/// Reads a text such as `C12A7328-F81F-11D2-BA4B-00A0C93EC93B`, in any case. Returns the 16 bytes as on a disk, where
+/// the bytes of each of the first three groups are reversed.
 pub fn from_text(text: &str) -> Option<[u8; 16]>
     ensures value { result ≡ guid_of_text text.now }
     ensures back { IfSome result (λ guid. text_form guid ≡ str_to_ascii_uppercase text.now) }
@@ -19,7 +19,7 @@ pub fn from_text(text: &str) -> Option<[u8; 16]>
     Some(guid.to_bytes_le())
 }
 
-/// The text of a GUID, in upper case. It is put into the buffer.
+/// Writes the text of a GUID, in upper case, to the buffer, and returns it.
 pub fn text_of<'b>(guid: &[u8; 16], buffer: &'b mut [u8; 36]) -> &'b str
     ensures value { result.now ≡ text_form guid.now }
     ensures back { guid_of_text result.now ≡ Some guid.now }
@@ -27,7 +27,7 @@ pub fn text_of<'b>(guid: &[u8; 16], buffer: &'b mut [u8; 36]) -> &'b str
     Uuid::from_bytes_le(*guid).hyphenated().encode_upper(buffer)
 }
 
-/// The GUID of 32 hexadecimal digits, in any case: the bytes as they stand on a disk.
+/// Reads 32 hexadecimal digits, in any case: the bytes as on a disk.
 pub fn from_digits(text: &str) -> Option<[u8; 16]>
     ensures value { result ≡ guid_of_digits text.now }
     ensures back { IfSome result (λ guid. digits_form guid ≡ str_to_ascii_lowercase text.now) }
@@ -39,7 +39,7 @@ pub fn from_digits(text: &str) -> Option<[u8; 16]>
     Some(guid.into_bytes())
 }
 
-/// The digits of a GUID, in lower case, as its bytes stand on a disk. They are put into the buffer.
+/// Writes the digits of a GUID, its bytes as on a disk, to the buffer in lower case, and returns them.
 pub fn digits_of<'b>(guid: &[u8; 16], buffer: &'b mut [u8; 32]) -> &'b str
     ensures value { result.now ≡ digits_form guid.now }
     ensures back { guid_of_digits result.now ≡ Some guid.now }
@@ -47,8 +47,7 @@ pub fn digits_of<'b>(guid: &[u8; 16], buffer: &'b mut [u8; 32]) -> &'b str
     Uuid::from_bytes(*guid).simple().encode_lower(buffer)
 }
 
-/// The GUID that 16 random bytes make: of version 4, and of the variant of RFC 9562. The bytes of the
-/// result stand as on a disk.
+/// Returns the GUID, as on a disk, that these random bytes make: version 4, variant of RFC 9562.
 pub fn from_random(drawn: [u8; 16]) -> [u8; 16]
     ensures value { result ≡ random_form drawn }
     ensures version { slice_index result 7 / 16 ≡ 4 }

@@ -1,8 +1,7 @@
-//! GUIDs as people write them and as they stand on a disk: their text, their digits, the names of types of
-//! partitions.
+//! Converts GUIDs between text, digits and the names of partition types.
 //!
-//! A GUID is its 16 bytes as they stand on a disk, as in a partition table. `run` works over any source of
-//! random bytes and any writer. The program `gptguid` calls it with the system's and with standard output.
+//! A GUID is its 16 bytes as in a partition table on a disk. `run` works with any source of random bytes and any
+//! writer; the program `gptguid` calls it with those of the system and standard output.
 #![tactic(auto)]
 
 ghost use Rattle.std.specs.Prelude.{◌≡◌, ◌≢◌, [], ◌∷◌, codes, IfOk, OnOk};
@@ -21,33 +20,33 @@ pub use forms::{digits_of, from_digits, from_random, from_text, text_of};
 pub use names::{from_name, name_of, types};
 pub use source::{ByteSource, SystemSource};
 
-/// The line that says how the program is used, with its newline.
+/// The usage line, with its newline.
 pub const USAGE: &str = "usage: gptguid TEXT | DIGITS | NAME | random | list\n";
 
-/// The status where what was asked for is printed.
+/// The exit status of success.
 const DONE: u8 = 0;
 
-/// The status of a word that is no GUID, and where there are no random bytes.
+/// The exit status if the word is not a GUID, or there are no random bytes.
 const FAULT: u8 = 1;
 
-/// The status of words that are not one.
+/// The exit status if there is not exactly one word.
 const NO_WORD: u8 = 2;
 
-/// Prints what the one word asks for to `out`, and answers the status to end with: 0 where it is done, 1
-/// where it was refused, 2 where there is no word or more than one.
+/// Prints the result for the one word to `out`, and returns the exit status: 0 for success, 1 for a fault, 2 if there
+/// is not exactly one word.
 ///
-/// - A text, as `C12A7328-F81F-11D2-BA4B-00A0C93EC93B`, in any case, is printed as its 32 digits: the bytes
-///   as they stand on a disk.
+/// - A text, as `C12A7328-F81F-11D2-BA4B-00A0C93EC93B`, in any case, is printed as its 32 digits: the bytes as on a
+///   disk.
 /// - 32 such digits, in any case, are printed as the text.
-/// - `random` prints the digits of a random GUID, of version 4, which the next 16 bytes of the source make.
-///   No other word takes bytes from the source.
-/// - `list` prints a line for each type that has a name: `NAME DIGITS TEXT`.
-/// - Such a name is printed as the digits of its type.
+/// - `random` prints the digits of a random GUID of version 4, made from the next 16 bytes of the source. No other
+///   word reads the source.
+/// - `list` prints a line for each named type: `NAME DIGITS TEXT`.
+/// - The name of a type is printed as its digits.
 ///
-/// Any other word prints `fault: InvalidGUID`, and `random` where the source fails `fault: Io`. No word, or
-/// more than one, prints the usage line.
+/// Any other word prints `fault: InvalidGUID`. If the source fails, `random` prints `fault: Io`. No word, or more
+/// than one, prints the usage line.
 ///
-/// An error comes only where `out` failed.
+/// Fails only if `out` fails.
 pub fn run<S: ByteSource, W: Write>(words: &[String], source: &mut S, out: &mut W) -> io::Result<u8>
     ensures status { texts_of words.now ≢ codes "random" ∷ []
         → IfOk result (λ status. status ≡ (answer_to (texts_of words.now)).0) }

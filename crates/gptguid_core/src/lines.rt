@@ -1,4 +1,4 @@
-//! The lines that are printed.
+//! The lines of the output.
 
 ghost use Rattle.std.specs.Prelude.{◌≡◌, map, IfOk, OnOk};
 ghost use Rattle.std.specs.Io.KnownBytes.{Appends};
@@ -14,14 +14,13 @@ use crate::{DONE, FAULT};
 use std::io;
 use std::io::Write;
 
-/// Prints a line for each type that has a name.
+/// Prints a line for each named type.
 pub fn print_types<W: Write>(out: &mut W) -> io::Result<()>
     ensures { OnOk result (Appends (W.contents out.old) (W.contents out.new) (type_lines types_by_name)) }
 {
     print_each(out, types())
 }
 
-// Prints the line of each of these types.
 fn print_each<W: Write>(out: &mut W, types: &[(&str, u128)]) -> io::Result<()>
     ensures { OnOk result (Appends (W.contents out.old) (W.contents out.new)
         (type_lines (map (λ t. (t.0.now, t.1)) types.now))) }
@@ -32,7 +31,6 @@ fn print_each<W: Write>(out: &mut W, types: &[(&str, u128)]) -> io::Result<()>
     Ok(())
 }
 
-// Prints the line of a type.
 fn print_type<W: Write>(out: &mut W, name: &str, number: u128) -> io::Result<()>
     ensures { OnOk result (Appends (W.contents out.old) (W.contents out.new) (type_line (name.now, number))) }
 {
@@ -45,8 +43,8 @@ fn print_type<W: Write>(out: &mut W, name: &str, number: u128) -> io::Result<()>
     print_text(out, &guid)
 }
 
-/// Prints the digits of the random GUID that the next 16 bytes of the source make, or where the source
-/// fails, that it failed. Answers the status.
+/// Prints the digits of a random GUID made from the next 16 bytes of the source, or a fault line if the source fails.
+/// Returns the exit status.
 pub fn print_random<S: ByteSource, W: Write>(source: &mut S, out: &mut W) -> io::Result<u8>
     ensures { PrintsRandom (S.gives source.old source.new) (S.fails source.old source.new 16)
         (W.contents out.old) (W.contents out.new) result }
@@ -60,7 +58,7 @@ pub fn print_random<S: ByteSource, W: Write>(source: &mut S, out: &mut W) -> io:
     Ok(DONE)
 }
 
-/// Prints what a GUID is in its other form, and of a name its digits. Answers the status.
+/// Prints digits as text, and a text or a name as digits. Returns the exit status.
 pub fn print_word<W: Write>(out: &mut W, word: &str) -> io::Result<u8>
     ensures status { IfOk result (λ status. status ≡ (word_answer word.now (guid_of_digits word.now)).0) }
     ensures printed { OnOk result (Appends (W.contents out.old) (W.contents out.new)
@@ -78,7 +76,7 @@ pub fn print_word<W: Write>(out: &mut W, word: &str) -> io::Result<u8>
     Ok(DONE)
 }
 
-// The GUID of a text or of a name.
+// Returns the GUID of a text or of a name.
 fn find_guid(word: &str) -> Option<[u8; 16]>
     ensures { result ≡ guid_of_word word.now }
 {
@@ -88,7 +86,6 @@ fn find_guid(word: &str) -> Option<[u8; 16]>
     }
 }
 
-// Prints the line of a GUID's text.
 fn print_text<W: Write>(out: &mut W, guid: &[u8; 16]) -> io::Result<()>
     ensures { OnOk result (Appends (W.contents out.old) (W.contents out.new) (text_line guid.now)) }
 {
@@ -97,7 +94,6 @@ fn print_text<W: Write>(out: &mut W, guid: &[u8; 16]) -> io::Result<()>
     out.write_all(b"\n")
 }
 
-// Prints the line of a GUID's digits.
 fn print_digits<W: Write>(out: &mut W, guid: &[u8; 16]) -> io::Result<()>
     ensures { OnOk result (Appends (W.contents out.old) (W.contents out.new) (digits_line guid.now)) }
 {

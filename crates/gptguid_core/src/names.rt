@@ -1,4 +1,4 @@
-//! The types of partitions that have a name.
+//! The named types of partitions.
 
 ghost use Rattle.std.specs.Prelude.{◌≡◌, map, option_map};
 ghost use Rattle.gptguid_core.specs.Types.{guid_of_name, guid_of_number as guid_that_is_written};
@@ -6,7 +6,7 @@ ghost use Rattle.gptguid_core.specs.Types.{name_in, name_of_guid, number_in, typ
 
 use uuid::Uuid;
 
-// Each name, and the number that the text of its GUID writes without the hyphens.
+// Each name, and the text of its GUID without hyphens as a number.
 static TYPES: [(&str, u128); 223] = [
     ("efi", 0xC12A7328_F81F_11D2_BA4B_00A0C93EC93B),
     ("esp", 0xC12A7328_F81F_11D2_BA4B_00A0C93EC93B),
@@ -530,7 +530,7 @@ static TYPES: [(&str, u128); 223] = [
     ),
 ];
 
-/// Each type: its name, and the number that the text of its GUID writes without the hyphens.
+/// Returns the types: each name, and the text of its GUID without hyphens as a number.
 #[tactic(auto, unfolding(crate::specs::Types::types))]
 pub fn types() -> &'static [(&'static str, u128)]
     ensures { map (λ t. (t.0.now, t.1)) result.now ≡ types_by_name }
@@ -538,14 +538,14 @@ pub fn types() -> &'static [(&'static str, u128)]
     &TYPES
 }
 
-/// The GUID that such a number writes, as its 16 bytes stand on a disk.
+/// Returns the GUID, as on a disk, whose text without hyphens is this number.
 pub fn guid_of_number(number: u128) -> [u8; 16]
     ensures { result ≡ guid_that_is_written number }
 {
     Uuid::from_u128(number).to_bytes_le()
 }
 
-/// The GUID of the partition type that has this name, as its 16 bytes stand on a disk.
+/// Returns the GUID, as on a disk, of the type with this name.
 pub fn from_name(name: &str) -> Option<[u8; 16]>
     ensures { result ≡ guid_of_name name.now }
 {
@@ -553,7 +553,7 @@ pub fn from_name(name: &str) -> Option<[u8; 16]>
     Some(guid_of_number(number))
 }
 
-// The number of the type that has this name, among these.
+// Returns the number of the type with this name.
 fn find_number(types: &[(&str, u128)], name: &str) -> Option<u128>
     ensures { result ≡ number_in (map (λ t. (t.0.now, t.1)) types.now) name.now }
 {
@@ -565,14 +565,13 @@ fn find_number(types: &[(&str, u128)], name: &str) -> Option<u128>
     None
 }
 
-/// The first name of the partition type that has this GUID, whose 16 bytes stand as on a disk.
+/// Returns the first name of the type with this GUID, which is as on a disk.
 pub fn name_of(guid: &[u8; 16]) -> Option<&'static str>
     ensures { option_map (λ name. name.now) result ≡ name_of_guid guid.now }
 {
     find_name(types(), guid)
 }
 
-// The first name of the type that has this GUID, among these.
 fn find_name<'a>(types: &[(&'a str, u128)], guid: &[u8; 16]) -> Option<&'a str>
     ensures { option_map (λ name. name.now) result
         ≡ name_in (map (λ t. (t.0.now, t.1)) types.now) guid.now }
