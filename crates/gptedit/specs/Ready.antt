@@ -1,4 +1,4 @@
--- Facts of a task, each of which holds in one way at most.
+-- The facts that a task records have at most one proof each.
 use Rattle.std.specs.Prelude.{ℕ, Option, None, Some}
 use Rattle.std.specs.Coded.{Unit-prop, le_prop}
 use Rattle.gptedit_core.specs.Making.{has_random_for}

@@ -1,4 +1,4 @@
-//! A layout of the table as it is, written to a file before a change.
+//! The file of `--backup`: the old table as a layout, written before a change.
 
 use crate::failure::{Failure, refuse};
 use crate::looking::layout_text;
@@ -8,7 +8,7 @@ use std::io::Write;
 use std::rt::Files;
 use std::{fs, io};
 
-/// Refuses a backup that cannot be made: no table is read, or the file exists.
+/// Refuses `--backup` if no table is read or the file exists.
 pub fn refuse_backup<R: Files<File = File> + AllocGlobal>(
     rt: &R,
     image: &str,
@@ -30,7 +30,7 @@ pub fn refuse_backup<R: Files<File = File> + AllocGlobal>(
     Ok(())
 }
 
-/// Writes the table to a new file, as `dump` prints it, and syncs it.
+/// Writes the table to a new file, in the form that `dump` prints, and syncs it.
 pub fn write_backup<R: Files<File = File> + AllocGlobal>(
     rt: &R,
     image: &str,
@@ -44,7 +44,6 @@ pub fn write_backup<R: Files<File = File> + AllocGlobal>(
     }
 }
 
-// Writes a new file, and syncs it.
 fn write_new<R: Files<File = File>>(rt: &R, file: &str, bytes: &[u8]) -> io::Result<()> {
     let mut created = File::create_new(rt, file)?;
     created.write_all(bytes)?;

@@ -1,4 +1,4 @@
-//! A change is made: planned, guarded, written and told.
+//! Executes a change: plans, checks, writes and reports it.
 
 use crate::backup::{refuse_backup, write_backup};
 use crate::commands::How;
@@ -15,8 +15,8 @@ use std::fs::File;
 use std::io::Write;
 use std::rt::Files;
 
-/// Makes a change, or tells what it would do. All refusals come before the first write. Reports whether something
-/// was written.
+/// Makes a change, or with `is_dry` reports what it would do. Nothing is written before the last check. Returns whether
+/// something was written.
 pub fn change<R, W: Write>(
     rt: &R,
     out: &mut W,
@@ -50,7 +50,7 @@ where
     Ok(!how.is_dry && is_needed)
 }
 
-// Whether a crash while it is written may leave neither table: also where the old one has another sector size.
+// Reports whether a crash during the write may leave neither table. That includes an old table of another sector size.
 fn may_lose(look: &Look, task: &Task) -> bool {
     match &task.work {
         Work::Make(_) => look
@@ -61,7 +61,7 @@ fn may_lose(look: &Look, task: &Task) -> bool {
     }
 }
 
-// Writes the table, then the MBR, and clears the signatures of other sector sizes last.
+// Writes the table, then the MBR, and last clears signatures of other sector sizes.
 fn write(
     alloc: Global,
     image: &mut Image<'_>,

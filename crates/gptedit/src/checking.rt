@@ -1,4 +1,4 @@
-//! What is wrong with a table, with the commands that mend it.
+//! The command `check`: findings, and the commands that correct them.
 
 use crate::failure::Failure;
 use crate::image::Image;
@@ -13,8 +13,7 @@ use std::io::Write;
 use std::random::RandomSource;
 use std::rt::Files;
 
-/// Prints what is wrong with the table, and with it the command that mends it, if a dry run of that command is not
-/// refused. Returns the status to end with.
+/// Prints the findings, each with the first command whose dry run is not refused. Returns the exit status.
 pub fn check<R, W: Write>(
     rt: &R,
     out: &mut W,
@@ -40,7 +39,6 @@ where
     Ok(status_of(look, &findings))
 }
 
-// The status to end with.
 fn status_of(look: &Look, findings: &[Finding<'_>]) -> u8 {
     if look.table.is_none() {
         return 3;
@@ -48,14 +46,14 @@ fn status_of(look: &Look, findings: &[Finding<'_>]) -> u8 {
     if is_nothing_wrong(findings) { 0 } else { 1 }
 }
 
-// A command that was tried, and whether it is not refused.
+// A command whose dry run was tried, and whether it was accepted.
 #[derive(Drop)]
 struct Tried {
     way: Way,
     is_done: bool,
 }
 
-// Keeps the first of the ways of a finding whose dry run is not refused.
+// Keeps only the first command of a finding whose dry run is not refused.
 fn keep_way<R>(
     rt: &R,
     image: &mut Image<'_>,
@@ -88,7 +86,7 @@ where
     Ok(())
 }
 
-// Whether a dry run of the command is not refused.
+// Reports whether a dry run of the command is not refused.
 fn is_done<R>(rt: &R, image: &mut Image<'_>, look: &Look, way: &Way) -> Result<bool, Failure>
 where
     R: Files<File = File> + RandomSource + AllocGlobal + Clone + Drop,
@@ -104,7 +102,7 @@ where
     }
 }
 
-// The options of a command that has none.
+// The options of a dry run without other options.
 const PLAIN: Options<'static> = Options {
     is_dry: true,
     may_overwrite: false,

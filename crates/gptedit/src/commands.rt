@@ -1,4 +1,4 @@
-//! The commands.
+//! Runs each command.
 
 use crate::changing::change;
 use crate::checking::check;
@@ -20,12 +20,12 @@ use std::io::Write;
 use std::random::RandomSource;
 use std::rt::Files;
 
-/// How a change is told.
+/// How a change is reported.
 #[derive(Clone, Copy)]
 pub struct How {
-    /// That it is told as JSON.
+    /// Whether the report is JSON.
     pub is_json: bool,
-    /// That nothing is written.
+    /// Whether nothing is written.
     pub is_dry: bool,
 }
 
@@ -40,7 +40,7 @@ pub fn print_types<W: Write>(alloc: Global, out: &mut W, is_json: bool) -> Resul
     Ok(0)
 }
 
-/// Does what is asked of an image, and returns the status to end with.
+/// Runs a command on an image and returns the exit status.
 pub fn perform<R, W: Write>(rt: &R, out: &mut W, asked: ImageRequest<'_>) -> Result<u8, Failure>
 where
     R: Files<File = File> + RandomSource + Input + Eprint + AllocGlobal + Clone + Drop,
@@ -74,7 +74,7 @@ where
     }
 }
 
-// Does what only looks, and returns the status to end with.
+// Runs a command that only reads, and returns the exit status.
 fn read<R, W: Write>(
     rt: &R,
     out: &mut W,
@@ -103,7 +103,7 @@ where
     Ok(0)
 }
 
-// What is asked of a change beside what it is.
+// The request of a change, without the change itself.
 #[derive(Clone, Copy)]
 struct Asked<'a> {
     image: &'a str,
@@ -113,7 +113,6 @@ struct Asked<'a> {
 }
 
 impl Asked<'_> {
-    // How the image is opened.
     fn opening(&self) -> Opening {
         Opening {
             sector_size: self.sector_size,
@@ -127,7 +126,8 @@ impl Asked<'_> {
     }
 }
 
-// Makes a change, and says how the kernel is told of it. A layout is read first.
+// Makes a change, and names the command by which the kernel rereads the table. A layout is read before the image is
+// opened.
 fn write<R, W: Write>(
     rt: &R,
     out: &mut W,
@@ -154,7 +154,7 @@ where
     Ok(())
 }
 
-// The sector size in bytes that a file has for this change, if nothing else tells it. For others it is found.
+// Returns the sector size in bytes that this change assumes for a file if it is not known; `None` detects it.
 fn usual_size(change: &Change<'_>, parsed: Option<&Parsed>) -> Option<u64> {
     match (change, parsed) {
         (Change::New(_), _) => Some(making::USUAL_SIZE),
@@ -165,7 +165,7 @@ fn usual_size(change: &Change<'_>, parsed: Option<&Parsed>) -> Option<u64> {
     }
 }
 
-// Makes a change. Reports whether something was written.
+// Makes a change. Returns whether something was written.
 fn make<R, W: Write>(
     rt: &R,
     out: &mut W,
@@ -190,7 +190,6 @@ where
     change(rt, out, image, &look, &mut task, options, how)
 }
 
-// The task of a change.
 fn task_of<R>(
     rt: &R,
     image: &mut Image<'_>,
@@ -230,7 +229,7 @@ where
     }
 }
 
-// The task of a change where no table is read: `apply --create` makes one.
+// Returns the task if no table was read: only `apply --create` makes a table.
 fn task_without<R>(
     rt: &R,
     image: &mut Image<'_>,

@@ -8,7 +8,7 @@ use gptedit_core::{Job, Request};
 use gptguid_core::from_random;
 use std::random::RandomSource;
 
-/// Returns a random GUID, of version 4.
+/// Returns a random GUID of version 4.
 pub fn draw_guid<R: RandomSource + AllocGlobal>(rt: &R) -> Result<[u8; 16], Failure> {
     let mut drawn = [0; 16];
     match rt.fill_bytes(&mut drawn) {
@@ -17,7 +17,7 @@ pub fn draw_guid<R: RandomSource + AllocGlobal>(rt: &R) -> Result<[u8; 16], Fail
     }
 }
 
-/// Returns the request for this job, with a random GUID for each entry that is asked for.
+/// Returns the request for a job, with a random GUID for each requested entry.
 pub fn request_for<R: RandomSource + AllocGlobal>(rt: &R, job: Job) -> Result<Request, Failure>
     ensures { IfOk result has_random }
 {
@@ -34,7 +34,7 @@ pub fn request_for<R: RandomSource + AllocGlobal>(rt: &R, job: Job) -> Result<Re
     })
 }
 
-/// Returns so many random GUIDs.
+/// Returns `count` random GUIDs.
 pub fn draw_guids<R: RandomSource + AllocGlobal>(
     rt: &R,
     count: usize,

@@ -1,4 +1,4 @@
-//! Why a command is not done.
+//! Failures of a command.
 
 use gptedit_core::Refusal;
 use gptedit_report::{ErrorText, RefusalText};
@@ -8,12 +8,12 @@ use std::alloc::{AllocError, AllocFailed, Global};
 use std::io::ErrorKind;
 use std::{fmt, io};
 
-/// Why a command is not done.
+/// The reason why a command failed.
 #[derive(Drop, Debug)]
 pub enum Failure {
-    /// It was refused: the text says why, and what to do.
+    /// The command was refused; the text has the reason and a remedy.
     Refused(String),
-    /// No table can be read, or a DOS disk was to be changed.
+    /// No table can be read, or the disk has a DOS partition table.
     NoTable(String),
     /// The image is in use or locked.
     Busy(String),
@@ -21,12 +21,12 @@ pub enum Failure {
     Device(String),
     /// Standard output failed.
     Output(io::Error),
-    /// There was no memory.
+    /// Out of memory.
     OutOfMemory,
 }
 
 impl Failure {
-    /// Returns the status to end with.
+    /// Returns the exit status.
     pub fn status(&self) -> u8 {
         match self {
             Failure::Refused(_) | Failure::Output(_) | Failure::OutOfMemory => 1,
@@ -37,7 +37,7 @@ impl Failure {
     }
 }
 
-/// What the user is told, without the last newline.
+/// The message, without the last newline.
 impl fmt::Display for Failure {
     fn fmt<W: fmt::Write>(&self, f: &mut fmt::Formatter<W>) -> fmt::Result {
         match self {
@@ -74,12 +74,12 @@ impl<T: Drop> From<AllocFailed<T>> for Failure {
     }
 }
 
-/// Returns what the user is told of this, as of an image or a file.
+/// Returns the message `text` about `of`, an image or a file.
 pub fn text_of<D: fmt::Display>(alloc: Global, of: &str, text: &D) -> Result<String, AllocError> {
     format!(in alloc; "{}: {text}", Escaped(of))
 }
 
-/// Returns a refusal for what the text says of this, as of an image or a file.
+/// Returns a refusal with the message `text` about `of`, an image or a file.
 pub fn refuse<D: fmt::Display>(alloc: Global, of: &str, text: &D) -> Failure {
     match text_of(alloc, of, text) {
         Ok(text) => Failure::Refused(text),
@@ -103,7 +103,7 @@ pub fn refuse_busy<D: fmt::Display>(alloc: Global, of: &str, text: &D) -> Failur
     }
 }
 
-/// Returns the failure of the disk.
+/// Returns the failure that the disk failed.
 pub fn refuse_device<D: fmt::Display>(alloc: Global, of: &str, text: &D) -> Failure {
     match text_of(alloc, of, text) {
         Ok(text) => Failure::Device(text),
@@ -111,7 +111,7 @@ pub fn refuse_device<D: fmt::Display>(alloc: Global, of: &str, text: &D) -> Fail
     }
 }
 
-/// Returns the failure for an error of the library on this image.
+/// Returns the failure for an error of the library.
 pub fn refuse_error(alloc: Global, image: &str, error: &Error) -> Failure {
     let text = ErrorText { error, image };
     match error {
@@ -122,7 +122,7 @@ pub fn refuse_error(alloc: Global, image: &str, error: &Error) -> Failure {
     }
 }
 
-/// Returns the refusal of what was asked of a table on this image.
+/// Returns the refusal of a requested change of `table`.
 pub fn refuse_asked(
     alloc: Global,
     image: &str,

@@ -1,4 +1,4 @@
-//! An image that is open, and the look at it.
+//! An open image.
 
 use crate::failure::{Failure, refuse, refuse_busy, refuse_device, refuse_error, refuse_no_table};
 use gptedit_busy::{Lock, OpenError, Opened};
@@ -14,12 +14,12 @@ use std::io::ErrorKind;
 use std::rt::Files;
 use std::{fmt, io};
 
-/// An image that is open.
+/// An open image.
 #[derive(Drop)]
 pub struct Image<'a> {
-    /// The image or device, as it was named.
+    /// The path of the image or device, as given by the user.
     pub name: &'a str,
-    /// The disk and the device that it is.
+    /// The disk, and the device that it is.
     pub opened: Opened,
     // The sector size in bytes, if it is known before the table is read.
     known_size: Option<u64>,
@@ -28,17 +28,16 @@ pub struct Image<'a> {
 /// How an image is opened.
 #[derive(Clone, Copy)]
 pub struct Opening {
-    /// The sector size in bytes that was asked for.
+    /// The sector size in bytes that was requested.
     pub sector_size: Option<u64>,
-    /// What is done where another program has the lock.
+    /// How the lock is taken.
     pub lock: Lock,
     /// Whether it is opened for writing.
     pub writes: bool,
 }
 
 impl<'a> Image<'a> {
-    /// Opens an image. What is no file and no block device is refused, and so is an image that holds a disk in
-    /// another format.
+    /// Opens an image. Refuses anything but a regular file or block device, and an image in a format other than raw.
     pub fn open<R: Files<File = File> + AllocGlobal + Eprint + Clone + Drop>(
         rt: &R,
         name: &'a str,
@@ -61,7 +60,7 @@ impl<'a> Image<'a> {
         })
     }
 
-    /// Looks at the disk. The sector size is the one that is known, else the usual one, else it is found.
+    /// Inspects the disk. The sector size is the known one, else `usual_size`, else it is detected.
     pub fn look(&mut self, alloc: Global, usual_size: Option<u64>) -> Result<Look, Failure> {
         let sector_size = self.known_size.or(usual_size);
         match look(alloc, &mut self.opened.disk, sector_size) {
@@ -76,17 +75,16 @@ impl<'a> Image<'a> {
         self.known_size
     }
 
-    /// Returns the failure that no copy of the table is good: what is wrong with each, and what can be read.
+    /// Returns the failure that no copy of the table is good, with the fault of each and what can be salvaged.
     pub fn no_table(&mut self, alloc: Global, look: &Look) -> Failure {
         self.without_table(alloc, look, "")
     }
 
-    /// Returns the same failure of `apply`, which may make a table.
+    /// Returns the same failure for `apply`, and mentions `--create`.
     pub fn no_table_to_apply(&mut self, alloc: Global, look: &Look) -> Failure {
         self.without_table(alloc, look, "\nif no table was there, --create makes one")
     }
 
-    // That no copy of the table is good, and what else is to be said.
     fn without_table(&mut self, alloc: Global, look: &Look, more: &str) -> Failure {
         let salvaged = match salvage(alloc, &mut self.opened.disk, self.known_size) {
             Ok(salvaged) => salvaged,
@@ -103,8 +101,8 @@ impl<'a> Image<'a> {
         }
     }
 
-    /// Refuses a change of a device whose sector size cannot be read, and of an image of which a copy of the
-    /// table could not be read as the disk failed. A copy that ends after the disk is no such copy.
+    /// Refuses to change a device of unknown sector size, and a disk that failed while a copy of the table was read. A
+    /// copy past the end of the disk is not such a failure.
     pub fn refuse_unknown(&self, alloc: Global, look: &Look) -> Result<(), Failure> {
         if self.opened.device.is_some() && self.known_size.is_none() {
             return Err(refuse(alloc, self.name, &NoSectorSize));
@@ -122,7 +120,6 @@ impl<'a> Image<'a> {
     }
 }
 
-// The failure that an image cannot be opened.
 fn not_opened(alloc: Global, name: &str, error: &OpenError) -> Failure {
     match error {
         OpenError::OutOfMemory => Failure::OutOfMemory,
@@ -131,7 +128,7 @@ fn not_opened(alloc: Global, name: &str, error: &OpenError) -> Failure {
     }
 }
 
-// Refuses an image that is not a disk byte for byte.
+// Refuses an image that is not raw.
 fn refuse_other_formats(alloc: Global, image: &str, disk: &mut FileDisk) -> Result<(), Failure> {
     match find_format(alloc, disk) {
         Ok(None) => Ok(()),
@@ -140,7 +137,7 @@ fn refuse_other_formats(alloc: Global, image: &str, disk: &mut FileDisk) -> Resu
     }
 }
 
-// That an image is a disk in another format, and what to do.
+// Message: the image is in another format.
 #[derive(Clone, Copy)]
 struct OtherFormat<'a> {
     format: &'static str,
@@ -162,7 +159,7 @@ impl fmt::Display for OtherFormat<'_> {
     }
 }
 
-// That a header counts too many entries.
+// Message: a header counts too many entries.
 #[derive(Clone, Copy)]
 struct TooMany(u32);
 
@@ -177,7 +174,7 @@ impl fmt::Display for TooMany {
     }
 }
 
-// That the sector size of a device cannot be read, and what to do.
+// Message: the sector size of a device cannot be read.
 #[derive(Clone, Copy)]
 struct NoSectorSize;
 
@@ -188,7 +185,7 @@ impl fmt::Display for NoSectorSize {
     }
 }
 
-// That the disk failed in the reading of a copy, and what to do.
+// Message: the disk failed while a copy was read.
 #[derive(Clone, Copy)]
 struct FailedReading<'a>(&'a io::Error);
 

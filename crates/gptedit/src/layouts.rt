@@ -1,4 +1,4 @@
-//! Layouts, read from files.
+//! Reads layouts from files.
 
 use crate::failure::{Failure, refuse};
 use gptedit_core::{Layout, Mode};
@@ -11,8 +11,8 @@ use std::io;
 use std::io::{ErrorKind, Read};
 use std::rt::Files;
 
-/// Reads a layout from a file; `-` is standard input. It is read before the image is opened, so that the image is
-/// not locked meanwhile, and is not taken for a standard input that is closed.
+/// Reads a layout or an `sfdisk` script from a file; `-` is standard input. Call it before the image is opened.
+/// Otherwise the image is locked while standard input is read, and may get the descriptor of a closed standard input.
 pub fn read_asked<R: Files<File = File> + Input + AllocGlobal>(
     rt: &R,
     file: &str,
@@ -30,7 +30,6 @@ pub fn read_asked<R: Files<File = File> + Input + AllocGlobal>(
     }
 }
 
-// The text of a file, or of standard input.
 fn read_text<R: Files<File = File> + Input + AllocGlobal>(
     rt: &R,
     file: &str,
@@ -57,10 +56,10 @@ fn read_text<R: Files<File = File> + Input + AllocGlobal>(
     }
 }
 
-// How many bytes are read at once.
+// The length of each read in bytes.
 const PIECE: usize = 65536;
 
-// The bytes that a reader gives: all, or the first ones, more than a layout has at most.
+// Reads up to the end, or until there are more than `MAX_LAYOUT_BYTES`.
 fn read_bytes<R: Read>(alloc: Global, reader: &mut R) -> io::Result<Vec<u8>> {
     let mut bytes = Vec::new(alloc);
     let mut piece = vec![in alloc; 0; PIECE]?;
@@ -81,7 +80,6 @@ fn read_bytes<R: Read>(alloc: Global, reader: &mut R) -> io::Result<Vec<u8>> {
     Ok(bytes)
 }
 
-// That a file cannot be read.
 fn not_read(alloc: Global, file: &str, error: io::Error) -> Failure {
     match error.kind() {
         ErrorKind::OutOfMemory => Failure::OutOfMemory,
@@ -89,7 +87,6 @@ fn not_read(alloc: Global, file: &str, error: io::Error) -> Failure {
     }
 }
 
-// That a text says no layout.
 fn not_a_layout(alloc: Global, file: &str, error: LayoutError) -> Failure {
     match error {
         LayoutError::OutOfMemory => Failure::OutOfMemory,
@@ -97,9 +94,9 @@ fn not_a_layout(alloc: Global, file: &str, error: LayoutError) -> Failure {
     }
 }
 
-/// Returns what a layout asks of a table. A layout whose header differs from the one of the table is refused.
+/// Returns the layout to apply to a table. Refuses a layout whose header does not match the table.
 ///
-/// Where it is to replace the table, the partitions that it leaves out are removed.
+/// With `is_replacing`, the layout removes the partitions that it does not list.
 pub fn layout_for(
     alloc: Global,
     file: &str,
@@ -118,7 +115,7 @@ pub fn layout_for(
     Ok(layout)
 }
 
-// The numbers of the partitions that the layout leaves out.
+// Returns the numbers of the partitions that the layout does not list.
 fn find_left_out(alloc: Global, table: &GPT, layout: &Layout) -> Result<Vec<u32>, Failure> {
     let mut asked = BTreeSet::new(alloc);
     for entry in layout.asked.iter() {

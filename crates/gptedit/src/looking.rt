@@ -1,4 +1,4 @@
-//! The commands that only look.
+//! The commands that only read.
 
 use crate::failure::{Failure, refuse_asked, refuse_error};
 use crate::image::Image;
@@ -14,7 +14,7 @@ use gptman::GPT;
 use std::alloc::Global;
 use std::io::Write;
 
-/// Says on standard error that the disk has a DOS partition table, if that is what its first sector is.
+/// Warns on standard error if the disk has a DOS partition table.
 pub fn warn_of_dos<R: Eprint>(rt: &R, image: &Image<'_>, first_sector: &FirstSector) {
     if first_sector.kind == MbrKind::Dos {
         let name = Escaped(image.name);
@@ -24,7 +24,7 @@ pub fn warn_of_dos<R: Eprint>(rt: &R, image: &Image<'_>, first_sector: &FirstSec
     }
 }
 
-/// Says it of an image at which nothing else was looked.
+/// Reads the first sector and warns as [`warn_of_dos`] does, for a command that does not inspect the disk otherwise.
 pub fn look_for_dos<R: Eprint + AllocGlobal>(rt: &R, image: &mut Image<'_>) -> Result<(), Failure> {
     match read_first_sector(rt.alloc(), &mut image.opened.disk, USUAL_SIZE) {
         Ok(first_sector) => {
@@ -54,13 +54,13 @@ pub fn show<W: Write>(
     Ok(())
 }
 
-/// Returns what both copies are.
+/// Returns the state of both copies.
 pub fn state_of(look: &Look) -> CopiesState<'_> {
     let copies = &look.copies;
     CopiesState::new(&copies.primary, &copies.backup, copies.are_same)
 }
 
-/// Prints the table as JSON, where both copies are so.
+/// Prints the table as JSON, with the given state of both copies.
 pub fn print_state_json<W: Write>(
     out: &mut W,
     alloc: Global,
@@ -77,7 +77,7 @@ pub fn print_state_json<W: Write>(
     Ok(())
 }
 
-// The runs of free sectors that are not the table's own, each from a multiple of so many sectors.
+// Returns the free ranges outside the table's own sectors, each starting at a multiple of `align` sectors.
 fn free_in(
     alloc: Global,
     image: &Image<'_>,
@@ -103,7 +103,7 @@ fn free_in(
     }
 }
 
-/// Prints the runs of free sectors, each from a multiple of so much.
+/// Prints the free ranges, each starting at a multiple of `align`.
 pub fn free<W: Write>(
     out: &mut W,
     alloc: Global,
@@ -129,7 +129,7 @@ pub fn free<W: Write>(
     Ok(())
 }
 
-// The alignment in sectors.
+// Returns the alignment in sectors.
 fn align_in(alloc: Global, image: &str, table: &GPT, amount: Amount) -> Result<u64, Failure> {
     let sector_size = table.sector_size.max(1);
     let refusal = match amount.sectors(sector_size) {
@@ -168,7 +168,7 @@ pub fn layout_text(alloc: Global, image: &str, table: &GPT) -> Result<String, Fa
     Ok(write_layout(alloc, &layout, &Header::of(table))?)
 }
 
-/// Prints what can be read of each copy of a table, good or not. Returns the status to end with.
+/// Prints what can be read of each copy of the table, good or not. Returns the exit status.
 pub fn print_salvage<W: Write>(
     out: &mut W,
     alloc: Global,

@@ -1,9 +1,8 @@
-//! The program `gptedit COMMAND IMAGE ..`: shows and edits the GUID partition table of a disk image or a
-//! block device.
+//! The program `gptedit COMMAND IMAGE ..`: shows and edits the GUID partition table of a disk image or a block device.
 //!
-//! Words, texts and reports are those of the libraries `gptedit_words`, `gptedit_text` and `gptedit_report`.
-//! `gptedit_busy` opens the image, `gptedit_look` looks at it, and `gptedit_core` makes one change of a table.
-//! Here a change is planned as a dry run, refused if it would cost something that nobody named, made, and told.
+//! `gptedit_words` parses the command line, `gptedit_text` layouts, and `gptedit_report` prints. `gptedit_busy` opens
+//! the image, `gptedit_look` inspects it, and `gptedit_core` changes the table. This crate plans a change as a dry run,
+//! refuses it if it would overwrite something without the option for it, makes it, and reports it.
 #![tactic(auto)]
 
 mod backup;
@@ -35,7 +34,7 @@ use std::random::RandomSource;
 use std::rt::{Env, Files};
 use std::{env, io};
 
-/// How many bytes are printed in one piece. A table of 128 entries has room, whatever their names.
+/// The capacity of the output buffer in bytes. A table of 128 entries fits, whatever the names.
 const PIECE: usize = 65536;
 
 fn main(rt: HostRuntime) -> ExitCode {
@@ -48,8 +47,8 @@ fn main(rt: HostRuntime) -> ExitCode {
     }
 }
 
-// Does what the words ask for, and returns the status to end with: 0 if it is done, and of `check` if nothing is
-// wrong; 2 if the words ask for nothing; else that of the failure.
+// Runs the command line and returns the exit status: that of the command, else that of the parser (0 for `--help`, 2
+// for a usage error).
 fn run<R>(rt: &R) -> Result<u8, Failure>
 where
     R: Env
@@ -87,7 +86,7 @@ where
     Ok(status)
 }
 
-// Says how an image is named whose path is not UTF-8.
+// Explains how to name an image whose path is not UTF-8.
 fn eprint_not_utf8<R: Eprint>(rt: &R) {
     let _ = eprintln!(rt; "gptedit: a word is not UTF-8");
     let _ = eprintln!(rt; "let the shell open such a path: `gptedit show /dev/fd/3 3<>PATH`");

@@ -1,4 +1,4 @@
-//! A new table.
+//! New tables.
 
 use crate::drawing::{draw_guid, draw_guids};
 use crate::failure::{Failure, refuse, refuse_error};
@@ -12,11 +12,11 @@ use gptman::sizes::{DEFAULT_ENTRY_COUNT, SECTOR_SIZES};
 use std::alloc::Global;
 use std::random::RandomSource;
 
-/// The sector size in bytes of a file, if nothing tells it.
+/// The sector size in bytes that is assumed for a file.
 pub const USUAL_SIZE: u64 = 512;
 
-/// Returns the task of `new`. Where a table is read, the new one is written over it; a crash leaves one of the
-/// two, unless there is no order of writing that does.
+/// Returns the task of `new`. A table that was read is overwritten so that a crash leaves the old or the new one,
+/// unless no order of writes does.
 pub fn new<R: RandomSource + AllocGlobal>(
     rt: &R,
     image: &mut Image<'_>,
@@ -51,7 +51,6 @@ pub fn new<R: RandomSource + AllocGlobal>(
     Ok(task_of(Work::Remake(anew)))
 }
 
-// The task that writes a new table.
 fn task_of(work: Work) -> Task {
     Task {
         work,
@@ -60,7 +59,7 @@ fn task_of(work: Work) -> Task {
     }
 }
 
-// Whether no order of writing keeps a copy of the old table or of the new one.
+// Reports whether no order of writes keeps a copy of the old or the new table.
 fn is_unsafe(
     alloc: Global,
     image: &mut Image<'_>,
@@ -77,7 +76,7 @@ fn is_unsafe(
     }
 }
 
-/// Returns the task of `apply --create` where no table is read: a new table with what the layout asks for.
+/// Returns the task of `apply --create` if no table was read: a new table with the partitions of the layout.
 pub fn create<R: RandomSource + AllocGlobal>(
     rt: &R,
     look: &Look,
@@ -100,7 +99,7 @@ pub fn create<R: RandomSource + AllocGlobal>(
     Ok(task_of(Work::Make(Anew::new(creation))))
 }
 
-/// Returns the sector size in bytes that a layout says, if that is one.
+/// Returns the sector size in bytes that a layout states, if it is a supported one.
 pub fn size_in(header: &Header) -> Option<u64> {
     match header.sector_size {
         Some(bytes) if SECTOR_SIZES.contains(&bytes) => Some(bytes),

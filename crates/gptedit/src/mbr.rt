@@ -1,4 +1,4 @@
-//! The MBR as part of a change.
+//! The MBR during a change.
 
 use crate::failure::{Failure, refuse_device, refuse_error};
 use crate::image::Image;
@@ -6,8 +6,8 @@ use gptedit_look::{Look, MbrChange, MbrKind, Purpose, mend_mbr};
 use gptman::{Disk, GPT};
 use std::alloc::Global;
 
-/// Mends the protective MBR, or makes one, or only tells what would become of it. `is_changed` is whether the
-/// table is written.
+/// Corrects or writes the protective MBR, or with `is_dry` only returns what would happen. `is_changed` says whether
+/// the table is written.
 pub fn change_mbr(
     alloc: Global,
     image: &mut Image<'_>,
@@ -33,7 +33,7 @@ pub fn change_mbr(
     }
 }
 
-// Writes a protective MBR over whatever is in its 66 bytes.
+// Overwrites the 66 bytes with a protective MBR.
 fn make_mbr(
     alloc: Global,
     image: &mut Image<'_>,

@@ -1,10 +1,10 @@
-//! The sectors of the entries of both copies, as their headers say.
+//! The sectors of the entries of both copies, according to their headers.
 
 use gptedit_look::{Look, Obstacle};
 use gptman::copy::WholeCopy;
 use gptman::{Disk, GPT, Result};
 
-/// The sectors of the entries of both copies: the first one of each, and the one after its last.
+/// The sectors of the entries of each good copy: the first one, and the one after the last.
 #[derive(Clone, Copy)]
 pub struct Own {
     primary: Option<(u64, u64)>,
@@ -12,7 +12,7 @@ pub struct Own {
 }
 
 impl Own {
-    /// Returns those of the good copies of a look.
+    /// Returns those of the good copies.
     pub fn of(look: &Look) -> Own {
         let sector_size = look.sector_size.max(1);
         Own {
@@ -34,7 +34,6 @@ impl Own {
     }
 }
 
-// The sectors of the entries of a copy.
 fn range_of(copy: &Result<WholeCopy>, sector_size: u64) -> Option<(u64, u64)> {
     let Ok(copy) = copy else {
         return None;
@@ -48,15 +47,14 @@ fn range_of(copy: &Result<WholeCopy>, sector_size: u64) -> Option<(u64, u64)> {
     Some((first, first.saturating_add(sectors)))
 }
 
-/// Reads the bytes of the disk from this byte on.
+/// Reads bytes from byte `at` of the disk on.
 pub fn read_at<D: Disk>(disk: &mut D, at: u64, bytes: &mut [u8]) -> Result<()> {
     disk.seek_start(at)?;
     disk.read_exact(bytes)?;
     Ok(())
 }
 
-/// Reports whether these sectors, in the place of the other copy's entries, hold the entries of the copy whose
-/// header this table has.
+/// Reports whether the sectors of `range`, in the place of the other copy's entries, hold the entries of the own copy.
 pub fn has_same_entries<D: Disk>(
     disk: &mut D,
     look: &Look,
@@ -90,7 +88,7 @@ pub fn has_same_entries<D: Disk>(
     Ok(true)
 }
 
-// How many bytes are compared at once: those of the smallest sector.
+// The length of each comparison in bytes, the smallest sector size.
 const PIECE: usize = 512;
 
 const PIECE_BYTES: u64 = 512;

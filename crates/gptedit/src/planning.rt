@@ -1,4 +1,4 @@
-//! A change is planned: what it would make of the table, and whether that may be written.
+//! Plans a change: what it makes of the table, and whether that may be written.
 
 use crate::failure::{Failure, refuse, refuse_asked, refuse_busy, refuse_error, refuse_no_table};
 use crate::image::Image;
@@ -22,27 +22,27 @@ use std::fmt;
 use std::fs::File;
 use std::rt::Files;
 
-/// What a change makes of the table. Nothing of it is refused.
+/// An accepted change.
 #[derive(Drop)]
 pub struct Plan {
-    /// The table that is there, if one is read.
+    /// The table before the change, if one was read.
     pub was: Option<GPT>,
-    /// The table that is there then.
+    /// The table after the change.
     pub next: GPT,
-    /// Whether it is written.
+    /// Whether the table is written.
     pub is_changed: bool,
-    /// What becomes of the MBR.
+    /// The change of the MBR.
     pub mbr: MbrChange,
-    /// What `repair` replaces in the place of a broken copy, if that is something.
+    /// The data that `repair` replaces in the place of a broken copy, if anything.
     pub replaced: Option<Replaced>,
 }
 
-/// What `repair` replaces in the place of a broken copy.
+/// The data that `repair` replaces in the place of a broken copy.
 #[derive(Clone, Copy)]
 pub struct Replaced {
     /// The sectors.
     pub obstacle: Obstacle,
-    /// What is there.
+    /// Their contents.
     pub remains: Remains,
 }
 
@@ -53,7 +53,7 @@ impl Plan {
     }
 }
 
-/// Plans a task as a dry run, and refuses what may not be written.
+/// Plans a task as a dry run, and refuses a change that may not be written.
 pub fn make_plan<R>(
     rt: &R,
     image: &mut Image<'_>,
@@ -87,7 +87,7 @@ where
     Ok(plan)
 }
 
-// What stands in the place of a broken copy, where only `repair` writes. The entries of the good copy are nothing.
+// Returns what `repair` replaces in the place of a broken copy. Entries equal to those of the good copy do not count.
 fn find_replaced(
     alloc: Global,
     image: &mut Image<'_>,
@@ -106,7 +106,7 @@ fn find_replaced(
     }
 }
 
-// What the task would make of the table.
+// Runs the task as a dry run.
 fn draft(
     alloc: Global,
     image: &mut Image<'_>,
@@ -140,7 +140,7 @@ fn draft(
     }
 }
 
-// The refusal of a task. Where partitions do not fit on a disk that was cut, it says what helps.
+// Returns the refusal of a task. If partitions do not fit on a shortened disk, it includes a remedy.
 fn refuse_task(
     alloc: Global,
     image: &str,
@@ -165,7 +165,7 @@ pub fn copy_of(table: &GPT) -> Result<GPT, Failure> {
     }
 }
 
-// Refuses a table that counts sectors of its own as usable. Partitions in them may be removed.
+// Refuses a table whose usable sectors include its own. Removing the partitions there is permitted.
 fn refuse_bounds(
     alloc: Global,
     image: &str,
@@ -185,21 +185,21 @@ fn refuse_bounds(
     Err(refuse(alloc, image, &OverBounds { edges, image }))
 }
 
-// Whether the backup header is in the last sector of the disk. Else the disk has another length than the table.
+// Reports whether the disk has the length of the table: the backup header is in its last sector.
 fn ends_with_disk(table: &GPT, look: &Look) -> bool {
     let sectors = look.size.checked_div(table.sector_size).unwrap_or(0);
     let last = sectors.saturating_sub(1);
     table.header.primary_lba.max(table.header.backup_lba) == last
 }
 
-// Whether a partition is in a sector of the table itself.
+// Reports whether a partition includes a sector of the table itself.
 fn has_partition_over(table: &GPT, edges: Edges) -> bool {
     table.iter().any(|(_, entry)| {
         entry.is_used() && (entry.starting_lba < edges.least || edges.most < entry.ending_lba)
     })
 }
 
-// That a table counts sectors of its own as usable, and what to do.
+// Message: the usable sectors include those of the table.
 #[derive(Clone, Copy)]
 struct OverBounds<'a> {
     edges: Edges,
@@ -214,7 +214,7 @@ impl fmt::Display for OverBounds<'_> {
     }
 }
 
-// Refuses to overwrite what nobody named.
+// Refuses to overwrite data without `--overwrite`.
 fn refuse_obstacles(
     alloc: Global,
     image: &mut Image<'_>,
@@ -242,7 +242,7 @@ fn refuse_obstacles(
     Err(refuse_asked(alloc, image.name, was, size, &Refusal::NoSafeOrder))
 }
 
-// Refuses what would lose what is on partitions, or in sectors that become usable.
+// Refuses to lose data on partitions, or in sectors that become usable.
 fn refuse_losses(
     alloc: Global,
     image: &mut Image<'_>,
@@ -277,7 +277,7 @@ fn refuse_dos(alloc: Global, image: &str, look: &Look) -> Result<(), Failure> {
     Err(refuse_obstacle(alloc, image, look, Purpose::Edit, &replaced))
 }
 
-// The refusal for what is in the way of a write.
+// Returns the refusal for an obstacle to a write.
 fn refuse_obstacle(
     alloc: Global,
     image: &str,
@@ -299,7 +299,7 @@ fn refuse_obstacle(
     }
 }
 
-/// Refuses a change that a use of the image or of one of its partitions does not allow.
+/// Refuses a change that a use of the image or of a partition does not permit.
 pub fn refuse_users<R>(
     rt: &R,
     image: &Image<'_>,
@@ -319,7 +319,7 @@ where
     }
 }
 
-// Refuses partitions that become shorter than what is on them.
+// Refuses to make partitions shorter than their contents.
 fn refuse_shortening(
     alloc: Global,
     image: &mut Image<'_>,
@@ -332,7 +332,7 @@ fn refuse_shortening(
     Ok(())
 }
 
-// Refuses a partition that becomes shorter than what is on it.
+// Refuses to make a partition shorter than its contents.
 fn refuse_shorter(
     alloc: Global,
     image: &mut Image<'_>,
@@ -366,7 +366,7 @@ fn refuse_shorter(
     Ok(())
 }
 
-// Refuses sectors that become usable and are not zero, unless they were a copy's.
+// Refuses to make sectors usable that are not zero, unless they held the entries of a copy.
 fn refuse_freed(
     alloc: Global,
     image: &mut Image<'_>,
@@ -388,7 +388,7 @@ fn refuse_freed(
     Ok(())
 }
 
-// The first sector among these that is not zero, and is not one of the entries of a copy.
+// Returns the first sector of the range that is not zero and holds no entries of a good copy.
 fn find_data(
     alloc: Global,
     image: &mut Image<'_>,
@@ -418,7 +418,7 @@ fn find_data(
 // The largest sector size in bytes.
 const LARGEST: u64 = 4096;
 
-// That a sector becomes usable and is not zero, and what lifts the refusal.
+// Message: a sector that is not zero would become usable.
 #[derive(Clone, Copy)]
 struct Freed(u64);
 

@@ -1,4 +1,4 @@
-//! What is in the place of a broken copy, where only `repair` writes.
+//! The contents of the place of a broken copy, which only `repair` overwrites.
 
 use crate::failure::{Failure, refuse_error};
 use crate::image::Image;
@@ -9,7 +9,7 @@ use gptedit_salvage::{FoundCopy, salvage};
 use gptman::GPT;
 use std::alloc::Global;
 
-/// Returns what an obstacle is in the place of the copy other than that of the table.
+/// Returns what an obstacle in the place of the other copy's entries is: the same entries, other entries, or unknown.
 pub fn find_remains(
     alloc: Global,
     image: &mut Image<'_>,
@@ -42,7 +42,7 @@ pub fn find_remains(
     }
 }
 
-// Whether the entries of a copy are in this sector, and most of them make sense.
+// Reports whether a copy has its entries at this sector, and more than half of them are sensible.
 fn has_entries_at(copy: &FoundCopy, lba: u64) -> bool {
     copy.entries_lba == Some(lba) && copy.count_sensible() > copy.entries.len() / 2
 }

@@ -1,4 +1,4 @@
-//! A change of a table, which is planned and then made.
+//! A task: a change of a table that is run dry first, then written.
 
 ghost use Rattle.std.specs.Prelude.{◌<◌, length};
 ghost use Rattle.gptedit.specs.Ready.{asks_random-prop, has_random_for-prop};
@@ -12,27 +12,27 @@ use gptedit_look::Purpose;
 use gptman::{GPT, Result};
 use std::alloc::Global;
 
-/// A change of a table: what is done, and what for.
+/// A change of a table, and its purpose.
 #[derive(Drop)]
 pub struct Task {
-    /// What is done.
+    /// The change.
     pub work: Work,
-    /// What the table is written for.
+    /// The purpose of the write.
     pub purpose: Purpose,
-    /// Whether the job takes partitions away, and gives no sectors to any.
+    /// Whether the layout requests no partition, so that it can only remove some.
     pub only_removes: bool,
 }
 
-/// What is done to a table.
+/// The kinds of change.
 #[derive(Drop)]
 pub enum Work {
-    /// Its entries are changed.
+    /// Changes entries.
     Edit(Edit),
-    /// It is fitted to the disk.
+    /// Fits the table to the disk.
     Grow(Growth),
-    /// A new one is written over it.
+    /// Overwrites the table that was read with a new one.
     Remake(Anew),
-    /// A new one is written, and none is read.
+    /// Writes a new table; none was read.
     Make(Anew),
 }
 
@@ -50,15 +50,15 @@ pub struct Anew {
     ghost ready: { has_random_in creation } by { has_random_for-prop creation.layout (length creation.random.items) },
 }
 
-/// What a task makes of a table.
+/// The result of a task.
 #[derive(Drop)]
 pub enum Became {
-    /// It is another one, or the first one.
+    /// The table changes; `was` is `None` if none was read.
     Changed {
         was: Option<GPT>,
         next: GPT,
     },
-    /// It is as it was.
+    /// The table stays unchanged.
     Unchanged {
         table: GPT,
     },
@@ -70,7 +70,7 @@ pub enum Became {
 }
 
 impl Task {
-    /// Does the task on the image's disk, or only tells what it would do.
+    /// Runs the task on the disk of the image, or with `is_dry` returns its result without a write.
     pub fn run(
         &mut self,
         alloc: Global,
@@ -92,7 +92,7 @@ impl Task {
         }
     }
 
-    /// Reports whether a crash while it is written may leave neither the old table nor the new one.
+    /// Reports whether a crash during the write may leave neither the old table nor the new one.
     pub fn may_lose(&self) -> bool {
         match &self.work {
             Work::Remake(anew) => anew.creation.may_lose,
@@ -101,7 +101,6 @@ impl Task {
     }
 }
 
-// Fits the table to the disk.
 fn run_growth(
     alloc: Global,
     image: &mut Image<'_>,
@@ -118,7 +117,7 @@ fn run_growth(
 }
 
 impl Edit {
-    /// Returns the change that a request asks for.
+    /// Returns the change for a request.
     pub fn new(request: Request) -> Edit
         requires { has_random request }
     {
@@ -142,19 +141,19 @@ impl Edit {
 }
 
 impl Anew {
-    /// Returns the new table that is asked for.
+    /// Returns the new table for a creation.
     pub fn new(creation: Creation) -> Anew
         requires { has_random_in creation }
     {
         Anew { creation }
     }
 
-    /// Lets a crash leave neither table.
+    /// Permits an order of writes in which a crash may leave neither table.
     pub fn let_lose(&mut self) {
         self.creation.may_lose = true;
     }
 
-    /// Writes it over the table that is there.
+    /// Overwrites the table that is on the disk.
     pub fn remake(
         &mut self,
         alloc: Global,
@@ -192,7 +191,6 @@ impl Anew {
     }
 }
 
-// What a task made of a table that was read.
 fn read_outcome(outcome: Outcome) -> Became {
     match outcome {
         Outcome::Changed { was, next } => Became::Changed {

@@ -1,4 +1,4 @@
-//! The task of each command that changes a table that is there.
+//! The tasks of the commands that change an existing table.
 
 use crate::drawing::{draw_guid, request_for};
 use crate::failure::Failure;
@@ -34,7 +34,7 @@ pub fn grow() -> Task {
     fit(Bounds::Kept, Purpose::Fit)
 }
 
-// The task that gives the table such bounds.
+// Returns the task that sets the bounds of the usable sectors.
 fn fit(bounds: Bounds, purpose: Purpose) -> Task {
     let growth = Growth {
         bounds,
@@ -47,7 +47,7 @@ fn fit(bounds: Bounds, purpose: Purpose) -> Task {
     }
 }
 
-/// Returns the task of `repair`. With the usual bounds it sets these, if they are others.
+/// Returns the task of `repair`. With `has_usual_bounds` it sets the usual bounds if the table has others.
 pub fn repair<R: RandomSource + AllocGlobal>(
     rt: &R,
     image: &mut Image<'_>,
@@ -64,7 +64,7 @@ pub fn repair<R: RandomSource + AllocGlobal>(
     edit(rt, Job::Rewrite)
 }
 
-/// Returns the task of `randomize`: the disk and each partition get a random GUID.
+/// Returns the task of `randomize`: random GUIDs for the disk and each partition.
 pub fn randomize<R: RandomSource + AllocGlobal>(rt: &R, table: &GPT) -> Result<Task, Failure> {
     let alloc = rt.alloc();
     let mut asked = Vec::new(alloc);
@@ -86,7 +86,7 @@ pub fn randomize<R: RandomSource + AllocGlobal>(rt: &R, table: &GPT) -> Result<T
     edit(rt, Job::Lay(layout))
 }
 
-/// Returns the task of a command that mends something.
+/// Returns the task of a command that corrects a finding.
 pub fn mend<R: RandomSource + AllocGlobal>(
     rt: &R,
     image: &mut Image<'_>,
@@ -119,7 +119,7 @@ pub fn mend<R: RandomSource + AllocGlobal>(
     }
 }
 
-// The layout that asks for nothing.
+// Returns a layout that requests nothing.
 fn layout_of(alloc: Global, mode: Mode) -> Layout {
     Layout {
         mode,
@@ -130,7 +130,7 @@ fn layout_of(alloc: Global, mode: Mode) -> Layout {
     }
 }
 
-// The task of `add --number N --type linux --size 1MiB`.
+// Returns the task of `add --number N --type linux --size 1MiB`.
 fn put_over<R: RandomSource + AllocGlobal>(rt: &R, number: u32) -> Result<Task, Failure> {
     let mut layout = layout_of(rt.alloc(), Mode::Add);
     layout.align = DEFAULT_ALIGN;
@@ -143,5 +143,4 @@ fn put_over<R: RandomSource + AllocGlobal>(rt: &R, number: u32) -> Result<Task, 
     edit(rt, Job::Lay(layout))
 }
 
-// 1 MiB.
 const MIB: Amount = Amount::Bytes(1 << 20);

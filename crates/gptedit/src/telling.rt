@@ -1,4 +1,4 @@
-//! What became of a change.
+//! Reports a change.
 
 use crate::commands::How;
 use crate::failure::{Failure, refuse_error};
@@ -14,21 +14,21 @@ use gptman::check;
 use std::alloc::Global;
 use std::io::Write;
 
-/// The line before all that a dry run tells.
+/// The first line of the report of a dry run.
 pub const DRY: &[u8] = b"a dry run, nothing is written:\n";
 
-/// What was done, or would be.
+/// A change that was made, or would be.
 #[derive(Clone, Copy)]
 pub struct Done<'a> {
     /// The task.
     pub task: &'a Task,
-    /// What it makes of the table.
+    /// The plan.
     pub plan: &'a Plan,
-    /// Whether a crash can leave neither the old table nor the new one.
+    /// Whether a crash may leave neither the old table nor the new one.
     pub may_lose: bool,
 }
 
-/// Tells what became of the table: how it changed, or would.
+/// Prints how the table changed, or would change.
 pub fn tell<W: Write>(
     out: &mut W,
     alloc: Global,
@@ -68,7 +68,7 @@ pub fn tell<W: Write>(
     tell_hybrid(out, alloc, look, plan)
 }
 
-// Tells of the table as JSON, with what both copies on the disk are, or would be.
+// Prints the table as JSON, with the state of both copies after the change.
 fn tell_json<W: Write>(
     out: &mut W,
     alloc: Global,
@@ -91,7 +91,7 @@ fn tell_json<W: Write>(
     print_state_json(out, alloc, image, look, table, &state, how.is_dry)
 }
 
-// Tells how the table changes.
+// Prints how the table changes.
 fn tell_table<W: Write>(
     out: &mut W,
     alloc: Global,
@@ -112,7 +112,7 @@ fn tell_table<W: Write>(
     Ok(())
 }
 
-// Tells what becomes of the MBR. A new table always has a protective one.
+// Prints what happens to the MBR. Nothing is printed for a new table, which always has a protective MBR.
 fn tell_mbr<W: Write>(out: &mut W, purpose: Purpose, mbr: MbrChange) -> Result<(), Failure> {
     match (mbr, purpose) {
         (MbrChange::Left, _) | (_, Purpose::New) => (),
@@ -124,7 +124,7 @@ fn tell_mbr<W: Write>(out: &mut W, purpose: Purpose, mbr: MbrChange) -> Result<(
     Ok(())
 }
 
-// Tells which entries of a hybrid MBR are no partitions now.
+// Prints the entries of a hybrid MBR that no longer match a partition.
 fn tell_hybrid<W: Write>(
     out: &mut W,
     alloc: Global,

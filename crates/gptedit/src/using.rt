@@ -1,10 +1,10 @@
-//! A use of a disk, as people are told of it.
+//! Messages about the use of a disk.
 
 use gptedit_busy::{How, Part, Use};
 use gptedit_text::values::Escaped;
 use std::fmt;
 
-/// That a part of a disk is in use, and what to do. Hidden characters are escaped.
+/// Message: a part of the disk is in use. Hidden characters are escaped.
 #[derive(Clone, Copy)]
 pub struct UseText<'a>(pub &'a Use);
 
@@ -21,7 +21,6 @@ impl fmt::Display for UseText<'_> {
     }
 }
 
-// Writes how a part is used.
 fn write_how<W: fmt::Write>(f: &mut fmt::Formatter<W>, how: &How) -> fmt::Result {
     match how {
         How::Mounted(at) => write!(f, "is mounted at {}", Escaped(at.as_str())),

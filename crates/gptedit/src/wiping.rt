@@ -1,4 +1,4 @@
-//! A table is cleared.
+//! Clears a table.
 
 use crate::backup::{refuse_backup, write_backup};
 use crate::commands::How;
@@ -13,8 +13,8 @@ use std::fs::File;
 use std::io::Write;
 use std::rt::Files;
 
-/// Clears both copies of the table, the headers at each sector size, and a protective MBR. Reports whether
-/// something was written.
+/// Clears both copies of the table, the headers at each sector size, and a protective MBR. Returns whether something
+/// was written.
 pub fn clear<R, W: Write>(
     rt: &R,
     out: &mut W,
@@ -53,14 +53,14 @@ where
     Ok(is_needed && !how.is_dry)
 }
 
-// Whether there is anything to clear.
+// Reports whether there is anything to clear.
 fn is_something(look: &Look) -> bool {
     look.table.is_some()
         || !look.signatures.is_empty()
         || look.first_sector.kind == MbrKind::Protective
 }
 
-// Refuses to clear what nobody named.
+// Refuses to clear a table without `--overwrite`, or a disk in use without `--in-use`.
 fn refuse_wipe<R>(
     rt: &R,
     image: &Image<'_>,
@@ -81,7 +81,7 @@ where
     refuse_users(rt, image, look.table.as_ref(), None)
 }
 
-// Tells what became of it, on a disk whose MBR was of this kind.
+// Reports the result for a disk whose MBR was of this kind.
 fn tell<W: Write>(
     out: &mut W,
     is_needed: bool,
