@@ -1,9 +1,9 @@
-//! The usable sectors of a table, beside those that its two copies leave.
+//! The usable sectors of a table, compared with the sectors between its two copies.
 
 use gptman::GPT;
 use std::fmt;
 
-/// The usable sectors of a table, and those that its copies leave on a disk.
+/// The usable sectors of a table, and the sectors between its copies.
 #[derive(Clone, Copy, PartialEq, Eq, Debug)]
 pub struct Edges {
     /// The first usable sector.
@@ -16,11 +16,11 @@ pub struct Edges {
     pub most: u64,
 }
 
-// The bytes of an entry.
+// The length of an entry in bytes.
 const ENTRY_BYTES: u64 = 128;
 
 impl Edges {
-    /// Returns those of a table on a disk of this length in bytes.
+    /// Returns those of a table on a disk of `size` bytes.
     pub fn of(table: &GPT, size: u64) -> Edges {
         let sector_size = table.sector_size.max(1);
         let count = u64::from(table.header.number_of_partition_entries);
@@ -34,17 +34,17 @@ impl Edges {
         }
     }
 
-    /// Reports whether the first usable sector is one of the primary copy.
+    /// Reports whether the first usable sector is in the primary copy.
     pub fn is_first_over(&self) -> bool {
         self.first < self.least
     }
 
-    /// Reports whether the last usable sector is one of the backup copy, or after it.
+    /// Reports whether the last usable sector is in the backup copy or after it.
     pub fn is_last_over(&self) -> bool {
         self.last > self.most
     }
 
-    /// Reports whether a usable sector is one of a copy.
+    /// Reports whether the usable sectors include a sector of a copy.
     pub fn are_over(&self) -> bool {
         self.is_first_over() || self.is_last_over()
     }
@@ -54,8 +54,7 @@ impl Edges {
         self.last < self.most
     }
 
-    /// Returns the usable sectors that are not the table's own, of a run given by its first sector and its
-    /// length.
+    /// Returns the part of a range that is between the copies. Ranges are a first sector and a length.
     pub fn cut(&self, start: u64, length: u64) -> Option<(u64, u64)> {
         let end = start.checked_add(length)?.min(self.most.saturating_add(1));
         let start = start.max(self.least);

@@ -1,4 +1,4 @@
-//! What a change did to a table.
+//! Prints the changes of a table.
 
 use crate::compare::{Change, compare};
 use crate::texts::{EntryText, GuidText, QuotedName, SectorsText, TypeText};
@@ -8,12 +8,12 @@ use std::alloc::Global;
 use std::io::Write;
 use std::{fmt, io};
 
-/// Prints how a table becomes another: a line for the disk's GUID, for the usable sectors and for the number
-/// of entries, where they differ, and one for each partition that does, by its number. `+` begins a partition
-/// that is added, `-` one that is removed, `~` one that is changed, and `2 -> 1` one that has another number.
-/// Where none differs, only bytes of unused entries do, and the line says so.
+/// Prints the differences between two tables: a line each for the disk GUID, the usable sectors and the number of
+/// entries if they differ, and a line for each partition that differs, by number. `+` begins an added partition, `-` a
+/// removed one, `~` a changed one, and `2 -> 1` one that has another number. If none of these differs, a line says that
+/// unused entries are cleared.
 ///
-/// It takes time in O(n log n) for n entries. An error comes where `out` failed, and where there is no memory.
+/// Takes O(n log n) time for n entries. Returns the error of `out`, or `OutOfMemory`.
 pub fn print_changes<W: Write>(
     out: &mut W,
     alloc: Global,
@@ -33,7 +33,7 @@ pub fn print_changes<W: Write>(
     Ok(())
 }
 
-// How the header of a table becomes that of another.
+// The changes of a header.
 #[derive(Clone, Copy)]
 struct HeaderChange<'a> {
     was: &'a GPT,
@@ -41,7 +41,7 @@ struct HeaderChange<'a> {
 }
 
 impl HeaderChange<'_> {
-    // Whether anything of it is told.
+    // Reports whether there is anything to print.
     fn is_any(&self) -> bool {
         let (was, next) = (&self.was.header, &self.next.header);
         was.disk_guid != next.disk_guid
@@ -69,12 +69,12 @@ impl fmt::Display for HeaderChange<'_> {
     }
 }
 
-// Whether two headers give other usable sectors.
+// Reports whether two headers have different usable sectors.
 fn have_other_bounds(was: &GPTHeader, next: &GPTHeader) -> bool {
     was.first_usable_lba != next.first_usable_lba || was.last_usable_lba != next.last_usable_lba
 }
 
-// The usable sectors before and after.
+// Writes the usable sectors before and after.
 fn write_bounds<W: fmt::Write>(
     f: &mut fmt::Formatter<W>,
     was: &GPTHeader,
@@ -86,7 +86,7 @@ fn write_bounds<W: fmt::Write>(
     writeln!(f, "{first}..{last}")
 }
 
-// A change of an entry, on one line.
+// The change of an entry, on one line.
 #[derive(Clone, Copy)]
 struct ChangeText<'a> {
     was: &'a GPT,
@@ -114,7 +114,7 @@ impl fmt::Display for ChangeText<'_> {
     }
 }
 
-// A sign, a number, and the whole entry of that number.
+// Writes a sign, a number, and the complete entry of that number.
 fn write_whole<W: fmt::Write>(
     f: &mut fmt::Formatter<W>,
     sign: &str,
@@ -131,7 +131,7 @@ fn write_whole<W: fmt::Write>(
     }
 }
 
-// The fields that differ, each before and after.
+// Writes the fields that differ, each before and after.
 fn write_fields<W: fmt::Write>(
     f: &mut fmt::Formatter<W>,
     was: &GPTPartitionEntry,
@@ -179,7 +179,7 @@ fn write_fields<W: fmt::Write>(
     Ok(())
 }
 
-// A field, before and after.
+// Writes a field before and after.
 fn write_field<W: fmt::Write, D: fmt::Display>(
     f: &mut fmt::Formatter<W>,
     comma: &str,
@@ -190,7 +190,7 @@ fn write_field<W: fmt::Write, D: fmt::Display>(
     write!(f, "{comma} {name} {before} -> {after}")
 }
 
-// The names of attributes, or that there is none.
+// The names of attributes, or `none`.
 #[derive(Clone, Copy)]
 struct SomeAttributes(u64);
 

@@ -1,4 +1,4 @@
-//! What was found at the table of a disk, for people and as JSON.
+//! The findings of `check`, for people and as JSON.
 
 use crate::copies::CopiesState;
 use crate::findings::Finding;
@@ -11,16 +11,16 @@ use std::alloc::{AllocError, Global};
 use std::io;
 use std::io::Write;
 
-/// Reports whether nothing of this is wrong. A note is nothing that is wrong.
+/// Reports whether all findings are notes.
 pub fn is_nothing_wrong(findings: &[Finding<'_>]) -> bool {
     findings.iter().all(|finding| finding.wrong.is_note())
 }
 
-/// Prints a line for each thing that is wrong, with the command that mends it: the first of its ways. If
-/// nothing is wrong the line says so. A line for each note follows.
+/// Prints a line for each finding, with the first of its commands. If there is none, a line says so. A line for each
+/// note follows.
 ///
 /// # Errors
-/// Those of `out`, and `OutOfMemory` if there is no memory.
+/// Those of `out`, and `OutOfMemory`.
 pub fn print_check<W: Write>(out: &mut W, image: &str, findings: &[Finding<'_>]) -> io::Result<()> {
     if is_nothing_wrong(findings) {
         writeln!(out, "{}: nothing is wrong", Escaped(image))?;
@@ -38,7 +38,7 @@ pub fn print_check<W: Write>(out: &mut W, image: &str, findings: &[Finding<'_>])
     Ok(())
 }
 
-// What mends a finding.
+// Returns the command or advice for a finding.
 fn way_out<'a>(finding: &'a Finding<'_>, image: &'a str) -> WayOut<'a> {
     WayOut {
         way: finding.ways.first(),
@@ -47,9 +47,9 @@ fn way_out<'a>(finding: &'a Finding<'_>, image: &'a str) -> WayOut<'a> {
     }
 }
 
-/// Returns what was found as JSON: `good` where nothing is wrong, what both copies are (as `table_json` has
-/// it), `findings`, each with what is wrong (`finding`), how it is mended (`mend`), and the command of
-/// `gptedit` that does so (`command`), or null, and the texts of the `notes`.
+/// Returns the findings as JSON: `good` if nothing is wrong, the state of both copies (as in `table_json`), `findings`,
+/// each with its text (`finding`), the remedy (`mend`) and the command of `gptedit` (`command`) or null, and the texts
+/// of the `notes`.
 pub fn check_json(
     alloc: Global,
     image: &str,
@@ -75,7 +75,6 @@ pub fn check_json(
     print_json(alloc, &members.into_value())
 }
 
-// A finding.
 fn finding_value(alloc: Global, finding: &Finding<'_>, image: &str) -> Result<Value, AllocError> {
     let wrong = format!(in alloc; "{}", finding.wrong)?;
     let way_out = format!(in alloc; "{}", way_out(finding, image))?;

@@ -1,11 +1,10 @@
-//! Lines of cells under headings, each column as wide as its widest cell.
+//! Prints cells in columns under headings, each column as wide as its widest cell.
 
 use std::alloc::{AllocError, Global};
 use std::io::Write;
 use std::{fmt, io};
 
-/// A column, by what stands above its cells and how many characters it takes at least. Its cells stand at its
-/// left as texts do, or at its right as numbers do.
+/// A column: its heading, and its minimum width in characters. Its cells are aligned left or right.
 #[derive(Clone, Copy)]
 pub(crate) enum Column {
     Left(&'static str, usize),
@@ -13,21 +12,20 @@ pub(crate) enum Column {
 }
 
 impl Column {
-    // What stands above its cells.
     fn heading(self) -> &'static str {
         match self {
             Column::Left(heading, _) | Column::Right(heading, _) => heading,
         }
     }
 
-    // How many characters it takes.
+    // Returns the width in characters.
     fn width(self) -> usize {
         match self {
             Column::Left(_, width) | Column::Right(_, width) => width,
         }
     }
 
-    // The same column, that takes so many characters at least.
+    // Returns the column with a width of at least `least`.
     fn at_least(self, least: usize) -> Column {
         match self {
             Column::Left(heading, width) => Column::Left(heading, width.max(least)),
@@ -36,7 +34,7 @@ impl Column {
     }
 }
 
-/// Prints the headings, and then each row, a line each with no spaces at its end.
+/// Prints the headings, then each row, one line each, without trailing spaces.
 pub(crate) fn print_columns<W: Write>(
     out: &mut W,
     alloc: Global,
@@ -66,7 +64,7 @@ pub(crate) fn push_cell<D: fmt::Display>(
     Ok(())
 }
 
-// The columns, each as wide as its heading and its cells.
+// Returns the columns, each as wide as its heading and cells.
 fn widen(
     alloc: Global,
     columns: &[Column],
@@ -84,12 +82,11 @@ fn widen(
     Ok(wide)
 }
 
-// How many characters a text has.
+// Returns the number of characters.
 fn count(text: &str) -> usize {
     text.chars().count()
 }
 
-// Prints a line of cells.
 fn print_row<W: Write>(
     out: &mut W,
     alloc: Global,

@@ -1,22 +1,22 @@
-//! How the entries of a table become those of another.
+//! Compares the entries of two tables.
 
 use gptman::{GPT, GPTPartitionEntry};
 use std::alloc::{AllocError, Global};
 use std::collections::BTreeMap;
 
-/// How an entry that is used becomes another, each under its number.
+/// A change of a used entry.
 #[derive(Clone, Copy)]
 pub(crate) enum Change {
-    /// It is not used afterwards.
+    /// The entry is unused afterwards.
     Removed { number: u32 },
-    /// It was not used before.
+    /// The entry was unused before.
     Added { number: u32 },
-    /// It was under the first number, and is under the second.
+    /// The entry has changed, or moved from the first number to the second.
     Kept { from: u32, to: u32 },
 }
 
 impl Change {
-    // Changes are told by the number afterwards, and a removal before what comes in its place.
+    // Orders changes by the number afterwards, and a removal before an entry that replaces it.
     fn rank(self) -> (u32, u8) {
         match self {
             Change::Removed { number } => (number, 0),
@@ -26,9 +26,8 @@ impl Change {
     }
 }
 
-/// The entries that differ between the two tables, by their numbers. An entry is the same under another
-/// number where it has the same GUID, and under its own number also where it has the same sectors. It takes
-/// time in O(n log n) for n entries.
+/// Returns the entries that differ, in the order of their numbers. Entries match if they have the same GUID, and under
+/// the same number also if they have the same sectors. Takes O(n log n) time for n entries.
 pub(crate) fn compare(alloc: Global, was: &GPT, next: &GPT) -> Result<Vec<Change>, AllocError> {
     let mut changes = Vec::new(alloc);
     let mut gone = find_gone(alloc, was, next, &mut changes)?;
@@ -41,8 +40,8 @@ pub(crate) fn compare(alloc: Global, was: &GPT, next: &GPT) -> Result<Vec<Change
     Ok(changes)
 }
 
-// The numbers of the entries that have another GUID afterwards, by their GUIDs. Of several with one GUID, all
-// but one are removed.
+// Maps the GUID of each used entry that its number no longer has to that number. If several share a GUID, all but the
+// last are removed.
 fn find_gone(
     alloc: Global,
     was: &GPT,
@@ -60,7 +59,7 @@ fn find_gone(
     Ok(gone)
 }
 
-// Whether the entry of this number is used, and has this GUID.
+// Reports whether the entry of this number is used and has this GUID.
 fn has_guid(table: &GPT, number: u32, guid: &[u8; 16]) -> bool {
     match used_at(table, number) {
         Some(entry) => entry.unique_partition_guid == *guid,
@@ -68,13 +67,13 @@ fn has_guid(table: &GPT, number: u32, guid: &[u8; 16]) -> bool {
     }
 }
 
-/// The entry of this number, where it is used.
+/// Returns the entry of this number if it is used.
 pub(crate) fn used_at(table: &GPT, number: u32) -> Option<&GPTPartitionEntry> {
     let entry = table.get(number)?;
     if entry.is_used() { Some(entry) } else { None }
 }
 
-// The numbers of the entries whose GUIDs no entry had before. Of the others, those that differ are told.
+// Returns the numbers of the entries with new GUIDs. The others are changes if they differ.
 fn find_added(
     alloc: Global,
     was: &GPT,
@@ -100,7 +99,7 @@ fn find_added(
     Ok(added)
 }
 
-// Tells the entries that were added, or have a new GUID.
+// Adds the entries that are new or have a new GUID.
 fn add_renamed(
     was: &GPT,
     next: &GPT,
@@ -125,7 +124,7 @@ fn add_renamed(
     Ok(())
 }
 
-// The GUID before of an entry that was used, and has the same sectors afterwards.
+// Returns the former GUID of an entry that was used and keeps its sectors.
 fn same_place(was: &GPT, next: &GPT, number: u32) -> Option<[u8; 16]> {
     let before = used_at(was, number)?;
     let after = next.get(number)?;

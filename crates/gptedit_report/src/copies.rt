@@ -1,31 +1,31 @@
-//! What the two copies of a table are.
+//! The state of the two copies of a table.
 
 use gptman::copy::WholeCopy;
 use gptman::{Error, GPTHeader, Result};
 use std::fmt;
 
-/// What the two copies of a table are, each read by itself.
+/// The state of the two copies of a table, each read separately.
 #[derive(Clone, Copy, Debug)]
 pub enum CopiesState<'a> {
-    /// Both are good, and one table, each in its place.
+    /// Both are good and one table, each in its place.
     Good,
-    /// The primary copy has this fault, and the backup is good.
+    /// The primary copy has this fault; the backup copy is good.
     PrimaryBad(&'a Error),
-    /// The backup copy has this fault, and the primary is good.
+    /// The backup copy has this fault; the primary copy is good.
     BackupBad(&'a Error),
-    /// The primary copy has the first fault, and the backup the second.
+    /// The primary copy has the first fault, the backup copy the second.
     BothBad(&'a Error, &'a Error),
-    /// Both are good, and the primary says that it, or its entries, stand elsewhere.
+    /// Both are good, but the primary header has another place for itself or its entries.
     PrimaryElsewhere,
-    /// Both are good, and the backup says that it is no backup, or that its entries stand elsewhere.
+    /// Both are good, but the backup header does not refer to sector 1, or its entries do not follow the usable
+    /// sectors.
     BackupElsewhere,
-    /// Both are good and in their places, and not one table.
+    /// Both are good and in their places, but are different tables.
     TwoTables,
 }
 
 impl<'a> CopiesState<'a> {
-    /// What these two copies are, where it is known whether both places hold one table, each in the form
-    /// of its place.
+    /// Returns the state of two copies. `are_same` says whether they are one table, each in the form of its place.
     pub fn new(
         primary: &'a Result<WholeCopy>,
         backup: &'a Result<WholeCopy>,
@@ -40,7 +40,7 @@ impl<'a> CopiesState<'a> {
         }
     }
 
-    /// The fault of the primary copy, where it has one.
+    /// Returns the fault of the primary copy, if any.
     pub fn primary_fault(&self) -> Option<&'a Error> {
         match self {
             CopiesState::PrimaryBad(fault) => Some(*fault),
@@ -49,7 +49,7 @@ impl<'a> CopiesState<'a> {
         }
     }
 
-    /// The fault of the backup copy, where it has one.
+    /// Returns the fault of the backup copy, if any.
     pub fn backup_fault(&self) -> Option<&'a Error> {
         match self {
             CopiesState::BackupBad(fault) => Some(*fault),
@@ -58,13 +58,13 @@ impl<'a> CopiesState<'a> {
         }
     }
 
-    /// Whether both copies are good, and one table, each in its place.
+    /// Reports whether both copies are good and one table, each in its place.
     pub fn is_good(&self) -> bool {
         matches!(self, CopiesState::Good)
     }
 }
 
-/// What the copies are, in a few words.
+/// The state in a few words.
 impl fmt::Display for CopiesState<'_> {
     fn fmt<W: fmt::Write>(&self, f: &mut fmt::Formatter<W>) -> fmt::Result {
         match self {
@@ -87,7 +87,7 @@ impl fmt::Display for CopiesState<'_> {
     }
 }
 
-// How two good copies differ that are not one table, each in the form of its place.
+// Returns how two good copies differ that are not one table in the forms of their places.
 fn difference<'a>(primary: &GPTHeader, backup: &GPTHeader) -> CopiesState<'a> {
     if primary.primary_lba != 1 || primary.partition_entry_lba != 2 {
         return CopiesState::PrimaryElsewhere;

@@ -1,4 +1,4 @@
-//! That partitions do not fit on a disk whose end was cut off, and the ways out.
+//! The refusal of partitions that do not fit on a shortened disk.
 
 use crate::bounds::Edges;
 use crate::layout::{Standing, length_to};
@@ -7,21 +7,19 @@ use gptedit_text::values::Escaped;
 use gptman::GPT;
 use std::fmt;
 
-/// That partitions do not fit on a disk whose end was cut off, and what to do, in three lines without the last
-/// newline.
+/// Message: partitions do not fit on a shortened disk, and the remedies. Three lines, without the last newline.
 #[derive(Clone, Copy)]
 pub struct CutText<'a> {
     table: &'a GPT,
     edges: Edges,
-    // The length of the disk in bytes, and that which it had before.
+    // The length of the disk in bytes, now and before.
     size: u64,
     size_before: u64,
     image: &'a str,
 }
 
 impl<'a> CutText<'a> {
-    /// Returns the text for a disk of this length in bytes, if that is shorter than its table says and a partition
-    /// does not fit.
+    /// Returns the message for a disk of `size` bytes, if it is shorter than its table and a partition does not fit.
     pub fn of(table: &'a GPT, size: u64, image: &'a str) -> Option<CutText<'a>> {
         let Standing::Cut(last) = Standing::of(table, size) else {
             return None;
@@ -36,7 +34,7 @@ impl<'a> CutText<'a> {
         if text.count() == 0 { None } else { Some(text) }
     }
 
-    // How many partitions do not fit.
+    // Returns the number of partitions that do not fit.
     fn count(&self) -> usize {
         let most = self.edges.most;
         self.table
@@ -45,7 +43,7 @@ impl<'a> CutText<'a> {
             .count()
     }
 
-    // Writes the numbers of the partitions that do not fit, each after this text.
+    // Writes the numbers of the partitions that do not fit, each after `before`.
     fn write_numbers<W: fmt::Write>(&self, f: &mut fmt::Formatter<W>, before: &str) -> fmt::Result {
         for (number, entry) in self.table.iter() {
             if entry.is_used() && entry.ending_lba > self.edges.most {

@@ -1,4 +1,4 @@
-//! What is wrong with the entries of a table.
+//! Faults of the entries of a table.
 
 use crate::way::Way;
 use gptman::GPT;
@@ -6,23 +6,23 @@ use std::alloc::{AllocError, Global};
 use std::collections::{BTreeMap, BTreeSet};
 use std::fmt;
 
-/// Something that is wrong with entries, by their numbers.
+/// A fault of entries, by their numbers.
 #[derive(Clone, Copy, PartialEq, Eq, Debug)]
 pub enum EntryFault {
     /// A used entry ends before it starts.
     EndsBefore { number: u32, first: u64, last: u64 },
     /// An unused entry ends before it starts.
     UnusedEndsBefore { number: u32 },
-    /// A partition is outside of the usable sectors.
+    /// A partition is not within the usable sectors.
     Outside { number: u32, first: u64, last: u64 },
-    /// Two partitions have a sector in common.
+    /// Two partitions share a sector.
     Overlap { number: u32, other: u32 },
-    /// Two partitions have one GUID.
+    /// Two partitions have the same GUID.
     SharedGuid { number: u32, other: u32 },
 }
 
-/// Returns what is wrong with the entries of a table: each entry by itself, then by their places, then by their
-/// GUIDs. It takes time in O(n log n) for n entries.
+/// Returns the faults of the entries: first those of single entries, then overlaps, then shared GUIDs. Takes O(n log n)
+/// time for n entries.
 pub(crate) fn find_entry_faults(alloc: Global, table: &GPT) -> Result<Vec<EntryFault>, AllocError> {
     let mut faults = Vec::new(alloc);
     add_own(table, &mut faults)?;
@@ -31,7 +31,7 @@ pub(crate) fn find_entry_faults(alloc: Global, table: &GPT) -> Result<Vec<EntryF
     Ok(faults)
 }
 
-// Adds what is wrong with each entry by itself.
+// Adds the faults of single entries.
 fn add_own(table: &GPT, faults: &mut Vec<EntryFault>) -> Result<(), AllocError> {
     for (number, entry) in table.iter() {
         let (first, last) = (entry.starting_lba, entry.ending_lba);
@@ -56,7 +56,7 @@ fn add_own(table: &GPT, faults: &mut Vec<EntryFault>) -> Result<(), AllocError> 
     Ok(())
 }
 
-// Adds the partitions that share sectors with one that begins before.
+// Adds the partitions that overlap one that begins before them.
 fn add_overlaps(
     alloc: Global,
     table: &GPT,
@@ -110,12 +110,12 @@ fn add_shared(alloc: Global, table: &GPT, faults: &mut Vec<EntryFault>) -> Resul
 }
 
 impl EntryFault {
-    /// Reports whether two partitions have one GUID.
+    /// Reports whether two partitions have the same GUID.
     pub(crate) fn is_shared_guid(self) -> bool {
         matches!(self, EntryFault::SharedGuid { .. })
     }
 
-    /// Adds the commands that may mend this fault, if no other is there.
+    /// Adds the commands that may correct this fault if it is the only one.
     pub(crate) fn add_ways(self, alloc: Global, ways: &mut Vec<Way>) -> Result<(), AllocError> {
         match self {
             EntryFault::EndsBefore { number, .. } => ways.push(Way::remove(alloc, number)?)?,
@@ -172,19 +172,19 @@ impl fmt::Display for EntryFault {
     }
 }
 
-/// The entries without which no fault of the entries is left.
+/// The entries whose removal corrects all faults of entries.
 #[derive(Drop)]
 pub(crate) struct Removal {
     numbers: BTreeSet<u32>,
     is_possible: bool,
 }
 
-// More entries than this are not named on one line.
+// The most entries that one command line names.
 const MOST_NAMED: usize = 32;
 
 impl Removal {
-    /// Returns the entries to remove for these faults. Of two partitions the one with the higher number is
-    /// removed, unless one of them is already.
+    /// Returns the entries to remove. Of two partitions, this is the one with the higher number, unless one of them is
+    /// removed already.
     pub(crate) fn of(alloc: Global, faults: &[EntryFault]) -> Result<Removal, AllocError> {
         let mut numbers = BTreeSet::new(alloc);
         let mut is_possible = true;
@@ -208,7 +208,8 @@ impl Removal {
         })
     }
 
-    /// Returns the command that removes them, if there are some, and not too many for a line.
+    /// Returns the command that removes them. There is none if no entry or too many are to be removed, or if an unused
+    /// entry is faulty.
     pub(crate) fn way(&self, alloc: Global) -> Result<Option<Way>, AllocError> {
         let count = self.numbers.len();
         if !self.is_possible || count == 0 || count > MOST_NAMED {

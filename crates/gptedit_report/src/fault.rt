@@ -1,15 +1,15 @@
-//! What the library's errors mean, and what to do.
+//! Explains the errors of the library.
 
 use gptedit_text::values::Escaped;
 use gptman::Error;
 use std::fmt;
 
-/// What an error means to people, and what to do about it, in one or two lines without the last newline.
+/// Message: an error and the remedy. One or two lines, without the last newline.
 #[derive(Clone, Copy)]
 pub struct ErrorText<'a> {
     /// The error.
     pub error: &'a Error,
-    /// The image or device, as it was named.
+    /// The path of the image or device, as given by the user.
     pub image: &'a str,
 }
 
@@ -33,7 +33,7 @@ impl fmt::Display for ErrorText<'_> {
     }
 }
 
-// What helps where no command does.
+// Returns the advice if no command helps.
 fn advice_for(error: &Error) -> &'static str {
     match error {
         Error::Overflow => "make the disk longer",
@@ -45,7 +45,7 @@ fn advice_for(error: &Error) -> &'static str {
     }
 }
 
-// The command that helps, and what it does.
+// Returns the command that helps, and its effect.
 fn command_for(error: &Error) -> Option<(&'static str, &'static str)> {
     match error {
         Error::OutOfMemory | Error::Overflow => None,
@@ -63,7 +63,7 @@ fn command_for(error: &Error) -> Option<(&'static str, &'static str)> {
     }
 }
 
-/// What an error means, within a sentence.
+/// The meaning of an error, for use within a sentence.
 #[derive(Clone, Copy)]
 pub(crate) struct Meaning<'a>(pub(crate) &'a Error);
 
@@ -84,7 +84,7 @@ impl fmt::Display for Meaning<'_> {
     }
 }
 
-// That a checksum is not that of the bytes.
+// Writes that a checksum does not match.
 fn write_sums<W: fmt::Write>(
     f: &mut fmt::Formatter<W>,
     what: &str,
@@ -97,7 +97,7 @@ fn write_sums<W: fmt::Write>(
     )
 }
 
-// What an error without numbers means.
+// Returns the meaning of an error without numbers.
 fn plain_meaning(error: &Error) -> &'static str {
     match error {
         Error::InvalidSignature => "no header of a table stands there",

@@ -1,4 +1,4 @@
-//! What may be wrong with the table of a disk, and which commands may mend it.
+//! Finds faults of a table and disk, and the commands that may correct them.
 
 use crate::bounds::Edges;
 use crate::copies::CopiesState;
@@ -11,66 +11,66 @@ use gptman::{Error, GPT};
 use std::alloc::{AllocError, Global};
 use std::fmt;
 
-/// Something that is found at a disk.
+/// A finding of `check`.
 #[derive(Drop)]
 pub struct Finding<'a> {
-    /// What it is.
+    /// The fault or note.
     pub wrong: Wrong<'a>,
-    /// The commands that may mend it, the best one first. The caller keeps the one to name.
+    /// The commands that may correct it, the best one first. The caller keeps the one to print.
     pub ways: Vec<Way>,
-    /// What is said if no command mends it.
+    /// The advice if no command corrects it.
     pub otherwise: Otherwise,
 }
 
-/// What is found.
+/// A fault or note.
 #[derive(Clone, Copy)]
 pub enum Wrong<'a> {
     /// The primary copy has this fault.
     PrimaryBad(&'a Error),
     /// The backup copy has this fault.
     BackupBad(&'a Error),
-    /// The primary copy says that it is elsewhere.
+    /// The primary header has another place for itself or its entries.
     PrimaryElsewhere,
-    /// The backup copy says that it is elsewhere.
+    /// The backup header or its entries are elsewhere.
     BackupElsewhere,
-    /// The two copies are two tables.
+    /// The two copies are different tables.
     TwoTables,
     /// The disk is longer than the table, which ends at this sector.
     Grown(u64),
     /// The disk ends before this sector, where the table ends.
     Cut(u64),
-    /// The table is not where gptedit writes one.
+    /// The table does not have the stated layout.
     NoLayout,
-    /// A usable sector is one of a copy's, or the last one is lower than it may be.
+    /// The usable sectors include a sector of a copy, or the last one is too low.
     Bounds(Edges),
-    /// Something is wrong with entries.
+    /// A fault of entries.
     Entry(EntryFault),
     /// There is no MBR.
     NoMbr,
-    /// Sector 0 is a boot sector, and no MBR.
+    /// Sector 0 is a boot sector, not an MBR.
     OtherMbr,
-    /// The MBR is one of a DOS disk.
+    /// The MBR is that of a DOS disk.
     DosMbr,
     /// The protective MBR has the length of another disk.
     MbrLength,
-    /// The MBR has so many protective entries.
+    /// The MBR has this number of protective entries.
     Protective(u8),
     /// The MBR lists partitions beside the protective entry.
     Hybrid,
-    /// The header of a table with another sector size is here.
+    /// There is a header of a table with another sector size.
     Signature(Signature),
     /// The disk ends with this footer.
     Footer(&'static str),
 }
 
 impl Wrong<'_> {
-    /// Reports whether this is only worth knowing, and not wrong.
+    /// Reports whether this is a note, not a fault.
     pub fn is_note(&self) -> bool {
         matches!(self, Wrong::Hybrid | Wrong::Footer(_))
     }
 }
 
-/// Returns all that is found, in the order in which it is printed.
+/// Returns all findings, in the order in which they are printed.
 pub fn find_all<'a>(alloc: Global, look: &'a Look) -> Result<Vec<Finding<'a>>, AllocError> {
     let mut findings = Findings::new(alloc, look)?;
     findings.add_copies()?;
@@ -83,7 +83,7 @@ pub fn find_all<'a>(alloc: Global, look: &'a Look) -> Result<Vec<Finding<'a>>, A
     Ok(list)
 }
 
-// What is found so far, and of which disk.
+// The findings so far, and the disk.
 #[derive(Drop)]
 struct Findings<'a> {
     alloc: Global,
@@ -114,7 +114,7 @@ impl<'a> Findings<'a> {
         })
     }
 
-    // Adds a finding that the commands for the table as a whole may mend.
+    // Adds a finding that commands for the whole table may correct.
     fn add(&mut self, wrong: Wrong<'a>) -> Result<(), AllocError> {
         let mut ways = Vec::new(self.alloc);
         match self.standing {
@@ -130,7 +130,7 @@ impl<'a> Findings<'a> {
         self.push(wrong, ways, self.otherwise())
     }
 
-    // What is said if no command mends something of the table.
+    // Returns the advice if no command corrects a fault of the table.
     fn otherwise(&self) -> Otherwise {
         match self.standing {
             None => Otherwise::Save,
@@ -141,7 +141,7 @@ impl<'a> Findings<'a> {
         }
     }
 
-    // Whether a usable sector is one of a copy's.
+    // Reports whether the usable sectors include a sector of a copy.
     fn are_bounds_over(&self) -> bool {
         match &self.look.table {
             Some(table) => Edges::of(table, self.look.size).are_over(),
@@ -163,13 +163,13 @@ impl<'a> Findings<'a> {
         Ok(())
     }
 
-    // Adds a finding that no command mends.
+    // Adds a finding that no command corrects.
     fn add_only(&mut self, wrong: Wrong<'a>) -> Result<(), AllocError> {
         let ways = Vec::new(self.alloc);
         self.push(wrong, ways, Otherwise::OtherTool)
     }
 
-    // Adds what is wrong with the copies.
+    // Adds faults of the copies.
     fn add_copies(&mut self) -> Result<(), AllocError> {
         let copies = &self.look.copies;
         match CopiesState::new(&copies.primary, &copies.backup, copies.are_same) {
@@ -186,7 +186,7 @@ impl<'a> Findings<'a> {
         }
     }
 
-    // Adds where the table is.
+    // Adds a fault of the layout.
     fn add_standing(&mut self) -> Result<(), AllocError> {
         match self.standing {
             None | Some(Standing::Right) => Ok(()),
@@ -196,7 +196,7 @@ impl<'a> Findings<'a> {
         }
     }
 
-    // Adds usable sectors that are the table's own, or leave out some at the end.
+    // Adds usable sectors that include the table's own, or omit some at the end.
     fn add_bounds(&mut self) -> Result<(), AllocError> {
         let Some(table) = &self.look.table else {
             return Ok(());
@@ -215,7 +215,7 @@ impl<'a> Findings<'a> {
         self.push(Wrong::Bounds(edges), ways, self.otherwise())
     }
 
-    // Adds what is wrong with entries.
+    // Adds faults of entries.
     fn add_entries(&mut self) -> Result<(), AllocError> {
         let are_few = self.faults.len() <= MOST_SINGLE;
         for i in 0..self.faults.len() {
@@ -237,7 +237,7 @@ impl<'a> Findings<'a> {
         Ok(())
     }
 
-    // Adds what is wrong with the MBR.
+    // Adds faults of the MBR.
     fn add_mbr(&mut self) -> Result<(), AllocError> {
         let first = &self.look.first_sector;
         let count = first.protective_count;
@@ -271,7 +271,7 @@ impl<'a> Findings<'a> {
     }
 }
 
-// With more faults of entries than this, only a command that mends all of them is named.
+// With more entry faults than this, commands that correct a single one are not named.
 const MOST_SINGLE: usize = 8;
 
 impl fmt::Display for Wrong<'_> {
@@ -297,13 +297,13 @@ impl fmt::Display for Wrong<'_> {
     }
 }
 
-// That a copy is bad, and why.
+// Writes that a copy is bad, and why.
 fn write_bad<W: fmt::Write>(f: &mut fmt::Formatter<W>, place: &str, fault: &Error) -> fmt::Result {
     let (name, meaning) = (fault.name(), Meaning(fault));
     write!(f, "the {place} copy is bad ({name}: {meaning})")
 }
 
-// That there is a header of a table with another sector size.
+// Writes that there is a header of a table with another sector size.
 fn write_signature<W: fmt::Write>(f: &mut fmt::Formatter<W>, signature: &Signature) -> fmt::Result {
     let Signature {
         sector_size,
@@ -321,7 +321,7 @@ fn write_signature<W: fmt::Write>(f: &mut fmt::Formatter<W>, signature: &Signatu
 }
 
 impl Wrong<'_> {
-    // What it is, where that has no numbers.
+    // Returns the text of a finding without numbers.
     fn text(&self) -> &'static str {
         match self {
             Wrong::PrimaryElsewhere => "the primary copy says that it stands elsewhere",

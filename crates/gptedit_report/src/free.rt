@@ -1,4 +1,4 @@
-//! Free sectors.
+//! Prints free ranges.
 
 use crate::columns::{Column, print_columns, push_cell};
 use crate::json::run_values;
@@ -8,7 +8,7 @@ use std::alloc::{AllocError, Global};
 use std::io;
 use std::io::Write;
 
-// What is told of a run.
+// The columns of a free range.
 const COLUMNS: [Column; 4] = [
     Column::Right("Start", 6),
     Column::Right("End", 6),
@@ -16,11 +16,10 @@ const COLUMNS: [Column; 4] = [
     Column::Right("Size", 7),
 ];
 
-/// Prints runs of free sectors, each given by its first sector and its length: under headings a line for
-/// each, with its first and last sector, its length in sectors, and its size. Where there is none, a line
-/// says so.
+/// Prints free ranges (first sector and length), one line each under headings: first and last sector, length in
+/// sectors, and size. If there is none, a line says so.
 ///
-/// An error comes where `out` failed, and where there is no memory.
+/// Returns the error of `out`, or `OutOfMemory`.
 pub fn print_free<W: Write>(
     out: &mut W,
     alloc: Global,
@@ -37,7 +36,7 @@ pub fn print_free<W: Write>(
     print_columns(out, alloc, COLUMNS.as_slice(), &rows)
 }
 
-// The cells of a run.
+// Returns the cells of a range.
 fn row_of(
     alloc: Global,
     sector_size: u64,
@@ -54,7 +53,7 @@ fn row_of(
     Ok(row)
 }
 
-/// Runs of free sectors as JSON: a list of `start` and `size`, in sectors.
+/// Returns free ranges as JSON: a list of `start` and `size`, in sectors.
 pub fn free_json(alloc: Global, runs: &[(u64, u64)]) -> Result<String, AllocError> {
     Value::Array(run_values(alloc, runs)?).to_string_pretty(alloc)
 }

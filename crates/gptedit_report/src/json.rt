@@ -10,12 +10,12 @@ use serde_json::Value;
 use std::alloc::{AllocError, Global};
 use std::fmt;
 
-// The code points of one UTF-16 unit are below this one.
+// The first code point that takes two UTF-16 units.
 const PAIRS: u32 = 0x1_0000;
 
-/// A table as JSON: `partitiontable` as `sfdisk --json` has it, and `gptman` with the copy that was read
-/// (`form`), what both copies are, the size of the disk in bytes, the alignment of places in sectors, and
-/// the runs of free sectors, each with its first sector and its length. Of a dry run `dry_run` is true.
+/// Returns a table as JSON: `partitiontable` as in `sfdisk --json`, and `gptman` with the copy that was read (`form`),
+/// the state of both copies, the size of the disk in bytes, the alignment in sectors, and the free ranges (first sector
+/// and length). For a dry run `dry_run` is true.
 pub fn table_json(
     alloc: Global,
     image: &str,
@@ -34,7 +34,7 @@ pub fn table_json(
     print_json(alloc, &members.into_value())
 }
 
-// What sfdisk tells of a table.
+// Returns the part that sfdisk also prints.
 fn standard_value(alloc: Global, image: &str, table: &GPT) -> Result<Value, AllocError> {
     let mut members = Members::new(alloc);
     members.put_text("label", "gpt")?;
@@ -52,7 +52,7 @@ fn standard_value(alloc: Global, image: &str, table: &GPT) -> Result<Value, Allo
     Ok(members.into_value())
 }
 
-// The used entries.
+// Returns the used entries.
 fn partition_values(alloc: Global, image: &str, table: &GPT) -> Result<Vec<Value>, AllocError> {
     let separator = separator_of(image);
     let mut partitions = Vec::new(alloc);
@@ -65,7 +65,7 @@ fn partition_values(alloc: Global, image: &str, table: &GPT) -> Result<Vec<Value
     Ok(partitions)
 }
 
-// An entry. Its name and its attributes are left out where there are none.
+// Returns an entry. An empty name, or no attributes, are left out.
 fn partition_value(
     alloc: Global,
     node: &str,
@@ -83,7 +83,7 @@ fn partition_value(
     Ok(members.into_value())
 }
 
-// What sfdisk does not tell.
+// Returns the part that sfdisk does not print.
 fn own_value(
     alloc: Global,
     size: u64,
@@ -100,14 +100,14 @@ fn own_value(
     Ok(members.into_value())
 }
 
-/// Puts what each copy is, good or the name of its fault, and whether both are one table.
+/// Adds the state of each copy, good or the name of its fault, and whether both are one table.
 pub(crate) fn put_copies(members: &mut Members, state: &CopiesState<'_>) -> Result<(), AllocError> {
     members.put_text("primary", copy_name(state.primary_fault()))?;
     members.put_text("backup", copy_name(state.backup_fault()))?;
     members.put("same", Value::Bool(state.is_good()))
 }
 
-// The copy that was read.
+// Returns the copy that was read.
 fn form_name(table: &GPT) -> &'static str {
     if table.is_primary() {
         "primary"
@@ -116,7 +116,7 @@ fn form_name(table: &GPT) -> &'static str {
     }
 }
 
-// What a copy is: good, or the name of its fault.
+// Returns the state of a copy: good, or the name of its fault.
 fn copy_name(fault: Option<&Error>) -> &'static str {
     match fault {
         Some(fault) => fault.name(),
@@ -124,7 +124,7 @@ fn copy_name(fault: Option<&Error>) -> &'static str {
     }
 }
 
-/// Runs of sectors, each with its first and its length.
+/// Returns ranges as first sector and length.
 pub(crate) fn run_values(alloc: Global, runs: &[(u64, u64)]) -> Result<Vec<Value>, AllocError> {
     let mut values = Vec::with_capacity(alloc, runs.len())?;
     for (start, length) in runs {
@@ -133,7 +133,6 @@ pub(crate) fn run_values(alloc: Global, runs: &[(u64, u64)]) -> Result<Vec<Value
     Ok(values)
 }
 
-// A run.
 fn run_value(alloc: Global, start: u64, length: u64) -> Result<Value, AllocError> {
     let mut members = Members::new(alloc);
     members.put_number("start", start)?;
@@ -141,15 +140,15 @@ fn run_value(alloc: Global, start: u64, length: u64) -> Result<Value, AllocError
     Ok(members.into_value())
 }
 
-/// Prints a value on several lines. Hidden characters of its texts are escaped, so that a terminal shows them,
-/// and any reader of JSON reads the same texts.
+/// Returns a value as JSON on several lines. Hidden characters in strings are escaped: a terminal shows them, and a
+/// JSON reader reads the same strings.
 pub fn print_json(alloc: Global, value: &Value) -> Result<String, AllocError> {
     let text = value.to_string_pretty(alloc)?;
     format!(in alloc; "{}", EscapedJson(text.as_str()))
 }
 
-// A text of JSON in which the hidden characters are escaped that its writer leaves as they are: those from
-// U+007F on. They are in texts only.
+// JSON in which the hidden characters from U+007F on are escaped, which the JSON writer does not escape. They occur
+// only in strings.
 #[derive(Clone, Copy)]
 struct EscapedJson<'a>(&'a str);
 
@@ -166,7 +165,7 @@ impl fmt::Display for EscapedJson<'_> {
     }
 }
 
-// Writes a code point as JSON has it: by its UTF-16 units.
+// Writes a code point as JSON escapes of its UTF-16 units.
 fn write_json_escape<W: fmt::Write>(f: &mut fmt::Formatter<W>, code: u32) -> fmt::Result {
     if code < PAIRS {
         return write!(f, "\\u{code:04x}");

@@ -1,5 +1,4 @@
-//! What a change does to partitions that something else counts on: contents that are as long as they were, and
-//! the entries of a hybrid MBR.
+//! Effects of a change on things that depend on partitions: their contents, and the entries of a hybrid MBR.
 
 use crate::compare::used_at;
 use gptedit_look::{FirstSector, Listed};
@@ -15,9 +14,9 @@ pub struct Shortened {
     pub number: u32,
     /// Its first sector.
     pub first: u64,
-    /// The last sector that it has.
+    /// Its last sector before the change.
     pub last: u64,
-    /// The last sector that it gets.
+    /// Its last sector after the change.
     pub next_last: u64,
 }
 
@@ -41,12 +40,12 @@ pub fn find_shortened(alloc: Global, was: &GPT, next: &GPT) -> Result<Vec<Shorte
     Ok(found)
 }
 
-/// That a partition would be shorter than what is on it, and what to do, in two lines without the last newline.
+/// Message: a partition would be shorter than its contents, and the remedy. Two lines, without the last newline.
 #[derive(Clone, Copy)]
 pub struct ShortenedText<'a> {
     /// The partition.
     pub shortened: Shortened,
-    /// What is on it.
+    /// The contents.
     pub content: &'a Content,
     /// The sector size in bytes.
     pub sector_size: u64,
@@ -93,14 +92,14 @@ pub fn find_unlisted(
     Ok(found)
 }
 
-// Whether an entry of an MBR has the sectors of a partition.
+// Reports whether an entry of an MBR has the sectors of a partition.
 fn is_listed(listed: &Listed, table: &GPT) -> bool {
     table
         .iter()
         .any(|(_, entry)| entry.is_used() && is_at(listed, entry))
 }
 
-// Whether an entry of an MBR has the sectors of this one.
+// Reports whether an entry of an MBR has the sectors of this entry.
 fn is_at(listed: &Listed, entry: &GPTPartitionEntry) -> bool {
     let last = listed
         .first
@@ -108,7 +107,7 @@ fn is_at(listed: &Listed, entry: &GPTPartitionEntry) -> bool {
     listed.first == entry.starting_lba && last == entry.ending_lba
 }
 
-/// That the MBR keeps listing sectors that are no partition's now, in a line without the newline.
+/// Message: the MBR still lists sectors that are no longer a partition. One line, without the newline.
 #[derive(Clone, Copy)]
 pub struct UnlistedText(pub Listed);
 

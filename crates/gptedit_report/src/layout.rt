@@ -1,22 +1,22 @@
-//! Whether a table stands on its disk as gptedit writes one.
+//! Reports whether a table has the stated layout on its disk.
 
 use gptman::GPT;
 
-/// How a table stands on its disk.
+/// The layout of a table on its disk.
 #[derive(Clone, Copy)]
 pub(crate) enum Standing {
-    /// As gptedit writes one.
+    /// The stated layout.
     Right,
-    /// As gptedit writes one on a shorter disk, which ends at this sector.
+    /// The stated layout of a shorter disk, which ends at this sector.
     Grown(u64),
-    /// The disk ends before this sector, where a header is to stand.
+    /// The disk ends before this sector, where a header should be.
     Cut(u64),
-    /// Otherwise.
+    /// Another layout.
     Other,
 }
 
 impl Standing {
-    /// How the table stands on a disk of so many bytes.
+    /// Returns the layout of a table on a disk of `size` bytes.
     pub(crate) fn of(table: &GPT, size: u64) -> Standing {
         if table.has_layout(size) {
             return Standing::Right;
@@ -40,7 +40,7 @@ pub(crate) fn length_to(last: u64, sector_size: u64) -> u64 {
     last.saturating_add(1).saturating_mul(sector_size)
 }
 
-// Whether the table stands as gptedit writes one on a disk that ends with this sector.
+// Reports whether the table has the stated layout on a disk that ends with this sector.
 fn has_layout_to(table: &GPT, last: u64) -> bool {
     let Some(sectors) = last.checked_add(1) else {
         return false;

@@ -1,6 +1,6 @@
-//! What `gptedit` has to tell: tables, findings, free sectors and refusals, for people and as JSON.
+//! The output of `gptedit`: tables, findings, free ranges and refusals, for people and as JSON.
 //!
-//! What is for people is printed into any writer. What is for programs is a text of JSON.
+//! Text for people is written to any writer. JSON is returned as text.
 #![tactic(auto)]
 
 pub mod bounds;

@@ -1,4 +1,4 @@
-//! Objects of JSON, member by member.
+//! Builds JSON objects.
 
 use gptguid_core::text_of;
 use serde_json::{Map, Value, put};
@@ -12,7 +12,7 @@ pub(crate) struct Members {
 }
 
 impl Members {
-    /// None yet.
+    /// Returns no members.
     pub(crate) fn new(alloc: Global) -> Members {
         Members {
             alloc,
@@ -20,13 +20,13 @@ impl Members {
         }
     }
 
-    /// One more, a text.
+    /// Adds a text.
     pub(crate) fn put_text(&mut self, key: &str, text: &str) -> Result<(), AllocError> {
         let value = Value::try_from_str(self.alloc, text)?;
         self.put(key, value)
     }
 
-    /// One more, a text, unless that is empty.
+    /// Adds a text, unless it is empty.
     pub(crate) fn put_some_text(&mut self, key: &str, text: &str) -> Result<(), AllocError> {
         if text.is_empty() {
             return Ok(());
@@ -34,28 +34,28 @@ impl Members {
         self.put_text(key, text)
     }
 
-    /// One more, the text of a GUID in upper case.
+    /// Adds the text of a GUID in upper case.
     pub(crate) fn put_guid(&mut self, key: &str, guid: &[u8; 16]) -> Result<(), AllocError> {
         let mut buffer = [0; 36];
         self.put_text(key, text_of(guid, &mut buffer))
     }
 
-    /// One more, a number.
+    /// Adds a number.
     pub(crate) fn put_number(&mut self, key: &str, number: u64) -> Result<(), AllocError> {
         self.put(key, Value::from(number))
     }
 
-    /// One more, a list.
+    /// Adds a list.
     pub(crate) fn put_list(&mut self, key: &str, list: Vec<Value>) -> Result<(), AllocError> {
         self.put(key, Value::Array(list))
     }
 
-    /// One more, of any value.
+    /// Adds a value.
     pub(crate) fn put(&mut self, key: &str, value: Value) -> Result<(), AllocError> {
         put(&mut self.map, self.alloc, key, value)
     }
 
-    /// The object.
+    /// Returns the object.
     pub(crate) fn into_value(self) -> Value {
         let Members { map, .. } = self;
         Value::Object(map)

@@ -1,4 +1,4 @@
-//! That no copy of a table is good, what is wrong with each, and what can still be read.
+//! The failure that no copy of a table is good.
 
 use crate::fault::Meaning;
 use crate::way::SAVE;
@@ -7,14 +7,15 @@ use gptedit_salvage::{FoundCopy, Place, Salvaged};
 use gptedit_text::values::Escaped;
 use std::fmt;
 
-/// That no copy of a table is good, and what to do, in two or three lines without the last newline.
+/// Message: no copy of the table is good, the fault of each, and the remedy. Two or three lines, without the last
+/// newline.
 #[derive(Clone, Copy)]
 pub struct NoTableText<'a> {
-    /// The look at the disk.
+    /// The inspection of the disk.
     pub look: &'a Look,
-    /// What can still be read.
+    /// The readable remains.
     pub salvaged: &'a Salvaged,
-    /// The image or device, as it was named.
+    /// The path of the image or device, as given by the user.
     pub image: &'a str,
 }
 
@@ -49,7 +50,7 @@ impl fmt::Display for NoTableText<'_> {
     }
 }
 
-// How many entries can be read at the place of a copy.
+// Returns the number of readable entries in the place of a copy.
 fn count_in(salvaged: &Salvaged, place: Place) -> usize {
     let mut most = 0;
     for copy in salvaged.copies.iter() {
@@ -60,7 +61,7 @@ fn count_in(salvaged: &Salvaged, place: Place) -> usize {
     most
 }
 
-// At the place of which copy the entries of this one were read.
+// Returns the place from which the entries of a copy were read.
 fn place_of_entries(copy: &FoundCopy) -> Place {
     match copy.spot.place {
         place if !copy.has_others_entries() => place,

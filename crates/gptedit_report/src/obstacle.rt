@@ -1,33 +1,33 @@
-//! What a write would overwrite, and what lifts that refusal.
+//! The refusal to overwrite data.
 
 use gptedit_look::{Obstacle, Purpose, What};
 use gptedit_text::values::Escaped;
 use gptman::GPT;
 use std::fmt;
 
-/// What is in the place of a broken copy, where only `repair` writes.
+/// The contents of the place of a broken copy, which only `repair` overwrites.
 #[derive(Clone, Copy, PartialEq, Eq, Debug)]
 pub enum Remains {
     /// The entries of the table.
     SameEntries,
     /// Entries of another table, or older ones of this table.
     OtherEntries,
-    /// Something else.
+    /// Unknown data.
     Unknown,
 }
 
-/// That a write would overwrite something, and what to do, in two lines without the last newline.
+/// Message: a write would overwrite data, and the remedy. Two lines, without the last newline.
 #[derive(Clone, Copy)]
 pub struct ObstacleText<'a> {
-    /// What is in the way.
+    /// The data.
     pub obstacle: &'a Obstacle,
-    /// What that is in the place of a broken copy.
+    /// Its kind, if it is in the place of a broken copy.
     pub remains: Remains,
-    /// What the table is written for.
+    /// The purpose of the write.
     pub purpose: Purpose,
-    /// The table that is there, if one is read.
+    /// The table on the disk, if one was read.
     pub table: Option<&'a GPT>,
-    /// The image or device, as it was named.
+    /// The path of the image or device, as given by the user.
     pub image: &'a str,
 }
 
@@ -52,16 +52,16 @@ impl fmt::Display for ObstacleText<'_> {
     }
 }
 
-// What is said of a disk with a DOS partition table.
+// The refusal for a disk with a DOS partition table.
 const DOS: &str =
     "the disk has a DOS partition table, and its boot loader may be in sectors 1..33\n\
     --overwrite writes the GUID partition table all the same";
 
-// What lifts the refusal of a change.
+// The option that permits a change.
 const LIFTED: &str = "--overwrite writes the table all the same";
 
 impl ObstacleText<'_> {
-    // What a new table would overwrite.
+    // Writes the refusal of a new table.
     fn write_new<W: fmt::Write>(&self, f: &mut fmt::Formatter<W>) -> fmt::Result {
         write!(f, "there is {}", self.what())?;
         if let (What::Table, Some(table)) = (self.obstacle.what, self.table) {
@@ -71,7 +71,7 @@ impl ObstacleText<'_> {
         f.write_str(", which would be lost\n--overwrite writes a new table all the same")
     }
 
-    // The sectors, and what is there.
+    // Writes the sectors and their contents.
     fn write_range<W: fmt::Write>(&self, f: &mut fmt::Formatter<W>) -> fmt::Result {
         let Obstacle { first, last, .. } = *self.obstacle;
         writeln!(
@@ -81,7 +81,7 @@ impl ObstacleText<'_> {
         )
     }
 
-    // That `repair` writes there. Over the same entries it replaces nothing.
+    // Writes that `repair` writes there. Over the same entries it replaces nothing.
     fn write_repair<W: fmt::Write>(&self, f: &mut fmt::Formatter<W>) -> fmt::Result {
         let image = Escaped(self.image);
         write!(f, "`gptedit repair {image}` writes the copy there")?;
@@ -94,7 +94,6 @@ impl ObstacleText<'_> {
         )
     }
 
-    // What is in the way.
     fn what(&self) -> WhatText {
         WhatText {
             what: self.obstacle.what,
@@ -103,12 +102,12 @@ impl ObstacleText<'_> {
     }
 }
 
-/// What was recognised, as in a sentence.
+/// The data that was recognised, for use within a sentence.
 #[derive(Clone, Copy)]
 pub struct WhatText {
-    /// What it is.
+    /// The kind of data.
     pub what: What,
-    /// What it is in the place of a broken copy.
+    /// Its kind, if it is in the place of a broken copy.
     pub remains: Remains,
 }
 
@@ -128,7 +127,7 @@ impl fmt::Display for WhatText {
     }
 }
 
-// What is in the place of a broken copy.
+// Returns the name of the contents of the place of a broken copy.
 fn remains_name(remains: Remains) -> &'static str {
     match remains {
         Remains::SameEntries => "an array of the entries of this table, without a good header",
@@ -139,7 +138,7 @@ fn remains_name(remains: Remains) -> &'static str {
     }
 }
 
-// What was recognised, where that has no name of its own.
+// Returns the name of data whose format has no name.
 fn plain_name(what: What) -> &'static str {
     match what {
         What::DosDisk => "an MBR with partitions",

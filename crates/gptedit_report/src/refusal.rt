@@ -1,4 +1,4 @@
-//! Why what was asked for cannot be had, and what to do.
+//! Explains why a request is refused.
 
 use crate::texts::EntryText;
 use gptedit_core::{Amount, Refusal};
@@ -6,17 +6,16 @@ use gptedit_text::values::{AmountText, Escaped};
 use gptman::GPT;
 use std::fmt;
 
-/// Why what was asked for cannot be had of a table, and what to do, in one or two lines without the last
-/// newline.
+/// Message: a request is refused, and the remedy. One or two lines, without the last newline.
 #[derive(Clone, Copy)]
 pub struct RefusalText<'a> {
     /// The refusal.
     pub refusal: &'a Refusal,
-    /// The table as it is on the disk, or would be without partitions; `None` if there is none.
+    /// The table on the disk, or a new one without partitions; `None` if there is none.
     pub table: Option<&'a GPT>,
     /// The sector size in bytes.
     pub sector_size: u64,
-    /// The image or device, as it was named.
+    /// The path of the image or device, as given by the user.
     pub image: &'a str,
 }
 
@@ -50,7 +49,7 @@ impl fmt::Display for RefusalText<'_> {
 }
 
 impl RefusalText<'_> {
-    // How many entries the table has.
+    // Returns the number of entries of the table.
     fn count(&self) -> u32 {
         match self.table {
             Some(table) => table.header.number_of_partition_entries,
@@ -121,7 +120,7 @@ impl RefusalText<'_> {
         )
     }
 
-    // The number of a partition, and what is there.
+    // Writes the number of a partition, and its entry.
     fn write_entry<W: fmt::Write>(&self, f: &mut fmt::Formatter<W>, number: u32) -> fmt::Result {
         write!(f, "partition {number}")?;
         match self.table.and_then(|table| table.get(number)) {
@@ -134,7 +133,7 @@ impl RefusalText<'_> {
     }
 }
 
-// That an amount is no whole number of sectors, and the next one that is, in bytes and in sectors.
+// Writes that an amount is not a whole number of sectors, and the next one that is, in bytes and in sectors.
 fn write_not_whole<W: fmt::Write>(
     f: &mut fmt::Formatter<W>,
     amount: Amount,
@@ -151,7 +150,7 @@ fn write_not_whole<W: fmt::Write>(
     write!(f, ": say {bytes}B or {sectors}s")
 }
 
-// The amount in bytes and in sectors, made a whole number of sectors.
+// Returns the amount, rounded up to a whole number of sectors, in bytes and in sectors.
 fn round_up(amount: Amount, sector_size: u64) -> Option<(u64, u64)> {
     match amount {
         Amount::Bytes(bytes) if sector_size > 0 => {
@@ -184,7 +183,7 @@ fn write_too_large<W: fmt::Write>(f: &mut fmt::Formatter<W>, number: u32) -> fmt
     )
 }
 
-/// That a table does not stand where gptedit writes one, and what to do.
+/// Writes that a table does not have the stated layout, and the remedy.
 pub fn write_not_laid_out<W: fmt::Write>(f: &mut fmt::Formatter<W>, image: &str) -> fmt::Result {
     let image = Escaped(image);
     writeln!(f, "the table does not stand where gptedit writes one")?;
@@ -227,7 +226,7 @@ fn write_no_safe_order<W: fmt::Write>(f: &mut fmt::Formatter<W>) -> fmt::Result 
     f.write_str("--overwrite writes it all the same: a stop meanwhile may leave neither")
 }
 
-/// That two partitions would have one GUID, and what to do.
+/// Writes that two partitions would have the same GUID, and the remedy.
 pub fn write_shared_guid<W: fmt::Write>(f: &mut fmt::Formatter<W>, image: &str) -> fmt::Result {
     let image = Escaped(image);
     writeln!(f, "two partitions would have one GUID")?;
@@ -237,7 +236,7 @@ pub fn write_shared_guid<W: fmt::Write>(f: &mut fmt::Formatter<W>, image: &str) 
     )
 }
 
-/// That partitions would overlap or lie outside of the usable sectors, and what to do.
+/// Writes that partitions would overlap or be outside the usable sectors, and the remedy.
 pub fn write_bad_boundaries<W: fmt::Write>(
     f: &mut fmt::Formatter<W>,
     image: &str,

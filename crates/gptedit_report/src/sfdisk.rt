@@ -1,18 +1,18 @@
-//! Spellings of `sfdisk --json`.
+//! The spellings of `sfdisk --json`.
 
 use std::fmt;
 
-// The attributes that have a name there, each with its bit.
+// The attributes that have names in `sfdisk`, with their bits.
 const NAMES: [(&str, u64); 3] = [
     ("RequiredPartition", 1),
     ("NoBlockIOProtocol", 2),
     ("LegacyBIOSBootable", 4),
 ];
 
-// The lowest bit of those that belong to the type of the partition.
+// The lowest attribute bit that belongs to the partition type.
 const TYPE_BITS: u32 = 48;
 
-/// The attributes as sfdisk spells them, as `RequiredPartition GUID:60,63`. It has no spelling for bits 3 to
+/// The attributes as `sfdisk` spells them, for example `RequiredPartition GUID:60,63`. It has no spelling for bits 3 to
 /// 47.
 #[derive(Clone, Copy)]
 pub(crate) struct Attributes(pub(crate) u64);
@@ -34,7 +34,7 @@ impl fmt::Display for Attributes {
     }
 }
 
-// The numbers of the bits that belong to the type.
+// Writes the numbers of the bits that belong to the type.
 fn write_type_bits<W: fmt::Write>(f: &mut fmt::Formatter<W>, bits: u64) -> fmt::Result {
     let mut comma = "";
     for bit in TYPE_BITS..64 {
@@ -46,7 +46,7 @@ fn write_type_bits<W: fmt::Write>(f: &mut fmt::Formatter<W>, bits: u64) -> fmt::
     Ok(())
 }
 
-/// What stands between a device's name and the number of a partition.
+/// Returns the text between a device name and a partition number.
 pub(crate) fn separator_of(image: &str) -> &'static str {
     match image.as_bytes() {
         [.., b'0'..=b'9'] => "p",

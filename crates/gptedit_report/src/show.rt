@@ -1,4 +1,4 @@
-//! A table for people.
+//! Prints a table for people.
 
 use crate::columns::{Column, print_columns, push_cell};
 use crate::copies::CopiesState;
@@ -9,7 +9,7 @@ use std::alloc::{AllocError, Global};
 use std::io;
 use std::io::Write;
 
-// What is shown of a partition.
+// The columns of a partition.
 const COLUMNS: [Column; 8] = [
     Column::Right("#", 2),
     Column::Right("Start", 6),
@@ -21,11 +21,10 @@ const COLUMNS: [Column; 8] = [
     Column::Left("Attributes", 0),
 ];
 
-/// Prints a table that stands on a disk of so many bytes, and what its two copies are: two lines about the
-/// disk, and where there are partitions, an empty line and a line for each under headings. Starts and ends
-/// are in sectors.
+/// Prints a table on a disk of `size` bytes and the state of its copies: two lines about the disk, and if there are
+/// partitions, an empty line and a line for each under headings. Starts and ends are in sectors.
 ///
-/// An error comes where `out` failed, and where there is no memory.
+/// Returns the error of `out`, or `OutOfMemory`.
 pub fn show_table<W: Write>(
     out: &mut W,
     alloc: Global,
@@ -44,7 +43,7 @@ pub fn show_table<W: Write>(
     print_columns(out, alloc, COLUMNS.as_slice(), &rows)
 }
 
-// Prints how large the disk is, and its GUID.
+// Prints the size of the disk and its GUID.
 fn print_disk<W: Write>(out: &mut W, image: &str, size: u64, table: &GPT) -> io::Result<()> {
     let sector_size = table.sector_size;
     let sectors = size.checked_div(sector_size).unwrap_or(0);
@@ -58,7 +57,7 @@ fn print_disk<W: Write>(out: &mut W, image: &str, size: u64, table: &GPT) -> io:
     )
 }
 
-// Prints which sectors partitions may use, how many entries there are, and what the copies are.
+// Prints the usable sectors, the number of entries, and the state of the copies.
 fn print_usable<W: Write>(out: &mut W, table: &GPT, state: &CopiesState<'_>) -> io::Result<()> {
     let (first, last) = (table.header.first_usable_lba, table.header.last_usable_lba);
     let count = table.header.number_of_partition_entries;
@@ -68,7 +67,7 @@ fn print_usable<W: Write>(out: &mut W, table: &GPT, state: &CopiesState<'_>) -> 
     )
 }
 
-// The cells of each used entry.
+// Returns the cells of each used entry.
 fn rows_of(alloc: Global, table: &GPT) -> Result<Vec<Vec<String>>, AllocError> {
     let mut rows = Vec::new(alloc);
     for (number, entry) in table.iter() {
@@ -79,7 +78,7 @@ fn rows_of(alloc: Global, table: &GPT) -> Result<Vec<Vec<String>>, AllocError> {
     Ok(rows)
 }
 
-// The cells of an entry.
+// Returns the cells of an entry.
 fn row_of(
     alloc: Global,
     number: u32,

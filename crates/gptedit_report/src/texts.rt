@@ -6,8 +6,7 @@ use gptman::{GPTPartitionEntry, PartitionName};
 use std::char::decode_utf16;
 use std::fmt;
 
-/// A name as it stands on the disk. Hidden characters, and surrogates that are not part of a pair, are written
-/// as `\u{..}`.
+/// A name as stored on the disk. Hidden characters and unpaired surrogates are written as `\u{..}`.
 #[derive(Clone, Copy)]
 pub(crate) struct NameText<'a>(pub(crate) &'a PartitionName);
 
@@ -24,7 +23,7 @@ impl fmt::Display for NameText<'_> {
     }
 }
 
-/// A name in quotes, as `NameText` writes it; a quote in it and a backslash have a backslash before them.
+/// A name in quotes, as `NameText` writes it, with a backslash before each quote and backslash.
 #[derive(Clone, Copy)]
 pub(crate) struct QuotedName<'a>(pub(crate) &'a PartitionName);
 
@@ -44,7 +43,7 @@ impl fmt::Display for QuotedName<'_> {
     }
 }
 
-// Writes a surrogate that is not part of a pair.
+// Writes an unpaired surrogate.
 fn write_surrogate<W: fmt::Write>(f: &mut fmt::Formatter<W>, unit: u16) -> fmt::Result {
     write!(f, "{}", EscapedCode(u32::from(unit)))
 }
@@ -63,7 +62,7 @@ impl fmt::Display for GuidText<'_> {
     }
 }
 
-/// The name of a type, or else its GUID.
+/// The name of a type, or its GUID if it has none.
 #[derive(Clone, Copy)]
 pub(crate) struct TypeText<'a>(pub(crate) &'a [u8; 16]);
 
@@ -76,8 +75,7 @@ impl fmt::Display for TypeText<'_> {
     }
 }
 
-/// How many bytes a partition has, where sectors have so many: as for people, and nothing for one that ends
-/// before it starts.
+/// The size of a partition for people, or nothing if it ends before it starts.
 #[derive(Clone, Copy)]
 pub(crate) struct SizeText<'a> {
     pub(crate) entry: &'a GPTPartitionEntry,
@@ -93,7 +91,7 @@ impl fmt::Display for SizeText<'_> {
     }
 }
 
-/// The sectors of an entry, from the first to the last, and its size.
+/// The first and last sector of an entry, and its size.
 #[derive(Clone, Copy)]
 pub(crate) struct SectorsText<'a> {
     pub(crate) entry: &'a GPTPartitionEntry,

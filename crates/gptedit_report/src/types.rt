@@ -1,4 +1,4 @@
-//! The types of partitions that have a name.
+//! Prints the partition types that have names.
 
 use crate::columns::{Column, print_columns, push_cell};
 use crate::members::Members;
@@ -9,12 +9,12 @@ use std::alloc::{AllocError, Global};
 use std::io;
 use std::io::Write;
 
-// What is told of a type.
+// The columns of a type.
 const COLUMNS: [Column; 2] = [Column::Left("Name", 0), Column::Left("GUID", 0)];
 
-/// Prints the types that have a name, under headings a line for each: its name and its GUID.
+/// Prints the types that have names, one line each under headings: name and GUID.
 ///
-/// An error comes where `out` failed, and where there is no memory.
+/// Returns the error of `out`, or `OutOfMemory`.
 pub fn print_types<W: Write>(out: &mut W, alloc: Global) -> io::Result<()> {
     let mut rows = Vec::new(alloc);
     for (name, _) in gptguid_core::types() {
@@ -25,7 +25,7 @@ pub fn print_types<W: Write>(out: &mut W, alloc: Global) -> io::Result<()> {
     print_columns(out, alloc, COLUMNS.as_slice(), &rows)
 }
 
-// The cells of a type.
+// Returns the cells of a type.
 fn row_of(alloc: Global, name: &str, guid: &[u8; 16]) -> Result<Vec<String>, AllocError> {
     let mut row = Vec::with_capacity(alloc, COLUMNS.len())?;
     push_cell(alloc, &mut row, &name)?;
@@ -33,7 +33,7 @@ fn row_of(alloc: Global, name: &str, guid: &[u8; 16]) -> Result<Vec<String>, All
     Ok(row)
 }
 
-/// The types that have a name as JSON: a list of `name` and `guid`, in upper case.
+/// Returns the types that have names as JSON: a list of `name` and `guid`, in upper case.
 pub fn types_json(alloc: Global) -> Result<String, AllocError> {
     let mut values = Vec::new(alloc);
     for (name, _) in gptguid_core::types() {
@@ -44,7 +44,6 @@ pub fn types_json(alloc: Global) -> Result<String, AllocError> {
     Value::Array(values).to_string_pretty(alloc)
 }
 
-// A type.
 fn type_value(alloc: Global, name: &str, guid: &[u8; 16]) -> Result<Value, AllocError> {
     let mut members = Members::new(alloc);
     members.put_text("name", name)?;

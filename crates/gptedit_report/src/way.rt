@@ -1,10 +1,10 @@
-//! The commands that mend what is wrong, and what is said if none does.
+//! The commands that correct findings, and the advice if none does.
 
 use gptedit_text::values::Escaped;
 use std::alloc::{AllocError, Global};
 use std::fmt;
 
-/// A command that may mend something.
+/// A command that may correct a finding.
 #[derive(Clone, Drop, Debug, PartialEq, Eq)]
 pub enum Way {
     /// `repair`
@@ -15,7 +15,7 @@ pub enum Way {
     Grow,
     /// `randomize`
     Randomize,
-    /// `set --guid` of the entry of this number.
+    /// `set --guid` on the entry of this number.
     SetGuid(u32),
     /// `remove` of the entries of these numbers.
     Remove(Vec<u32>),
@@ -24,12 +24,12 @@ pub enum Way {
 }
 
 impl Way {
-    /// Returns the way that removes one entry.
+    /// Returns the command that removes one entry.
     pub(crate) fn remove(alloc: Global, number: u32) -> Result<Way, AllocError> {
         Ok(Way::Remove(vec![in alloc; number]?))
     }
 
-    /// Returns the word of the command.
+    /// Returns the name of the command.
     pub fn command(&self) -> &'static str {
         match self {
             Way::Repair | Way::RepairBounds => "repair",
@@ -42,18 +42,18 @@ impl Way {
     }
 }
 
-/// What is said if no command mends something.
+/// The advice if no command corrects a finding.
 #[derive(Clone, Copy, PartialEq, Eq, Debug)]
 pub enum Otherwise {
-    /// There is no table: the disk is to be copied first.
+    /// Copy the disk first: there is no table.
     Save,
-    /// The disk is to have so many bytes, as it had before.
+    /// Restore the former length of the disk, in bytes.
     Lengthen(u64),
-    /// The tool that made it.
+    /// Use the tool that made it.
     OtherTool,
 }
 
-/// A command on an image, or what else is to be done.
+/// A command on an image, or the advice if there is none.
 #[derive(Clone, Copy)]
 pub(crate) struct WayOut<'a> {
     pub(crate) way: Option<&'a Way>,
@@ -90,7 +90,7 @@ impl fmt::Display for WayOut<'_> {
     }
 }
 
-// What is to be done where no command mends it.
+// Writes the advice if no command corrects a finding.
 fn write_otherwise<W: fmt::Write>(
     f: &mut fmt::Formatter<W>,
     otherwise: Otherwise,
@@ -111,7 +111,7 @@ fn write_otherwise<W: fmt::Write>(
     }
 }
 
-/// The command that gives an image so many bytes.
+/// The command that sets the length of an image to `size` bytes.
 #[derive(Clone, Copy)]
 pub(crate) struct Truncate<'a> {
     pub(crate) size: u64,
@@ -125,5 +125,5 @@ impl fmt::Display for Truncate<'_> {
     }
 }
 
-/// What is said of a disk whose table cannot be read.
+/// The advice for a disk whose table cannot be read.
 pub(crate) const SAVE: &str = "copy the disk before anything is written to it";

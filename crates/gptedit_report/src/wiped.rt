@@ -1,11 +1,11 @@
-//! That a table was cleared, as JSON.
+//! The result of `wipe` as JSON.
 
 use crate::json::print_json;
 use crate::members::Members;
 use serde_json::Value;
 use std::alloc::{AllocError, Global};
 
-/// Returns as JSON whether a table was cleared, or would be: `device`, `wiped`, and of a dry run `dry_run`.
+/// Returns whether a table was or would be cleared, as JSON: `device`, `wiped`, and for a dry run `dry_run`.
 pub fn wiped_json(
     alloc: Global,
     image: &str,
