@@ -14,7 +14,7 @@ use Rattle.gptman.proofs.Ranges.{Ranges, contains_first}
 use Rattle.gptman.proofs.Runs.{leaves_then}
 use Rattle.gptman.specs.Table.{grow_to}
 
--- a stop of calls that only read leaves a table that was held, with nothing pending
+-- a crash during calls that only read leaves a table that was held, if nothing is pending
 pub still_held : (a b : DiskState) (ss : ℕ) (was : Table) (more : List Table) → a.pending ≡ [] → OnlyRead a b → Holds a.view ss primary was → LeavesOnly a b (λ x. HoldsOneOf x ss (was ∷ more))
 still_held a b ss was more synced only held x left =
     let same : AgreesOutside [] a.view x = subst (λ (ps : Ranges). AgreesOutside ps a.view x) synced (only.wrote.crash x left) in
@@ -25,7 +25,7 @@ still_held a b ss was more synced only held x left =
       holds = holds_local a.view x ss primary was held (record { long = same.long; same = λ k inside. same.same k tt });
     }
 
--- The value that was fitted, over the calls that fitted it, has the layout that it has on the disk before them.
+-- The fitted value has, after the calls that fitted it, the layout that it has on the disk before them.
 module _ (a b d : DiskState) (g mid : GPT) (same : mid ≡ grow_to g a.size) (keeps : Keeps a b) (layout : HasLayout (grow_to g a.size) a.size) where
   fitted_layout : HasLayout mid b.size
   fitted_layout =
@@ -37,7 +37,7 @@ module _ (a b d : DiskState) (g mid : GPT) (same : mid ≡ grow_to g a.size) (ke
       → OnOk r (IsStored d g.sector_size (table_in (grow_to g a.size)))
   grown_stored r stored = subst (λ (m : GPT). OnOk r (IsStored d m.sector_size (table_in m))) same (stored fitted_layout)
 
-  -- and a stop at any moment leaves the old table or the fitted one.
+  -- and a crash at any moment leaves the old table or the fitted one.
   pub grown_held : (rs : Ranges) → a.pending ≡ [] → OnlyRead a b → IsHeaderForm primary g.header → Holds a.view g.sector_size primary (table_in g) → GrowingIsSafe b → Wrote rs b d
       → (HasLayout mid b.size → (was : Table) → IsKeptFor b mid was → LeavesOnly b d (λ x. HoldsOneOf x mid.sector_size (was ∷ table_in mid ∷ [])))
       → LeavesOnly a d (λ x. HoldsOneOf x g.sector_size (table_in g ∷ table_in (grow_to g a.size) ∷ []))

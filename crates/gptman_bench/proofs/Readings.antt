@@ -1,4 +1,4 @@
--- What a reading answers is held, and a copy that stands is what it answers.
+-- The result of a read is held, and a right copy in sector 1 is the result.
 use Rattle.std.proofs.Common.{◌≡◌, ◌<◌, ◌^◌, ◌⊎◌, inl, inr, ℕ, List, length, Ok, Err, sym, subst}
 use Rattle.std.specs.Prelude.{Result, IfOk}
 use Rattle.gptman.specs.Answers.{answer_of, Refuses}
@@ -16,7 +16,7 @@ use Rattle.gptman.specs.Error.{Error}
 use Rattle.gptman.specs.declared.table.GPT.{GPT}
 use Rattle.gptman.proofs.Fallback.{taken_first}
 
--- what is read in the form of its side is held there, unless the disk failed
+-- a table that is read in the form of its place is held there, unless the disk failed
 pub held_read : HoldsWhatIsRead → (ss : ℕ) (r : Result GPT Error) (a b : DiskState) → OnlyRead a b → Rose a b ⊎ (Refuses r out_of_memory ⊎ (answer_of copy_of r ≡ reading_of a.view ss))
     → Rose a b ⊎ IfOk r (λ g. IsHeaderForm (taken_from a.view ss) g.header → Holds b.view ss (taken_from a.view ss) (table_in g))
 held_read law ss r a b only (inl rose) = inl rose
@@ -25,7 +25,7 @@ held_read law ss (Ok g) a b only (inr (inl no_memory)) = absurd no_memory
 held_read law ss (Ok g) a b only (inr (inr is)) =
     inr (λ form. subst (λ (view : List ℕ). Holds view ss (taken_from a.view ss) (table_in g)) (sym only.view) (law a.view ss (copy_of g) (sym is) form))
 
--- a copy that stands in sector 1 is what is read
+-- a right copy in sector 1 is read
 pub standing_read : AcceptsWhatStands → (ss : ℕ) (r : Result GPT Error) (a b : DiskState) (h : GPTHeader) (es : List GPTPartitionEntry) → length a.view < 2 ^ 64 → CopyAt a.view ss ss h es
     → AnswersReading (reading_of a.view ss) r a b → AnswersReading (Ok (record { header = h; entries = es })) r a b
 unfolding copy_in

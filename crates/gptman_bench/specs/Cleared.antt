@@ -1,4 +1,4 @@
--- What a caller that clears attributes makes of an entry.
+-- An entry with its attributes cleared.
 use Rattle.gptman.specs.declared.codec.entry.GPTPartitionEntry.{GPTPartitionEntry}
 
 abbrev pub cleared : GPTPartitionEntry → GPTPartitionEntry

@@ -1,59 +1,59 @@
-//! What calls answer, as text that is compared with rows.
+//! Assertions on results of calls, as text.
 
 use gptman::{GPT, Result};
 use std::fmt::Debug;
 use std::process::Abort;
 use test_fixtures::{calls, told};
 
-/// What is said where an entry has no place of its own within the usable sectors.
+/// The text of `InvalidPartitionBoundaries`.
 pub(crate) const BOUNDARIES: &str =
     "invalid partition boundaries: partitions must have positive size, must not overlap, and must fit \
      within the disk";
 
-/// What is said where a number does not fit.
+/// The text of `Overflow`.
 pub(crate) const OVERFLOW: &str = "an arithmetic operation overflowed";
 
-/// What helpers of tests take: what stops a test that fails, and memory.
+/// The traits that test helpers need: to fail a test, and memory.
 pub(crate) trait Host: Abort + AllocGlobal {}
 
 impl<R: Abort + AllocGlobal> Host for R {}
 
-/// The value of a call that must be done.
+/// Returns the value of a call that must succeed.
 pub(crate) fn got<T, E: Debug>(rt: &impl Abort, outcome: std::result::Result<T, E>) -> T {
     outcome.expect(rt, "a call that should be done was refused")
 }
 
-/// The text is the one that is wanted.
+/// Asserts that two texts are equal.
 pub(crate) fn assert_text(rt: &impl Abort, text: &str, wanted: &str) {
     assert!(rt; text == wanted, "{text}");
 }
 
-/// The call was answered so: with "ok", or with the text of its error.
+/// Asserts that the result of a call is "ok", or an error with this text.
 pub(crate) fn assert_said<T>(rt: &impl Host, outcome: &Result<T>, said: &str) {
     assert_text(rt, got(rt, told::said(rt.alloc(), outcome)).as_str(), said);
 }
 
-/// The table has these used entries.
+/// Asserts that the table has these used entries.
 pub(crate) fn assert_used(rt: &impl Host, table: &GPT, said: &str) {
     assert_text(rt, got(rt, told::used(rt.alloc(), table)).as_str(), said);
 }
 
-/// The table has this text.
+/// Asserts that the table has this text.
 pub(crate) fn assert_shown(rt: &impl Host, table: &GPT, said: &str) {
     assert_text(rt, got(rt, told::shown(rt.alloc(), table)).as_str(), said);
 }
 
-/// The call answered a table of this text, or with an error of this text.
+/// Asserts that the result of a call is a table of this text, or an error with this text.
 pub(crate) fn assert_told(rt: &impl Host, outcome: &Result<GPT>, said: &str) {
     assert_text(rt, got(rt, told::told(rt.alloc(), outcome)).as_str(), said);
 }
 
-/// The tables are equal.
+/// Asserts that two tables are equal.
 pub(crate) fn assert_same(rt: &impl Abort, one: &GPT, other: &GPT) {
     assert!(rt; calls::are_equal(one, other));
 }
 
-/// The value is printed for debugging with this start, and with the other text in it.
+/// Asserts that the debug output of the value starts with `start` and contains `within`.
 pub(crate) fn assert_printed(rt: &impl Host, value: &impl Debug, start: &str, within: &str) {
     let text = got(rt, format!(in rt.alloc(); "{value:?}"));
     assert!(rt; text.as_str().starts_with(start) && text.as_str().contains(within));

@@ -1,4 +1,4 @@
-//! Callers that know a table by the library's contracts alone. What each ensures is proved from them.
+//! Callers whose contracts are proved from the contracts of the library only.
 
 ghost use Rattle.std.specs.Prelude.{◌≡◌, ◌≢◌, ◌<◌, ◌+◌, ◌⊎◌, ◌↔◌, [], ◌∷◌, Ok, count_by};
 ghost use Rattle.std.specs.Prelude.{filter, length, map, All, IsTrue, IfOk, List, MatchOption};
@@ -32,21 +32,21 @@ use std::alloc::{AllocError, Global};
 use std::process::Abort;
 use test_fixtures::calls::apply;
 
-/// Whether two tables are equal in all their fields.
+/// Reports whether two tables are equal in all fields.
 fn are_equal(a: &GPT, b: &GPT) -> bool
     ensures { IsTrue result ↔ (a.now ≡ b.now) }
 {
     a == b
 }
 
-/// Whether two entries are equal in all their fields, texts and units included.
+/// Reports whether two entries are equal in all fields, including the text and units of the name.
 fn are_equal_entries(a: &gptman::GPTPartitionEntry, b: &gptman::GPTPartitionEntry) -> bool
     ensures { IsTrue result ↔ (a.now ≡ b.now) }
 {
     a == b
 }
 
-/// Sorts the entries twice, which is sorting them once.
+/// Sorts the entries twice. The result is that of sorting them once.
 fn sort_twice(table: &mut GPT) -> Result<()>
     ensures { OnOk result (table.new ≡ with_entries table.old (by_rank rank (entries_in table.old))) }
 {
@@ -54,9 +54,8 @@ fn sort_twice(table: &mut GPT) -> Result<()>
     table.sort()
 }
 
-/// Gives the entry so many sectors, or one if that is 0, at the first place that there is, and puts it
-/// under the number. Answers whether there was a place. A valid table stays valid, unless a used entry
-/// has the new one's GUID.
+/// Puts an entry of `size` sectors (one if `size` is 0) under the number, at the first place. Returns whether there was
+/// a place. A valid table stays valid, unless a used entry has the GUID of the new one.
 fn add_first(table: &mut GPT, number: u32, entry: GPTPartitionEntry, size: u64) -> Result<bool>
     requires aligned { 0 < table.old.align }
     requires number { IsNumber table.old number }
@@ -79,8 +78,8 @@ fn add_first(table: &mut GPT, number: u32, entry: GPTPartitionEntry, size: u64) 
     Ok(true)
 }
 
-/// The greatest size that a partition can be given, a multiple of `align`, and before it the least sector
-/// where it has a place. `None` only where not even `align` sectors have one.
+/// Returns the first place of the largest partition whose size is a multiple of `align`, as start and size in sectors.
+/// Returns `None` only if not even `align` sectors have a place.
 fn greatest_place(table: &GPT) -> Result<Option<(u64, u64)>>
     requires aligned { 0 < table.now.align }
     ensures { IfOk result (λ found. MatchOption found
@@ -99,7 +98,7 @@ fn greatest_place(table: &GPT) -> Result<Option<(u64, u64)>>
     Ok(Some((start, size)))
 }
 
-/// Clears the attributes of each entry, by the numbers. The whole list is known after it.
+/// Clears the attributes of each entry by number. The contract determines the whole list.
 fn clear_by_number(table: &mut GPT)
     requires { IsCoherent table.old.header (entries_in table.old) }
     ensures { table.new ≡ with_entries table.old (map cleared (entries_in table.old)) }
@@ -110,7 +109,7 @@ fn clear_by_number(table: &mut GPT)
     }
 }
 
-/// Clears the attributes of each entry, by the iterator. All but the entries is as it was.
+/// Clears the attributes of each entry with the iterator. The contract determines all but the entries.
 fn clear_by_iterator(table: &mut GPT)
     ensures rest { table.new ≡ with_entries table.old (entries_in table.new) }
     ensures len { length (entries_in table.new) ≡ length (entries_in table.old) }
@@ -120,7 +119,7 @@ fn clear_by_iterator(table: &mut GPT)
     }
 }
 
-/// How many entries are used, by a loop.
+/// Returns the number of used entries, counted in a loop.
 #[tactic(auto, using(gptman::proofs::Numbering::count_numbered))]
 fn count_used(table: &GPT) -> u64
     ensures { result ≡ count_by is_used (entries_in table.now) }
@@ -134,7 +133,7 @@ fn count_used(table: &GPT) -> u64
     count
 }
 
-/// The numbers of the used entries, by a chain.
+/// Returns the numbers of the used entries, with iterator adapters.
 fn used_numbers(alloc: Global, table: &GPT) -> std::result::Result<Vec<u32>, AllocError>
     ensures { IfOk result (λ v. v.items
         ≡ map (λ p. p.0) (filter (λ p. is_used p.1) (enumerate_from 1 (entries_in table.now)))) }
@@ -146,8 +145,8 @@ fn used_numbers(alloc: Global, table: &GPT) -> std::result::Result<Vec<u32>, All
         .collect(alloc)
 }
 
-/// Reads the table. Unless the disk failed, the place from which it is taken holds it, where it is in
-/// the form of that place.
+/// Reads the table. Unless the disk failed, the place from which it was read holds the table, if it is in the form of
+/// that place.
 fn read_held<D: Disk>(alloc: Global, disk: &mut D, sector_size: u64) -> Result<GPT>
     requires { 0 < sector_size }
     ensures coherent { IfOk result (λ g. IsCoherent g.header (entries_in g)) }
@@ -160,7 +159,7 @@ fn read_held<D: Disk>(alloc: Global, disk: &mut D, sector_size: u64) -> Result<G
     GPT::read_from(alloc, disk, sector_size)
 }
 
-/// Reads the table. Where a copy stands in sector 1, it is what is read.
+/// Reads the table. If sector 1 has a right header and right entries (`CopyAt`), these are the result.
 fn read_standing<D: Disk>(alloc: Global, disk: &mut D, sector_size: u64) -> Result<GPT>
     requires { 0 < sector_size }
     ensures { (h : GPTHeader) → (es : List GPTPartitionEntry)
@@ -172,9 +171,9 @@ fn read_standing<D: Disk>(alloc: Global, disk: &mut D, sector_size: u64) -> Resu
     GPT::read_from(alloc, disk, sector_size)
 }
 
-/// Fits the table to the disk and writes it. Where the primary place holds the table in the value's own
-/// form and nothing is pending, a stop at any moment leaves a disk that is read as the table or as the
-/// fitted one, unless the reading takes a foreign copy: also where a call failed.
+/// Fits the table to the disk and writes it. If the primary place holds the table, the value is in primary form and
+/// nothing is unsynced, a read after a crash at any moment returns the old or the fitted table, or a foreign copy. This
+/// holds also if a call failed.
 fn grow<D: Disk>(table: &mut GPT, disk: &mut D) -> Result<GPTHeader>
     requires sector { 0 < table.old.sector_size }
     requires coherent { IsCoherent table.old.header (entries_in table.old) }
@@ -193,7 +192,7 @@ fn grow<D: Disk>(table: &mut GPT, disk: &mut D) -> Result<GPTHeader>
     table.write_into(disk)
 }
 
-// So many entries are used, and these.
+// Asserts that these entries are used, and no others.
 fn assert_counted(rt: &impl Host, table: &GPT, numbers: &[u32]) {
     assert!(rt; count_used(table) == numbers.len() as u64);
     assert!(rt; got(rt, used_numbers(rt.alloc(), table)).as_slice() == numbers);
@@ -208,21 +207,21 @@ fn entries_are_counted_and_sorted(rt: HostRuntime) {
     assert_used(&rt, &table, ", 1 Foo 34..43, 2 Bar 48..52");
 }
 
-// "Baz" with these attributes.
+// Returns the entry "Baz" with these attributes.
 fn baz(rt: &impl Host, attribute_bits: u64) -> GPTPartitionEntry {
     let mut entry = partition(rt, ("Baz", 1), (44, 47));
     entry.attribute_bits = attribute_bits;
     entry
 }
 
-// Disk 1 with that entry.
+// Returns disk 1 with that entry.
 fn with_baz(rt: &impl Host, attribute_bits: u64) -> GPT {
     let mut table = disk_1(rt);
     got(rt, apply(&mut table, Edit::Put(3, baz(rt, attribute_bits))));
     table
 }
 
-// The table is as the other one once its attributes are cleared, and was not before.
+// Asserts that clearing the attributes of the table makes it equal to the other one, which it was not before.
 fn assert_cleared(rt: &impl Abort, table: &mut GPT, other: &GPT) {
     assert!(rt; !are_equal(table, other));
     assert!(rt; table.is_coherent());
@@ -236,33 +235,32 @@ fn attributes_are_cleared(rt: HostRuntime) {
     assert_cleared(&rt, &mut with_baz(&rt, 5), &with_baz(&rt, 0));
 }
 
-// Whether there is a place for "Baz" with so many sectors, where it is added.
+// Adds "Baz" with `size` sectors. Returns whether there was a place.
 fn is_added(rt: &impl Host, table: &mut GPT, size: u64) -> bool {
     assert!(rt; table.align > 0 && table.is_coherent());
     assert!(rt; table.header.number_of_partition_entries > 3);
     got(rt, add_first(table, 3, baz(rt, 0), size))
 }
 
-// The greatest place by this alignment.
+// Returns the place of the largest partition with this alignment.
 fn greatest(rt: &impl Abort, table: &mut GPT, align: u64) -> Option<(u64, u64)> {
     table.align = align;
     assert!(rt; table.align > 0);
     got(rt, greatest_place(table))
 }
 
-// The greatest place by this alignment is this one.
 fn assert_greatest(rt: &impl Abort, table: &mut GPT, align: u64, place: Option<(u64, u64)>) {
     assert!(rt; greatest(rt, table, align) == place);
 }
 
-// The free runs are 44 to 47 and 53 to 66.
+// The free ranges are 44..47 and 53..66.
 fn assert_places(rt: &impl Host, table: &mut GPT) {
     assert_greatest(rt, table, 10, None);
     assert_greatest(rt, table, 4, Some((56, 8)));
     assert_greatest(rt, table, 1, Some((53, 14)));
 }
 
-// The entry is added in the first of them.
+// The entry is added in the first free range.
 fn assert_added(rt: &impl Host, table: &mut GPT) {
     assert!(rt; !is_added(rt, table, 15));
     assert!(rt; is_added(rt, table, 4));
@@ -276,26 +274,26 @@ fn an_entry_is_added_where_there_is_a_place(rt: HostRuntime) {
     assert_added(&rt, &mut table);
 }
 
-// The table that the disk holds.
+// Returns the table that the disk holds.
 fn held(rt: &impl Host, disk: &mut MemoryDisk) -> GPT {
     got(rt, read_held(rt.alloc(), disk, 512))
 }
 
-// It is this one, and has this text.
+// Asserts that the disk holds this table, and that it has this text.
 fn assert_held(rt: &impl Host, disk: &mut MemoryDisk, table: &GPT, said: &str) {
     assert_same(rt, &held(rt, disk), table);
     assert_same(rt, &got(rt, read_standing(rt.alloc(), disk, 512)), table);
     assert_shown(rt, table, said);
 }
 
-// A disk of 200 sectors that holds a table for 100.
+// Returns a disk of 200 sectors that holds a table for 100.
 fn longer_disk(rt: &impl Host) -> MemoryDisk {
     let mut image = image_of_new(rt, 0);
     got(rt, image.resize(102_400, 0));
     holding(rt, &image)
 }
 
-// Fits the table to the disk, and writes it.
+// Fits the table to the disk and writes it.
 fn grow_on(rt: &impl Abort, table: &mut GPT, disk: &mut MemoryDisk) {
     assert!(rt; table.sector_size > 0 && table.is_coherent());
     got(rt, grow(table, disk));

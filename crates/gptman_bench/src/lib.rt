@@ -1,5 +1,5 @@
-//! The tests of `gptman` against values that come from elsewhere: vectors of the format, worked
-//! examples, and checksums of another program. It has no call of its own.
+//! Tests of `gptman`: those of the Rust crate, callers that are proved from its contracts, and cases that `test_rows`
+//! cannot express. It exports nothing.
 #![tactic(auto)]
 
 #[cfg(test)]

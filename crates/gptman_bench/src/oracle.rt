@@ -1,19 +1,19 @@
-//! A plain reader of byte lists, slow and written from the format alone: a bit of the checksum at a
-//! time, one field after the other. What it says is held against what the library reads.
+//! A second reader of images, slow and written only from the format: the checksum bit by bit, and field after field.
+//! The library is compared with it.
 
 use crate::asserts::{Host, got};
 use gptman::{Error, GPT};
 use test_fixtures::samples::read_image;
 use test_fixtures::told as texts;
 
-// So many bytes from this one on, where there are so many.
+// Returns `len` bytes from `at` on, if there are as many.
 fn part(bytes: &[u8], at: u128, len: u128) -> Option<&[u8]> {
     let start = usize::try_from(at).ok()?;
     let end = usize::try_from(at.checked_add(len)?).ok()?;
     bytes.get(start..end)
 }
 
-// The number of these bytes, the lowest first.
+// Decodes a little-endian number.
 fn number(bytes: &[u8]) -> u64 {
     let mut number = 0_u64;
     for byte in bytes.iter().rev() {
@@ -22,12 +22,12 @@ fn number(bytes: &[u8]) -> u64 {
     number
 }
 
-// The same of up to four bytes.
+// Decodes a little-endian number of up to four bytes.
 fn small(bytes: &[u8]) -> u32 {
     u32::try_from(number(bytes)).unwrap_or(u32::MAX)
 }
 
-// The register of the checksum a bit later.
+// Advances the register of the checksum by one bit.
 fn bit_later(register: u32) -> u32 {
     let half = register / 2;
     if register % 2 == 1 {
@@ -37,7 +37,7 @@ fn bit_later(register: u32) -> u32 {
     }
 }
 
-/// The CRC-32 of the bytes, a bit at a time.
+/// Returns the CRC-32 of the bytes, computed bit by bit.
 pub(crate) fn slow_checksum(bytes: &[u8]) -> u32 {
     let mut register = u32::MAX;
     for byte in bytes {
@@ -49,19 +49,18 @@ pub(crate) fn slow_checksum(bytes: &[u8]) -> u32 {
     !register
 }
 
-/// The checksum of a header, with its own field as zero.
+/// Returns the checksum of a header, with its own field as zero.
 pub(crate) fn header_checksum(header: &[u8; 92]) -> u32 {
     let mut bytes = *header;
     bytes[16..20].fill(0);
     slow_checksum(&bytes)
 }
 
-// The text of an error.
 fn text_of(rt: &impl Host, error: &Error) -> String {
     got(rt, texts::text_of(rt.alloc(), error))
 }
 
-// The fault of the header in these bytes, if there is one.
+// Returns the first fault of the header in these bytes, if any.
 fn header_fault(header: &[u8; 92]) -> Option<Error> {
     if !header.starts_with(b"EFI PART") {
         return Some(Error::InvalidSignature);
@@ -80,12 +79,12 @@ fn header_fault(header: &[u8; 92]) -> Option<Error> {
     None
 }
 
-// What is said where bytes pass the end.
+// The error of a read past the end.
 fn past_end() -> Error {
     Error::Io(std::io::Error::other("past the end"))
 }
 
-// The entries that the header names, or their fault.
+// Returns the entries to which the header refers, or their fault.
 fn entries_of<'a>(bytes: &'a [u8], header: &[u8; 92], sector_size: u64) -> Result<&'a [u8], Error> {
     let count = u128::from(number(&header[80..84]));
     let size = small(&header[84..88]);
@@ -108,7 +107,7 @@ fn entries_of<'a>(bytes: &'a [u8], header: &[u8; 92], sector_size: u64) -> Resul
     Ok(entries)
 }
 
-// The header and the entries of the copy at this byte, as hex text, or its fault.
+// Returns the header and entries of the copy at this byte as hex text, or its fault.
 fn copy(rt: &impl Host, bytes: &[u8], at: u64, sector_size: u64) -> Result<String, Error> {
     let Some(found) = part(bytes, u128::from(at), 92) else {
         return Err(past_end());
@@ -125,7 +124,6 @@ fn copy(rt: &impl Host, bytes: &[u8], at: u64, sector_size: u64) -> Result<Strin
     }
 }
 
-// The header and then the entries, as hex text.
 fn hex_of(rt: &impl Host, header: &[u8; 92], entries: &[u8]) -> String {
     let mut text = got(rt, hex::encode(rt.alloc(), header));
     let more = got(rt, hex::encode(rt.alloc(), entries));
@@ -133,7 +131,7 @@ fn hex_of(rt: &impl Host, header: &[u8; 92], entries: &[u8]) -> String {
     text
 }
 
-// What a reading says: the copy that it takes, or its fault.
+// Returns the expected text of a read: the accepted copy, or the error.
 fn expected(rt: &impl Host, bytes: &[u8], sector_size: u64) -> String {
     match copy(rt, bytes, sector_size, sector_size) {
         Ok(copy) => copy,
@@ -141,8 +139,7 @@ fn expected(rt: &impl Host, bytes: &[u8], sector_size: u64) -> String {
     }
 }
 
-// The same where the primary copy has this fault. There is no backup place on a disk of less than a
-// sector.
+// Returns the same if the primary copy has this fault. A disk shorter than a sector has no backup place.
 fn fallback(rt: &impl Host, bytes: &[u8], sector_size: u64, primary: &Error) -> String {
     let sectors = (bytes.len() as u64)
         .checked_div(sector_size)
@@ -156,7 +153,7 @@ fn fallback(rt: &impl Host, bytes: &[u8], sector_size: u64, primary: &Error) -> 
     }
 }
 
-// What is said of the faults of both copies.
+// Returns the text of the error if both copies have a fault.
 fn two_faults(rt: &impl Host, primary: &Error, backup: &Error) -> String {
     if matches!(primary, Error::InvalidSignature) && matches!(backup, Error::InvalidSignature) {
         return text_of(rt, primary);
@@ -167,7 +164,7 @@ fn two_faults(rt: &impl Host, primary: &Error, backup: &Error) -> String {
     got(rt, said)
 }
 
-// The table that the library reads, in the same words.
+// Returns the text of a table, as header and entries in hex.
 fn told(rt: &impl Host, table: &GPT) -> String {
     let mut entries = Vec::new(rt.alloc());
     for (_, entry) in table.iter() {
@@ -176,7 +173,7 @@ fn told(rt: &impl Host, table: &GPT) -> String {
     hex_of(rt, &table.header.encode(), &entries)
 }
 
-// What the library reads, in the same words.
+// Returns the text of the library's result.
 fn read(rt: &impl Host, bytes: &[u8], sector_size: u64) -> String {
     match read_image(rt.alloc(), bytes, sector_size) {
         Ok(table) => told(rt, &table),
@@ -184,7 +181,7 @@ fn read(rt: &impl Host, bytes: &[u8], sector_size: u64) -> String {
     }
 }
 
-/// Whether the library reads these bytes, of which a sector has some, as the plain reader does.
+/// Reports whether the library reads these bytes like the second reader. `sector_size` must not be 0.
 pub(crate) fn is_read_alike(rt: &impl Host, bytes: &[u8], sector_size: u64) -> bool {
     let wanted = expected(rt, bytes, sector_size);
     read(rt, bytes, sector_size).as_str() == wanted.as_str()

@@ -1,5 +1,5 @@
-//! What `test_rows` has no rows of: texts of errors, files, disks longer than memory, and sweeps against a second
-//! body of a call.
+//! Cases that `test_rows` cannot express: error texts, files, disks larger than memory, and comparisons with a second
+//! implementation.
 
 mod damage;
 mod debug;

@@ -1,4 +1,4 @@
-//! The searches for free sectors, of tables that have an alignment to search by.
+//! Searches for free sectors, in tables whose alignment is not 0.
 
 use crate::asserts::got;
 use gptman::{Error, GPT};
@@ -13,7 +13,7 @@ pub(crate) enum Search {
     Optimal,
 }
 
-/// The place for so many sectors that this search finds.
+/// Returns the place of `size` sectors that this search finds.
 pub(crate) fn found(rt: &impl Abort, table: &GPT, search: Search, size: u64) -> Option<u64> {
     let place = match search {
         Search::First => calls::first_place(table, size),
@@ -23,12 +23,12 @@ pub(crate) fn found(rt: &impl Abort, table: &GPT, search: Search, size: u64) -> 
     got(rt, place)
 }
 
-// The search finds this place by this alignment.
+// Asserts that the search finds this place.
 fn assert_place(rt: &impl Abort, table: &GPT, search: Search, size: u64, place: Option<u64>) {
     assert!(rt; found(rt, table, search, size) == place, "{size}");
 }
 
-/// The search finds these places. A row has an alignment, how many sectors are wanted, and the place.
+/// Asserts that the search finds these places. A row has the alignment, the number of sectors, and the place.
 pub(crate) fn assert_found(
     rt: &impl Abort,
     mut table: GPT,
@@ -41,7 +41,7 @@ pub(crate) fn assert_found(
     }
 }
 
-/// The greatest size that is offered. None is where no space is left.
+/// Returns the largest size, or `None` if no space is left.
 pub(crate) fn maximum(rt: &impl Abort, table: &GPT) -> Option<u64> {
     match calls::maximum_size(table) {
         Err(Error::NoSpaceLeft) => None,
@@ -49,13 +49,13 @@ pub(crate) fn maximum(rt: &impl Abort, table: &GPT) -> Option<u64> {
     }
 }
 
-/// The table offers this greatest size by this alignment.
+/// Asserts that the table has this largest size with this alignment.
 pub(crate) fn assert_maximum(rt: &impl Abort, table: &mut GPT, align: u64, size: Option<u64>) {
     table.align = align;
     assert!(rt; maximum(rt, table) == size, "by {align}");
 }
 
-/// The aligned slots of free sectors.
+/// Returns the aligned free ranges.
 pub(crate) fn free_sectors(rt: &impl Abort, table: &GPT) -> Vec<(u64, u64)> {
     got(rt, calls::free_sectors(table))
 }

@@ -1,4 +1,4 @@
-//! Tests on the alignment that is read.
+//! Tests of the alignment that a read derives.
 
 use super::{first, second};
 use crate::asserts::{Host, assert_same};
@@ -6,12 +6,12 @@ use crate::fixtures::{blank, new_table, put_entry, read_from, remove, reread, wr
 use gptman::{GPT, MemoryDisk};
 use std::process::Abort;
 
-// The table is read with this alignment.
+// Asserts that a read of the table derives this alignment.
 fn assert_align(rt: &impl Host, table: &GPT, align: u64) {
     assert!(rt; reread(rt, table).align == align);
 }
 
-// The table without its entries is read with the alignment of new tables.
+// Asserts that a read of the table without its entries derives the alignment of new tables.
 fn assert_none(rt: &impl Host, mut table: GPT) {
     remove(rt, &mut table, 1);
     remove(rt, &mut table, 2);
@@ -25,7 +25,7 @@ fn determine_partition_alignment_no_partition(rt: HostRuntime) {
     assert!(rt; new_table(&rt, &mut blank(&rt, 0, 51_200), 512).align == 2048);
 }
 
-// The table with entries from 5 to 6 and from 8 to 16 times the alignment is written to the disk.
+// Writes a table with entries from 5 to 6 and from 8 to 16 times the alignment to the disk.
 fn write_multiples(rt: &impl Host, disk: &mut MemoryDisk, align: u16) -> GPT {
     let mut table = new_table(rt, disk, 512);
     let align = u64::from(align);
@@ -35,7 +35,7 @@ fn write_multiples(rt: &impl Host, disk: &mut MemoryDisk, align: u16) -> GPT {
     table
 }
 
-// It is read with this alignment, on a disk of 21 times as many sectors.
+// Asserts that a read of that table derives this alignment, on a disk of 21 times as many sectors.
 fn assert_multiples(rt: &impl Host, align: u16) {
     let mut disk = blank(rt, 0, 512 * 21 * usize::from(align));
     let mut table = write_multiples(rt, &mut disk, align);
@@ -50,7 +50,7 @@ fn determine_partition_alignment(rt: HostRuntime) {
     }
 }
 
-// The table with one entry, which takes these sectors, is read with this alignment.
+// Asserts that a read of the table with only one entry, in these sectors, derives this alignment.
 fn assert_full(rt: &impl Host, mut table: GPT, sectors: (u64, u64), align: u64) {
     put_entry(rt, &mut table, 1, ("", 1), sectors);
     remove(rt, &mut table, 2);

@@ -1,4 +1,4 @@
-//! Tests on places for new partitions.
+//! Tests of places for new partitions.
 
 use super::{first, second};
 use crate::asserts::{Host, assert_used, got};
@@ -50,7 +50,7 @@ fn add_partition_optimal_aligned(rt: HostRuntime) {
     assert_found(&rt, second(&rt), Search::Optimal, &rows);
 }
 
-// The first disk's table with "Baz", under this number, where there is a place for it.
+// Returns the first table with "Baz" in a free range, under this number.
 fn with_baz(rt: &impl Host, number: u32) -> GPT {
     let mut baz = partition(rt, ("Baz", 1), (44, 47));
     baz.partition_type_guid = [1; 16];
@@ -59,7 +59,7 @@ fn with_baz(rt: &impl Host, number: u32) -> GPT {
     table
 }
 
-// The table is written, and then put in order.
+// Asserts the order of the entries after a write, and after sorting.
 fn write_and_sort(rt: &impl Host, table: &mut GPT) {
     assert_used(rt, table, ", 1 Foo 34..43, 2 Bar 48..52, 10 Baz 44..47");
     image_of(rt, table);
@@ -78,7 +78,7 @@ fn add_partition_on_unsorted_table(rt: HostRuntime) {
     assert_found(&rt, with_baz(&rt, 11), Search::First, &[(1, 8, Some(53))]);
 }
 
-// The first disk's table with each entry removed.
+// Returns the first table without entries.
 fn emptied(rt: &impl Host) -> GPT {
     let mut table = first(rt);
     for number in 1..=table.header.number_of_partition_entries {
@@ -92,7 +92,7 @@ fn get_maximum_partition_size_on_empty_disk(rt: HostRuntime) {
     assert_maximum(&rt, &mut emptied(&rt), 1, Some(33));
 }
 
-// The table with an entry that takes all sectors.
+// Returns the first table with one entry in all usable sectors.
 fn filled(rt: &impl Host) -> GPT {
     let mut table = emptied(rt);
     put_entry(rt, &mut table, 1, ("Foo", 1), (34, 66));

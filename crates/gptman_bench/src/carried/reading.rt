@@ -1,4 +1,4 @@
-//! Tests on reading.
+//! Tests of reading.
 
 use super::{BACKUP_1, BACKUP_2, DISK_1, DISK_2, break_primary, first, second};
 use crate::asserts::{Host, assert_shown, got};
@@ -10,19 +10,19 @@ use std::process::Abort;
 use test_fixtures::calls::apply;
 use test_fixtures::samples::name_of_units;
 
-// The header at this byte of the disk.
+// Reads the header at this byte of the disk.
 fn header_at(rt: &impl Abort, disk: &mut MemoryDisk, at: u64) -> GPTHeader {
     got(rt, disk.seek_start(at));
     got(rt, GPTHeader::read_from(disk))
 }
 
-// The entry at this byte of the disk.
+// Reads the entry at this byte of the disk.
 fn read_entry(rt: &impl Host, disk: &mut MemoryDisk, at: u64) -> GPTPartitionEntry {
     got(rt, disk.seek_start(at));
     got(rt, GPTPartitionEntry::read_from(rt.alloc(), disk))
 }
 
-// The 128 bytes from this one on of the disk.
+// Returns 128 bytes from this byte of the disk on.
 fn bytes_at(rt: &impl Abort, disk: &mut MemoryDisk, at: u64) -> [u8; 128] {
     let mut bytes = [0; 128];
     got(rt, disk.seek_start(at));
@@ -30,7 +30,7 @@ fn bytes_at(rt: &impl Abort, disk: &mut MemoryDisk, at: u64) -> [u8; 128] {
     bytes
 }
 
-// The entry at this byte of the disk, which encodes to the bytes that stand there, and is used or not.
+// Reads the entry at this byte of the disk. Asserts that it encodes to the bytes there, and whether it is used.
 fn entry_at(rt: &impl Host, disk: &mut MemoryDisk, at: u64, is_used: bool) -> GPTPartitionEntry {
     let entry = read_entry(rt, disk, at);
     assert!(rt; entry.encode() == bytes_at(rt, disk, at), "at {at}");
@@ -38,7 +38,7 @@ fn entry_at(rt: &impl Host, disk: &mut MemoryDisk, at: u64, is_used: bool) -> GP
     entry
 }
 
-// The 128 entries from this byte on, each read alone. The first two alone are used.
+// Reads the 128 entries from this byte on one by one. Only the first two are used.
 fn entries_at(rt: &impl Host, disk: &mut MemoryDisk, at: u64) -> Vec<GPTPartitionEntry> {
     let mut entries = Vec::new(rt.alloc());
     for number in 0..128_u64 {
@@ -48,7 +48,7 @@ fn entries_at(rt: &impl Host, disk: &mut MemoryDisk, at: u64) -> Vec<GPTPartitio
     entries
 }
 
-// The header's two checksums are made again of it and of these entries, and are not 0.
+// Asserts that both checksums of the header are right and not 0.
 fn assert_checksums(rt: &impl Abort, header: &GPTHeader, entries: &[GPTPartitionEntry]) {
     assert!(rt; header.header_size == 92 && header.size_of_partition_entry == 128);
     assert!(rt; entries.len() == header.number_of_partition_entries as usize);
@@ -58,7 +58,7 @@ fn assert_checksums(rt: &impl Abort, header: &GPTHeader, entries: &[GPTPartition
     assert!(rt; own != 0 && own == header.crc32_checksum);
 }
 
-// The header is the same once its checksums were made again of it and of these entries.
+// Asserts that updating the checksums does not change the header.
 fn assert_updated(rt: &impl Abort, header: &GPTHeader, entries: &[GPTPartitionEntry]) {
     assert!(rt; header.header_size == 92 && header.size_of_partition_entry == 128);
     assert!(rt; entries.len() == header.number_of_partition_entries as usize);
@@ -68,7 +68,7 @@ fn assert_updated(rt: &impl Abort, header: &GPTHeader, entries: &[GPTPartitionEn
     assert!(rt; updated == *header);
 }
 
-// Each entry is read from a disk with the table, of which this is the header.
+// Asserts that each entry can be read from a disk with the table of this header.
 fn assert_entries(rt: &impl Host, disk: &mut MemoryDisk, header: &GPTHeader, sector_size: u64) {
     let at = header.partition_entry_lba.saturating_mul(sector_size);
     let entries = entries_at(rt, disk, at);
@@ -76,7 +76,7 @@ fn assert_entries(rt: &impl Host, disk: &mut MemoryDisk, header: &GPTHeader, sec
     assert_updated(rt, header, &entries);
 }
 
-// Both headers and each entry are read from a disk with the table.
+// Asserts that both headers and each entry can be read from a disk with the table.
 fn assert_read(rt: &impl Host, table: &GPT) {
     let size = table.sector_size;
     let mut disk = holding(rt, &image_of(rt, table));
@@ -91,7 +91,7 @@ fn read_header_and_partition_entries(rt: HostRuntime) {
     assert_read(&rt, &second(&rt));
 }
 
-// The table's image is read with its own sector size alone, which is found.
+// Asserts that the table is read with its own sector size only, and that this size is detected.
 fn assert_primary(rt: &impl Host, table: &GPT, other_size: u64, said: &str) {
     let image = image_of(rt, table);
     assert_reads(rt, &image, table.sector_size, said);
@@ -110,7 +110,7 @@ fn input_too_short(rt: HostRuntime) {
     assert_reads(&rt, &[1; 5], 512, "invalid signature");
 }
 
-// The backup copy of the table is read and found where the primary header has another checksum.
+// Asserts that the backup copy is read and found if the primary header has a wrong checksum.
 fn assert_backup(rt: &impl Host, table: &GPT, said: &str) {
     let mut image = image_of(rt, table);
     break_primary(rt, &mut image, table);
@@ -124,7 +124,7 @@ fn find_backup(rt: HostRuntime) {
     assert_backup(&rt, &second(&rt), BACKUP_2);
 }
 
-// A name of "Name with garbage", a zero and letters.
+// Returns a name of "Name with garbage", a zero, and letters.
 fn garbage(rt: &impl Host) -> PartitionName {
     let mut units = [0x41; 36];
     for (unit, byte) in units.iter_mut().zip(b"Name with garbage\0") {
@@ -135,7 +135,7 @@ fn garbage(rt: &impl Host) -> PartitionName {
     name
 }
 
-// The table with that name in the place of its second one is read so.
+// Asserts that the table is read with this text after its second entry got that name.
 fn assert_label(rt: &impl Host, mut table: GPT, sectors: (u64, u64), said: &str) {
     let mut entry = partition(rt, ("", 0x0c), sectors);
     entry.partition_name = garbage(rt);
@@ -158,7 +158,7 @@ fn gpt_read_from_on_image_with_corrupted_partition_entry_array_crc32_in_primary(
     assert_reads(&rt, &image, 512, BACKUP_1);
 }
 
-// A new table for a disk with this one has its bounds.
+// Asserts that a new table for the disk of this one has the same bounds.
 fn assert_same_bounds(rt: &impl Host, table: &GPT) {
     let mut disk = holding(rt, &image_of(rt, table));
     let new = new_table(rt, &mut disk, table.sector_size).header;

@@ -1,4 +1,4 @@
-//! Tests on writing.
+//! Tests of writing.
 
 use super::{BACKUP_1, BACKUP_2, DISK_1, DISK_2, break_primary, first, second};
 use crate::asserts::{BOUNDARIES, Host, assert_said, assert_same, got};
@@ -11,7 +11,7 @@ use test_fixtures::calls::has_bytes;
 use test_fixtures::samples::{image_on, put_mbr, write_mbr};
 use test_fixtures::tables;
 
-// The image is read with this text, and with the other one where the primary header is broken.
+// Asserts that the image is read with the first text, and with the second after its primary header is broken.
 fn assert_both(rt: &impl Host, image: &mut [u8], sector_size: u64, said: (&str, &str)) {
     assert_reads(rt, image, sector_size, said.0);
     let read = read(rt, image, sector_size);
@@ -19,7 +19,7 @@ fn assert_both(rt: &impl Host, image: &mut [u8], sector_size: u64, said: (&str, 
     assert_reads(rt, image, sector_size, said.1);
 }
 
-// The table is written, and its copies are read with these texts.
+// Writes the table and asserts the texts of its copies.
 fn assert_written(rt: &impl Host, table: &GPT, said: (&str, &str)) {
     assert_both(rt, &mut image_of(rt, table), table.sector_size, said);
 }
@@ -30,7 +30,7 @@ fn write_from_primary(rt: HostRuntime) {
     assert_written(&rt, &second(&rt), (DISK_2, BACKUP_2));
 }
 
-// The same of the table without its first entry.
+// Asserts the same of the table without its first entry.
 fn assert_changed(rt: &impl Host, mut table: GPT, said: (&str, &str)) {
     remove(rt, &mut table, 1);
     assert_written(rt, &table, said);
@@ -50,14 +50,14 @@ fn write_with_changes(rt: HostRuntime) {
     assert_changed(&rt, second(&rt), said);
 }
 
-// The image of the table with a broken primary header.
+// Returns an image of the table with a broken primary header.
 fn broken(rt: &impl Host, table: &GPT) -> Vec<u8> {
     let mut image = image_of(rt, table);
     break_primary(rt, &mut image, table);
     image
 }
 
-// The backup copy of these bytes is read, and written over both copies.
+// Reads the backup copy of these bytes and writes the table to both places.
 fn restored(rt: &impl Host, image: &[u8], sector_size: u64) -> Vec<u8> {
     let mut table = read(rt, image, sector_size);
     assert!(rt; table.is_backup() && !table.is_primary());
@@ -67,7 +67,7 @@ fn restored(rt: &impl Host, image: &[u8], sector_size: u64) -> Vec<u8> {
     bytes_of(rt, &disk)
 }
 
-// Then the table is read as it was.
+// Asserts that the table is then read back unchanged.
 fn assert_restored(rt: &impl Host, table: &GPT, said: (&str, &str)) {
     let mut image = restored(rt, &broken(rt, table), table.sector_size);
     assert_same(rt, &read(rt, &image, table.sector_size), table);
@@ -80,7 +80,7 @@ fn write_from_backup(rt: HostRuntime) {
     assert_restored(&rt, &second(&rt), (DISK_2, BACKUP_2));
 }
 
-// With these sectors as those of its entry of this number, the table is not written.
+// Asserts that the table is not written if this entry has these sectors.
 fn assert_not_written(rt: &impl Host, mut table: GPT, number: u8, sectors: (u64, u64)) {
     let entry = ("Foo", 0x0a + number % 100);
     put_entry(rt, &mut table, u32::from(number), entry, sectors);
@@ -101,7 +101,7 @@ fn write_invalid_boundaries(rt: HostRuntime) {
     assert_written(&rt, &second(&rt), (DISK_2, BACKUP_2));
 }
 
-// The table is written to a disk of so many bytes, and read back equal.
+// Asserts that the table is written to a disk of `len` bytes and read back equal.
 fn assert_on_bigger_disk(rt: &impl Host, mut table: GPT, len: usize) {
     let image = got(rt, image_on(rt.alloc(), 0, len, &mut table));
     assert_same(rt, &read(rt, &image, table.sector_size), &table);
@@ -113,7 +113,7 @@ fn read_from_smaller_disk_and_write_to_bigger_disk(rt: HostRuntime) {
     assert_on_bigger_disk(&rt, second(&rt), 819_200);
 }
 
-// A protective MBR that is written over 100 sectors of bytes 2 changes its 66 bytes alone.
+// Asserts that a protective MBR changes only its 66 bytes.
 fn assert_mbr(rt: &impl Host, sector_size: u16) {
     let mut disk = blank(rt, 2, 100 * usize::from(sector_size));
     let mut wanted = bytes_of(rt, &disk);

@@ -1,4 +1,4 @@
-//! Images that are damaged, cut, zeroed and crafted, each read by the library and by a plain reader.
+//! Images that are damaged, cut, zeroed or crafted, each read by the library and by the second reader.
 
 use crate::asserts::{Host, got};
 use crate::fixtures::{assert_reads, blank, bytes_of, complement, new_header, partition, put};
@@ -7,10 +7,10 @@ use gptman::{GPTHeader, GPTPartitionEntry, MemoryDisk};
 use std::process::Abort;
 use test_fixtures::tables::write_copy;
 
-// The first bytes of the two headers, of 40 sectors of 512 bytes.
+// The offsets of both headers, in bytes, in 40 sectors of 512 bytes.
 const HEADERS: [usize; 2] = [512, 19_968];
 
-// Four entries, of which two are used.
+// Returns four entries, two of them used.
 fn four_entries(rt: &impl Host) -> Vec<GPTPartitionEntry> {
     let mut entries = Vec::new(rt.alloc());
     for (name, sectors) in [(("Foo", 0x0b), (5, 9)), (("Bar", 0x0c), (12, 20))] {
@@ -20,8 +20,8 @@ fn four_entries(rt: &impl Host) -> Vec<GPTPartitionEntry> {
     entries
 }
 
-// Writes a copy of a table of these entries, with its header, the other header and its entries in these
-// sectors.
+// Writes a copy of the table. `own`, `other` and `entries` are the sectors of its header, the other header and its
+// entries.
 fn write_one(rt: &impl Host, disk: &mut MemoryDisk, own: u64, other: u64, entries: u64) {
     let mut header = GPTHeader {
         primary_lba: own,
@@ -35,7 +35,7 @@ fn write_one(rt: &impl Host, disk: &mut MemoryDisk, own: u64, other: u64, entrie
     got(rt, write_copy(&mut header, disk, 512, &four_entries(rt)));
 }
 
-// An image with both copies.
+// Returns an image with both copies.
 fn image(rt: &impl Host) -> Vec<u8> {
     let mut disk = blank(rt, 0, 20_480);
     write_one(rt, &mut disk, 1, 39, 2);
@@ -43,13 +43,13 @@ fn image(rt: &impl Host) -> Vec<u8> {
     bytes_of(rt, &disk)
 }
 
-// Both readers agree on these bytes.
+// Asserts that both readers agree on these bytes.
 fn agree(rt: &impl Host, bytes: &[u8], what: &str, at: usize) {
     assert!(rt; is_read_alike(rt, bytes, 512), "{what} at {at}");
 }
 
-// Both agree on the image with the byte of this place complemented, alone and with each of the two
-// headers broken. The image is then as it was.
+// Asserts that both readers agree on the image with the byte at `at` complemented, also with one of the headers broken.
+// The image is unchanged at the end.
 fn agree_damaged(rt: &impl Host, image: &mut [u8], at: usize) {
     complement(rt, image, at);
     agree(rt, image, "damaged", at);
@@ -61,14 +61,14 @@ fn agree_damaged(rt: &impl Host, image: &mut [u8], at: usize) {
     complement(rt, image, at);
 }
 
-// Both agree on the image with each of so many bytes damaged so, from this one on.
+// Asserts the same for `len` bytes from `start` on.
 fn agree_all_damaged(rt: &impl Host, image: &mut [u8], start: usize, len: usize) {
     for at in start..start.saturating_add(len) {
         agree_damaged(rt, image, at);
     }
 }
 
-// The bytes of a copy, and one more: of its header, and of its entries.
+// Damages each byte of both copies, and the byte after each range.
 #[test]
 fn damaged_copies_are_read_alike(rt: HostRuntime) {
     let mut image = image(&rt);
@@ -79,14 +79,14 @@ fn damaged_copies_are_read_alike(rt: HostRuntime) {
     }
 }
 
-// Complements this byte of the header in these bytes, and makes its checksum right again.
+// Complements this byte of a header and corrects the checksum.
 fn craft(rt: &impl Abort, header: &mut [u8; 92], at: usize) {
     complement(rt, header, at);
     let checksum = header_checksum(header);
     put(rt, header, 16, &checksum.to_le_bytes());
 }
 
-// The header at this byte, with a byte of it crafted so.
+// Returns the header at `start`, with a byte crafted.
 fn crafted(rt: &impl Abort, image: &[u8], start: usize, at: usize) -> [u8; 92] {
     let mut header = [0; 92];
     for (byte, old) in header.iter_mut().zip(image.iter().skip(start)) {
@@ -96,8 +96,7 @@ fn crafted(rt: &impl Abort, image: &[u8], start: usize, at: usize) -> [u8; 92] {
     header
 }
 
-// Both agree on the image with a byte of the first header crafted so, alone and with the other header
-// broken.
+// Asserts that both readers agree on the image with a byte of header `own` crafted, also with header `other` broken.
 fn agree_crafted(rt: &impl Host, (own, other): (usize, usize), at: usize) {
     let mut bytes = image(rt);
     let header = crafted(rt, &bytes, own, at);
@@ -115,7 +114,7 @@ fn crafted_headers_are_read_alike(rt: HostRuntime) {
     }
 }
 
-// Both agree on the image cut about this byte.
+// Asserts that both readers agree on the image, cut near this byte.
 fn agree_cut(rt: &impl Host, image: &[u8], end: usize) {
     for len in end.saturating_sub(4)..end.saturating_add(4) {
         agree(rt, image.get(..len).unwrap_or(image), "cut", len);
@@ -132,7 +131,7 @@ fn cut_images_are_read_alike(rt: HostRuntime) {
     }
 }
 
-// Both agree on the image with these two sectors zeroed.
+// Asserts that both readers agree on the image with these two sectors zeroed.
 fn agree_zeroed(rt: &impl Host, image: &[u8], sectors: (u16, u16)) {
     let mut bytes = got(rt, image.to_vec(rt.alloc()));
     put(rt, &mut bytes, 512 * usize::from(sectors.0), &[0; 512]);

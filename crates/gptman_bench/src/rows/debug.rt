@@ -1,10 +1,10 @@
-//! How values are printed for debugging.
+//! Debug output of values.
 
 use crate::asserts::{Host, assert_printed};
 use crate::fixtures::{disk_1, partition};
 use gptman::{Edit, Fate};
 
-// An edit that puts an entry is printed so.
+// Asserts the debug output of an edit that puts an entry.
 fn assert_put_printed(rt: &impl Host) {
     let start = "Put(1, GPTPartitionEntry { partition_type_guid: [10, 10, ";
     let sectors = "starting_lba: 34, ending_lba: 43, attribute_bits: 0";
@@ -16,7 +16,7 @@ fn assert_put_printed(rt: &impl Host) {
     );
 }
 
-// A table is printed so.
+// Asserts the debug output of a table.
 fn assert_table_printed(rt: &impl Host) {
     let start = "GPT { sector_size: 512, header: GPTHeader { signature: [69, 70, ";
     assert_printed(rt, &disk_1(rt), start, ", align: 2048 }");

@@ -1,4 +1,4 @@
-//! The texts of the errors, and how they are printed for debugging.
+//! The texts of errors, and their debug output.
 
 use crate::asserts::{BOUNDARIES, Host, OVERFLOW, assert_text, got};
 use gptman::{Error, Progress};
@@ -6,7 +6,7 @@ use std::fmt::Debug;
 use std::io;
 use test_fixtures::told::text_of;
 
-// The value is printed so for debugging.
+// Asserts the debug output of the value.
 fn assert_printed(rt: &impl Host, value: &impl Debug, printed: &str) {
     assert_text(
         rt,
@@ -15,13 +15,13 @@ fn assert_printed(rt: &impl Host, value: &impl Debug, printed: &str) {
     );
 }
 
-// The error has this text, and is printed so.
+// Asserts the text and the debug output of the error.
 fn assert_error(rt: &impl Host, error: &Error, text: &str, printed: &str) {
     assert_text(rt, got(rt, text_of(rt.alloc(), error)).as_str(), text);
     assert_printed(rt, error, printed);
 }
 
-// The same of those that a table has.
+// Asserts the same of the errors of tables.
 fn assert_of_tables(rt: &impl Host) {
     let name = "InvalidPartitionBoundaries";
     assert_error(rt, &Error::InvalidPartitionBoundaries, BOUNDARIES, name);
@@ -72,7 +72,7 @@ fn errors_of_one_word_have_their_texts(rt: HostRuntime) {
     assert_of_tables(&rt);
 }
 
-// The checksum of a header, and that of its entries.
+// Asserts the same of the errors of both checksums.
 fn assert_checksums(rt: &impl Host) {
     let text = "corrupted CRC32 checksum (3 != 4)";
     assert_error(
@@ -102,7 +102,7 @@ fn errors_with_numbers_tell_them(rt: HostRuntime) {
     assert_error(&rt, &Error::InvalidPartitionEntrySize(256), text, printed);
 }
 
-// The faults of both copies.
+// Returns the error with the faults of both copies.
 fn read_error(rt: &impl Host) -> Error {
     let primary = got(rt, Box::new(rt.alloc(), Error::InvalidChecksum(1, 2)));
     let backup = got(rt, Box::new(rt.alloc(), Error::InvalidSignature));

@@ -1,4 +1,4 @@
-//! The disk over a file. Each test has a file of its own in the folder that it runs in.
+//! Tests of `FileDisk`. Each has its own file in the current folder.
 
 use crate::asserts::{Host, assert_said, assert_same, assert_shown, got};
 use crate::fixtures::{image_of_new, new_table, put_entry, read_from, write};
@@ -10,18 +10,18 @@ use std::rt::Files;
 use test_fixtures::samples::{are_all, put_mbr, write_mbr};
 use test_fixtures::tables;
 
-// What tests of files take.
+// The traits that tests of files need.
 trait FileHost: Abort + Files<File = File> + AllocGlobal {}
 
 impl<R: Abort + Files<File = File> + AllocGlobal> FileHost for R {}
 
-// Makes a file of so many bytes, all of them 2.
+// Makes a file of `len` bytes, each of them 2.
 fn make_file(rt: &impl FileHost, path: &str, len: usize) {
     let bytes = got(rt, vec![in rt.alloc(); 2_u8; len]);
     got(rt, fs::write(rt, path, bytes.as_slice()));
 }
 
-// The disk over a file, open for reading alone or for writing too.
+// Opens a disk over a file, for reading only or also for writing.
 fn opened(rt: &impl FileHost, path: &str, is_read: bool) -> Result<FileDisk> {
     if is_read {
         FileDisk::open_read(rt, path)
@@ -30,7 +30,7 @@ fn opened(rt: &impl FileHost, path: &str, is_read: bool) -> Result<FileDisk> {
     }
 }
 
-// The disk over a file that is there.
+// Opens a disk over an existing file.
 fn disk_over(rt: &impl FileHost, path: &str, is_read: bool) -> FileDisk {
     got(rt, opened(rt, path, is_read))
 }
@@ -44,14 +44,13 @@ fn write_new(rt: &impl FileHost, path: &str) -> GPT {
     table
 }
 
-// The file holds the table, and these bytes.
+// Asserts that the file holds the table, and these bytes.
 fn assert_holds(rt: &impl FileHost, path: &str, table: &GPT, bytes: &[u8]) {
     let mut disk = disk_over(rt, path, true);
     assert_same(rt, &read_from(rt, &mut disk), table);
     assert!(rt; got(rt, fs::read(rt, path)).as_slice() == bytes);
 }
 
-// Removes the file.
 fn remove_file(rt: &impl FileHost, path: &str) {
     got(rt, fs::remove_file(rt, path));
 }
@@ -65,14 +64,14 @@ fn a_table_is_written_to_a_file_and_read_back(rt: HostRuntime) {
     remove_file(&rt, path);
 }
 
-// So many bytes of the disk from this one on are 2, or are not read.
+// Reads from byte `at` of the disk, and returns whether all bytes are 2.
 fn reads_from(disk: &mut FileDisk, at: u64, buf: &mut [u8]) -> Result<bool> {
     disk.seek_start(at)?;
     disk.read_exact(buf)?;
     Ok(are_all(buf, 2))
 }
 
-// The disk has 51,201 bytes, and none behind the last of them is read.
+// Asserts that the disk has 51,201 bytes, and that a read past the last one fails.
 fn assert_odd_length(rt: &impl FileHost, path: &str, is_read: bool) {
     let mut disk = disk_over(rt, path, is_read);
     assert!(rt; got(rt, disk.seek_end()) == 51_201);
@@ -90,7 +89,7 @@ fn a_file_has_the_bytes_past_its_last_whole_sector(rt: HostRuntime) {
     remove_file(&rt, path);
 }
 
-// A write of a new table to the file that is open for reading is refused.
+// Asserts that a new table cannot be written to a file that is open for reading.
 fn assert_not_written(rt: &impl FileHost, path: &str) {
     let mut disk = disk_over(rt, path, true);
     let mut table = new_table(rt, &mut disk, 512);
@@ -118,14 +117,14 @@ fn a_file_that_is_not_there_is_not_opened(rt: HostRuntime) {
     assert!(rt; fs::read(&rt, path).is_err());
 }
 
-// The disk over a file of so many zero bytes, none of which is stored.
+// Returns the disk over a sparse file of `len` zero bytes.
 fn long_disk(rt: &impl FileHost, path: &str, len: u64) -> FileDisk {
     let file = got(rt, fs::create(rt, path));
     got(rt, file.set_len(len));
     disk_over(rt, path, false)
 }
 
-// The first 1024 bytes of the disk.
+// Returns the first 1024 bytes of the disk.
 fn first_bytes(rt: &impl Abort, disk: &mut FileDisk) -> [u8; 1024] {
     let mut bytes = [0; 1024];
     got(rt, disk.seek_start(0));
@@ -133,7 +132,7 @@ fn first_bytes(rt: &impl Abort, disk: &mut FileDisk) -> [u8; 1024] {
     bytes
 }
 
-// The MBR of a disk of so many bytes counts so many sectors.
+// Asserts that the MBR of a disk of `len` bytes has this number of sectors.
 fn assert_counted(rt: &impl FileHost, path: &str, len: u64, count: u32) {
     let mut disk = long_disk(rt, path, len);
     got(rt, write_mbr(&mut disk, 512, false));

@@ -1,5 +1,5 @@
-//! A plain search for places, slow and written from their definitions alone: it goes over the sectors
-//! one by one. What it finds is held against what the library finds, in tables of a few shapes.
+//! A second search for places, slow and written only from their definitions: it tests sector by sector. The library is
+//! compared with it, on several tables.
 
 use crate::asserts::{Host, got};
 use crate::searches::{Search, found, free_sectors, maximum};
@@ -10,7 +10,7 @@ use test_fixtures::samples::table_within;
 // The last sector of all cases.
 const LAST: u64 = 30;
 
-// Whether a used entry covers the sector.
+// Reports whether a used entry covers the sector.
 fn is_covered(table: &GPT, sector: u64) -> bool {
     for (_, entry) in table.iter() {
         if entry.is_used() && entry.starting_lba <= sector && sector <= entry.ending_lba {
@@ -20,7 +20,7 @@ fn is_covered(table: &GPT, sector: u64) -> bool {
     false
 }
 
-// How many sectors are free without a gap, from this one on.
+// Returns the number of contiguous free sectors from this one on.
 fn run_from(table: &GPT, sector: u64) -> u64 {
     let first = table.header.first_usable_lba.max(1);
     let mut run = 0_u64;
@@ -33,12 +33,12 @@ fn run_from(table: &GPT, sector: u64) -> u64 {
     run
 }
 
-// Whether so many sectors are free from this one on, which is a multiple of the alignment.
+// Reports whether `size` sectors are free from this one on, and it is a multiple of the alignment.
 fn is_place(table: &GPT, size: u64, sector: u64) -> bool {
     run_from(table, sector) >= size && sector.checked_rem(table.align) == Some(0)
 }
 
-// The least and the greatest place.
+// Returns the first and the last place.
 fn places(table: &GPT, size: u64) -> (Option<u64>, Option<u64>) {
     let (mut least, mut greatest) = (None, None);
     for sector in 0..=LAST {
@@ -50,7 +50,7 @@ fn places(table: &GPT, size: u64) -> (Option<u64>, Option<u64>) {
     (least, greatest)
 }
 
-// Whether the sector is free, and the first multiple of the alignment in its run.
+// Reports whether the sector is the first multiple of the alignment in a free range.
 fn starts_slot(table: &GPT, sector: u64) -> bool {
     for earlier in 0..sector {
         if is_place(table, sector - earlier, earlier) {
@@ -60,7 +60,7 @@ fn starts_slot(table: &GPT, sector: u64) -> bool {
     is_place(table, 1, sector)
 }
 
-// All aligned slots, each by its start and its length.
+// Returns all aligned free ranges, as start and length.
 fn slots(rt: &impl Host, table: &GPT) -> Vec<(u64, u64)> {
     let mut slots = Vec::new(rt.alloc());
     for sector in 0..=LAST {
@@ -71,7 +71,7 @@ fn slots(rt: &impl Host, table: &GPT) -> Vec<(u64, u64)> {
     slots
 }
 
-// The start of the shortest slot that is long enough, and of the first of equals.
+// Returns the start of the shortest range that is long enough, the first one of equal length.
 fn shortest(slots: &[(u64, u64)], size: u64) -> Option<u64> {
     let mut best = None;
     let mut least = u64::MAX;
@@ -84,7 +84,7 @@ fn shortest(slots: &[(u64, u64)], size: u64) -> Option<u64> {
     best
 }
 
-// The greatest multiple of the alignment that fits into a slot.
+// Returns the largest multiple of the alignment that fits in a range.
 fn longest(slots: &[(u64, u64)], align: u64) -> Option<u64> {
     let mut longest = None;
     for (_, length) in slots {
@@ -94,7 +94,7 @@ fn longest(slots: &[(u64, u64)], align: u64) -> Option<u64> {
     longest
 }
 
-// The searches for so many sectors find what the plain one does, of which these are the slots.
+// Asserts that the searches of the library find the same places of `size` sectors.
 fn assert_places(rt: &impl Abort, table: &GPT, slots: &[(u64, u64)], size: u64) {
     let (least, greatest) = places(table, size.max(1));
     assert!(rt; found(rt, table, Search::First, size) == least);
@@ -102,7 +102,7 @@ fn assert_places(rt: &impl Abort, table: &GPT, slots: &[(u64, u64)], size: u64) 
     assert!(rt; found(rt, table, Search::Optimal, size) == shortest(slots, size.max(1)));
 }
 
-// All searches find what the plain one does.
+// Asserts that all searches of the library agree.
 fn assert_alike(rt: &impl Host, table: &GPT) {
     let slots = slots(rt, table);
     assert!(rt; free_sectors(rt, table).as_slice() == slots.as_slice());
@@ -112,7 +112,7 @@ fn assert_alike(rt: &impl Host, table: &GPT) {
     }
 }
 
-// So they do in a table with these usable sectors, this alignment and these used ones.
+// Asserts the same of a table with these bounds, alignment and used sectors.
 fn assert_shape(rt: &impl Host, bounds: (u64, u64), align: u64, used: &[(u64, u64)]) {
     let table = got(rt, table_within(rt.alloc(), bounds, align, used));
     assert_alike(rt, &table);
