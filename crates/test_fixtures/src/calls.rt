@@ -1,5 +1,5 @@
-//! Calls of the library, made here without a contract: a caller that has no use for their clauses is proved
-//! in less time so. `Overflow` is answered where what a call requires does not hold.
+//! Calls of the library without `ensures`, so that proofs of their callers are fast. They return `Overflow` if a
+//! precondition of the library does not hold.
 
 use crate::tables::DISK_GUID;
 use gptman::{
@@ -7,7 +7,7 @@ use gptman::{
 };
 use std::alloc::Global;
 
-/// A new table for this disk, with sectors of so many bytes.
+/// Returns a new table for this disk.
 pub fn new_on<D: Disk>(alloc: Global, disk: &mut D, sector_size: u64) -> Result<GPT> {
     if sector_size == 0 {
         return Err(Error::Overflow);
@@ -15,27 +15,27 @@ pub fn new_on<D: Disk>(alloc: Global, disk: &mut D, sector_size: u64) -> Result<
     GPT::new_from(alloc, disk, sector_size, DISK_GUID)
 }
 
-/// A new table of so many entries for this disk, with sectors of 512 bytes.
+/// Returns a new table with `count` entries for this disk, with sectors of 512 bytes.
 pub fn new_of<D: Disk>(alloc: Global, disk: &mut D, count: u32) -> Result<GPT> {
     GPT::with_entries(alloc, disk, 512, DISK_GUID, count)
 }
 
-/// The table that the disk holds, and its sector size is found.
+/// Reads the table on the disk, and detects the sector size.
 pub fn find<D: Disk>(alloc: Global, disk: &mut D) -> Result<GPT> {
     GPT::find_from(alloc, disk)
 }
 
-/// A clone of the table.
+/// Returns a clone of the table.
 pub fn copy(table: &GPT) -> Result<GPT> {
     table.clone()
 }
 
-/// Whether the tables are equal.
+/// Reports whether the tables are equal.
 pub fn are_equal(one: &GPT, other: &GPT) -> bool {
     one == other
 }
 
-/// Changes the table as the edit says.
+/// Applies the edit to the table.
 pub fn apply(table: &mut GPT, edit: Edit) -> Result<()> {
     table.apply(edit)
 }
@@ -45,17 +45,17 @@ pub fn remove(table: &mut GPT, number: u32) -> Result<()> {
     table.remove(number)
 }
 
-/// Puts the entries in order.
+/// Sorts the entries.
 pub fn sort(table: &mut GPT) -> Result<()> {
     table.sort()
 }
 
-/// Whether the header of the table is that of a primary copy.
+/// Reports whether the header of the table is in primary form.
 pub fn is_primary(table: &GPT) -> bool {
     table.is_primary()
 }
 
-/// Fits the header to this disk, with sectors of so many bytes.
+/// Fits the header to this disk.
 pub fn fit<D: Disk>(header: &mut GPTHeader, disk: &mut D, sector_size: u64) -> Result<()> {
     if sector_size == 0 {
         return Err(Error::Overflow);
@@ -63,13 +63,13 @@ pub fn fit<D: Disk>(header: &mut GPTHeader, disk: &mut D, sector_size: u64) -> R
     header.update_from(disk, sector_size)
 }
 
-/// The entry that is read from this byte on.
+/// Reads the entry at byte `at`.
 pub fn read_entry<D: Disk>(alloc: Global, disk: &mut D, at: u64) -> Result<GPTPartitionEntry> {
     disk.seek_start(at)?;
     GPTPartitionEntry::read_from(alloc, disk)
 }
 
-/// The free sectors: the first of each slot, and how many it has.
+/// Returns the free ranges, each as first sector and length.
 pub fn free_sectors(table: &GPT) -> Result<Vec<(u64, u64)>> {
     if table.align == 0 {
         return Err(Error::Overflow);
@@ -77,7 +77,7 @@ pub fn free_sectors(table: &GPT) -> Result<Vec<(u64, u64)>> {
     table.find_free_sectors()
 }
 
-/// The first place for so many sectors.
+/// Returns the first place for `size` sectors.
 pub fn first_place(table: &GPT, size: u64) -> Result<Option<u64>> {
     if table.align == 0 {
         return Err(Error::Overflow);
@@ -85,7 +85,7 @@ pub fn first_place(table: &GPT, size: u64) -> Result<Option<u64>> {
     table.find_first_place(size)
 }
 
-/// The last place for so many sectors.
+/// Returns the last place for `size` sectors.
 pub fn last_place(table: &GPT, size: u64) -> Result<Option<u64>> {
     if table.align == 0 {
         return Err(Error::Overflow);
@@ -93,7 +93,7 @@ pub fn last_place(table: &GPT, size: u64) -> Result<Option<u64>> {
     table.find_last_place(size)
 }
 
-/// The place in the smallest slot for so many sectors.
+/// Returns the place for `size` sectors in the shortest free range.
 pub fn optimal_place(table: &GPT, size: u64) -> Result<Option<u64>> {
     if table.align == 0 {
         return Err(Error::Overflow);
@@ -101,7 +101,7 @@ pub fn optimal_place(table: &GPT, size: u64) -> Result<Option<u64>> {
     table.find_optimal_place(size)
 }
 
-/// The size of the largest partition that there is room for.
+/// Returns the size of the largest partition that fits, in sectors.
 pub fn maximum_size(table: &GPT) -> Result<u64> {
     if table.align == 0 {
         return Err(Error::Overflow);
@@ -109,7 +109,7 @@ pub fn maximum_size(table: &GPT) -> Result<u64> {
     table.get_maximum_partition_size()
 }
 
-/// Whether the first entry of the table is this one.
+/// Reports whether the first entry of the table is this one.
 pub fn is_first(entry: &GPTPartitionEntry, table: &GPT) -> bool {
     match table.iter().next() {
         Some((number, first)) => number == 1 && first == entry,
@@ -117,68 +117,68 @@ pub fn is_first(entry: &GPTPartitionEntry, table: &GPT) -> bool {
     }
 }
 
-/// The entry that these bytes are.
+/// Decodes an entry.
 pub fn entry_of(alloc: Global, bytes: &[u8; 128]) -> Result<GPTPartitionEntry> {
     GPTPartitionEntry::decode(alloc, bytes)
 }
 
-/// Whether the entries are equal.
+/// Reports whether the entries are equal.
 pub fn are_equal_entries(one: &GPTPartitionEntry, other: &GPTPartitionEntry) -> bool {
     one == other
 }
 
-/// A clone of the entry.
+/// Returns a clone of the entry.
 pub fn copy_entry(entry: &GPTPartitionEntry) -> Result<GPTPartitionEntry> {
     entry.clone()
 }
 
-/// A clone of the name.
+/// Returns a clone of the name.
 pub fn copy_name(name: &PartitionName) -> Result<PartitionName> {
     name.clone()
 }
 
-/// Whether the names are equal.
+/// Reports whether the names are equal.
 pub fn are_equal_names(one: &PartitionName, other: &PartitionName) -> bool {
     one == other
 }
 
-/// The name of this text.
+/// Returns the name of this text.
 pub fn name_of(alloc: Global, text: &str) -> Result<PartitionName> {
     PartitionName::new(alloc, text)
 }
 
-/// The name of these units.
+/// Returns the name of these units.
 pub fn name_of_units(alloc: Global, units: &[u16; 36]) -> Result<PartitionName> {
     PartitionName::from_units(alloc, *units)
 }
 
-/// A disk of these bytes.
+/// Returns a disk of these bytes.
 pub fn holding(alloc: Global, bytes: &[u8]) -> Result<MemoryDisk> {
     MemoryDisk::new(alloc, bytes.to_vec(alloc)?)
 }
 
-/// A disk of these bytes that fails after so many calls.
+/// Returns a disk of these bytes that fails after this number of calls.
 pub fn fused(alloc: Global, bytes: &[u8], calls: u64) -> Result<MemoryDisk> {
     MemoryDisk::with_fuse(alloc, bytes.to_vec(alloc)?, calls)
 }
 
-/// Stores what was written to the disk.
+/// Syncs the disk.
 pub fn store<D: Disk>(disk: &mut D) -> Result<()> {
     disk.sync()?;
     Ok(())
 }
 
-/// The disk that a stop leaves, with these fates of what is pending.
+/// Returns the disk that a crash leaves. `fates` says what becomes of the pending writes.
 pub fn stopped(disk: MemoryDisk, fates: &[Fate]) -> Result<MemoryDisk> {
     disk.stop(fates)
 }
 
-/// The bytes of the disk.
+/// Returns the bytes of the disk.
 pub fn bytes_of(alloc: Global, disk: &MemoryDisk) -> Result<Vec<u8>> {
     Ok(disk.bytes().to_vec(alloc)?)
 }
 
-/// Whether these are the bytes of the disk.
+/// Reports whether these are the bytes of the disk.
 pub fn has_bytes(disk: &MemoryDisk, bytes: &[u8]) -> bool {
     disk.bytes() == bytes
 }

@@ -1,5 +1,5 @@
-//! What tests and measurements make their cases of: tables, the disks that hold them, and the words of
-//! command lines. What a call of the library requires is tested first.
+//! What tests and measurements share: tables, disks that hold them, and command lines. Preconditions of the library are
+//! tested at run time.
 #![tactic(auto)]
 
 pub mod calls;

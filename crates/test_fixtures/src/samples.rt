@@ -1,4 +1,4 @@
-//! Disks, tables and images of which tests make their cases.
+//! Disks, tables and images for tests.
 
 use crate::calls::{apply, bytes_of, copy, entry_of, find, holding, new_on};
 use crate::tables::{DISK_GUID, partition, read, write};
@@ -6,18 +6,18 @@ use gptman::disk::long::LongDisk;
 use gptman::{Disk, Edit, Error, GPT, GPTHeader, MemoryDisk, PartitionName, Result};
 use std::alloc::Global;
 
-/// A disk of so many bytes, all of them this one.
+/// Returns a disk of `len` bytes, each of them `byte`.
 pub fn disk_of(alloc: Global, byte: u8, len: usize) -> Result<MemoryDisk> {
     MemoryDisk::new(alloc, vec![in alloc; byte; len]?)
 }
 
-/// A new header for 100 sectors of 512 bytes.
+/// Returns a new header for 100 sectors of 512 bytes.
 pub fn new_header(alloc: Global) -> Result<GPTHeader> {
     GPTHeader::new_from(&mut LongDisk::new(alloc, 51_200), 512, DISK_GUID)
 }
 
-/// Puts a used entry with this name, a GUID of this byte, and these sectors under the number. Its type is
-/// 16 bytes 0a.
+/// Puts a used entry with this name, these sectors, and a GUID of 16 times this byte under the number. Its type is 16
+/// bytes 0a.
 pub fn put_entry(
     alloc: Global,
     table: &mut GPT,
@@ -29,7 +29,7 @@ pub fn put_entry(
     apply(table, Edit::Put(number, entry))
 }
 
-// A table for 100 sectors of this size, with "Foo" and "Bar" from and to these sectors.
+// Returns a table for 100 sectors, with "Foo" and "Bar" in these sectors.
 fn foo_and_bar(alloc: Global, sector_size: u16, foo: (u64, u64), bar: (u64, u64)) -> Result<GPT> {
     let mut disk = disk_of(alloc, 0, 100 * usize::from(sector_size))?;
     let mut table = new_on(alloc, &mut disk, u64::from(sector_size))?;
@@ -39,18 +39,18 @@ fn foo_and_bar(alloc: Global, sector_size: u16, foo: (u64, u64), bar: (u64, u64)
     Ok(table)
 }
 
-/// A table for 100 sectors of 512 bytes, with "Foo" from 34 to 43 and "Bar" from 48 to 52.
+/// Returns a table for 100 sectors of 512 bytes, with "Foo" in 34..43 and "Bar" in 48..52.
 pub fn disk_1(alloc: Global) -> Result<GPT> {
     foo_and_bar(alloc, 512, (34, 43), (48, 52))
 }
 
-/// A table for 100 sectors of 4096 bytes, with "Foo" from 6 to 15 and "Bar" from 70 to 79.
+/// Returns a table for 100 sectors of 4096 bytes, with "Foo" in 6..15 and "Bar" in 70..79.
 pub fn disk_2(alloc: Global) -> Result<GPT> {
     foo_and_bar(alloc, 4096, (6, 15), (70, 79))
 }
 
-/// A new table for 100 sectors of 512 bytes with these bounds and this alignment, and with a used entry
-/// for each of these pairs of a first and a last sector.
+/// Returns a new table for 100 sectors of 512 bytes with these bounds and alignment, and a used entry for each pair of
+/// first and last sector.
 pub fn table_within(
     alloc: Global,
     bounds: (u64, u64),
@@ -69,7 +69,7 @@ pub fn table_within(
     Ok(table)
 }
 
-/// The name of an entry whose units are these, and then zeros.
+/// Returns a name of these units, followed by zeros.
 pub fn name_of_units(alloc: Global, first: &[u16]) -> Result<PartitionName> {
     let mut bytes = [0; 128];
     let mut at = 56_usize;
@@ -80,7 +80,7 @@ pub fn name_of_units(alloc: Global, first: &[u16]) -> Result<PartitionName> {
     Ok(entry_of(alloc, &bytes)?.partition_name)
 }
 
-/// The header of the backup copy, of a header in primary form, with its checksums.
+/// Returns the backup form of a header in primary form. The checksums are unchanged.
 pub fn backup_form(header: &GPTHeader) -> GPTHeader {
     GPTHeader {
         primary_lba: header.backup_lba,
@@ -90,41 +90,41 @@ pub fn backup_form(header: &GPTHeader) -> GPTHeader {
     }
 }
 
-/// The bytes of a disk of so many, all of them this one, after the table was written to it.
+/// Writes the table to a disk of `len` bytes, each of them `byte`, and returns the bytes.
 pub fn image_on(alloc: Global, byte: u8, len: usize, table: &mut GPT) -> Result<Vec<u8>> {
     let mut disk = disk_of(alloc, byte, len)?;
     write(table, &mut disk)?;
     bytes_of(alloc, &disk)
 }
 
-/// The bytes of a zero disk of 100 sectors after the table was written to it.
+/// Writes the table to a zero disk of 100 sectors, and returns the bytes.
 pub fn image_with(alloc: Global, table: &GPT) -> Result<Vec<u8>> {
     let len = 100 * table.sector_size.min(4096) as usize;
     image_on(alloc, 0, len, &mut copy(table)?)
 }
 
-/// The bytes of 100 sectors of 512, all of them this one, after a new table was written to them.
+/// Writes a new table to 100 sectors of 512 bytes, each byte `byte`, and returns the bytes.
 pub fn image_of_new(alloc: Global, byte: u8) -> Result<Vec<u8>> {
     let mut table = new_on(alloc, &mut disk_of(alloc, 0, 51_200)?, 512)?;
     image_on(alloc, byte, 51_200, &mut table)
 }
 
-/// The table on a disk of these bytes, with sectors of this size.
+/// Reads the table in these bytes.
 pub fn read_image(alloc: Global, bytes: &[u8], sector_size: u64) -> Result<GPT> {
     read(alloc, &mut holding(alloc, bytes)?, sector_size)
 }
 
-/// The table on a disk of these bytes, and its sector size is found.
+/// Reads the table in these bytes, and detects the sector size.
 pub fn find_image(alloc: Global, bytes: &[u8]) -> Result<GPT> {
     find(alloc, &mut holding(alloc, bytes)?)
 }
 
-/// Whether all bytes are this one.
+/// Reports whether all bytes are `byte`.
 pub fn are_all(bytes: &[u8], byte: u8) -> bool {
     bytes.iter().all(|it| *it == byte)
 }
 
-/// Puts these bytes over as many others, from `at` on. `Overflow` where there are not so many.
+/// Overwrites bytes from `at` on. `Overflow` if `over` does not fit.
 pub fn put(bytes: &mut [u8], at: usize, over: &[u8]) -> Result<()> {
     let len = bytes.len();
     if at > len || over.len() > len - at {
@@ -134,7 +134,7 @@ pub fn put(bytes: &mut [u8], at: usize, over: &[u8]) -> Result<()> {
     Ok(())
 }
 
-// The 16 bytes of the partition of a protective MBR that covers so many sectors from sector 1 on.
+// Returns the 16 bytes of the partition of a protective MBR with `count` sectors from sector 1 on.
 fn mbr_partition(is_bootable: bool, count: u32) -> Result<[u8; 16]> {
     let status = if is_bootable { 0x80 } else { 0 };
     let mut bytes = [
@@ -144,14 +144,14 @@ fn mbr_partition(is_bootable: bool, count: u32) -> Result<[u8; 16]> {
     Ok(bytes)
 }
 
-/// Puts a protective MBR over so many sectors from sector 1 on into these bytes.
+/// Puts a protective MBR with `count` sectors from sector 1 on into these bytes.
 pub fn put_mbr(bytes: &mut [u8], is_bootable: bool, count: u32) -> Result<()> {
     put(bytes, 446, &mbr_partition(is_bootable, count)?)?;
     put(bytes, 462, &[0; 48])?;
     put(bytes, 510, &[0x55, 0xaa])
 }
 
-/// Writes one of the two protective MBRs, with sectors of so many bytes.
+/// Writes one of the two protective MBRs.
 pub fn write_mbr<D: Disk>(disk: &mut D, sector_size: u64, is_bootable: bool) -> Result<()> {
     if sector_size == 0 {
         return Err(Error::Overflow);

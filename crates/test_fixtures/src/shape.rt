@@ -1,7 +1,7 @@
-//! Tables of many shapes: sectors of several sizes, and any number of entries.
+//! Tables of many shapes, with several sector sizes and any number of entries.
 //!
-//! Used are the entries from number 1 on. Each has one sector, and one is free behind it; behind the last
-//! of these sectors more are free.
+//! The entries from number 1 on are used. Each has one sector with a free one after it, and the last one has more free
+//! sectors after it.
 
 ghost use Rattle.std.specs.Prelude.{◌<◌};
 
@@ -9,59 +9,59 @@ use crate::tables::{DISK_GUID, partition, read, write, write_copy};
 use gptman::{Disk, GPT, GPTHeader, GPTPartitionEntry, Result};
 use std::alloc::Global;
 
-/// What a table is made of.
+/// The parameters of a table.
 #[derive(Clone, Copy)]
 pub struct Shape {
-    /// The size of a sector, in bytes.
+    /// The sector size in bytes.
     pub sector_size: u16,
-    /// How many entries there are.
+    /// The number of entries.
     pub entries: u32,
-    /// How many of them are used.
+    /// The number of used entries.
     pub used: u32,
-    /// How many sectors are free behind the last one that is used.
+    /// The number of free sectors after the last used one.
     pub free: u64,
-    /// Whether the first entry has the last of the used sectors, and not the first.
+    /// Whether the entries are in the reverse order of their sectors.
     pub is_reversed: bool,
     /// The reserved bytes of the header.
     pub reserved: [u8; 4],
 }
 
 impl Shape {
-    /// The size of a sector, in bytes.
+    /// Returns the sector size in bytes.
     pub fn size(&self) -> u64
         ensures { 0 < result }
     {
         u64::from(self.sector_size).max(1)
     }
 
-    // How many sectors the entries take.
+    // Returns the number of sectors of the entries.
     fn array(&self) -> u64 {
         (128 * u64::from(self.entries)).div_ceil(self.size())
     }
 
-    /// The first usable sector.
+    /// Returns the first usable sector.
     pub fn first(&self) -> u64 {
         self.array().saturating_add(2)
     }
 
-    /// The first of the free sectors at the end.
+    /// Returns the first free sector at the end.
     pub fn gap(&self) -> u64 {
         let sectors = (2 * u64::from(self.used)).saturating_sub(1);
         self.first().saturating_add(sectors)
     }
 
-    /// The last usable sector.
+    /// Returns the last usable sector.
     pub fn last(&self) -> u64 {
         self.gap().saturating_add(self.free).saturating_sub(1)
     }
 
-    /// How many bytes the disk has: two sectors and the entries, the usable sectors, and the backup copy.
+    /// Returns the length of the disk in bytes: two sectors and the entries, the usable sectors, and the backup copy.
     pub fn bytes(&self) -> usize {
         let sectors = self.last().saturating_add(self.array()).saturating_add(2);
         sectors.saturating_mul(self.size()) as usize
     }
 
-    // The sector of the used entry of this number.
+    // Returns the sector of the used entry of this number.
     fn sector_of(&self, number: u32) -> u64 {
         let place = if self.is_reversed {
             self.used.saturating_sub(number)
@@ -71,7 +71,7 @@ impl Shape {
         self.first().saturating_add(2 * u64::from(place))
     }
 
-    // The entry of this number.
+    // Returns the entry of this number.
     fn entry(&self, alloc: Global, number: u32) -> Result<GPTPartitionEntry> {
         if number > self.used {
             return Ok(GPTPartitionEntry::empty(alloc));
@@ -81,7 +81,7 @@ impl Shape {
         partition(alloc, "a partition", guid, sector, sector)
     }
 
-    /// All entries.
+    /// Returns all entries.
     pub fn all_entries(&self, alloc: Global) -> Result<Vec<GPTPartitionEntry>> {
         let mut entries = Vec::new(alloc);
         for number in 1..=self.entries {
@@ -90,7 +90,7 @@ impl Shape {
         Ok(entries)
     }
 
-    // The header of the primary copy.
+    // Returns the header of the primary copy.
     fn header<D: Disk>(&self, disk: &mut D) -> Result<GPTHeader> {
         Ok(GPTHeader {
             reserved: self.reserved,
@@ -101,7 +101,7 @@ impl Shape {
         })
     }
 
-    /// Writes both copies of such a table to a disk of that many bytes.
+    /// Writes both copies of the table to a disk of `bytes()` bytes.
     pub fn write_to<D: Disk>(&self, alloc: Global, disk: &mut D) -> Result<GPT> {
         let mut header = self.header(disk)?;
         let entries = self.all_entries(alloc)?;

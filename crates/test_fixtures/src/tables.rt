@@ -1,7 +1,6 @@
-//! Tables and their entries, and the calls that write them.
+//! Tables and entries, and the calls that write them.
 //!
-//! A call of the library that requires something is made here after a test of it: `Overflow` is answered
-//! where the test fails.
+//! Each call tests the preconditions of the library first, and returns `Overflow` if they do not hold.
 
 use crate::calls::apply;
 use crate::samples::disk_of;
@@ -15,12 +14,12 @@ use std::alloc::Global;
 /// The GUID of each disk.
 pub const DISK_GUID: [u8; 16] = [0xff; 16];
 
-/// A disk of so many bytes, all of them zero.
+/// Returns a disk of `len` zero bytes.
 pub fn zero_disk(alloc: Global, len: usize) -> Result<MemoryDisk> {
     disk_of(alloc, 0, len)
 }
 
-/// A used entry with this name, unique GUID and place. Its type is 16 bytes 0a.
+/// Returns a used entry with this name, unique GUID and place. Its type is 16 bytes 0a.
 pub fn partition(
     alloc: Global,
     name: &str,
@@ -38,12 +37,12 @@ pub fn partition(
     })
 }
 
-/// A new table for 100 sectors of 512 bytes.
+/// Returns a new table for 100 sectors of 512 bytes.
 pub fn new_table(alloc: Global) -> Result<GPT> {
     GPT::new_from(alloc, &mut LongDisk::new(alloc, 51_200), 512, DISK_GUID)
 }
 
-/// That table with a partition for each of these numbers, names, first and last sectors.
+/// Returns that table with these partitions, each given by number, name, first and last sector.
 pub fn table_with(alloc: Global, partitions: &[(u8, &str, u64, u64)]) -> Result<GPT> {
     let mut table = new_table(alloc)?;
     for (number, name, from, to) in partitions {
@@ -53,7 +52,7 @@ pub fn table_with(alloc: Global, partitions: &[(u8, &str, u64, u64)]) -> Result<
     Ok(table)
 }
 
-/// That table with "Foo" from 34 to 43, "Bar" from 48 to 52, and under number 10 "Baz" from 44 to 47.
+/// Returns that table with "Foo" in 34..43, "Bar" in 48..52, and under number 10 "Baz" in 44..47.
 pub fn unsorted_table(alloc: Global) -> Result<GPT> {
     table_with(
         alloc,
@@ -61,7 +60,7 @@ pub fn unsorted_table(alloc: Global) -> Result<GPT> {
     )
 }
 
-/// Writes the table, in two copies.
+/// Writes both copies of the table.
 pub fn write<D: Disk>(table: &mut GPT, disk: &mut D) -> Result<GPTHeader> {
     if table.sector_size == 0 || !table.is_coherent() {
         return Err(Error::Overflow);
@@ -69,7 +68,7 @@ pub fn write<D: Disk>(table: &mut GPT, disk: &mut D) -> Result<GPTHeader> {
     table.write_into(disk)
 }
 
-/// Makes the edits one after the other, and writes the table after each.
+/// Applies the edits in order, and writes the table after each.
 pub fn commit<D: Disk>(table: &mut GPT, disk: &mut D, edits: Vec<Edit>) -> Result<Progress> {
     if table.sector_size == 0 || !table.is_coherent() {
         return Err(Error::Overflow);
@@ -77,7 +76,7 @@ pub fn commit<D: Disk>(table: &mut GPT, disk: &mut D, edits: Vec<Edit>) -> Resul
     Ok(table.commit_all(disk, edits))
 }
 
-/// Writes the header and these entries, as one copy.
+/// Writes the header and these entries as one copy.
 pub fn write_copy<D: Disk>(
     header: &mut GPTHeader,
     disk: &mut D,
@@ -93,7 +92,7 @@ pub fn write_copy<D: Disk>(
     header.write_into(disk, sector_size, entries)
 }
 
-/// The table that the disk holds.
+/// Reads the table on the disk.
 pub fn read<D: Disk>(alloc: Global, disk: &mut D, sector_size: u64) -> Result<GPT> {
     if sector_size == 0 {
         return Err(Error::Overflow);
@@ -101,7 +100,7 @@ pub fn read<D: Disk>(alloc: Global, disk: &mut D, sector_size: u64) -> Result<GP
     GPT::read_from(alloc, disk, sector_size)
 }
 
-/// Goes to this byte and writes these from there on. `Overflow` where the disk has not so many.
+/// Writes these bytes from byte `at` on. `Overflow` if they pass the end.
 pub fn write_at<D: Disk>(disk: &mut D, at: u64, bytes: &[u8]) -> Result<()> {
     let len = disk.seek_end()?;
     disk.seek_start(at)?;
@@ -112,7 +111,7 @@ pub fn write_at<D: Disk>(disk: &mut D, at: u64, bytes: &[u8]) -> Result<()> {
     Ok(())
 }
 
-/// The bytes of a zero disk of 100 sectors of 512 bytes after this table was written.
+/// Writes this table to a zero disk of 100 sectors of 512 bytes, and returns the bytes.
 pub fn image_of(alloc: Global, table: &mut GPT) -> Result<Vec<u8>> {
     let mut disk = LongDisk::new(alloc, 51_200);
     write(table, &mut disk)?;
@@ -128,7 +127,7 @@ pub fn complement(bytes: &mut [u8], places: &[usize]) {
     }
 }
 
-/// Whether these are the entries of the table.
+/// Reports whether these are the entries of the table.
 pub fn are_those_of(entries: &[GPTPartitionEntry], table: &GPT) -> bool {
     let mut rest = entries.iter();
     for (_, entry) in table.iter() {
@@ -139,12 +138,12 @@ pub fn are_those_of(entries: &[GPTPartitionEntry], table: &GPT) -> bool {
     rest.next().is_none()
 }
 
-/// Whether both tables have the same entries.
+/// Reports whether both tables have the same entries.
 pub fn have_same_entries(one: &GPT, other: &GPT) -> bool {
     one.iter().eq(other.iter())
 }
 
-/// Whether a used entry of this name has this number.
+/// Reports whether the entry of this number is used and has this name.
 pub fn has_entry(table: &GPT, number: u32, name: &str) -> bool {
     for (at, entry) in table.iter() {
         if at == number {

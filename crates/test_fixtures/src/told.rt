@@ -3,12 +3,12 @@
 use gptman::{Error, GPT, GPTPartitionEntry, Result};
 use std::alloc::Global;
 
-/// The text of an error.
+/// Returns the text of an error.
 pub fn text_of(alloc: Global, error: &Error) -> Result<String> {
     Ok(error.to_string(alloc)?)
 }
 
-/// What a call answered: "ok", or the text of its error.
+/// Returns "ok", or the text of the error.
 pub fn said<T>(alloc: Global, outcome: &Result<T>) -> Result<String> {
     match outcome {
         Ok(_) => Ok(String::from_str(alloc, "ok")?),
@@ -16,7 +16,7 @@ pub fn said<T>(alloc: Global, outcome: &Result<T>) -> Result<String> {
     }
 }
 
-// Puts a comma, and the entry's number, name and sectors behind the text.
+// Appends a comma, and the number, name and sectors of the entry.
 fn push_entry(
     alloc: Global,
     text: &mut String,
@@ -28,7 +28,7 @@ fn push_entry(
     Ok(text.push_str(more.as_str())?)
 }
 
-/// The number, the name and the sectors of each used entry, with a comma before each.
+/// Returns the number, name and sectors of each used entry, with a comma before each.
 pub fn used(alloc: Global, table: &GPT) -> Result<String> {
     let mut used = String::new(alloc);
     for (number, entry) in table.iter() {
@@ -39,8 +39,8 @@ pub fn used(alloc: Global, table: &GPT) -> Result<String> {
     Ok(used)
 }
 
-/// The table as text: the sector size; the sectors of its header, of the other header and of its
-/// entries; the usable sectors; the alignment; and the used entries.
+/// Returns the table as text: the sector size; the sectors of its header, the other header and its entries; the usable
+/// sectors; the alignment; and the used entries.
 pub fn shown(alloc: Global, table: &GPT) -> Result<String> {
     let (size, align, header) = (table.sector_size, table.align, &table.header);
     let (own, other) = (header.primary_lba, header.backup_lba);
@@ -52,7 +52,7 @@ pub fn shown(alloc: Global, table: &GPT) -> Result<String> {
     Ok(text?)
 }
 
-/// The table that a call answered, as text, or the text of its error.
+/// Returns the text of the table, or of the error.
 pub fn told(alloc: Global, outcome: &Result<GPT>) -> Result<String> {
     match outcome {
         Ok(table) => shown(alloc, table),

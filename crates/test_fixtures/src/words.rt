@@ -1,8 +1,8 @@
-//! The words of command lines.
+//! Command lines.
 
 use std::alloc::{AllocError, Global};
 
-/// The words of a line. `F`, `T`, `U`, `V` and `Z` stand for GUIDs.
+/// Returns the words of a line. `F`, `T`, `U`, `V` and `Z` stand for GUIDs.
 pub fn split(alloc: Global, line: &str) -> Result<Vec<String>, AllocError> {
     let mut words = Vec::new(alloc);
     for word in line.split_whitespace() {
@@ -11,7 +11,7 @@ pub fn split(alloc: Global, line: &str) -> Result<Vec<String>, AllocError> {
     Ok(words)
 }
 
-// The word, or the GUID that it stands for.
+// Returns the word, or the GUID that it stands for.
 fn spelled(word: &str) -> &str {
     match word {
         "F" => "ffffffffffffffffffffffffffffffff",
