@@ -1,4 +1,4 @@
-//! Commands of the program, each on a disk of 100 sectors of 512 bytes with "Foo" from 34 to 43.
+//! Commands of `gptimg`, each on a disk of 100 sectors of 512 bytes with "Foo" in 34..43.
 
 use crate::held::Held;
 use crate::memory::Memory;
@@ -8,13 +8,13 @@ use gptman::{Error, Result};
 use test_fixtures::tables::{image_of, table_with};
 use test_fixtures::words::split;
 
-/// Makes the call of this name. None where it is none of these.
+/// Makes the call of this name, or returns `None` if it is not one of these.
 pub fn try_call(name: &str, memory: &mut Memory) -> Option<Result<Verdict>> {
     let (line, wanted) = command_of(name)?;
     Some(try_command(memory, line, wanted))
 }
 
-// The words of the command of this name, and what it prints, with `;` where a line ends.
+// Returns the command line of this name and its output, with `;` for each newline.
 fn command_of(name: &str) -> Option<(&'static str, &'static str)> {
     for command in COMMANDS.lines() {
         let (known, rest) = command.split_once('|')?;
@@ -25,7 +25,7 @@ fn command_of(name: &str) -> Option<(&'static str, &'static str)> {
     None
 }
 
-// A line for each command: its name, its words, and what it prints.
+// A line for each command: its name, its words, and its output.
 const COMMANDS: &str = "\
 show|512 show|sector 512 form primary disk ffffffffffffffffffffffffffffffff usable 34..66 entries 128 align 1;\
 1 0a0a0a0a0a0a0a0a0a0a0a0a0a0a0a0a 01010101010101010101010101010101 34..43 0000000000000000 Foo;
@@ -51,7 +51,7 @@ mbr_plain|512 mbr plain|ok;
 mbr_bootable|512 mbr bootable|ok;
 ";
 
-// Whether this was printed: the text, with a newline for each `;`.
+// Reports whether this text was printed, with a newline for each `;`.
 fn is_printed(printed: &[u8], wanted: &str) -> bool {
     let mut left = wanted.bytes();
     for byte in printed {
@@ -63,7 +63,7 @@ fn is_printed(printed: &[u8], wanted: &str) -> bool {
     left.next().is_none()
 }
 
-// There is room for what is printed, so that no growth of it is refused.
+// The output buffer is large enough, so that no allocation for it can fail.
 fn try_command(memory: &mut Memory, line: &str, wanted: &str) -> Result<Verdict> {
     let mut table = table_with(memory.alloc(), &[(1, "Foo", 34, 43)])?;
     let mut held = Held::new(memory.alloc(), image_of(memory.alloc(), &mut table)?)?;
@@ -76,7 +76,7 @@ fn try_command(memory: &mut Memory, line: &str, wanted: &str) -> Result<Verdict>
     Ok(of_command(status, &printed, wanted, &held, is_left))
 }
 
-// What came of a command that ended with this status and printed this, where a table is left or not.
+// Returns the verdict on a command with this status and output. `is_left` says whether the disk holds a table.
 fn of_command(
     status: Result<u8>,
     printed: &[u8],

@@ -1,5 +1,5 @@
-//! A header that counts all entries that 32 bits can count, on a disk that has room for them and fails
-//! where they stand. The list grows as the entries come, so that there is memory for those that come.
+//! A header with the largest number of entries, on a disk that has room for them but fails within them. The list grows
+//! while entries are read, so it fits in memory.
 
 use crate::memory::Memory;
 use crate::verdict::{Verdict, of_answer};
@@ -11,7 +11,7 @@ use test_fixtures::calls::new_on;
 use test_fixtures::tables::{read, write, write_at};
 use test_fixtures::words::split;
 
-/// Makes the call of this name. None where it is none of these.
+/// Makes the call of this name, or returns `None` if it is not one of these.
 pub fn try_call(name: &str, memory: &mut Memory) -> Option<Result<Verdict>> {
     let alloc = memory.alloc();
     match name {
@@ -29,14 +29,14 @@ const SHOWN: &str = "sector 512 form backup disk fffffffffffffffffffffffffffffff
 
 const CHECKED: &str = "primary fault Io\nbackup ok\nsame no\n";
 
-// So many blocks of 32 entries are read before the disk fails.
+// The number of blocks of 32 entries that are read before the disk fails.
 const BLOCKS: u64 = 100;
 
-// 2^31 sectors of 512 bytes.
+// The length of the disk in bytes: 2^31 sectors of 512 bytes.
 const LEN: u64 = 1 << 40;
 
-// Writes an empty table, over whose primary header stands one that counts so many entries; and damages
-// the disk behind so many blocks of them, up to the backup copy. Answers that header.
+// Writes an empty table, replaces its primary header with one of `u32::MAX` entries, and damages the disk after
+// `blocks` blocks, up to the backup copy. Returns that header.
 fn write_counting(alloc: Global, disk: &mut LongDisk, blocks: u64) -> Result<GPTHeader> {
     let header = counting(write_empty(alloc, disk)?)?;
     write_at(disk, 512, &header.encode())?;
@@ -47,14 +47,14 @@ fn write_counting(alloc: Global, disk: &mut LongDisk, blocks: u64) -> Result<GPT
     Ok(header)
 }
 
-// Writes an empty table. Answers its header.
+// Writes an empty table. Returns its header.
 fn write_empty(alloc: Global, disk: &mut LongDisk) -> Result<GPTHeader> {
     let mut table = new_on(alloc, disk, 512)?;
     write(&mut table, disk)?;
     Ok(table.header)
 }
 
-// The header that counts so many, its checksum made.
+// Returns the header with `u32::MAX` entries and the right checksum.
 fn counting(header: GPTHeader) -> Result<GPTHeader> {
     let mut header = header;
     header.number_of_partition_entries = u32::MAX;
@@ -65,7 +65,7 @@ fn counting(header: GPTHeader) -> Result<GPTHeader> {
     Ok(header)
 }
 
-// The entries of that header. `Io` is right, with how little memory soever.
+// Reads the entries of that header. The right result is `Io`, however little memory there is.
 fn read_entries(memory: &mut Memory, blocks: u64) -> Result<Verdict> {
     let mut disk = LongDisk::new(memory.alloc(), LEN);
     let header = write_counting(memory.alloc(), &mut disk, blocks)?;
@@ -79,7 +79,7 @@ fn read_entries(memory: &mut Memory, blocks: u64) -> Result<Verdict> {
     }
 }
 
-// The table, which is that of the backup copy.
+// Reads the table, which must be that of the backup copy.
 fn read_table(alloc: Global) -> Result<Verdict> {
     let mut disk = LongDisk::new(alloc, LEN);
     write_counting(alloc, &mut disk, BLOCKS)?;
@@ -87,7 +87,7 @@ fn read_table(alloc: Global) -> Result<Verdict> {
     Ok(of_answer(table.is_backup() && table.iter().count() == 128))
 }
 
-// The command of this line, which is to end with this status and to print this.
+// Runs a command, which must return this status and print this text.
 fn try_command(alloc: Global, line: &str, status: u8, wanted: &str) -> Result<Verdict> {
     let mut disk = LongDisk::new(alloc, LEN);
     write_counting(alloc, &mut disk, BLOCKS)?;

@@ -7,7 +7,7 @@ use std::alloc::Global;
 use test_fixtures::calls::{has_bytes, holding, stopped, store};
 use test_fixtures::tables::write_at;
 
-/// Makes the call of this name. None where it is none of these.
+/// Makes the call of this name, or returns `None` if it is not one of these.
 pub fn try_call(name: &str, memory: &mut Memory) -> Option<Result<Verdict>> {
     match name {
         "disk_new" | "disk_with_fuse" | "disk_stop" => Some(make_disk(name, memory)),
@@ -26,7 +26,7 @@ fn make_disk(name: &str, memory: &mut Memory) -> Result<Verdict> {
     Ok(of_call(&outcome, true))
 }
 
-// Whether the disk that is made, of these bytes or by a stop of this disk, has the bytes that it should.
+// Reports whether the disk that is made of these bytes, or left of `disk` by a crash, has the right bytes.
 fn is_made(name: &str, alloc: Global, bytes: Vec<u8>, disk: MemoryDisk) -> Result<bool> {
     match name {
         "disk_new" => Ok(holds(&MemoryDisk::new(alloc, bytes)?, [1, 2, 3, 4])),
@@ -39,12 +39,12 @@ fn holds(disk: &MemoryDisk, bytes: [u8; 4]) -> bool {
     has_bytes(disk, &bytes)
 }
 
-// Whether a stop with these fates leaves these bytes.
+// Reports whether a crash with these fates leaves these bytes.
 fn is_left(disk: MemoryDisk, fates: &[Fate], bytes: [u8; 4]) -> Result<bool> {
     Ok(holds(&stopped(disk, fates)?, bytes))
 }
 
-// The bytes 1 to 4 with 07 07 at 0, stored, and then at 1.
+// Returns a disk of bytes 1 to 4 with 07 07 written at 0 and synced, then written at 1.
 fn written(alloc: Global) -> Result<MemoryDisk> {
     let mut disk = holding(alloc, &[1, 2, 3, 4])?;
     write_at(&mut disk, 0, &[7, 7])?;
@@ -53,7 +53,7 @@ fn written(alloc: Global) -> Result<MemoryDisk> {
     Ok(disk)
 }
 
-// One more write is there and pending, or none.
+// One more write is visible and pending, or none is.
 fn write_bytes(memory: &mut Memory) -> Result<Verdict> {
     let mut disk = written(memory.alloc())?;
     memory.begin();
@@ -69,7 +69,7 @@ fn write_bytes(memory: &mut Memory) -> Result<Verdict> {
     Ok(of_record(&outcome, is_there && is_pending))
 }
 
-// What was pending is stored, or is pending still.
+// The pending writes are synced, or are still pending.
 fn sync_disk(memory: &mut Memory) -> Result<Verdict> {
     let mut disk = written(memory.alloc())?;
     memory.begin();
@@ -84,7 +84,7 @@ fn sync_disk(memory: &mut Memory) -> Result<Verdict> {
     Ok(of_record(&outcome, is_so))
 }
 
-// Of a write or a sync that was done or found no memory for its record, and left the disk so.
+// Returns the verdict on a write or a sync. `is_so` says whether it left the disk in the right state.
 fn of_record(outcome: &Result<()>, is_so: bool) -> Verdict {
     match outcome {
         Ok(_) => of_answer(is_so),

@@ -1,4 +1,4 @@
-//! Disks over a file, which keep no record: what is refused there is the call's own growth.
+//! Disks over a file. They keep no record, so the failing allocation is one of the call itself.
 
 use crate::memory::Memory;
 use crate::verdict::{Verdict, of_answer, of_refusal};
@@ -12,7 +12,7 @@ use test_fixtures::tables::{image_of, new_table, unsorted_table, write};
 
 const PATH: &str = "growths.img";
 
-/// Makes the call of this name. None where it is none of these.
+/// Makes the call of this name, or returns `None` if it is not one of these.
 pub fn try_call<R: Files<File = File> + AllocGlobal>(
     files: &R,
     name: &str,
@@ -25,14 +25,14 @@ pub fn try_call<R: Files<File = File> + AllocGlobal>(
     }
 }
 
-// The bytes of a disk that holds an empty table, and a file of them.
+// Makes a file with an empty table, and returns its bytes.
 fn make_file<R: Files<File = File> + AllocGlobal>(files: &R, alloc: Global) -> Result<Vec<u8>> {
     let image = image_of(alloc, &mut new_table(alloc)?)?;
     fs::write(files, PATH, image.as_slice())?;
     Ok(image)
 }
 
-// What came of opening it. The system's own want of memory is `Io`.
+// Returns the verdict on opening the file. An allocation failure of the system is `Io`.
 fn of_opening<R: Files<File = File> + AllocGlobal>(
     files: &R,
     outcome: &Result<FileDisk>,
@@ -89,14 +89,14 @@ fn write_to_file<R: Files<File = File> + AllocGlobal>(
     Ok(outcome)
 }
 
-// Whether the file has these bytes. It is removed.
+// Reports whether the file has these bytes, and removes it.
 fn is_kept<R: Files<File = File> + AllocGlobal>(files: &R, image: &[u8]) -> Result<bool> {
     let bytes = fs::read(files, PATH)?;
     fs::remove_file(files, PATH)?;
     Ok(bytes.as_slice() == image)
 }
 
-// What came of writing a table, which left the file and the value as they were or not.
+// Returns the verdict on a write of the table, which left the file and the value unchanged or not.
 fn of_write(outcome: &Result<GPTHeader>, is_file_kept: bool, is_kept: bool) -> Verdict {
     match outcome {
         Ok(header) => of_answer(header.primary_lba == 99 && !is_file_kept),

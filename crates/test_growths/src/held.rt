@@ -1,4 +1,4 @@
-//! A disk, and what it held before a call.
+//! A disk, and its contents before a call.
 
 use crate::noted::NotedDisk;
 use crate::verdict::{Verdict, of_failure, of_refusal};
@@ -6,7 +6,7 @@ use gptman::{Error, GPT, MemoryDisk, Result};
 use std::alloc::Global;
 use test_fixtures::tables::read;
 
-/// A disk in memory, and the bytes that it held.
+/// A disk in memory, and its former bytes.
 #[derive(Drop)]
 pub struct Held {
     pub disk: NotedDisk<MemoryDisk>,
@@ -14,7 +14,7 @@ pub struct Held {
 }
 
 impl Held {
-    /// A disk of these bytes, all of them stored.
+    /// Returns a disk of these bytes, all of them synced.
     pub fn new(alloc: Global, image: Vec<u8>) -> Result<Held> {
         let below = MemoryDisk::new(alloc, image.to_vec(alloc)?)?;
         let disk = NotedDisk {
@@ -25,19 +25,18 @@ impl Held {
         Ok(Held { disk, image })
     }
 
-    /// Whether the disk was asked for no write and no sync, so that nothing is pending, and holds the
-    /// bytes that it held.
+    /// Reports whether the disk has its former bytes and had no call to write or sync, so that nothing is pending.
     pub fn is_kept(&self) -> bool {
         self.disk.writes == 0 && self.disk.below.bytes() == self.image.as_slice()
     }
 
-    /// Whether the disk found no memory for a record.
+    /// Reports whether the disk could not allocate a record.
     pub fn has_no_record(&self) -> bool {
         self.disk.has_no_memory
     }
 
-    /// Of a write that was refused with this: `Io` where the disk found no memory for its record, and
-    /// then it still holds a table or not; else `OutOfMemory`, before the disk was asked for a write.
+    /// Returns the verdict on a write that failed. If the disk could not allocate a record, the error must be `Io`, and
+    /// the disk must hold a table. Otherwise the error must be `OutOfMemory`, before the first write.
     pub fn verdict(&self, error: &Error, is_kept: bool, holds_a_table: bool) -> Verdict {
         if !self.has_no_record() {
             return of_refusal(error, is_kept && self.is_kept());
@@ -45,7 +44,7 @@ impl Held {
         of_failure(error, holds_a_table)
     }
 
-    /// The table that a reading of the disk finds.
+    /// Reads the table on the disk.
     pub fn read(&mut self, alloc: Global) -> Result<GPT> {
         read(alloc, &mut self.disk, 512)
     }

@@ -6,7 +6,7 @@ use std::alloc::Global;
 use test_fixtures::calls::{are_equal_names, copy_name, entry_of, name_of};
 use test_fixtures::tables::partition;
 
-/// Makes the call of this name. None where it is none of these.
+/// Makes the call of this name, or returns `None` if it is not one of these.
 pub fn try_call(name: &str, alloc: Global) -> Option<Result<Verdict>> {
     match name {
         "large_name" => Some(name_in_memory(alloc)),
@@ -15,14 +15,13 @@ pub fn try_call(name: &str, alloc: Global) -> Option<Result<Verdict>> {
     }
 }
 
-// 100 letters.
 const LETTERS: &str =
     "aaaaaaaaaabbbbbbbbbbccccccccccddddddddddeeeeeeeeeeffffffffffgggggggggghhhhhhhhhhiiiiiiiiiijjjjjjjjjj";
 
-// The first 36 of them.
+// The first 36 letters.
 const KEPT: &str = "aaaaaaaaaabbbbbbbbbbccccccccccdddddd";
 
-// In memory it is kept whole.
+// In memory the name is complete.
 fn name_in_memory(alloc: Global) -> Result<Verdict> {
     let name = name_of(alloc, LETTERS)?;
     let again = copy_name(&name)?;
@@ -30,7 +29,7 @@ fn name_in_memory(alloc: Global) -> Result<Verdict> {
     Ok(of_answer(is_whole && has_kept_units(&again)))
 }
 
-// Whether the units are those of the first 36 letters.
+// Reports whether the units are those of the first 36 letters.
 fn has_kept_units(name: &PartitionName) -> bool {
     let mut letters = KEPT.bytes();
     for unit in name.units() {
@@ -41,7 +40,7 @@ fn has_kept_units(name: &PartitionName) -> bool {
     letters.next().is_none()
 }
 
-// On the disk 36 letters stand.
+// The disk has only the first 36 letters.
 fn name_on_disk(alloc: Global) -> Result<Verdict> {
     let entry = partition(alloc, LETTERS, [1; 16], 300, 301)?;
     let read = entry_of(alloc, &entry.encode())?;

@@ -1,4 +1,4 @@
-//! Long lives of one disk in memory: many writes and syncs, large writes, and a stop with many fates.
+//! Many calls on one disk in memory: writes and syncs, large writes, and a crash with many fates.
 
 use crate::verdict::{Verdict, of_answer};
 use gptman::{Fate, MemoryDisk, Result};
@@ -7,7 +7,7 @@ use test_fixtures::calls::{has_bytes, stopped, store};
 use test_fixtures::samples::disk_of;
 use test_fixtures::tables::{write_at, zero_disk};
 
-/// Makes the call of this name. None where it is none of these.
+/// Makes the call of this name, or returns `None` if it is not one of these.
 pub fn try_call(name: &str, alloc: Global) -> Option<Result<Verdict>> {
     match name {
         "long_life" => Some(live_long(alloc)),
@@ -16,13 +16,13 @@ pub fn try_call(name: &str, alloc: Global) -> Option<Result<Verdict>> {
     }
 }
 
-// How many bytes the disk has.
+// The length of the disk in bytes.
 const LEN: usize = 10_000;
 
-// How many writes are made.
+// The number of writes.
 const WRITES: usize = 2000;
 
-// A sync behind each write. At last all bytes are written at once, which a stop then leaves.
+// Syncs after each write. Then one write of all bytes survives a crash.
 fn live_long(alloc: Global) -> Result<Verdict> {
     let mut disk = zero_disk(alloc, LEN)?;
     write_each(&mut disk)?;
@@ -35,12 +35,12 @@ fn live_long(alloc: Global) -> Result<Verdict> {
     Ok(of_answer(is_written && is_read && has_bytes(&left, &whole)))
 }
 
-// The byte that is written at this place.
+// Returns the byte that is written at this place.
 fn byte_of(at: usize) -> u8 {
     (at % 256) as u8
 }
 
-// Writes a byte at each place, with a sync behind it.
+// Writes a byte at each place, and syncs after each.
 fn write_each(disk: &mut MemoryDisk) -> Result<()> {
     for at in 0..WRITES {
         write_at(disk, at as u64, &[byte_of(at)])?;
@@ -58,7 +58,7 @@ fn is_each_written(disk: &MemoryDisk) -> bool {
     true
 }
 
-// The fate of the write at this place, and what it leaves there where 1 stood and 7 was written.
+// Returns the fate of the write at this place, and the byte that it leaves if 1 was there and 7 was written.
 fn fate_of(at: usize) -> (Fate, u8) {
     match at % 3 {
         0 => (Fate::Old, 1),
@@ -67,7 +67,7 @@ fn fate_of(at: usize) -> (Fate, u8) {
     }
 }
 
-// No sync at all. Each write has a place of its own, and a fate of its own.
+// Never syncs. Each write has its own place and fate.
 fn stop_with_many_fates(alloc: Global) -> Result<Verdict> {
     let mut disk = disk_of(alloc, 1, LEN)?;
     for at in 0..WRITES {
@@ -84,7 +84,7 @@ fn fates() -> [Fate; WRITES] {
     fates
 }
 
-// Whether each place has what its fate leaves, and the next one what stood there.
+// Reports whether each place has the byte that its fate leaves, and the next place its former byte.
 fn is_each_left(disk: &MemoryDisk) -> bool {
     for at in 0..WRITES {
         if disk.bytes().get(at) != Some(&fate_of(at).1) {

@@ -1,9 +1,9 @@
-//! Calls that take memory. Each is made with as much as it asks for, or with one growth refused, and
-//! says whether it did what it promises then.
+//! Calls that allocate memory, each made with ample memory or with one failing allocation. Prints whether each kept its
+//! promises.
 //!
-//! A line of standard input is the name of a call, and perhaps a word behind it (`Turn`). For each a
-//! line is printed: the name and `done`, `refused`, or what is wrong. Which growth is refused is the
-//! affair of whoever runs the program: `scripts/growths` has each of a call refused in turn.
+//! A line of standard input is the name of a call, optionally with a second word (`Turn`). The line that is printed has
+//! the name and `done`, `refused`, or the failure. The runner selects the allocation: `scripts/growths` lets each
+//! allocation of a call fail.
 #![tactic(auto)]
 
 mod commands;
@@ -38,7 +38,7 @@ fn main(rt: HostRuntime) -> io::Result<()> {
     Ok(())
 }
 
-// Makes the call that this line names, and prints what came of it.
+// Makes the call that this line names, and prints the result.
 fn try_line<R: Files<File = File> + Print + AllocGlobal>(rt: &R, line: &str) -> io::Result<()> {
     let mut words = line.split_whitespace();
     let name = words.next().unwrap_or("");
@@ -51,7 +51,7 @@ fn try_line<R: Files<File = File> + Print + AllocGlobal>(rt: &R, line: &str) -> 
     }
 }
 
-// What is printed of a call.
+// Returns the text of a result.
 fn said_of(made: &Option<Result<Verdict>>) -> &'static str {
     match made {
         Some(Ok(verdict)) => verdict.text(),
@@ -60,7 +60,7 @@ fn said_of(made: &Option<Result<Verdict>>) -> &'static str {
     }
 }
 
-// Makes the call of this name. None where there is none.
+// Makes the call of this name, or returns `None` if there is none.
 fn try_call<R: Files<File = File> + AllocGlobal>(
     files: &R,
     name: &str,
@@ -93,7 +93,7 @@ fn try_call<R: Files<File = File> + AllocGlobal>(
     try_large(name, memory.alloc())
 }
 
-// The same of the calls that are made with ample memory alone.
+// The same for the calls that are made only with ample memory.
 fn try_large(name: &str, alloc: Global) -> Option<Result<Verdict>> {
     if let Some(made) = large::try_call(name, alloc) {
         return Some(made);

@@ -1,25 +1,25 @@
-//! The memory that a call is made with, and which of its growths meets the one that is refused.
+//! The memory of a call, and which of its allocations fails.
 //!
-//! The growth of one number is refused, counted from the start of the program. So many growths are made
-//! and let go before a call that one of its own has that number.
+//! The runner makes one allocation fail, by its number since the start of the program. Dummy allocations before a call
+//! move this number to an allocation of the call.
 
 use std::alloc::Global;
 
-/// What is done besides the call.
+/// The dummy allocations that are made.
 #[derive(Clone, Copy)]
 pub enum Turn {
-    /// Nothing.
+    /// None.
     Plain,
-    /// Before the call growths are made up to the refused one: `before`.
+    /// Counts the allocations before the call up to the failing one: `before`.
     CountBefore,
-    /// Behind the call growths are made up to the refused one: `behind`.
+    /// Counts the allocations after the call up to the failing one: `behind`.
     CountBehind,
-    /// So many growths are made before the call: a number.
+    /// Makes this number of allocations before the call: a number.
     Spend(u32),
 }
 
 impl Turn {
-    /// The turn of this word. Any other word is that of a plain one.
+    /// Parses a word. Any unknown word is `Plain`.
     pub fn named(word: &str) -> Turn {
         match word {
             "before" => Turn::CountBefore,
@@ -32,12 +32,11 @@ impl Turn {
     }
 }
 
-// The number that the word is.
 fn growths_of(word: &str) -> Option<u32> {
     word.parse().ok()
 }
 
-/// The allocator of a call, and its turn.
+/// The allocator of a call, and its dummy allocations.
 #[derive(Drop)]
 pub struct Memory {
     alloc: Global,
@@ -58,7 +57,7 @@ impl Memory {
         self.alloc
     }
 
-    /// Stands right before the call.
+    /// Call this directly before the call.
     pub fn begin(&mut self) {
         match self.turn {
             Turn::CountBefore => self.counted = Some(grow(self.alloc, MOST)),
@@ -69,23 +68,23 @@ impl Memory {
         }
     }
 
-    /// Stands right behind the call.
+    /// Call this directly after the call.
     pub fn end(&mut self) {
         if let Turn::CountBehind = self.turn {
             self.counted = Some(grow(self.alloc, MOST));
         }
     }
 
-    /// How many growths were made up to the refused one, where they were counted.
+    /// Returns the number of allocations up to the failing one, if they were counted.
     pub fn counted(&self) -> Option<u32> {
         self.counted
     }
 }
 
-// More growths than are made before the refused one.
+// More allocations than are made before the failing one.
 const MOST: u32 = 1_000_000;
 
-// Makes so many growths, or as many as come before the refused one, and answers how many.
+// Makes `most` allocations, or those before the failing one. Returns their number.
 fn grow(alloc: Global, most: u32) -> u32 {
     for made in 0..most {
         if Box::new(alloc, 0_u8).is_err() {

@@ -1,19 +1,19 @@
-//! A disk that notes what it is asked for.
+//! A disk that counts calls.
 
 use gptman::Disk;
 use std::io;
 
-/// A disk that passes all calls on to the one below, and notes those that write.
+/// A disk that passes all calls to the disk below, and counts those that write.
 #[derive(Drop)]
 pub struct NotedDisk<D> {
     pub below: D,
-    /// How many writes and syncs it was asked for.
+    /// The number of writes and syncs.
     pub writes: u32,
-    /// Whether there was no memory for the record of one.
+    /// Whether the disk below could not allocate the record of one.
     pub has_no_memory: bool,
 }
 
-// Notes a write or a sync with this outcome.
+// Records a write or a sync with this result.
 fn note(writes: &mut u32, has_no_memory: &mut bool, outcome: &io::Result<()>) {
     *writes = writes.saturating_add(1);
     if let Err(error) = outcome {

@@ -1,4 +1,4 @@
-//! Free sectors and places. Of the sectors from 34 to 66 those up to 38 and those from 62 on are free.
+//! Free sectors and places. Of sectors 34..66, those up to 38 and from 62 on are free.
 
 use crate::memory::Memory;
 use crate::verdict::{Verdict, of_call};
@@ -6,7 +6,7 @@ use gptman::{GPT, Result};
 use test_fixtures::calls::{first_place, free_sectors, last_place, maximum_size, optimal_place};
 use test_fixtures::tables::table_with;
 
-/// Makes the call of this name. None where it is none of these.
+/// Makes the call of this name, or returns `None` if it is not one of these.
 pub fn try_call(name: &str, memory: &mut Memory) -> Option<Result<Verdict>> {
     match name {
         "free_sectors" | "first_place" | "last_place" | "optimal_place" | "maximum_size" => {
@@ -25,7 +25,7 @@ fn find(name: &str, memory: &mut Memory) -> Result<Verdict> {
     Ok(of_call(&outcome, true))
 }
 
-// Whether the call of this name finds what it should, at each sector.
+// Reports whether the call of this name returns the right result with alignment 1.
 fn is_found(name: &str, table: &GPT) -> Result<bool> {
     match name {
         "free_sectors" => are_slots(table),

@@ -1,4 +1,4 @@
-//! Readings of a disk on which a table was written. None of them writes to it.
+//! Reads of a disk that holds a table. None of them writes to it.
 
 use crate::held::Held;
 use crate::memory::Memory;
@@ -10,7 +10,7 @@ use test_fixtures::tables::{
     are_those_of, complement, have_same_entries, image_of, read, unsorted_table,
 };
 
-/// Makes the call of this name. None where it is none of these.
+/// Makes the call of this name, or returns `None` if it is not one of these.
 pub fn try_call(name: &str, memory: &mut Memory) -> Option<Result<Verdict>> {
     match name {
         "entry_read"
@@ -27,7 +27,7 @@ pub fn try_call(name: &str, memory: &mut Memory) -> Option<Result<Verdict>> {
     }
 }
 
-// A byte of each of the two headers.
+// The offset of a byte in each header.
 const IN_HEADERS: [usize; 2] = [536, 50_712];
 
 // Makes the call on a disk with these bytes complemented.
@@ -42,8 +42,7 @@ fn try_on_disk(name: &str, memory: &mut Memory, damaged: &[usize]) -> Result<Ver
     Ok(of_reader(&outcome, held.is_kept()))
 }
 
-// Whether the call answers what it should. Where the primary copy is good, the backup one is not to be
-// taken.
+// Reports whether the result is right. The backup copy must not be read if the primary copy is good.
 fn is_right(name: &str, alloc: Global, held: &mut Held, table: &GPT) -> Result<bool> {
     match name {
         "entry_read" => is_first_read(alloc, held, table),
@@ -63,7 +62,7 @@ fn is_first_read(alloc: Global, held: &mut Held, table: &GPT) -> Result<bool> {
     Ok(is_first(&entry, table))
 }
 
-// Whether this is a new table for 100 sectors of 512 bytes, with these usable ones and so many entries.
+// Reports whether this is a new table for 100 sectors of 512 bytes, with these usable sectors and number of entries.
 fn is_new(table: &GPT, usable: (u64, u64), count: usize) -> bool {
     let header = &table.header;
     (header.first_usable_lba, header.last_usable_lba) == usable
@@ -72,7 +71,7 @@ fn is_new(table: &GPT, usable: (u64, u64), count: usize) -> bool {
         && table.iter().count() == count
 }
 
-// Whether this table was read from the copy whose header is in this sector.
+// Reports whether this table was read from the copy whose header is in this sector.
 fn is_read(read: &GPT, sector: u64, table: &GPT) -> bool {
     read.header.primary_lba == sector && have_same_entries(read, table)
 }
@@ -90,7 +89,7 @@ fn is_neither_read(outcome: Result<GPT>) -> Result<bool> {
     }
 }
 
-/// Whether both headers are said to have another checksum.
+/// Reports whether the error is that both headers have a wrong checksum.
 pub fn are_told(error: &Error) -> bool {
     match error {
         Error::ReadError(primary, backup) => {

@@ -1,5 +1,5 @@
-//! The shapes of which tables are made: sectors of several sizes, up to 10,000 entries, and odd reserved
-//! bytes. In each the used entries are in reverse order, and ten sectors are free at the end.
+//! The shapes of tables: several sector sizes, up to 10,000 entries, and nonzero reserved bytes. In each the used
+//! entries are in reverse order, and ten sectors are free at the end.
 
 use crate::shape_calls;
 use crate::verdict::Verdict;
@@ -7,7 +7,7 @@ use gptman::Result;
 use std::alloc::Global;
 use test_fixtures::shape::Shape;
 
-/// Makes the calls on the tables of this name. None where there are none.
+/// Makes the calls on the tables of this name, or returns `None` if there are none.
 pub fn try_call(name: &str, alloc: Global) -> Option<Result<Verdict>> {
     let shapes = named(name.strip_prefix("calls_")?)?;
     Some(try_shapes(alloc, &shapes))
@@ -22,8 +22,8 @@ fn try_shapes(alloc: Global, shapes: &[Shape]) -> Result<Verdict> {
     Ok(Verdict::Done)
 }
 
-// The shapes of this name: three counts of entries with sectors of so many bytes, or three headers with
-// odd reserved bytes. None where there are none.
+// Returns the shapes of this name: three numbers of entries with this sector size, or three headers with nonzero
+// reserved bytes.
 fn named(name: &str) -> Option<[Shape; 3]> {
     if name == "reserved" {
         return Some([

@@ -10,7 +10,7 @@ use test_fixtures::calls::{
 use test_fixtures::shape::Shape;
 use test_fixtures::tables::{are_those_of, commit, complement, partition, read, write, zero_disk};
 
-/// Whether each call answers what it should, on a disk with such a table.
+/// Reports whether each call has the right result, on a disk with such a table.
 pub fn is_right(alloc: Global, shape: &Shape) -> Result<bool> {
     let mut disk = zero_disk(alloc, shape.bytes())?;
     let table = shape.write_to(alloc, &mut disk)?;
@@ -57,7 +57,7 @@ fn has_all_entries(alloc: Global, shape: &Shape, table: &GPT) -> Result<bool> {
     Ok(are_those_of(&shape.all_entries(alloc)?, table))
 }
 
-// The same table where it is read, and where the size of a sector is looked for.
+// Reading the table returns it, also if the sector size is detected.
 fn is_read(alloc: Global, shape: &Shape, disk: &mut MemoryDisk, table: &GPT) -> Result<bool> {
     let is_read = table.is_primary() && are_equal(&read(alloc, disk, shape.size())?, table);
     if shape.sector_size != 512 && shape.sector_size != 4096 {
@@ -66,7 +66,7 @@ fn is_read(alloc: Global, shape: &Shape, disk: &mut MemoryDisk, table: &GPT) -> 
     Ok(is_read && are_equal(&find(alloc, disk)?, table))
 }
 
-// The first entry alone, and the list of all.
+// Reads the first entry separately, and the list of all.
 fn are_parts_read(
     alloc: Global,
     shape: &Shape,
@@ -78,7 +78,7 @@ fn are_parts_read(
     Ok(is_first(&first, table) && are_those_of(&entries, table))
 }
 
-// A byte of each of the two headers.
+// Returns the offset of a byte in each header.
 fn in_headers(shape: &Shape, disk: &MemoryDisk) -> [usize; 2] {
     let size = shape.size() as usize;
     let backup = disk.bytes().len().saturating_sub(size);
@@ -97,14 +97,14 @@ fn is_neither_read(alloc: Global, shape: &Shape, disk: &MemoryDisk) -> Result<bo
     }
 }
 
-// The table of the disk with these bytes complemented.
+// Reads the table of the disk with these bytes complemented.
 fn read_damaged(alloc: Global, shape: &Shape, disk: &MemoryDisk, places: &[usize]) -> Result<GPT> {
     let mut image = disk.bytes().to_vec(alloc)?;
     complement(&mut image, places);
     read(alloc, &mut MemoryDisk::new(alloc, image)?, shape.size())
 }
 
-// The free sectors and the places, at each sector.
+// Reports whether the free ranges and places with alignment 1 are right.
 fn are_places_found(shape: &Shape, table: GPT) -> Result<bool> {
     let mut table = table;
     table.align = 1;
@@ -115,20 +115,20 @@ fn are_places_found(shape: &Shape, table: GPT) -> Result<bool> {
     Ok(are_places && are_slots(shape, &table)? && maximum_size(&table)? == 10)
 }
 
-// One free sector between two used ones, and ten at the end.
+// There is one free sector between two used ones, and ten at the end.
 fn are_slots(shape: &Shape, table: &GPT) -> Result<bool> {
     let slots = free_sectors(table)?;
     Ok(slots.len() == shape.used as usize && slots.last() == Some(&(shape.gap(), 10)))
 }
 
-// The edit that puts an entry of the last two sectors, which none other has, under the last number.
+// Returns the edit that puts an entry in the last two sectors, which are free, under the last number.
 fn put_at_end(alloc: Global, shape: &Shape) -> Result<Edit> {
     let (from, to) = (shape.last().saturating_sub(1), shape.last());
     let entry = partition(alloc, "Bar", [9; 16], from, to)?;
     Ok(Edit::Put(shape.entries, entry))
 }
 
-// Each edit in memory, the last three as a list.
+// Applies each edit in memory, the last three as a list.
 fn are_edits_made(alloc: Global, shape: &Shape, table: GPT) -> Result<bool> {
     let mut table = table;
     apply(&mut table, put_at_end(alloc, shape)?)?;
@@ -142,7 +142,7 @@ fn are_edits_made(alloc: Global, shape: &Shape, table: GPT) -> Result<bool> {
     Ok(is_put && is_sorted(shape, &table) && table.header.disk_guid == [1; 16])
 }
 
-// Whether the table has the used entries by their sectors.
+// Reports whether the used entries are in the order of their sectors.
 fn is_sorted(shape: &Shape, table: &GPT) -> bool {
     let mut sector = shape.first();
     for (_, entry) in table.iter() {
@@ -156,7 +156,7 @@ fn is_sorted(shape: &Shape, table: &GPT) -> bool {
     sector == shape.gap().saturating_add(1)
 }
 
-// A new entry behind the used ones, written, and then all in order.
+// Writes a new entry after the used ones, then sorts.
 fn are_edits_written(
     alloc: Global,
     shape: &Shape,
@@ -170,13 +170,13 @@ fn are_edits_written(
     Ok(is_done && is_sorted_with_new(shape, &read(alloc, disk, shape.size())?))
 }
 
-// Whether the new entry stands behind the used ones, and all are in order.
+// Reports whether the new entry is after the used ones, and all are sorted.
 fn is_sorted_with_new(shape: &Shape, table: &GPT) -> bool {
     table.find_at_sector(shape.last()) == Some(shape.used.saturating_add(1))
         && table.find_at_sector(shape.first()) == Some(1)
 }
 
-// A new table, which has 128 unused entries.
+// Writes a new table, which has 128 unused entries.
 fn is_made_anew(alloc: Global, shape: &Shape, disk: &mut MemoryDisk) -> Result<bool> {
     let mut table = new_on(alloc, disk, shape.size())?;
     write(&mut table, disk)?;
@@ -184,7 +184,7 @@ fn is_made_anew(alloc: Global, shape: &Shape, disk: &mut MemoryDisk) -> Result<b
     Ok(is_unused(alloc, shape, &read)? && read.header == table.header)
 }
 
-// Whether the table has 128 unused entries.
+// Reports whether the table has 128 unused entries.
 fn is_unused(alloc: Global, shape: &Shape, table: &GPT) -> Result<bool> {
     let unused = Shape {
         entries: 128,

@@ -10,7 +10,7 @@ use test_fixtures::calls::{
 };
 use test_fixtures::tables::{has_entry, partition, unsorted_table};
 
-/// Makes the call of this name. None where it is none of these.
+/// Makes the call of this name, or returns `None` if it is not one of these.
 pub fn try_call(name: &str, memory: &mut Memory) -> Option<Result<Verdict>> {
     match name {
         "name_new" | "name_units" | "name_clone" | "entry_clone" | "entry_decode" | "table_clone" =>
@@ -31,7 +31,7 @@ fn copy(name: &str, memory: &mut Memory) -> Result<Verdict> {
     Ok(of_call(&outcome, true))
 }
 
-// Whether what is made is equal to what it is made of.
+// Reports whether the copy is equal to its source.
 fn is_copied(name: &str, alloc: Global, entry: &GPTPartitionEntry, table: &GPT) -> Result<bool> {
     match name {
         "name_new" => is_name(name_of(alloc, "Foo"), entry),
@@ -61,7 +61,7 @@ fn change(name: &str, memory: &mut Memory) -> Result<Verdict> {
     Ok(of_call(&outcome, is_kept))
 }
 
-// Whether the table is as the change of this name makes it.
+// Reports whether the change of this name has the right effect on the table.
 fn is_changed(name: &str, table: &mut GPT, entry: GPTPartitionEntry) -> Result<bool> {
     match name {
         "table_sort" => table.sort()?,
@@ -78,7 +78,7 @@ fn is_changed(name: &str, table: &mut GPT, entry: GPTPartitionEntry) -> Result<b
     Ok(is_sorted(table))
 }
 
-// Whether the entries of the table come in order.
+// Reports whether the entries of the table are sorted.
 fn is_sorted(table: &GPT) -> bool {
     has_entry(table, 1, "Foo") && has_entry(table, 2, "Baz") && has_entry(table, 3, "Bar")
 }

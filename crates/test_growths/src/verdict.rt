@@ -1,25 +1,25 @@
-//! What is made of a call's answer.
+//! Verdicts on calls.
 
 use gptman::{Error, Result};
 use std::io::ErrorKind;
 
-/// What came of a call.
+/// The verdict on a call.
 #[derive(Clone, Copy)]
 pub enum Verdict {
-    /// It was done, with the answer that it should have.
+    /// It succeeded with the right result.
     Done,
-    /// It was refused for want of memory, and changed nothing.
+    /// It failed because of the allocation, and changed nothing that it must keep.
     Refused,
-    /// It was done, with another answer.
+    /// It succeeded with a wrong result.
     AnsweredWrongly,
-    /// It was refused for something else.
+    /// It failed with another error.
     RefusedWrongly,
-    /// It changed what it should have kept.
+    /// It changed something that it must keep.
     Changed,
 }
 
 impl Verdict {
-    /// What is printed of it.
+    /// Returns the text that is printed.
     pub fn text(&self) -> &'static str {
         match self {
             Verdict::Done => "done",
@@ -31,7 +31,7 @@ impl Verdict {
     }
 }
 
-/// Of a call that was done, and whose answer is right or not.
+/// Returns the verdict on a call that succeeded.
 pub fn of_answer(is_right: bool) -> Verdict {
     if is_right {
         Verdict::Done
@@ -40,7 +40,7 @@ pub fn of_answer(is_right: bool) -> Verdict {
     }
 }
 
-/// Of a call that was refused, and left all as it was or not.
+/// Returns the verdict on a call that failed. `is_kept` says whether everything is unchanged.
 pub fn of_refusal(error: &Error, is_kept: bool) -> Verdict {
     match error {
         Error::OutOfMemory if is_kept => Verdict::Refused,
@@ -49,7 +49,7 @@ pub fn of_refusal(error: &Error, is_kept: bool) -> Verdict {
     }
 }
 
-/// Of a call that the disk let fail, and that left what it may leave or not.
+/// Returns the verdict on a call that the disk let fail. `is_kept` says whether the disk has a permitted state.
 pub fn of_failure(error: &Error, is_kept: bool) -> Verdict {
     match error {
         Error::Io(_) if is_kept => Verdict::Refused,
@@ -58,7 +58,7 @@ pub fn of_failure(error: &Error, is_kept: bool) -> Verdict {
     }
 }
 
-/// Of a call whose answer is right or not; or that was refused, and left all as it was or not.
+/// Returns the verdict on a call. `is_kept` says whether everything is unchanged if it failed.
 pub fn of_call(outcome: &Result<bool>, is_kept: bool) -> Verdict {
     match outcome {
         Ok(is_right) => of_answer(*is_right),
@@ -66,7 +66,7 @@ pub fn of_call(outcome: &Result<bool>, is_kept: bool) -> Verdict {
     }
 }
 
-/// The same of a call that is to leave all as it was, also where it is done.
+/// Returns the verdict on a call that must leave everything unchanged, even if it succeeds.
 pub fn of_reader(outcome: &Result<bool>, is_kept: bool) -> Verdict {
     if is_kept {
         of_call(outcome, true)
@@ -75,7 +75,7 @@ pub fn of_reader(outcome: &Result<bool>, is_kept: bool) -> Verdict {
     }
 }
 
-/// Whether the disk in memory said that it has no memory for its record.
+/// Reports whether the disk in memory could not allocate its record.
 pub fn is_of_record(error: &Error) -> bool {
     match error {
         Error::Io(error) => error.kind() == ErrorKind::OutOfMemory,

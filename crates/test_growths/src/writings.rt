@@ -1,5 +1,5 @@
-//! Writings of a table to a disk. What they take memory for are the checks before the first write; and
-//! the disk in memory takes some for its record.
+//! Writes of a table to a disk. The checks before the first write allocate memory, and the disk in memory does for its
+//! record.
 
 use crate::held::Held;
 use crate::memory::Memory;
@@ -12,7 +12,7 @@ use test_fixtures::tables::{
     commit, has_entry, have_same_entries, image_of, new_table, unsorted_table, write, write_copy,
 };
 
-/// Makes the call of this name. None where it is none of these.
+/// Makes the call of this name, or returns `None` if it is not one of these.
 pub fn try_call(name: &str, memory: &mut Memory) -> Option<Result<Verdict>> {
     match name {
         "header_write" => Some(write_header(memory)),
@@ -36,20 +36,20 @@ impl Writing {
         Ok(Writing { table, held })
     }
 
-    // Whether the disk holds the table that it held, or the one that was to be written.
+    // Reports whether the disk holds its former table or the one to be written.
     fn holds_a_table(&mut self, alloc: Global) -> Result<bool> {
         let read = self.held.read(alloc)?;
         Ok(is_empty(alloc, &read)? || have_same_entries(&read, &self.table))
     }
 
-    // Of a write that was refused with this.
+    // Returns the verdict on a write that failed.
     fn verdict(&mut self, alloc: Global, error: &Error) -> Result<Verdict> {
         let holds_a_table = self.holds_a_table(alloc)?;
         let is_kept = are_equal(&self.table, &unsorted_table(alloc)?);
         Ok(self.held.verdict(error, is_kept, holds_a_table))
     }
 
-    // Of a write that was done.
+    // Returns the verdict on a write that succeeded.
     fn done(&mut self, alloc: Global) -> Result<Verdict> {
         let read = self.held.read(alloc)?;
         let is_whole = read.is_primary() && have_same_entries(&read, &self.table);
@@ -57,7 +57,7 @@ impl Writing {
     }
 }
 
-// Whether it has the entries of the table that the disk held.
+// Reports whether the table has the entries of the former one.
 fn is_empty(alloc: Global, table: &GPT) -> Result<bool> {
     Ok(have_same_entries(table, &new_table(alloc)?))
 }
@@ -74,7 +74,7 @@ fn write_table(memory: &mut Memory) -> Result<Verdict> {
     }
 }
 
-// A header of no entries for 100 sectors of 512 bytes.
+// Returns a header without entries for 100 sectors of 512 bytes.
 fn header_alone(alloc: Global) -> Result<GPTHeader> {
     let mut header = new_header(alloc)?;
     header.number_of_partition_entries = 0;
@@ -112,7 +112,7 @@ fn of_progress(alloc: Global, writing: &mut Writing, progress: &Progress) -> Res
     }
 }
 
-// Whether it is the table after so many edits.
+// Reports whether this is the table after `done` edits.
 fn is_after(table: &GPT, done: usize) -> bool {
     match done {
         0 => has_entry(table, 2, "Bar") && has_entry(table, 10, "Baz"),
@@ -121,8 +121,8 @@ fn is_after(table: &GPT, done: usize) -> bool {
     }
 }
 
-// Of edits of which so many were done, and the next one was refused with this. The disk holds the table
-// after those, or where it found no memory for its record perhaps the next one; and so does the value.
+// Returns the verdict on a list of edits that failed after `done` of them. The disk must hold the table after those, or
+// the next one if it could not allocate a record; the value may be either.
 fn of_stop(alloc: Global, writing: &mut Writing, done: usize, error: &Error) -> Result<Verdict> {
     let next = done.saturating_add(1);
     let read = writing.held.read(alloc)?;
