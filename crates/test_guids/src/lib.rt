@@ -1,5 +1,5 @@
-//! The tests of `gptguid_core` that no clause says: what the system's random bytes come to, and an output
-//! that fails. The forms and the types are tried on the built program, in `tests/program/guids.sh`.
+//! Tests of `gptguid_core` for properties without a clause: the use of the system's random bytes, and an output that
+//! fails. `tests/program/guids.sh` tests forms and types on the built program.
 #![tactic(auto)]
 
 #[cfg(test)]

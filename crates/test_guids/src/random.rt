@@ -1,5 +1,4 @@
-//! Random bytes from a runtime and from a source of the test's own, each with bytes that it gives in their
-//! order.
+//! Random bytes from a runtime and from a source of the test, each with given bytes.
 
 ghost use Rattle.std.specs.Prelude.{◌≡◌, ◌<◌, ◌++◌, length};
 
@@ -12,13 +11,12 @@ use std::io::Write;
 use std::process::Abort;
 use std::random::RandomSource;
 
-// The bytes 0 to 15.
 const COUNTED: [u8; 16] = [0, 1, 2, 3, 4, 5, 6, 7, 8, 9, 10, 11, 12, 13, 14, 15];
 
-// The random GUID of these bytes, as a line: the first three groups the other way round, version 4.
+// The line for the random GUID of these bytes: the first three groups reversed, version 4.
 const DRAWN: &str = "030201000504074688090a0b0c0d0e0f\n";
 
-// A source with these bytes left to give, which fails where they end.
+// A source of the given bytes, which fails after the last one.
 #[derive(Drop)]
 struct Source<'b> {
     rest: &'b [u8],
@@ -41,7 +39,7 @@ impl<'b> ByteSource for Source<'b> {
     }
 }
 
-// A runtime whose random bytes are these, and which fails where they end.
+// A runtime with the given random bytes, which fails after the last one.
 #[derive(Drop)]
 struct Runtime<'b> {
     bytes: &'b [u8],
@@ -67,7 +65,7 @@ impl Write for Full {
     }
 }
 
-// `random` ends with this status and prints this line.
+// Asserts that `random` returns this status and prints this line.
 fn assert_draws<S: ByteSource>(
     rt: &impl Abort,
     alloc: Global,
@@ -84,7 +82,7 @@ fn assert_draws<S: ByteSource>(
     );
 }
 
-// There are 17 bytes: one more than is taken.
+// There are 17 bytes, one more than is needed.
 #[test]
 fn the_next_sixteen_bytes_are_drawn(rt: HostRuntime) {
     let mut bytes = [16; 17];
