@@ -1,4 +1,4 @@
--- A layout that asks something of one used entry.
+-- A layout that changes one used entry.
 use Prim.Native.Nat.{◌∣◌}
 use Rattle.std.proofs.Common.{◌≡◌, ◌≢◌, ◌≤◌, ◌<◌, ◌⊎◌, inl, inr, ℕ, ◌+◌, ◌-◌, List, [], ◌∷◌, refl, sym, ap, ◌∙◌, subst, arith, suc, IsTrue, Bool, true, false, length}
 use Rattle.std.specs.Prelude.{Option, Some, None, Result, Ok, Err, All, Contains, nat_eq, nat_le, ◌&&◌, if◌then◌else◌}
@@ -37,7 +37,7 @@ use Rattle.gptedit_core.proofs.Steps.{and_then_ok, else_ok}
 use Rattle.gptman.proofs.Ranges.{contains_first}
 use Rattle.test_laws.specs.Changed.{with_name, IsChangeOf, OthersStay}
 
--- ---- what is asked of it
+-- ---- the request
 
 used_by : (used : Option GPTPartitionEntry) (i j : ℕ) → unless (use_fault Change i used) i ≡ Ok j → (e : GPTPartitionEntry) × (used ≡ Some e)
 used_by None i j is = absurd (cc)
@@ -52,7 +52,7 @@ found_by : (o : Option GPTPartitionEntry) (e : GPTPartitionEntry)
 found_by None e is = absurd (cc)
 found_by (Some x) e is = ap Some (if_found (is_used x) x e is)
 
--- The partition is the used entry of number i, with what is asked of it.
+-- The partition is the used entry of number i with the request applied.
 record IsAsked (g : GPT) (a : Asked) (random : List ℕ) (i : ℕ) (p : Partition) : Type 0 where
   number : p.number ≡ i
   entry : p.entry ≡ entry_asked a (Some (entry_at g i)) random
@@ -96,13 +96,13 @@ is_only g a i (random ∷ randoms) ps number enough all =
     let whole : ps ≡ p.0 ∷ [] = cc in
     record { random = random; p = p.0; asked = is_asked g a random i p.0 number p.1; only = whole }
 
--- ---- what becomes of it, and of the others
+-- ---- the result, and the other entries
 
 both_true : (a b : Bool) → IsTrue (a && b) → IsTrue b
 both_true true b is = is
 both_true false b is = absurd (cc)
 
--- No sector behind its last one is its own.
+-- It covers no sector after its last one.
 not_covered : (x : ℕ) (e : GPTPartitionEntry) → e.ending_lba < x → ¬ IsTrue (covers x e)
 not_covered x e behind = λ covered.
     let below : x ≤ e.ending_lba = leb-true x e.ending_lba (both_true (is_used e && nat_le e.starting_lba x) (nat_le x e.ending_lba) covered) in
@@ -128,7 +128,7 @@ module _ (a : Asked) (align i : ℕ) (layout : Layout) (randoms : List (List ℕ
   others_stay law j low other =
       subst (λ (m : Mode). StaysAs m (entry_at g j) (entry_at next j)) change.mode ((law layout randoms g next is).others j low (unnamed j other) (kept j))
 
-  -- It is there, where it is asked for.
+  -- It is at the requested place.
   there : LayoutsChangeNamed → IsThere one.p is.free next
   there law = (subst (λ (ps : List Partition). AreThere ps is.free next) one.only (law layout randoms g next is).named).0
 
@@ -149,7 +149,7 @@ module _ (a : Asked) (align i : ℕ) (layout : Layout) (randoms : List (List ℕ
       cleared_keep is.partitions is.rest is.free j is.clear low (unnamed j other)
       ∙ removed_keep layout.removed.items (record g { align = is.align }) is.rest j is.removed low (kept j)
 
-  -- behind the entry what was free without it is free
+  -- a sector after the entry that is free without it is free
   uncovered_by : (x k : ℕ) (b : Bool) → nat_eq (suc k) i ≡ b → (entry_at g i).ending_lba < x → IsFreeIn is.free x → k < length (entries_in g) → ¬ IsTrue (covers x (entry_at g (suc k)))
   uncovered_by x k true is_it behind free below = λ covered.
       let at : IsTrue (covers x (entry_at g i)) = subst (λ (n : ℕ). IsTrue (covers x (entry_at g n))) (eqb-true (suc k) i is_it) covered in
@@ -198,7 +198,7 @@ module _ (a : Asked) (align i : ℕ) (layout : Layout) (randoms : List (List ℕ
 
 -- ---- another name
 
--- what is asked for that
+-- the request for another name
 abbrev pub renaming : ℕ → PartitionName → Asked
 renaming i name = record (nothing_of (Some i)) { name = Some name }
 

@@ -1,4 +1,4 @@
--- A table with a list of edits, and what a stop leaves of its write.
+-- A table with a list of edits, and the effect of a crash during its write.
 use Rattle.std.proofs.Common.{◌≡◌, ◌<◌, ℕ, List, [], ◌∷◌, refl, sym, subst}
 use Rattle.std.specs.Prelude.{Result, IfErr}
 use Rattle.std.proofs.lemmas.Result.{IfErr-weaker}
@@ -19,7 +19,7 @@ use Rattle.test_laws.specs.Edited.{RefusesEdited, not_written}
 use Rattle.gptman.proofs.Held.{holds_local}
 use Rattle.gptman.proofs.Ranges.{Ranges, contains_first}
 
--- A stop where nothing was written, with nothing pending, leaves the table that a place held.
+-- If nothing was written or pending, a crash leaves the table that a place held.
 pub still_held : (a : DiskState) (ss : ℕ) (side : Side) (was : Table) (more : List Table) → IsSound a → a.pending ≡ [] → Holds a.view ss side was → LeavesOnly a a (λ b. HoldsOneOf b ss (was ∷ more))
 still_held a ss side was more sound synced held b left =
     let same : AgreesOutside [] a.view b = subst (λ (ps : Ranges). AgreesOutside ps a.view b) synced (sound.only_now b left) in
@@ -34,11 +34,11 @@ still_held a ss side was more sound synced held b left =
 own_places : (g : GPT) → HasPlacesOf g g
 own_places g = record { sector = refl; form = λ side form. form; ranges = record { count = refl; last = refl } }
 
--- One that was read in the form of its place is one good copy for itself.
+-- A table that was read in the form of its place is one good copy for itself.
 pub own_copy : (a : DiskState) (g : GPT) → KeepsWhatIsRead a → StartsSynced a g → IsReadInForm a.view g → StartsFromOne a g (table_in g)
 own_copy a g keeps start read = keeps g g start.start.honest start.synced read (own_places g) start.start.layout
 
--- The value with all of the edits.
+-- The edited table.
 module _ (law : EditListsKeepPlaces) (g next : GPT) (edits : List Edit) (is : next ≡ edited_all g edits) where
   places : HasPlacesOf g next
   places = subst (HasPlacesOf g) (sym is) (law g edits 0).0
@@ -49,7 +49,7 @@ module _ (law : EditListsKeepPlaces) (g next : GPT) (edits : List Edit) (is : ne
   pub edited_coherent : IsCoherent g.header (entries_in g) → IsCoherent next.header (entries_in next)
   edited_coherent coherent = subst (λ (t : GPT). IsCoherent t.header (entries_in t)) (sym is) ((law g edits 0).2 coherent)
 
-  -- A stop of its write leaves what is read as the value or as it.
+  -- After a crash during its write, the value or the edited table is read.
   pub edited_read : (a d : DiskState) → KeepsWhatIsRead a → StartsSynced a g → IsReadInForm a.view g
       → ((was : Table) → StartsFromOne a next was → StopsAreReadAs a d next.sector_size (was ∷ table_in next ∷ []))
       → StopsAreReadAs a d g.sector_size (table_in g ∷ table_in (edited_all g edits) ∷ [])
@@ -59,7 +59,7 @@ module _ (law : EditListsKeepPlaces) (g next : GPT) (edits : List Edit) (is : ne
       subst (λ (n : ℕ). StopsAreReadAs a d n (table_in g ∷ table_in (edited_all g edits) ∷ [])) places.sector
       (subst (λ (t : GPT). StopsAreReadAs a d next.sector_size (table_in g ∷ table_in t ∷ [])) is stops)
 
-  -- Where its write is refused, the edited table is.
+  -- If its write is refused, so is the edited table.
   pub edited_refused : {T : Type 0} (a d : DiskState) (r : Result T Error) → IfErr r (λ e. RefusesWrite next (fault_of e) a d) → IfErr r (λ e. RefusesEdited g edits (fault_of e) a d)
   edited_refused a d r refused =
       IfErr-weaker r (λ e. RefusesWrite next (fault_of e) a d) (λ e. RefusesEdited g edits (fault_of e) a d)

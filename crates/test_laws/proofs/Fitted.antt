@@ -1,4 +1,4 @@
--- What is told of a table that was fitted to its disk.
+-- The outcome for a table that is fitted to its disk.
 use Rattle.std.proofs.Common.{◌≡◌, ℕ, Bool, true, false, refl, sym, subst}
 use Rattle.std.specs.Prelude.{Option, Result, IfOk}
 use Rattle.std.specs.Bool.{Decides}
@@ -57,7 +57,7 @@ module _ (reach : GrowthsReachEnd) (leave : GrowthsLeaveEnds) (keep : GrowthsKee
       → IfOk r (λ told. AnswersChange (IsWrittenGrown keeping len) (IsLeftGrown keeping len) size told a d) → IfOk r (TellsFit len)
   all_fit size a d r answers = IfOk-weaker r (λ told. AnswersChange (IsWrittenGrown keeping len) (IsLeftGrown keeping len) size told a d) (TellsFit len) (fit_told size a d) answers
 
--- ---- with the usual ones
+-- ---- with the usual bounds
 
 abbrev pub widening : Growth
 widening = record { bounds = Usual; is_dry = false }
@@ -80,7 +80,7 @@ module _ (law : UsualBoundsReachEnd) (len : ℕ) where
       → IfOk r (λ told. AnswersChange (IsWrittenGrown widening len) (IsLeftGrown widening len) size told a d) → IfOk r (TellsWide len)
   all_wide size a d r answers = IfOk-weaker r (λ told. AnswersChange (IsWrittenGrown widening len) (IsLeftGrown widening len) size told a d) (TellsWide len) (wide_told size a d) answers
 
--- ---- what is on the disk then
+-- ---- the disk afterwards
 
 module _ (bounds : Bounds) (size : Option ℕ) (a d : DiskState) where
   abbrev growing : Growth

@@ -1,4 +1,4 @@
--- A table's own layout is put back.
+-- Applying a table's own layout to it.
 use Rattle.std.proofs.Common.{◌≡◌, ◌<◌, ◌≤◌, ℕ, length, sym, subst}
 use Rattle.std.specs.Prelude.{Result, IfErr}
 use Rattle.std.proofs.lemmas.Result.{IfErr-weaker}
@@ -26,6 +26,6 @@ module _ (law : LayoutsAreTaken) (g : GPT) (len : ℕ) (layout : Layout) (reques
       absurd (law g len layout request r own job enough aligned laid valid (not_done laid (subst (λ (j : Job). RefusesJob j request.random.items g r) (sym job) why)))
   for_memory (Failed e) why = why
 
-  -- It is refused for want of memory alone.
+  -- Only memory can run out.
   pub all_for_memory : {T : Type 0} (r : Result T Stop) → IfErr r (RefusesLaying layout request.random.items g) → IfErr r IsForMemory
   all_for_memory r refused = IfErr-weaker r (RefusesLaying layout request.random.items g) IsForMemory for_memory refused

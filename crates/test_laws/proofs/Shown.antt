@@ -6,12 +6,12 @@ use Rattle.gptimg_core.specs.Spelling.{spell, IsAllowed, IsSpelled}
 use Rattle.gptimg_core.specs.declared.words.Command.{Command}
 use Rattle.gptimg_core.specs.declared.words.Command.TheVariants.{Show}
 
--- They spell it.
+-- The words spell the command.
 pub spells : ((command : Command) → IsAllowed command → IsSpelled (spell command) command) → (texts : List (List ℕ)) (n : ℕ) → 0 < n → n < 2 ^ 64 → texts ≡ spell (Show (Some n))
     → IsSpelled texts (Show (Some n))
 spells law texts n above below is = subst (λ (words : List (List ℕ)). IsSpelled words (Show (Some n))) (sym is) (law (Show (Some n)) (above, below))
 
--- They ask for no other, and so for none that writes.
+-- The words spell no other command, and so none that writes.
 pub writes_not : ((words : List (List ℕ)) (a b : Command) → IsSpelled words a → IsAllowed a → IsSpelled words b → IsAllowed b → a ≡ b) → (texts : List (List ℕ)) (n : ℕ) → 0 < n → n < 2 ^ 64
     → IsSpelled texts (Show (Some n)) → (command : Command) → IsSpelled texts command → IsAllowed command → ¬ (writes command ≡ true)
 writes_not law texts n above below spelled command also allowed = λ it_writes.

@@ -1,4 +1,4 @@
--- What is asked for twice changes nothing the second time.
+-- A second request for the same changes nothing.
 use Rattle.std.proofs.Common.{◌≡◌, ◌≢◌, ◌<◌, ◌≤◌, ℕ, List, length, sym, ap, ◌∙◌, subst}
 use Rattle.gptman.specs.declared.table.GPT.{GPT}
 use Rattle.gptedit_core.specs.Growing.{EndsAt, GrowthsStay, IsFitted, IsGrown, IsLeftGrown, IsWrittenGrown, RefusesGrown, RefusesGrowth}
@@ -60,7 +60,7 @@ module _ (stay : LayoutsStay) (taken : LayoutsAreTakenAgain) (first again : Requ
   left_again told (is_unchanged after made same is) = is
   left_again told (is_dry after made needed dry is) = absurd (not_needed after made needed)
 
-  -- and that is told, of a clone too.
+  -- and the outcome says so, for a clone too.
   pub told_written : (m : ℕ) (clone after : GPT) (told : Outcome) → m ≡ len → clone ≡ next → IsWritten again m clone after told → told ≡ Unchanged next
   told_written m clone after told size same is =
       let here : IsWritten again len next after told =
@@ -82,7 +82,7 @@ fitted_align bounds len g next (is_usual usual ends is) = ap (λ (m : GPT). m.al
 pub grown_align : (bounds : Bounds) (len : ℕ) (g next : GPT) → IsGrown bounds len g next → 0 < g.align → 0 < next.align
 grown_align bounds len g next is above = subst (λ (n : ℕ). 0 < n) (sym (fitted_align bounds len g next is.fitted)) above
 
--- A table that is fitted as it is is fitted to nothing else.
+-- A table that fits has no other fitted form.
 fitted_only : (bounds : Bounds) (len : ℕ) (next other : GPT) → EndsAt len next → IsFitted bounds len next next → IsFitted bounds len next other → other ≡ next
 fitted_only bounds len next other ends own (stays kept here is) = is
 fitted_only bounds len next other ends own (follows kept there first may is) = absurd (there ends)
@@ -119,7 +119,7 @@ module _ (law : GrowthsStay) (growth : Growth) (len : ℕ) (g next : GPT) (grown
   left_grown told (is_unchanged after made same is) = is
   left_grown told (is_dry after made needed dry is) = absurd (needed (same_growth after made))
 
-  -- Grown again, it is told that there is nothing to write, of a clone too.
+  -- A second growth has nothing to write, for a clone too.
   pub growth_written : (m : ℕ) (clone after : GPT) (told : Outcome) → m ≡ len → clone ≡ next → IsWrittenGrown growth m clone after told → told ≡ Unchanged next
   growth_written m clone after told size same is =
       let here : IsWrittenGrown growth len next after told =

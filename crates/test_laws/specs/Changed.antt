@@ -1,4 +1,4 @@
--- What a layout makes of one entry, and of the others; and a layout that is asked for twice.
+-- The effect of a layout on one entry and on the others, and a layout that is applied twice.
 use Rattle.std.specs.Prelude.{◌≡◌, ◌≢◌, ◌≤◌, ℕ, [], ◌∷◌, None}
 use Rattle.gptman.specs.Number.{entry_at}
 use Rattle.gptman.specs.declared.codec.entry.GPTPartitionEntry.{GPTPartitionEntry}
@@ -18,11 +18,11 @@ use Rattle.gptedit_core.specs.declared.refusal.Stop.{Stop}
 abbrev pub with_name : PartitionName → GPTPartitionEntry → GPTPartitionEntry
 with_name name e = record e { partition_name = name }
 
--- each entry stays, but for the one of number i
+-- all entries but the one of number i are unchanged
 abbrev pub OthersStay : ℕ → GPT → GPT → Type 0
 OthersStay i g next = (j : ℕ) → 1 ≤ j → j ≢ i → entry_at next j ≡ entry_at g j
 
--- The layout asks this of a used entry, with places at multiples of so many sectors, and nothing else.
+-- The layout requests only this change of a used entry, with places at multiples of this number of sectors.
 pub record IsChangeOf (a : Asked) (sectors : ℕ) (layout : Layout) : Type 0 where
   pub mode : layout.mode ≡ Change
   pub disk_guid : layout.disk_guid ≡ None
@@ -30,7 +30,7 @@ pub record IsChangeOf (a : Asked) (sectors : ℕ) (layout : Layout) : Type 0 whe
   pub removed : layout.removed.items ≡ []
   pub asked : layout.asked.items ≡ a ∷ []
 
--- Both requests put layouts: the second asks for the same as the first, and of the table nothing else is left.
+-- Both requests apply layouts. The second asks for the same as the first, and the first covers the whole table.
 pub record AsksAgain (first again : Request) (g : GPT) : Type 0 where
   pub layout : Layout
   pub same : Layout
@@ -40,6 +40,6 @@ pub record AsksAgain (first again : Request) (g : GPT) : Type 0 where
   pub is_again : IsAgain layout same
   pub whole : IsWhole layout g
 
--- it stopped for want of memory alone
+-- the only reason to stop is that memory ran out
 abbrev pub IsForMemory : Stop → Type 0
 IsForMemory stop = IsStopOf (λ r. ⊥) stop

@@ -7,7 +7,7 @@ use Rattle.gptman.specs.TableWrites.{RefusesWrite}
 use Rattle.gptman.specs.declared.edit.Edit.{Edit}
 use Rattle.gptman.specs.declared.table.GPT.{GPT}
 
--- An edit is refused, there is no memory, or the edited table is refused by its write.
+-- An edit is refused, memory runs out, or the write of the edited table is refused.
 pub data RefusesEdited (g : GPT) (edits : List Edit) (fault : Fault) (old new : DiskState) : Type 0 where
   not_edited : edits_fault g edits ≡ Some fault → RefusesEdited g edits fault old new
   no_memory : fault ≡ out_of_memory → RefusesEdited g edits fault old new

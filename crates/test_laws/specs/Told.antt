@@ -1,4 +1,4 @@
--- What is told of a table that was fitted to its disk.
+-- The outcome for a table that is fitted to its disk.
 use Rattle.std.specs.Prelude.{◌≡◌, ◌≤◌, ℕ}
 use Rattle.gptman.specs.Disk.{DiskState}
 use Rattle.gptman.specs.Stop.{IsStored}
@@ -9,30 +9,31 @@ use Rattle.gptedit_core.specs.declared.growth.Bounds.TheVariants.{Kept, Usual}
 use Rattle.gptedit_core.specs.declared.plan.Outcome.{Outcome}
 use Rattle.gptedit_core.specs.declared.plan.Outcome.TheVariants.{Changed, Unchanged, Refused}
 
--- The table ends where a disk of len bytes does, and its usable sectors with it. The first of these stays where it may, and all else.
+-- The table and its usable sectors end where a disk of len bytes does. The first usable sector is unchanged if
+-- possible, and so is everything else.
 pub record HasNewEnd (len : ℕ) (was next : GPT) : Type 0 where
   pub reaches : ReachesEnd len was next
   pub first : lowest_usable was ≤ was.header.first_usable_lba → was.header.first_usable_lba ≤ next.header.last_usable_lba
       → next.header.first_usable_lba ≡ was.header.first_usable_lba
 
--- so of a table that was changed; one that was not ends there already, or it is told why not
+-- a changed table has that new end; an unchanged one had it before; a refusal has its reason
 abbrev pub TellsFit : ℕ → Outcome → Type 0
 TellsFit len (Changed was next) = HasNewEnd len was next
 TellsFit len (Unchanged table) = EndsAt len table
 TellsFit len (Refused table r) = RefusesGrowth Kept len table r
 
--- All sectors between the two copies of the table are usable, on a disk of len bytes, and all else is as it was.
+-- All sectors between the two copies are usable, on a disk of len bytes. Everything else is unchanged.
 pub record HasAllUsable (len : ℕ) (was next : GPT) : Type 0 where
   pub reaches : ReachesEnd len was next
   pub first : next.header.first_usable_lba ≡ lowest_usable was
 
--- so of the table; or it is told why not
+-- the table has all of them usable, or the refusal has its reason
 abbrev pub TellsWide : ℕ → Outcome → Type 0
 TellsWide len (Changed was next) = HasAllUsable len was next
 TellsWide len (Unchanged table) = HasAllUsable len table table
 TellsWide len (Refused table r) = RefusesGrowth Usual len table r
 
--- a table that was changed is in both places of the disk
+-- both places hold a changed table
 abbrev pub IsOnDisk : DiskState → Outcome → Type 0
 IsOnDisk disk (Changed was next) = IsStored disk next.sector_size (table_in next)
 IsOnDisk disk (Unchanged table) = Unit {0}

@@ -1,4 +1,4 @@
-//! A table is changed by a list of edits, and written once.
+//! Changes a table by a list of edits, and writes it once.
 
 ghost use Rattle.std.specs.Prelude.{◌<◌, [], ◌∷◌, IfErr, OnOk};
 ghost use Rattle.gptman.specs.Copy.{IsCoherent};
@@ -12,22 +12,22 @@ ghost use Rattle.test_laws.specs.Edited.{RefusesEdited};
 use gptman::table::laws::{edit_lists_keep_places, what_is_held_is_read, what_is_read_is_kept};
 use gptman::{Disk, Edit, GPT, GPTHeader, Result};
 
-/// Makes all of the edits and writes the table, once. Answers the header of the other copy.
+/// Applies all edits and writes the table once. Returns the header of the other copy.
 ///
-/// The errors are those of `GPT::apply_all` and of `GPT::write_into`.
+/// The errors are those of `GPT::apply_all` and `GPT::write_into`.
 pub fn write_edited<D: Disk>(table: &mut GPT, disk: &mut D, edits: &[Edit]) -> Result<GPTHeader>
     requires sector { 0 < table.old.sector_size }
     requires coherent { IsCoherent table.old.header (entries_in table.old) }
 
-    // After Ok both places hold the table with all of the edits, where the table had the stated layout.
+    // After `Ok` both places hold the edited table, if the table had the stated layout on an honest disk.
     ensures stored { StartsLaidOut (D.state disk.old) table.old → OnOk result
         (IsStored (D.state disk.new) table.old.sector_size (table_in (edited_all table.old edits.now))) }
 
     ensures refused { IfErr result (λ e. RefusesEdited table.old edits.now (fault_of e)
         (D.state disk.old) (D.state disk.new)) }
 
-    // Of a table that was read in the form of its place, with nothing pending, a stop at any moment leaves
-    // a disk that is read as it, or as the table with all of the edits; also where a call failed.
+    // If the table was read in the form of its place, and nothing is unsynced, a read after a crash at any moment
+    // returns the old or the edited table, or a foreign copy. This holds also if a call failed.
     ensures safe { StartsSynced (D.state disk.old) table.old
         → IsReadInForm (D.state disk.old).view table.old
         → StopsAreReadAs (D.state disk.old) (D.state disk.new) table.old.sector_size

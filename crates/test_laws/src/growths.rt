@@ -1,4 +1,4 @@
-//! A table is fitted to the length of its disk.
+//! Fits a table to the length of its disk.
 
 ghost use Rattle.std.specs.Prelude.{◌≡◌, ◌<◌, IfNone, IfOk, IfSome, OnSome};
 ghost use Rattle.gptman.specs.Copy.{IsCoherent};
@@ -17,13 +17,13 @@ use gptman::{Disk, GPT, Result};
 use gptman_change::{Plan, Planned};
 use std::alloc::Global;
 
-/// Fits the table on the disk to its length. Its partitions stay.
+/// Fits the table on the disk to the length of the disk. Its partitions are unchanged.
 ///
 /// The errors are those of `grow`.
 pub fn fit<D: Disk>(alloc: Global, disk: &mut D, sector_size: Option<u64>) -> Result<Outcome>
     requires { IfSome sector_size (λ size. 0 < size) }
 
-    // Unless it is refused, the table ends where the disk does, and one that was changed is on the disk.
+    // Unless the request is refused, the table ends at the end of the disk, and a changed table is stored.
     ensures fitted { IsHonest (D.state disk.old) → IfOk result (TellsFit (D.state disk.old).size) }
     ensures stored { IsHonest (D.state disk.old) → IfOk result (IsOnDisk (D.state disk.new)) }
 {
@@ -35,7 +35,7 @@ pub fn fit<D: Disk>(alloc: Global, disk: &mut D, sector_size: Option<u64>) -> Re
     grow(alloc, disk, sector_size, &growth)
 }
 
-/// Makes all sectors between the two copies of the table on the disk usable.
+/// Makes all sectors between the two copies of the table usable.
 ///
 /// The errors are those of `grow`.
 pub fn widen<D: Disk>(alloc: Global, disk: &mut D, sector_size: Option<u64>) -> Result<Outcome>
@@ -51,8 +51,8 @@ pub fn widen<D: Disk>(alloc: Global, disk: &mut D, sector_size: Option<u64>) -> 
     grow(alloc, disk, sector_size, &growth)
 }
 
-/// Has the table grow, and asks for the same of a clone of it. Answers what is told of the clone, or `None` where
-/// the table did not grow.
+/// Applies the growth to the table, and again to a clone of it. Returns the outcome for the clone, or `None` if the
+/// table did not change.
 ///
 /// The errors are those of the growth, and `OutOfMemory`.
 pub fn grow_twice<D: Disk>(
@@ -65,12 +65,12 @@ pub fn grow_twice<D: Disk>(
     requires coherent { IsCoherent table.old.header (entries_in table.old) }
     requires aligned { 0 < table.old.align }
 
-    // The table is what the growth made of it, and of the clone it is told that there is nothing to change.
+    // The table is the result of the growth, and for the clone there is nothing to change.
     ensures once { IfOk result (λ told.
         OnSome told (IsGrown growth.now.bounds (D.state disk.old).size table.old table.new)) }
     ensures again { IfOk result (λ told. IfSome told (λ outcome. outcome ≡ Unchanged table.new)) }
 
-    // Where it did not grow, it was refused, was only to be told, or was so already.
+    // If the table did not change, the growth was refused, was a dry run, or had no effect.
     ensures left { IfOk result (λ told. IfNone told ((outcome : Outcome)
         × IsLeftGrown growth.now (D.state disk.old).size table.old outcome)) }
 {
@@ -93,7 +93,7 @@ mod tests {
     use std::test::Fail;
     use test_fixtures::{calls, samples, tables, told};
 
-    // A disk of 200 sectors that holds a table for 100.
+    // Returns a disk of 200 sectors that holds a table for 100.
     fn longer_disk(alloc: Global) -> Result<MemoryDisk> {
         let mut image = samples::image_of_new(alloc, 0)?;
         image.resize(102_400, 0)?;

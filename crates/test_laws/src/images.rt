@@ -1,4 +1,4 @@
-//! The image program is run with the words of a command.
+//! Runs `gptimg` with the words of a command.
 
 ghost use Rattle.std.specs.Prelude.{◌≡◌, ◌<◌, false, Some, IfOk, OnOk};
 ghost use Rattle.gptman.specs.Disk.{IsHonest, OnlyRead};
@@ -10,10 +10,9 @@ use gptman::{Disk, Result};
 use std::alloc::Global;
 use std::io::Write;
 
-/// Prints what the table on an image is, with sectors of so many bytes, as the command `show` does. Answers its
-/// status.
+/// Prints the table on an image, as the command `show` does. Returns the exit status.
 ///
-/// `Io` where `out` failed, and `OutOfMemory`.
+/// `Io` if `out` fails, and `OutOfMemory`.
 pub fn show<D: Disk, W: Write>(
     alloc: Global,
     sector_size: u64,
@@ -22,7 +21,7 @@ pub fn show<D: Disk, W: Write>(
 ) -> Result<u8>
     requires { 0 < sector_size }
 
-    // The words are those of this command, so nothing is written.
+    // The words are those of `show`, so nothing is written.
     ensures shows { OnOk result (Runs (Show (Some sector_size)) result (D.state disk.old) (D.state disk.new)
         (W.contents out.old) (W.contents out.new)) }
     ensures reads { IsHonest (D.state disk.old) → OnlyRead (D.state disk.old) (D.state disk.new) }
@@ -35,10 +34,10 @@ pub fn show<D: Disk, W: Write>(
     run(alloc, &words, disk, out)
 }
 
-/// Whether an image has to be opened for writing, where what its table is is to be printed. It has not, since the
-/// words of the command `show` are those of no other one.
+/// Reports whether an image must be opened for writing to print its table. It never must, since the words of `show` are
+/// those of no other command.
 ///
-/// `OutOfMemory` where there is no memory for the words.
+/// `OutOfMemory` if the words cannot be allocated.
 pub fn needs_writing(alloc: Global, sector_size: u64) -> Result<bool>
     requires { 0 < sector_size }
     ensures { IfOk result (λ needed. needed ≡ false) }

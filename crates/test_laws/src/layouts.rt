@@ -1,4 +1,4 @@
-//! What is asked of entries is put into a table in memory. After an error nothing is known of that table.
+//! Applies layouts to a table in memory. After an error the table is unspecified.
 
 ghost use Rattle.std.specs.Prelude.{◌≡◌, ◌<◌, ℕ, vec_len, IfErr, IfNone, IfOk, IfSome, OnOk, OnSome};
 ghost use Rattle.gptman.specs.Coding.{empty_entry};
@@ -25,7 +25,7 @@ use gptman::{Disk, GPT, PartitionName, Result};
 use gptman_change::{Plan, Planned};
 use std::alloc::Global;
 
-/// Gives the partition of this number another name. All else of it stays, and all other entries.
+/// Renames the partition of this number. Its other fields and all other entries are unchanged.
 ///
 /// The errors are those of `lay`.
 pub fn rename(
@@ -48,8 +48,8 @@ pub fn rename(
     lay(alloc, table, &layout, &[[0; 16]])
 }
 
-/// Gives the partition of this number the free sectors behind it, up to the last multiple of so many sectors.
-/// All other entries stay.
+/// Extends the partition of this number over the free sectors after it, up to the last multiple of `align` sectors. All
+/// other entries are unchanged.
 ///
 /// The errors are those of `lay`.
 pub fn lengthen(
@@ -60,7 +60,7 @@ pub fn lengthen(
 ) -> std::result::Result<(), Stop>
     requires { 0 < table.old.sector_size }
 
-    // It begins where it began, ends no earlier, and gets sectors that were free: as many as may be.
+    // Its start is unchanged, its end is not earlier, and it gets only free sectors, as many as possible.
     ensures lengthened { OnOk result (IsLengthened align
         (entry_at table.old number) (entry_at table.new number)
         (IsFreeIn table.old) (IsFreeIn (with_entry table.new number empty_entry))) }
@@ -76,7 +76,7 @@ pub fn lengthen(
     lay(alloc, table, &layout, &[[0; 16]])
 }
 
-// The layout that changes a used entry, as is asked, with places at multiples of so many sectors.
+// Returns the layout that changes one used entry, with places at multiples of `align` sectors.
 fn change_of(alloc: Global, align: u64, asked: Asked) -> Result<Layout>
     ensures { IfOk result (IsChangeOf asked align) }
 {
@@ -89,14 +89,14 @@ fn change_of(alloc: Global, align: u64, asked: Asked) -> Result<Layout>
     })
 }
 
-/// Puts a table's own layout into it, as it is put back from a dump. The table is the same then.
+/// Applies a table's own layout to it, as when a dump is restored. The table is the same afterwards.
 ///
 /// The errors are those of `lay`.
 pub fn put_back(alloc: Global, table: &mut GPT) -> std::result::Result<(), Stop>
     requires { 0 < table.old.sector_size }
     ensures same { OnOk result (table_in table.new ≡ table_in table.old) }
 
-    // Where the table may be written, it is not refused.
+    // If the table may be written, only memory can run out.
     ensures taken { (len : ℕ) → 0 < table.old.align → HasLayout table.old len
         → IsValid table.old.header (entries_in table.old) → IfErr result IsForMemory }
 {
@@ -107,7 +107,7 @@ pub fn put_back(alloc: Global, table: &mut GPT) -> std::result::Result<(), Stop>
     lay(alloc, table, &layout, &random)
 }
 
-// So many GUIDs of zeros, in the stead of random ones that are not used.
+// Returns `count` zero GUIDs in the place of random ones, which are not used.
 fn zeros(alloc: Global, count: usize) -> Result<Vec<[u8; 16]>>
     ensures count { IfOk result (λ guids. vec_len guids ≡ count) }
     ensures refused { IfErr result (λ e. fault_of e ≡ out_of_memory) }
@@ -115,8 +115,8 @@ fn zeros(alloc: Global, count: usize) -> Result<Vec<[u8; 16]>>
     Ok(vec![in alloc; [0; 16]; count]?)
 }
 
-/// Has the first request change the table, and asks by the other one of a clone of it. Answers what is told of the
-/// clone, or `None` where the first one did not change the table.
+/// Changes the table by the first request, and applies the second to a clone of it. Returns the outcome for the clone,
+/// or `None` if the first request did not change the table.
 ///
 /// The errors are those of the two requests, and `OutOfMemory`.
 pub fn ask_twice<D: Disk>(
@@ -132,14 +132,13 @@ pub fn ask_twice<D: Disk>(
     requires coherent { IsCoherent table.old.header (entries_in table.old) }
     requires aligned { 0 < table.old.align }
 
-    // The table is what the first one made of it. Where the other one asks for the same, it is not refused,
-    // and it is told that there is nothing to change.
+    // The table is the result of the first request. If the second asks for the same, there is nothing to change.
     ensures once { IfOk result (λ told.
         OnSome told (IsPlanned first.now (D.state disk.old).size table.old table.new)) }
     ensures again { AsksAgain first.now again.now table.old → IfOk result (λ told.
         IfSome told (λ outcome. outcome ≡ Unchanged table.new)) }
 
-    // Where it changed nothing, it was refused, was only to be told, or asks for what is there.
+    // If the first request changed nothing, it was refused, was a dry run, or asks for the present state.
     ensures left { IfOk result (λ told. IfNone told ((outcome : Outcome)
         × IsLeft first.now (D.state disk.old).size table.old outcome)) }
 {
@@ -164,7 +163,7 @@ mod tests {
     use std::test::Fail;
     use test_fixtures::{samples, told};
 
-    // The table has these used entries.
+    // Asserts that the table has these used entries.
     fn assert_used<R: Abort + AllocGlobal>(
         rt: &R,
         table: &GPT,
@@ -193,7 +192,7 @@ mod tests {
         assert_used(&rt, &table, ", 1 Foo 34..43, 2 Bar 48..52")
     }
 
-    // A request for the layout of disk 1, with as many GUIDs as it has entries.
+    // Returns a request for the layout of disk 1, with a GUID for each entry.
     fn request_of_disk_1(alloc: Global) -> Result<Request>
         ensures { IfOk result (λ request. has_random request) }
     {

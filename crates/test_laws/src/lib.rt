@@ -1,5 +1,5 @@
-//! Small callers of the libraries, each written as a user would write it. What one ensures of its result is
-//! proved from the contracts of public calls and from the laws that it calls.
+//! Small callers of the libraries, written as a user would write them. Their contracts are proved from those of public
+//! calls, and from laws.
 #![tactic(auto)]
 
 pub mod edits;
