@@ -1,10 +1,10 @@
-//! The answers of rows, as text.
+//! Answers to rows, as text.
 
 use gptman::Error;
 use std::alloc::{AllocError, AllocFailed, Global};
 use std::fmt;
 
-/// The answer of a call.
+/// The result of a call.
 #[derive(Drop)]
 pub(crate) enum Answer {
     Done,
@@ -17,14 +17,14 @@ pub(crate) enum Answer {
     Text(String),
 }
 
-/// The reason why there is no answer.
+/// The reason why there is no result.
 #[derive(Drop)]
 pub(crate) enum Fault {
-    /// The row has a wrong word, or lacks one.
+    /// A word of the row is wrong or missing.
     Row,
-    /// A requirement of the call does not hold.
+    /// A precondition of the call does not hold.
     Requires,
-    /// The call refused.
+    /// The call returned an error.
     Refused(Error),
 }
 
@@ -78,7 +78,7 @@ impl fmt::Display for Fault {
     }
 }
 
-/// An error by its name, with its numbers. What the system says of an `Io` is left out.
+/// The name of an error, with its numbers. The system's message of an `Io` is omitted.
 #[derive(Clone, Copy)]
 pub(crate) struct Named<'a>(pub(crate) &'a Error);
 
@@ -108,7 +108,7 @@ fn name_one<W: fmt::Write>(error: &Error, f: &mut fmt::Formatter<W>) -> fmt::Res
     }
 }
 
-/// The bytes as hex digits.
+/// Returns the bytes as hex digits.
 pub(crate) fn hex_of(alloc: Global, bytes: &[u8]) -> Result<String, Fault> {
     let mut text = String::new(alloc);
     for byte in bytes {

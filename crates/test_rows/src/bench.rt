@@ -7,7 +7,7 @@ use gptman::disk::faulty::FaultyDisk;
 use gptman::{Edit, GPT, MemoryDisk};
 use std::alloc::{AllocError, Global};
 
-/// Up to 26 disks and as many tables, and the edits that were listed.
+/// Up to 26 disks, 26 tables, and the listed edits.
 #[derive(Drop)]
 pub(crate) struct Bench {
     pub(crate) alloc: Global,
@@ -17,7 +17,7 @@ pub(crate) struct Bench {
 }
 
 impl Bench {
-    /// Without a disk, a table or an edit.
+    /// Returns a bench without disks, tables and edits.
     pub(crate) fn new(alloc: Global) -> Result<Bench, AllocError> {
         let mut bench = Bench {
             alloc,
@@ -32,7 +32,7 @@ impl Bench {
         Ok(bench)
     }
 
-    /// Returns the answer to the row of this line.
+    /// Returns the answer to a row.
     pub(crate) fn answer(&mut self, line: &str) -> Answered {
         let row = Row::new(line);
         match row.call() {
@@ -70,28 +70,28 @@ impl Bench {
         }
     }
 
-    /// The disk that the row names by this key.
+    /// Returns the disk that the row names by this key.
     pub(crate) fn disk(&mut self, row: Row, key: &str) -> Result<&mut FaultyDisk, Fault> {
         held(&mut self.disks, row.slot_of(key)?)
     }
 
-    /// The table that the row's call is made on.
+    /// Returns the table of the row.
     pub(crate) fn table(&mut self, row: Row) -> Result<&mut GPT, Fault> {
         held(&mut self.tables, row.slot()?)
     }
 
-    /// The disk becomes the one that the row's call is made on.
+    /// Stores a disk under the name in the row.
     pub(crate) fn keep_disk(&mut self, row: Row, below: FaultyDisk) -> Answered {
         put(&mut self.disks, row.slot()?, below)
     }
 
-    /// The table does.
+    /// Stores a table under the name in the row.
     pub(crate) fn keep_table(&mut self, row: Row, table: GPT) -> Answered {
         put(&mut self.tables, row.slot()?, table)
     }
 }
 
-/// The thing of this place.
+/// Returns the item in this slot.
 pub(crate) fn held<T>(things: &mut Vec<Option<T>>, slot: usize) -> Result<&mut T, Fault> {
     match things.get_mut(slot) {
         Some(Some(thing)) => Ok(thing),
@@ -99,7 +99,7 @@ pub(crate) fn held<T>(things: &mut Vec<Option<T>>, slot: usize) -> Result<&mut T
     }
 }
 
-/// The thing of this place, which has none then.
+/// Takes the item out of this slot.
 pub(crate) fn taken<T: Drop>(things: &mut Vec<Option<T>>, slot: usize) -> Result<T, Fault> {
     match things.get_mut(slot) {
         Some(place) => place.take().ok_or(Fault::Row),
@@ -115,7 +115,7 @@ fn put<T: Drop>(things: &mut Vec<Option<T>>, slot: usize, thing: T) -> Answered 
     Ok(Answer::Done)
 }
 
-/// A disk in memory of these bytes.
+/// Returns a disk in memory of these bytes.
 pub(crate) fn holding(alloc: Global, bytes: Vec<u8>) -> Result<FaultyDisk, Fault> {
     Ok(FaultyDisk::new(MemoryDisk::new(alloc, bytes)?, None))
 }

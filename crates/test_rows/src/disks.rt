@@ -74,7 +74,7 @@ fn cut(alloc: Global, bytes: Vec<u8>, size: usize, fill: u8) -> Result<FaultyDis
     holding(alloc, bytes)
 }
 
-// The bytes with these in their place, or with a byte complemented.
+// Overwrites bytes, or complements one.
 fn poked(alloc: Global, row: Row, bytes: Vec<u8>) -> Result<Vec<u8>, Fault> {
     let mut bytes = bytes;
     let at = row.length("at")?;
@@ -100,7 +100,7 @@ fn fates(alloc: Global, row: Row) -> Result<Vec<Fate>, Fault> {
     Ok(fates)
 }
 
-// old, new, or the byte of garbage.
+// Parses `old`, `new`, or a byte of garbage.
 fn fate_of(word: &str) -> Result<Fate, Fault> {
     match word {
         "old" => Ok(Fate::Old),
@@ -133,7 +133,7 @@ fn bytes_at(alloc: Global, disk: &FaultyDisk, row: Row) -> Answered {
     }
 }
 
-// Whether two disks have the same bytes.
+// Reports whether two disks have the same bytes.
 fn same(bench: &mut Bench, row: Row) -> Answered {
     let alloc = bench.alloc;
     let one = held(&mut bench.disks, row.slot()?)?.bytes().to_vec(alloc)?;
@@ -141,7 +141,7 @@ fn same(bench: &mut Bench, row: Row) -> Answered {
     Ok(Answer::Truth(one.as_slice() == other.bytes()))
 }
 
-// A call of the trait.
+// Makes a call of the trait `Disk`.
 fn called<D: Disk>(alloc: Global, disk: &mut D, row: Row) -> Answered {
     match row.call() {
         "goto" => place_of(disk.seek_start(row.number("at")?)),
@@ -172,7 +172,7 @@ fn take<D: Disk>(alloc: Global, disk: &mut D, length: usize) -> Answered {
     Ok(Answer::Bytes(bytes))
 }
 
-/// Goes to a byte and writes these from there on.
+/// Writes these bytes from byte `at` on.
 pub(crate) fn lay<D: Disk>(disk: &mut D, at: u64, bytes: &[u8]) -> Answered {
     let size = disk.seek_end().map_err(Error::Io)?;
     disk.seek_start(at).map_err(Error::Io)?;

@@ -31,7 +31,7 @@ fn edit_of(alloc: Global, row: Row) -> Result<Edit, Fault> {
     }
 }
 
-// Makes the edits that are listed, up to the first that is refused. The list is empty then.
+// Applies the listed edits up to the first that is refused. The list is empty afterwards.
 fn make(bench: &mut Bench, row: Row) -> Answered {
     let edits = listed(bench);
     let table = bench.table(row)?;
@@ -41,7 +41,7 @@ fn make(bench: &mut Bench, row: Row) -> Answered {
     Ok(Answer::Done)
 }
 
-// Makes all of them, or none.
+// Applies all listed edits, or none.
 fn apply(bench: &mut Bench, row: Row) -> Answered {
     let edits = listed(bench);
     bench.table(row)?.apply_all(edits.as_slice())?;
@@ -53,7 +53,7 @@ fn listed(bench: &mut Bench) -> Vec<Edit> {
     std::mem::replace(&mut bench.edits, Vec::new(alloc))
 }
 
-// Commits them: how many are done, and the fault.
+// Commits the listed edits. Returns the number of completed ones, and the error.
 fn commit(bench: &mut Bench, row: Row) -> Answered {
     let alloc = bench.alloc;
     let edits = listed(bench);

@@ -33,7 +33,7 @@ fn of_entry(alloc: Global, entry: &GPTPartitionEntry, row: Row) -> Answered {
     }
 }
 
-// All its fields; and whether it is equal to its clone.
+// Returns all fields, and whether the entry is equal to its clone.
 fn shown(alloc: Global, entry: &GPTPartitionEntry) -> Answered {
     let (first, last) = (entry.starting_lba, entry.ending_lba);
     let (attributes, name) = (entry.attribute_bits, entry.partition_name.as_str());
@@ -63,7 +63,7 @@ fn byte_range(alloc: Global, table: &GPT, number: u32) -> Answered {
     Ok(Answer::Text(format!(in alloc; "{bytes:?}")?))
 }
 
-// The entry by its index.
+// Returns the entry through the index operator.
 fn index(alloc: Global, table: &GPT, number: u32) -> Answered {
     if table.get(number).is_none() {
         return Err(Fault::Requires);
@@ -102,7 +102,7 @@ fn change_in(alloc: Global, table: &mut GPT, row: Row) -> Result<(), Fault> {
     }
 }
 
-// remove, free_at, sort, each
+// Makes `remove`, `free_at`, `sort` or `each`.
 fn change_list(table: &mut GPT, row: Row) -> Result<(), Fault> {
     match row.call() {
         "remove" => table.remove(row.short("number")?)?,
@@ -124,7 +124,7 @@ fn decode(alloc: Global, table: &mut GPT, row: Row) -> Result<(), Fault> {
     Ok(())
 }
 
-// The entry by its index, for writing.
+// Returns the entry through the mutable index operator.
 fn entry_at(table: &mut GPT, number: u32) -> Result<&mut GPTPartitionEntry, Fault> {
     if table.get(number).is_none() {
         return Err(Fault::Requires);
@@ -141,7 +141,7 @@ fn swap(table: &mut GPT, row: Row) -> Result<(), Fault> {
     Ok(())
 }
 
-// Each used entry gets these attributes.
+// Sets the attributes of each used entry.
 fn each(table: &mut GPT, attributes: u64) {
     for (_, entry) in table.iter_mut() {
         if entry.is_used() {
@@ -164,14 +164,14 @@ fn read_entry<D: Disk>(alloc: Global, disk: &mut D, at: u64) -> Result<GPTPartit
     Ok(GPTPartitionEntry::read_from(alloc, disk)?)
 }
 
-/// The entry of these keys: type= guid= first= last= [attributes=] [text=].
+/// Returns an entry of these keys: type= guid= first= last= [attributes=] [text=].
 pub(crate) fn partition(alloc: Global, row: Row) -> Result<GPTPartitionEntry, Fault> {
     let mut entry = GPTPartitionEntry::empty(alloc);
     set(alloc, &mut entry, row)?;
     Ok(entry)
 }
 
-// Changes the fields that the row has.
+// Sets the fields that the row has.
 fn set(alloc: Global, entry: &mut GPTPartitionEntry, row: Row) -> Result<(), Fault> {
     if row.has("type") {
         entry.partition_type_guid = row.guid("type")?;

@@ -25,7 +25,7 @@ pub(crate) fn answer(bench: &mut Bench, row: Row) -> Answered {
     }
 }
 
-// The fields that `set` knows, by their keys.
+// Returns the fields by the keys of `set`.
 fn header(alloc: Global, header: &GPTHeader) -> Answered {
     let places = places_of(alloc, header)?;
     let (count, size) = (
@@ -61,7 +61,7 @@ fn entries_of(alloc: Global, table: &GPT) -> Result<Vec<GPTPartitionEntry>, Faul
     Ok(entries)
 }
 
-// Whether the header says what this list is.
+// Reports whether the header describes this list of entries.
 fn is_coherent(header: &GPTHeader, entries: &[GPTPartitionEntry]) -> bool
     ensures { IsTrue result → IsCoherent header.now entries.now }
 {
@@ -70,7 +70,7 @@ fn is_coherent(header: &GPTHeader, entries: &[GPTPartitionEntry]) -> bool
         && (header.size_of_partition_entry == 128 || header.number_of_partition_entries == 0)
 }
 
-// The two checksums that the header would have.
+// Returns the two checksums that the header should have.
 fn sum(alloc: Global, table: &GPT) -> Answered {
     let entries = entries_of(alloc, table)?;
     let header = &table.header;
@@ -82,7 +82,7 @@ fn sum(alloc: Global, table: &GPT) -> Answered {
     Ok(Answer::Text(format!(in alloc; "{own:08x} {array:08x}")?))
 }
 
-// The header gets its checksum.
+// Updates the checksum of the header.
 fn seal(header: &mut GPTHeader) -> Answered {
     if header.header_size != 92 {
         return Err(Fault::Requires);
@@ -91,7 +91,7 @@ fn seal(header: &mut GPTHeader) -> Answered {
     Ok(Answer::Done)
 }
 
-// The header gets that of the entries.
+// Updates the checksum of the entries.
 fn seal_array(alloc: Global, table: &mut GPT) -> Answered {
     let entries = entries_of(alloc, table)?;
     if !is_coherent(&table.header, &entries) {
@@ -101,7 +101,7 @@ fn seal_array(alloc: Global, table: &mut GPT) -> Answered {
     Ok(Answer::Done)
 }
 
-// Changes the fields that the row has.
+// Sets the fields that the row has.
 fn set(table: &mut GPT, row: Row) -> Answered {
     table.sector_size = row.number_or("sector", table.sector_size)?;
     table.align = row.number_or("align", table.align)?;
@@ -200,7 +200,7 @@ fn write_header<D: Disk>(alloc: Global, disk: &mut D, table: &mut GPT) -> Answer
     Ok(Answer::Done)
 }
 
-// Replaces the entries of the table by those that its header names on the disk.
+// Replaces the entries of the table with those on the disk to which its header refers.
 fn read_entries<D: Disk>(alloc: Global, disk: &mut D, table: &mut GPT) -> Answered {
     let sector_size = table.sector_size;
     if sector_size == 0 {

@@ -1,7 +1,7 @@
-//! Calls of `gptman` as rows of text. Each line of standard input is a call on named disks and tables (`row`), and
-//! is printed with its answer. A line that is empty or begins with `#` is printed as it is.
+//! Makes calls of `gptman` from rows of text. Each line of standard input is a call on named disks and tables (`row`),
+//! and is printed with its answer. A line that is empty or begins with `#` is printed unchanged.
 //!
-//! So a row of a table of expected values is a line of `stdout`, and `scripts/rows` makes `stdin` of these lines.
+//! So `stdout` is a table of expected values. `scripts/rows` makes `stdin` from it.
 #![tactic(auto)]
 
 mod answer;

@@ -1,8 +1,8 @@
-//! The words of a row: the call, the thing that it is made on, a letter, and what it takes, as `KEY=VALUE`.
+//! Parses a row: the call, the item that it is made on (a letter), and arguments as `KEY=VALUE`.
 //!
-//! A number is decimal, hex after `0x`, or `max`, the greatest of 64 bits. Bytes are hex digits, and `*N` behind them repeats
-//! them. A GUID is 32 hex digits, or `@` and the two that it has 16 times. `text=` comes last and takes the rest of
-//! the line, in which `\0` is a zero.
+//! A number is decimal, hex after `0x`, or `max`, which is 2^64 - 1. Bytes are hex digits; `*N` after them repeats
+//! them. A GUID is 32 hex digits, or `@` and two that it repeats 16 times. `text=` comes last and takes the rest of the
+//! line, in which `\0` is a zero.
 
 use crate::answer::Fault;
 use std::alloc::Global;
@@ -14,22 +14,22 @@ pub(crate) struct Row<'a> {
 }
 
 impl<'a> Row<'a> {
-    /// The row of this line.
+    /// Returns the row of a line.
     pub(crate) fn new(line: &'a str) -> Row<'a> {
         Row { line }
     }
 
-    /// The name of the call.
+    /// Returns the name of the call.
     pub(crate) fn call(&self) -> &'a str {
         self.line.split_whitespace().next().unwrap_or("")
     }
 
-    /// The second word.
+    /// Returns the second word.
     pub(crate) fn kind(&self) -> &'a str {
         self.line.split_whitespace().nth(1).unwrap_or("")
     }
 
-    // The value of this key, if the row has one.
+    // Returns the value of this key, if the row has one.
     fn find(&self, key: &str) -> Option<&'a str> {
         for word in self.line.split_whitespace() {
             if let Some((name, value)) = word.split_once('=') {
@@ -41,32 +41,32 @@ impl<'a> Row<'a> {
         None
     }
 
-    /// Whether the row has this key.
+    /// Reports whether the row has this key.
     pub(crate) fn has(&self, key: &str) -> bool {
         self.find(key).is_some()
     }
 
-    /// The word of this key.
+    /// Returns the value of this key as a word.
     pub(crate) fn word(&self, key: &str) -> Result<&'a str, Fault> {
         self.find(key).ok_or(Fault::Row)
     }
 
-    /// The place of the thing that the call is made on.
+    /// Returns the slot of the item that the call is made on.
     pub(crate) fn slot(&self) -> Result<usize, Fault> {
         slot_of(self.kind()).ok_or(Fault::Row)
     }
 
-    /// The place of the thing that this key names.
+    /// Returns the slot of the item that this key names.
     pub(crate) fn slot_of(&self, key: &str) -> Result<usize, Fault> {
         slot_of(self.word(key)?).ok_or(Fault::Row)
     }
 
-    /// The number of this key.
+    /// Returns the number of this key.
     pub(crate) fn number(&self, key: &str) -> Result<u64, Fault> {
         number_of(self.word(key)?).ok_or(Fault::Row)
     }
 
-    /// The number of this key, or the other one where the row has none.
+    /// Returns the number of this key, or `other` if the row has none.
     pub(crate) fn number_or(&self, key: &str, other: u64) -> Result<u64, Fault> {
         match self.find(key) {
             Some(word) => number_of(word).ok_or(Fault::Row),
@@ -74,27 +74,27 @@ impl<'a> Row<'a> {
         }
     }
 
-    /// The number of 32 bits of this key.
+    /// Returns the 32-bit number of this key.
     pub(crate) fn short(&self, key: &str) -> Result<u32, Fault> {
         u32::try_from(self.number(key)?).ok().ok_or(Fault::Row)
     }
 
-    /// The length or index of this key.
+    /// Returns the length or index of this key.
     pub(crate) fn length(&self, key: &str) -> Result<usize, Fault> {
         usize::try_from(self.number(key)?).ok().ok_or(Fault::Row)
     }
 
-    /// The byte of this key, in hex.
+    /// Returns the byte of this key, in hex.
     pub(crate) fn byte(&self, key: &str) -> Result<u8, Fault> {
         byte_of(self.word(key)?).ok_or(Fault::Row)
     }
 
-    /// The GUID of this key.
+    /// Returns the GUID of this key.
     pub(crate) fn guid(&self, key: &str) -> Result<[u8; 16], Fault> {
         guid_of(self.word(key)?).ok_or(Fault::Row)
     }
 
-    /// The bytes of this key, or of its text.
+    /// Returns the bytes of this key, or those of the text.
     pub(crate) fn bytes(&self, alloc: Global, key: &str) -> Result<Vec<u8>, Fault> {
         match self.find(key) {
             Some(word) => bytes_of(alloc, word),
@@ -102,7 +102,7 @@ impl<'a> Row<'a> {
         }
     }
 
-    /// The text of the row, or none.
+    /// Returns the text of the row, empty if there is none.
     pub(crate) fn text(&self, alloc: Global) -> Result<String, Fault> {
         let (_, text) = self.line.split_once("text=").unwrap_or(("", ""));
         let mut plain = String::new(alloc);
@@ -133,7 +133,7 @@ fn number_of(word: &str) -> Option<u64> {
     }
 }
 
-/// The byte of two hex digits.
+/// Parses a byte of two hex digits.
 pub(crate) fn byte_of(word: &str) -> Option<u8> {
     u8::from_str_radix(word, 16).ok()
 }

@@ -39,7 +39,7 @@ fn on_disk<D: Disk>(alloc: Global, disk: &mut D, row: Row) -> Result<GPT, Fault>
     Ok(GPT::with_entries(alloc, disk, sector_size, guid, row.short("count")?)?)
 }
 
-// Makes a table of this header and `length` empty entries.
+// Returns a table with the header of this one and `length` empty entries.
 fn parts(alloc: Global, table: &GPT, row: Row) -> Result<GPT, Fault> {
     let length = row.short("length")?;
     let mut entries = Vec::new(alloc);
@@ -71,7 +71,7 @@ pub(crate) fn answer(bench: &mut Bench, row: Row) -> Answered {
     }
 }
 
-// Whether two tables are equal.
+// Reports whether two tables are equal.
 fn equal(bench: &mut Bench, row: Row) -> Answered {
     let one = bench.table(row)?.clone()?;
     let other = held(&mut bench.tables, row.slot_of("as")?)?;
@@ -95,7 +95,8 @@ fn write(bench: &mut Bench, row: Row) -> Answered {
     Ok(Answer::Text(format!(in alloc; "{own}/{backup}/{entries}")?))
 }
 
-// The sector size; the sectors of its header, of the other one and of its entries; the usable sectors; the alignment.
+// Returns the sector size; the sectors of the header, the other header and the entries; the usable sectors; and the
+// alignment.
 fn show(alloc: Global, table: &GPT) -> Answered {
     let (size, align, header) = (table.sector_size, table.align, &table.header);
     let (own, other) = (header.primary_lba, header.backup_lba);
@@ -105,7 +106,7 @@ fn show(alloc: Global, table: &GPT) -> Answered {
     Ok(Answer::Text(text?))
 }
 
-// The number of entries, and of each used one the number, the name and the sectors.
+// Returns the number of entries, and the number, name and sectors of each used one.
 fn used(alloc: Global, table: &GPT) -> Answered {
     let mut text = String::new(alloc);
     let mut count = 0;
@@ -130,7 +131,7 @@ fn push_entry(
     Ok(())
 }
 
-// The form of its header, and whether this says what the list is.
+// Returns the form of the header, and whether it describes the list of entries.
 fn kind(alloc: Global, table: &GPT) -> Answered {
     let form = match (table.is_primary(), table.is_backup()) {
         (true, false) => "primary",

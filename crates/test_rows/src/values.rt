@@ -7,7 +7,7 @@ use gptman::crc::crc32;
 use gptman::table::mbr::protective_mbr;
 use std::alloc::Global;
 
-/// crc bytes=; name text=; units bytes=; mbr_bytes size= sector= bootable=
+/// crc bytes=; name text=; units bytes=; mbr_bytes size= sector= [bootable=]
 pub(crate) fn answer(alloc: Global, row: Row) -> Answered {
     match row.call() {
         "crc" => Ok(Answer::Checksum(crc32(&row.bytes(alloc, "bytes")?))),
@@ -23,8 +23,8 @@ pub(crate) fn answer(alloc: Global, row: Row) -> Answered {
     }
 }
 
-// Its text, and its units without the zeros at the end. It is shown as its text, whatever the room, and is equal to its
-// clone.
+// Returns the text of the name, its units without trailing zeros, and whether it is plain: its display has no padding,
+// and it is equal to its clone.
 fn told(alloc: Global, name: &PartitionName) -> Answered {
     let mut units = String::new(alloc);
     let used = name.units().iter().rposition(|unit| *unit != 0);
@@ -39,7 +39,7 @@ fn told(alloc: Global, name: &PartitionName) -> Answered {
     Ok(Answer::Text(format!(in alloc; "{text:?} {units} {end}")?))
 }
 
-// The units of four digits each, and zeros.
+// Returns units of four digits each, followed by zeros.
 fn units_of(alloc: Global, row: Row) -> Result<[u16; 36], Fault> {
     let bytes = row.bytes(alloc, "bytes")?;
     let mut units = [0; 36];
