@@ -25,7 +25,7 @@ pub enum Call {
     CommitTen,
 }
 
-/// All calls, in the order in which they are told.
+/// All calls, in the order in which they are printed.
 pub const CALLS: [Call; 11] = [
     Call::Checksum,
     Call::Read,
@@ -58,7 +58,7 @@ impl Call {
     }
 }
 
-/// A table, the disk on which it stands, and the bytes of its entries.
+/// A table, the disk that holds it, and the bytes of its entries.
 #[derive(Drop)]
 pub struct Case {
     alloc: Global,
@@ -68,9 +68,8 @@ pub struct Case {
 }
 
 impl Case {
-    /// With so many used entries, and 128 entries at least. The used ones are in order, with one sector
-    /// each and a free one behind it, and there is room for the unused ones too. The alignment is one
-    /// sector.
+    /// Returns a case with `used` used entries and at least 128 entries. The used ones are sorted, with one sector each
+    /// and a free one after it. There is room for the unused ones too. The alignment is one sector.
     pub fn new(alloc: Global, used: u32) -> Result<Case> {
         let shape = shape_of(used);
         let mut disk = PlainDisk::new(vec![in alloc; 0; shape.bytes()]?);
@@ -85,7 +84,7 @@ impl Case {
         })
     }
 
-    /// How many bytes go through this call, where that is to be told.
+    /// Returns the number of bytes that the call processes, if a rate is to be printed.
     pub fn bytes_of(&self, call: Call) -> Option<usize> {
         match call {
             Call::Checksum | Call::Read => Some(self.array.len()),
@@ -107,7 +106,7 @@ impl Case {
         }
     }
 
-    // The checksum of the bytes of all entries.
+    // Computes the checksum of all entries.
     fn sum(&self) -> Result<()> {
         if gptman::crc::crc32(&self.array) == self.table.header.partition_entry_array_crc32 {
             Ok(())
@@ -131,7 +130,7 @@ impl Case {
         Ok(())
     }
 
-    // The free sectors, or a place for one sector.
+    // Finds the free sectors, a place for one sector, or the maximum size.
     fn find(&self, call: Call) -> Result<()> {
         match call {
             Call::FirstPlace => {
@@ -153,7 +152,7 @@ impl Case {
         Ok(())
     }
 
-    // Ten edits, each written.
+    // Commits ten edits.
     fn commit(&mut self) -> Result<()> {
         let mut edits = Vec::new(self.alloc);
         for number in 0..10 {
@@ -166,7 +165,7 @@ impl Case {
     }
 }
 
-// The shape of a table with so many used entries.
+// Returns the shape of a table with `used` used entries.
 fn shape_of(used: u32) -> Shape {
     let entries = used.max(128);
     let unused = u64::from(entries).saturating_sub(u64::from(used));
@@ -180,7 +179,7 @@ fn shape_of(used: u32) -> Shape {
     }
 }
 
-// The bytes of all entries of the table.
+// Returns the bytes of all entries.
 fn array_of(alloc: Global, table: &GPT) -> Result<Vec<u8>> {
     let mut bytes = Vec::new(alloc);
     for (_, entry) in table.iter() {

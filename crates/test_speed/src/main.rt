@@ -1,8 +1,7 @@
-//! How long calls of the library take, on a plain disk in memory that keeps no record.
+//! Times calls of the library, on a plain disk in memory that keeps no record.
 //!
-//! A line of standard input is a count of used entries. For each a line is printed for each call: the
-//! call, the count, nanoseconds, and where bytes go through the call also millions of bytes a second.
-//! Each figure is the least of several rounds.
+//! A line of standard input is a number of used entries. For each number and call, a line is printed with the call, the
+//! number, nanoseconds, and for some calls megabytes per second. Each figure is the best of several rounds.
 #![tactic(auto)]
 
 mod calls;
@@ -24,7 +23,7 @@ fn main(rt: HostRuntime) -> Result<()> {
     Ok(())
 }
 
-// A line for each call on a table with so many used entries.
+// Prints a line for each call on a table with `count` used entries.
 fn print_calls<R: Clock + Print + AllocGlobal>(rt: &R, count: u32) -> Result<()> {
     let mut case = Case::new(rt.alloc(), count)?;
     for call in CALLS {
@@ -33,7 +32,7 @@ fn print_calls<R: Clock + Print + AllocGlobal>(rt: &R, count: u32) -> Result<()>
     Ok(())
 }
 
-// A line for this call.
+// Prints the line of a call.
 fn print_call<R: Clock + Print>(rt: &R, case: &mut Case, call: Call, count: u32) -> Result<()> {
     let name = call.name();
     let time = least_time(rt, case, call)?;

@@ -1,16 +1,16 @@
-//! Times of calls.
+//! Times calls.
 
 use crate::calls::{Call, Case};
 use gptman::Result;
 use std::time::{Clock, Instant};
 
-// How many rounds are made of each call.
+// The number of rounds of each call.
 const ROUNDS: u32 = 9;
 
-// How long a round lasts about, in nanoseconds.
+// The approximate duration of a round in nanoseconds.
 const ROUND: u64 = 4_000_000;
 
-/// The least time of the call in nanoseconds, of several rounds.
+/// Returns the shortest time of the call in nanoseconds, of several rounds.
 pub fn least_time<C: Clock>(clock: &C, case: &mut Case, call: Call) -> Result<u64> {
     let mut least = time_of(clock, case, call, 1)?;
     let repeats = repeats_for(least);
@@ -20,13 +20,13 @@ pub fn least_time<C: Clock>(clock: &C, case: &mut Case, call: Call) -> Result<u6
     Ok(least)
 }
 
-// How often a call of so many nanoseconds is made in a round.
+// Returns how many calls of `time` nanoseconds are made in a round.
 fn repeats_for(time: u64) -> u32 {
     let repeats = ROUND / time.max(1);
     repeats.clamp(1, 10_000) as u32
 }
 
-// How long the call takes, of so many one after the other.
+// Returns the average time of `repeats` calls in nanoseconds.
 fn time_of<C: Clock>(clock: &C, case: &mut Case, call: Call, repeats: u32) -> Result<u64> {
     let start = Instant::now(clock)?;
     for _ in 0..repeats {
@@ -36,7 +36,7 @@ fn time_of<C: Clock>(clock: &C, case: &mut Case, call: Call, repeats: u32) -> Re
     Ok(u64::try_from(spent / u128::from(repeats.max(1))).unwrap_or(u64::MAX))
 }
 
-/// So many bytes in so many nanoseconds, in millions of bytes a second.
+/// Returns the rate in megabytes per second of `bytes` bytes in `time` nanoseconds.
 pub fn rate(bytes: usize, time: u64) -> u64 {
     (bytes as u64).saturating_mul(1000) / time.max(1)
 }
