@@ -1,14 +1,14 @@
-//! What is read of a disk on which a write of a new table over an old one was stopped, or failed.
+//! A write of a new table over an old one, and what is read after a crash or failure.
 
 use crate::asserts::{Host, copied, got, read};
 use gptman::{Fate, GPT, GPTHeader, Result};
 use std::process::Abort;
 use test_fixtures::samples::{put, read_image};
 
-/// The first bytes of the two headers of 100 sectors of 512.
+/// The offsets of both headers in bytes, in 100 sectors of 512 bytes.
 pub(crate) const HEADERS: [usize; 2] = [512, 50_688];
 
-/// A write of a new table over an image, which is read as the old one.
+/// A write of a new table over an image that holds the old one.
 #[derive(Drop)]
 pub(crate) struct Case {
     pub(crate) image: Vec<u8>,
@@ -16,7 +16,7 @@ pub(crate) struct Case {
     pub(crate) new: GPT,
 }
 
-// The header in primary form, with no checksums.
+// Returns the header in primary form, without checksums.
 fn primary_form(header: &GPTHeader) -> GPTHeader {
     let entries = match (header.primary_lba, header.partition_entry_lba) {
         (1, sector) => sector,
@@ -33,34 +33,34 @@ fn primary_form(header: &GPTHeader) -> GPTHeader {
     }
 }
 
-/// Whether two values are one table, in whichever form: all entries and all fields of the header are
-/// equal, but for the checksums.
+/// Reports whether two values are one table, in any form: all entries are equal, and all fields of the header except
+/// the checksums.
 pub(crate) fn is_same_table(a: &GPT, b: &GPT) -> bool {
     a.sector_size == b.sector_size
         && a.iter().eq(b.iter())
         && primary_form(&a.header) == primary_form(&b.header)
 }
 
-/// The table that is read where the header at this byte is broken.
+/// Reads the table after the header at this byte is broken.
 pub(crate) fn read_without(rt: &impl Host, bytes: &[u8], header: usize) -> Result<GPT> {
     let mut bytes = copied(rt, bytes);
     got(rt, put(&mut bytes, header, &[0; 8]));
     read_image(rt.alloc(), &bytes, 512)
 }
 
-// The table is the old or the new one.
+// Asserts that the table is the old or the new one.
 fn assert_one(rt: &impl Abort, case: &Case, table: &GPT) {
     assert!(rt; is_same_table(table, &case.old) || is_same_table(table, &case.new));
 }
 
-// So is the copy that is read where the header at this byte is broken, if it can be read.
+// Asserts the same of the copy that is read after the header at this byte is broken, if one is.
 fn assert_one_without(rt: &impl Host, case: &Case, bytes: &[u8], header: usize) {
     if let Ok(table) = read_without(rt, bytes, header) {
         assert_one(rt, case, &table);
     }
 }
 
-/// The disk is read as one of the two tables, and so is each copy alone that can be read.
+/// Asserts that the disk is read as one of the two tables, and also each readable copy by itself.
 pub(crate) fn assert_reads_one(rt: &impl Host, case: &Case, bytes: &[u8]) {
     assert_one(rt, case, &read(rt, bytes));
     for header in HEADERS {
@@ -68,7 +68,7 @@ pub(crate) fn assert_reads_one(rt: &impl Host, case: &Case, bytes: &[u8]) {
     }
 }
 
-/// The fate of all that is pending, of three.
+/// Returns one of three fates for all pending writes.
 pub(crate) fn fate_of(number: u64) -> Fate {
     match number % 3 {
         0 => Fate::Old,
@@ -77,7 +77,7 @@ pub(crate) fn fate_of(number: u64) -> Fate {
     }
 }
 
-/// Fates of up to six writes: all this one, and one of them, if it is one of the six, torn.
+/// Returns the fates of up to six writes: `all`, but the write `torn`, if it is one of the six, is torn.
 pub(crate) fn fates(all: Fate, torn: usize) -> [Fate; 6] {
     let mut fates = [all; 6];
     if let Some(fate) = fates.get_mut(torn) {

@@ -1,6 +1,5 @@
-//! Commands on disks that fail after some calls, and with an output that fails; and a worked example, in
-//! memory and in a file. All else that is printed and written is tried on the built program, by the rows of
-//! `tests/program/`.
+//! Commands on failing disks and with a failing output, and a worked example in memory and in a file. The rows of
+//! `tests/program/` test all other output on the built program.
 
 use crate::asserts::{Host, fused, got, holding};
 use crate::lines::{LINES, call_line, image_with_foo, make_foo, try_line};
@@ -11,12 +10,12 @@ use std::{fs, io};
 use test_fixtures::calls::has_bytes;
 use test_fixtures::samples::{disk_1, disk_2, disk_of, image_with, put};
 
-// Whether what was printed is one of these texts.
+// Reports whether one of these texts was printed.
 fn is_one_of(printed: &[u8], texts: &[&str]) -> bool {
     texts.iter().any(|text| text.as_bytes() == printed)
 }
 
-// The line ends with this status, and prints this text.
+// Asserts that the line returns this status and prints this text.
 fn assert_line<D: Disk>(rt: &impl Host, disk: &mut D, line: &str, status: u8, text: &str) {
     let (answer, printed) = call_line(rt, disk, line);
     assert!(rt; answer == status, "{line}");
@@ -27,7 +26,7 @@ const SHOWN: &str =
     "sector 512 form primary disk ffffffffffffffffffffffffffffffff usable 34..66 entries 128 align 1\n\
      1 11111111111111111111111111111111 22222222222222222222222222222222 34..43 0000000000000000 Foo\n";
 
-// A table is made on this disk with "Foo" from 34 to 43, and then a few lines do what they say.
+// Makes a table with "Foo" in 34..43 on this disk, and asserts the results of some lines.
 fn assert_example<D: Disk>(rt: &impl Host, disk: &mut D) {
     make_foo(rt, disk);
     assert_line(rt, disk, "512 free 10", 0, "50 17\n");
@@ -46,8 +45,8 @@ fn an_example_holds_in_memory_and_in_a_file(rt: HostRuntime) {
     got(&rt, fs::remove_file(&rt, path));
 }
 
-// On a disk of these bytes that fails after so many calls, the line prints one of these texts, unless it is
-// done, which is answered. Where no call is served no byte changes.
+// Runs the line on a disk of these bytes that fails after `calls` calls. Asserts that it prints one of these texts if
+// it fails, and changes nothing if no call succeeds. Returns whether it failed.
 fn fails_after(rt: &impl Host, image: &[u8], calls: u64, line: &str, texts: &[&str]) -> bool {
     let mut disk = fused(rt, image, calls);
     let (status, printed) = call_line(rt, &mut disk, line);
@@ -60,7 +59,7 @@ fn fails_after(rt: &impl Host, image: &[u8], calls: u64, line: &str, texts: &[&s
     !is_done
 }
 
-// So it does where the disk fails after no call, after one and so on.
+// Asserts the same for each number of calls, until the line succeeds.
 fn assert_fails(rt: &impl Host, image: &[u8], line: &str, texts: &[&str]) {
     for calls in 0..=40 {
         if !fails_after(rt, image, calls, line, texts) {
@@ -70,7 +69,7 @@ fn assert_fails(rt: &impl Host, image: &[u8], line: &str, texts: &[&str]) {
     panic!(rt; "{line} takes more than 40 calls");
 }
 
-// The same of each line that begins so.
+// Asserts the same for each line that begins with `start`.
 fn assert_all_fail(rt: &impl Host, image: &[u8], start: &str, texts: &[&str]) {
     for line in LINES {
         if line.starts_with(start) {
@@ -86,8 +85,8 @@ fn a_failing_disk_is_named(rt: HostRuntime) {
     assert_all_fail(&rt, &image_with_foo(&rt), "", &[FAILED]);
 }
 
-// The faults of a disk that fails where one copy is bad: that of the primary copy is named too where the
-// disk fails in the backup copy.
+// The errors of a failing disk with one bad copy. The fault of the primary copy is included if the disk fails in the
+// backup copy.
 const FAILED_LATER: [&str; 2] = [FAILED, "fault: ReadError(InvalidSignature, Io)\n"];
 
 #[test]
@@ -104,7 +103,7 @@ fn a_failing_disk_has_no_sector_size(rt: HostRuntime) {
     assert_all_fail(&rt, &image, "auto", &FAILED_LATER);
 }
 
-// What `check` prints of a failing disk.
+// The output of `check` on a failing disk.
 const CHECKED: [&str; 3] = [
     FAILED,
     "primary fault Io\nbackup fault Io\nsame no\n",
@@ -118,7 +117,7 @@ fn a_failing_disk_is_told_of_by_check(rt: HostRuntime) {
     assert_fails(&rt, &image, "512 check", &CHECKED);
 }
 
-// A writer that takes so many bytes, and then fails.
+// A writer that accepts `room` bytes, then fails.
 #[derive(Drop)]
 struct Short {
     room: usize,
@@ -139,7 +138,7 @@ impl io::Write for Short {
     }
 }
 
-// With so much room, the line ends with this status where it has enough room, and else with an error.
+// Asserts that the result is this status if there is room for the output, else an error.
 fn assert_answer(rt: &impl Abort, answer: &Result<u8>, status: u8, has_room: bool, line: &str) {
     let is_right = match answer {
         Ok(answer) => *answer == status && has_room,
@@ -148,8 +147,8 @@ fn assert_answer(rt: &impl Abort, answer: &Result<u8>, status: u8, has_room: boo
     assert!(rt; is_right, "{line}");
 }
 
-// The line leaves these bytes on a disk of those, whatever room it has; it needs so much, and ends with
-// this status then.
+// Asserts that the line leaves these bytes on the disk, whatever room the output has, and succeeds only with `needed`
+// bytes.
 fn assert_room(
     rt: &impl Host,
     (image, left): (&[u8], &[u8]),
@@ -163,7 +162,7 @@ fn assert_room(
     assert!(rt; has_bytes(&disk, left), "{line}");
 }
 
-// The line needs room for all that it prints. With less it is an error, and the disk is the same.
+// Asserts that the line fails without room for its whole output, with the same effect on the disk.
 fn assert_needs_its_room(rt: &impl Host, image: &[u8], line: &str) {
     let mut disk = holding(rt, image);
     let (status, printed) = call_line(rt, &mut disk, line);

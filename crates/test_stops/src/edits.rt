@@ -1,5 +1,5 @@
-//! Lists of edits that are stopped or fail at any call: what is left is read as the table after those
-//! that are done, or after one more.
+//! Lists of edits with a crash or failure at any call. The table after the completed edits, or after one more, must be
+//! read.
 
 use crate::asserts::{Host, failing_once, fused, got, read};
 use crate::case::{fate_of, is_same_table};
@@ -9,16 +9,16 @@ use test_fixtures::calls::{apply, stopped};
 use test_fixtures::samples::image_of_new;
 use test_fixtures::tables::{commit, partition};
 
-// How many calls the writes of the three edits make, 17 each.
+// The number of calls of the writes of three edits, 17 each.
 const CALLS: u64 = 51;
 
-// Puts an entry from and to these sectors under this number.
+// Returns the edit that puts an entry in these sectors under this number.
 fn put_at(rt: &impl Host, number: u8, from: u64, to: u64) -> Edit {
     let entry = partition(rt.alloc(), "Foo", [number; 16], from, to);
     Edit::Put(u32::from(number), got(rt, entry))
 }
 
-// Three entries, each put behind the one before.
+// Returns three edits, each of which puts an entry after the previous one.
 fn three_edits(rt: &impl Host) -> Vec<Edit> {
     let edits = vec![in rt.alloc();
         put_at(rt, 1, 34, 43),
@@ -28,20 +28,20 @@ fn three_edits(rt: &impl Host) -> Vec<Edit> {
     got(rt, edits)
 }
 
-// How many of the edits are done. There is no fault but a failure of the disk.
+// Returns the number of completed edits. The only permitted error is a failure of the disk.
 fn done_of(rt: &impl Abort, progress: &Progress) -> usize {
     assert!(rt; matches!(&progress.fault, None | Some(Error::Io(_))));
     progress.done
 }
 
-// How many of the three edits are done on this disk, which holds the image and may fail.
+// Commits the three edits on this disk, which holds the image. Returns the number of completed ones.
 fn commit_three<D: Disk>(rt: &impl Host, disk: &mut D, image: &[u8]) -> usize {
     let mut table = read(rt, image);
     let progress = commit(&mut table, disk, three_edits(rt));
     done_of(rt, &got(rt, progress))
 }
 
-// The table of the image after so many of the three edits.
+// Returns the table of the image after `count` edits.
 fn table_after(rt: &impl Host, image: &[u8], count: usize) -> GPT {
     let mut table = read(rt, image);
     for edit in three_edits(rt).into_iter().take(count) {
@@ -50,12 +50,12 @@ fn table_after(rt: &impl Host, image: &[u8], count: usize) -> GPT {
     table
 }
 
-// Whether it is the table of the image after so many of the edits.
+// Reports whether this is the table of the image after `count` edits.
 fn is_after(rt: &impl Host, table: &GPT, image: &[u8], count: usize) -> bool {
     is_same_table(table, &table_after(rt, image, count))
 }
 
-// These bytes are read as the table after so many of the edits, or after one more.
+// Asserts that these bytes are read as the table after `done` edits, or one more.
 fn assert_after(rt: &impl Host, bytes: &[u8], image: &[u8], done: usize) {
     let read = read(rt, bytes);
     let is_last = is_after(rt, &read, image, done);
@@ -65,18 +65,18 @@ fn assert_after(rt: &impl Host, bytes: &[u8], image: &[u8], done: usize) {
     );
 }
 
-// The same of the bytes that a stop of the disk leaves, with all that is pending of one fate.
+// Asserts the same after a crash, with one fate for all pending writes.
 fn assert_stopped(rt: &impl Host, disk: MemoryDisk, fate: Fate, image: &[u8], done: usize) {
     let left = got(rt, stopped(disk, &[fate; 6]));
     assert_after(rt, left.bytes(), image, done);
 }
 
-// All three edits are done where no call fails.
+// Asserts that all three edits are completed exactly if no call fails.
 fn assert_done(rt: &impl Abort, done: usize, call: u64) {
     assert!(rt; (done == 3) == (call == CALLS), "call {call}");
 }
 
-// Stops the three edits after so many calls.
+// Crashes after `calls` calls.
 fn stop_after(rt: &impl Host, image: &[u8], calls: u64, fate: Fate) {
     let mut disk = fused(rt, image, calls);
     let done = commit_three(rt, &mut disk, image);
@@ -84,7 +84,7 @@ fn stop_after(rt: &impl Host, image: &[u8], calls: u64, fate: Fate) {
     assert_stopped(rt, disk, fate, image, done);
 }
 
-// Makes the three edits on a disk of which one call fails, or none, and stops it then.
+// Lets one call fail, or none, then crashes.
 fn fail_once(rt: &impl Host, image: &[u8], call: u64, fate: Fate) {
     let mut disk = failing_once(rt, image, call);
     let done = commit_three(rt, &mut disk, image);

@@ -1,5 +1,5 @@
-//! The tests of stops and failed calls: of a reading, a write, a list of edits, an MBR, and the commands of
-//! the program, also with an output that fails. It has no call of its own.
+//! Tests of crashes and failed calls: for reads, writes, lists of edits, MBRs and commands, also with a failing output.
+//! It exports nothing.
 #![tactic(auto)]
 
 #[cfg(test)]

@@ -1,4 +1,4 @@
-//! Lines of the program, and what they do.
+//! Command lines, and their effect.
 
 use crate::asserts::{Host, got};
 use gptimg_core::run;
@@ -8,8 +8,8 @@ use test_fixtures::calls::bytes_of;
 use test_fixtures::samples::disk_of;
 use test_fixtures::words::split;
 
-/// Lines that read or change a table, or write the MBR, of an image with entry 1 used and entry 3 not. The
-/// first four only read.
+/// Lines that read or change a table, or write the MBR, on an image with entry 1 used and entry 3 unused. The first
+/// four only read.
 pub(crate) const LINES: [&str; 15] = [
     "512 show",
     "auto show",
@@ -28,7 +28,7 @@ pub(crate) const LINES: [&str; 15] = [
     "auto grow",
 ];
 
-/// Does what this line asks for. Answers the status, or an error where the output failed.
+/// Runs a line. Returns the status, or an error if the output failed.
 pub(crate) fn try_line<D: Disk, W: io::Write>(
     rt: &impl Host,
     disk: &mut D,
@@ -39,25 +39,25 @@ pub(crate) fn try_line<D: Disk, W: io::Write>(
     run(rt.alloc(), &words, disk, out)
 }
 
-/// The same, with the status and what was printed.
+/// Runs a line. Returns the status and the output.
 pub(crate) fn call_line<D: Disk>(rt: &impl Host, disk: &mut D, line: &str) -> (u8, Vec<u8>) {
     let mut printed = Vec::new(rt.alloc());
     let status = got(rt, try_line(rt, disk, &mut printed, line));
     (status, printed)
 }
 
-/// The line is done.
+/// Runs a line, which must succeed.
 pub(crate) fn do_line<D: Disk>(rt: &impl Host, disk: &mut D, line: &str) {
     assert!(rt; call_line(rt, disk, line).0 == 0, "{line}");
 }
 
-/// On 100 sectors of 512 zero bytes a table is made with "Foo" from 34 to 43.
+/// Makes a table with "Foo" in 34..43 on a disk of 100 zero sectors of 512 bytes.
 pub(crate) fn make_foo<D: Disk>(rt: &impl Host, disk: &mut D) {
     do_line(rt, disk, "512 new F");
     do_line(rt, disk, "512 add 1 T U 10 first 1 Foo");
 }
 
-/// The bytes of a disk of which this was made.
+/// Returns the bytes of such a disk.
 pub(crate) fn image_with_foo(rt: &impl Host) -> Vec<u8> {
     let mut disk = got(rt, disk_of(rt.alloc(), 0, 51_200));
     make_foo(rt, &mut disk);

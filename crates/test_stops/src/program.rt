@@ -1,5 +1,4 @@
-//! Commands that are stopped, or of which one call to the disk fails: what is left is read as the table
-//! that was there or as the one that the command makes.
+//! Commands with a crash, or with one failed call of the disk. The old table or the new one must be read.
 
 use crate::asserts::{Host, copied, failing_once, fused, got, holding, read};
 use crate::case::{Case, assert_reads_one, fate_of, fates, is_same_table};
@@ -8,36 +7,35 @@ use gptman::{Fate, MemoryDisk};
 use std::process::Abort;
 use test_fixtures::calls::{bytes_of, stopped};
 
-// The bytes of this image after the line was done.
+// Returns the bytes of the image after the line ran.
 fn image_after(rt: &impl Host, image: &[u8], line: &str) -> Vec<u8> {
     let mut disk = holding(rt, image);
     do_line(rt, &mut disk, line);
     got(rt, bytes_of(rt.alloc(), &disk))
 }
 
-// This line over this image: the tables that are read before and after it.
+// Returns the case of a line on an image: the tables before and after it.
 fn case_of(rt: &impl Host, image: Vec<u8>, line: &str) -> Case {
     let old = read(rt, &image);
     let new = read(rt, &image_after(rt, &image, line));
     Case { image, old, new }
 }
 
-// These bytes are read as the old or the new table, and where the line is done as the new one.
+// Asserts that these bytes are read as the old or the new table, and as the new one if the line succeeded.
 fn assert_left(rt: &impl Host, case: &Case, bytes: &[u8], is_done: bool) {
     assert_reads_one(rt, case, bytes);
     assert!(rt; !is_done || is_same_table(&read(rt, bytes), &case.new));
 }
 
-// So are the bytes of this disk, and those that a stop leaves with all that is pending of this fate.
+// Asserts the same of this disk, and after a crash with this fate for all pending writes.
 fn assert_disk(rt: &impl Host, case: &Case, left: MemoryDisk, fate: Fate, is_done: bool) {
     assert_left(rt, case, left.bytes(), is_done);
     let after = got(rt, stopped(left, &[fate; 6]));
     assert_left(rt, case, after.bytes(), is_done);
 }
 
-// Whether a line that ended with this status was done. Where it was not, it prints that the disk failed. A
-// disk that was made longer has no backup copy at its end, so a reading that fails in the primary copy is
-// refused for both.
+// Reports whether a line succeeded. If not, it must have reported that the disk failed. A lengthened disk has no backup
+// copy at its end, so a read that fails in the primary copy reports both faults.
 fn is_done(rt: &impl Abort, status: u8, printed: &[u8]) -> bool {
     let is_named = printed == b"fault: Io\n".as_slice()
         || printed == b"fault: ReadError(Io, InvalidSignature)\n".as_slice();
@@ -45,8 +43,7 @@ fn is_done(rt: &impl Abort, status: u8, printed: &[u8]) -> bool {
     status == 0
 }
 
-// Does what the line asks for on a disk of which this call fails, and stops the disk then. Answers whether
-// the line makes that many calls.
+// Runs the line with this call failing, then crashes. Returns whether the line makes that many calls.
 fn fail_once(rt: &impl Host, case: &Case, line: &str, call: u64, fate: Fate) -> bool {
     let mut disk = failing_once(rt, &case.image, call);
     let (status, printed) = call_line(rt, &mut disk, line);
@@ -56,7 +53,7 @@ fn fail_once(rt: &impl Host, case: &Case, line: &str, call: u64, fate: Fate) -> 
     has_failed
 }
 
-// The same for each call that the line makes over this image, with each fate.
+// Does the same for each call of the line, with each fate.
 fn fail_each_call(rt: &impl Host, image: Vec<u8>, line: &str) {
     let case = case_of(rt, image, line);
     for number in 0..120 {
@@ -75,7 +72,7 @@ fn one_failed_call_of_a_command_loses_no_table(rt: HostRuntime) {
     }
 }
 
-// The image with "Foo", made 200 sectors long.
+// Returns the image with "Foo", lengthened to 200 sectors.
 fn longer_image(rt: &impl Host) -> Vec<u8> {
     let mut image = image_with_foo(rt);
     got(rt, image.resize(102_400, 0));
@@ -88,14 +85,14 @@ fn one_failed_call_of_a_grow_loses_no_table(rt: HostRuntime) {
     fail_each_call(&rt, longer_image(&rt), "auto grow");
 }
 
-// These bytes are read as the new table, or as the old one where the line is not done.
+// Asserts that these bytes are read as the new table, or as the old one if the line failed.
 fn assert_old_or_new(rt: &impl Host, case: &Case, bytes: &[u8], is_done: bool) {
     let table = read(rt, bytes);
     let is_old = !is_done && is_same_table(&table, &case.old);
     assert!(rt; is_old || is_same_table(&table, &case.new));
 }
 
-// Stops a `grow` after so many calls, with these fates. Answers whether it is done.
+// Crashes a `grow` after `calls` calls, with these fates. Returns whether it succeeded.
 fn stop_with(rt: &impl Host, case: &Case, calls: u64, fates: &[Fate]) -> bool {
     let mut disk = fused(rt, &case.image, calls);
     let is_done = call_line(rt, &mut disk, "512 grow").0 == 0;
@@ -104,8 +101,7 @@ fn stop_with(rt: &impl Host, case: &Case, calls: u64, fates: &[Fate]) -> bool {
     is_done
 }
 
-// The same with all writes lost, all kept, or all torn; and with one torn where all others are lost, or
-// kept.
+// Does the same with all pending writes lost, kept or torn, and with one torn and the others lost or kept.
 fn stop_after(rt: &impl Host, case: &Case, calls: u64) -> bool {
     let mut is_done = false;
     for number in 0..15_usize {
@@ -115,7 +111,7 @@ fn stop_after(rt: &impl Host, case: &Case, calls: u64) -> bool {
     is_done
 }
 
-// The same after no call, after one and so on, until it is done.
+// Does the same after each number of calls, until the command succeeds.
 fn stop_anywhere(rt: &impl Host, case: &Case) {
     for calls in 0..=40 {
         if stop_after(rt, case, calls) {

@@ -1,8 +1,7 @@
 //! Disks that fail while a table is read: at one call, or from one call on.
 //!
-//! A reading goes to a header and reads it, takes the length, goes to the entries and reads them in
-//! four blocks. Where the primary copy is not read, it takes the length before it goes on to the
-//! backup copy.
+//! A read of a copy makes these calls: seek to the header, read it, take the length, seek to the entries, read them in
+//! four blocks. If the primary copy is not accepted, the length is taken before the seek to the backup copy.
 
 use crate::asserts::{Host, assert_said, assert_told, failing_once, fused, got};
 use gptman::disk::faulty::FaultyDisk;
@@ -24,12 +23,12 @@ const UNSIGNED_AND_FAILED: &str =
 const REVISION_AND_FAILED: &str =
     "could not read primary header (invalid revision) nor backup header (generic I/O error)";
 
-// The image of a new table.
+// Returns the image of a new table.
 fn new_image(rt: &impl Host) -> Vec<u8> {
     got(rt, image_of_new(rt.alloc(), 0))
 }
 
-// A reading with sectors of 512, or one that finds the sector size, says this of the disk.
+// Asserts the result of a read with sectors of 512 bytes, or of one that detects the sector size.
 fn assert_read<D: Disk>(rt: &impl Host, disk: &mut D, is_found: bool, said: &str) {
     if is_found {
         assert_told(rt, &find(rt.alloc(), disk), said);
@@ -38,22 +37,21 @@ fn assert_read<D: Disk>(rt: &impl Host, disk: &mut D, is_found: bool, said: &str
     }
 }
 
-// A reading of this image says this where this call fails, and changes no byte.
+// Asserts the result if only this call fails, and that no byte changes.
 fn assert_once(rt: &impl Host, image: &[u8], call: u64, is_found: bool, said: &str) {
     let mut disk = failing_once(rt, image, call);
     assert_read(rt, &mut disk, is_found, said);
     assert!(rt; has_bytes(&disk.into_inner(), image));
 }
 
-// The same where this call and all later ones fail.
+// Asserts the same if this call and all later ones fail.
 fn assert_from(rt: &impl Host, image: &[u8], call: u64, is_found: bool, said: &str) {
     let mut disk = fused(rt, image, call);
     assert_read(rt, &mut disk, is_found, said);
     assert!(rt; has_bytes(&disk, image));
 }
 
-// Both readings say the first text where this call alone fails, and the second one where all later ones
-// fail too.
+// Asserts the result of both kinds of read: `once` if only this call fails, `from` if all later ones fail too.
 fn assert_both(rt: &impl Host, image: &[u8], call: u64, once: &str, from: &str) {
     assert_once(rt, image, call, false, once);
     assert_once(rt, image, call, true, once);
@@ -61,8 +59,8 @@ fn assert_both(rt: &impl Host, image: &[u8], call: u64, once: &str, from: &str) 
     assert_from(rt, image, call, true, from);
 }
 
-// After two calls to the primary header, which has the fault of these faults, the length is taken and the
-// backup header is gone to. The next seven calls read the backup copy.
+// Two calls read the primary header, which has the first of `faults`. Two more take the length and seek to the backup
+// header. The next seven read the backup copy.
 fn assert_fallback(rt: &impl Host, image: &[u8], call: u64, faults: &str) {
     let said = match call {
         2 | 3 => FAILED,
@@ -72,7 +70,7 @@ fn assert_fallback(rt: &impl Host, image: &[u8], call: u64, faults: &str) {
     assert_both(rt, image, call, said, if call < 2 { FAILED } else { said });
 }
 
-// The same of each call, where the byte at this place is complemented.
+// Asserts the same for each call, with the byte at `at` complemented.
 fn assert_fallbacks(rt: &impl Host, at: usize, faults: &str) {
     let mut image = new_image(rt);
     complement(&mut image, &[at]);
@@ -105,9 +103,8 @@ const BACKUP_2: &str = "4096 99/1/95 6..94 align 2, 1 Foo 6..15, 2 Bar 70..79";
 const FAILED_AND_UNSIGNED: &str =
     "could not read primary header (generic I/O error) nor backup header (invalid signature)";
 
-// What is said of the second disk where this call alone fails, and where all later ones fail too. Sectors
-// of 512 are tried first. That takes five calls, as there are no entries to go to. Those of 4096 take the
-// eight calls behind them.
+// Returns the results for the second disk if only this call fails, and if all later ones fail too. Sectors of 512 bytes
+// are tried first, in five calls, as no entries are read. The next eight calls try 4096.
 fn said_of_second(call: u64) -> (&'static str, &'static str) {
     match call {
         0 | 1 => (FAILED_AND_UNSIGNED, FAILED),
@@ -118,14 +115,14 @@ fn said_of_second(call: u64) -> (&'static str, &'static str) {
     }
 }
 
-// The second disk is found so.
+// Asserts these results.
 fn assert_found(rt: &impl Host, image: &[u8], call: u64) {
     let (once, from) = said_of_second(call);
     assert_once(rt, image, call, true, once);
     assert_from(rt, image, call, true, from);
 }
 
-// The image of the second disk.
+// Returns the image of the second disk.
 fn second_image(rt: &impl Host) -> Vec<u8> {
     let table = got(rt, disk_2(rt.alloc()));
     got(rt, image_with(rt.alloc(), &table))
@@ -139,15 +136,15 @@ fn a_failed_call_finds_no_other_sector_size(rt: HostRuntime) {
     }
 }
 
-// More calls than any reading makes.
+// More calls than any read makes.
 const MANY: u64 = 1000;
 
-// The disk, which began with many calls, has served so many.
+// Asserts that the disk, which had `MANY` calls left, has served this number.
 fn assert_calls(rt: &impl Abort, disk: &FaultyDisk, calls: u64) {
     assert!(rt; disk.calls_left() == Some(MANY - calls.min(MANY)));
 }
 
-// The header of a new table for 100 sectors of 512, but that it counts so many entries.
+// Returns the header of a new table for 100 sectors of 512 bytes, with this number of entries.
 fn header_counting(rt: &impl Host, count: u32) -> GPTHeader {
     GPTHeader {
         number_of_partition_entries: count,
@@ -155,7 +152,7 @@ fn header_counting(rt: &impl Host, count: u32) -> GPTHeader {
     }
 }
 
-// So many entries are read of the image by so many calls, and where it is one they are not read.
+// Asserts that reading `count` entries takes this number of calls. If it is one call, the read fails.
 fn assert_entries(rt: &impl Host, image: &[u8], count: u32, calls: u64) {
     let mut disk = failing_once(rt, image, MANY);
     let header = header_counting(rt, count);
@@ -166,8 +163,8 @@ fn assert_entries(rt: &impl Host, image: &[u8], count: u32, calls: u64) {
     }
 }
 
-// There are 392 entries of 128 bytes from byte 1024 to byte 51,200. Their blocks of 32 are read by 13
-// calls, after the two that take the length and go to the first of them.
+// There are 392 entries of 128 bytes from byte 1024 to byte 51,200. Two calls take the length and seek to the entries,
+// and 13 read them in blocks of 32.
 #[test]
 fn no_entry_is_read_where_they_pass_the_end(rt: HostRuntime) {
     let image = new_image(&rt);
@@ -176,14 +173,14 @@ fn no_entry_is_read_where_they_pass_the_end(rt: HostRuntime) {
     }
 }
 
-// The image is read so, by so many calls.
+// Asserts the result of a read of the image, and the number of calls.
 fn assert_calls_of(rt: &impl Host, image: &[u8], said: &str, calls: u64) {
     let mut disk = failing_once(rt, image, MANY);
     assert_read(rt, &mut disk, false, said);
     assert_calls(rt, &disk, calls);
 }
 
-// Puts a header into the image that counts so many entries, with its checksum.
+// Puts a header with this number of entries and a right checksum into the image.
 fn put_count(rt: &impl Host, image: &mut [u8], count: u32) {
     let mut header = header_counting(rt, count);
     assert!(rt; header.header_size == 92);
@@ -191,8 +188,8 @@ fn put_count(rt: &impl Host, image: &mut [u8], count: u32) {
     got(rt, put(image, 512, &header.encode()));
 }
 
-// The primary header takes two calls, and its entries one where they pass the end. The fallback takes
-// the length and goes to the backup copy, which takes seven.
+// Two calls read the primary header, and one finds that its entries pass the end. Two take the length and seek to the
+// backup copy, and seven read it.
 #[test]
 fn a_count_past_the_end_does_not_lose_the_table(rt: HostRuntime) {
     let mut image = new_image(&rt);

@@ -1,5 +1,5 @@
-//! A write that is stopped or fails at any call: what is left is read as the table that was there or
-//! as the one that was being written, and so is each copy alone that can be read.
+//! Writes with a crash or failure at any call. The old table or the new one must be read, also from each readable copy
+//! by itself.
 
 use crate::asserts::{Host, assert_reads, assert_told, copied, failing_once, fused, got, read};
 use crate::case::{Case, HEADERS, assert_reads_one, fate_of, fates, is_same_table, read_without};
@@ -9,11 +9,10 @@ use test_fixtures::calls::{apply, copy, has_bytes, stopped};
 use test_fixtures::samples::{backup_form, disk_1, image_with, put, put_entry};
 use test_fixtures::tables::write;
 
-// How many calls a write of 128 entries makes.
+// The number of calls of a write of 128 entries.
 const CALLS: u64 = 17;
 
-// The image that both copies of the table stand on, with the header at this byte zeroed, or none where it
-// is 0.
+// Returns an image with both copies of the table. The header at byte `zeroed` is zeroed, unless `zeroed` is 0.
 fn image(rt: &impl Host, zeroed: usize) -> Vec<u8> {
     let table = got(rt, disk_1(rt.alloc()));
     let mut image = got(rt, image_with(rt.alloc(), &table));
@@ -23,14 +22,14 @@ fn image(rt: &impl Host, zeroed: usize) -> Vec<u8> {
     image
 }
 
-// The old table with one entry more.
+// Returns the old table with one more entry.
 fn with_one_more(rt: &impl Host, old: &GPT) -> GPT {
     let mut new = got(rt, copy(old));
     got(rt, put_entry(rt.alloc(), &mut new, 3, ("Baz", 3), (54, 60)));
     new
 }
 
-// The write of one entry more over that image.
+// Returns the case that writes one more entry to that image.
 fn one_more(rt: &impl Host, zeroed: usize) -> Case {
     let image = image(rt, zeroed);
     let old = read(rt, &image);
@@ -38,7 +37,7 @@ fn one_more(rt: &impl Host, zeroed: usize) -> Case {
     Case { image, old, new }
 }
 
-// Whether the table could be written. It is not refused but for a failure of the disk.
+// Reports whether the table could be written. The only permitted error is a failure of the disk.
 fn is_written<D: Disk>(rt: &impl Abort, disk: &mut D, table: &GPT) -> bool {
     let mut table = got(rt, copy(table));
     let outcome = write(&mut table, disk);
@@ -46,7 +45,7 @@ fn is_written<D: Disk>(rt: &impl Abort, disk: &mut D, table: &GPT) -> bool {
     outcome.is_ok()
 }
 
-// What is left of the write that is stopped after so many calls, with these fates.
+// Returns the disk after a crash of the write after `calls` calls, with these fates.
 fn left_of(rt: &impl Host, case: &Case, calls: u64, fates: &[Fate]) -> MemoryDisk {
     let mut disk = fused(rt, &case.image, calls);
     let is_done = is_written(rt, &mut disk, &case.new);
@@ -55,14 +54,14 @@ fn left_of(rt: &impl Host, case: &Case, calls: u64, fates: &[Fate]) -> MemoryDis
     got(rt, stopped(disk, fates))
 }
 
-// Stops the write after so many calls, with these fates.
+// Crashes the write after `calls` calls, with these fates.
 fn stop_with(rt: &impl Host, case: &Case, calls: u64, fates: &[Fate]) {
     let left = left_of(rt, case, calls, fates);
     assert_reads_one(rt, case, left.bytes());
 }
 
-// Stops the write after so many calls, with all fates lost, all kept, or all torn; and with one torn
-// where all others are lost, or kept.
+// Crashes the write after `calls` calls, with all pending writes lost, kept or torn, and with one torn and the others
+// lost or kept.
 fn stop_after(rt: &impl Host, case: &Case, calls: u64) {
     for number in 0..15_usize {
         let all = fate_of(number as u64 / 7);
@@ -70,14 +69,14 @@ fn stop_after(rt: &impl Host, case: &Case, calls: u64) {
     }
 }
 
-// The same after each number of calls, until the write is done.
+// Does the same after each number of calls, until the write succeeds.
 fn stop_anywhere(rt: &impl Host, case: &Case) {
     for calls in 0..=CALLS {
         stop_after(rt, case, calls);
     }
 }
 
-// The same of a value in backup form.
+// Does the same with a value in backup form.
 fn stop_in_backup_form(rt: &impl Host) {
     let mut case = one_more(rt, 0);
     case.new.header = backup_form(&case.new.header);
@@ -92,13 +91,13 @@ fn good_copies_survive_a_stop(rt: HostRuntime) {
     stop_in_backup_form(&rt);
 }
 
-// What a stop after so many calls leaves is read so.
+// Asserts what is read after a crash after `calls` calls.
 fn assert_stop(rt: &impl Host, case: &Case, calls: u64, fates: &[Fate], said: &str) {
     assert_reads(rt, left_of(rt, case, calls, fates).bytes(), said);
 }
 
-// What is read of the table after a stop where one write is pending, the header of the other copy, which
-// is torn; and of one where the other copy is synced, and nothing else is pending.
+// Asserts what is read after a crash that tears the header of the other copy, the only pending write, and after one
+// when the other copy is synced and nothing is pending.
 fn assert_order(rt: &impl Host, zeroed: usize, torn: &str, synced: &str) {
     let case = one_more(rt, zeroed);
     assert_stop(rt, &case, 3, &[Fate::Garbage(7)], torn);
@@ -118,7 +117,7 @@ fn the_other_copy_is_written_first(rt: HostRuntime) {
     assert_order(&rt, 50_688, OLD, OLD);
 }
 
-// After a write each copy alone is the new table.
+// Asserts that each copy by itself is the new table after a write.
 fn assert_each_new(rt: &impl Host, case: &Case) {
     let done = left_of(rt, case, 32, &[]);
     for header in HEADERS {
@@ -134,15 +133,14 @@ fn after_ok_each_copy_alone_is_the_new_table(rt: HostRuntime) {
     }
 }
 
-// A stop of the disk, with all that is pending of this fate, leaves one of the two tables, and so does the
-// disk without a stop.
+// Asserts that one of the two tables is read, with and without a crash.
 fn assert_left(rt: &impl Host, case: &Case, left: MemoryDisk, fate: Fate) {
     assert_reads_one(rt, case, left.bytes());
     let after = got(rt, stopped(left, &[fate; 6]));
     assert_reads_one(rt, case, after.bytes());
 }
 
-// Writes the new table on a disk of which one call fails, or none, and stops it then.
+// Writes the new table with one call failing, or none, then crashes.
 fn fail_once(rt: &impl Host, case: &Case, call: u64, fate: Fate) {
     let mut disk = failing_once(rt, &case.image, call);
     let is_done = is_written(rt, &mut disk, &case.new);
@@ -150,14 +148,14 @@ fn fail_once(rt: &impl Host, case: &Case, call: u64, fate: Fate) {
     assert_left(rt, case, disk.into_inner(), fate);
 }
 
-// The same of each call, with each fate.
+// Does the same for each call and each fate.
 fn fail_anywhere(rt: &impl Host, case: &Case) {
     for number in 0..3 * (CALLS + 1) {
         fail_once(rt, case, number / 3, fate_of(number));
     }
 }
 
-// A call that fails once is answered too, though all later ones are served.
+// A single failed call is reported, although all later calls succeed.
 #[test]
 fn a_write_of_which_one_call_fails_is_refused(rt: HostRuntime) {
     for zeroed in [0, 512, 50_688] {
@@ -165,7 +163,7 @@ fn a_write_of_which_one_call_fails_is_refused(rt: HostRuntime) {
     }
 }
 
-// The write of the image's table with this disk GUID over it.
+// Returns the case that changes the disk GUID of the image.
 fn with_guid(rt: &impl Host, image: Vec<u8>, byte: u8) -> Case {
     let old = read(rt, &image);
     let mut new = got(rt, copy(&old));
@@ -173,8 +171,7 @@ fn with_guid(rt: &impl Host, image: Vec<u8>, byte: u8) -> Case {
     Case { image, old, new }
 }
 
-// One round of a life: the table is read, gets this disk GUID, and its write is stopped after so many
-// calls, with all that is pending torn.
+// Reads the table, changes its disk GUID, and crashes the write after `round` calls, with all pending writes torn.
 fn live(rt: &impl Host, image: Vec<u8>, round: u8) -> Vec<u8> {
     let case = with_guid(rt, image, round);
     let left = left_of(rt, &case, u64::from(round), &[Fate::Garbage(7); 6]);
@@ -182,7 +179,7 @@ fn live(rt: &impl Host, image: Vec<u8>, round: u8) -> Vec<u8> {
     copied(rt, left.bytes())
 }
 
-// The last table of such a life has the last GUID.
+// Asserts that the last table has the last GUID.
 fn assert_last(rt: &impl Host, image: &[u8]) {
     let last = read(rt, image);
     assert!(rt; last.header.disk_guid == [19; 16]);
