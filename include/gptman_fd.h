@@ -1,10 +1,10 @@
-/* gptman_fd.h: the calls of gptman.h over a file descriptor, for those who have one. This is not proved.
+/* gptman_fd.h: the calls of gptman.h over a file descriptor. This is not proved.
  *
- * Each call answers 0, a number of gptman.h, or GPTMAN_IO where the system refused, which errno tells. It reads the
- * length and the ends of the disk anew, and a change first syncs the disk, so that it is planned from what is stored.
- * So after a call that failed the next one may be made over the same ends. The position of the file is moved.
+ * Each call returns 0, a number of gptman.h, or GPTMAN_IO with errno if the system refused. It reads the length and the
+ * ends of the disk again, and a change syncs the disk first, so that it is planned from stored data. After a failed
+ * call the same ends can be used again. The position of the file changes.
  *
- * Under -std=c99 and the like define _XOPEN_SOURCE as 700 before the first header, for pread and pwrite. */
+ * With -std=c99 and the like, define _XOPEN_SOURCE as 700 before the first header, for pread and pwrite. */
 #ifndef GPTMAN_FD_H
 #define GPTMAN_FD_H
 
@@ -16,15 +16,15 @@
 
 #include "gptman.h"
 
-/* An end is made no longer than this, as a table that asks for more is none that a system reads. */
+/* The longest end in bytes. No system reads a table that needs more. */
 #define GPTMAN_MOST_BYTES (1u << 28)
 
-/* A call asks no more often than this for longer ends or arrays: a plan for bytes at most nine times, and once for
- * room. Most calls ask twice. */
+/* The most rounds in which a call extends its ends or arrays: a plan needs bytes at most nine times, and room once.
+ * Most calls need two rounds. */
 enum { GPTMAN_MOST_ROUNDS = 12 };
 
-/* The ends of a disk. `size` and `sector_size` are in bytes. `flags` is 0 once they are open; a caller who means to
- * write over a disk of DOS sets it to GPTMAN_OVER_DOS. */
+/* The ends of a disk. `size` and `sector_size` are in bytes. Opening sets `flags` to 0; to overwrite a DOS disk, set
+ * it to GPTMAN_OVER_DOS. */
 typedef struct gptman_ends {
     int fd;
     uint32_t flags;
@@ -33,7 +33,7 @@ typedef struct gptman_ends {
     size_t head_length, tail_length;
 } gptman_ends;
 
-/* Frees the ends, which are empty then. It keeps errno, and leaves the file open. */
+/* Frees the ends, which are empty afterwards. errno is unchanged, and the file stays open. */
 static inline void gptman_ends_free(gptman_ends *ends) {
     int kept = errno;
     free(ends->head);
@@ -43,7 +43,7 @@ static inline void gptman_ends_free(gptman_ends *ends) {
     errno = kept;
 }
 
-/* Reads `length` bytes from byte `at` on. 0, or -1. */
+/* Reads `length` bytes from byte `at` on. Returns 0, or -1. */
 static inline int gptman_pread_all(int fd, uint8_t *to, uint64_t length, uint64_t at) {
     while (length > 0) {
         ssize_t n = pread(fd, to, (size_t)length, (off_t)at);
@@ -55,8 +55,8 @@ static inline int gptman_pread_all(int fd, uint8_t *to, uint64_t length, uint64_
     return 0;
 }
 
-/* Takes so many first and last bytes of the disk, or all of it as its first where these would meet. Where that fails
- * the ends are empty. */
+/* Reads the first and last bytes of the disk, or all of it as the first ones if they would meet. After an error the
+ * ends are empty. */
 static inline uint32_t gptman_ends_take(gptman_ends *ends, uint64_t first, uint64_t last) {
     uint64_t size = ends->size;
     if (first >= size || last >= size - first) first = size, last = 0;
@@ -73,8 +73,8 @@ static inline uint32_t gptman_ends_take(gptman_ends *ends, uint64_t first, uint6
     return answer;
 }
 
-/* Takes the ends anew, as long as they are, and at least those that most tables need. The length of a block device is
- * that of its end. Where that fails the ends are empty. */
+/* Reads the ends again, at their present length, or that which most tables need if it is longer. The length of the
+ * disk is the position of its end, which also works for a block device. After an error the ends are empty. */
 static inline uint32_t gptman_ends_renew(gptman_ends *ends) {
     uint64_t sector = ends->sector_size, first = 2 * sector + 16384, last = sector + 16384;
     if (ends->head_length > first) first = ends->head_length;
@@ -87,7 +87,7 @@ static inline uint32_t gptman_ends_renew(gptman_ends *ends) {
     return gptman_ends_take(ends, first, last);
 }
 
-/* Begins with the ends that most tables need, and takes no lock. A sector has 512, 1024, 2048 or 4096 bytes. */
+/* Opens the ends at the length that most tables need, without a lock. A sector has 512, 1024, 2048 or 4096 bytes. */
 static inline uint32_t gptman_ends_open_unlocked(gptman_ends *ends, int fd, uint64_t sector_size) {
     ends->fd = fd, ends->flags = 0, ends->size = 0, ends->sector_size = sector_size;
     ends->head = ends->tail = NULL;
@@ -95,9 +95,9 @@ static inline uint32_t gptman_ends_open_unlocked(gptman_ends *ends, int fd, uint
     return gptman_ends_renew(ends);
 }
 
-/* The same, but a file that is open for writing is locked before: this waits until no other program holds the advisory
- * lock of flock on it, and goes on without where the file system has none. The lock stands until the file is closed,
- * so that nobody who takes it writes between a reading and the change that is made of it. */
+/* Opens the ends, and first locks a file that is open for writing. This waits until no other program holds the
+ * advisory lock of flock, and goes on without a lock if the file system has none. The lock is held until the file is
+ * closed, so that no other program that takes it writes between a read and the change that depends on it. */
 static inline uint32_t gptman_ends_open(gptman_ends *ends, int fd, uint64_t sector_size) {
     int mode = fcntl(fd, F_GETFL);
     if (mode != -1 && (mode & O_ACCMODE) != O_RDONLY) {
@@ -106,7 +106,7 @@ static inline uint32_t gptman_ends_open(gptman_ends *ends, int fd, uint64_t sect
     return gptman_ends_open_unlocked(ends, fd, sector_size);
 }
 
-/* Makes the end longer that is nearer to the bytes that are lacking. These are on the disk, and in neither end. */
+/* Extends the end that is nearer to the missing bytes. These are on the disk, and in neither end. */
 static inline uint32_t gptman_ends_add(gptman_ends *ends, const gptman_needed *needed) {
     uint64_t from = needed->from, size = ends->size;
     if (from > size || needed->length > size - from) return GPTMAN_FD_ASKS_AGAIN;
@@ -117,7 +117,7 @@ static inline uint32_t gptman_ends_add(gptman_ends *ends, const gptman_needed *n
                          : gptman_ends_take(ends, ends->head_length, last);
 }
 
-/* Reads the table. `*partitions` is an array of table->entry_count elements, for free(); null where it is not read. */
+/* Reads the table. `*partitions` is an array of table->entry_count elements, for free(), or null after an error. */
 static inline uint32_t gptman_read_fd(gptman_ends *ends, gptman_table *table, gptman_partition **partitions) {
     size_t count = 128;
     gptman_needed needed = {0, 0, 0, 0};
@@ -144,7 +144,7 @@ static inline uint32_t gptman_read_fd(gptman_ends *ends, gptman_table *table, gp
     return answer;
 }
 
-/* Tells of both copies. */
+/* Reports the state of both copies. */
 static inline uint32_t gptman_check_fd(gptman_ends *ends, gptman_copies *copies) {
     gptman_needed needed = {0, 0, 0, 0};
     uint32_t answer = gptman_ends_renew(ends);
@@ -158,7 +158,7 @@ static inline uint32_t gptman_check_fd(gptman_ends *ends, gptman_copies *copies)
     return answer;
 }
 
-/* Makes the steps in their order, and stops at the first that fails. */
+/* Carries out the steps in order, up to the first that fails. */
 static inline uint32_t gptman_make_steps(int fd, const gptman_step *steps, uint64_t count, const uint8_t *bytes) {
     for (uint64_t i = 0; i < count; i++) {
         const gptman_step *step = &steps[i];
@@ -175,8 +175,7 @@ static inline uint32_t gptman_make_steps(int fd, const gptman_step *steps, uint6
     return GPTMAN_OK;
 }
 
-/* What is to be written: a new table, or the one that the disk holds, fitted to its length or with these for its
- * entries. */
+/* The table to write: a new one, or the one on the disk, fitted to its length or with these entries. */
 typedef struct gptman_wanted {
     const gptman_table *table;
     int fits;
@@ -184,7 +183,7 @@ typedef struct gptman_wanted {
     size_t count;
 } gptman_wanted;
 
-/* Plans it with arrays of so much room. */
+/* Plans the write with arrays of this size. */
 static inline uint32_t gptman_plan_fd(const gptman_ends *ends, const gptman_wanted *wanted, gptman_step *steps,
                                       size_t step_count, uint8_t *bytes, size_t byte_count, gptman_needed *needed) {
     if (wanted->table != NULL) {
@@ -200,15 +199,15 @@ static inline uint32_t gptman_plan_fd(const gptman_ends *ends, const gptman_want
                         ends->flags);
 }
 
-/* Begins a change: what was written before is synced, and then read. */
+/* Begins a change: syncs earlier writes, then reads the ends. */
 static inline uint32_t gptman_begin_fd(gptman_ends *ends) {
     if (fsync(ends->fd) == 0) return gptman_ends_renew(ends);
     gptman_ends_free(ends);
     return GPTMAN_IO;
 }
 
-/* Refuses a table of so many entries whose last usable sector is lower than usual, unless the backup entries stand
- * directly behind it: a write puts them there, over what another program may have there. */
+/* Refuses a table whose last usable sector is lower than usual, unless the backup entries are directly after it. A
+ * write puts them there, and would overwrite data of another program. */
 static inline uint32_t gptman_refuse_gap_fd(const gptman_ends *ends, size_t count) {
     gptman_needed needed = {0, 0, 0, 0};
     gptman_copies copies;
@@ -229,7 +228,7 @@ static inline uint32_t gptman_refuse_gap_fd(const gptman_ends *ends, size_t coun
     return answer;
 }
 
-/* Makes the steps of a change, and reads the ends anew. These are empty where a step failed, and where they cannot be
+/* Carries out the steps of a change, and reads the ends again. They are empty if a step failed, or if they cannot be
  * read, which does not undo the change. */
 static inline uint32_t gptman_end_fd(gptman_ends *ends, const gptman_step *steps, uint64_t count,
                                      const uint8_t *bytes) {
@@ -239,7 +238,7 @@ static inline uint32_t gptman_end_fd(gptman_ends *ends, const gptman_step *steps
     return answer;
 }
 
-/* Writes it, and reads the ends anew. */
+/* Plans and writes the table, and reads the ends again. */
 static inline uint32_t gptman_make_fd(gptman_ends *ends, const gptman_wanted *wanted) {
     gptman_needed needed = {0, 0, 0, 0};
     size_t step_count = 0, byte_count = 0;
@@ -269,19 +268,19 @@ static inline uint32_t gptman_make_fd(gptman_ends *ends, const gptman_wanted *wa
     return answer;
 }
 
-/* Writes the table that the disk holds, with these for its entries. */
+/* Writes the table on the disk with these entries. */
 static inline uint32_t gptman_write_fd(gptman_ends *ends, const gptman_partition *partitions, size_t count) {
     gptman_wanted wanted = {NULL, 0, partitions, count};
     return gptman_make_fd(ends, &wanted);
 }
 
-/* Writes the table that the disk holds, fitted to the length that the disk has now. */
+/* Writes the table on the disk, fitted to the present length of the disk. */
 static inline uint32_t gptman_fit_fd(gptman_ends *ends) {
     gptman_wanted wanted = {NULL, 1, NULL, 0};
     return gptman_make_fd(ends, &wanted);
 }
 
-/* Writes a new table of so many unused entries. */
+/* Writes a new table of `entry_count` unused entries. */
 static inline uint32_t gptman_new_fd(gptman_ends *ends, const uint8_t *disk_guid, uint32_t entry_count) {
     gptman_table table = {{0}, 0, 0, 0, 0, 0};
     for (int i = 0; i < 16; i++) table.disk_guid[i] = disk_guid[i];
@@ -290,7 +289,8 @@ static inline uint32_t gptman_new_fd(gptman_ends *ends, const uint8_t *disk_guid
     return gptman_make_fd(ends, &wanted);
 }
 
-/* Answers 0, or GPTMAN_DOS_DISK where the first sector has partitions of its own, and no flag lets them be lost. */
+/* Returns 0, or GPTMAN_DOS_DISK if the first sector has partitions of its own and the flag does not permit their
+ * loss. */
 static inline uint32_t gptman_refuse_dos_fd(gptman_ends *ends) {
     gptman_needed needed = {0, 0, 0, 0};
     uint32_t answer = GPTMAN_OK;
@@ -304,7 +304,7 @@ static inline uint32_t gptman_refuse_dos_fd(gptman_ends *ends) {
     return answer;
 }
 
-/* Writes a protective MBR and syncs it, and reads the ends anew. */
+/* Writes and syncs a protective MBR, and reads the ends again. */
 static inline uint32_t gptman_mbr_fd(gptman_ends *ends, int bootable) {
     static const gptman_step steps[] = {{GPTMAN_WRITE, GPTMAN_MBR_START, GPTMAN_MBR_LENGTH, 0},
                                         {GPTMAN_SYNC, 0, 0, 0}};
