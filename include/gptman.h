@@ -83,9 +83,6 @@ enum {
     GPTMAN_OVERFLOW = 14,
     GPTMAN_OUT_OF_MEMORY = 15,
     GPTMAN_INVALID_PARTITION_ENTRY_SIZE = 16,
-    GPTMAN_LACKS_BYTES = 17,  /* neither end has all of needed->length bytes from needed->from on */
-    GPTMAN_LACKS_ROOM = 18,   /* an array is too short */
-    GPTMAN_BAD_ARGUMENT = 19,
     GPTMAN_OTHER_LENGTH = 100, /* the table was made for a disk of another length; gptman_fit fits it */
     GPTMAN_OTHER_LAYOUT = 101, /* the table or the copy that is read does not have the layout of docs/FORMAT.md */
     GPTMAN_DOS_DISK = 102,     /* the first sector has partitions of its own */
