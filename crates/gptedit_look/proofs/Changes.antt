@@ -1,4 +1,4 @@
--- What became of an MBR.
+-- The change of an MBR.
 use Rattle.std.proofs.Common.{◌≡◌, true, false, Bool, ◌≤◌, ◌∙◌, ℕ, List, max, sym, subst, Result, Ok, Err}
 use Rattle.std.specs.Prelude.{OnOk}
 use Rattle.std.proofs.lemmas.Bool.{false≢true}
@@ -15,7 +15,7 @@ pub on_ok_both : {T E P Q R : Type 0} → (r : Result T E) → OnOk r P → OnOk
 on_ok_both (Ok x) p q f = f p q
 on_ok_both (Err e) p q f = tt
 
--- in a dry run
+-- a dry run
 pub change_dry : (may is_dry : Bool) (ss : ℕ) (plan : Plan) (old new : DiskState) → 512 ≤ old.size → is_dry ≡ true
     → IsPlan may (sectors_of old ss) (first_bytes old) plan → Reads old new → IsChange may is_dry ss (change_of plan) old new
 change_dry may is_dry ss Leave old new room dry planned reads = reads
@@ -28,7 +28,7 @@ change_dry may is_dry ss (Mend misfit) old new room dry planned reads = (
 )
 change_dry may is_dry ss Make old new room dry planned reads = record { vacant = planned.0; may = planned.1; made = λ no. absurd (false≢true (sym no ∙ dry)) }
 
--- what was set since a moment before which was only read
+-- reads before the entry was set
 set_since : (i n m : ℕ) (old mid new : DiskState) → mid.view ≡ old.view → n ≡ m → IsSet i n mid new → IsSet i m old new
 set_since i n m old mid new view same set = record {
   bytes = subst (λ (x : ℕ). HasLength i x old.view new.view) same (subst (λ (b : List ℕ). HasLength i n b new.view) view set.bytes);
@@ -41,7 +41,7 @@ stored_since ss old mid new view size stored = record {
   synced = stored.synced;
 }
 
--- and where it is done
+-- the plan is carried out
 pub change_done : (may is_dry : Bool) (ss : ℕ) (plan : Plan) (old mid new : DiskState) → 512 ≤ old.size → Reads old mid → mid.view ≡ old.view
     → IsPlan may (sectors_of old ss) (first_bytes old) plan → IsDone plan (max ss 1) mid new → IsChange may is_dry ss (change_of plan) old new
 change_done may is_dry ss Leave old mid new room reads view planned done = both_read reads done
@@ -55,7 +55,7 @@ change_done may is_dry ss (Mend misfit) old mid new room reads view planned done
 change_done may is_dry ss Make old mid new room reads view planned done =
     record { vacant = planned.0; may = planned.1; made = λ no. stored_since (max ss 1) old mid new view reads.keeps.size done }
 
--- a plan for the bytes that were read, as one for those on the disk
+-- a plan for the bytes that were read holds for the disk
 pub plan_at : (may : Bool) (ss n : ℕ) (b : List ℕ) (plan : Plan) (disk : DiskState) → b ≡ first_bytes disk → n ≡ sectors_of disk ss
     → IsPlan may n b plan → IsPlan may (sectors_of disk ss) (first_bytes disk) plan
 plan_at may ss n b plan disk bytes sectors planned =

@@ -23,7 +23,7 @@ use Rattle.gptedit_look.specs.declared.signatures.Signature.{Signature}
 use Rattle.gptedit_look.specs.declared.zeros.Zeroed.{Zeroed}
 use Rattle.gptedit_look.proofs.Spared.{in_or_out}
 
--- one range more
+-- adding one range
 pub inside_push : (rs : List Zeroed) (r : Zeroed) (k : ℕ) → Inside (ranges_in (rs ++ r ∷ [])) k ↔ (Inside (ranges_in rs) k ⊎ IsIn r.start r.length k)
 inside_push [] r k = (λ h. ⊎_elim (λ x. inr x) (λ no. absurd no) h, λ h. ⊎_elim (λ no. absurd no) (λ x. inl x) h)
 inside_push (s ∷ rs) r k =
@@ -42,11 +42,11 @@ adds_range rs new start n r at long is =
       all = λ k fits h. (inside_push rs r k).1 (inr (back k h));
     })
 
--- nothing
+-- adding nothing
 pub adds_none : (P : ℕ → Type 0) (rs : List Zeroed) → ((k : ℕ) → k < 18446744073709551616 → ¬ P k) → Adds P rs rs
 adds_none P rs none = record { only = λ k h. inl h; kept = λ k h. h; all = λ k fits h. absurd (none k fits h) }
 
--- one after another
+-- adding two sets of bytes
 pub adds_then : (P Q : ℕ → Type 0) (a b c : List Zeroed) → Adds P a b → Adds Q b c → Adds (λ k. P k ⊎ Q k) a c
 adds_then P Q a b c ab bc = record {
   only = λ k h. ⊎_elim (λ x. ⊎_elim (λ y. inl y) (λ y. inr (inl y)) (ab.only k x)) (λ x. inr (inr x)) (bc.only k h);
@@ -54,7 +54,7 @@ adds_then P Q a b c ab bc = record {
   all = λ k fits h. ⊎_elim (λ x. bc.kept k (ab.all k fits x)) (λ x. bc.all k fits x) h;
 }
 
--- the same said otherwise
+-- the same for equal sets of bytes
 pub adds_as : (P Q : ℕ → Type 0) (a b : List Zeroed) → ((k : ℕ) → P k → Q k) → ((k : ℕ) → Q k → P k) → Adds P a b → Adds Q a b
 adds_as P Q a b to back ab = record {
   only = λ k h. ⊎_elim (λ x. inl x) (λ x. inr (to k x)) (ab.only k h);
@@ -62,7 +62,7 @@ adds_as P Q a b to back ab = record {
   all = λ k fits h. ab.all k fits (back k h);
 }
 
--- what is in the rest of a list is in the list
+-- a signature in the rest of a list is in the list
 pub signature_drop : (i : ℕ) (signatures : List Signature) (k : ℕ) → IsOfSignature k (drop i signatures) → IsOfSignature k signatures
 signature_drop zero signatures k h = h
 signature_drop (suc i) [] k h = h
@@ -73,7 +73,7 @@ outside_drop zero rs k out = out
 outside_drop (suc i) [] k out = out
 outside_drop (suc i) (r ∷ rs) k out = outside_drop i rs k out.1
 
--- one range of a list lies in the list
+-- a range of a list is within the list
 pub within_all : (i : ℕ) (rs more : List Zeroed) (r : Zeroed) → drop i rs ≡ r ∷ more → Within ((r.start, r.length) ∷ []) (ranges_in rs)
 within_all i rs more r is = record {
   covers = λ k out.
@@ -81,11 +81,11 @@ within_all i rs more r is = record {
       (rest.0, tt);
 }
 
--- where a range was set to zeros, what was zero is zero
+-- zeros stay zero when a range is zeroed
 pub zero_stays : (start n : ℕ) (a b : List ℕ) → AgreesOutside ((start, n) ∷ []) a b → AreZeros start n b → (k : ℕ) → get_or a k 0 ≡ 0 → get_or b k 0 ≡ 0
 zero_stays start n a b agrees zeros k was = ⊎_elim (λ here. zeros k here) (λ out. agrees.same k (out, tt) ∙ was) (in_or_out start n k)
 
--- each range before i is set to zeros
+-- each range before i is zeroed
 abbrev pub AreSet : List Zeroed → List Zeroed → List ℕ → Type 0
 AreSet rs rest b = (k : ℕ) → Inside (ranges_in rs) k → Inside (ranges_in rest) k ⊎ (get_or b k 0 ≡ 0)
 
@@ -97,18 +97,18 @@ set_more rs more rest r a b is agrees zeros set k inside =
     ⊎_elim (λ x. inr (zeros k x)) (λ x. inl x) there)
     (λ was. inr (zero_stays r.start r.length a b agrees zeros k was)) (set k inside)
 
--- so many zeros
+-- m zeros
 abbrev pub zeros : ℕ → List ℕ
 zeros m = replicate m 0
 
--- the first of many
+-- the first n of m zeros are zero
 pub zeros_are : (n m k : ℕ) → get_or (take n (zeros m)) k 0 ≡ 0
 zeros_are zero m k = refl
 zeros_are (suc n) zero k = refl
 zeros_are (suc n) (suc m) zero = refl
 zeros_are (suc n) (suc m) (suc k) = zeros_are n m k
 
--- zeros that were laid over bytes
+-- zeros written over bytes
 pub zeros_laid : (old new bytes : List ℕ) (position at n : ℕ) → position ≡ at → length bytes ≡ n → at + n ≤ length old → ((k : ℕ) → get_or bytes k 0 ≡ 0)
     → new ≡ overlay old position bytes → AreZeros at n new
 zeros_laid old new bytes position at n is long fits zeros laid k here =
@@ -117,13 +117,13 @@ zeros_laid old new bytes position at n is long fits zeros laid k here =
     let high : k < position + length bytes = omega (arith, is, long, here.1) in
     ap (λ (b : List ℕ). get_or b k 0) laid ∙ overlay_inside old position bytes room k low high ∙ zeros (k - position)
 
--- one block more
+-- one more block is zero
 pub zeros_more : (start at n : ℕ) (a b : List ℕ) → AgreesOutside ((at, n) ∷ []) a b → AreZeros at n b
     → ((k : ℕ) → start ≤ k → k < at → get_or a k 0 ≡ 0) → (k : ℕ) → start ≤ k → k < at + n → get_or b k 0 ≡ 0
 zeros_more start at n a b agrees zeros before k from below =
     ⊎_elim (λ (lt : k < at). agrees.same k (inl lt, tt) ∙ before k from lt) (λ (ge : at ≤ k). zeros k (ge, below)) (cases_lt k at)
 
--- all of them, as far as the disk goes
+-- all bytes are zero, up to the end of the disk
 pub zeros_all : (start n at end size : ℕ) (b : List ℕ) → length b ≡ size → end ≤ at → ((end ≡ size) ⊎ (end ≡ start + n)) ⊎ (size ≤ start)
     → ((k : ℕ) → start ≤ k → k < at → get_or b k 0 ≡ 0) → AreZeros start n b
 zeros_all start n at end size b long done ends before k here =
@@ -132,13 +132,13 @@ zeros_all start n at end size b long done ends before k here =
     (λ far. omega (arith, long, far, here.0)) ends in
     get_or_past b k 0 past) (cases_lt k at)
 
--- entries that fill so many sectors end before a sector where these are the last before it
+-- entries of this many sectors, right before a sector, end before it
 pub ends_before : (sector first n ss sectors : ℕ) → n ≤ sectors * ss → sectors * ss < n + ss → first + sectors ≡ sector → EndsBefore sector first n ss
 ends_before sector first n ss sectors low high is =
     let all : sector * ss ≡ first * ss + sectors * ss = ap (λ (x : ℕ). x * ss) (sym is) ∙ add-mul first sectors ss in
     (omega (arith, all, low), omega (arith, all, high))
 
--- and nowhere else
+-- the converse
 pub ends_only : (sector first n ss sectors : ℕ) → n ≤ sectors * ss → sectors * ss < n + ss → EndsBefore sector first n ss → first + sectors ≡ sector
 ends_only sector first n ss sectors low high ends =
     let all : (first + sectors) * ss ≡ first * ss + sectors * ss = add-mul first sectors ss in
@@ -156,7 +156,7 @@ ends_only sector first n ss sectors low high ends =
     absurd (omega (arith, all, up, more, one, low, high, ends.0)))
     (λ (le : first + sectors ≤ sector). omega (arith, ge, le)) (cases_lt sector (first + sectors))) (cases_lt (first + sectors) sector)
 
--- an MBR of another kind is left
+-- an MBR of another kind has no such bytes
 pub no_mbr : (kind : MbrKind) → kind ≢ Protective → (k : ℕ) → ¬ IsOfMbr kind k
 no_mbr Protective other k h = other refl
 no_mbr MbrNone other k h = h
@@ -167,7 +167,7 @@ no_mbr Dos other k h = h
 pub adds_mbr : (kind : MbrKind) (a b : List Zeroed) → kind ≡ Protective → Adds (IsIn 446 66) a b → Adds (IsOfMbr kind) a b
 adds_mbr kind a b is adds = subst (λ (x : MbrKind). Adds (IsOfMbr x) a b) (sym is) adds
 
--- what a list of signatures adds, one after another
+-- a list of signatures, added one by one
 pub signature_added : (signatures more : List Signature) (old now new : List Zeroed) (i : ℕ) (s : Signature) (r : Zeroed) → drop i signatures ≡ s ∷ more
     → r.start ≡ s.at → r.length ≡ 8 → new ≡ now ++ r ∷ []
     → ((k : ℕ) → Inside (ranges_in now) k → Inside (ranges_in old) k ⊎ IsOfSignature k signatures)
@@ -193,7 +193,7 @@ pub signature_kept : (old now new : List Zeroed) (r : Zeroed) → new ≡ now ++
     → ((k : ℕ) → Inside (ranges_in old) k → Inside (ranges_in now) k) → (k : ℕ) → Inside (ranges_in old) k → Inside (ranges_in new) k
 signature_kept old now new r is kept k h = subst (λ (xs : List Zeroed). Inside (ranges_in xs) k) (sym is) ((inside_push now r k).1 (inl (kept k h)))
 
--- a fact after Ok
+-- an implication after Ok
 pub on_ok_as : {T E P R : Type 0} → (r : Result T E) → OnOk r P → (P → R) → OnOk r R
 on_ok_as (Ok x) p f = f p
 on_ok_as (Err e) p f = tt
@@ -205,22 +205,22 @@ adds_at start place n a b is adds = subst (λ (x : ℕ). Adds (IsIn x n) a b) is
 pub adds_far : (place n : ℕ) (a : List Zeroed) → ¬ (place < 2 ^ 64) → Adds (IsIn place n) a a
 adds_far place n a far = adds_none (IsIn place n) a (λ k fits h. far (omega (arith, fits, h.0)))
 
--- a copy without entries behind the first two sectors
+-- a copy with entries in sectors 0 and 1
 pub adds_bare : (h : GPTHeader) (ss : ℕ) (a b : List Zeroed) → h.partition_entry_lba < 2 → Adds (IsIn (h.primary_lba * ss) 92) a b → Adds (IsOfWhole h ss) a b
 adds_bare h ss a b low adds = adds_as (IsIn (h.primary_lba * ss) 92) (IsOfWhole h ss) a b (λ k x. inl x) (λ k x. ⊎_elim (λ y. y) (λ y. absurd (omega (arith, low, y.0))) x) adds
 
--- and with them
+-- a copy with other entries
 pub adds_whole : (h : GPTHeader) (ss : ℕ) (a b c : List Zeroed) → 2 ≤ h.partition_entry_lba → Adds (IsIn (h.primary_lba * ss) 92) a b
     → Adds (IsIn (h.partition_entry_lba * ss) (128 * h.number_of_partition_entries)) b c → Adds (IsOfWhole h ss) a c
 adds_whole h ss a b c high one two =
     adds_as _ (IsOfWhole h ss) a c (λ k x. ⊎_elim (λ y. inl y) (λ y. inr (high, y)) x) (λ k x. ⊎_elim (λ y. inl y) (λ y. inr y.1) x)
     (adds_then (IsIn (h.primary_lba * ss) 92) (IsIn (h.partition_entry_lba * ss) (128 * h.number_of_partition_entries)) a b c one two)
 
--- a header that was seen, without usual entries
+-- a header without usual entries
 pub adds_alone : (h : RawHeader) (ss : ℕ) (a b : List Zeroed) → ¬ HasUsualEntries h ss → Adds (IsIn h.at 92) a b → Adds (λ k. IsOfRaw ss k (Some h)) a b
 adds_alone h ss a b other adds = adds_as (IsIn h.at 92) (λ k. IsOfRaw ss k (Some h)) a b (λ k x. inl x) (λ k x. ⊎_elim (λ y. y) (λ y. absurd (other y.0)) x) adds
 
--- and with them
+-- a header with usual entries
 pub adds_seen : (h : RawHeader) (ss : ℕ) (a b c : List Zeroed) → HasUsualEntries h ss → Adds (IsIn h.at 92) a b
     → Adds (IsIn (h.entries_lba * ss) (128 * h.count)) b c → Adds (λ k. IsOfRaw ss k (Some h)) a c
 adds_seen h ss a b c usual one two =
@@ -233,7 +233,7 @@ adds_raw ss raw seen a b is adds = subst (λ (x : Option RawHeader). Adds (λ k.
 pub adds_nothing : (ss : ℕ) (raw : Option RawHeader) (a : List Zeroed) → raw ≡ None → Adds (λ k. IsOfRaw ss k raw) a a
 adds_nothing ss raw a is = adds_raw ss raw None a a is (adds_none (λ k. IsOfRaw ss k None) a (λ k fits h. h))
 
--- the copy that says that its place is this sector, and another
+-- a good copy at this sector, or elsewhere
 pub adds_own : (h : GPTHeader) (sector ss : ℕ) (raw : Option RawHeader) (a b : List Zeroed) → h.primary_lba ≡ sector → Adds (IsOfWhole h ss) a b → Adds (IsOfOwn h sector ss raw) a b
 adds_own h sector ss raw a b is adds = adds_as (IsOfWhole h ss) (IsOfOwn h sector ss raw) a b (λ k x. inl (is, x)) (λ k x. ⊎_elim (λ y. y.1) (λ y. absurd (y.0 is)) x) adds
 
@@ -241,12 +241,12 @@ pub adds_other : (h : GPTHeader) (sector ss : ℕ) (raw : Option RawHeader) (a b
 adds_other h sector ss raw a b other adds =
     adds_as (λ k. IsOfRaw ss k raw) (IsOfOwn h sector ss raw) a b (λ k x. inr (other, x)) (λ k x. ⊎_elim (λ y. absurd (other y.0)) (λ y. y.1) x) adds
 
--- what was said of a copy is said of its place
+-- a fact about a copy holds for its place
 pub adds_place : (sector ss : ℕ) (raw : Option RawHeader) (copy same : Result WholeCopy Error) (a b : List Zeroed) → copy ≡ same
     → Adds (λ k. IsOfPlace sector ss k raw same) a b → Adds (λ k. IsOfPlace sector ss k raw copy) a b
 adds_place sector ss raw copy same a b is adds = subst (λ (x : Result WholeCopy Error). Adds (λ k. IsOfPlace sector ss k raw x) a b) (sym is) adds
 
--- what a wipe may change, and what it clears
+-- the bytes that a wipe changes and clears
 pub wiped_only : (P : ℕ → Type 0) (rs : List Zeroed) (old new : DiskState) → Adds P [] rs → Writes (ranges_in rs) old new → WritesOnly P old new
 wiped_only P rs old new adds wrote = record { ranges = ranges_in rs; within = λ k h. ⊎_elim (λ no. absurd no) (λ x. x) (adds.only k h); wrote = wrote }
 
@@ -258,16 +258,16 @@ wiped_cleared P rs disk adds small cleared = record {
   synced = cleared.synced;
 }
 
--- so many of 512 zeros
+-- n of 512 zeros
 pub zeros_part : (n : ℕ) → n ≤ 512 → length (take n (zeros 512)) ≡ n
 zeros_part n few = length-take-le n (zeros 512) few
 
--- one range of a list more
+-- one more range of a list
 pub clear_wrote : {a b c : DiskState} (rs : List Zeroed) (i : ℕ) (r : Zeroed) → drop i rs ≡ r ∷ drop (i + 1) rs → Writes ((r.start, r.length) ∷ []) b c
     → Writes (ranges_in rs) a b → Writes (ranges_in rs) a c
 clear_wrote rs i r is next before honest = let ab = before honest in wrote_then (within_all i rs (drop (i + 1) rs) r is) ab (next ab.honest)
 
--- what the test of usual entries answers, of a header that is not in sector 1
+-- the test of usual entries, for a header that is not in sector 1
 pub usual_iff : (h : RawHeader) (ss sectors : ℕ) (sub : Option ℕ) (result : Bool) → h.count ≤ 32768 → h.entry_size ≡ 128 → 1 < h.entries_lba → h.at / ss ≢ 1
     → 128 * h.count ≤ sectors * ss → sectors * ss < 128 * h.count + ss → SomeIff sub (sectors ≤ h.at / ss) (h.at / ss - sectors)
     → result ≡ option_eq nat_eq sub (Some h.entries_lba) → IsTrue result ↔ HasUsualEntries h ss

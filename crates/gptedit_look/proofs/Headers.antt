@@ -1,4 +1,4 @@
--- The header that a reading of a place gives.
+-- The header that a read of a place returns.
 use Rattle.std.proofs.Common.{◌≡◌, ◌≤◌, ◌<◌, ◌∙◌, ◌+◌, ℕ, Bool, List, length, sym, ap, arith, Option, None, Result}
 use Rattle.std.specs.Prelude.{◌/◌, if◌then◌else◌}
 use Rattle.std.specs.Result.{result_ok}
@@ -9,18 +9,18 @@ use Rattle.gptman.proofs.CopyTests.{header_short}
 use Rattle.gptedit_look.specs.Wiped.{byte_of, header_found, header_in}
 use Rattle.gptedit_look.specs.declared.signatures.Place.{Place}
 
--- what the test of the sectors chooses
+-- the header, if there are enough sectors
 abbrev chosen : Place → ℕ → List ℕ → Bool → Option GPTHeader
 chosen place ss b test = if test then header_found b (byte_of place ss (length b)) else None
 
--- the header at a place that the disk has
+-- the header at a place on the disk
 pub in_there : (place : Place) (ss size at : ℕ) (b : List ℕ) → length b ≡ size → 1 < size / ss → at ≡ byte_of place ss size → header_found b at ≡ header_in place ss b
 in_there place ss size at b long many is =
     let same : length b / ss ≡ size / ss = ap (λ (n : ℕ). n / ss) long in
     let high : 2 ≤ length b / ss = omega (arith, same, many) in
     ap (λ (x : ℕ). header_found b x) (is ∙ ap (λ (n : ℕ). byte_of place ss n) (sym long)) ∙ sym (ap (chosen place ss b) (le-leb 2 (length b / ss) high))
 
--- there is none where the disk ends before
+-- there is none if the disk ends before
 pub in_short : (place : Place) (ss size at : ℕ) (b : List ℕ) → length b ≡ size → 1 < size / ss → at ≡ byte_of place ss size → size < at + 92 → None ≡ header_in place ss b
 in_short place ss size at b long many is short =
     let past : length b < at + 92 = omega (arith, long, short) in

@@ -12,7 +12,7 @@ use Rattle.gptman.proofs.Ranges.{agrees_then, agrees_wider, within_left, within_
 use Rattle.gptedit_look.specs.FirstSector.{IsMarked, IsVacant}
 use Rattle.gptedit_look.specs.Protective.{number_at, type_of, HasLength, IsOnlyProtective}
 
--- what holds of each of four numbers
+-- four cases
 pub below_four : (P : ℕ → Type 0) → P 0 → P 1 → P 2 → P 3 → (i : ℕ) → i < 4 → P i
 below_four P a b c d zero lt = a
 below_four P a b c d (suc zero) lt = b
@@ -20,7 +20,7 @@ below_four P a b c d (suc (suc zero)) lt = c
 below_four P a b c d (suc (suc (suc zero))) lt = d
 below_four P a b c d (suc (suc (suc (suc n)))) lt = absurd (omega (arith, lt))
 
--- an entry that is alone
+-- one entry is the only one
 pub alone_0 : (b : List ℕ) → type_of b 0 ≡ 0xEE → type_of b 1 ≡ 0 → type_of b 2 ≡ 0 → type_of b 3 ≡ 0 → IsOnlyProtective b 0
 alone_0 b own x y z = record {
   place = omega arith;
@@ -49,7 +49,7 @@ alone_3 b own x y z = record {
   alone = below_four (λ j. j ≢ 3 → type_of b j ≡ 0) (λ no. x) (λ no. y) (λ no. z) (λ no. absurd (no refl));
 }
 
--- none is alone where none of the four has the tests of one that is
+-- no entry is the only one
 pub none_alone : (b : List ℕ)
     → ¬ ((type_of b 0 ≡ 0xEE) × (type_of b 1 ≡ 0) × (type_of b 2 ≡ 0) × (type_of b 3 ≡ 0))
     → ¬ ((type_of b 1 ≡ 0xEE) × (type_of b 0 ≡ 0) × (type_of b 2 ≡ 0) × (type_of b 3 ≡ 0))
@@ -73,7 +73,7 @@ only_some b i marked only vacant =
     (λ zeros. let zero_type : type_of b i ≡ 0 = zeros (450 + 16 * i) (omega arith) (omega (arith, only.place)) in
     absurd (omega (arith, zero_type, only.protects))) more) vacant
 
--- the four bytes of a number that stands in a list
+-- the 4 bytes of a number in a list
 pub number_is : (b : List ℕ) (at n : ℕ) → n < 256 ^ 4
     → ((j : ℕ) → j < 4 → get_or b (at + j) 0 ≡ get_or (little_bytes 4 n) j 0) → number_at b at ≡ n
 number_is b at n fits each =
@@ -85,11 +85,11 @@ number_is b at n fits each =
     let sum : le (little_bytes 4 n) ≡ n = le_of 4 n fits in
     omega (arith, x, y, z, w, sum)
 
--- the three bytes of an end
+-- the 3 bytes of an end
 abbrev pub last_end : List ℕ
 last_end = 0xFF ∷ 0xFF ∷ 0xFF ∷ []
 
--- each of them
+-- each is 0xFF
 ends_are : (j : ℕ) → j < 3 → get_or last_end j 0 ≡ 0xFF
 ends_are zero lt = refl
 ends_are (suc zero) lt = refl
@@ -132,7 +132,7 @@ module _ (b : List ℕ) (i n : ℕ) (place : i < 4) (fits : n < 256 ^ 4) (room :
       agrees_then (agrees_wider (within_left ((451 + 16 * i, 3) ∷ []) ((458 + 16 * i, 4) ∷ [])) (agrees_overlay first (451 + 16 * i) last_end end_fits))
       (agrees_wider (within_right ((451 + 16 * i, 3) ∷ []) ((458 + 16 * i, 4) ∷ [])) (agrees_overlay ended (458 + 16 * i) (little_bytes 4 n) length_fits))
 
-  -- the 66 bytes of it
+  -- its last 66 bytes
   abbrev piece : List ℕ
   piece = slice_range mended 446 512
 

@@ -1,4 +1,4 @@
--- What is found in a block of bytes, and in a range of them.
+-- Results for a block of bytes, and for a range.
 use Rattle.std.proofs.Common.{◌≡◌, ◌≤◌, ◌<◌, ◌+◌, ◌-◌, ◌⊎◌, ◌↔◌, ⊎_elim, ◌∙◌, ℕ, List, length, get_or, drop, inl, inr, ap, sym, subst, arith, Option, Some, None, Result, Ok, Err, Bool, [], ◌∷◌, ◌++◌, ◌*◌}
 use Rattle.std.specs.Prelude.{IfOk, MatchOption, nat_eq, if◌then◌else◌}
 use Rattle.std.proofs.lemmas.List.{get_or-drop, get_or-take}
@@ -22,7 +22,7 @@ use Rattle.gptedit_look.specs.Touched.{IsTouched, IsTouchedIn, IsTouchedOf}
 pub get_or-part : (b : List ℕ) (at n i : ℕ) → i < n → get_or (part b at n) i 0 ≡ get_or b (at + i) 0
 get_or-part b at n i lt = get_or-take n (drop at b) i 0 lt ∙ get_or-drop at b i 0
 
--- of which none is refused
+-- no byte of the block is refused
 pub block_free : (look : Look) (purpose : Purpose) (next : GPT) (b bytes : List ℕ) (at n : ℕ) → bytes ≡ part b at n → length bytes ≡ n
     → ((i : ℕ) → i < length bytes → (get_or bytes i 0 ≡ 0) ⊎ IsAllowed look purpose next (at + i)) → AreFree look purpose next b at (at + n)
 block_free look purpose next b bytes at n is long each k from below =
@@ -33,7 +33,7 @@ block_free look purpose next b bytes at n is long each k from below =
     ap (λ (x : List ℕ). get_or x (k - at) 0) is ∙ get_or-part b at n (k - at) lt ∙ ap (λ (j : ℕ). get_or b j 0) here in
     ⊎_elim (λ zero. inl (sym same ∙ zero)) (λ allowed. inr (subst (λ (j : ℕ). IsAllowed look purpose next j) here allowed)) (each (k - at) within)
 
--- of which this one is refused
+-- this byte of the block is refused
 pub block_refused : (look : Look) (purpose : Purpose) (next : GPT) (b bytes : List ℕ) (at n k : ℕ) → bytes ≡ part b at n → length bytes ≡ n
     → at ≤ k → k < at + length bytes → (get_or bytes (k - at) 0 ≡ 0 → ⊥) → ¬ IsAllowed look purpose next k → IsRefused look purpose next b at (at + n) k
 block_refused look purpose next b bytes at n k is long from below some not =
@@ -44,7 +44,7 @@ block_refused look purpose next b bytes at n k is long from below some not =
     let before : k < at + n = omega arith in
     (from, before, λ may. ⊎_elim (λ zero. some (same ∙ zero)) not may)
 
--- the answer for a block, from that for its bytes
+-- the result for a block, from that for its bytes
 pub block_answer : (look : Look) (purpose : Purpose) (next : GPT) (b bytes : List ℕ) (at n : ℕ) → bytes ≡ part b at n → length bytes ≡ n → (found : Option ℕ)
     → MatchOption found ((i : ℕ) → i < length bytes → (get_or bytes i 0 ≡ 0) ⊎ IsAllowed look purpose next (at + i))
     (λ k. (at ≤ k) × (k < at + length bytes) × (get_or bytes (k - at) 0 ≡ 0 → ⊥) × (¬ IsAllowed look purpose next k))
@@ -52,17 +52,16 @@ pub block_answer : (look : Look) (purpose : Purpose) (next : GPT) (b bytes : Lis
 block_answer look purpose next b bytes at n is long None each = block_free look purpose next b bytes at n is long each
 block_answer look purpose next b bytes at n is long (Some k) h = block_refused look purpose next b bytes at n k is long h.0 h.1 h.2 h.3
 
--- one of two
 lt_or_le : (a c : ℕ) → (a < c) ⊎ (c ≤ a)
 lt_or_le a c = grind arith
 
--- one range and the next
+-- two adjacent ranges
 pub free_then : (look : Look) (purpose : Purpose) (next : GPT) (b : List ℕ) (start middle end : ℕ) → AreFree look purpose next b start middle
     → AreFree look purpose next b middle end → AreFree look purpose next b start end
 free_then look purpose next b start middle end first second k from below =
     ⊎_elim (λ (lt : k < middle). first k from lt) (λ (ge : middle ≤ k). second k ge below) (lt_or_le k middle)
 
--- both ranges of a copy, on a disk of so many bytes
+-- both ranges of a copy
 pub copy_touched : (copy : TouchedCopy) (a n b m size : ℕ) → ((k : ℕ) → IsTouched copy.header k ↔ (IsIn a n k × (k < size)))
     → ((k : ℕ) → IsTouched copy.entries k ↔ (IsIn b m k × (k < size))) → (k : ℕ) → IsTouchedIn copy k ↔ ((IsIn a n k ⊎ IsIn b m k) × (k < size))
 copy_touched copy a n b m size header entries k = (
@@ -79,11 +78,11 @@ inside_of_both (r ∷ rs) ss k =
       λ h. ⊎_elim (λ x. ⊎_elim (λ y. inl y) (λ y. inr (more.1 (inl y))) x) (λ x. inr (more.1 (inr x))) h,
     )
 
--- the range of n entries, or none
+-- the range of n entries
 abbrev entries_range : ℕ → ℕ → Bool → List (ℕ × ℕ)
 entries_range start n none = if none then [] else ((start, 128 * n) ∷ [])
 
--- k is one of so many entries
+-- k is in one of n entries
 inside_entries : (start n k : ℕ) → IsIn start (128 * n) k ↔ Inside (entries_range start n (nat_eq n 0)) k
 inside_entries start n k =
     let P : Bool → Type 0 = λ b. IsIn start (128 * n) k ↔ Inside (entries_range start n b) k in
@@ -92,7 +91,7 @@ inside_entries start n k =
       | inr some ↦ subst P (sym some.0) (λ h. inl h, λ h. ⊎_elim (λ x. x) (λ no. absurd no) h)
     ]
 
--- k is one of a copy
+-- k is in a copy
 pub inside_copy : (h : GPTHeader) (ss k : ℕ) → IsOfCopy h ss k ↔ Inside (copy_ranges h ss) k
 inside_copy h ss k =
     let entries = inside_entries (h.partition_entry_lba * ss) h.number_of_partition_entries k in (
@@ -119,7 +118,7 @@ table_touched table g size own other k =
       λ h. ⊎_elim (λ x. inl ((own k).1 (x, h.1))) (λ x. inr ((other k).1 (x, h.1))) (both.0 h.0),
     )
 
--- the same, where the numbers are said otherwise
+-- the same for equal numbers
 pub copy_touched_as : (copy : TouchedCopy) (a n b m size a' b' m' : ℕ) → a ≡ a' → b ≡ b' → m ≡ m'
     → ((k : ℕ) → IsTouched copy.header k ↔ (IsIn a n k × (k < size)))
     → ((k : ℕ) → IsTouched copy.entries k ↔ (IsIn b m k × (k < size))) → (k : ℕ) → IsTouchedIn copy k ↔ ((IsIn a' n k ⊎ IsIn b' m' k) × (k < size))
@@ -129,7 +128,7 @@ copy_touched_as copy a n b m size a' b' m' ea eb em header entries =
     (subst (λ (y : ℕ). (k : ℕ) → IsTouched copy.entries k ↔ (IsIn b' y k × (k < size))) em
     (subst (λ (x : ℕ). (k : ℕ) → IsTouched copy.entries k ↔ (IsIn x m k × (k < size))) eb entries))
 
--- one range and the next, of the bytes of two moments between which nothing was written
+-- two adjacent ranges, when nothing was written in between
 pub free_step : (look : Look) (purpose : Purpose) (next : GPT) (b c : List ℕ) (start middle end : ℕ) (found : Option ℕ) → c ≡ b → found ≡ None
     → AreFree look purpose next b start middle → MatchOption found (AreFree look purpose next c middle end) (IsRefused look purpose next c middle end)
     → AreFree look purpose next b start end
@@ -138,15 +137,15 @@ free_step look purpose next b c start middle end found same none first answer =
     subst (λ (o : Option ℕ). MatchOption o (AreFree look purpose next c middle end) (IsRefused look purpose next c middle end)) none answer in
     free_then look purpose next b start middle end first (subst (λ (x : List ℕ). AreFree look purpose next x middle end) same second)
 
--- none of a copy's bytes is refused
+-- no byte of the copy is refused
 abbrev pub IsFree : Look → Purpose → GPT → List ℕ → TouchedCopy → Type 0
 IsFree look purpose next b copy = (k : ℕ) → IsTouchedIn copy k → MayBeOverwritten look purpose next b k
 
--- this one is
+-- this byte of the copy is refused
 abbrev pub IsNotFree : Look → Purpose → GPT → List ℕ → TouchedCopy → Refused → Type 0
 IsNotFree look purpose next b copy refused = IsTouchedIn copy refused.at × (¬ MayBeOverwritten look purpose next b refused.at)
 
--- which bytes are touched
+-- the bytes that are touched
 abbrev pub Touches : TouchedTable → GPT → ℕ → Type 0
 Touches table next size = (k : ℕ) → IsTouchedOf table k ↔ (IsWritten next k × (k < size))
 
@@ -155,12 +154,12 @@ pub all_free : (look : Look) (purpose : Purpose) (next : GPT) (b : List ℕ) (si
     → IsFree look purpose next b table.own → IsFree look purpose next b table.other → AreAllFree look purpose next b size
 all_free look purpose next b size table iff own other k written below = ⊎_elim (λ x. own k x) (λ x. other k x) ((iff k).1 (written, below))
 
--- one that is refused
+-- a byte is refused
 pub one_refused : (look : Look) (purpose : Purpose) (next : GPT) (b : List ℕ) (size : ℕ) (table : TouchedTable) → Touches table next size → (k : ℕ)
     → IsTouchedOf table k → ¬ MayBeOverwritten look purpose next b k → IsRefusedOf look purpose next b k
 one_refused look purpose next b size table iff k touched not = (((iff k).0 touched).0, not)
 
--- one that is refused in the first copy
+-- a byte of the first copy is refused
 pub own_refused : (look : Look) (purpose : Purpose) (next : GPT) (b c : List ℕ) (size : ℕ) (table : TouchedTable) → c ≡ b → Touches table next size
     → (found : Option Refused) (refused : Refused) → found ≡ Some refused
     → MatchOption found (IsFree look purpose next c table.own) (IsNotFree look purpose next c table.own) → IsRefusedOf look purpose next b refused.at
@@ -170,7 +169,7 @@ own_refused look purpose next b c size table same iff found refused is answer =
     let at_b : IsNotFree look purpose next b table.own refused = subst (λ (x : List ℕ). IsNotFree look purpose next x table.own refused) same at_c in
     one_refused look purpose next b size table iff refused.at (inl at_b.0) at_b.1
 
--- the answer for the second copy, where the first is free
+-- the result for the second copy, if the first is free
 pub other_answer : (look : Look) (purpose : Purpose) (next : GPT) (b : List ℕ) (size : ℕ) (table : TouchedTable) → Touches table next size
     → IsFree look purpose next b table.own → (result : Result (Option Refused) Error)
     → IfOk result (λ found. MatchOption found (IsFree look purpose next b table.other) (IsNotFree look purpose next b table.other))
@@ -180,7 +179,7 @@ other_answer look purpose next b size table iff own (Ok (Some refused)) answer =
     one_refused look purpose next b size table iff refused.at (inr answer.0) answer.1
 other_answer look purpose next b size table iff own (Err e) answer = tt
 
--- the answer for both copies
+-- the result for both copies
 pub both_answer : (look : Look) (purpose : Purpose) (next : GPT) (b c d : List ℕ) (size size' : ℕ) (table : TouchedTable) → c ≡ b → d ≡ b → size ≡ size'
     → Touches table next size → (found : Option Refused) → found ≡ None
     → MatchOption found (IsFree look purpose next c table.own) (IsNotFree look purpose next c table.own) → (result : Result (Option Refused) Error)

@@ -1,4 +1,4 @@
--- What a write of the table leaves, where the guard found nothing in its way.
+-- A write of the table spares all else, if no obstacle was found.
 use Rattle.std.proofs.Common.{◌≡◌, ◌≤◌, ◌<◌, ◌⊎◌, ⊎_elim, ◌∙◌, ◌+◌, ℕ, List, [], ◌∷◌, length, get_or, inl, inr, sym, subst, arith, Option, None}
 use Rattle.std.proofs.lemmas.Bool.{cases_lt}
 use Rattle.std.proofs.lemmas.List.{get_or_past}
@@ -12,19 +12,19 @@ use Rattle.gptedit_look.specs.declared.guard.Refused.{Refused}
 use Rattle.gptedit_look.specs.declared.seen.Look.{Look}
 use Rattle.gptedit_look.specs.declared.seen.Purpose.{Purpose}
 
--- k is in a range, or outside of it
+-- k is in a range or outside it
 pub in_or_out : (start n k : ℕ) → ((start ≤ k) × (k < start + n)) ⊎ ((k < start) ⊎ (start + n ≤ k))
 in_or_out start n k =
     ⊎_elim (λ (below : k < start). inr (inl below)) (λ (from : start ≤ k).
     ⊎_elim (λ (lt : k < start + n). inl (from, lt)) (λ (past : start + n ≤ k). inr (inr past)) (cases_lt k (start + n))) (cases_lt k start)
 
--- k is in one of the ranges, or outside of all
+-- k is in one of the ranges or outside all
 pub inside_or_outside : (rs : List (ℕ × ℕ)) (k : ℕ) → Inside rs k ⊎ Outside rs k
 inside_or_outside [] k = inr tt
 inside_or_outside (r ∷ rs) k =
     ⊎_elim (λ here. inl (inl here)) (λ out. ⊎_elim (λ more. inl (inr more)) (λ others. inr (out, others)) (inside_or_outside rs k)) (in_or_out r.0 r.1 k)
 
--- where each byte that the write touches may be overwritten, each that it changes may
+-- if each touched byte may be overwritten, so may each changed one
 pub spares_others : (look : Look) (purpose : Purpose) (next : GPT) (b : List ℕ) (size : ℕ) → length b ≡ size
     → AreAllFree look purpose next b size → SparesOthers look purpose next b
 spares_others look purpose next b size long free c agrees k clear changed =
@@ -38,7 +38,7 @@ spares_others look purpose next b size long free c agrees k clear changed =
     (λ out. absurd (changed (agrees.same k (clear.0, out))))
     (inside_or_outside (table_ranges next) k)
 
--- the same of an answer of none
+-- the same from a result of None
 pub spares_found : (look : Look) (purpose : Purpose) (next : GPT) (b : List ℕ) (size : ℕ) (found : Option Refused) → length b ≡ size → found ≡ None
     → MatchOption found (AreAllFree look purpose next b size) (λ refused. IsRefusedOf look purpose next b refused.at) → SparesOthers look purpose next b
 spares_found look purpose next b size found long none answer =

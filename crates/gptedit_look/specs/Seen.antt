@@ -1,4 +1,4 @@
--- What a look at a disk sees.
+-- The findings of an inspection of a disk.
 use Rattle.std.specs.Prelude.{◌≡◌, ◌≢◌, ◌≤◌, ◌<◌, ◌⊎◌, ◌+◌, ℕ, List, [], ◌∷◌, Option, Some, None}
 use Rattle.gptman.specs.Bytes.{part}
 use Rattle.gptman.specs.Coding.{header_of}
@@ -6,7 +6,7 @@ use Rattle.gptman.specs.Disk.{DiskState}
 use Rattle.gptman.specs.declared.codec.header.GPTHeader.{GPTHeader}
 use Rattle.gptedit_look.specs.declared.raw.RawHeader.{RawHeader}
 
--- the fields of a header at a byte, without its checksums
+-- The fields of a header at a byte, without its checksums.
 abbrev pub raw_of : ℕ → GPTHeader → RawHeader
 raw_of at h = record {
   at = at;
@@ -22,20 +22,20 @@ raw_of at h = record {
   entry_size = h.size_of_partition_entry;
 }
 
--- EFI PART
+-- The bytes `EFI PART`.
 abbrev pub efi_part : List ℕ
 efi_part = 0x45 ∷ 0x46 ∷ 0x49 ∷ 0x20 ∷ 0x50 ∷ 0x41 ∷ 0x52 ∷ 0x54 ∷ []
 
--- the header in the 92 bytes from this one on
+-- The header in the 92 bytes at this byte.
 abbrev pub header_at : DiskState → ℕ → GPTHeader
 header_at disk at = header_of (part disk.view at 92)
 
--- the fields of a header, if it begins with EFI PART
+-- The fields of a header, if it begins with `EFI PART`.
 abbrev pub IsRawOf : ℕ → GPTHeader → Option RawHeader → Type 0
 IsRawOf at h (Some raw) = (h.signature ≡ efi_part) × (raw ≡ raw_of at h)
 IsRawOf at h None = h.signature ≢ efi_part
 
--- What is seen at a byte: a header that begins with EFI PART and does not pass the end, or none.
+-- A header is found at a byte exactly if it begins with `EFI PART` and does not pass the end of the disk.
 abbrev pub IsSeenAt : DiskState → ℕ → Option RawHeader → Type 0
 IsSeenAt disk at (Some raw) = (at + 92 ≤ disk.size) × IsRawOf at (header_at disk at) (Some raw)
 IsSeenAt disk at None = (disk.size < at + 92) ⊎ IsRawOf at (header_at disk at) None

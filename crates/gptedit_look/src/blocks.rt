@@ -1,4 +1,4 @@
-//! Reading bytes of a disk, and the numbers in them.
+//! Reads bytes of a disk, and numbers in them.
 
 ghost use Rattle.std.specs.Prelude.{◌≡◌, ◌≤◌, ◌+◌, get_or, length};
 ghost use Rattle.gptman.specs.Answers.{HasCause};
@@ -7,10 +7,10 @@ ghost use Rattle.gptman.specs.Disk.{Reads};
 use gptman::{Disk, Result};
 use std::alloc::Global;
 
-/// Reads at most `length` bytes from `at` on: fewer if the disk ends before.
+/// Reads `length` bytes from `at`, or fewer if the disk ends before.
 ///
 /// # Errors
-/// `Io` if the disk failed, `OutOfMemory` if there was no memory.
+/// `Io` if the disk fails, `OutOfMemory` if an allocation fails.
 #[tactic(auto, using(gptman::proofs::Readers::both_read, gptman::proofs::Runs::rose_since))]
 pub fn read_block<D: Disk>(alloc: Global, disk: &mut D, at: u64, length: u64) -> Result<Vec<u8>>
     ensures reads { Reads (D.state disk.old) (D.state disk.new) }
@@ -24,7 +24,6 @@ pub fn read_block<D: Disk>(alloc: Global, disk: &mut D, at: u64, length: u64) ->
     Ok(bytes)
 }
 
-// Reads the bytes from this one on.
 #[tactic(auto, using(gptman::proofs::Readers::both_read, gptman::proofs::Runs::rose_since))]
 fn read_at<D: Disk>(disk: &mut D, at: u64, bytes: &mut [u8]) -> Result<()>
     requires { at + length bytes.old ≤ (D.state disk.old).size }
@@ -36,7 +35,7 @@ fn read_at<D: Disk>(disk: &mut D, at: u64, bytes: &mut [u8]) -> Result<()>
     Ok(())
 }
 
-/// Returns the byte at this place, or 0 if there is none.
+/// Returns the byte at `at`, or 0 if there is none.
 pub fn byte_at(bytes: &[u8], at: usize) -> u8
     ensures { result ≡ get_or bytes.now at 0 }
 {
@@ -46,7 +45,7 @@ pub fn byte_at(bytes: &[u8], at: usize) -> u8
     }
 }
 
-/// Returns the little-endian number in the 4 bytes at `at`, or 0 if there are none.
+/// Returns the little-endian number in the 4 bytes at `at`, or 0 if there are fewer.
 pub fn u32_at(bytes: &[u8], at: usize) -> u32 {
     match bytes.get(at..) {
         Some([a, b, c, d, ..]) => u32::from_le_bytes([*a, *b, *c, *d]),
@@ -54,7 +53,7 @@ pub fn u32_at(bytes: &[u8], at: usize) -> u32 {
     }
 }
 
-/// Returns the number in the 2 bytes at `at`, or 0 if there are none.
+/// Returns the little-endian number in the 2 bytes at `at`, or 0 if there are fewer.
 pub fn u16_at(bytes: &[u8], at: usize) -> u16 {
     match bytes.get(at..) {
         Some([a, b, ..]) => u16::from_le_bytes([*a, *b]),
@@ -62,7 +61,7 @@ pub fn u16_at(bytes: &[u8], at: usize) -> u16 {
     }
 }
 
-/// Reports whether these bytes are at `at`.
+/// Reports whether `text` is at `at`.
 pub fn has_at(bytes: &[u8], at: usize, text: &[u8]) -> bool {
     match bytes.get(at..) {
         Some(rest) => rest.starts_with(text),

@@ -18,7 +18,7 @@ pub fn start_after(sector: u64, sector_size: u64) -> u128
     (u128::from(sector) + 1) * u128::from(sector_size)
 }
 
-/// Reports whether this byte is one of `length` from `start` on.
+/// Reports whether byte `at` is one of the `length` bytes from `start`.
 pub fn is_in(start: u128, length: u64, at: u64) -> bool
     ensures { IsTrue result ↔ IsIn start length at }
 {

@@ -1,4 +1,4 @@
-//! Clearing what makes a disk look like one with a table.
+//! Erases tables and their signatures.
 
 ghost use Rattle.std.specs.Prelude.{◌≡◌, ◌≤◌, ◌<◌, ◌+◌, ◌*◌, ◌↔◌, ℕ, [], IfErr, IfOk, IsTrue, OnOk, Some as Present};
 ghost use Rattle.gptman.specs.Answers.{IsFailure};
@@ -18,38 +18,38 @@ use gptman::copy::WholeCopy;
 use gptman::{Disk, Error, GPTHeader, Result};
 use std::alloc::Global;
 
-// The bytes of a signature.
+// The size of a signature in bytes.
 const SIGNATURE_SIZE: u64 = 8;
 
-// The bytes of a header.
+// The size of a header in bytes.
 const HEADER_SIZE: u64 = 92;
 
-// The bytes of an entry.
+// The size of an entry in bytes.
 const ENTRY_SIZE: u64 = 128;
 
-// The most entries that a header may count.
+// The maximum number of entries of a header.
 const MOST_ENTRIES: u32 = 32768;
 
-// The byte at which the entries of an MBR begin.
+// The first byte of the entries of an MBR.
 const MBR_START: u64 = 446;
 
-// The bytes of its entries and of its end.
+// The size of its entries and 55 AA in bytes.
 const MBR_SIZE: u64 = 66;
 
-/// Writes 8 zeros over each signature of another sector size than this one that the look saw, but for those in
-/// the table that now stands with this sector size. It is synced.
+/// Writes zeros over each signature of another sector size that the inspection found, unless it overlaps a copy with a
+/// valid header at this sector size, and syncs.
 ///
 /// # Errors
-/// `Io` if the disk failed.
+/// `Io` if the disk fails.
 pub fn clear_signatures<D: Disk>(disk: &mut D, look: &Look, sector_size: u64) -> Result<()>
     ensures keeps { Keeps (D.state disk.old) (D.state disk.new) }
     ensures failed { IfErr result (λ e. IsFailure (fault_of e) (D.state disk.old) (D.state disk.new)) }
 
-    // No byte changes at any moment but those of signatures of another sector size.
+    // At any moment, only signatures of another sector size change.
     ensures only { WritesOnly (λ k. IsOfOther sector_size k look.now.signatures.items)
         (D.state disk.old) (D.state disk.new) }
 
-    // Of these only such as have no byte in common with a copy whose header is good on the disk; they are zero then.
+    // Signatures that overlap a copy with a valid header on the disk stay unchanged; the others are zero after `Ok`.
     ensures spares { IsHonest (D.state disk.old) → WritesOnly
         (IsOfOld sector_size (D.state disk.old).view look.now.signatures.items) (D.state disk.old) (D.state disk.new) }
     ensures cleared { IsHonest (D.state disk.old) → OnOk result (IsCleared
@@ -60,7 +60,7 @@ pub fn clear_signatures<D: Disk>(disk: &mut D, look: &Look, sector_size: u64) ->
     clear_beside(disk, &look.signatures, primary, backup, sector_size)
 }
 
-// Clears the signatures of another sector size that are beside the copies with these headers.
+// Clears the signatures of another sector size that do not overlap the copies with these headers.
 fn clear_beside<D: Disk>(
     disk: &mut D,
     signatures: &[Signature],
@@ -82,7 +82,7 @@ fn clear_beside<D: Disk>(
     Ok(())
 }
 
-// Clears a signature if it is one of another sector size, and beside these copies.
+// Clears the signature, if it has another sector size and does not overlap these copies.
 fn clear_one<D: Disk>(
     disk: &mut D,
     signature: &Signature,
@@ -104,7 +104,7 @@ fn clear_one<D: Disk>(
     put_zeros(disk, all_of(signature))
 }
 
-// Whether a signature is one of another sector size, and beside these copies.
+// Reports whether a signature has another sector size and does not overlap these copies.
 fn is_beside(
     signature: &Signature,
     primary: Option<GPTHeader>,
@@ -118,7 +118,7 @@ fn is_beside(
         && is_clear_of(signature, backup, sector_size)
 }
 
-// The header at this place, if it is good.
+// Reads the header at this place, if it is valid.
 fn read_header<D: Disk>(disk: &mut D, place: Place, sector_size: u64) -> Result<Option<GPTHeader>>
     ensures reads { Reads (D.state disk.old) (D.state disk.new) }
     ensures failed { IfErr result (λ e. IsFailure (fault_of e) (D.state disk.old) (D.state disk.new)) }
@@ -135,7 +135,7 @@ fn read_header<D: Disk>(disk: &mut D, place: Place, sector_size: u64) -> Result<
     read_header_at(disk, at)
 }
 
-// The header at this byte, if it is good.
+// Reads the header at this byte, if it is valid.
 #[tactic(auto, using(gptman::proofs::Readers::both_read, gptman::proofs::Runs::rose_since))]
 fn read_header_at<D: Disk>(disk: &mut D, at: u64) -> Result<Option<GPTHeader>>
     requires { at + 92 ≤ (D.state disk.old).size }
@@ -152,7 +152,7 @@ fn read_header_at<D: Disk>(disk: &mut D, at: u64) -> Result<Option<GPTHeader>>
     }
 }
 
-// Whether the disk failed, or ended before.
+// Reports whether the disk failed, or a read passed its end.
 fn is_io(error: &Error) -> bool
     ensures { IsTrue result ↔ (fault_of error.now ≡ io) }
 {
@@ -169,7 +169,7 @@ fn all_of(signature: &Signature) -> Zeroed
     }
 }
 
-// Whether no byte of the signature is one of the copy with this header, if there is one.
+// Reports whether the signature does not overlap the copy with this header, if there is one.
 fn is_clear_of(signature: &Signature, header: Option<GPTHeader>, sector_size: u64) -> bool
     ensures { IsTrue result ↔ IsClearOf signature.now sector_size header }
 {
@@ -179,7 +179,7 @@ fn is_clear_of(signature: &Signature, header: Option<GPTHeader>, sector_size: u6
     }
 }
 
-// Whether none is one of this copy.
+// Reports whether the signature does not overlap this copy.
 fn is_apart_from(signature: &Signature, header: &GPTHeader, sector_size: u64) -> bool
     ensures { IsTrue result ↔ IsApartFrom signature.now sector_size header.now }
 {
@@ -193,7 +193,7 @@ fn is_apart_from(signature: &Signature, header: &GPTHeader, sector_size: u64) ->
         )
 }
 
-// Whether a signature at this byte has none in common with so many from this sector on.
+// Reports whether a signature at `at` does not overlap `length` bytes from this sector.
 fn is_apart(at: u64, sector: u64, sector_size: u64, length: u64) -> bool
     ensures { IsTrue result ↔ ((k : ℕ) → IsIn at 8 k → ¬ IsIn (sector * sector_size) length k) }
 {
@@ -202,12 +202,12 @@ fn is_apart(at: u64, sector: u64, sector_size: u64, length: u64) -> bool
     length == 0 || start + u128::from(length) <= at || at + u128::from(SIGNATURE_SIZE) <= start
 }
 
-/// Clears both copies of the table, the signatures of all sector sizes, and the entries of a protective MBR. Of a
-/// copy that is not good in its place, only the header that was seen and entries in the usual place are cleared.
-/// The boot code, the place of a copy that is lost, and all else stay. It is synced.
+/// Erases both copies of the table, a moved backup header, the signatures of all sector sizes, and the entries of a
+/// protective MBR, and syncs. If a copy is not good at its place, only a header found there, and entries at their usual
+/// place, are erased. The boot code, the place of a lost copy and all else stay unchanged.
 ///
 /// # Errors
-/// `Io` if the disk failed, `OutOfMemory` if there was no memory: then nothing is written.
+/// `Io` if the disk fails; `OutOfMemory` if an allocation fails, before anything is written.
 pub fn wipe<D: Disk>(alloc: Global, disk: &mut D, look: &Look) -> Result<()>
     ensures keeps { Keeps (D.state disk.old) (D.state disk.new) }
     ensures failed { IfErr result (λ e. IsFailureOrUnbegun (fault_of e) (D.state disk.old) (D.state disk.new)) }
@@ -221,7 +221,7 @@ pub fn wipe<D: Disk>(alloc: Global, disk: &mut D, look: &Look) -> Result<()>
     clear_all(disk, &ranges)
 }
 
-// Clears the ranges, and syncs them.
+// Writes zeros over the ranges, and syncs.
 fn clear_all<D: Disk>(disk: &mut D, ranges: &[Zeroed]) -> Result<()>
     ensures keeps { Keeps (D.state disk.old) (D.state disk.new) }
     ensures failed { IfErr result (λ e. IsFailure (fault_of e) (D.state disk.old) (D.state disk.new)) }
@@ -236,7 +236,7 @@ fn clear_all<D: Disk>(disk: &mut D, ranges: &[Zeroed]) -> Result<()>
     Ok(())
 }
 
-// All ranges that a wipe clears.
+// Returns all ranges that a wipe erases.
 fn ranges_of(alloc: Global, look: &Look) -> Result<Vec<Zeroed>>
     ensures refused { IfErr result (λ e. fault_of e ≡ out_of_memory) }
     ensures adds { IfOk result (λ ranges. Adds (IsWiped look.now) [] ranges.items) }
@@ -249,7 +249,7 @@ fn ranges_of(alloc: Global, look: &Look) -> Result<Vec<Zeroed>>
     Ok(ranges)
 }
 
-// Both copies.
+// Adds both copies.
 fn push_copies(ranges: &mut Vec<Zeroed>, look: &Look) -> Result<()>
     ensures refused { IfErr result (λ e. fault_of e ≡ out_of_memory) }
     ensures adds { OnOk result (Adds (IsOfCopies look.now) ranges.old.items ranges.new.items) }
@@ -265,14 +265,14 @@ fn push_copies(ranges: &mut Vec<Zeroed>, look: &Look) -> Result<()>
     )
 }
 
-// The last whole sector.
+// Returns the last whole sector.
 fn last_of(look: &Look) -> u64
     ensures { result ≡ last_of look.now }
 {
     (look.size / look.sector_size).saturating_sub(1)
 }
 
-// The copy whose place is this sector: the good one, or the header that was seen there.
+// Adds the good copy of this sector, or the header found there.
 fn push_place(
     ranges: &mut Vec<Zeroed>,
     sector: u64,
@@ -291,7 +291,7 @@ fn push_place(
     }
 }
 
-// The good copy with this header, if it says that its place is this sector, or the header that was seen there.
+// Adds the good copy if its header names this sector as its own, else the header found there.
 fn push_own(
     ranges: &mut Vec<Zeroed>,
     sector: u64,
@@ -311,7 +311,6 @@ fn push_own(
     }
 }
 
-// The signatures.
 fn push_signatures(ranges: &mut Vec<Zeroed>, signatures: &[Signature]) -> Result<()>
     ensures refused { IfErr result (λ e. fault_of e ≡ out_of_memory) }
     ensures adds { OnOk result
@@ -323,7 +322,7 @@ fn push_signatures(ranges: &mut Vec<Zeroed>, signatures: &[Signature]) -> Result
     Ok(())
 }
 
-// The entries and the end of a protective MBR.
+// Adds the entries and 55 AA of a protective MBR.
 fn push_mbr(ranges: &mut Vec<Zeroed>, kind: MbrKind) -> Result<()>
     ensures refused { IfErr result (λ e. fault_of e ≡ out_of_memory) }
     ensures adds { OnOk result (Adds (IsOfMbr kind) ranges.old.items ranges.new.items) }
@@ -334,7 +333,7 @@ fn push_mbr(ranges: &mut Vec<Zeroed>, kind: MbrKind) -> Result<()>
     push_range(ranges, MBR_START, MBR_SIZE)
 }
 
-// The header and the entries of a copy.
+// Adds the header and the entries of a copy. Entries in sectors 0 and 1 are left out.
 fn push_copy(ranges: &mut Vec<Zeroed>, header: &GPTHeader, sector_size: u64) -> Result<()>
     ensures refused { IfErr result (λ e. fault_of e ≡ out_of_memory) }
     ensures adds { OnOk result
@@ -348,7 +347,7 @@ fn push_copy(ranges: &mut Vec<Zeroed>, header: &GPTHeader, sector_size: u64) -> 
     push(ranges, header.partition_entry_lba, sector_size, entries)
 }
 
-// So many bytes from this sector on.
+// Adds `length` bytes from this sector, unless they are past byte 2^64.
 fn push(ranges: &mut Vec<Zeroed>, sector: u64, sector_size: u64, length: u64) -> Result<()>
     ensures refused { IfErr result (λ e. fault_of e ≡ out_of_memory) }
     ensures adds { OnOk result
@@ -360,7 +359,6 @@ fn push(ranges: &mut Vec<Zeroed>, sector: u64, sector_size: u64, length: u64) ->
     }
 }
 
-// So many bytes from this one on.
 fn push_range(ranges: &mut Vec<Zeroed>, start: u64, length: u64) -> Result<()>
     ensures refused { IfErr result (λ e. fault_of e ≡ out_of_memory) }
     ensures adds { OnOk result (Adds (IsIn start length) ranges.old.items ranges.new.items) }
@@ -369,7 +367,7 @@ fn push_range(ranges: &mut Vec<Zeroed>, start: u64, length: u64) -> Result<()>
     Ok(())
 }
 
-// A header that may be broken, and its entries if they are where they usually are.
+// Adds a header that may be broken, and its entries if they are at their usual place.
 fn push_raw(ranges: &mut Vec<Zeroed>, header: Option<RawHeader>, sector_size: u64) -> Result<()>
     requires { 0 < sector_size }
     ensures refused { IfErr result (λ e. fault_of e ≡ out_of_memory) }
@@ -382,7 +380,6 @@ fn push_raw(ranges: &mut Vec<Zeroed>, header: Option<RawHeader>, sector_size: u6
     }
 }
 
-// The same of one that was seen.
 fn push_seen(ranges: &mut Vec<Zeroed>, header: &RawHeader, sector_size: u64) -> Result<()>
     requires { 0 < sector_size }
     ensures refused { IfErr result (λ e. fault_of e ≡ out_of_memory) }
@@ -397,7 +394,7 @@ fn push_seen(ranges: &mut Vec<Zeroed>, header: &RawHeader, sector_size: u64) -> 
     push(ranges, header.entries_lba, sector_size, entries)
 }
 
-// Whether the entries of a header in sector 1 are in sector 2, or those of another end before it.
+// Reports whether entries are in sector 2 for a header in sector 1, else right before the header.
 fn has_usual_entries(header: &RawHeader, sector_size: u64) -> bool
     requires { 0 < sector_size }
     ensures { IsTrue result ↔ HasUsualEntries header.now sector_size }

@@ -1,4 +1,4 @@
-//! What the first 512 bytes of a disk hold: an MBR, and of which kind.
+//! The MBR in the first 512 bytes of a disk.
 
 ghost use Rattle.std.specs.Prelude.{◌≡◌, ◌≤◌, ◌<◌, ℕ, false, get_or, IfOk, IsTrue};
 ghost use Rattle.gptedit_look.specs.FirstSector.{IsVacant};
@@ -12,27 +12,27 @@ use crate::protective::find_misfit;
 use gptman::{Disk, Result};
 use std::alloc::{AllocError, Global};
 
-/// The length of a master boot record in bytes.
+/// The length of an MBR in bytes.
 pub const MBR_LENGTH: u64 = 512;
 
-// The first byte of each of its four entries.
+// The offsets of its four entries.
 const ENTRIES: [usize; 4] = [446, 462, 478, 494];
 
-// The type of an entry that protects a disk.
+// The type of a protective entry.
 const PROTECTIVE: u8 = 0xee;
 
-/// What an MBR is.
+/// The kind of an MBR.
 #[derive(Debug, Clone, Copy, PartialEq, Eq)]
 pub enum MbrKind {
-    /// There is no 55 AA, or there are no entries: all of their bytes are zero.
+    /// No 55 AA; or all bytes of the entries are zero, and there is no FAT, exFAT or NTFS boot sector.
     None,
-    /// There is 55 AA, and what is before it is no MBR, as the boot sector of a file system.
+    /// 55 AA without an MBR, as in the boot sector of a file system.
     Other,
-    /// One protective entry or more, and no other.
+    /// Protective entries only, one or more.
     Protective,
-    /// A protective entry and others.
+    /// Protective and other entries.
     Hybrid,
-    /// Entries, and no protective one.
+    /// Entries, none of them protective.
     Dos,
 }
 
@@ -54,18 +54,18 @@ pub struct Listed {
 pub struct FirstSector {
     /// Its kind.
     pub kind: MbrKind,
-    /// Whether the only entry, if it is protective and starts on the disk, has the length that it should have: to
-    /// the end of the disk, or the greatest that an entry can have. It is true of any other MBR.
+    /// False if the only entry is protective, starts on the disk, and has a wrong length: neither one that ends with
+    /// the disk nor `0xFFFFFFFF`.
     pub is_length_right: bool,
     /// The number of protective entries.
     pub protective_count: u8,
     /// Whether an entry is marked as bootable.
     pub is_bootable: bool,
-    /// The other entries.
+    /// The used entries that are not protective.
     pub listed: Vec<Listed>,
 }
 
-// An entry as it is on the disk.
+// An entry as stored on the disk.
 #[derive(Clone, Copy)]
 struct Entry {
     number: u8,
@@ -76,7 +76,7 @@ struct Entry {
 }
 
 impl Entry {
-    // The entry at this byte of a sector.
+    // Decodes the entry at offset `at`. Missing bytes are 0.
     fn decode(bytes: &[u8], number: u8, at: usize) -> Entry {
         Entry {
             number,
@@ -87,7 +87,7 @@ impl Entry {
         }
     }
 
-    // Whether its boot mark is one of the two that there are.
+    // Reports whether the boot mark is valid.
     fn has_mark(self) -> bool {
         self.mark == 0 || self.mark == 0x80
     }
@@ -96,16 +96,16 @@ impl Entry {
         self.kind == PROTECTIVE
     }
 
-    // Whether it lists a partition.
+    // Reports whether the entry describes a partition.
     fn is_used(self) -> bool {
         self.kind != 0 && self.sectors != 0
     }
 }
 
-/// Reads the MBR of a disk, whose sectors have `sector_size` bytes.
+/// Reads the MBR of a disk with sectors of `sector_size` bytes.
 ///
 /// # Errors
-/// `Io` if the disk failed, `OutOfMemory` if there was no memory.
+/// `Io` if the disk fails, `OutOfMemory` if an allocation fails.
 #[tactic(auto, using(gptman::proofs::Readers::both_read, gptman::proofs::Runs::rose_since))]
 pub fn read_first_sector<D: Disk>(
     alloc: Global,
@@ -121,7 +121,7 @@ pub fn read_first_sector<D: Disk>(
     Ok(decode(alloc, &bytes, sectors)?)
 }
 
-/// Returns what the first 512 bytes of a disk with `sectors` sectors are.
+/// Decodes the first 512 bytes of a disk with `sectors` sectors. Fails only if an allocation fails.
 pub fn decode(
     alloc: Global,
     bytes: &[u8],
@@ -155,12 +155,11 @@ pub fn decode(
     })
 }
 
-// Whether the entries of such an MBR are entries.
+// Reports whether an MBR of this kind has entries.
 fn has_entries(kind: MbrKind) -> bool {
     !matches!(kind, MbrKind::None | MbrKind::Other)
 }
 
-// The four entries.
 fn decode_entries(bytes: &[u8]) -> [Entry; 4] {
     let [a, b, c, d] = ENTRIES;
     [
@@ -180,7 +179,7 @@ fn listed_of(entry: Entry) -> Listed {
     }
 }
 
-// Whether the only entry, if it is protective, has the length that it should have on a disk of so many sectors.
+// Reports whether no entry has a wrong length, as `find_misfit` defines it.
 fn has_right_length(bytes: &[u8], sectors: u64) -> bool
     ensures fits { IsTrue result → (i : ℕ) → ¬ IsOutOfLength bytes.now sectors i }
     ensures misfit { (i : ℕ) → IsOutOfLength bytes.now sectors i → result ≡ false }
@@ -188,7 +187,6 @@ fn has_right_length(bytes: &[u8], sectors: u64) -> bool
     find_misfit(bytes, sectors).is_none()
 }
 
-// What an MBR with these entries is.
 fn kind_of(bytes: &[u8], entries: &[Entry; 4]) -> MbrKind
     ensures { result ≡ Empty → IsVacant bytes.now }
 {
@@ -208,14 +206,14 @@ fn kind_of(bytes: &[u8], entries: &[Entry; 4]) -> MbrKind
     }
 }
 
-/// Reports whether all bytes of the entries are zero, and this is no boot sector.
+/// Reports whether all bytes of the entries are zero, and this is not a boot sector.
 pub fn is_empty(bytes: &[u8]) -> bool
     ensures { IsTrue result → (k : ℕ) → 446 ≤ k → k < 510 → get_or bytes.now k 0 ≡ 0 }
 {
     are_zero(bytes, 446, 510) && !is_boot_sector(bytes)
 }
 
-// Whether the bytes from `first` on and before `end` are zero. There are zeros after the last byte.
+// Reports whether the bytes from `first` to `end`, exclusive, are zero. Missing bytes are 0.
 fn are_zero(bytes: &[u8], first: usize, end: usize) -> bool
     ensures { IsTrue result → (k : ℕ) → first ≤ k → k < end → get_or bytes.now k 0 ≡ 0 }
 {
@@ -227,7 +225,7 @@ fn are_zero(bytes: &[u8], first: usize, end: usize) -> bool
     true
 }
 
-// Whether the four entries are entries, and not the code of a boot sector.
+// Reports whether the entries are not boot code: all boot marks are valid, and this is not a boot sector.
 fn is_partitioned(bytes: &[u8], entries: &[Entry; 4]) -> bool {
     entries.iter().all(|entry| entry.has_mark()) && !is_boot_sector(bytes)
 }
@@ -241,7 +239,7 @@ fn is_ntfs_or_exfat(bytes: &[u8]) -> bool {
     has_jump(bytes) && (has_at(bytes, 3, b"NTFS    ") || has_at(bytes, 3, b"EXFAT   "))
 }
 
-// Whether it begins with a jump, and the parameters of a FAT file system follow.
+// Reports whether a jump is first, and the text or the parameters of a FAT file system follow.
 fn is_fat(bytes: &[u8]) -> bool {
     has_jump(bytes) && (has_fat_text(bytes) || has_fat_parameters(bytes))
 }
@@ -257,7 +255,7 @@ fn has_fat_text(bytes: &[u8]) -> bool {
         || has_at(bytes, 82, b"FAT32   ")
 }
 
-// Whether the numbers after the jump are those of a FAT file system.
+// Reports whether the numbers after the jump are those of a FAT file system.
 fn has_fat_parameters(bytes: &[u8]) -> bool {
     let sector_size = u16_at(bytes, 11);
     let cluster = bytes.get(13).copied().unwrap_or(0);

@@ -1,4 +1,4 @@
-//! On which grounds a byte may be overwritten, though it is not zero.
+//! The reasons for which a nonzero byte may be overwritten.
 
 ghost use Rattle.std.specs.Prelude.{◌≡◌, ◌↔◌, ◌≤◌, ◌<◌, ◌+◌, ◌-◌, ◌*◌, ◌/◌, ◌⊎◌, ℕ, All, IsTrue};
 ghost use Rattle.gptedit_look.specs.Guard.{entries_size, last_of, GetsPlace, GivesBackup, GivesPrimary};
@@ -14,23 +14,23 @@ use gptedit_marks::Content;
 use gptman::copy::WholeCopy;
 use gptman::{GPT, GPTHeader, Result};
 
-// The bytes of a header.
+// The size of a header in bytes.
 const HEADER_SIZE: u64 = 92;
 
-// The bytes of an entry.
+// The size of an entry in bytes.
 const ENTRY_SIZE: u64 = 128;
 
-// The bytes of a content of which only the beginning is known.
+// The assumed length in bytes of contents whose end is unknown.
 const MARK_SIZE: u64 = 512;
 
-/// Reports whether a write of the table `next` may overwrite this byte whatever it is.
+/// Reports whether a write of the table `next` may overwrite this byte, whatever its value.
 pub fn is_allowed(look: &Look, purpose: Purpose, next: &GPT, at: u64) -> bool
     ensures { IsTrue result ↔ IsAllowed look.now purpose next.now at }
 {
     is_own(look, at) || is_given(look, purpose, at) || is_new(look, purpose, next, at)
 }
 
-/// Reports whether this byte is one of a good copy, as that copy says.
+/// Reports whether this byte belongs to a good copy, by that copy's header.
 pub fn is_own(look: &Look, at: u64) -> bool
     ensures { IsTrue result ↔ IsOwn look.now at }
 {
@@ -38,7 +38,7 @@ pub fn is_own(look: &Look, at: u64) -> bool
         || is_own_of(&look.copies.backup, last_of(look), look.sector_size, at)
 }
 
-// Whether a copy is good, its header says that it is in this sector, and this byte is one of it.
+// Reports whether a copy is good, its header names this sector as its own, and this byte belongs to it.
 fn is_own_of(copy: &Result<WholeCopy>, sector: u64, sector_size: u64, at: u64) -> bool
     ensures { IsTrue result ↔ IsOwnOf sector sector_size at copy.now }
 {
@@ -48,7 +48,7 @@ fn is_own_of(copy: &Result<WholeCopy>, sector: u64, sector_size: u64, at: u64) -
     }
 }
 
-// Whether a copy is good, and its header says that it is in this sector.
+// Reports whether a copy is good and its header names this sector as its own.
 fn is_good_in(copy: &Result<WholeCopy>, sector: u64) -> bool
     ensures { IsTrue result ↔ IsGoodIn sector copy.now }
 {
@@ -58,14 +58,14 @@ fn is_good_in(copy: &Result<WholeCopy>, sector: u64) -> bool
     }
 }
 
-// The last whole sector.
+// Returns the last whole sector.
 fn last_of(look: &Look) -> u64
     ensures { result ≡ last_of look.now }
 {
     (look.size / look.sector_size).saturating_sub(1)
 }
 
-// Whether this byte is one of the copy with this header.
+// Reports whether this byte is in the header or the entries of this copy.
 fn is_of_copy(header: &GPTHeader, sector_size: u64, at: u64) -> bool
     ensures { IsTrue result ↔ IsOfCopy header.now sector_size at }
 {
@@ -77,14 +77,14 @@ fn is_of_copy(header: &GPTHeader, sector_size: u64, at: u64) -> bool
         )
 }
 
-// The length of a header's entries in bytes.
+// Returns the size of the entries in bytes.
 fn entries_size(header: &GPTHeader) -> u64
     ensures { result ≡ entries_size header.now }
 {
     ENTRY_SIZE * u64::from(header.number_of_partition_entries)
 }
 
-// Whether this byte is one of a broken copy, as the good one says, and may be overwritten as that.
+// Reports whether this byte belongs to a broken copy, by the good copy's header, and may be overwritten.
 fn is_given(look: &Look, purpose: Purpose, at: u64) -> bool
     ensures { IsTrue result ↔ IsGiven look.now purpose at }
 {
@@ -92,7 +92,7 @@ fn is_given(look: &Look, purpose: Purpose, at: u64) -> bool
         || !is_good_in(&look.copies.primary, 1) && gives_primary(look, purpose, at)
 }
 
-// Whether this byte is one of the backup copy, as the good primary copy says, and may be replaced.
+// Reports whether this byte belongs to the backup copy, by the good primary header, and may be replaced.
 fn gives_backup(look: &Look, purpose: Purpose, at: u64) -> bool
     ensures { IsTrue result ↔ GivesBackup look.now purpose at look.now.copies.primary }
 {
@@ -115,7 +115,7 @@ fn gives_backup(look: &Look, purpose: Purpose, at: u64) -> bool
     }
 }
 
-// Whether this byte is one of the primary copy, as the good backup copy says, and may be replaced.
+// Reports whether this byte belongs to the primary copy, by the good backup header, and may be replaced.
 fn gives_primary(look: &Look, purpose: Purpose, at: u64) -> bool
     ensures { IsTrue result ↔ GivesPrimary look.now purpose at look.now.copies.backup }
 {
@@ -131,7 +131,7 @@ fn gives_primary(look: &Look, purpose: Purpose, at: u64) -> bool
     }
 }
 
-// Whether this byte is one of the other copy, whose entries come after this sector.
+// Reports whether this byte belongs to the other copy, by this header. The other entries begin after sector `before`.
 fn is_of_other(header: &GPTHeader, before: u64, sector_size: u64, at: u64) -> bool
     ensures { IsTrue result ↔ IsOfOther header.now before sector_size at }
 {
@@ -139,7 +139,7 @@ fn is_of_other(header: &GPTHeader, before: u64, sector_size: u64, at: u64) -> bo
         || is_in(start_after(before, sector_size), entries_size(header), at)
 }
 
-// Whether this byte is in a usable sector.
+// Reports whether this byte is in a usable sector.
 fn is_usable(header: &GPTHeader, sector_size: u64, at: u64) -> bool
     ensures { IsTrue result ↔ IsUsable header.now sector_size at }
 {
@@ -148,8 +148,8 @@ fn is_usable(header: &GPTHeader, sector_size: u64, at: u64) -> bool
         && at < start_after(header.last_usable_lba, sector_size)
 }
 
-// Whether a header of this table is still in the place of the other copy, or the table is repaired and this byte
-// is one of nothing that is recognised.
+// Reports whether a header of this table is still at the place of the other copy, or this is a repair and nothing
+// recognised contains this byte.
 fn is_replaced(
     look: &Look,
     purpose: Purpose,
@@ -165,7 +165,7 @@ fn is_replaced(
         || is_repair(purpose) && is_unknown(look, at)
 }
 
-// Whether what is left of a header is where the other header is to be, and has the GUID of this disk.
+// Reports whether this header is in the sector that `header` names for the other copy, and has its disk GUID.
 fn is_of_table(header: &GPTHeader, sector_size: u64, there: Option<RawHeader>) -> bool
     ensures { IsTrue result ↔ IsOfTable header.now sector_size there }
 {
@@ -184,14 +184,14 @@ fn is_repair(purpose: Purpose) -> bool
     matches!(purpose, Purpose::Repair)
 }
 
-// Whether a copy gets a new place there, and this byte is one of nothing that is recognised.
+// Reports whether a copy gets a new place here, and nothing recognised contains this byte.
 fn is_new(look: &Look, purpose: Purpose, next: &GPT, at: u64) -> bool
     ensures { IsTrue result ↔ GetsPlace next.now at purpose × IsUnknown look.now at }
 {
     gets_place(next, at, purpose) && is_unknown(look, at)
 }
 
-// Whether a copy gets a new place there.
+// Reports whether a copy gets a new place here.
 fn gets_place(next: &GPT, at: u64, purpose: Purpose) -> bool
     ensures { IsTrue result ↔ GetsPlace next.now at purpose }
 {
@@ -202,7 +202,7 @@ fn gets_place(next: &GPT, at: u64, purpose: Purpose) -> bool
     }
 }
 
-/// Reports whether this byte is one of the backup copy of a table with the stated layout.
+/// Reports whether this byte belongs to the backup copy of a table with the stated layout.
 pub fn is_of_backup(table: &GPT, at: u64) -> bool
     ensures { IsTrue result ↔ IsOfBackup table.now at }
 {
@@ -213,14 +213,14 @@ pub fn is_of_backup(table: &GPT, at: u64) -> bool
         || is_in(entries, entries_size(header), at)
 }
 
-/// Reports whether this byte is one of nothing that is recognised.
+/// Reports whether nothing recognised contains this byte.
 pub fn is_unknown(look: &Look, at: u64) -> bool
     ensures { IsTrue result ↔ IsUnknown look.now at }
 {
     has_no_content(look, &look.contents, at) && !is_in_footer(look, at)
 }
 
-// Whether this byte is one of none of these contents.
+// Reports whether this byte is in none of these contents.
 fn has_no_content(look: &Look, contents: &[Content], at: u64) -> bool
     ensures { IsTrue result ↔ All (λ (content : Content). ¬ IsContent look.now at content) contents.now }
 {
@@ -229,7 +229,7 @@ fn has_no_content(look: &Look, contents: &[Content], at: u64) -> bool
         .all(|content| !is_in_content(look, at, content))
 }
 
-/// Reports whether this byte is one of the footer.
+/// Reports whether this byte is in the footer.
 pub fn is_in_footer(look: &Look, at: u64) -> bool
     ensures { IsTrue result ↔ IsFooter at look.now.footer }
 {
@@ -239,14 +239,14 @@ pub fn is_in_footer(look: &Look, at: u64) -> bool
     }
 }
 
-/// Reports whether this byte is one of a content, which does not begin in a good copy.
+/// Reports whether this byte is in contents that do not begin in a good copy.
 pub fn is_in_content(look: &Look, at: u64, content: &Content) -> bool
     ensures { IsTrue result ↔ IsContent look.now at content.now }
 {
     is_spanned(content, at) && !is_own(look, content.start)
 }
 
-// Whether this byte is one of it: of all of it if its end is known, or else of its first 512 bytes.
+// Reports whether this byte is in these contents, or in their first 512 bytes if the end is unknown.
 fn is_spanned(content: &Content, at: u64) -> bool
     ensures { IsTrue result ↔ IsSpanned content.now at }
 {
@@ -259,7 +259,7 @@ fn is_spanned(content: &Content, at: u64) -> bool
     }
 }
 
-/// Reports whether this byte is one of a broken copy, as the good one says.
+/// Reports whether this byte belongs to a broken copy, by the good copy's header, outside the usable sectors.
 pub fn is_of_broken(look: &Look, at: u64) -> bool {
     match (&look.copies.primary, &look.copies.backup) {
         (Ok(copy), Err(_)) => is_of_lost(&copy.header, copy.header.last_usable_lba, look, at),
@@ -268,13 +268,13 @@ pub fn is_of_broken(look: &Look, at: u64) -> bool {
     }
 }
 
-// Whether this byte is one of the other copy, outside of the usable sectors.
+// Reports whether this byte belongs to the other copy, outside the usable sectors.
 fn is_of_lost(header: &GPTHeader, before: u64, look: &Look, at: u64) -> bool {
     is_of_other(header, before, look.sector_size, at) && !is_usable(header, look.sector_size, at)
 }
 
-/// Reports whether this byte is one of the backup entries that the write puts after a last usable sector that is
-/// lower than usual.
+/// Reports whether this byte belongs to the new backup copy, and a low last usable sector separates its entries from
+/// its header.
 pub fn is_of_low_entries(next: &GPT, at: u64) -> bool {
     let header = &next.header;
     let entries = entries_size(header).div_ceil(next.sector_size.max(1));
@@ -286,13 +286,14 @@ pub fn is_of_low_entries(next: &GPT, at: u64) -> bool {
     is_of_backup(next, at) && behind < other
 }
 
-/// Reports whether this byte is one of the write's entries, and a good copy has its own elsewhere.
+/// Reports whether entries elsewhere are the likely reason why this byte may not be overwritten: it is in sector 2 or
+/// later, and the good primary copy has its entries in another sector, or the new backup copy contains the byte.
 pub fn are_entries_elsewhere(look: &Look, next: &GPT, at: u64) -> bool {
     let is_moved = has_moved_entries(&look.copies.primary, 2);
     at >= look.sector_size.saturating_mul(2) && (is_moved || is_of_backup(next, at))
 }
 
-// Whether a good copy has its entries in another sector than this.
+// Reports whether a good copy has its entries in another sector than this.
 fn has_moved_entries(copy: &Result<WholeCopy>, sector: u64) -> bool {
     match copy {
         Ok(copy) => copy.header.partition_entry_lba != sector,

@@ -1,4 +1,4 @@
-//! What a write of a table may overwrite.
+//! Decides what a write of a table may overwrite.
 
 ghost use Rattle.std.specs.Prelude.{◌≡◌, ◌≢◌, ◌↔◌, ◌≤◌, ◌<◌, ◌+◌, ◌-◌, ◌^◌, ◌⊎◌, ℕ, length, slice_index, IfOk, IsSome, IsTrue, MatchOption, OnOk};
 ghost use Rattle.gptman.specs.Answers.{HasCause};
@@ -17,19 +17,19 @@ use crate::touched::{Touched, TouchedCopy, touched_by};
 use crate::what::{known_beside, name_of};
 use gptman::{Disk, GPT, Result};
 
-// The most bytes that are read at a time.
+// The maximum number of bytes per read.
 const BLOCK: u64 = 512;
 
-/// Returns what is in the way of a write of the table `next`, or nothing. `next` has the stated layout on this
-/// disk. Nothing is written.
+/// Returns the obstacle to a write of the table `next`, if there is one. `next` is expected to have the stated layout
+/// on this disk. Only reads.
 ///
-/// Each byte that the write touches has to be one of a good copy, as that copy says; one of a broken copy, as
-/// the good one says, outside of the usable sectors, where a header of this table still is, or which is
-/// repaired; zero; or, where a copy gets a new place, one of nothing that is recognised. A DOS disk is always in
-/// the way, and a new table also has all that is recognised on the disk in its way.
+/// The write may overwrite a byte that is zero, belongs to a good copy, or is at a new place of a copy and in nothing
+/// recognised. It may also overwrite a byte of a broken copy, by the good copy's header, outside the usable sectors, if
+/// a header of this table is still there, or if this is a repair and nothing recognised contains the byte. A DOS disk
+/// is always an obstacle, and anything recognised on the disk is one to a new table.
 ///
 /// # Errors
-/// `Io` if the disk failed.
+/// `Io` if the disk fails.
 pub fn find_obstacle<D: Disk>(
     disk: &mut D,
     look: &Look,
@@ -43,7 +43,7 @@ pub fn find_obstacle<D: Disk>(
         (AreAllFree look.now purpose next.now (D.state disk.old).view (D.state disk.old).size)
         (IsNamed look.now purpose next.now (D.state disk.old).view)) }
 
-    // After None a write of the table changes no byte that may not be overwritten.
+    // After `None` a write of the table changes only bytes that it may overwrite.
     ensures spares { IsHonest (D.state disk.old) → result ≡ Ok None
         → SparesOthers look.now purpose next.now (D.state disk.old).view }
 {
@@ -62,7 +62,7 @@ pub fn find_obstacle<D: Disk>(
     }
 }
 
-// What is in the way wherever it is: a DOS disk, and for a new table all that is recognised.
+// Returns an obstacle wherever it is: a DOS disk, or for a new table anything recognised.
 fn find_known(look: &Look, purpose: Purpose) -> Option<Obstacle>
     ensures some { IsSome result → (look.now.first_sector.kind ≡ Dos) ⊎ (purpose ≡ New) }
     ensures dos { look.now.first_sector.kind ≡ Dos → IsSome result }
@@ -76,7 +76,7 @@ fn find_known(look: &Look, purpose: Purpose) -> Option<Obstacle>
     }
 }
 
-// That a boot loader may be where the primary copy of a table is.
+// Returns the sectors of a primary copy, where a boot loader may be.
 fn dos_disk(look: &Look) -> Obstacle {
     let last = (look.size / look.sector_size).saturating_sub(1);
     Obstacle {
@@ -86,25 +86,23 @@ fn dos_disk(look: &Look) -> Obstacle {
     }
 }
 
-/// A write of a table, and what a look at the disk saw before it.
+/// A planned write, and the inspection before it.
 #[derive(Clone, Copy)]
 struct Grounds<'a> {
-    // What the look saw.
     look: &'a Look,
-    // What the table is written for.
     purpose: Purpose,
-    // The table.
+    // The table to write.
     next: &'a GPT,
 }
 
-// A byte that a write may not overwrite, and the end of the range in which the write touches it.
+// A byte that a write may not overwrite, and the end of the range that contains it.
 #[derive(Clone, Copy)]
 struct Refused {
     at: u64,
     end: u64,
 }
 
-// The first byte that the write may not overwrite.
+// Returns the first byte that the write may not overwrite.
 fn find_refused<D: Disk>(disk: &mut D, grounds: &Grounds<'_>) -> Result<Option<Refused>>
     ensures reads { Reads (D.state disk.old) (D.state disk.new) }
     ensures cause { HasCause result (D.state disk.old) (D.state disk.new) }
@@ -122,7 +120,6 @@ fn find_refused<D: Disk>(disk: &mut D, grounds: &Grounds<'_>) -> Result<Option<R
     }
 }
 
-// The first byte of a copy that the write may not overwrite.
 fn find_in_copy<D: Disk>(
     disk: &mut D,
     grounds: &Grounds<'_>,
@@ -143,7 +140,6 @@ fn find_in_copy<D: Disk>(
     }
 }
 
-// The first byte of the range that the write may not overwrite.
 fn find_in_range<D: Disk>(
     disk: &mut D,
     grounds: &Grounds<'_>,
@@ -172,7 +168,7 @@ fn find_in_range<D: Disk>(
     Ok(None)
 }
 
-// The first of so many bytes, at most 512, that the write may not overwrite.
+// Returns the first of `count` bytes, at most 512, that the write may not overwrite.
 #[tactic(auto, using(crate::proofs::Pieces::block_answer, gptman::proofs::Readers::both_read))]
 fn find_in_block<D: Disk>(
     disk: &mut D,
@@ -196,7 +192,6 @@ fn find_in_block<D: Disk>(
     Ok(find_in_bytes(grounds, block, at))
 }
 
-// Reads so many bytes from this one on.
 #[tactic(auto, using(gptman::proofs::Readers::both_read, gptman::proofs::Runs::rose_since))]
 fn read_part<D: Disk>(disk: &mut D, at: u64, count: u64, part: &mut [u8]) -> Result<()>
     requires room { at + count ≤ (D.state disk.old).size }
@@ -212,7 +207,7 @@ fn read_part<D: Disk>(disk: &mut D, at: u64, count: u64, part: &mut [u8]) -> Res
     Ok(())
 }
 
-// The first of these bytes, which begin at this byte of the disk, that the write may not overwrite.
+// Returns the first of these bytes, from byte `at` of the disk, that the write may not overwrite.
 fn find_in_bytes(grounds: &Grounds<'_>, bytes: &[u8], at: u64) -> Option<u64>
     requires { at + length bytes.now < 2 ^ 64 }
     ensures { MatchOption result
@@ -230,7 +225,7 @@ fn find_in_bytes(grounds: &Grounds<'_>, bytes: &[u8], at: u64) -> Option<u64>
     None
 }
 
-// Whether the write may overwrite this byte, which is in this place.
+// Reports whether the write may overwrite this byte, which is at `place`.
 fn may_be_overwritten(grounds: &Grounds<'_>, byte: u8, place: u64) -> bool
     ensures { IsTrue result ↔ (byte ≡ 0)
         ⊎ IsAllowed grounds.now.look.now grounds.now.purpose grounds.now.next.now place }

@@ -1,7 +1,7 @@
-//! The one look at a disk before anything is written to it: both copies of the table, their raw headers, the
-//! MBR, and what is recognised. From it `find_obstacle` decides what a write may overwrite.
+//! Inspects a disk before anything is written to it: both copies of the table, their raw headers, the MBR, and
+//! recognised contents. From this one inspection `find_obstacle` decides what a write may overwrite.
 //!
-//! Everything here only reads, except `mend_mbr`, `clear_signatures` and `wipe`.
+//! Only `mend_mbr`, `clear_signatures` and `wipe` write.
 #![tactic(auto)]
 
 pub mod blocks;

@@ -17,39 +17,39 @@ use crate::protective::{Misfit, find_misfit};
 use gptman::cells::{put, put_u32};
 use gptman::{Disk, GPT, Result};
 
-// The byte of the disk at which the entries begin.
+// The first byte of the entries on the disk.
 const MBR_START: u64 = 446;
 
 // The byte after an MBR.
 const MBR_END: u64 = 512;
 
-// The first byte of the first entry.
+// The offset of the first entry.
 const ENTRIES: usize = 446;
 
-// The bytes of an entry.
+// The size of an entry in bytes.
 const ENTRY_SIZE: usize = 16;
 
-// The end of an entry that passes what an end can say.
+// The CHS address for an end that CHS cannot express.
 const LAST_END: [u8; 3] = [0xff; 3];
 
-/// What became of the MBR.
+/// The change made to the MBR.
 #[derive(Debug, Clone, Copy, PartialEq, Eq)]
 pub enum MbrChange {
     /// It is unchanged.
     Left,
-    /// The length and the end of its protective entry were set right.
+    /// The length and the end of its protective entry were corrected.
     Mended,
-    /// It was made.
+    /// A protective MBR was written.
     Made,
 }
 
-/// Sets the length and the end of a protective entry right, if it is the only entry and its length is wrong; or
-/// writes a protective MBR, if there is no 55 AA or no entry at all, and `may_make`. The boot code, the boot mark,
-/// the start of the entry and any other MBR stay as they are. What is written is synced. With `is_dry` nothing is
-/// written.
+/// Corrects the length and the end of the protective entry, if it is the only entry and its length is wrong. With
+/// `may_make`, writes a protective MBR if there is no 55 AA or no entry. Syncs what it writes. The boot code, the boot
+/// mark, the start of the entry and any other MBR stay unchanged. With `is_dry` nothing is written, and the change that
+/// would be made is returned.
 ///
 /// # Errors
-/// `Io` if the disk failed, `Overflow` or `NoSpaceLeft` if the disk is too short for an MBR that is made.
+/// `Io` if the disk fails, `Overflow` if a new MBR is to be written and the disk is shorter than a sector.
 pub fn mend_mbr<D: Disk>(
     disk: &mut D,
     sector_size: u64,
@@ -59,11 +59,11 @@ pub fn mend_mbr<D: Disk>(
     ensures keeps { Keeps (D.state disk.old) (D.state disk.new) }
     ensures cause { HasCause result (D.state disk.old) (D.state disk.new) }
 
-    // No byte but those from 446 to 511 changes at any moment, and none in a dry run.
+    // Only bytes 446 to 511 change at any moment, and none in a dry run.
     ensures wrote { Writes (mbr_range ∷ []) (D.state disk.old) (D.state disk.new) }
     ensures dry { IsTrue is_dry → Reads (D.state disk.old) (D.state disk.new) }
 
-    // What the answer says is what was done.
+    // The result describes the change that was made.
     ensures change { IsHonest (D.state disk.old) → IfOk result (λ change.
         IsChange may_make is_dry sector_size change (D.state disk.old) (D.state disk.new)) }
 
@@ -71,7 +71,7 @@ pub fn mend_mbr<D: Disk>(
     ensures others { IsHonest (D.state disk.old) → IsForeign (first_bytes (D.state disk.old))
         → Reads (D.state disk.old) (D.state disk.new) }
 
-    // A wrong length is set right.
+    // A wrong length is corrected.
     ensures needed { IsHonest (D.state disk.old) → (i : ℕ)
         → IsInNeed (D.state disk.old) sector_size i → IfOk result (λ change. change ≡ Mended) }
 {
@@ -89,7 +89,7 @@ pub fn mend_mbr<D: Disk>(
     Ok(change_of(plan))
 }
 
-// What is to become of an MBR.
+// The planned change of an MBR.
 #[derive(Clone, Copy)]
 enum Plan {
     Leave,
@@ -97,7 +97,6 @@ enum Plan {
     Make,
 }
 
-// What became of an MBR with which this was done.
 fn change_of(plan: Plan) -> MbrChange
     ensures { result ≡ change_of plan }
 {
@@ -108,7 +107,6 @@ fn change_of(plan: Plan) -> MbrChange
     }
 }
 
-// Reads the first 512 bytes.
 #[tactic(auto, using(gptman::proofs::Readers::both_read, gptman::proofs::Runs::rose_since))]
 fn read_first<D: Disk>(disk: &mut D) -> Result<[u8; 512]>
     requires { 512 ≤ (D.state disk.old).size }
@@ -123,7 +121,7 @@ fn read_first<D: Disk>(disk: &mut D) -> Result<[u8; 512]>
     Ok(bytes)
 }
 
-// What is to become of an MBR, on a disk of so many sectors.
+// Plans the change of an MBR on a disk of `sectors` sectors.
 fn plan_of(bytes: &[u8; 512], sectors: u64, may_make: bool) -> Plan
     ensures plan { IsPlan may_make sectors bytes.now result }
     ensures others { IsForeign bytes.now → result ≡ Leave }
@@ -139,7 +137,7 @@ fn plan_of(bytes: &[u8; 512], sectors: u64, may_make: bool) -> Plan
     }
 }
 
-// Whether there is no 55 AA, or no entry at all.
+// Reports whether there is no 55 AA or no entry.
 fn is_missing(bytes: &[u8; 512]) -> bool
     ensures missing { IsTrue result → IsVacant bytes.now }
     ensures marked { result ≡ false → IsMarked bytes.now }
@@ -150,7 +148,7 @@ fn is_missing(bytes: &[u8; 512]) -> bool
     is_empty(bytes)
 }
 
-// Does it, with an MBR of these bytes.
+// Carries out the plan. `bytes` are the first 512 of the disk.
 fn carry_out<D: Disk>(disk: &mut D, plan: Plan, bytes: &[u8; 512], sector_size: u64) -> Result<()>
     requires sector { 0 < sector_size }
     requires room { 512 ≤ (D.state disk.old).size }
@@ -170,7 +168,7 @@ fn carry_out<D: Disk>(disk: &mut D, plan: Plan, bytes: &[u8; 512], sector_size: 
     }
 }
 
-// Writes a protective MBR, and syncs it.
+// Writes and syncs a protective MBR.
 fn make_mbr<D: Disk>(disk: &mut D, sector_size: u64) -> Result<()>
     requires { 0 < sector_size }
     ensures keeps { Keeps (D.state disk.old) (D.state disk.new) }
@@ -184,7 +182,7 @@ fn make_mbr<D: Disk>(disk: &mut D, sector_size: u64) -> Result<()>
     Ok(())
 }
 
-// Sets the length and the end of an entry right, in an MBR of these bytes.
+// Corrects the length and the end of an entry. `bytes` are the first 512 of the disk.
 fn set_length<D: Disk>(disk: &mut D, misfit: Misfit, bytes: &[u8; 512]) -> Result<()>
     requires place { misfit.entry < 4 }
     requires room { 512 ≤ (D.state disk.old).size }
@@ -199,7 +197,7 @@ fn set_length<D: Disk>(disk: &mut D, misfit: Misfit, bytes: &[u8; 512]) -> Resul
     write_mbr(disk, &mended[446..512])
 }
 
-// The bytes with the length and the end of this entry set right.
+// Returns the bytes with the length and the end of this entry corrected.
 fn mended(bytes: &[u8; 512], misfit: Misfit) -> [u8; 512]
     requires { misfit.entry < 4 }
     ensures laid { result ≡ overlay (overlay bytes.now (451 + 16 * misfit.entry) (0xFF ∷ 0xFF ∷ 0xFF ∷ []))
@@ -213,7 +211,7 @@ fn mended(bytes: &[u8; 512], misfit: Misfit) -> [u8; 512]
     mended
 }
 
-// Writes the bytes from 446 to 511, and syncs them.
+// Writes and syncs bytes 446 to 511.
 fn write_mbr<D: Disk>(disk: &mut D, bytes: &[u8]) -> Result<()>
     requires room { 512 ≤ (D.state disk.old).size }
     requires length { length bytes.now ≡ 66 }

@@ -5,27 +5,27 @@ ghost use Rattle.gptedit_look.specs.Protective.{length_of, number_at, right_leng
 
 use crate::blocks::byte_at;
 
-// The first byte of the first entry.
+// The offset of the first entry.
 const ENTRIES: usize = 446;
 
-// The bytes of an entry.
+// The size of an entry in bytes.
 const ENTRY_SIZE: usize = 16;
 
-// The type of an entry that protects a disk.
+// The type of a protective entry.
 const PROTECTIVE: u8 = 0xee;
 
-/// The only entry of an MBR, which is protective and has not the length that it should have.
+/// A protective entry with a wrong length, the only entry of its MBR.
 #[derive(Debug, Clone, Copy, PartialEq, Eq)]
 pub struct Misfit {
-    /// Which entry it is, from 0 to 3.
+    /// The index of the entry, from 0 to 3.
     pub entry: usize,
-    /// The length that it should have, in sectors.
+    /// The right length in sectors.
     pub length: u32,
 }
 
-/// Returns the only entry of an MBR on a disk of so many sectors, if it is protective and has not the length that
-/// it should have: from its start to the end of the disk, or the greatest that an entry can have. An entry that
-/// starts past the end of the disk is left out.
+/// Returns the only entry of an MBR if it is protective and its length is wrong, on a disk of `sectors` sectors. The
+/// right length ends with the disk; `0xFFFFFFFF` is always accepted. An entry that does not start on the disk is not
+/// returned.
 pub fn find_misfit(bytes: &[u8], sectors: u64) -> Option<Misfit>
     ensures found { IfSome result (λ misfit. IsOutOfLength bytes.now sectors misfit.entry
         × (misfit.length ≡ right_length bytes.now sectors misfit.entry)) }
@@ -36,7 +36,7 @@ pub fn find_misfit(bytes: &[u8], sectors: u64) -> Option<Misfit>
     Some(Misfit { entry, length })
 }
 
-// The length that this entry should have, if it has another.
+// Returns the right length of this entry, if it has another.
 fn find_length(bytes: &[u8], sectors: u64, entry: usize) -> Option<u32>
     requires { entry < 4 }
     ensures found { IfSome result (λ length. HasWrongLength bytes.now sectors entry
@@ -56,7 +56,7 @@ fn find_length(bytes: &[u8], sectors: u64, entry: usize) -> Option<u32>
     }
 }
 
-// The protective entry that is the only one.
+// Returns the index of the protective entry, if all others have type 0.
 fn find_only(bytes: &[u8]) -> Option<usize>
     ensures found { IfSome result (IsOnlyProtective bytes.now) }
     ensures none { IfNone result ((i : ℕ) → ¬ IsOnlyProtective bytes.now i) }
@@ -76,14 +76,13 @@ fn find_only(bytes: &[u8]) -> Option<usize>
     }
 }
 
-// Whether an entry of the first type is protective, and those of the others are not used.
+// Reports whether the first type is protective and the others are 0.
 fn is_alone(one: u8, second: u8, third: u8, fourth: u8) -> bool
     ensures { IsTrue result ↔ (one ≡ 0xEE) × (second ≡ 0) × (third ≡ 0) × (fourth ≡ 0) }
 {
     one == PROTECTIVE && second == 0 && third == 0 && fourth == 0
 }
 
-// The type of this entry.
 fn type_of(bytes: &[u8], entry: usize) -> u8
     requires { entry < 4 }
     ensures { result ≡ type_of bytes.now entry }
@@ -91,7 +90,7 @@ fn type_of(bytes: &[u8], entry: usize) -> u8
     byte_at(bytes, ENTRIES + ENTRY_SIZE * entry + 4)
 }
 
-// The little-endian number in the four bytes from this one on.
+// Returns the little-endian number in the 4 bytes at `at`. Missing bytes are 0.
 fn number_at(bytes: &[u8], at: usize) -> u32
     requires { at < 512 }
     ensures { result ≡ number_at bytes.now at }

@@ -1,4 +1,4 @@
-//! A header as it is on the disk, without its tests.
+//! Header fields as stored on the disk, without validation.
 
 ghost use Rattle.std.specs.Prelude.{◌≡◌, ◌≤◌, ◌+◌, IfOk};
 ghost use Rattle.gptman.specs.Answers.{HasCause};
@@ -10,13 +10,13 @@ ghost use Rattle.gptedit_look.specs.Seen.{header_at, raw_of, IsRawOf, IsSeenAt};
 use crate::signatures::{Place, SIGNATURE, place_at};
 use gptman::{Disk, GPTHeader, Result};
 
-// The bytes of a header.
+// The size of a header in bytes.
 const LENGTH: u64 = 92;
 
-/// The fields of a header that begins with `EFI PART`, whatever else is wrong with it.
+/// The fields of a header that begins with `EFI PART`, valid or not.
 #[derive(Debug, Clone, Copy, PartialEq, Eq)]
 pub struct RawHeader {
-    /// The byte of the disk at which it begins.
+    /// Its first byte on the disk.
     pub at: u64,
     /// `Revision`.
     pub revision: [u8; 4],
@@ -41,7 +41,6 @@ pub struct RawHeader {
 }
 
 impl RawHeader {
-    // The fields of this header, which begins at this byte of the disk.
     fn of(at: u64, header: &GPTHeader) -> RawHeader
         ensures { result ≡ raw_of at header.now }
     {
@@ -64,7 +63,7 @@ impl RawHeader {
 /// Reads the header at this place, if it begins with `EFI PART`.
 ///
 /// # Errors
-/// `Io` if the disk failed.
+/// `Io` if the disk fails.
 #[tactic(auto, using(gptman::proofs::Readers::both_read, gptman::proofs::Runs::rose_since))]
 pub fn read_raw_header<D: Disk>(
     disk: &mut D,
@@ -81,16 +80,16 @@ pub fn read_raw_header<D: Disk>(
     }
 }
 
-/// Reads the header at this byte, if it begins with `EFI PART` and does not pass the end of the disk.
+/// Reads the header at byte `at`, if it begins with `EFI PART` and does not pass the end of the disk.
 ///
 /// # Errors
-/// `Io` if the disk failed.
+/// `Io` if the disk fails.
 #[tactic(auto, using(gptman::proofs::Readers::both_read, gptman::proofs::Runs::rose_since))]
 pub fn read_raw_header_at<D: Disk>(disk: &mut D, at: u64) -> Result<Option<RawHeader>>
     ensures reads { Reads (D.state disk.old) (D.state disk.new) }
     ensures cause { HasCause result (D.state disk.old) (D.state disk.new) }
 
-    // A header is answered exactly where there is one, with the fields that are on the disk.
+    // A header is returned exactly if there is one, with the fields on the disk.
     ensures seen { IsHonest (D.state disk.old) → IfOk result (IsSeenAt (D.state disk.old) at) }
 {
     let size = disk.seek_end()?;
@@ -100,7 +99,7 @@ pub fn read_raw_header_at<D: Disk>(disk: &mut D, at: u64) -> Result<Option<RawHe
     read_inside(disk, at)
 }
 
-// The same where it does not pass the end.
+// Reads a header that does not pass the end of the disk.
 fn read_inside<D: Disk>(disk: &mut D, at: u64) -> Result<Option<RawHeader>>
     requires { at + 92 ≤ (D.state disk.old).size }
     ensures reads { Reads (D.state disk.old) (D.state disk.new) }
@@ -112,7 +111,7 @@ fn read_inside<D: Disk>(disk: &mut D, at: u64) -> Result<Option<RawHeader>>
     Ok(raw_of(at, &header))
 }
 
-// The fields of this header, if it begins with `EFI PART`.
+// Returns the fields of this header, if it begins with `EFI PART`.
 fn raw_of(at: u64, header: &GPTHeader) -> Option<RawHeader>
     ensures { IsRawOf at header.now result }
 {
@@ -123,7 +122,7 @@ fn raw_of(at: u64, header: &GPTHeader) -> Option<RawHeader>
     }
 }
 
-// Reads the fields of a header at this byte.
+// Reads and decodes the header at this byte.
 #[tactic(auto, using(gptman::proofs::Readers::both_read, gptman::proofs::Runs::rose_since))]
 fn read_header<D: Disk>(disk: &mut D, at: u64) -> Result<GPTHeader>
     requires { at + 92 ≤ (D.state disk.old).size }
@@ -136,7 +135,6 @@ fn read_header<D: Disk>(disk: &mut D, at: u64) -> Result<GPTHeader>
     Ok(decoded(&bytes))
 }
 
-// The header that these bytes hold.
 #[tactic(auto, using(gptman::proofs::HeaderBytes::header_is))]
 fn decoded(bytes: &[u8; 92]) -> GPTHeader
     ensures { result ≡ header_of bytes.now }
@@ -144,7 +142,6 @@ fn decoded(bytes: &[u8; 92]) -> GPTHeader
     GPTHeader::decode(bytes)
 }
 
-// Reads 92 bytes from this one on.
 #[tactic(auto, using(gptman::proofs::Readers::both_read, gptman::proofs::Runs::rose_since))]
 fn read_bytes<D: Disk>(disk: &mut D, at: u64) -> Result<[u8; 92]>
     requires { at + 92 ≤ (D.state disk.old).size }

@@ -1,4 +1,4 @@
-//! The look at a disk.
+//! The inspection of a disk.
 
 ghost use Rattle.std.specs.Prelude.{◌<◌};
 ghost use Rattle.gptman.specs.Answers.{HasCause};
@@ -13,19 +13,19 @@ use gptman::{BothCopies, Disk, Error, GPT, Result, check};
 use gptman_change::read_table;
 use std::alloc::Global;
 
-// The greatest number of entries that is read.
+// The maximum number of entries that is read.
 const MOST_ENTRIES: u32 = 32768;
 
-// The sector size of a disk without a table, if none is given.
+// The sector size in bytes if there is no table and none is given.
 const DEFAULT_SECTOR_SIZE: u64 = 512;
 
-/// Looks at a disk, whose sectors have this size, or one that is found: 512, or 4096 if there is no signature
-/// with 512. Nothing is written.
+/// Inspects a disk with this sector size in bytes. `None` detects it: 512, or 4096 if there is no signature with 512.
+/// Only reads.
 ///
-/// A header that counts more than 32,768 entries ends the look before its entries are read.
+/// Returns `Looked::TooMany` before any entries are read if a header counts more than 32,768.
 ///
 /// # Errors
-/// `Io` if the disk failed, `OutOfMemory` if there was no memory.
+/// `Io` if the disk fails, `OutOfMemory` if an allocation fails.
 #[tactic(auto, using(gptman::proofs::Readers::both_read, gptman::proofs::Runs::rose_since))]
 pub fn look<D: Disk>(alloc: Global, disk: &mut D, sector_size: Option<u64>) -> Result<Looked>
     ensures reads { Reads (D.state disk.old) (D.state disk.new) }
@@ -37,7 +37,6 @@ pub fn look<D: Disk>(alloc: Global, disk: &mut D, sector_size: Option<u64>) -> R
     Ok(Looked::Seen(look_whole(alloc, disk, sector_size)?))
 }
 
-// Looks at a disk whose headers count few entries.
 #[tactic(auto, using(gptman::proofs::Readers::both_read, gptman::proofs::Runs::rose_since))]
 fn look_whole<D: Disk>(alloc: Global, disk: &mut D, sector_size: Option<u64>) -> Result<Look>
     ensures reads { Reads (D.state disk.old) (D.state disk.new) }
@@ -48,7 +47,7 @@ fn look_whole<D: Disk>(alloc: Global, disk: &mut D, sector_size: Option<u64>) ->
     see(alloc, disk, sector_size, table)
 }
 
-// The greatest number of entries that a header counts, if it is too great.
+// Returns the entry count of the first header that counts too many.
 #[tactic(auto, using(gptman::proofs::Readers::both_read, gptman::proofs::Runs::rose_since))]
 fn find_too_many<D: Disk>(disk: &mut D, sector_size: Option<u64>) -> Result<Option<u32>>
     ensures reads { Reads (D.state disk.old) (D.state disk.new) }
@@ -63,7 +62,6 @@ fn find_too_many<D: Disk>(disk: &mut D, sector_size: Option<u64>) -> Result<Opti
     }
 }
 
-// The same with sectors of this size.
 #[tactic(auto, using(gptman::proofs::Readers::both_read, gptman::proofs::Runs::rose_since))]
 fn find_too_many_in<D: Disk>(disk: &mut D, sector_size: u64) -> Result<Option<u32>>
     ensures reads { Reads (D.state disk.old) (D.state disk.new) }
@@ -74,7 +72,7 @@ fn find_too_many_in<D: Disk>(disk: &mut D, sector_size: u64) -> Result<Option<u3
     Ok(too_many_of(primary).or(too_many_of(backup)))
 }
 
-// The number of entries that a header counts, if it is too great.
+// Returns the entry count, if it is too large.
 fn too_many_of(header: Option<RawHeader>) -> Option<u32> {
     match header {
         Some(header) if header.count > MOST_ENTRIES => Some(header.count),
@@ -82,7 +80,7 @@ fn too_many_of(header: Option<RawHeader>) -> Option<u32> {
     }
 }
 
-// The table, or that no copy is good.
+// Returns the table, or `None` if no copy is good.
 fn read_good<D: Disk>(alloc: Global, disk: &mut D, sector_size: Option<u64>) -> Result<Option<GPT>>
     ensures reads { Reads (D.state disk.old) (D.state disk.new) }
     ensures cause { HasCause result (D.state disk.old) (D.state disk.new) }
@@ -99,7 +97,7 @@ fn read_good<D: Disk>(alloc: Global, disk: &mut D, sector_size: Option<u64>) -> 
     }
 }
 
-// The sector size of the table, or the one that was given, or 512. It is above 0.
+// Returns the sector size of the table, else the given one if it is above 0, else 512.
 fn size_of(table: Option<&GPT>, given: Option<u64>) -> u64
     ensures { 0 < result }
 {
@@ -111,7 +109,7 @@ fn size_of(table: Option<&GPT>, given: Option<u64>) -> u64
     size.max(1)
 }
 
-// Looks at all else.
+// Inspects all but the table.
 #[tactic(auto, using(gptman::proofs::Readers::both_read, gptman::proofs::Runs::rose_since))]
 fn see<D: Disk>(alloc: Global, disk: &mut D, sector_size: u64, table: Option<GPT>) -> Result<Look>
     requires { 0 < sector_size }
@@ -123,7 +121,7 @@ fn see<D: Disk>(alloc: Global, disk: &mut D, sector_size: u64, table: Option<GPT
     Ok(assemble(sector_size, table, copies, headers, known))
 }
 
-// What is there beside the copies.
+// Inspects all but the copies.
 #[tactic(auto, using(gptman::proofs::Readers::both_read, gptman::proofs::Runs::rose_since))]
 fn see_beside<D: Disk>(
     alloc: Global,
@@ -138,7 +136,6 @@ fn see_beside<D: Disk>(
     see_on(alloc, disk, sector_size, size, copies)
 }
 
-// The same on a disk of this length.
 #[tactic(auto, using(gptman::proofs::Readers::both_read, gptman::proofs::Runs::rose_since))]
 fn see_on<D: Disk>(
     alloc: Global,
@@ -156,7 +153,7 @@ fn see_on<D: Disk>(
     Ok((headers, known))
 }
 
-// What begins with `EFI PART`, where headers are.
+// The headers that begin with `EFI PART`.
 #[derive(Clone, Copy)]
 struct Headers {
     primary: Option<RawHeader>,
@@ -164,7 +161,7 @@ struct Headers {
     moved: Option<RawHeader>,
 }
 
-// What is recognised on the disk, and its length.
+// The recognised contents, and the length of the disk in bytes.
 #[derive(Drop)]
 struct Known {
     size: u64,
@@ -174,7 +171,7 @@ struct Known {
     footer: Option<Content>,
 }
 
-// The raw headers, beside the one that moved.
+// Reads the headers in sector 1 and the last sector.
 #[tactic(auto, using(gptman::proofs::Readers::both_read, gptman::proofs::Runs::rose_since))]
 fn read_headers<D: Disk>(
     disk: &mut D,
@@ -193,7 +190,7 @@ fn read_headers<D: Disk>(
     })
 }
 
-// What is recognised on a disk of this length.
+// Reads the MBR, and finds signatures and contents.
 #[tactic(auto, using(gptman::proofs::Readers::both_read, gptman::proofs::Runs::rose_since))]
 fn find_known<D: Disk>(alloc: Global, disk: &mut D, sector_size: u64, size: u64) -> Result<Known>
     ensures reads { Reads (D.state disk.old) (D.state disk.new) }
@@ -211,7 +208,6 @@ fn find_known<D: Disk>(alloc: Global, disk: &mut D, sector_size: u64, size: u64)
     })
 }
 
-// The contents and the footer that are recognised.
 #[tactic(auto, using(gptman::proofs::Readers::both_read, gptman::proofs::Runs::rose_since))]
 fn find_marks<D: Disk>(
     alloc: Global,
@@ -226,7 +222,6 @@ fn find_marks<D: Disk>(
     Ok((contents, footer))
 }
 
-// The look with these parts.
 fn assemble(
     sector_size: u64,
     table: Option<GPT>,
@@ -251,7 +246,7 @@ fn assemble(
     }
 }
 
-// The header where a good primary header says that the other one is, if that is not the last sector.
+// Reads the header in the sector that a good primary header names as the backup's, if that is not the last sector.
 fn read_moved<D: Disk>(
     disk: &mut D,
     sector_size: u64,

@@ -1,4 +1,4 @@
-//! What a look at a disk saw, and what may be in the way of a write.
+//! The result of an inspection, and the obstacles to a write.
 
 ghost use Rattle.std.specs.Prelude.{◌<◌};
 
@@ -8,93 +8,93 @@ use crate::signatures::Signature;
 use gptedit_marks::Content;
 use gptman::{BothCopies, GPT};
 
-/// What a look at a disk saw.
+/// The result of an inspection.
 #[derive(Drop)]
 pub struct Look {
     /// The length of the disk in bytes.
     pub size: u64,
-    /// The sector size that was given or found, in bytes.
+    /// The sector size in bytes, as given or detected.
     pub sector_size: u64,
-    /// The table that a good copy holds, the primary one if both are good.
+    /// The table of a good copy, of the primary one if both are good.
     pub table: Option<GPT>,
-    /// Each copy, or what is wrong with it.
+    /// Each copy, or the error of reading it.
     pub copies: BothCopies,
-    /// What begins with `EFI PART` in sector 1, a good copy or not.
+    /// The header in sector 1, valid or not, if it begins with `EFI PART`.
     pub primary_header: Option<RawHeader>,
-    /// What begins with `EFI PART` in the last sector, a good copy or not.
+    /// The header in the last sector, valid or not, if it begins with `EFI PART`.
     pub backup_header: Option<RawHeader>,
-    /// What begins with `EFI PART` where the good primary header says that the other header is, if that is not
-    /// the last sector.
+    /// The header that begins with `EFI PART` in the sector that a good primary header names as the backup's, if that
+    /// is not the last sector.
     pub moved_header: Option<RawHeader>,
     /// The MBR.
     pub first_sector: FirstSector,
-    /// Where `EFI PART` is, for each sector size.
+    /// The signatures `EFI PART`, for each sector size.
     pub signatures: Vec<Signature>,
-    /// What is recognised on the disk.
+    /// The recognised contents.
     pub contents: Vec<Content>,
     /// The footer of an image format at the end.
     pub footer: Option<Content>,
     ghost sized: { 0 < sector_size },
 }
 
-/// How a look ended.
+/// The outcome of an inspection.
 #[derive(Drop)]
 pub enum Looked {
-    /// The disk was looked at.
+    /// The disk was inspected.
     Seen(Look),
-    /// A header counts so many entries, more than 32,768.
+    /// A header counts this number of entries, more than 32,768.
     TooMany(u32),
 }
 
-/// What a table is written for.
+/// The purpose of a write.
 #[derive(Debug, Clone, Copy, PartialEq, Eq)]
 pub enum Purpose {
-    /// To change it.
+    /// To change the table.
     Edit,
-    /// To mend a copy.
+    /// To repair a copy.
     Repair,
-    /// To fit it to the length of the disk.
+    /// To fit the table to the length of the disk.
     Fit,
-    /// To make it.
+    /// To create a table.
     New,
 }
 
-/// What was recognised in the way of a write.
+/// The kind of an obstacle.
 #[derive(Debug, Clone, Copy, PartialEq, Eq)]
 pub enum What {
     /// A DOS disk: a boot loader may be in its first sectors.
     DosDisk,
-    /// Something that is known by its bytes.
+    /// Contents recognised by their bytes.
     Content(&'static str),
     /// The footer of an image format.
     Footer(&'static str),
-    /// A table with this sector size.
+    /// A header of another sector size, in bytes.
     OtherSectorSize(u64),
-    /// The entries of this copy are elsewhere, and something is where the write wants them.
+    /// Something at the place of new entries; the copy on the disk has its entries elsewhere.
     ElsewhereEntries,
-    /// The last usable sector is lower than usual, and something is after it.
+    /// Something after the last usable sector, which is lower than usual.
     AfterLastUsable,
-    /// Something that is not zero, in the place of a broken copy.
+    /// Nonzero bytes at the place of a broken copy.
     BoardCode,
     /// A table.
     Table,
-    /// What begins with `EFI PART`, where a header is.
+    /// `EFI PART` at the place of a header, without a good copy.
     Header,
     /// A protective MBR.
     ProtectiveMbr,
-    /// A sector 0 that ends with 55 AA and is no MBR.
+    /// A sector 0 that ends with 55 AA and is not an MBR.
     BootSector,
-    /// Something that is not zero.
+    /// Other nonzero bytes.
     Unknown,
 }
 
-/// Something in the way of a write.
+/// An obstacle to a write.
 #[derive(Debug, Clone, Copy, PartialEq, Eq)]
 pub struct Obstacle {
-    /// The first sector of it.
+    /// Its first sector.
     pub first: u64,
-    /// The last sector of it.
+    /// Its last sector.
     pub last: u64,
-    /// What it is.
+    /// Its kind.
     pub what: What,
 }

@@ -1,4 +1,4 @@
-//! Where `EFI PART` is: in sector 1 or in the last sector, for each sector size.
+//! The signature `EFI PART` in sector 1 and in the last sector, for each sector size.
 
 ghost use Rattle.std.specs.Prelude.{◌<◌, ◌/◌, SomeIff};
 ghost use Rattle.gptman.specs.Answers.{HasCause};
@@ -10,7 +10,7 @@ use gptman::sizes::SECTOR_SIZES;
 use gptman::{Disk, Result};
 use std::alloc::Global;
 
-/// The bytes of a signature.
+/// The signature of a header.
 pub const SIGNATURE: [u8; 8] = *b"EFI PART";
 
 /// One of the two places of a header.
@@ -22,18 +22,18 @@ pub enum Place {
     End,
 }
 
-/// `EFI PART`, where a header begins.
+/// A signature at the place of a header.
 #[derive(Debug, Clone, Copy, PartialEq, Eq)]
 pub struct Signature {
-    /// The sector size for which a header begins there.
+    /// The sector size in bytes for which this is such a place.
     pub sector_size: u64,
-    /// In which of the two places it is.
+    /// The place.
     pub place: Place,
     /// Its first byte.
     pub at: u64,
 }
 
-/// Returns the byte at which the header at this place begins, on a disk of `size` bytes, if there is room for it.
+/// Returns the first byte of the header at this place. A disk of `size` bytes with fewer than 2 sectors has none.
 pub fn place_at(place: Place, sector_size: u64, size: u64) -> Option<u64>
     ensures { SomeIff result (1 < size / sector_size) (byte_of place sector_size size) }
 {
@@ -45,10 +45,10 @@ pub fn place_at(place: Place, sector_size: u64, size: u64) -> Option<u64>
     }
 }
 
-/// Returns the signatures that are on the disk.
+/// Returns the signatures on the disk.
 ///
 /// # Errors
-/// `Io` if the disk failed, `OutOfMemory` if there was no memory.
+/// `Io` if the disk fails, `OutOfMemory` if an allocation fails.
 #[tactic(auto, using(gptman::proofs::Readers::both_read, gptman::proofs::Runs::rose_since))]
 pub fn find_signatures<D: Disk>(alloc: Global, disk: &mut D) -> Result<Vec<Signature>>
     ensures reads { Reads (D.state disk.old) (D.state disk.new) }
@@ -79,7 +79,6 @@ fn push_signature<D: Disk>(
     Ok(())
 }
 
-// The signature at this place.
 #[tactic(auto, using(gptman::proofs::Readers::both_read, gptman::proofs::Runs::rose_since))]
 fn find_signature<D: Disk>(
     alloc: Global,

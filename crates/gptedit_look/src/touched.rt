@@ -9,13 +9,13 @@ ghost use Rattle.gptedit_look.specs.Touched.{EndsWithin, IsTouched, IsTouchedIn,
 use crate::bytes::{start_after, start_of};
 use gptman::{GPT, GPTHeader};
 
-// The bytes of a header.
+// The size of a header in bytes.
 const HEADER_SIZE: u64 = 92;
 
-// The bytes of an entry.
+// The size of an entry in bytes.
 const ENTRY_SIZE: u64 = 128;
 
-/// A range of bytes, from `start` on and before `end`.
+/// A range of bytes.
 #[derive(Debug, Clone, Copy, PartialEq, Eq)]
 pub struct Touched {
     /// Its first byte.
@@ -36,14 +36,14 @@ pub struct TouchedCopy {
 /// The ranges of both copies.
 #[derive(Debug, Clone, Copy, PartialEq, Eq)]
 pub struct TouchedTable {
-    /// The copy that has the table's own header.
+    /// The own copy, whose header the table has.
     pub own: TouchedCopy,
     /// The other copy.
     pub other: TouchedCopy,
 }
 
-/// Returns the ranges that a write of this table touches on a disk of `size` bytes: its header and its entries,
-/// and those of the other copy.
+/// Returns the ranges that a write of this table touches, cut at the end of a disk of `size` bytes: the header and the
+/// entries of both copies.
 pub fn touched_by(next: &GPT, size: u64) -> TouchedTable
     ensures inside { (k : ℕ) → IsTouchedOf result k ↔ (IsWritten next.now k × (k < size)) }
     ensures own { EndsWithin result.own size }
@@ -55,7 +55,7 @@ pub fn touched_by(next: &GPT, size: u64) -> TouchedTable
     }
 }
 
-// The ranges of the copy with this header.
+// Returns the ranges of the copy with this header.
 fn own_of(header: &GPTHeader, sector_size: u64, size: u64) -> TouchedCopy
     ensures inside { (k : ℕ) → IsTouchedIn result k ↔ (Inside (copy_ranges header.now sector_size) k × (k < size)) }
     ensures ends { EndsWithin result size }
@@ -69,7 +69,7 @@ fn own_of(header: &GPTHeader, sector_size: u64, size: u64) -> TouchedCopy
     }
 }
 
-// The ranges of the other copy than that with this header.
+// Returns the ranges of the other copy.
 fn other_of(header: &GPTHeader, sector_size: u64, size: u64) -> TouchedCopy
     ensures inside { (k : ℕ)
         → IsTouchedIn result k ↔ (Inside (copy_ranges (other_header header.now) sector_size) k × (k < size)) }
@@ -87,7 +87,7 @@ fn other_of(header: &GPTHeader, sector_size: u64, size: u64) -> TouchedCopy
     }
 }
 
-// The first byte of the other copy's entries.
+// Returns the first byte of the other copy's entries.
 fn start_of_others(header: &GPTHeader, sector_size: u64) -> u128
     ensures { result ≡ (other_header header.now).partition_entry_lba * sector_size }
 {
@@ -98,7 +98,7 @@ fn start_of_others(header: &GPTHeader, sector_size: u64) -> u128
     }
 }
 
-// So many bytes from this one on, without those past the end of the disk.
+// Returns `length` bytes from `start`, cut at the end of the disk.
 fn cut(start: u128, length: u64, size: u64) -> Touched
     ensures inside { (k : ℕ) → (IsTouched result k ↔ (IsIn start length k × (k < size))) }
     ensures ends { result.end ≤ size }

@@ -1,4 +1,4 @@
-//! The names of what is in the way of a write.
+//! Names the obstacle to a write.
 
 ghost use Rattle.std.specs.Prelude.{◌≡◌, ◌/◌};
 
@@ -11,8 +11,8 @@ use crate::signatures::Signature;
 use gptedit_marks::Content;
 use gptman::GPT;
 
-/// Returns what a new table would destroy, wherever it is: a table, what is left of one, a protective MBR, a
-/// footer, contents, or a boot sector that is not recognised.
+/// Returns the first thing on the disk that a new table would destroy, wherever it is: a table or header, a protective
+/// MBR, a footer, recognised contents, or an unrecognised boot sector.
 pub fn known_beside(look: &Look) -> Option<Obstacle> {
     if let Some(signature) = signature_of(look) {
         return Some(signature);
@@ -31,7 +31,7 @@ pub fn known_beside(look: &Look) -> Option<Obstacle> {
     }
 }
 
-// What begins with `EFI PART`: a table, or what is left of one.
+// Returns the obstacle of a signature, one of the inspected sector size first.
 fn signature_of(look: &Look) -> Option<Obstacle> {
     let own = look
         .signatures
@@ -48,12 +48,11 @@ fn signature_of(look: &Look) -> Option<Obstacle> {
     }
 }
 
-// The header that begins with this signature.
 fn header(look: &Look, signature: &Signature, what: What) -> Obstacle {
     spanning(look, signature.at, signature.at.saturating_add(92), what)
 }
 
-// All of a content, or its first sector.
+// Covers all of the contents, or their first sector if the end is unknown.
 fn covering(look: &Look, content: &Content, what: What) -> Obstacle {
     let end = match content.end {
         Some(end) => end,
@@ -62,7 +61,7 @@ fn covering(look: &Look, content: &Content, what: What) -> Obstacle {
     spanning(look, content.start, end, what)
 }
 
-// The sectors of these bytes.
+// Returns the obstacle in the sectors of bytes `start` to `end`, exclusive.
 fn spanning(look: &Look, start: u64, end: u64, what: What) -> Obstacle
     ensures { result.first ≡ start / look.now.sector_size }
 {
@@ -74,14 +73,13 @@ fn spanning(look: &Look, start: u64, end: u64, what: What) -> Obstacle
     }
 }
 
-/// Returns what is at the first of these bytes, which a write may not overwrite.
+/// Returns the obstacle from byte `at`, which a write may not overwrite, to `end`.
 pub fn name_of(look: &Look, next: &GPT, at: u64, end: u64) -> Obstacle
     ensures { result.first ≡ at / look.now.sector_size }
 {
     spanning(look, at, end, what_is_at(look, next, at))
 }
 
-// What is at this byte.
 fn what_is_at(look: &Look, next: &GPT, at: u64) -> What {
     if let Some(footer) = &look.footer {
         if is_in_footer(look, at) {
@@ -105,12 +103,12 @@ fn what_is_at(look: &Look, next: &GPT, at: u64) -> What {
     place_of(look, next, at)
 }
 
-// Whether this byte is one of a header for another sector size.
+// Reports whether this byte is in a header of another sector size.
 fn is_foreign(look: &Look, signature: &Signature, at: u64) -> bool {
     signature.sector_size != look.sector_size && signature.at <= at && at - signature.at < 92
 }
 
-// In which place of the table this byte is.
+// Classifies an unrecognised byte by its place in the table.
 fn place_of(look: &Look, next: &GPT, at: u64) -> What {
     if is_of_broken(look, at) {
         return What::BoardCode;

@@ -8,22 +8,22 @@ ghost use Rattle.gptedit_look.specs.Wiped.{AreZeros};
 
 use gptman::{Disk, Result};
 
-// The most bytes that are written at a time.
+// The maximum number of bytes per write.
 const BLOCK: u64 = 512;
 
-/// Bytes that are to be zero.
+/// A range of bytes to fill with zeros.
 #[derive(Debug, Clone, Copy, PartialEq, Eq)]
 pub struct Zeroed {
-    /// The first of them.
+    /// Its first byte.
     pub start: u64,
-    /// How many there are.
+    /// Its length in bytes.
     pub length: u64,
 }
 
-/// Writes zeros over the range, as far as the disk goes. Nothing is synced.
+/// Writes zeros over the range, up to the end of the disk. Does not sync.
 ///
 /// # Errors
-/// `Io` if the disk failed.
+/// `Io` if the disk fails.
 pub fn put_zeros<D: Disk>(disk: &mut D, range: Zeroed) -> Result<()>
     ensures keeps { Keeps (D.state disk.old) (D.state disk.new) }
     ensures failed { IfErr result (λ e. IsFailure (fault_of e) (D.state disk.old) (D.state disk.new)) }
@@ -42,7 +42,7 @@ pub fn put_zeros<D: Disk>(disk: &mut D, range: Zeroed) -> Result<()>
     Ok(())
 }
 
-// Writes so many zeros, at most 512, from this byte on.
+// Writes `count` zeros, at most 512, from byte `at`.
 fn put_block<D: Disk>(disk: &mut D, at: u64, count: u64) -> Result<()>
     requires few { count ≤ 512 }
     requires room { at + count ≤ (D.state disk.old).size }

@@ -16,7 +16,7 @@ returns-clause-cleared g c = λ honest.
     wiped_cleared (IsWiped c.args.look.now) c.in_ok-ranges.ranges.items new c.in_ok-ranges.ensures.adds small
     (subst (λ (rs : List Zeroed). IsCleared (Inside (ranges_in rs)) new) c.deref.ensures.value cleared))
 
--- ---- there was no memory: no call was made
+-- ---- an allocation failed: no call was made
 
 pub returns-in_err-ranges-clause-only : goal.returns-in_err-ranges-clause-only
 returns-in_err-ranges-clause-only g c = only_not (IsWiped c.args.look.now) (g.D.Disk.state c.args.disk.now) (g.met.D.Disk.sound c.args.disk.now)
