@@ -1,4 +1,4 @@
--- Numbers, read from texts one after the other.
+-- Numbers, read from texts one by one.
 use Rattle.std.proofs.Common.{◌≡◌, ◌++◌, ◌∷◌, [], ℕ, List, subst, sym}
 use Rattle.std.specs.Prelude.{Some, None, Ok, Err, Result}
 use Rattle.std.proofs.lemmas.List.{append_assoc, append-nil}
@@ -6,7 +6,7 @@ use Rattle.clap.specs.Words.{StepsValues}
 use Rattle.gptedit_words.specs.Asks.{AreNumbers, SaysNoNumber, SaysNumber}
 use Rattle.gptedit_words.specs.Refusals.{AllNumbers}
 
--- the numbers that were read, and those of the texts that are left, are those of all texts
+-- the numbers read so far and those of the remaining texts are those of all texts
 abbrev pub Collects : List (List ℕ) → List ℕ → List (List ℕ) → Type 0
 Collects left done all = (rest : List ℕ) → AreNumbers left rest → AreNumbers all (done ++ rest)
 
@@ -25,7 +25,7 @@ pub collect_last : {E : Type 0} (gives : List ℕ → Result ℕ E → Type 0) (
 collect_last gives [] after all done step sofar = subst (λ (d : List ℕ). AreNumbers all d) (append-nil done) (sofar [] tt)
 collect_last gives (t ∷ left) after all done step sofar = absurd step
 
--- ---- a text that is no number
+-- ---- a text that is not a number
 
 pub known_next : {E : Type 0} (gives : List ℕ → Result ℕ E → Type 0) (before after : List (List ℕ)) (r : Result ℕ E)
     → StepsValues gives before after (Some r) → AllNumbers before → AllNumbers after

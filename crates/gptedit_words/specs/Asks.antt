@@ -1,4 +1,4 @@
--- What the words of a command ask for, by what the command line holds of each option and place.
+-- The meaning of a command's arguments, by the values that the command line has for each option and place.
 use Rattle.std.specs.Prelude.{◌≡◌, ◌≢◌, ◌⊎◌, ◌^◌, ◌<◌, ℕ, Bool, true, false, List, [], ◌∷◌, Option, Some, None, Ok, codes, option_map}
 use Rattle.std.specs.Str.Parse.{digits_value, without_leading_plus, IsNumeral}
 use Rattle.clap.specs.Words.{first_value, matched_of, one_text, typed_values}
@@ -27,22 +27,22 @@ use Rattle.gptedit_words.specs.declared.request.Options.{Options}
 use Rattle.gptedit_words.specs.declared.request.Request.{Request}
 use Rattle.gptedit_words.specs.declared.request.Request.TheVariants.{Types, Image}
 
--- the value is what the text says, and there is none where there is no text
+-- The value is the meaning of the text, or None if there is no text.
 abbrev pub Gives : {A : Type 0} → (List ℕ → A → Type 0) → Option (List ℕ) → Option A → Type 0
 Gives says None None = Unit {0}
 Gives says (Some text) (Some value) = says text value
 Gives says text value = ⊥
 
--- the value is what the text says, or the usual one where there is no text
+-- The value is the meaning of the text, or the default if there is no text.
 abbrev pub GivesOr : {A : Type 0} → (List ℕ → A → Type 0) → A → Option (List ℕ) → A → Type 0
 GivesOr says usual None value = value ≡ usual
 GivesOr says usual (Some text) value = says text value
 
--- the text is a number in decimal digits, and this is the number
+-- The text is a decimal number with this value.
 abbrev pub SaysNumber : List ℕ → ℕ → Type 0
 SaysNumber text number = IsNumeral 10 (without_leading_plus text) × (digits_value 10 (without_leading_plus text) ≡ number)
 
--- the number that a place holds
+-- The argument has this number.
 abbrev pub IsNumberOf : Found → List ℕ → ℕ → Type 0
 IsNumberOf found word number = (one_text found word ≢ None) × ((text : List ℕ) → one_text found word ≡ Some text → SaysNumber text number)
 
@@ -50,18 +50,18 @@ abbrev pub HasNumberOf : Found → List ℕ → Option ℕ → Type 0
 HasNumberOf found word (Some number) = IsNumberOf found word number
 HasNumberOf found word None = ⊥
 
--- the number of an option, which may be left out; a number that is given is never taken for none
+-- The argument has this number, or is not given if the number is None.
 abbrev pub MayHaveNumberOf : Found → List ℕ → Option ℕ → Type 0
 MayHaveNumberOf found word (Some number) = IsNumberOf found word number
 MayHaveNumberOf found word None = one_text found word ≡ None
 
--- the numbers of a place, in their order
+-- These are the numbers of the texts, in their order.
 abbrev pub AreNumbers : List (List ℕ) → List ℕ → Type 0
 AreNumbers [] [] = Unit {0}
 AreNumbers (text ∷ texts) (number ∷ numbers) = SaysNumber text number × AreNumbers texts numbers
 AreNumbers texts numbers = ⊥
 
--- a flag that is given, and one that is not
+-- The flag is given.
 abbrev pub IsSet : Found → List ℕ → Type 0
 IsSet found word = one_text found word ≡ Some (codes "true")
 
@@ -71,12 +71,12 @@ IsUnset found word = (one_text found word ≡ None) ⊎ (one_text found word ≡
 abbrev pub IsFlag : Found → List ℕ → Bool → Type 0
 IsFlag found word is_set = (IsSet found word → is_set ≡ true) × (IsUnset found word → is_set ≡ false)
 
--- either of two flags
+-- The result is true if one of two flags is given, and false if none is.
 abbrev pub IsEither : Found → List ℕ → List ℕ → Bool → Type 0
 IsEither found one other is_set = (IsSet found one → is_set ≡ true) × (IsSet found other → is_set ≡ true)
     × (IsUnset found one → IsUnset found other → is_set ≡ false)
 
--- what texts say
+-- The text names this partition type.
 abbrev pub SaysType : List ℕ → List ℕ → Type 0
 SaysType text guid = type_said text ≡ Ok guid
 
@@ -89,28 +89,28 @@ SaysChoice text choice = choice_said text ≡ Ok choice
 abbrev pub SaysName : List ℕ → PartitionName → Type 0
 SaysName text name = name.text ≡ text
 
--- the size of `resize`: an amount, or `max`
+-- The text is a new size for `resize`: an amount, or `max`.
 abbrev pub SaysNewSize : List ℕ → Size → Type 0
 SaysNewSize text (Exactly amount) = SaysAmount text amount
 SaysNewSize text Rest = text ≡ codes "max"
 
--- what is done where the image is locked
+-- The text says what to do if the image is locked.
 abbrev pub SaysLock : List ℕ → Lock → Type 0
 SaysLock text Wait = text ≡ codes "wait"
 SaysLock text Fail = text ≡ codes "fail"
 SaysLock text Unlocked = text ≡ codes "none"
 
--- a text stands there, and it is none such
+-- The text is given and invalid.
 abbrev pub IsWrong : (List ℕ → Type 0) → Option (List ℕ) → Type 0
 IsWrong none None = ⊥
 IsWrong none (Some text) = none text
 
--- no text stands there, or one that is none such
+-- The text is missing or invalid.
 abbrev pub IsMissingOrWrong : (List ℕ → Type 0) → Option (List ℕ) → Type 0
 IsMissingOrWrong none None = Unit {0}
 IsMissingOrWrong none (Some text) = none text
 
--- what texts do not say
+-- The text is not a number below 2^32.
 abbrev pub SaysNoNumber : List ℕ → Type 0
 SaysNoNumber text = ¬ (IsNumeral 10 (without_leading_plus text) × (digits_value 10 (without_leading_plus text) < 2 ^ 32))
 
@@ -135,38 +135,38 @@ SaysNoChoice text = (choice : Choice) → ¬ (SaysChoice text choice)
 abbrev pub SaysNoLock : List ℕ → Type 0
 SaysNoLock text = (lock : Lock) → ¬ (SaysLock text lock)
 
--- places are chosen at multiples of 1 MiB, unless the words say otherwise
+-- The default alignment of places, 1 MiB.
 abbrev pub usual_align : Amount
 usual_align = Bytes (2 ^ 20)
 
--- the options of the fields of an entry
+-- The fields of the entry are those of the options.
 pub record AsksFields (found : Found) (asked : Asked) : Type 0 where
   pub type : Gives SaysType (first_value found (codes "--type")) asked.type_guid
   pub guid : Gives SaysGuid (first_value found (codes "--guid")) asked.unique_guid
   pub attributes : Gives SaysAttributes (first_value found (codes "--attributes")) asked.attributes
   pub name : Gives SaysName (first_value found (codes "--name")) asked.name
 
--- the place stays
+-- The place stays unchanged.
 abbrev pub KeepsPlace : Asked → Type 0
 KeepsPlace asked = (asked.start ≡ None) × (asked.size ≡ None)
 
--- the fields stay
+-- The fields stay unchanged.
 abbrev pub KeepsFields : Asked → Type 0
 KeepsFields asked = (asked.type_guid ≡ None) × (asked.unique_guid ≡ None) × (asked.attributes ≡ None) × (asked.name ≡ None)
 
--- one entry, and what is asked of it
+-- The list has one element, for which this holds.
 abbrev pub IsOne : (Asked → Type 0) → List Asked → Type 0
 IsOne asks (asked ∷ []) = asks asked
 IsOne asks entries = ⊥
 
--- the layout asks this of one entry; none is removed, and the GUID of the disk stays
+-- The layout has this mode, asks this of one entry, removes none, and keeps the disk GUID.
 pub record AsksOne (mode : Mode) (asks : Asked → Type 0) (layout : Layout) : Type 0 where
   pub mode_is : layout.mode ≡ mode
   pub guid_stays : layout.disk_guid ≡ None
   pub removes_none : layout.removed.items ≡ []
   pub one : IsOne asks layout.asked.items
 
--- `resize IMAGE N SIZE`: the size of entry N, and nothing else
+-- `resize IMAGE N SIZE` changes only the size of entry N.
 pub record AsksSize (found : Found) (asked : Asked) : Type 0 where
   pub number : HasNumberOf found (codes "N") asked.number
   pub size : Gives SaysNewSize (first_value found (codes "SIZE|max")) asked.size
@@ -177,7 +177,7 @@ abbrev pub IsResize : Found → Change → Type 0
 IsResize found (Lay layout) = AsksOne Changing (AsksSize found) layout × (layout.align ≡ usual_align)
 IsResize found change = ⊥
 
--- `set IMAGE N`: the fields of entry N that are given, and nothing else
+-- `set IMAGE N` changes only the given fields of entry N.
 pub record AsksSet (found : Found) (asked : Asked) : Type 0 where
   pub number : HasNumberOf found (codes "N") asked.number
   pub fields : AsksFields found asked
@@ -187,7 +187,7 @@ abbrev pub IsSetting : Found → Change → Type 0
 IsSetting found (Lay layout) = AsksOne Changing (AsksSet found) layout
 IsSetting found change = ⊥
 
--- `add IMAGE`: a new entry
+-- `add IMAGE` adds an entry with these values.
 pub record AsksAddition (found : Found) (asked : Asked) : Type 0 where
   pub number : MayHaveNumberOf found (codes "--number") asked.number
   pub fields : AsksFields found asked
@@ -200,16 +200,16 @@ IsAddition found (Lay layout) = AsksOne Adding (AsksAddition found) layout
     × GivesOr SaysAmount usual_align (first_value found (codes "--align")) layout.align
 IsAddition found change = ⊥
 
--- the texts that a place holds
+-- The texts of an argument.
 abbrev pub texts_of_place : Found → List ℕ → Option (List (List ℕ))
 texts_of_place found word = option_map typed_values (matched_of found word)
 
--- the numbers that a place holds, in their order
+-- These are the numbers of an argument, in their order.
 abbrev pub HasNumbers : Option (List (List ℕ)) → List ℕ → Type 0
 HasNumbers (Some texts) numbers = AreNumbers texts numbers
 HasNumbers None numbers = ⊥
 
--- `remove IMAGE N..`: these numbers, in their order, and nothing else
+-- `remove IMAGE N..` only removes these numbers, in their order.
 pub record AsksRemoval (found : Found) (layout : Layout) : Type 0 where
   pub mode_is : layout.mode ≡ Changing
   pub guid_stays : layout.disk_guid ≡ None
@@ -220,18 +220,18 @@ abbrev pub IsRemoval : Found → Change → Type 0
 IsRemoval found (Lay layout) = AsksRemoval found layout
 IsRemoval found change = ⊥
 
--- `new IMAGE`
+-- `new IMAGE` makes a table with these values.
 pub record AsksNew (found : Found) (new : NewTable) : Type 0 where
   pub guid : Gives SaysGuid (first_value found (codes "--guid")) new.guid
   pub entries : MayHaveNumberOf found (codes "--entries") new.entries
 
--- `apply IMAGE FILE`
+-- `apply IMAGE FILE` has this file and these flags.
 pub record AsksApply (found : Found) (file : List ℕ) (is_replacing is_creating : Bool) : Type 0 where
   pub file_is : first_value found (codes "FILE") ≡ Some file
   pub replaces : IsFlag found (codes "--replace") is_replacing
   pub creates : IsFlag found (codes "--create") is_creating
 
--- what the words of the command of this name make of a table
+-- The command of this name makes this change, with these arguments.
 abbrev pub IsChange : List ℕ → Found → Change → Type 0
 IsChange name found (New new) = (name ≡ codes "new") × AsksNew found new
 IsChange name found (Lay layout) = ((name ≡ codes "add") × IsAddition found (Lay layout))
@@ -245,7 +245,7 @@ IsChange name found Randomize = name ≡ codes "randomize"
 IsChange name found (Apply file is_replacing is_creating) = (name ≡ codes "apply") × AsksApply found file.now is_replacing is_creating
 IsChange name found Wipe = name ≡ codes "wipe"
 
--- how a change is written
+-- The options of the change are the given ones.
 pub record AsksOptions (found : Found) (options : Options) : Type 0 where
   pub dry : IsFlag found (codes "--dry-run") options.is_dry
   pub overwrites : IsEither found (codes "--overwrite") (codes "--force") options.may_overwrite
@@ -253,7 +253,7 @@ pub record AsksOptions (found : Found) (options : Options) : Type 0 where
   pub lock_is : GivesOr SaysLock Wait (first_value found (codes "--lock")) options.lock
   pub backup_is : option_map (λ file. file.now) options.backup ≡ first_value found (codes "--backup")
 
--- what the words of the command of this name ask of an image
+-- The command of this name does this with an image, with these arguments.
 abbrev pub IsCommand : List ℕ → Found → Command → Type 0
 IsCommand name found Show = name ≡ codes "show"
 IsCommand name found Check = name ≡ codes "check"
@@ -262,29 +262,29 @@ IsCommand name found Dump = name ≡ codes "dump"
 IsCommand name found Salvage = name ≡ codes "salvage"
 IsCommand name found (Write change options) = IsChange name found change × AsksOptions found options
 
--- the sizes of a sector
+-- A valid sector size.
 abbrev pub IsSectorSize : ℕ → Type 0
 IsSectorSize bytes = (bytes ≡ 512) ⊎ ((bytes ≡ 1024) ⊎ ((bytes ≡ 2048) ⊎ (bytes ≡ 4096)))
 
--- a size of a sector is given, and it is none
+-- A sector size is given and invalid.
 pub record IsNoSectorOf (found : Found) : Type 0 where
   pub given : first_value found (codes "--sector") ≢ None
   pub fixed : first_value found (codes "--sector") ≢ Some (codes "auto")
   pub none : (bytes : ℕ) → IsSectorSize bytes → ¬ (IsNumberOf found (codes "--sector") bytes)
 
--- the size of a sector that is given, or none where it is to be found
+-- The sector size is the given one, or None to detect it.
 abbrev pub IsSectorOf : Found → Option ℕ → Type 0
 IsSectorOf found (Some bytes) = IsSectorSize bytes × IsNumberOf found (codes "--sector") bytes
 IsSectorOf found None = (first_value found (codes "--sector") ≡ None) ⊎ (first_value found (codes "--sector") ≡ Some (codes "auto"))
 
--- what is asked of an image
+-- The image, the sector size and the command are those of the arguments.
 pub record AsksImage (name : List ℕ) (found : Found) (request : ImageRequest) : Type 0 where
   pub image_is : first_value found (codes "IMAGE") ≡ Some request.image.now
   pub sector : IsSectorOf found request.sector_size
   pub json : IsFlag found (codes "--json") request.is_json
   pub command_is : IsCommand name found request.command
 
--- what the words of the command of this name ask for
+-- The command of this name is this request, with these arguments.
 abbrev pub IsRequest : List ℕ → Found → Request → Type 0
 IsRequest name found (Types is_json) = (name ≡ codes "types") × IsFlag found (codes "--json") is_json
 IsRequest name found (Image request) = AsksImage name found request

@@ -1,4 +1,4 @@
--- The rules of `clap` for the commands as they are written down in the code.
+-- The `clap` rules for the commands as the code defines them.
 use Rattle.std.specs.Prelude.{List, [], ◌∷◌, ◌++◌, map}
 use Rattle.clap.specs.Words.{App, Rule, Shape, with_rule, with_subcommand}
 use Rattle.gptedit_words.specs.Line.{flag, lettered, needed_value, number, number_place, number_places, text_place, value, with_words}
@@ -19,12 +19,12 @@ rule_for (NumberPlaces name help) = number_places name.now
 abbrev pub shape_for : Definition → Shape
 shape_for d = with_words d.name.now (map rule_for d.arguments.now ++ map rule_for d.options.now)
 
--- the command with these words more
+-- The command with these arguments added.
 abbrev pub with_rules : App → List Rule → App
 with_rules app [] = app
 with_rules app (rule ∷ rules) = with_rules (with_rule app rule) rules
 
--- the command with these commands more
+-- The command with these commands added.
 abbrev pub with_commands : App → List Shape → App
 with_commands app [] = app
 with_commands app (shape ∷ shapes) = with_commands (with_subcommand app shape) shapes

@@ -1,4 +1,4 @@
--- The command line: its commands in the order of the help, and the words that each takes.
+-- The command line: its commands in the order of the help, and their arguments.
 use Rattle.std.specs.Prelude.{◌^◌, ◌-◌, ℕ, List, [], ◌∷◌, ◌++◌, Some, true, false, codes, option_and_then, unwrap_or}
 use Rattle.clap.specs.Lexer.{strip_byte, usize_max}
 use Rattle.clap.specs.Simple.{new_shape}
@@ -6,11 +6,11 @@ use Rattle.clap.specs.Words.{App, Rule, Shape, Text, new_rule}
 use Rattle.clap.specs.declared.builder.action.ArgAction.TheVariants.{Append, SetTrue}
 use Rattle.clap.specs.declared.builder.value_parser.ValueParser.TheVariants.{NonEmptyString, Unsigned}
 
--- the word of an option without its two hyphens
+-- The name of an option without its two hyphens.
 unfoldable pub long_word : Text → Text
 long_word word = unwrap_or (option_and_then (strip_byte 45) (strip_byte 45 word)) word
 
--- an option; where it takes a value, help names it
+-- An option.
 abbrev pub option : Text → Rule
 option word = record (new_rule word) { long = Some (long_word word) }
 
@@ -20,60 +20,60 @@ value word = record (option word) { value_names = 1 }
 abbrev pub needed_value : Text → Rule
 needed_value word = record (value word) { required = true }
 
--- an option with a number from 1 to so many
+-- An option whose value is from 1 to `most`.
 abbrev pub number : Text → ℕ → Rule
 number word most = record (value word) { parser = Some (Unsigned 1 most) }
 
--- an option without a value, and one with a letter too
+-- An option without a value.
 abbrev pub flag : Text → Rule
 flag word = record (option word) { action = Some SetTrue }
 
 abbrev pub lettered : ℕ → Text → Rule
 lettered letter word = record (flag word) { short = Some letter }
 
--- a word by its place, which is needed
+-- A required positional argument.
 abbrev pub place : Text → Rule
 place name = record (new_rule name) { required = true }
 
--- the same, where the empty text is none
+-- A required positional argument that is not empty.
 abbrev pub text_place : Text → Rule
 text_place name = record (place name) { parser = Some NonEmptyString }
 
--- a number from 1 to 2^32 - 1
+-- A number from 1 to 2^32 - 1.
 abbrev pub numbered : Rule → Rule
 numbered rule = record rule { parser = Some (Unsigned 1 (2 ^ 32 - 1)) }
 
 abbrev pub number_place : Text → Rule
 number_place name = numbered (place name)
 
--- one such number or more
+-- One or more positional numbers from 1 to 2^32 - 1.
 abbrev pub number_places : Text → Rule
 number_places name = record (number_place name) {
   range = Some (record { start_inclusive = 1; end_inclusive = usize_max });
   action = Some Append;
 }
 
--- a command of this name, with these words
+-- A command of this name with these arguments.
 abbrev pub with_words : Text → List Rule → Shape
 with_words name rules = record (new_shape name) { rules = rules }
 
--- the words of an image and of how its table is shown
+-- The options of all commands for an image.
 abbrev pub showing : List Rule
 showing = value (codes "--sector") ∷ flag (codes "--json") ∷ []
 
--- the words of how a change is written
+-- The options of commands that change a table.
 abbrev pub writing : List Rule
 writing = lettered 110 (codes "--dry-run") ∷ flag (codes "--overwrite") ∷ flag (codes "--in-use") ∷ flag (codes "--force")
     ∷ value (codes "--lock") ∷ value (codes "--backup") ∷ showing
 
--- a command that reads an image, and one that changes its table
+-- A command that reads an image.
 abbrev pub look : Text → List Rule → Shape
 look name rules = with_words name ((text_place (codes "IMAGE") ∷ rules) ++ showing)
 
 abbrev pub change : Text → List Rule → Shape
 change name rules = with_words name ((text_place (codes "IMAGE") ∷ rules) ++ writing)
 
--- the commands
+-- The commands that only read.
 abbrev pub looks : List Shape
 looks = look (codes "show") []
     ∷ look (codes "check") []
@@ -106,7 +106,7 @@ changes = change (codes "new") (value (codes "--guid") ∷ number (codes "--entr
     ∷ change (codes "wipe") []
     ∷ []
 
--- a command is asked for, and there is a version
+-- A command is required, and there is a version.
 abbrev pub top : Shape
 top = record (new_shape (codes "gptedit")) {
   is_leaf = false;

@@ -1,4 +1,4 @@
--- What a command line asks for: the words of a command are found in it, and these ask for something.
+-- The request of a command line, and the reasons for which one is refused.
 use Rattle.std.specs.Prelude.{◌≡◌, ◌≢◌, ◌⊎◌, ℕ, List, [], map, Some, None, Err, codes, String, string_bytes}
 use Rattle.clap.specs.Words.{fault_of, kind_of, rows_of, subcommand_of, IsAmong}
 use Rattle.clap.specs.declared.error.Error.{Error}
@@ -11,30 +11,30 @@ use Rattle.gptedit_words.specs.declared.error.WordsError.{WordsError}
 use Rattle.gptedit_words.specs.declared.error.WordsError.TheVariants.{LongName, Missing, NothingToSet, OutOfMemory, Sector, Usage, Value}
 use Rattle.gptedit_words.specs.declared.request.Request.{Request}
 
--- the bytes of each word
+-- The bytes of each argument.
 abbrev pub texts_of : {A : Type 0} → List (String A) → List (List ℕ)
 texts_of words = map string_bytes words
 
--- The command line has no fault, its command has this name, and this is found of the command's own words.
+-- The command line has no fault, has the command of this name, and `found` are the command's own arguments.
 pub record Names (words : List (List ℕ)) (name : List ℕ) (found : Found) : Type 0 where
   pub faultless : fault_of line words ≡ []
   pub command : subcommand_of line words ≡ Some (name, rows_of found)
 
--- the command line asks for this
+-- The command line is this request.
 pub record IsSpelled (words : List (List ℕ)) (request : Request) : Type 0 where
   pub name : List ℕ
   pub found : Found
   pub named : Names words name found
   pub asks : IsRequest name found request
 
--- the command's own words ask for nothing, for this reason
+-- The command's own arguments are refused for this reason.
 pub record IsWrongOf (words : List (List ℕ)) (error : WordsError) : Type 0 where
   pub name : List ℕ
   pub found : Found
   pub named : Names words name found
   pub reason : RefusedOnlyFor {A = Request} found ((name ≢ codes "types") × ¬ (CanAsk name found)) (Err error)
 
--- the command line asks for nothing, for this reason
+-- The command line is refused for this reason.
 abbrev pub IsRefused : List (List ℕ) → WordsError → Type 0
 IsRefused words OutOfMemory = Unit {0}
 IsRefused words (Usage error) = IsAmong (kind_of error) (fault_of line words) ⊎ IsWrongOf words (Usage error)
@@ -44,6 +44,6 @@ IsRefused words (Value word text wrong) = IsWrongOf words (Value word text wrong
 IsRefused words (Sector text) = IsWrongOf words (Sector text)
 IsRefused words NothingToSet = IsWrongOf words NothingToSet
 
--- an error of `clap` that is no want of memory stays what it is
+-- An error of `clap` becomes `OutOfMemory` if it is an allocation failure, else `Usage`.
 abbrev pub IsOfUsage : Error → WordsError → Type 0
 IsOfUsage e error = ((kind_of e ≡ kind.OutOfMemory) × (error ≡ OutOfMemory)) ⊎ ((kind_of e ≢ kind.OutOfMemory) × (error ≡ Usage e))

@@ -1,4 +1,4 @@
-//! The commands, and the words that each takes.
+//! The commands and their arguments.
 
 use crate::definition::{Argument, Definition};
 
@@ -228,7 +228,7 @@ const WRITING: &[Argument] = &[
     JSON,
 ];
 
-// Linux reads no table of more entries.
+// Linux reads no larger table.
 const MOST_ENTRIES: u64 = 32768;
 
 const IMAGE: Argument = Argument::Place(

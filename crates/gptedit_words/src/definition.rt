@@ -1,4 +1,4 @@
-//! What a command is and takes, and the command of `clap` for it.
+//! Definitions of commands, and the `clap` commands made from them.
 
 ghost use Rattle.std.specs.Prelude.{◌≡◌, IfOk, false, map};
 ghost use Rattle.clap.specs.Words.{app_of, rule_of, shape_of};
@@ -10,43 +10,43 @@ use clap::builder::ValueParser;
 use clap::{Arg, ArgAction, Command};
 use std::alloc::{AllocError, Global};
 
-/// A command.
+/// The definition of a command.
 pub(crate) struct Definition {
-    /// Its name.
+    /// The name.
     pub(crate) name: &'static str,
-    /// What it does.
+    /// The help text.
     pub(crate) about: &'static str,
-    /// How it is used.
+    /// An example of its use.
     pub(crate) example: &'static str,
-    /// Its own words.
+    /// Its own arguments.
     pub(crate) arguments: &'static [Argument],
     /// The options that it shares with other commands.
     pub(crate) options: &'static [Argument],
 }
 
-/// A word that a command takes, with its help. An option is known by its long word with the hyphens, and a
-/// word by its place by the name that it has in the usage.
+/// An argument of a command, with its help. It is identified by the long form of an option with the hyphens, or by the
+/// name of a positional argument in the usage.
 #[derive(Clone, Copy)]
 pub(crate) enum Argument {
     /// An option without a value.
     Flag(&'static str, &'static str),
-    /// An option without a value that has a letter too.
+    /// An option without a value that also has a letter.
     Lettered(char, &'static str, &'static str),
-    /// An option with a value, and the value's name.
+    /// An option with a value, and the name of the value.
     Value(&'static str, &'static str, &'static str),
-    /// An option with a value that has to be given.
+    /// A required option with a value.
     NeededValue(&'static str, &'static str, &'static str),
-    /// An option with a number from 1 to so many.
+    /// An option whose value is from 1 to this number.
     Number(&'static str, u64, &'static str),
-    /// A word by its place that is not empty.
+    /// A positional argument that is not empty.
     Place(&'static str, &'static str),
-    /// A number from 1 to 2^32 - 1 by its place.
+    /// A positional number from 1 to 2^32 - 1.
     NumberPlace(&'static str, &'static str),
-    /// One such number or more.
+    /// One or more such numbers.
     NumberPlaces(&'static str, &'static str),
 }
 
-/// The command line of `gptedit`.
+/// Returns the command line of `gptedit`. Fails only if an allocation fails.
 pub fn command<'a>(alloc: Global) -> Result<Command<'a>, AllocError>
     ensures line { IfOk result (λ command. app_of command ≡ line) }
 {
@@ -60,7 +60,7 @@ pub fn command<'a>(alloc: Global) -> Result<Command<'a>, AllocError>
     with_commands(alloc, command, CHANGES.as_slice())
 }
 
-// The command with these commands more.
+// Adds these commands.
 fn with_commands<'a>(
     alloc: Global,
     mut command: Command<'a>,
@@ -74,7 +74,6 @@ fn with_commands<'a>(
     Ok(command)
 }
 
-// The command of a definition.
 fn subcommand<'a>(alloc: Global, definition: &Definition) -> Result<Command<'a>, AllocError>
     ensures shape { IfOk result (λ c. shape_of c ≡ shape_for definition.now) }
 {
@@ -85,7 +84,7 @@ fn subcommand<'a>(alloc: Global, definition: &Definition) -> Result<Command<'a>,
     with_arguments(alloc, command, definition.options)
 }
 
-// The command with these arguments more.
+// Adds these arguments.
 fn with_arguments<'a>(
     alloc: Global,
     mut command: Command<'a>,
@@ -99,7 +98,7 @@ fn with_arguments<'a>(
     Ok(command)
 }
 
-// The argument of `clap` for a word.
+// Returns the `clap` argument for a definition.
 fn arg_of<'a>(alloc: Global, argument: Argument) -> Arg<'a>
     ensures rule { rule_of result ≡ rule_for argument }
     ensures local { result.global ≡ false }
@@ -127,7 +126,7 @@ fn arg_of<'a>(alloc: Global, argument: Argument) -> Arg<'a>
     }
 }
 
-// An option without a value.
+// Returns an option without a value.
 fn flag<'a>(alloc: Global, word: &'a str, help: &'a str) -> Arg<'a>
     ensures rule { rule_of result ≡ flag word.entry.now }
     ensures local { result.global ≡ false }
@@ -135,7 +134,6 @@ fn flag<'a>(alloc: Global, word: &'a str, help: &'a str) -> Arg<'a>
     option(alloc, word, help).action(ArgAction::SetTrue)
 }
 
-// An option.
 fn option<'a>(alloc: Global, word: &'a str, help: &'a str) -> Arg<'a>
     ensures rule { rule_of result ≡ option word.entry.now }
     ensures local { result.global ≡ false }
@@ -143,14 +141,14 @@ fn option<'a>(alloc: Global, word: &'a str, help: &'a str) -> Arg<'a>
     Arg::new(alloc, word).long(long_word(word)).help(help)
 }
 
-// The word of an option without its hyphens.
+// Returns the name of an option without its hyphens.
 fn long_word(word: &str) -> &str
     ensures { result.now ≡ long_word word.now }
 {
     word.strip_prefix("--").unwrap_or(word)
 }
 
-// A word by its place, which is needed.
+// Returns a required positional argument.
 fn place<'a>(alloc: Global, name: &'a str, help: &'a str) -> Arg<'a>
     ensures rule { rule_of result ≡ place name.entry.now }
     ensures local { result.global ≡ false }
@@ -158,7 +156,7 @@ fn place<'a>(alloc: Global, name: &'a str, help: &'a str) -> Arg<'a>
     Arg::new(alloc, name).required(true).help(help)
 }
 
-// The argument with a number from 1 to 2^32 - 1 for its value.
+// Restricts the value to a number from 1 to 2^32 - 1.
 fn numbered(arg: Arg<'_>) -> Arg<'_>
     ensures rule { rule_of result ≡ numbered (rule_of arg.entry) }
     ensures local { result.global ≡ arg.entry.global }

@@ -1,4 +1,4 @@
-//! What the words of `add`, `set`, `resize` and `remove` ask of entries.
+//! The arguments of `add`, `set`, `resize` and `remove`.
 
 ghost use Rattle.std.specs.Prelude.{◌≡◌, ◌∷◌, [], codes, IfOk, None};
 ghost use Rattle.clap.specs.Words.{found_of};
@@ -17,10 +17,10 @@ use clap::ArgMatches;
 use gptedit_core::{Amount, Asked, Choice, DEFAULT_ALIGN, Layout, Mode};
 use std::alloc::{AllocError, Global};
 
-/// What they begin at a multiple of, where no place is chosen.
+/// The alignment of commands that choose no place.
 const ANY: Amount = Amount::Sectors(1);
 
-/// What the words of `add` ask for.
+/// Reads the arguments of `add`.
 pub(crate) fn read_add<'a>(
     alloc: Global,
     words: &ArgMatches<'a>,
@@ -36,7 +36,6 @@ pub(crate) fn read_add<'a>(
     }))
 }
 
-// What the words of `add` ask of the new entry.
 fn read_new_entry<'a>(alloc: Global, words: &ArgMatches<'a>) -> Result<Asked, WordsError<'a>>
     ensures said { IfOk result (AsksAddition (found_of words.now)) }
     ensures refused { RefusedOnlyFor (found_of words.now) (¬ (CanAdd (found_of words.now))) result }
@@ -50,7 +49,7 @@ fn read_new_entry<'a>(alloc: Global, words: &ArgMatches<'a>) -> Result<Asked, Wo
     })
 }
 
-/// What the words of `set` ask for.
+/// Reads the arguments of `set`.
 pub(crate) fn read_set<'a>(
     alloc: Global,
     words: &ArgMatches<'a>,
@@ -68,7 +67,7 @@ pub(crate) fn read_set<'a>(
     Ok(Change::Lay(layout_of(alloc, ANY, asked)?))
 }
 
-// Whether some field of the entry is given.
+// Reports whether a field of the entry is given.
 #[tactic(auto, unfolding(crate::specs::Refusals::gives_field))]
 fn gives_field(words: &ArgMatches<'_>) -> bool
     ensures { result ≡ gives_field (found_of words.now) }
@@ -79,7 +78,7 @@ fn gives_field(words: &ArgMatches<'_>) -> bool
         || words.contains_id("--attributes")
 }
 
-/// What the words of `resize` ask for.
+/// Reads the arguments of `resize`.
 pub(crate) fn read_resize<'a>(
     alloc: Global,
     words: &ArgMatches<'a>,
@@ -95,7 +94,7 @@ pub(crate) fn read_resize<'a>(
     Ok(Change::Lay(layout_of(alloc, DEFAULT_ALIGN, asked)?))
 }
 
-/// What the words of `remove` ask for.
+/// Reads the arguments of `remove`.
 pub(crate) fn read_remove<'a>(
     alloc: Global,
     words: &ArgMatches<'a>,
@@ -112,7 +111,7 @@ pub(crate) fn read_remove<'a>(
     }))
 }
 
-// The layout that changes one entry.
+// Returns the layout that changes one entry.
 fn layout_of(alloc: Global, align: Amount, asked: Asked) -> Result<Layout, AllocError>
     ensures mode { IfOk result (λ layout. layout.mode ≡ Changing) }
     ensures guid { IfOk result (λ layout. layout.disk_guid ≡ None) }
@@ -129,7 +128,7 @@ fn layout_of(alloc: Global, align: Amount, asked: Asked) -> Result<Layout, Alloc
     })
 }
 
-// What the options ask of the fields of an entry.
+// Reads the options for the fields of an entry.
 fn read_fields<'a>(alloc: Global, words: &ArgMatches<'a>) -> Result<Asked, WordsError<'a>>
     ensures fields { IfOk result (AsksFields (found_of words.now)) }
     ensures place { IfOk result KeepsPlace }

@@ -1,4 +1,4 @@
-//! Why words ask for nothing.
+//! The errors of a command line.
 
 ghost use Rattle.std.specs.Prelude.{◌≡◌};
 ghost use Rattle.gptedit_words.specs.Spelled.{IsOfUsage};
@@ -10,36 +10,36 @@ use std::alloc::{AllocError, AllocFailed};
 use std::error::Error;
 use std::{fmt, io};
 
-// The lines of `set` without a field.
+// The message for `set` without a field.
 const NOTHING_TO_SET: &str =
     "error: nothing to set: give --name, --type, --guid or --attributes\n\n\
                               For more information, try '--help'.\n";
 
-/// Why the words ask for nothing.
+/// An error of a command line.
 #[derive(Drop, Debug)]
 pub enum WordsError<'a> {
-    /// They are not as the command line is; or they ask for help or for the version.
+    /// The arguments do not fit the command line, or ask for help or the version.
     Usage(clap::Error),
-    /// The text is no such value as belongs to this word, an option with its hyphens or the name of a place.
+    /// The text is not a valid value of this argument: an option with its hyphens, or the name of a place.
     Value {
         word: &'static str,
         text: &'a str,
         wrong: Wrong,
     },
-    /// The text is no size of a sector.
+    /// The text is not a sector size.
     Sector(&'a str),
-    /// The text is longer than the name of a partition may be, 36 units of UTF-16.
+    /// The text is longer than the name of a partition may be: 36 units of UTF-16.
     LongName(&'a str),
-    /// The words of `set` give nothing that is to be set.
+    /// `set` has nothing to set.
     NothingToSet,
-    /// Nothing stands where this word belongs. `clap` refuses that first, as `Usage`.
+    /// The argument is missing. `clap` reports that first, as `Usage`.
     Missing(&'static str),
-    /// There was no memory.
+    /// An allocation failed.
     OutOfMemory,
 }
 
 impl WordsError<'_> {
-    /// The status to end with: 0 for help and the version, 1 where there was no memory, else 2.
+    /// Returns the exit status: 0 for help and the version, 1 if out of memory, else 2.
     pub fn exit_code(&self) -> u8 {
         match self {
             WordsError::Usage(error) if !error.use_stderr() => 0,
@@ -48,7 +48,7 @@ impl WordsError<'_> {
         }
     }
 
-    /// Prints why: to standard error, or help and the version to standard output.
+    /// Prints the message to standard error, or help and the version to standard output.
     pub fn print<R: Print + Eprint>(&self, rt: &R) -> io::Result<()> {
         match self {
             WordsError::Usage(error) => error.print(rt),
@@ -57,7 +57,7 @@ impl WordsError<'_> {
     }
 }
 
-/// The lines for the user, with the last newline.
+/// The message for the user, with the last newline.
 impl fmt::Display for WordsError<'_> {
     fn fmt<W: fmt::Write>(&self, f: &mut fmt::Formatter<W>) -> fmt::Result {
         match self {
@@ -76,7 +76,7 @@ impl fmt::Display for WordsError<'_> {
     }
 }
 
-// The lines of a value that is none, with what would be right.
+// Writes the message for an invalid value, with what would be valid.
 fn write_value<W: fmt::Write>(
     f: &mut fmt::Formatter<W>,
     word: &str,

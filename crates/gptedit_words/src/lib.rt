@@ -1,7 +1,6 @@
-//! The command line of `gptedit`, by `clap`: what its words ask for.
+//! Parses the command line of `gptedit`, with `clap`.
 //!
-//! No image is opened here. What a word says of sizes, types and GUIDs is read as well, so that what is asked
-//! for is whole once the words are read.
+//! Sizes, types and GUIDs are parsed too, so a request is complete. No image is opened.
 #![tactic(auto)]
 
 mod commands;

@@ -1,4 +1,4 @@
-//! The words of a command line, read.
+//! Parses the arguments of a command line.
 
 ghost use Rattle.std.specs.Prelude.{◌≡◌, ◌≢◌, codes, IfErr, IfOk, None};
 ghost use Rattle.clap.specs.Words.{first_value, found_of};
@@ -14,11 +14,11 @@ use crate::values::{amount, guid, lock, needed, number_if_given, sector_size};
 use clap::ArgMatches;
 use std::alloc::Global;
 
-/// What these words ask for. The first is the program's name.
+/// Parses these arguments. The first is the program's name.
 ///
 /// # Errors
-/// `Usage` where they are not as the command line is; `Missing`, `Value`, `Sector`, `LongName` and `NothingToSet`
-/// where the words of a command ask for nothing; `OutOfMemory`.
+/// `Usage` if they do not fit the command line; `Missing`, `Value`, `Sector`, `LongName` or `NothingToSet` if the
+/// arguments of a command are wrong; `OutOfMemory` if an allocation fails.
 pub fn read_words<'a>(alloc: Global, words: &'a [String]) -> Result<Request<'a>, WordsError<'a>>
     ensures said { IfOk result (IsSpelled (texts_of words.entry.now)) }
     ensures refused { IfErr result (IsRefused (texts_of words.entry.now)) }
@@ -30,7 +30,6 @@ pub fn read_words<'a>(alloc: Global, words: &'a [String]) -> Result<Request<'a>,
     read_request(alloc, name, words)
 }
 
-// What the words of this command ask for.
 fn read_request<'a>(
     alloc: Global,
     name: &str,
@@ -52,7 +51,6 @@ fn read_request<'a>(
     }))
 }
 
-// What the words of this command ask of an image.
 fn read_command<'a>(
     alloc: Global,
     name: &str,
@@ -76,7 +74,6 @@ fn read_command<'a>(
     }
 }
 
-// The options of a change.
 fn read_options<'a>(words: &ArgMatches<'a>) -> Result<Options<'a>, WordsError<'a>>
     ensures said { IfOk result (AsksOptions (found_of words.now)) }
     ensures refused { RefusedOnlyFor (found_of words.now) (IsWrong SaysNoLock (first_value (found_of words.now) (codes "--lock"))) result }
@@ -91,7 +88,6 @@ fn read_options<'a>(words: &ArgMatches<'a>) -> Result<Options<'a>, WordsError<'a
     })
 }
 
-// What the words of this command make of a table.
 fn read_change<'a>(
     alloc: Global,
     name: &str,
@@ -118,7 +114,6 @@ fn read_change<'a>(
     }
 }
 
-// What the words of `new` ask for.
 fn read_new<'a>(words: &ArgMatches<'a>) -> Result<Change<'a>, WordsError<'a>>
     ensures said { IfOk result (IsChange (codes "new") (found_of words.now)) }
     ensures refused { RefusedOnlyFor (found_of words.now) (¬ (CanMake (found_of words.now))) result }
@@ -129,7 +124,6 @@ fn read_new<'a>(words: &ArgMatches<'a>) -> Result<Change<'a>, WordsError<'a>>
     }))
 }
 
-// What the words of `apply` ask for.
 fn read_apply<'a>(words: &ArgMatches<'a>) -> Result<Change<'a>, WordsError<'a>>
     ensures said { IfOk result (IsChange (codes "apply") (found_of words.now)) }
     ensures refused { RefusedOnlyFor (found_of words.now) (first_value (found_of words.now) (codes "FILE") ≡ None) result }

@@ -1,119 +1,119 @@
-//! What the words of a command line ask for.
+//! The requests of a command line.
 
 use gptedit_core::{Amount, Layout};
 
-/// What the words ask for.
+/// The request of a command line.
 #[derive(Drop, Debug)]
 pub enum Request<'a> {
-    /// The types that have names.
+    /// Lists the types that have names.
     Types {
-        /// As JSON.
+        /// Whether to print JSON.
         is_json: bool,
     },
-    /// Something of an image.
+    /// Runs a command on an image.
     Image(ImageRequest<'a>),
 }
 
-/// What is asked of an image.
+/// A command and its image.
 #[derive(Drop, Debug)]
 pub struct ImageRequest<'a> {
-    /// The path of a disk image or of a block device.
+    /// The path of a disk image or a block device.
     pub image: &'a str,
-    /// The size of a sector in bytes, above 0; `None` where it is to be found.
+    /// The sector size in bytes, above 0; `None` to detect it.
     pub sector_size: Option<u64>,
-    /// Whether the answer is to be JSON.
+    /// Whether to print JSON.
     pub is_json: bool,
-    /// What is to be done.
+    /// The command.
     pub command: Command<'a>,
 }
 
-/// What is to be done with an image.
+/// The command.
 #[derive(Drop, Debug)]
 pub enum Command<'a> {
-    /// To print the table.
+    /// Prints the table.
     Show,
-    /// To look at both copies of the table.
+    /// Checks both copies of the table.
     Check,
-    /// To print the runs of free sectors.
+    /// Prints the free ranges.
     Free {
-        /// Each from a multiple of so much.
+        /// The alignment of their starts.
         align: Option<Amount>,
     },
-    /// To print the table as a layout.
+    /// Prints the table as a layout.
     Dump,
-    /// To print what can still be read of a damaged table, as a layout.
+    /// Prints what can be read of a damaged table, as a layout.
     Salvage,
-    /// To write a table.
+    /// Writes a table.
     Write {
-        /// What the table becomes.
+        /// The change.
         change: Change<'a>,
-        /// How it is written.
+        /// How to write it.
         options: Options<'a>,
     },
 }
 
-/// How a change is written.
+/// The options of a change.
 #[derive(Clone, Copy, PartialEq, Eq, Debug)]
 pub struct Options<'a> {
-    /// Whether nothing is written, and only what would be is printed.
+    /// Whether to print the change without writing it.
     pub is_dry: bool,
     /// Whether contents that would be lost may be overwritten.
     pub may_overwrite: bool,
-    /// Whether a device that is in use may be written.
+    /// Whether to write to a device that is in use.
     pub may_use: bool,
-    /// What is done where another program has the lock.
+    /// The action if another program holds the lock.
     pub lock: Lock,
-    /// The path of the file that a dump is written to first.
+    /// The path of the file to which a dump is written first.
     pub backup: Option<&'a str>,
 }
 
-/// What is done where another program has the lock of the image.
+/// The action if another program holds the lock on the image.
 #[derive(Clone, Copy, PartialEq, Eq, Debug)]
 pub enum Lock {
-    /// The program waits.
+    /// Waits for it.
     Wait,
-    /// The change is refused.
+    /// Refuses the change.
     Fail,
-    /// No lock is taken.
+    /// Takes no lock.
     None,
 }
 
-/// What a new table is to be.
+/// The values of a new table.
 #[derive(Clone, Copy, Debug)]
 pub struct NewTable {
-    /// The GUID of the disk; else a random one.
+    /// The disk GUID; random if `None`.
     pub guid: Option<[u8; 16]>,
-    /// How many entries it has, above 0.
+    /// The number of entries, above 0; the default if `None`.
     pub entries: Option<u32>,
 }
 
-/// What a table becomes.
+/// A change of the table.
 #[derive(Drop, Debug)]
 pub enum Change<'a> {
-    /// A new one, and the protective MBR.
+    /// Writes a new table and a protective MBR.
     New(NewTable),
-    /// One with what is asked of its entries.
+    /// Changes entries as this layout says.
     Lay(Layout),
-    /// One with its partitions numbered by their starts.
+    /// Numbers the partitions in the order of their starts.
     Sort,
-    /// One that takes the whole image.
+    /// Fits the table to the length of the image.
     Grow,
-    /// Itself, written again from the good copy.
+    /// Writes the table again from the good copy.
     Repair {
-        /// Whether the first and last usable sectors become those of the usual layout.
+        /// Whether to set the first and last usable sectors to those of the usual layout.
         has_usual_bounds: bool,
     },
-    /// One with random GUIDs.
+    /// Sets random GUIDs.
     Randomize,
-    /// What a layout says.
+    /// Writes the table that a layout describes.
     Apply {
         /// The path of the layout; `-` is standard input.
         file: &'a str,
-        /// Whether partitions that the layout leaves out or moves may be lost.
+        /// Whether partitions that the layout omits or moves may be lost.
         is_replacing: bool,
-        /// Whether the table is made where there is none.
+        /// Whether to create the table if there is none.
         is_creating: bool,
     },
-    /// None: both copies and the protective MBR are cleared.
+    /// Erases both copies and the protective MBR.
     Wipe,
 }

@@ -1,4 +1,4 @@
-//! The values of words, read.
+//! Reads the values of arguments.
 
 ghost use Rattle.std.specs.Prelude.{◌≡◌, ◌↔◌, codes, IfErr, IfOk, IsTrue, None, Some};
 ghost use Rattle.clap.specs.Words.{first_value, found_of, one_text};
@@ -20,7 +20,7 @@ use gptedit_text::values::{
 use gptman::PartitionName;
 use std::alloc::Global;
 
-/// The text of a word that is needed.
+/// Reads the text of a required argument.
 pub(crate) fn needed<'a>(
     words: &ArgMatches<'a>,
     word: &'static str,
@@ -34,7 +34,7 @@ pub(crate) fn needed<'a>(
     }
 }
 
-/// Returns the amount of a word, where it is given.
+/// Reads an amount, if the argument is given.
 pub(crate) fn amount<'a>(
     words: &ArgMatches<'a>,
     word: &'static str,
@@ -51,7 +51,7 @@ pub(crate) fn amount<'a>(
     }
 }
 
-/// Returns the size of a word, where it is given.
+/// Reads a size, if the argument is given.
 pub(crate) fn size<'a>(
     words: &ArgMatches<'a>,
     word: &'static str,
@@ -68,7 +68,7 @@ pub(crate) fn size<'a>(
     }
 }
 
-/// Returns the new size of a partition that a word says, where it is given.
+/// Reads the new size of a partition, if the argument is given.
 pub(crate) fn new_size<'a>(
     words: &ArgMatches<'a>,
     word: &'static str,
@@ -85,7 +85,7 @@ pub(crate) fn new_size<'a>(
     }
 }
 
-// Reads a new size: an amount, or `max`.
+// Parses a new size: an amount, or `max`.
 fn read_new_size(text: &str) -> Result<Size, Wrong>
     ensures said { IfOk result (SaysNewSize text.now) }
     ensures refused { IfErr result (λ wrong. SaysNoNewSize text.now) }
@@ -99,7 +99,7 @@ fn read_new_size(text: &str) -> Result<Size, Wrong>
     }
 }
 
-/// Returns the choice of a place of a word, where it is given.
+/// Reads the choice of a place, if the argument is given.
 pub(crate) fn choice<'a>(
     words: &ArgMatches<'a>,
     word: &'static str,
@@ -116,7 +116,7 @@ pub(crate) fn choice<'a>(
     }
 }
 
-/// Returns the GUID of a word, where it is given.
+/// Reads a GUID, if the argument is given.
 pub(crate) fn guid<'a>(
     words: &ArgMatches<'a>,
     word: &'static str,
@@ -133,7 +133,7 @@ pub(crate) fn guid<'a>(
     }
 }
 
-/// Returns the type of a word, where it is given.
+/// Reads a partition type, if the argument is given.
 pub(crate) fn kind<'a>(
     words: &ArgMatches<'a>,
     word: &'static str,
@@ -150,7 +150,7 @@ pub(crate) fn kind<'a>(
     }
 }
 
-/// Returns the attributes of a word, where it is given.
+/// Reads attributes, if the argument is given.
 pub(crate) fn attributes<'a>(
     words: &ArgMatches<'a>,
     word: &'static str,
@@ -167,7 +167,7 @@ pub(crate) fn attributes<'a>(
     }
 }
 
-/// Returns what is done where the image is locked, where it is given.
+/// Reads what to do if the image is locked, if the argument is given.
 pub(crate) fn lock<'a>(
     words: &ArgMatches<'a>,
     word: &'static str,
@@ -184,7 +184,6 @@ pub(crate) fn lock<'a>(
     }
 }
 
-// Reads what is done where the image is locked.
 fn read_lock(text: &str) -> Result<Lock, Wrong>
     ensures said { IfOk result (SaysLock text.now) }
     ensures refused { IfErr result (λ wrong. SaysNoLock text.now) }
@@ -197,7 +196,7 @@ fn read_lock(text: &str) -> Result<Lock, Wrong>
     }
 }
 
-/// The number of a word that is needed.
+/// Reads the number of a required argument.
 pub(crate) fn number<'a>(words: &ArgMatches<'a>, word: &'static str) -> Result<u32, WordsError<'a>>
     ensures said { IfOk result (IsNumberOf (found_of words.now) word.now) }
     ensures refused { IfErr result (λ error. IsMissingOrWrong SaysNoNumber (one_text (found_of words.now) word.now)) }
@@ -208,7 +207,7 @@ pub(crate) fn number<'a>(words: &ArgMatches<'a>, word: &'static str) -> Result<u
     }
 }
 
-/// Returns the number of a word, where it is given.
+/// Reads a number, if the argument is given.
 pub(crate) fn number_if_given<'a>(
     words: &ArgMatches<'a>,
     word: &'static str,
@@ -225,7 +224,7 @@ pub(crate) fn number_if_given<'a>(
     }
 }
 
-/// The numbers of a word that is needed.
+/// Reads the numbers of a required argument.
 pub(crate) fn numbers<'a>(
     alloc: Global,
     words: &ArgMatches<'a>,
@@ -247,7 +246,7 @@ pub(crate) fn numbers<'a>(
     Ok(numbers)
 }
 
-/// The name of a partition, where it is given.
+/// Reads the name of a partition, if it is given.
 pub(crate) fn name<'a>(
     alloc: Global,
     words: &ArgMatches<'a>,
@@ -267,7 +266,7 @@ pub(crate) fn name<'a>(
     }
 }
 
-/// Returns the size of a sector in bytes, where it is given.
+/// Reads the sector size in bytes, if one is given.
 pub(crate) fn sector_size<'a>(words: &ArgMatches<'a>) -> Result<Option<u64>, WordsError<'a>>
     ensures said { IfOk result (IsSectorOf (found_of words.now)) }
     ensures refused { IfErr result (λ error. IsNoSectorOf (found_of words.now)) }
@@ -282,7 +281,7 @@ pub(crate) fn sector_size<'a>(words: &ArgMatches<'a>) -> Result<Option<u64>, Wor
     }
 }
 
-// Reports whether a sector of a disk with a table may have so many bytes.
+// Reports whether a disk with a table may have sectors of this size.
 fn is_sector_size(bytes: u64) -> bool
     ensures { IsTrue result ↔ IsSectorSize bytes }
 {

@@ -6,7 +6,7 @@ use Rattle.gptedit_words.specs.Definitions.{shape_for, with_commands}
 use Rattle.gptedit_words.specs.Line.{changes, line, looks}
 use Rattle.gptedit_words.proofs.definition.command.Goals as goal
 
--- what the settings make of the command line, one after the other
+-- the settings, applied one by one
 abbrev with_version : App → App
 with_version = on_top (λ s. record s { has_version = true })
 
@@ -16,7 +16,7 @@ requiring = on_top (λ s. record s { subcommand_required = true })
 abbrev helping : App → App
 helping = on_top (λ s. record s { arg_required_else_help = true })
 
--- the command line before it has a command
+-- the command line without commands
 abbrev bare : App
 bare = helping (requiring (with_version (new_app (codes "gptedit"))))
 

@@ -23,7 +23,7 @@ returns-in_default-clause-refused c =
     let found = (c.in_ok-matches.ensures.matches (ap is_simple line_is ∙ line_is_simple)).1 in
     inl (ap (λ (a : App). subcommand_of a words) (sym line_is) ∙ sym found ∙ not_met (subcommand_rows_of c.in_ok-matches.matches) c.in_default.ensures.rows)
 
--- the command that was met
+-- the command that was found
 named : (c : goal.Joined-matches-2) → Names (texts_of c.args.words.now) c.in-Some.name.now (found_of c.in-Some.words.now)
 named c =
     let words = texts_of c.args.words.now in
