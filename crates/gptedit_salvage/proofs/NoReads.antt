@@ -1,9 +1,9 @@
--- Runs of calls that only read.
+-- Sequences of calls that only read.
 use Rattle.std.proofs.Common.{IsTrue, rules}
 use Rattle.gptman.specs.Disk.{DiskState, IsSound, Reads}
 use Rattle.gptman.proofs.Readers.{reads_not}
 
--- before the first call
+-- no call yet
 pub reads_none : (a : DiskState) → (IsTrue a.is_honest → IsSound a) → Reads a a
 reads_none a sound = record {
   keeps = search rules;

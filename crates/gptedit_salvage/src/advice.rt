@@ -1,17 +1,17 @@
-//! Whether the layout that was salvaged is to be written.
+//! Advice on writing a salvaged layout.
 
 use crate::found::{FoundCopy, FoundEntry, Salvaged};
 use crate::layouts::Frame;
 use std::fmt;
 
-/// What is said of writing the layout.
+/// Advice on writing the layout.
 #[derive(Clone, Copy, PartialEq, Eq, Debug)]
 pub enum Advice {
     /// The layout has all entries that were found, and no others are known to be lost.
     Write,
-    /// It may lack entries, which a write of it overwrites.
+    /// The layout may lack entries, which a write would overwrite.
     CopyFirst,
-    /// The same, and it has no entries.
+    /// The layout may lack entries, and has none.
     Keep,
 }
 
@@ -29,7 +29,7 @@ impl Advice {
     }
 }
 
-/// The advice as comments of a layout, without the last newline.
+/// The advice as comments in a layout, without the last newline.
 impl fmt::Display for Advice {
     fn fmt<W: fmt::Write>(&self, f: &mut fmt::Formatter<W>) -> fmt::Result {
         match self {
@@ -48,7 +48,7 @@ impl fmt::Display for Advice {
     }
 }
 
-/// Returns how many entries of a copy the layout does not have.
+/// Returns the number of entries of a copy that are not in the layout.
 pub fn count_missing(copy: &FoundCopy, best: &FoundCopy, frame: &Frame) -> usize {
     copy.entries
         .iter()
@@ -56,7 +56,7 @@ pub fn count_missing(copy: &FoundCopy, best: &FoundCopy, frame: &Frame) -> usize
         .count()
 }
 
-/// Reports whether the layout has the entry, under the same number.
+/// Reports whether the layout has the entry under the same number.
 pub fn is_in_layout(found: &FoundEntry, best: &FoundCopy, frame: &Frame) -> bool {
     let Ok(index) = best
         .entries

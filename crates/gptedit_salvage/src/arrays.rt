@@ -1,4 +1,4 @@
-//! Arrays of entries, where a header says that they are, and where they usually are.
+//! Arrays of entries, where a header places them and at their usual places.
 
 ghost use Rattle.gptman.specs.Disk.{Reads};
 
@@ -11,13 +11,13 @@ use gptman::crc::crc32;
 use gptman::{Disk, Error, GPTHeader, GPTPartitionEntry};
 use std::alloc::{AllocError, Global};
 
-// The size of an entry in bytes, and the usual number of entries.
+// The usual entry size in bytes, and the usual number of entries.
 const USUAL: u32 = 128;
 
-// The most bytes of an array that are read.
+// The maximum number of bytes read of an array.
 const MAX_BYTES: u64 = 16 << 20;
 
-/// An array of entries: its first sector, the number of entries, and the size of each in bytes.
+/// An array of entries: its first sector, the number of entries, and the entry size in bytes.
 #[derive(Clone, Copy, PartialEq, Eq)]
 pub struct Span {
     pub lba: u64,
@@ -36,7 +36,7 @@ impl Span {
         .at_usual_place(spot)
     }
 
-    /// Returns the array that a header says. Numbers that no array has are the usual ones.
+    /// Returns the array that a header describes. Impossible numbers are replaced by the usual ones.
     pub fn said_by(header: &GPTHeader) -> Span {
         let (count, entry_size) = (
             header.number_of_partition_entries,
@@ -57,8 +57,7 @@ impl Span {
         }
     }
 
-    /// Returns the same array at the usual place of a copy: after the header in sector 1, else before the
-    /// header.
+    /// Returns this array at the usual place of a copy: after the header in sector 1, else before the header.
     pub fn at_usual_place(self, spot: Spot) -> Span {
         if spot.lba <= 1 {
             self.at(2)
@@ -67,8 +66,8 @@ impl Span {
         }
     }
 
-    // The same array where the copy other than that of this header usually has it: before the backup header
-    // or after the usable sectors; after the primary header or before the usable sectors.
+    // Returns this array at the usual places of the other copy: before the backup header or after the usable sectors;
+    // after the primary header or before the usable sectors.
     fn at_places_of_other(self, spot: Spot, header: &GPTHeader) -> [Span; 3] {
         let (other, size) = (header.backup_lba, spot.sector_size);
         if spot.lba <= 1 {
@@ -86,18 +85,17 @@ impl Span {
         }
     }
 
-    // The same array from this sector on.
     fn at(self, lba: u64) -> Span {
         Span { lba, ..self }
     }
 
-    // The same array right before this sector.
+    // Returns this array right before this sector.
     fn before(self, lba: u64, sector_size: u64) -> Span {
         let sectors = self.len().div_ceil(sector_size.max(1));
         self.at(lba.saturating_sub(sectors))
     }
 
-    // The same array, with the usual number of entries.
+    // Returns this array with the usual numbers.
     fn of_usual_size(self) -> Span {
         Span {
             count: USUAL,
@@ -112,28 +110,27 @@ impl Span {
     }
 }
 
-// Whether entries of this size are read: a multiple of 128 bytes up to a sector of 4096.
+// Reports whether entries of this size are read: a multiple of 128 bytes, at most 4096.
 fn is_entry_size(size: u32) -> bool {
     size != 0 && size % USUAL == 0 && size <= 4096
 }
 
-/// What was read of an array.
+/// An array that was read.
 #[derive(Drop)]
 pub struct Array {
     /// The array.
     pub span: Span,
-    /// Its bytes that were read.
+    /// The bytes that were read.
     pub bytes: Vec<u8>,
     /// Their checksum.
     pub checksum: u32,
     /// The entries that have a type.
     pub entries: Vec<FoundEntry>,
-    /// Whether it is where the other copy usually has its entries.
+    /// Whether it is at a usual place of the other copy.
     pub is_of_other: bool,
 }
 
 impl Array {
-    // The number of bytes that were read.
     fn len(&self) -> u64 {
         self.bytes.len() as u64
     }
@@ -143,7 +140,7 @@ impl Array {
         self.len() == self.span.len()
     }
 
-    // The number of entries whose sectors are in order and on the disk.
+    // Returns the number of sensible entries.
     fn count_sensible(&self, sectors: u64) -> usize {
         self.entries
             .iter()
@@ -152,12 +149,12 @@ impl Array {
     }
 }
 
-// Whether the sectors of an entry are in order and on the disk.
+// Reports whether the sectors of an entry are in order and on the disk.
 fn is_sensible(entry: &GPTPartitionEntry, sectors: u64) -> bool {
     entry.starting_lba <= entry.ending_lba && entry.ending_lba < sectors
 }
 
-/// Reports whether most of the entries of an array without a header look like those of partitions.
+/// Reports whether most of the entries look like partitions.
 pub fn is_likely(array: &Array, sectors: u64) -> bool {
     let likely = array
         .entries
@@ -167,13 +164,13 @@ pub fn is_likely(array: &Array, sectors: u64) -> bool {
     likely > array.entries.len() / 2
 }
 
-// Whether an entry looks like that of a partition: it makes sense, is after the primary header, and has a GUID.
+// Reports whether an entry looks like a partition: it is sensible, starts after sector 1, and has a GUID.
 fn is_likely_entry(entry: &GPTPartitionEntry, sectors: u64) -> bool {
     is_sensible(entry, sectors) && entry.starting_lba > 1 && entry.unique_partition_guid != [0; 16]
 }
 
-/// Reads the array of a header: where it says, or where its copy usually has it. If the entries there do not have
-/// the stored checksum, and those of the other copy do, it is that one.
+/// Reads the array of a header, where the header places it or at a usual place. If these entries do not match the
+/// stored checksum and those of the other copy do, returns the latter.
 #[tactic(auto, using(gptman::proofs::Readers::both_read))]
 pub fn find_array<D: Disk>(
     alloc: Global,
@@ -193,7 +190,7 @@ pub fn find_array<D: Disk>(
     }
 }
 
-// The array of a header where it says, or where its copy usually has it.
+// Reads the array of a header, where the header places it or at a usual place of its copy.
 #[tactic(auto, using(gptman::proofs::Readers::both_read))]
 fn find_own<D: Disk>(
     alloc: Global,
@@ -225,7 +222,7 @@ fn find_own<D: Disk>(
     Ok(best)
 }
 
-// The array of a header where the other copy usually has its entries, if these have the stored checksum.
+// Reads the array of a header at a usual place of the other copy, if it matches the stored checksum.
 #[tactic(auto, using(gptman::proofs::Readers::both_read))]
 fn find_of_other<D: Disk>(
     alloc: Global,
@@ -247,17 +244,17 @@ fn find_of_other<D: Disk>(
     Ok(found)
 }
 
-// Whether the entries have the checksum that the header stores.
+// Reports whether the entries match the checksum that the header stores.
 fn is_sure(array: &Array, header: &GPTHeader) -> bool {
     array.is_whole() && array.checksum == header.partition_entry_array_crc32
 }
 
-// Whether an array is more likely that of the header than another one.
+// Reports whether an array matches the checksum, or has more sensible entries than the other one.
 fn is_better(array: &Array, other: &Array, header: &GPTHeader, sectors: u64) -> bool {
     is_sure(array, header) || array.count_sensible(sectors) > other.count_sensible(sectors)
 }
 
-/// Reads an array, as far as the disk has it.
+/// Reads an array, up to the end of the disk and at most 16 MiB.
 #[tactic(auto, using(gptman::proofs::Readers::both_read))]
 pub fn read_array<D: Disk>(
     alloc: Global,
@@ -281,7 +278,7 @@ pub fn read_array<D: Disk>(
     })
 }
 
-// The entries that have a type, each in the first bytes of so many.
+// Decodes the entries that have a type, each from its first 128 bytes.
 fn decode_all(alloc: Global, bytes: &[u8], entry_size: u32) -> Result<Vec<FoundEntry>, AllocError> {
     let mut entries = Vec::new(alloc);
     let mut rest = bytes;
@@ -301,7 +298,7 @@ fn decode_all(alloc: Global, bytes: &[u8], entry_size: u32) -> Result<Vec<FoundE
     Ok(entries)
 }
 
-// The entry, if it has a type.
+// Decodes the entry, if it has a type.
 fn decode(alloc: Global, bytes: &[u8; 128]) -> Result<Option<GPTPartitionEntry>, AllocError> {
     if bytes.iter().take(16).all(|byte| *byte == 0) {
         return Ok(None);
@@ -313,7 +310,7 @@ fn decode(alloc: Global, bytes: &[u8; 128]) -> Result<Option<GPTPartitionEntry>,
     }
 }
 
-/// Notes what is wrong with the array of a header. One wrong byte of an entry that has a type is mended.
+/// Records the faults of the array of a header. Corrects one wrong byte of an entry that has a type.
 pub fn note_array(
     alloc: Global,
     faults: &mut Vec<Fault>,
@@ -335,7 +332,7 @@ pub fn note_array(
     Ok(())
 }
 
-// Changes the one byte of an entry with a type that makes the checksum of the array this one, if there is one.
+// Corrects the only byte of an entry with a type that makes the array match its checksum, if there is one.
 fn mend(alloc: Global, array: &mut Array, stored: u32) -> Result<Option<Fault>, AllocError> {
     let entry_size = array.span.entry_size as usize;
     let bytes = array.bytes.as_slice();
@@ -360,7 +357,7 @@ fn mend(alloc: Global, array: &mut Array, stored: u32) -> Result<Option<Fault>, 
     }))
 }
 
-// Whether the byte is one of the first 128 of an entry that has a type.
+// Reports whether the byte is in the first 128 of an entry that has a type.
 fn is_in_entry(bytes: &[u8], entry_size: usize, index: usize) -> bool {
     let Some(place) = index.checked_rem(entry_size) else {
         return false;
@@ -374,7 +371,7 @@ fn is_in_entry(bytes: &[u8], entry_size: usize, index: usize) -> bool {
     }
 }
 
-// Notes numbers of a header that are not those of the array.
+// Records numbers in a header that are not those of the array.
 fn note_numbers(faults: &mut Vec<Fault>, header: &GPTHeader, span: Span) -> Result<(), AllocError> {
     let count = header.number_of_partition_entries;
     if count == 0 {
@@ -396,7 +393,7 @@ fn note_numbers(faults: &mut Vec<Fault>, header: &GPTHeader, span: Span) -> Resu
     Ok(())
 }
 
-// Notes that the array is not where the header says.
+// Records that the array is not where the header places it.
 fn note_place(
     faults: &mut Vec<Fault>,
     header: &GPTHeader,
@@ -411,7 +408,7 @@ fn note_place(
     Ok(())
 }
 
-/// Notes that an array could not be read to its end.
+/// Records that an array could not be read to its end.
 pub fn note_length(faults: &mut Vec<Fault>, array: &Array, spot: Spot) -> Result<(), AllocError> {
     let start = array.span.lba.saturating_mul(spot.sector_size);
     let end = spot.sectors.saturating_mul(spot.sector_size);

@@ -1,9 +1,9 @@
-//! Which of the copies is the best.
+//! The choice of the best copy.
 
 use crate::found::{FoundCopy, Place};
 
-/// Returns the index of the best copy: one with entries that make sense, then with the fewest faults, then
-/// with the most such entries, then the primary one.
+/// Returns the index of the best copy. Copies with faults and without sensible entries come last; then fewer faults,
+/// more sensible entries, and the order primary, backup, other decide.
 pub fn find_best(copies: &[FoundCopy]) -> Option<usize> {
     let mut best: Option<(Rank, usize)> = None;
     for (index, copy) in copies.iter().enumerate() {
@@ -19,10 +19,9 @@ pub fn find_best(copies: &[FoundCopy]) -> Option<usize> {
     best.map(|found| found.1)
 }
 
-// The lower, the better.
+// Lower is better.
 type Rank = (bool, usize, usize, u8);
 
-// The rank of a copy.
 fn rank_of(copy: &FoundCopy) -> Rank {
     let sensible = copy.count_sensible();
     let is_suspect = sensible == 0 && !copy.faults.is_empty();

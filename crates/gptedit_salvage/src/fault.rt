@@ -1,48 +1,48 @@
-//! What is wrong with a copy, or with one of its entries.
+//! Faults of copies and entries.
 
 use std::fmt;
 
-/// What is wrong with a copy.
+/// A fault of a copy.
 #[derive(Clone, Copy, PartialEq, Eq, Debug)]
 pub enum Fault {
-    /// There is no header, and what looks like entries is at their usual place.
+    /// There is no header, but what looks like entries at their usual place.
     NoHeader {
         lba: u64,
     },
-    /// The device failed at a read from this sector on.
+    /// A read failed from this sector on.
     Unreadable {
         lba: u64,
     },
-    /// The header does not begin with `EFI PART`, but nearly.
+    /// The header begins almost, but not quite, with `EFI PART`.
     Signature,
     /// The revision is not 1.0.
     Revision([u8; 4]),
-    /// The header says that it is longer than 92 bytes, which the format allows.
+    /// The header size is above 92 bytes, which the format allows.
     LongHeader(u32),
-    /// The header says that it is shorter than 92 bytes, or longer than a sector.
+    /// The header size is below 92 bytes, or above that of a sector.
     HeaderSize(u32),
-    /// The checksum of the header is not that of its bytes.
+    /// The header does not match its checksum.
     HeaderChecksum {
         stored: u32,
         computed: u32,
     },
-    /// One byte of the header was wrong: with this one the header has its checksum.
+    /// One byte of the header was wrong: with the byte `is` the header matches its checksum.
     HeaderByte {
         index: usize,
         was: u8,
         is: u8,
     },
-    /// The header says that it is in another sector.
+    /// The header names another sector as its own.
     OtherSector {
         said: u64,
     },
-    /// The header says that the other copy is in another sector than is usual.
+    /// The header names an unusual sector for the other copy.
     OtherCopy {
         said: u64,
         usual: u64,
         sectors: u64,
     },
-    /// The usable sectors are not in order, or not on the disk.
+    /// The usable sectors are out of order, or not on the disk.
     Bounds {
         first: u64,
         last: u64,
@@ -51,21 +51,21 @@ pub enum Fault {
     NoEntries,
     /// The header counts more entries than are read.
     TooMany(u32),
-    /// The size of an entry is not a multiple of 128 bytes.
+    /// The header has this entry size; entries of 128 bytes were read.
     EntrySize(u32),
-    /// The size of an entry is a larger multiple of 128 bytes.
+    /// The entry size is a larger multiple of 128 bytes.
     LargeEntries(u32),
     /// The entries are not where the header says.
     MovedEntries {
         said: u64,
         found: u64,
     },
-    /// The entries where the header says are lost; those of the other copy have the checksum that it stores.
+    /// The copy's own entries are lost; those of the other copy match the stored checksum.
     OtherEntries {
         said: u64,
         found: u64,
     },
-    /// Entries were read that the header does not count.
+    /// Another number of entries was read than the header counts.
     OtherCount {
         said: u32,
         read: u32,
@@ -74,12 +74,12 @@ pub enum Fault {
     EntriesPastEnd {
         lba: u64,
     },
-    /// The checksum of the entries is not that of their bytes.
+    /// The entries do not match their checksum.
     EntriesChecksum {
         stored: u32,
         computed: u32,
     },
-    /// One byte of an entry was wrong: with this one the entries have their checksum.
+    /// One byte of an entry was wrong: with the byte `is` the entries match their checksum.
     EntryByte {
         number: u32,
         index: usize,
@@ -89,7 +89,7 @@ pub enum Fault {
 }
 
 impl Fault {
-    /// Reports whether by this fault entries may be lost that were not read.
+    /// Reports whether entries may be lost: they were not read, or do not match their checksum.
     pub fn is_loss(&self) -> bool {
         matches!(
             self,
@@ -150,7 +150,7 @@ impl fmt::Display for Fault {
     }
 }
 
-// Writes what is wrong with the entries of a copy.
+// Writes a fault of the entries of a copy.
 fn write_entries_fault<W: fmt::Write>(f: &mut fmt::Formatter<W>, fault: Fault) -> fmt::Result {
     match fault {
         Fault::NoEntries => f.write_str("the header counts no entries"),
@@ -216,7 +216,6 @@ fn write_entries_fault<W: fmt::Write>(f: &mut fmt::Formatter<W>, fault: Fault) -
     }
 }
 
-// Writes a revision, as its bytes say.
 fn write_revision<W: fmt::Write>(f: &mut fmt::Formatter<W>, bytes: [u8; 4]) -> fmt::Result {
     let number = u32::from_le_bytes(bytes);
     let (major, minor) = (number >> 16, number & 0xffff);
@@ -228,7 +227,7 @@ fn write_sums<W: fmt::Write>(f: &mut fmt::Formatter<W>, stored: u32, computed: u
     write!(f, "{stored:08x} is stored, {computed:08x} is computed")
 }
 
-// Writes where the other copy is said to be.
+// Writes the sector that the header names for the other copy.
 fn write_other<W: fmt::Write>(
     f: &mut fmt::Formatter<W>,
     said: u64,
@@ -246,23 +245,23 @@ fn write_other<W: fmt::Write>(
     }
 }
 
-/// What is wrong with an entry.
+/// A fault of an entry.
 #[derive(Clone, Copy, PartialEq, Eq, Debug)]
 pub enum EntryFault {
     /// It ends before it starts.
     EndsBeforeStart,
     /// It ends past the end of the disk.
     PastEnd,
-    /// It is not all in the usable sectors.
+    /// It is not entirely within the usable sectors.
     NotUsable { first: u64, last: u64 },
-    /// It overlaps the entry of this number, which ends no later.
+    /// It overlaps the entry of this number, which does not end later.
     Overlaps(u32),
-    /// It has the GUID of the entry of this number, which comes before.
+    /// It has the GUID of the earlier entry of this number.
     SharesGuid(u32),
 }
 
 impl EntryFault {
-    /// Reports whether the sectors make no sense.
+    /// Reports whether its sectors are out of order, or not on the disk.
     pub fn is_senseless(&self) -> bool {
         matches!(self, EntryFault::EndsBeforeStart | EntryFault::PastEnd)
     }

@@ -1,23 +1,23 @@
-//! What was found on a disk.
+//! The result of a search for copies.
 
 use crate::fault::{EntryFault, Fault};
 use gptman::{GPTHeader, GPTPartitionEntry};
 
-/// What was found on a disk.
+/// The result of a search.
 #[derive(Drop)]
 pub struct Salvaged {
     /// The length of the disk in bytes.
     pub size: u64,
-    /// The sector size that was asked for; else all were tried.
+    /// The requested sector size; all were tried if `None`.
     pub asked: Option<u64>,
-    /// What is there of each copy.
+    /// The findings for each copy.
     pub copies: Vec<FoundCopy>,
     /// The index of the best copy that has a header or entries.
     pub best: Option<usize>,
 }
 
 impl Salvaged {
-    /// Reports whether nothing could be read.
+    /// Reports whether nothing was found.
     pub fn is_empty(&self) -> bool {
         self.best_copy().is_none()
     }
@@ -27,48 +27,48 @@ impl Salvaged {
         self.copies.get(self.best?)
     }
 
-    /// Reports whether the device failed at a read, so that there may be more than was found.
+    /// Reports whether a read failed, so that there may be more than was found.
     pub fn has_failed(&self) -> bool {
         self.copies.iter().any(|copy| copy.is_unreadable())
     }
 }
 
-/// Which copy of a table it is.
+/// The kind of a copy.
 #[derive(Clone, Copy, PartialEq, Eq, Debug)]
 pub enum Place {
-    /// The primary one, whose header is in sector 1.
+    /// The primary copy, whose header is in sector 1.
     Primary,
-    /// The backup, whose header is in the last sector.
+    /// The backup copy, whose header is in the last sector.
     Backup,
-    /// A copy where another header says that it is.
+    /// A copy in a sector that another header names.
     Other,
 }
 
-/// Where a copy is, or would be.
+/// The place where a copy is, or would be.
 #[derive(Clone, Copy, PartialEq, Eq, Debug)]
 pub struct Spot {
-    /// The size of a sector in bytes.
+    /// The sector size in bytes.
     pub sector_size: u64,
     /// The number of whole sectors of the disk.
     pub sectors: u64,
-    /// Which copy it is.
+    /// The kind of the copy.
     pub place: Place,
     /// The sector of its header.
     pub lba: u64,
 }
 
-/// What is there of a copy.
+/// The findings for a copy.
 #[derive(Drop)]
 pub struct FoundCopy {
-    /// Where it is.
+    /// Its place.
     pub spot: Spot,
-    /// The fields of its header, as they are stored; `None` where it has no header.
+    /// The fields of its header as stored; `None` if it has no header.
     pub header: Option<GPTHeader>,
-    /// What is wrong with it.
+    /// Its faults.
     pub faults: Vec<Fault>,
-    /// The first sector of the entries that were read; `None` where none could be.
+    /// The first sector of the array of entries; `None` if the header could not be read.
     pub entries_lba: Option<u64>,
-    /// The entries that have a type, by their numbers.
+    /// The entries that have a type, in the order of their numbers.
     pub entries: Vec<FoundEntry>,
 }
 
@@ -78,7 +78,7 @@ impl FoundCopy {
         self.header.is_some() || !self.entries.is_empty()
     }
 
-    /// Returns the number of entries that make sense.
+    /// Returns the number of sensible entries.
     pub fn count_sensible(&self) -> usize {
         self.entries
             .iter()
@@ -86,19 +86,19 @@ impl FoundCopy {
             .count()
     }
 
-    /// Reports whether its entries are those at the place of the other copy.
+    /// Reports whether its entries were read at the place of the other copy.
     pub fn has_others_entries(&self) -> bool {
         self.faults
             .iter()
             .any(|fault| matches!(fault, Fault::OtherEntries { .. }))
     }
 
-    /// Reports whether entries of it may be lost: they were not read, or do not have their checksum.
+    /// Reports whether entries may be lost: they were not read, or do not match their checksum.
     pub fn may_lack_entries(&self) -> bool {
         self.faults.iter().any(|fault| fault.is_loss())
     }
 
-    // Whether the device failed where it is.
+    // Reports whether a read of it failed.
     fn is_unreadable(&self) -> bool {
         self.faults
             .iter()
@@ -113,7 +113,7 @@ pub struct FoundEntry {
     pub number: u32,
     /// The entry.
     pub entry: GPTPartitionEntry,
-    /// What is wrong with it.
+    /// Its faults.
     pub faults: Vec<EntryFault>,
 }
 

@@ -1,4 +1,4 @@
-//! Headers as they are stored, and what is wrong with them.
+//! Headers as stored, and their faults.
 
 ghost use Rattle.gptman.specs.Disk.{Reads};
 
@@ -10,7 +10,7 @@ use gptman::crc::crc32;
 use gptman::{Disk, GPTHeader};
 use std::alloc::{AllocError, Global};
 
-// The bytes of a header that are read.
+// The number of bytes read of a header.
 const LEAST_SIZE: u32 = 92;
 
 // "EFI PART".
@@ -19,18 +19,18 @@ const SIGNATURE: [u8; 8] = *b"EFI PART";
 // Revision 1.0.
 const REVISION: [u8; 4] = [0, 0, 1, 0];
 
-/// What is in the sector of a header.
+/// The contents of the sector of a header.
 #[derive(Drop)]
 pub enum Seen {
     /// Nothing like a header.
     Nothing,
-    /// The device failed.
+    /// The read failed.
     Failure,
-    /// A header, and what is wrong with it.
+    /// A header and its faults.
     Header(GPTHeader, Vec<Fault>),
 }
 
-/// Reads what is in the sector of a header.
+/// Reads the sector of a header.
 #[tactic(auto, using(gptman::proofs::Readers::both_read))]
 pub fn read_header<D: Disk>(alloc: Global, disk: &mut D, spot: Spot) -> Result<Seen, AllocError>
     ensures reads { Reads (D.state disk.old) (D.state disk.new) }
@@ -46,7 +46,7 @@ pub fn read_header<D: Disk>(alloc: Global, disk: &mut D, spot: Spot) -> Result<S
     see_header(alloc, sector, spot)
 }
 
-// The header that a sector begins with. One wrong byte is mended.
+// Returns the header at the start of the sector, with one wrong byte corrected.
 fn see_header(alloc: Global, sector: &mut [u8], spot: Spot) -> Result<Seen, AllocError> {
     let Some(first) = sector.first_chunk::<92>() else {
         return Ok(Seen::Nothing);
@@ -62,7 +62,7 @@ fn see_header(alloc: Global, sector: &mut [u8], spot: Spot) -> Result<Seen, Allo
     Ok(Seen::Header(header, faults))
 }
 
-// Whether it begins as a header, or nearly so and has what follows there.
+// Reports whether this looks like a header: by its signature, or by 7 bytes of it with revision 1.0 and size 92.
 fn is_like_header(header: &GPTHeader) -> bool {
     if header.signature == SIGNATURE {
         return true;
@@ -76,7 +76,7 @@ fn is_like_header(header: &GPTHeader) -> bool {
     same >= 7 && header.revision == REVISION && header.header_size == LEAST_SIZE
 }
 
-// Notes what is wrong with the form of a header in a sector of this length.
+// Records faults in the form of a header in a sector of this length.
 fn note_form(faults: &mut Vec<Fault>, header: &GPTHeader, len: usize) -> Result<(), AllocError> {
     if header.signature != SIGNATURE {
         faults.push(Fault::Signature)?;
@@ -93,7 +93,7 @@ fn note_form(faults: &mut Vec<Fault>, header: &GPTHeader, len: usize) -> Result<
     Ok(())
 }
 
-// Notes a wrong checksum of a header, or the one byte that makes it right. Returns the header with it.
+// Records a wrong checksum, or the one byte that makes it right. Returns the header with this byte.
 fn check_sum(
     faults: &mut Vec<Fault>,
     header: GPTHeader,
@@ -120,12 +120,12 @@ fn check_sum(
     Ok(header)
 }
 
-// Whether the byte counts for the checksum of a header.
+// Reports whether the checksum of a header depends on the byte.
 fn is_summed(index: usize) -> bool {
     index < 16 || index >= 20
 }
 
-// The header with a byte changed, and what that was.
+// Returns the header with this byte corrected, and the fault. `sector` no longer has the stored checksum.
 fn mend(header: GPTHeader, sector: &[u8], wrong: WrongByte) -> Option<(GPTHeader, Fault)> {
     let mut bytes = *sector.first_chunk::<92>()?;
     let index = wrong.index;
@@ -143,7 +143,7 @@ fn mend(header: GPTHeader, sector: &[u8], wrong: WrongByte) -> Option<(GPTHeader
     Some((mended, fault))
 }
 
-// The checksum of the header of this size, whose own bytes count as zero. They are zero afterwards.
+// Returns the checksum of a header of this size, in which the stored one is zero. Sets that to zero in `sector`.
 fn checksum_of(sector: &mut [u8], size: u32) -> u32 {
     for byte in sector.iter_mut().skip(16).take(4) {
         *byte = 0;
@@ -154,7 +154,7 @@ fn checksum_of(sector: &mut [u8], size: u32) -> u32 {
     }
 }
 
-// Notes what a header says of places that is not so, or not usual.
+// Records sectors in a header that are wrong or unusual.
 fn note_places(faults: &mut Vec<Fault>, header: &GPTHeader, spot: Spot) -> Result<(), AllocError> {
     if header.primary_lba != spot.lba {
         let said = header.primary_lba;

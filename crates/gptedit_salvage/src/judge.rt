@@ -1,11 +1,11 @@
-//! What is wrong with the entries of a copy. It takes time in O(n log n) for n entries.
+//! Finds faults of the entries of a copy. The time is O(n log n) for n entries.
 
 use crate::fault::EntryFault;
 use crate::found::{FoundEntry, Spot};
 use gptman::GPTHeader;
 use std::alloc::{AllocError, Global};
 
-/// Notes what is wrong with each of the entries.
+/// Records the faults of each entry.
 pub fn judge(
     alloc: Global,
     entries: &mut [FoundEntry],
@@ -19,7 +19,7 @@ pub fn judge(
     note_shared(alloc, entries)
 }
 
-// Notes what is wrong with the sectors of an entry.
+// Records faults in the sectors of an entry.
 fn note_range(
     found: &mut FoundEntry,
     sectors: u64,
@@ -43,7 +43,7 @@ fn note_range(
     Ok(())
 }
 
-// The sectors of an entry, and where it is in the list.
+// The sectors of an entry, and its index in the list.
 #[derive(Clone, Copy)]
 struct Range {
     start: u64,
@@ -52,7 +52,7 @@ struct Range {
     index: usize,
 }
 
-// Notes overlaps, so that the most entries that make sense have no such fault.
+// Records overlaps for as few sensible entries as possible.
 fn note_overlaps(alloc: Global, entries: &mut [FoundEntry]) -> Result<(), AllocError> {
     let mut ranges = Vec::new(alloc);
     for (index, found) in entries.iter().enumerate() {
@@ -76,7 +76,7 @@ fn note_overlaps(alloc: Global, entries: &mut [FoundEntry]) -> Result<(), AllocE
     Ok(())
 }
 
-// Notes an overlap with the entry that ends later. Returns the other one.
+// Records an overlap for the entry that ends later. Returns the other entry.
 fn part(entries: &mut [FoundEntry], before: Range, next: Range) -> Result<Range, AllocError> {
     let (kept, other) = if next.end < before.end {
         (next, before)
@@ -89,7 +89,7 @@ fn part(entries: &mut [FoundEntry], before: Range, next: Range) -> Result<Range,
     Ok(kept)
 }
 
-// Notes GUIDs that an entry before has.
+// Records GUIDs that an earlier entry has.
 fn note_shared(alloc: Global, entries: &mut [FoundEntry]) -> Result<(), AllocError> {
     let mut guids = Vec::new(alloc);
     for (index, found) in entries.iter().enumerate() {

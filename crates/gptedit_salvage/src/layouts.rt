@@ -1,4 +1,4 @@
-//! The layout that a copy gives.
+//! The layout for a copy.
 
 use crate::MAX_ENTRIES;
 use crate::fault::EntryFault;
@@ -9,20 +9,20 @@ use gptman::GPTHeader;
 use gptman::sizes::DEFAULT_ENTRY_COUNT;
 use std::alloc::{AllocError, Global};
 
-/// What a layout says of the header of its table, and the sectors that partitions may use by it.
+/// The header values of a layout, and the sectors for its partitions.
 #[derive(Clone, Copy)]
 pub struct Frame {
-    /// What is said of the header.
+    /// The header values.
     pub header: Header,
-    /// The first sector that partitions may use.
+    /// The first sector for partitions.
     pub first: u64,
-    /// The last one.
+    /// The last sector for partitions.
     pub last: u64,
 }
 
 impl Frame {
-    /// Returns the frame of a copy. Values of its header that no new table has here, or that contradict the
-    /// entries, are left out.
+    /// Returns the frame of a copy. Leaves out header values that a new table cannot have here, or that contradict the
+    /// entries.
     pub fn of(copy: &FoundCopy) -> Frame {
         let spot = copy.spot;
         let count = copy.header.as_ref().and_then(|header| count_of(header));
@@ -51,13 +51,13 @@ impl Frame {
                 || matches!(fault, EntryFault::Overlaps(_)))
     }
 
-    /// Reports whether an entry is in the usable sectors.
+    /// Reports whether the entry is between the first and the last sector.
     pub fn has_room_for(&self, found: &FoundEntry) -> bool {
         found.entry.starting_lba >= self.first && found.entry.ending_lba <= self.last
     }
 }
 
-// The number of entries, if a table may have so many.
+// Returns the number of entries, if a table may have that many.
 fn count_of(header: &GPTHeader) -> Option<u32> {
     let count = header.number_of_partition_entries;
     if count == 0 || count > MAX_ENTRIES {
@@ -67,7 +67,7 @@ fn count_of(header: &GPTHeader) -> Option<u32> {
     }
 }
 
-// The first usable sector, unless an entry that makes sense starts before it.
+// Returns the first usable sector, unless a sensible entry starts before it.
 fn first_of(copy: &FoundCopy) -> Option<u64> {
     let first = copy.header.as_ref()?.first_usable_lba;
     let is_before = |found: &FoundEntry| found.is_sensible() && found.entry.starting_lba < first;
@@ -78,7 +78,7 @@ fn first_of(copy: &FoundCopy) -> Option<u64> {
     }
 }
 
-// The last usable sector, unless an entry that makes sense ends after it.
+// Returns the last usable sector, unless a sensible entry ends after it.
 fn last_of(copy: &FoundCopy) -> Option<u64> {
     let last = copy.header.as_ref()?.last_usable_lba;
     let is_after = |found: &FoundEntry| found.is_sensible() && found.entry.ending_lba > last;
@@ -89,7 +89,7 @@ fn last_of(copy: &FoundCopy) -> Option<u64> {
     }
 }
 
-/// Returns the layout of the entries that it may have.
+/// Returns a layout of the entries that the frame permits.
 pub fn layout_of(alloc: Global, copy: &FoundCopy, frame: &Frame) -> Result<Layout, AllocError> {
     let mut layout = empty_layout(alloc);
     layout.disk_guid = copy.header.as_ref().map(|header| header.disk_guid);
@@ -108,7 +108,6 @@ pub fn layout_of_one(alloc: Global, found: &FoundEntry) -> Result<Layout, AllocE
     Ok(layout)
 }
 
-// A layout without entries.
 fn empty_layout(alloc: Global) -> Layout {
     Layout {
         mode: Mode::Become { replace: false },
@@ -119,7 +118,7 @@ fn empty_layout(alloc: Global) -> Layout {
     }
 }
 
-// What is asked of an entry. A GUID that another entry has is left out.
+// Returns the request for an entry, without a GUID that an earlier entry has.
 fn ask_for(found: &FoundEntry) -> Result<Asked, AllocError> {
     let entry = &found.entry;
     let is_shared = found
@@ -144,7 +143,7 @@ fn ask_for(found: &FoundEntry) -> Result<Asked, AllocError> {
     })
 }
 
-// The sectors of an entry, 0 if it ends before it starts.
+// Returns the number of sectors of an entry, 0 if it ends before it starts.
 fn count_sectors(found: &FoundEntry) -> u64 {
     match found.entry.ending_lba.checked_sub(found.entry.starting_lba) {
         Some(distance) => distance.saturating_add(1),

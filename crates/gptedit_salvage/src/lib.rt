@@ -1,8 +1,7 @@
-//! What can be read of damaged tables: of each copy, at each sector size, what is there although a check
-//! fails, and what is wrong with it.
+//! Reads what remains of damaged tables: each copy, at each sector size, with its faults.
 //!
-//! `salvage` only reads. `print` writes the best copy as a layout in TOML, and the rest as comments; `json`
-//! writes all of it as data.
+//! `salvage` only reads. `print` prints the best copy as a layout in TOML, and the rest as comments; `json` returns all
+//! of it as data.
 #![tactic(auto)]
 
 mod advice;
@@ -27,5 +26,5 @@ pub use printing::print;
 pub use search::salvage;
 pub use values::json;
 
-/// The most entries of a copy that are read.
+/// The maximum number of entries read of a copy.
 pub const MAX_ENTRIES: u32 = 32768;

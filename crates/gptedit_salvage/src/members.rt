@@ -1,4 +1,4 @@
-//! Objects of JSON, member by member.
+//! JSON objects, built member by member.
 
 use gptguid_core::text_of;
 use serde_json::{Map, Value, put};
@@ -57,7 +57,7 @@ impl Members {
     }
 }
 
-/// Returns each of the texts, as a list.
+/// Returns the texts as a list.
 pub fn list_of_texts<T: fmt::Display>(
     alloc: Global,
     texts: &[T],

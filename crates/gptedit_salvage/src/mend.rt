@@ -1,20 +1,19 @@
-//! One wrong byte, found by a checksum.
+//! Finds one wrong byte by a checksum.
 //!
-//! CRC-32 is linear: what a change of the bytes makes of the checksum depends on the change only. So the
-//! difference of two checksums is taken back, byte by byte from the last one, until it is that of a change of
-//! one byte.
+//! CRC-32 is linear: the effect of a change on the checksum does not depend on the other bytes. So the difference of
+//! two checksums is undone byte by byte, from the last one, until it is that of a change of one byte.
 
 use gptman::crc::crc32;
 
-/// A byte that is to be changed: its index, and the bits that are flipped.
+/// A byte to change: its index, and the bits to flip.
 #[derive(Clone, Copy, PartialEq, Eq, Debug)]
 pub struct WrongByte {
     pub index: usize,
     pub bits: u8,
 }
 
-/// Returns the byte of a message of this length whose change alone makes the one checksum the other, if there
-/// is just one among those that are allowed.
+/// Returns the byte of a message of this length whose change turns the computed checksum into the stored one, if it is
+/// the only such byte that is allowed.
 pub fn find_wrong_byte<F: Fn(usize) -> bool>(
     len: usize,
     stored: u32,
@@ -39,7 +38,7 @@ pub fn find_wrong_byte<F: Fn(usize) -> bool>(
     found
 }
 
-// What each change of the last byte makes of a checksum, and the change by the highest byte of that.
+// The effect of each change of the last byte on the checksum, and the change for each highest byte of an effect.
 #[derive(Drop)]
 struct Tables {
     changes: [u32; 256],
@@ -61,12 +60,12 @@ impl Tables {
         tables
     }
 
-    // What a change of the last byte makes of the checksum.
+    // Returns the effect of a change of the last byte on the checksum.
     fn change_of(&self, bits: u8) -> u32 {
         self.changes[bits as usize]
     }
 
-    // The change of the last byte that makes this highest byte of the checksum.
+    // Returns the change of the last byte whose effect has this highest byte.
     fn bits_of(&self, change: u32) -> u8 {
         self.bits[(change >> 24) as usize]
     }

@@ -1,4 +1,4 @@
-//! What was found, as a layout in TOML with comments.
+//! Prints the result of a search as a layout in TOML, with comments.
 
 use crate::advice::{Advice, count_missing, is_in_layout};
 use crate::found::{FoundCopy, FoundEntry, Salvaged};
@@ -11,13 +11,12 @@ use std::alloc::Global;
 use std::io;
 use std::io::Write;
 
-/// Prints the best copy as a layout in TOML, after comments that say what is wrong with it. What the layout
-/// cannot have, and what is there of the other copies, follows as comments. If nothing was found, one comment
-/// says what was looked for.
+/// Prints the best copy as a layout in TOML, after comments with its faults. Entries that the layout cannot have, and
+/// the other copies, follow as comments. If nothing was found, comments list the places searched.
 ///
 /// # Errors
 ///
-/// An error of `out`, or an allocation failure.
+/// Errors of `out`, and allocation failures.
 pub fn print<W: Write>(
     out: &mut W,
     alloc: Global,
@@ -40,7 +39,7 @@ pub fn print<W: Write>(
     }
 }
 
-// Prints that nothing was found, and what was looked for.
+// Prints that nothing was found, and the places searched.
 fn print_nothing<W: Write>(out: &mut W, image: &str, salvaged: &Salvaged) -> io::Result<()> {
     let image = Escaped(image);
     write!(
@@ -63,7 +62,6 @@ fn print_nothing<W: Write>(out: &mut W, image: &str, salvaged: &Salvaged) -> io:
     Ok(())
 }
 
-// Prints the sector sizes that are tried.
 fn print_sizes<W: Write>(out: &mut W) -> io::Result<()> {
     let mut comma = "";
     for size in SECTOR_SIZES {
@@ -73,7 +71,7 @@ fn print_sizes<W: Write>(out: &mut W) -> io::Result<()> {
     Ok(())
 }
 
-// Prints the best copy: what is wrong with it, the advice, its layout, and the entries that are left out.
+// Prints the best copy: its faults, the advice, the layout, and the entries that are left out.
 fn print_best<W: Write>(
     out: &mut W,
     alloc: Global,
@@ -109,7 +107,6 @@ fn print_best<W: Write>(
     Ok(())
 }
 
-// Prints what is wrong with a copy.
 fn print_faults<W: Write>(out: &mut W, copy: &FoundCopy) -> io::Result<()> {
     for fault in copy.faults.iter() {
         writeln!(out, "#   {fault}")?;
@@ -117,7 +114,7 @@ fn print_faults<W: Write>(out: &mut W, copy: &FoundCopy) -> io::Result<()> {
     Ok(())
 }
 
-// Prints what is wrong with an entry.
+// Prints the faults of an entry, and whether it is outside the sectors for partitions.
 fn print_entry_faults<W: Write>(out: &mut W, found: &FoundEntry, frame: &Frame) -> io::Result<()> {
     let number = found.number;
     for fault in found.faults.iter() {
@@ -134,7 +131,7 @@ fn print_entry_faults<W: Write>(out: &mut W, found: &FoundEntry, frame: &Frame) 
     Ok(())
 }
 
-// Prints an entry as a commented section of a layout.
+// Prints an entry as a section of a layout, in comments.
 fn print_as_comment<W: Write>(out: &mut W, alloc: Global, found: &FoundEntry) -> io::Result<()> {
     let layout = layout_of_one(alloc, found)?;
     let text = write_layout(alloc, &layout, &Header::nothing())?;
@@ -148,7 +145,7 @@ fn print_as_comment<W: Write>(out: &mut W, alloc: Global, found: &FoundEntry) ->
     Ok(())
 }
 
-// Prints another copy as comments: its header, what is wrong with it, and the entries that the layout has not.
+// Prints another copy as comments: its header, its faults, and its entries that are not in the layout.
 fn print_other<W: Write>(
     out: &mut W,
     alloc: Global,

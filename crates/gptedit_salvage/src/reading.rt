@@ -1,14 +1,14 @@
-//! Reading a disk in bounded pieces.
+//! Reads a disk in bounded pieces.
 
 ghost use Rattle.gptman.specs.Disk.{Reads};
 
 use gptman::Disk;
 use std::alloc::{AllocError, Global};
 
-// The bytes of one piece.
+// The size of a piece in bytes.
 const PIECE: u64 = 4096;
 
-/// Fills the buffer with the bytes from `at` on. Reports whether it could.
+/// Fills the buffer with the bytes from `at`. Reports whether the read succeeded.
 #[tactic(auto, using(gptman::proofs::Readers::both_read))]
 pub fn read_at<D: Disk>(disk: &mut D, at: u64, bytes: &mut [u8]) -> bool
     ensures reads { Reads (D.state disk.old) (D.state disk.new) }
@@ -19,8 +19,7 @@ pub fn read_at<D: Disk>(disk: &mut D, at: u64, bytes: &mut [u8]) -> bool
     }
 }
 
-/// Returns `len` bytes from `start` on, or those before the first piece that cannot be read. No memory is
-/// allocated before the bytes for it are there.
+/// Reads `len` bytes from `start`, or those before the first piece that fails. Allocates only for bytes that were read.
 #[tactic(auto, using(gptman::proofs::Readers::both_read))]
 pub fn read_range<D: Disk>(
     alloc: Global,
@@ -41,7 +40,7 @@ pub fn read_range<D: Disk>(
     Ok(bytes)
 }
 
-// Adds `len` bytes from `at` on, but one piece at most. Reports whether they could be read.
+// Appends `len` bytes from `at`, at most one piece. Reports whether the read succeeded.
 #[tactic(auto, using(gptman::proofs::Readers::both_read))]
 fn read_piece<D: Disk>(
     disk: &mut D,

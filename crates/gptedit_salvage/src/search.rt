@@ -1,4 +1,4 @@
-//! Looking for copies, at each sector size.
+//! The search for copies, at each sector size.
 
 ghost use Rattle.std.specs.Prelude.{◌≡◌, ◌⊎◌, IfErr};
 ghost use Rattle.gptman.specs.Answers.{IsFailure};
@@ -15,11 +15,11 @@ use gptman::sizes::SECTOR_SIZES;
 use gptman::{Disk, GPTHeader};
 use std::alloc::{AllocError, Global};
 
-/// Reads what is there of each copy of a table: the primary one, the backup, and one that is where a header
-/// says; with sectors of this size, or of 512, 1024, 2048 and 4096 bytes. Where a copy has no header, its entries
-/// are looked for at their usual place.
+/// Reads what remains of each copy of a table: the primary copy, the backup copy, and copies in other sectors that a
+/// header names. Tries this sector size, or 512, 1024, 2048 and 4096 bytes. Searches for entries without a header at
+/// their usual place.
 ///
-/// What the device cannot read is a fault of the copy.
+/// A failed read is a fault of the copy.
 ///
 /// # Errors
 ///
@@ -42,7 +42,6 @@ pub fn salvage<D: Disk>(alloc: Global, disk: &mut D, asked: Option<u64>) -> gptm
     })
 }
 
-// The copies that are there.
 #[tactic(auto, using(gptman::proofs::Readers::both_read))]
 fn find_copies<D: Disk>(
     alloc: Global,
@@ -66,8 +65,8 @@ fn find_copies<D: Disk>(
     Ok(copies)
 }
 
-// Drops copies without a header, but for those with the sector size of the best copy: the entries of one size
-// are, some numbers further, at the usual place for another.
+// Drops copies with entries and no header, unless their sector size is that of the best copy: one array is at the usual
+// place for several sector sizes, shifted by some entries.
 fn keep_one_size(copies: &mut Vec<FoundCopy>) {
     let best = find_best(copies).and_then(|index| copies.get(index));
     let Some(best) = best else {
@@ -79,7 +78,6 @@ fn keep_one_size(copies: &mut Vec<FoundCopy>) {
     });
 }
 
-// Whether this sector size is tried.
 fn is_tried(sector_size: u64, asked: Option<u64>) -> bool {
     match asked {
         Some(asked) => asked == sector_size,
@@ -87,13 +85,13 @@ fn is_tried(sector_size: u64, asked: Option<u64>) -> bool {
     }
 }
 
-// Whether a header has this sector size, or there is no header.
+// Reports whether a header has this sector size, or there is no header.
 fn may_be_size(copies: &[FoundCopy], sector_size: u64) -> bool {
     !copies.iter().any(|copy| copy.header.is_some())
         || copies.iter().any(|copy| copy.header.is_some() && copy.spot.sector_size == sector_size)
 }
 
-// The place of the primary copy, on a disk of so many bytes.
+// Returns the place of the primary copy on a disk of `size` bytes.
 fn primary_spot(size: u64, sector_size: u64) -> Spot {
     Spot {
         sector_size,
@@ -103,7 +101,7 @@ fn primary_spot(size: u64, sector_size: u64) -> Spot {
     }
 }
 
-// The place of the backup copy.
+// Returns the place of the backup copy.
 fn backup_spot(primary: Spot) -> Spot {
     Spot {
         place: Place::Backup,
@@ -112,7 +110,7 @@ fn backup_spot(primary: Spot) -> Spot {
     }
 }
 
-// Adds the copies that have a header, with sectors of this size.
+// Adds the copies with a header, at this sector size.
 #[tactic(auto, using(gptman::proofs::Readers::both_read))]
 fn find_at_size<D: Disk>(
     alloc: Global,
@@ -159,7 +157,7 @@ fn find_other<D: Disk>(
     Ok(())
 }
 
-// Adds the copy at this place, if there is a header. Returns where that says that its other copy is.
+// Adds the copy at this place, if there is a header. Returns the sector that the header names for the other copy.
 #[tactic(auto, using(gptman::proofs::Readers::both_read))]
 fn find_copy<D: Disk>(
     alloc: Global,
@@ -183,7 +181,7 @@ fn find_copy<D: Disk>(
     }
 }
 
-// A copy whose header cannot be read.
+// Returns a copy whose header cannot be read.
 fn unreadable_copy(alloc: Global, spot: Spot) -> Result<FoundCopy, AllocError> {
     let mut faults = Vec::new(alloc);
     faults.push(Fault::Unreadable { lba: spot.lba })?;
@@ -196,7 +194,7 @@ fn unreadable_copy(alloc: Global, spot: Spot) -> Result<FoundCopy, AllocError> {
     })
 }
 
-// The copy of this header, with what is wrong with it.
+// Reads the entries of a header, and records the faults of the copy.
 #[tactic(auto, using(gptman::proofs::Readers::both_read))]
 fn read_copy<D: Disk>(
     alloc: Global,
@@ -221,7 +219,7 @@ fn read_copy<D: Disk>(
     })
 }
 
-// Adds the copies without a header, with sectors of this size.
+// Adds the copies without a header, at this sector size.
 #[tactic(auto, using(gptman::proofs::Readers::both_read))]
 fn find_bare_at_size<D: Disk>(
     alloc: Global,
@@ -237,8 +235,7 @@ fn find_bare_at_size<D: Disk>(
     find_bare(alloc, disk, backup_spot(primary), copies)
 }
 
-// Adds the copy without a header at this place, if most of what is there makes sense as entries, and they were not
-// read as those of a header.
+// Adds the copy without a header at this place, if most of its entries are likely and no header has them.
 #[tactic(auto, using(gptman::proofs::Readers::both_read))]
 fn find_bare<D: Disk>(
     alloc: Global,
@@ -272,7 +269,7 @@ fn find_bare<D: Disk>(
     Ok(())
 }
 
-// The array that a copy without a header has at this place: as long as that of a header, or of the usual length.
+// Returns the array to read without a header: with the length that a header has, or the usual one.
 fn bare_span(copies: &[FoundCopy], spot: Spot) -> Span {
     for copy in copies {
         if let Some(header) = &copy.header {
@@ -284,7 +281,7 @@ fn bare_span(copies: &[FoundCopy], spot: Spot) -> Span {
     Span::usual(spot)
 }
 
-// Whether a header is at this place, or the entries from this sector on are those of a header.
+// Reports whether there is a header at this place, or a header has the entries from this sector.
 fn is_known(copies: &[FoundCopy], spot: Spot, entries_lba: u64) -> bool {
     copies.iter().any(|copy| {
         copy.header.is_some()

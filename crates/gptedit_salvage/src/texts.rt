@@ -5,7 +5,7 @@ use gptguid_core::text_of;
 use gptman::GPTHeader;
 use std::fmt;
 
-/// A copy, by where it is.
+/// A copy, described by its place.
 #[derive(Clone, Copy)]
 pub struct SpotText(pub Spot);
 
@@ -29,7 +29,7 @@ impl fmt::Display for SpotText {
     }
 }
 
-/// The fields of a header, on several lines that begin as comments.
+/// The fields of a header, as comment lines.
 #[derive(Clone, Copy)]
 pub struct HeaderText<'a>(pub &'a GPTHeader);
 

@@ -1,4 +1,4 @@
-//! What was found, as JSON.
+//! The result of a search as JSON.
 
 use crate::found::{FoundCopy, FoundEntry, Place, Salvaged};
 use crate::members::{Members, list_of_texts};
@@ -8,12 +8,12 @@ use serde_json::Value;
 use std::alloc::{AllocError, Global};
 use std::fmt;
 
-// The code points of one UTF-16 unit are below this one.
+// The first code point with two UTF-16 units.
 const PAIRS: u32 = 0x1_0000;
 
-/// Returns what was found as JSON: `device`, `size` in bytes, `best` (the index of the best copy, or null),
-/// and `copies`. Each has `sector_size`, `place` (`primary`, `backup` or `other`), `lba`, `sectors`, `header`
-/// (or null), `faults` and `entries`, each with its own `faults`. Hidden characters are escaped.
+/// Returns the result of a search as JSON: `device`, `size` in bytes, `best` (the index of the best copy, or null), and
+/// `copies`. Each copy has `sector_size`, `place` (`primary`, `backup` or `other`), `lba`, `sectors`, `header` (or
+/// null), `faults` and `entries`, each with its own `faults`. Hidden characters are escaped.
 pub fn json(alloc: Global, image: &str, salvaged: &Salvaged) -> Result<String, AllocError> {
     let mut copies = Vec::new(alloc);
     for copy in salvaged.copies.iter() {
@@ -31,7 +31,6 @@ pub fn json(alloc: Global, image: &str, salvaged: &Salvaged) -> Result<String, A
     format!(in alloc; "{}", EscapedJson(text.as_str()))
 }
 
-// A copy.
 fn copy_value(alloc: Global, copy: &FoundCopy) -> Result<Value, AllocError> {
     let mut entries = Vec::new(alloc);
     for found in copy.entries.iter() {
@@ -52,7 +51,6 @@ fn copy_value(alloc: Global, copy: &FoundCopy) -> Result<Value, AllocError> {
     Ok(members.into_value())
 }
 
-// The name of a place.
 fn place_name(place: Place) -> &'static str {
     match place {
         Place::Primary => "primary",
@@ -61,7 +59,6 @@ fn place_name(place: Place) -> &'static str {
     }
 }
 
-// The fields of a header.
 fn header_value(alloc: Global, header: &GPTHeader) -> Result<Value, AllocError> {
     let mut members = Members::new(alloc);
     let revision = u32::from_le_bytes(header.revision);
@@ -83,7 +80,6 @@ fn header_value(alloc: Global, header: &GPTHeader) -> Result<Value, AllocError> 
     Ok(members.into_value())
 }
 
-// An entry.
 fn entry_value(alloc: Global, found: &FoundEntry) -> Result<Value, AllocError> {
     let entry = &found.entry;
     let mut members = Members::new(alloc);
@@ -101,8 +97,7 @@ fn entry_value(alloc: Global, found: &FoundEntry) -> Result<Value, AllocError> {
     Ok(members.into_value())
 }
 
-// A text of JSON in which the hidden characters are escaped that its writer leaves as they are: those from
-// U+007F on. They are in texts only.
+// JSON in which the hidden characters from U+007F are escaped too. They occur only in texts.
 #[derive(Clone, Copy)]
 struct EscapedJson<'a>(&'a str);
 
@@ -119,7 +114,7 @@ impl fmt::Display for EscapedJson<'_> {
     }
 }
 
-// Writes a code point by its UTF-16 units.
+// Writes a code point as an escape for each UTF-16 unit.
 fn write_escape<W: fmt::Write>(f: &mut fmt::Formatter<W>, code: u32) -> fmt::Result {
     if code < PAIRS {
         return write!(f, "\\u{code:04x}");
