@@ -1,4 +1,4 @@
--- Which uses of a disk a change of its table leaves alone.
+-- The uses of a disk that permit a change of its table.
 use Rattle.std.specs.Prelude.{◌≡◌, ◌≤◌, IsTrue, Option, Some}
 use Rattle.gptman.specs.Entry.{is_used}
 use Rattle.gptman.specs.Number.{entry_of_number}
@@ -7,7 +7,7 @@ use Rattle.gptman.specs.declared.table.GPT.{GPT}
 use Rattle.gptedit_busy.specs.declared.uses.Part.{Part}
 use Rattle.gptedit_busy.specs.declared.uses.Part.TheVariants.{Whole, Partition}
 
--- An entry that is used keeps its start, its type and its GUID, and does not end before it did.
+-- A used entry keeps its start, type and GUID, and does not end earlier.
 pub record IsKept (old new : GPTPartitionEntry) : Type 0 where
   pub used : IsTrue (is_used old)
   pub start : old.starting_lba ≡ new.starting_lba
@@ -15,17 +15,17 @@ pub record IsKept (old new : GPTPartitionEntry) : Type 0 where
   pub guid : old.unique_partition_guid ≡ new.unique_partition_guid
   pub end : old.ending_lba ≤ new.ending_lba
 
--- both are there, and the entry is kept
+-- Both tables have the entry, and it is kept.
 abbrev pub IsKeptIn : Option GPTPartitionEntry → Option GPTPartitionEntry → Type 0
 IsKeptIn (Some old) (Some new) = IsKept old new
 IsKeptIn old new = ⊥
 
--- A part in use may stay so: it is a partition that the change keeps.
+-- A part in use permits the change: it is a partition that both tables have and the change keeps.
 abbrev pub IsHarmless : Part → GPT → GPT → Type 0
 IsHarmless Whole was next = ⊥
 IsHarmless (Partition n) was next = IsKeptIn (entry_of_number was n) (entry_of_number next n)
 
--- A use of the part allows a change from one table to another. It allows none where a table is missing.
+-- A use of the part permits the change of the table. No use permits it if a table is missing.
 abbrev pub IsAllowed : Part → Option GPT → Option GPT → Type 0
 IsAllowed part (Some was) (Some next) = IsHarmless part was next
 IsAllowed part was next = ⊥

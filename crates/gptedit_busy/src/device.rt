@@ -8,25 +8,25 @@ use std::rt::Files;
 /// A block device.
 #[derive(Drop, Debug)]
 pub struct Device {
-    // Its folder, as `/sys/dev/block/8:0`.
+    // Its folder, such as `/sys/dev/block/8:0`.
     folder: String,
     // Whether it is a device-mapper device.
     is_mapped: bool,
 }
 
-/// A partition that the kernel knows, with its number, or the whole device.
+/// A partition that the kernel knows, or the whole device.
 #[derive(Drop, Debug)]
 pub(crate) struct KnownPart {
-    /// The number of the partition; nothing for the whole device.
+    /// The number of the partition; `None` for the whole device.
     pub(crate) number: Option<u32>,
     /// Its folder in `/sys`.
     pub(crate) folder: String,
-    /// The block device that it is.
+    /// Its block device.
     pub(crate) target: Target,
 }
 
 impl Device {
-    /// Returns the block device that the target is, if it is one.
+    /// Returns the block device of the target; `None` for a file.
     pub(crate) fn of<R: Files + AllocGlobal>(
         rt: &R,
         target: Target,
@@ -40,8 +40,8 @@ impl Device {
         Ok(Some(Device { folder, is_mapped }))
     }
 
-    /// Returns the size of a sector in bytes, as the kernel reports it; nothing if it cannot be read. That of a
-    /// partition is that of its disk.
+    /// Returns the sector size in bytes, as the kernel reports it; `None` if it cannot be read. A partition has the
+    /// sector size of its disk.
     pub fn sector_size<R: Files + AllocGlobal>(&self, rt: &R) -> Result<Option<u64>, AllocError> {
         for place in ["queue", "../queue"] {
             let path = format!(in rt.alloc(); "{}/{place}/logical_block_size", self.folder)?;
@@ -52,7 +52,7 @@ impl Device {
         Ok(None)
     }
 
-    /// Returns the command that tells the kernel of a new table, also while a partition is mounted.
+    /// Returns the command that makes the kernel read a new table, even while a partition is mounted.
     pub fn command(&self) -> &'static str {
         if self.is_mapped {
             "kpartx -u"
@@ -61,7 +61,7 @@ impl Device {
         }
     }
 
-    /// Returns the whole device and the partitions of it that the kernel knows.
+    /// Returns the whole device, and its partitions that the kernel knows.
     pub(crate) fn find_parts<R>(&self, rt: &R) -> Result<Vec<KnownPart>, AllocError>
     where
         R: Files + AllocGlobal + Clone + Drop,
@@ -82,7 +82,7 @@ impl Device {
     }
 }
 
-// Puts the part in this folder at the end of the list, if the folder has the number of a device.
+// Appends the part in this folder, if the folder has a device number.
 fn put_part<R: Files + AllocGlobal>(
     rt: &R,
     parts: &mut Vec<KnownPart>,

@@ -1,4 +1,4 @@
-//! The uses of a disk and of its partitions.
+//! Finds the uses of a disk and its partitions.
 
 use crate::device::{Device, KnownPart};
 use crate::kernel::{is_there, list};
@@ -11,31 +11,30 @@ use std::alloc::AllocError;
 use std::fs;
 use std::rt::Files;
 
-// What the kernel reports of uses.
+// Data of the kernel about uses.
 #[derive(Drop)]
 struct Reports {
-    // The image itself, which is over no part of it.
+    // The image itself; it is not a loop device over a part of itself.
     image: Target,
     mounts: Mounts,
     loops: Vec<Loop>,
     btrfs: Vec<Target>,
 }
 
-// How many loop devices over each other are followed.
+// The maximum number of stacked loop devices that are followed.
 const LEVELS: u8 = 16;
 
-// A device or a file that shows a part of the disk.
+// A device or file that contains a part of the disk.
 #[derive(Clone, Copy)]
 struct Piece {
     target: Target,
     part: Part,
 }
 
-/// Returns all uses of the disk and of its partitions that can be seen. A loop device that is only attached is
-/// no use.
+/// Returns all visible uses of the disk and its partitions. A loop device that is only attached is not a use.
 ///
 /// # Errors
-/// `AllocError` if there was no memory.
+/// `AllocError` if an allocation fails.
 pub fn find_users<R>(rt: &R, _name: &str, opened: &Opened) -> Result<Users, AllocError>
 where
     R: Files + AllocGlobal + Clone + Drop,
@@ -72,13 +71,14 @@ where
     Ok(Users { uses })
 }
 
-// What the image shows from its first byte on, if it is a loop device: other loop devices may show it too.
+// Returns the backing file of an image that is a loop device and starts at its first byte: other loop devices may have
+// it too.
 fn backing_of(loops: &[Loop], image: Target) -> Option<Target> {
     let own = loops.iter().find(|own| own.target == image)?;
     if own.is_whole { own.backing } else { None }
 }
 
-// The image, as loop devices show it.
+// Returns the image with its path by the kernel.
 fn shown<R: Files + AllocGlobal>(rt: &R, opened: &Opened) -> Result<Shown, AllocError> {
     let link = format!(in rt.alloc(); "/proc/self/fd/{}", opened.descriptor())?;
     let path = match fs::read_link(rt, link.as_str()) {
@@ -91,7 +91,7 @@ fn shown<R: Files + AllocGlobal>(rt: &R, opened: &Opened) -> Result<Shown, Alloc
     })
 }
 
-// The file that is needed to see the uses of a device, and cannot be read.
+// Returns the file that is needed to find the uses of a device, and cannot be read.
 fn missing_in<R: Files>(rt: &R, reports: &Reports) -> Option<&'static str> {
     if !is_there(rt, "/sys/class/block") {
         return Some("/sys/class/block");
@@ -99,7 +99,7 @@ fn missing_in<R: Files>(rt: &R, reports: &Reports) -> Option<&'static str> {
     reports.mounts.missing()
 }
 
-// Puts the uses of a device and of its partitions into the list, and the partitions to the pieces.
+// Adds the uses of a device and its partitions, and the partitions to the pieces.
 fn put_uses<R>(
     rt: &R,
     reports: &Reports,
@@ -126,7 +126,7 @@ where
     Ok(())
 }
 
-// How a part of a device is used, other than by a loop device.
+// Returns how a part of a device is used, other than by a loop device.
 fn find_use<R>(rt: &R, reports: &Reports, known: &KnownPart) -> Result<Option<How>, AllocError>
 where
     R: Files + AllocGlobal + Clone + Drop,
@@ -148,7 +148,7 @@ where
     }
 }
 
-// Puts the uses of loop devices over the pieces into the list, and of those over these, level by level.
+// Adds the uses of loop devices over the pieces, and of those over these, level by level.
 fn put_loops<R>(
     rt: &R,
     reports: &Reports,
@@ -172,8 +172,8 @@ where
     Ok(())
 }
 
-// Puts the uses of the loop devices over a piece into the list, and what they show to the pieces. What a loop
-// device shows from the first byte of a whole disk on are the partitions of that; else it is a use of the part.
+// Adds the uses of the loop devices over a piece, and the parts of these devices to `above`. If a loop device has the
+// whole disk from its first byte, its partitions are those of the disk; otherwise they belong to the part.
 fn put_level<R>(
     rt: &R,
     reports: &Reports,
@@ -200,7 +200,7 @@ where
     Ok(())
 }
 
-// Puts the use of a part of a device into the list, if there is one.
+// Adds the use of a part of a device, if there is one.
 fn put_use<R>(
     rt: &R,
     reports: &Reports,
@@ -217,7 +217,6 @@ where
     Ok(())
 }
 
-// The parts of a loop device.
 fn parts_of<R>(rt: &R, over: &Loop) -> Result<Vec<KnownPart>, AllocError>
 where
     R: Files + AllocGlobal + Clone + Drop,
@@ -228,7 +227,7 @@ where
     }
 }
 
-// The part of the disk that a part of a loop device over this part of it is.
+// Returns the part of the disk that a part of this loop device belongs to.
 fn part_in(part: Part, over: &Loop, known: &KnownPart) -> Part {
     match (part, known.number) {
         (Part::Whole, Some(number)) if over.is_whole => Part::Partition(number),
@@ -236,7 +235,7 @@ fn part_in(part: Part, over: &Loop, known: &KnownPart) -> Part {
     }
 }
 
-// The devices of mounted Btrfs file systems.
+// Returns the devices of mounted Btrfs file systems.
 fn find_btrfs<R>(rt: &R) -> Result<Vec<Target>, AllocError>
 where
     R: Files + AllocGlobal + Clone + Drop,

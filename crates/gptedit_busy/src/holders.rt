@@ -1,15 +1,15 @@
-//! Who holds a lock on a file.
+//! The holders of a lock on a file.
 
 use crate::kernel::{list, read_text};
 use crate::node::Node;
 use std::alloc::AllocError;
 use std::rt::Files;
 
-// How many ancestors of this process are looked at.
+// The maximum number of ancestors that are checked.
 const GENERATIONS: u8 = 64;
 
-/// Whether this process or one of its ancestors holds the lock of `flock` on the file, as where it was started by
-/// `flock`, `udevadm lock` or growpart: by the list of locks, or by a descriptor that it has open.
+/// Reports whether this process or an ancestor holds the `flock` lock on the file, by the list of locks or an open
+/// descriptor. Programs such as `flock`, `udevadm lock` and growpart start others under their lock.
 pub(crate) fn is_held_by_ancestor<R>(rt: &R, node: Node) -> Result<bool, AllocError>
 where
     R: Files + AllocGlobal + Clone + Drop,
@@ -37,7 +37,7 @@ where
     Ok(false)
 }
 
-/// Whether another program holds record locks on the file, as qemu does on an image that it has open.
+/// Reports whether another program holds record locks on the file, as qemu does on an open image.
 pub(crate) fn has_record_lock<R: Files + AllocGlobal>(
     rt: &R,
     node: Node,
@@ -59,12 +59,12 @@ pub(crate) fn has_record_lock<R: Files + AllocGlobal>(
 struct Process {
     // Its number.
     number: String,
-    // The number of its parent. The first process of a container has none.
+    // The number of its parent; `None` for the first process of a container.
     parent: Option<String>,
 }
 
-// The process whose folder in `/proc` has this name. The name of the program, which may have any characters, is
-// between the two numbers.
+// Reads the process of this name in `/proc`. The name of the program is between the two numbers, and may contain any
+// characters.
 fn read_process<R: Files + AllocGlobal>(rt: &R, name: &str) -> Result<Option<Process>, AllocError> {
     let alloc = rt.alloc();
     let path = format!(in alloc; "/proc/{name}/stat")?;
@@ -83,14 +83,14 @@ fn read_process<R: Files + AllocGlobal>(rt: &R, name: &str) -> Result<Option<Pro
     Ok(Some(Process { number, parent }))
 }
 
-// Whether the process of this number holds the lock of `flock` on the file, by the list of locks.
+// Reports whether the list of locks has the `flock` lock on the file for this process.
 fn holds_lock(locks: &str, process: &str, node: Node) -> bool {
     locks.lines().any(|line| {
         word_of(line, 1) == "FLOCK" && word_of(line, 4) == process && is_on(line, node)
     })
 }
 
-// Whether a descriptor of this process has the lock of `flock` on the file.
+// Reports whether a descriptor of this process has the `flock` lock on the file.
 fn has_descriptor_of<R>(rt: &R, process: &str, node: Node) -> Result<bool, AllocError>
 where
     R: Files + AllocGlobal + Clone + Drop,
@@ -112,8 +112,7 @@ where
     Ok(false)
 }
 
-// Whether a line of a descriptor is that of the lock of `flock` on the file: `lock:` and then a line as in the
-// list of locks.
+// Reports whether a line about a descriptor has the `flock` lock on the file: `lock:` and a line of the list of locks.
 fn is_descriptor_lock(line: &str, node: Node) -> bool {
     match line.strip_prefix("lock:") {
         Some(rest) => word_of(rest, 1) == "FLOCK" && is_on(rest, node),
@@ -121,12 +120,12 @@ fn is_descriptor_lock(line: &str, node: Node) -> bool {
     }
 }
 
-// The word of this index in a line. A line that waits for a lock has the word `->` before its kind, and is none.
+// Returns a word of a line. A line for a waiting lock has `->` before the kind of lock, so it never matches.
 fn word_of(line: &str, index: usize) -> &str {
     line.split_ascii_whitespace().nth(index).unwrap_or("")
 }
 
-// Whether a line of the list of locks is about the file.
+// Reports whether a line of the list of locks is about the file.
 fn is_on(line: &str, node: Node) -> bool {
     node.is_named(word_of(line, 5))
 }

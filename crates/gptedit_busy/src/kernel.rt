@@ -5,7 +5,7 @@ use std::fs;
 use std::io::ErrorKind;
 use std::rt::Files;
 
-/// Returns what a file of the kernel says, if it can be read. What is no UTF-8 in it becomes U+FFFD.
+/// Returns the text of a file of the kernel; `None` if it cannot be read. Bytes that are not UTF-8 become U+FFFD.
 pub(crate) fn read_text<R: Files + AllocGlobal>(
     rt: &R,
     path: &str,
@@ -16,7 +16,6 @@ pub(crate) fn read_text<R: Files + AllocGlobal>(
     }
 }
 
-// The bytes of a file of the kernel, if it can be read.
 fn read_bytes<R: Files + AllocGlobal>(rt: &R, path: &str) -> Result<Option<Vec<u8>>, AllocError> {
     match fs::read(rt, path) {
         Ok(bytes) => Ok(Some(bytes)),
@@ -25,7 +24,7 @@ fn read_bytes<R: Files + AllocGlobal>(rt: &R, path: &str) -> Result<Option<Vec<u
     }
 }
 
-/// Returns the first line of such a file, without blanks at its ends.
+/// Returns the first line of such a file, trimmed.
 pub(crate) fn read_line<R: Files + AllocGlobal>(
     rt: &R,
     path: &str,
@@ -39,7 +38,7 @@ pub(crate) fn read_line<R: Files + AllocGlobal>(
     }
 }
 
-/// Returns the path that is in such a file and ends with a line break; nothing if it is not UTF-8.
+/// Returns the path in such a file, without the line break at its end; `None` if it is not UTF-8.
 pub(crate) fn read_path<R: Files + AllocGlobal>(
     rt: &R,
     file: &str,
@@ -55,7 +54,7 @@ pub(crate) fn read_path<R: Files + AllocGlobal>(
     Ok(Some(String::from_str(rt.alloc(), path)?))
 }
 
-/// Returns a path of a list of mounts or of swap spaces, where `\040` is a blank.
+/// Decodes a path from a list of mounts or swap spaces, where `\040` is a space.
 pub(crate) fn unescaped(alloc: Global, text: &str) -> Result<String, AllocError> {
     let mut parts = text.split('\\');
     let mut path = String::from_str(alloc, parts.next().unwrap_or(""))?;
@@ -74,7 +73,7 @@ pub(crate) fn unescaped(alloc: Global, text: &str) -> Result<String, AllocError>
     Ok(path)
 }
 
-// The ASCII character whose code is at the start of the text in three octal digits, and what is after these.
+// Returns the ASCII character for the three octal digits at the start of the text, and the rest.
 fn read_escape(text: &str) -> Option<(char, &str)> {
     let (digits, rest) = text.split_at_checked(3)?;
     let code = u8::from_str_radix(digits, 8).ok()?;
@@ -85,7 +84,7 @@ fn read_escape(text: &str) -> Option<(char, &str)> {
     }
 }
 
-/// Returns the names in a folder; none if it cannot be read.
+/// Returns the names in a folder, up to the first error.
 pub(crate) fn list<R>(rt: &R, folder: &str) -> Result<Vec<String>, AllocError>
 where
     R: Files + AllocGlobal + Clone + Drop,
@@ -103,7 +102,7 @@ where
     Ok(names)
 }
 
-/// Whether there is a file or a folder at this path.
+/// Reports whether there is a file or a folder at this path.
 pub(crate) fn is_there<R: Files>(rt: &R, path: &str) -> bool {
     fs::metadata(rt, path).is_ok()
 }

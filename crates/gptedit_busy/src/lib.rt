@@ -1,7 +1,7 @@
-//! How gptedit opens an image: the lock on it, the block device that it is, and what uses that.
+//! Opens and locks an image, identifies its block device, and finds its uses.
 //!
-//! The look at `/proc` and `/sys` is proved safe only. What a use allows is decided by `is_harmless`, which has a
-//! contract.
+//! Only memory safety and termination are proved of the search in `/proc` and `/sys`. `is_harmless`, which decides
+//! whether a use permits a change, has a contract.
 #![tactic(auto)]
 
 pub mod device;

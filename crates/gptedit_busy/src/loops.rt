@@ -5,28 +5,28 @@ use crate::target::Target;
 use std::alloc::AllocError;
 use std::rt::Files;
 
-/// A loop device that is attached.
+/// An attached loop device.
 #[derive(Drop)]
 pub(crate) struct Loop {
-    /// The block device that it is.
+    /// Its block device.
     pub(crate) target: Target,
-    /// The file or the device that it shows.
+    /// The file or device that backs it.
     pub(crate) backing: Option<Target>,
-    /// Whether it shows it from its first byte on.
+    /// Whether it starts at the first byte of its backing file.
     pub(crate) is_whole: bool,
 }
 
-/// An image, as loop devices show it.
+/// An image that may back loop devices.
 #[derive(Drop)]
 pub(crate) struct Shown {
-    /// What it is.
+    /// Its file or device.
     pub(crate) target: Target,
-    /// Its path, as the kernel has it; nothing if that is not UTF-8.
+    /// Its path by the kernel; `None` if that is not UTF-8.
     pub(crate) path: Option<String>,
 }
 
-/// Returns the loop devices that are attached. One whose path leads nowhere shows the image if that has the same
-/// path, or if neither path is UTF-8.
+/// Returns the attached loop devices. If the backing path leads nowhere, the image is the backing file if both have the
+/// same path, or neither path is UTF-8.
 pub(crate) fn find_loops<R>(rt: &R, image: &Shown) -> Result<Vec<Loop>, AllocError>
 where
     R: Files + AllocGlobal + Clone + Drop,
@@ -42,7 +42,7 @@ where
     Ok(loops)
 }
 
-// The loop device of this name, if it is attached.
+// Returns the loop device of this name, if it is attached.
 fn read_loop<R: Files + AllocGlobal>(
     rt: &R,
     name: &str,
@@ -71,7 +71,7 @@ fn read_loop<R: Files + AllocGlobal>(
     }))
 }
 
-// What a loop device of this path shows.
+// Returns the backing file or device for this path.
 fn find_backing<R: Files>(rt: &R, path: Option<String>, image: &Shown) -> Option<Target> {
     let found = match &path {
         Some(path) => find_target(rt, path.as_str()),
@@ -83,8 +83,7 @@ fn find_backing<R: Files>(rt: &R, path: Option<String>, image: &Shown) -> Option
     found
 }
 
-// What the path of a loop device leads to. ` (deleted)` is at its end if the name of the file was removed: the
-// file may have got it again.
+// Resolves the backing path. The kernel appends ` (deleted)` if the file was removed; the name may be back since.
 fn find_target<R: Files>(rt: &R, path: &str) -> Option<Target> {
     match Target::at(rt, path) {
         Some(target) => Some(target),

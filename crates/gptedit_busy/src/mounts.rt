@@ -1,4 +1,4 @@
-//! What is mounted, in each mount namespace, and what is swap space.
+//! Mounts in all mount namespaces, and swap spaces.
 
 use crate::kernel::{list, read_text, unescaped};
 use crate::target::Target;
@@ -7,10 +7,10 @@ use std::collections::BTreeSet;
 use std::fs;
 use std::rt::Files;
 
-/// The texts of the kernel that list mounts and swap spaces.
+/// The lists of mounts and swap spaces, as text of the kernel.
 #[derive(Drop)]
 pub(crate) struct Mounts {
-    // A list of mounts of each namespace.
+    // The list of mounts of each namespace.
     namespaces: Vec<String>,
     // The list of swap spaces.
     swaps: Option<String>,
@@ -19,7 +19,7 @@ pub(crate) struct Mounts {
 }
 
 impl Mounts {
-    /// Reads the lists. A process that ended or may not be read is skipped.
+    /// Reads the lists. Skips processes that ended or may not be read.
     pub(crate) fn read<R>(rt: &R) -> Result<Mounts, AllocError>
     where
         R: Files + AllocGlobal + Clone + Drop,
@@ -41,7 +41,7 @@ impl Mounts {
         })
     }
 
-    /// Returns the file that is needed and cannot be read, if there is one.
+    /// Returns a file that is needed and cannot be read.
     pub(crate) fn missing(&self) -> Option<&'static str> {
         if !self.has_own {
             return Some("/proc/self/mountinfo");
@@ -52,7 +52,7 @@ impl Mounts {
         }
     }
 
-    /// Returns where the target is mounted.
+    /// Returns the path at which the target is mounted.
     pub(crate) fn find<R: Files + AllocGlobal>(
         &self,
         rt: &R,
@@ -69,7 +69,7 @@ impl Mounts {
         Ok(None)
     }
 
-    /// Whether the target is swap space.
+    /// Reports whether the target is swap space.
     pub(crate) fn is_swap<R: Files + AllocGlobal>(
         &self,
         rt: &R,
@@ -87,13 +87,11 @@ impl Mounts {
     }
 }
 
-// Whether all of it are digits.
 fn is_number(name: &str) -> bool {
     !name.is_empty() && name.bytes().all(|byte| byte.is_ascii_digit())
 }
 
-// Puts the mounts of a process into the list, if its namespace is not there yet. Returns whether they can be
-// read.
+// Adds the mounts of a process, if its namespace is new. Returns whether they can be read.
 fn put_namespace<R: Files + AllocGlobal>(
     rt: &R,
     seen: &mut BTreeSet<String>,
@@ -118,8 +116,8 @@ fn put_namespace<R: Files + AllocGlobal>(
     Ok(true)
 }
 
-// Whether a line of `mountinfo` is that of the target: by its number, or by its source, as of a file system
-// over several devices.
+// Reports whether a line of `mountinfo` is for the target: by its number or, for a file system over several devices, by
+// its source.
 fn is_mount_of<R: Files + AllocGlobal>(
     rt: &R,
     line: &str,
@@ -139,7 +137,7 @@ fn is_mount_of<R: Files + AllocGlobal>(
     }
 }
 
-// Whether the path, as the list has it, leads to the target.
+// Reports whether the path in the list leads to the target.
 fn is_path_of<R: Files + AllocGlobal>(
     rt: &R,
     path: &str,

@@ -1,4 +1,4 @@
-//! A file as the list of locks names it.
+//! The name of a file in the list of locks.
 
 use crate::kernel::read_text;
 use crate::target::{read_pair, split};
@@ -8,8 +8,8 @@ use std::os::fd::AsRawFd;
 use std::os::unix::fs::MetadataExt;
 use std::rt::Files;
 
-/// A file as the list of locks names it: by the device of its file system and its inode. On Btrfs and overlayfs
-/// its metadata has another device.
+/// The name of a file in the list of locks: the device of its file system, and its inode. On Btrfs and overlayfs its
+/// metadata has another device.
 #[derive(Clone, Copy)]
 pub(crate) struct Node {
     system: System,
@@ -19,19 +19,17 @@ pub(crate) struct Node {
 // The file system of a file.
 #[derive(Clone, Copy)]
 enum System {
-    // The one of this device.
+    // The file system on this device.
     Device { major: u64, minor: u64 },
-    // One that lies on no device, and whose number cannot be read.
+    // A file system without a device, whose number cannot be read.
     Unknown,
 }
 
 impl Node {
-    /// Returns the file that is open, by what the kernel says of its descriptor and of the mount that it was
-    /// opened in.
+    /// Returns the name of an open file, by the kernel's data on its descriptor and mount.
     ///
-    /// If that mount is not in the list of mounts, as in a chroot, the device is that of the metadata. If this is
-    /// a number without a device, as on Btrfs, the file system is unknown, and each one without a device may be
-    /// it.
+    /// If the mount is not listed, as in a chroot, the device of the metadata is used. If that is not a real device, as
+    /// on Btrfs, the file system is unknown, and matches every one without a device.
     pub(crate) fn of<R: Files + AllocGlobal>(
         rt: &R,
         file: &File,
@@ -55,8 +53,8 @@ impl Node {
         })
     }
 
-    /// Whether the list of locks has this name for the file, as `08:01:123`: the device in hexadecimal and the
-    /// inode in decimal digits.
+    /// Reports whether this is the name of the file in the list of locks, such as `08:01:123`: the device in
+    /// hexadecimal, the inode in decimal digits.
     pub(crate) fn is_named(self, name: &str) -> bool {
         let mut parts = name.split(':');
         let major = u64::from_str_radix(parts.next().unwrap_or(""), 16).ok();
@@ -74,7 +72,7 @@ impl Node {
 }
 
 impl System {
-    // The file system by the metadata of a file. A number without a device has the major number 0.
+    // Returns the file system by the metadata of a file. The major number 0 is not a real device.
     fn of(metadata: &Metadata) -> System {
         match split(metadata.dev()) {
             (0, _) => System::Unknown,
@@ -83,7 +81,7 @@ impl System {
     }
 }
 
-// The value of the line that begins with this key.
+// Returns the value of the line that begins with this key.
 fn value_in<'a>(text: &'a str, key: &str) -> Option<&'a str> {
     for line in text.lines() {
         if let Some(value) = line.strip_prefix(key) {
@@ -93,7 +91,7 @@ fn value_in<'a>(text: &'a str, key: &str) -> Option<&'a str> {
     None
 }
 
-// The file system of the mount of this number.
+// Returns the file system of this mount.
 fn find_system<R: Files + AllocGlobal>(rt: &R, mount: &str) -> Result<Option<System>, AllocError> {
     let Some(mounts) = read_text(rt, "/proc/self/mountinfo")? else {
         return Ok(None);
@@ -107,7 +105,7 @@ fn find_system<R: Files + AllocGlobal>(rt: &R, mount: &str) -> Result<Option<Sys
     Ok(None)
 }
 
-// The file system of this device, as `0:39`.
+// Parses the device of a file system, such as `0:39`.
 fn read_system(text: &str) -> Option<System> {
     let (major, minor) = read_pair(text)?;
     Some(System::Device { major, minor })

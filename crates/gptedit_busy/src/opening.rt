@@ -1,4 +1,4 @@
-//! An image is opened, and locked where it is to be written.
+//! Opens an image, and locks it.
 
 use crate::device::Device;
 use crate::holders::{has_record_lock, is_held_by_ancestor};
@@ -14,75 +14,76 @@ use std::os::unix::fs::MetadataExt;
 use std::rt::Files;
 use std::{fmt, fs, io};
 
-/// What is done where another program holds the lock.
+/// The action if another program holds the lock.
 #[derive(Clone, Copy, PartialEq, Eq, Debug)]
 pub enum Lock {
-    /// It is waited for.
+    /// Waits for it.
     Wait,
-    /// The image is refused.
+    /// Refuses the image.
     Fail,
-    /// No lock is taken.
+    /// Takes no lock.
     None,
 }
 
-/// An image that is open. It keeps the lock.
+/// An open image, which keeps its lock.
 #[derive(Drop)]
 pub struct Opened {
-    /// The disk that it is.
+    /// The disk.
     pub disk: FileDisk,
-    /// The block device that it is, if it is one.
+    /// The block device; `None` for a file.
     pub device: Option<Device>,
-    // What the path leads to.
+    // The device or file of the path.
     pub(crate) target: Target,
-    // What keeps the places of closed standard streams, and the lock.
+    // Keeps the places of closed standard streams, and the lock.
     held: Held,
-    // What keeps the lock where the file system gives none to an opening for reading only.
+    // Keeps the lock if the file system has none for a read-only file.
     lock: Option<File>,
 }
 
 impl Opened {
-    // The descriptor of an opening of the image.
+    // Returns the descriptor of the read-only file.
     pub(crate) fn descriptor(&self) -> i32 {
         self.held.above.as_raw_fd()
     }
 }
 
-/// Who holds the lock.
+/// The holder of the lock.
 #[derive(Clone, Copy, PartialEq, Eq, Debug)]
 pub enum Holder {
-    /// A program that this one was started by.
+    /// A program that started this one.
     Ancestor,
     /// Another program.
     Other,
-    /// Another program that has the image open, as qemu has.
+    /// Another program with record locks on the image, such as qemu.
     Machine,
 }
 
-/// Why an image is not opened.
+/// An error of opening an image.
 #[derive(Drop, Debug)]
 pub enum OpenError {
     /// The system does not open it.
     Io(io::Error),
-    /// It is no file and no block device.
+    /// It is neither a file nor a block device.
     NotADisk,
     /// The lock is held.
     Locked { holder: Holder },
-    /// Another file was put in its place meanwhile.
+    /// Another file was put at the path meanwhile.
     Replaced,
-    /// There was no memory.
+    /// An allocation failed.
     OutOfMemory,
 }
 
-/// Opens an image, for reading only if nothing is to be written. It is locked first, as `flock` does, unless the
-/// lock is `Lock::None`; one line on standard error comes before it waits.
+/// Opens an image, read-only unless `writes`. Takes the `flock` lock first, unless `lock` is `Lock::None`; prints a
+/// line to standard error before it waits.
 ///
-/// If the file system has no locks, it is opened without. If it gives none to an opening for reading only, as NFS
-/// does, the lock is on one for writing; if nothing is to be written, there is none.
+/// If the file system has no locks, none is taken. If it has none for a read-only file, as on NFS, the lock is taken on
+/// one that is open for writing; if nothing is to be written, none is taken.
 ///
 /// # Errors
-/// `NotADisk` if the path leads to no file and no block device. `Locked` if the lock is held and is not waited
-/// for: with `Lock::Fail`, or by an ancestor of this process, which would wait for ever; or if another program
-/// holds record locks, as qemu does. `Replaced` if the path leads to another file under the lock.
+/// `NotADisk` if the path leads to neither a file nor a block device. `Locked` if the lock is held and either `lock` is
+/// `Lock::Fail` or an ancestor of this process holds it, for which it would wait forever; or if another program holds
+/// record locks, as qemu does. `Replaced` if the path leads to another file under the lock. `Io` if the system does not
+/// open the image, `OutOfMemory` if an allocation fails.
 pub fn open<R>(rt: &R, name: &str, lock: Lock, writes: bool) -> Result<Opened, OpenError>
 where
     R: Files<File = File> + AllocGlobal + Eprint + Clone + Drop,
@@ -114,13 +115,13 @@ where
     })
 }
 
-// Whether both are of one inode.
+// Reports whether both describe the same file.
 fn is_same(one: &Metadata, other: &Metadata) -> bool {
     one.dev() == other.dev() && one.ino() == other.ino()
 }
 
-// Takes the lock of `flock` on a file that is open for reading only, and refuses one that another program has
-// locked in parts. Returns the opening for writing that keeps the lock, if there had to be one.
+// Takes the `flock` lock on a read-only file, and refuses a file with record locks. Returns the file open for writing
+// that keeps the lock, if that was necessary.
 fn take_lock<R>(
     rt: &R,
     name: &str,
@@ -145,7 +146,7 @@ where
     Ok(keeper)
 }
 
-// Opens the file for writing too, and takes the lock on that, if the file system has locks.
+// Opens the file for writing and takes the lock on that, if the file system has locks.
 fn lock_to_write<R>(
     rt: &R,
     name: &str,
@@ -164,7 +165,7 @@ where
     Ok(file)
 }
 
-// Takes the lock, and waits for it. Returns whether the file system gives one on this opening.
+// Takes the lock, and waits for it. Returns false if the file system has none for this file.
 fn lock_opening<R>(
     rt: &R,
     name: &str,
@@ -185,7 +186,7 @@ where
     }
 }
 
-// Waits for the lock, unless it is not to be waited for or would never be had.
+// Waits for the lock, unless an ancestor holds it or waiting is not wanted.
 fn wait_for_lock<R>(
     rt: &R,
     name: &str,

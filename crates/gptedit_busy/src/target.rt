@@ -1,4 +1,4 @@
-//! What an image is to the system: a block device or a file.
+//! The block device or file of a path.
 
 use crate::kernel::read_line;
 use std::alloc::AllocError;
@@ -7,17 +7,17 @@ use std::fs::Metadata;
 use std::os::unix::fs::{FileTypeExt, MetadataExt};
 use std::rt::Files;
 
-/// What a path leads to.
+/// The block device or file of a path.
 #[derive(Clone, Copy, PartialEq, Eq, Debug)]
 pub(crate) enum Target {
-    /// The block device of this number.
+    /// The block device with this number.
     Device { major: u64, minor: u64 },
-    /// The file with this inode of the file system with this number.
+    /// The file with this inode, on the file system with this device number.
     File { major: u64, minor: u64, inode: u64 },
 }
 
 impl Target {
-    /// Returns what the metadata is of; nothing if it is no file and no block device.
+    /// Returns the target with this metadata; `None` if it is neither a file nor a block device.
     pub(crate) fn of(metadata: &Metadata) -> Option<Target> {
         let kind = metadata.file_type();
         if kind.is_block_device() {
@@ -36,7 +36,7 @@ impl Target {
         None
     }
 
-    /// Returns what the path leads to.
+    /// Returns the target of the path.
     pub(crate) fn at<R: Files>(rt: &R, path: &str) -> Option<Target> {
         match fs::metadata(rt, path) {
             Ok(metadata) => Target::of(&metadata),
@@ -44,7 +44,7 @@ impl Target {
         }
     }
 
-    /// Returns the block device whose number a file of `/sys` has, as `8:1`.
+    /// Returns the block device whose number is in this file of `/sys`, such as `8:1`.
     pub(crate) fn named_in<R: Files + AllocGlobal>(
         rt: &R,
         path: &str,
@@ -55,14 +55,14 @@ impl Target {
         }
     }
 
-    /// Reads the number of a block device, as `8:1`.
+    /// Parses the number of a block device, such as `8:1`.
     pub(crate) fn read(text: &str) -> Option<Target> {
         let (major, minor) = read_pair(text)?;
         Some(Target::Device { major, minor })
     }
 }
 
-/// Reads the major and the minor number of a device, as `8:1`.
+/// Parses the major and minor number of a device, such as `8:1`.
 pub(crate) fn read_pair(text: &str) -> Option<(u64, u64)> {
     let (major, minor) = text.split_once(":")?;
     let major = major.parse::<u64>().ok()?;
@@ -70,7 +70,7 @@ pub(crate) fn read_pair(text: &str) -> Option<(u64, u64)> {
     Some((major, minor))
 }
 
-/// Returns the major and the minor number in the number of a device, as the C library packs them.
+/// Splits a device number into major and minor, by the encoding of the C library.
 pub(crate) fn split(number: u64) -> (u64, u64) {
     let major = number >> 32 & 0xffff_f000 | number >> 8 & 0xfff;
     let minor = number >> 12 & 0xffff_ff00 | number & 0xff;

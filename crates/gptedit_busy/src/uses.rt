@@ -1,4 +1,4 @@
-//! Uses of a disk and of its partitions, and which changes of the table they allow.
+//! Uses of a disk and its partitions, and the changes of the table that they permit.
 
 ghost use Rattle.std.specs.Prelude.{◌↔◌, All, Contains, IfSome, IsNone, IsTrue, option_copied};
 ghost use Rattle.gptedit_busy.specs.Harm.{IsAllowed, IsHarmless, IsKept};
@@ -17,15 +17,15 @@ pub enum Part {
 /// How it is used.
 #[derive(Drop, Debug)]
 pub enum How {
-    /// It is mounted here.
+    /// It is mounted at this path.
     Mounted(String),
     /// It is swap space.
     Swap,
-    /// Another device is made of it.
+    /// The device of this name is built on it.
     Held(String),
     /// It is part of a mounted Btrfs file system.
     Btrfs,
-    /// This file of the kernel cannot be read, so no use can be seen.
+    /// This file of the kernel cannot be read, so uses are unknown.
     Unknown(&'static str),
 }
 
@@ -41,13 +41,13 @@ pub struct Use {
 /// The uses of a disk.
 #[derive(Drop, Debug)]
 pub struct Users {
-    /// All that were found.
+    /// All uses that were found.
     pub uses: Vec<Use>,
 }
 
 impl Users {
-    /// Returns the first use that does not allow the change of the table from `was` to `next`. With no table
-    /// before or after, none allows it.
+    /// Returns the first use that does not permit the change of the table from `was` to `next`. If either is `None`, no
+    /// use permits it.
     pub fn find_harm(&self, was: Option<&GPT>, next: Option<&GPT>) -> Option<&Use>
         ensures none { IsNone result ↔ All (λ found. IsAllowed found.part (option_copied was.entry)
             (option_copied next.entry)) self.now.uses.items }
@@ -63,7 +63,7 @@ impl Users {
     }
 }
 
-// Whether a use of this part allows the change.
+// Reports whether a use of this part permits the change.
 fn allows(part: Part, was: Option<&GPT>, next: Option<&GPT>) -> bool
     ensures { IsTrue result ↔ IsAllowed part (option_copied was.entry) (option_copied next.entry) }
 {
@@ -73,8 +73,8 @@ fn allows(part: Part, was: Option<&GPT>, next: Option<&GPT>) -> bool
     }
 }
 
-/// Whether a part that is in use may stay so while the table changes from `was` to `next`: a partition, used in
-/// both, that keeps its number, start, type and GUID, and does not end before it did.
+/// Reports whether a part in use permits the change of the table from `was` to `next`: it is a partition, used in both,
+/// that keeps its number, start, type and GUID and does not end earlier.
 pub fn is_harmless(part: Part, was: &GPT, next: &GPT) -> bool
     ensures { IsTrue result ↔ IsHarmless part was.now next.now }
 {
@@ -87,7 +87,7 @@ pub fn is_harmless(part: Part, was: &GPT, next: &GPT) -> bool
     }
 }
 
-// Whether an entry that is used stays where it is, and what it is.
+// Reports whether a used entry keeps its start, type and GUID, and does not end earlier.
 fn is_kept(old: &GPTPartitionEntry, new: &GPTPartitionEntry) -> bool
     ensures { IsTrue result ↔ IsKept old.now new.now }
 {
