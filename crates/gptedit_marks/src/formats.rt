@@ -1,8 +1,8 @@
-//! Formats of images in which a disk is not stored byte for byte.
+//! Image formats that do not store a disk byte for byte.
 
 use crate::piece::Piece;
 
-// A name, where it is recognised, and by which bytes.
+// A name, the offset of the mark, and the mark.
 struct Mark(&'static str, u64, &'static [u8]);
 
 static FORMATS: [Mark; 25] = [
@@ -33,7 +33,7 @@ static FORMATS: [Mark; 25] = [
     Mark("7z (compressed)", 0, b"7z\xbc\xaf\x27\x1c"),
 ];
 
-/// Returns the format that the first bytes tell.
+/// Returns the format with a mark in the first bytes.
 pub fn find_first(piece: &Piece) -> Option<&'static str> {
     for mark in &FORMATS {
         if piece.has(mark.1, mark.2) {
@@ -43,7 +43,7 @@ pub fn find_first(piece: &Piece) -> Option<&'static str> {
     None
 }
 
-/// Returns the format that the last bytes of a disk of `length` bytes tell.
+/// Returns the format with a mark in the last bytes of a disk of `length` bytes.
 pub fn find_last(piece: &Piece, length: u64) -> Option<&'static str> {
     let at = length.checked_sub(512)?;
     if piece.has(at, b"koly\0\0\0\x04\0\0\x02\0") {

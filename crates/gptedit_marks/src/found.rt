@@ -1,7 +1,6 @@
-//! What was found in a range.
+//! The findings in a range.
 
-/// Something that was found: its name, and where it begins, counted from the start of the range, and its
-/// length, if it tells that.
+/// Contents that were found: the name, the start in the range, and the length if it is known.
 #[derive(Clone, Copy)]
 pub struct Found {
     pub name: &'static str,
@@ -10,7 +9,7 @@ pub struct Found {
 }
 
 impl Found {
-    /// Returns what takes the whole range.
+    /// Returns contents from the start of the range, of unknown length.
     pub fn whole(name: &'static str) -> Found {
         Found {
             name,
@@ -19,7 +18,7 @@ impl Found {
         }
     }
 
-    /// Returns what takes the range from its start on, for this length.
+    /// Returns contents from the start of the range, of this length.
     pub fn long(name: &'static str, length: Option<u64>) -> Found {
         Found {
             name,
@@ -28,18 +27,18 @@ impl Found {
         }
     }
 
-    /// Returns what begins at this byte of the range.
+    /// Returns contents from this byte of the range.
     pub fn at(name: &'static str, at: u64, length: Option<u64>) -> Found {
         Found { name, at, length }
     }
 }
 
-/// Returns a product, where it fits.
+/// Returns the product, if both numbers are known and it fits.
 pub fn product(count: Option<u64>, size: Option<u64>) -> Option<u64> {
     count?.checked_mul(size?)
 }
 
-/// Returns a power of two, where it fits.
+/// Returns the power of two, if the exponent is known and it fits.
 pub fn power(exponent: Option<u64>) -> Option<u64> {
     let exponent = exponent?;
     if exponent < 64 {
@@ -57,7 +56,7 @@ pub fn is_size(number: Option<u64>, least: u64, most: u64) -> bool {
     }
 }
 
-/// Reports whether there is a number, and it is above 0.
+/// Reports whether there is a number above 0.
 pub fn is_some_number(number: Option<u64>) -> bool {
     match number {
         Some(number) => number != 0,

@@ -1,10 +1,10 @@
-//! File systems that tell their length, or whose mark needs a second test.
+//! File systems that store their length, or whose mark needs a second test.
 
 use crate::found::{Found, is_size, is_some_number, power, product};
 use crate::piece::Piece;
 use std::alloc::AllocError;
 
-/// Adds what is recognised in the first bytes of a range.
+/// Adds the file systems in the first bytes of a range.
 pub fn find_file_systems(piece: &Piece, found: &mut Vec<Found>) -> Result<(), AllocError> {
     let seen = [
         find_ext(piece),
@@ -25,7 +25,6 @@ pub fn find_file_systems(piece: &Piece, found: &mut Vec<Found>) -> Result<(), Al
     find_rarer(piece, found)
 }
 
-// Adds those that are rarer.
 fn find_rarer(piece: &Piece, found: &mut Vec<Found>) -> Result<(), AllocError> {
     let seen = [
         find_iso(piece),
@@ -92,7 +91,7 @@ fn find_f2fs(piece: &Piece) -> Option<Found> {
     Some(Found::long("an F2FS file system", length))
 }
 
-// Its last sector, which holds a copy of the first one, is not counted by the number of sectors.
+// The number of sectors does not count the last one, which has a copy of the first.
 fn find_ntfs(piece: &Piece) -> Option<Found> {
     if !piece.has(3, b"NTFS    ") {
         return None;
@@ -127,7 +126,7 @@ fn find_fat(piece: &Piece) -> Option<Found> {
     Some(Found::long("a FAT file system", length))
 }
 
-// Whether the first sector is the boot sector of a FAT file system, by its numbers.
+// Reports whether the first sector is the boot sector of a FAT file system, by its numbers.
 fn is_fat(piece: &Piece) -> Option<bool> {
     let has_jump = piece.byte(0)? == 0xe9 || (piece.byte(0)? == 0xeb && piece.byte(2)? == 0x90);
     let fats = piece.byte(16)?;
@@ -188,7 +187,7 @@ fn find_cramfs(piece: &Piece) -> Option<Found> {
     None
 }
 
-// Versions 1 and 2, with names of 14 or 30 bytes. The map of inodes must have a bit for each.
+// Versions 1 and 2, with names of 14 or 30 bytes. The inode map must have a bit for each inode.
 fn find_minix(piece: &Piece) -> Option<Found> {
     let magic = piece.le16(1040)?;
     let is_second = magic == 0x2468 || magic == 0x2478;

@@ -1,6 +1,6 @@
-//! What is known by the bytes of a disk: file systems, members of arrays, image formats, footers.
+//! Recognises contents by their bytes: file systems, members of arrays, image formats, footers.
 //!
-//! Everything here only reads. Nothing is known here of partition tables with GUIDs and of the MBR.
+//! Only reads. Does not recognise GPT or the MBR.
 #![tactic(auto)]
 
 ghost use Rattle.std.specs.Prelude.{◌≡◌, ◌≤◌, ◌<◌, All, IfOk, IfSome};
@@ -19,28 +19,28 @@ use crate::piece::{Piece, Span, read_piece};
 use gptman::Disk;
 use std::alloc::{AllocError, Global};
 
-/// Something that is known by its bytes.
+/// Contents recognised by their bytes.
 #[derive(Debug, Clone, Copy)]
 pub struct Content {
-    /// What it is, as in a sentence: "an XFS file system".
+    /// A name for use in a sentence: "an XFS file system".
     pub name: &'static str,
-    /// Where it begins, in bytes of the disk.
+    /// The first byte on the disk.
     pub start: u64,
-    /// Where it ends, exclusive, if it tells its length.
+    /// The byte after the last, if the length is known.
     pub end: Option<u64>,
 }
 
-// The first bytes that are read at once.
+// The length of the first piece in bytes.
 const FIRST: u64 = 68 << 10;
 
-// The last bytes that are read at once.
+// The length of the last piece in bytes.
 const LAST: u64 = 128 << 10;
 
-/// Returns what is recognised between the bytes `start` and `end` of the disk: of a whole disk, or of
-/// one partition. Marks are looked for as if the range were a disk of its own.
+/// Returns the contents recognised between bytes `start` and `end` of the disk: the whole disk, or one partition. The
+/// range is searched as if it were a disk.
 ///
 /// # Errors
-/// `Io` if the disk failed, `OutOfMemory` if there was no memory.
+/// `Io` if the disk fails, `OutOfMemory` if an allocation fails.
 #[tactic(auto, using(gptman::proofs::Readers::both_read, gptman::proofs::Runs::rose_since))]
 pub fn find_contents<D: Disk>(
     alloc: Global,
@@ -61,7 +61,6 @@ pub fn find_contents<D: Disk>(
     Ok(place(alloc, found.as_slice(), start, end)?)
 }
 
-// Returns what is found in the range.
 #[tactic(auto, using(gptman::proofs::Readers::both_read, gptman::proofs::Runs::rose_since))]
 fn find_all<D: Disk>(alloc: Global, disk: &mut D, span: &Span) -> gptman::Result<Vec<Found>>
     requires { span.now.end ≤ (D.state disk.old).size }
@@ -78,7 +77,7 @@ fn find_all<D: Disk>(alloc: Global, disk: &mut D, span: &Span) -> gptman::Result
     Ok(found)
 }
 
-// Adds what is found between the first piece and the last: at each power of two from 128 KiB to 4 MiB.
+// Adds contents between the first piece and the last: at each power of two from 128 KiB to 4 MiB.
 #[tactic(auto, using(gptman::proofs::Readers::both_read, gptman::proofs::Runs::rose_since))]
 fn find_far<D: Disk>(
     alloc: Global,
@@ -96,7 +95,7 @@ fn find_far<D: Disk>(
     find_farther(alloc, disk, span, found)
 }
 
-// Adds what is found from 1 MiB on.
+// Adds contents from 1 MiB on.
 #[tactic(auto, using(gptman::proofs::Readers::both_read, gptman::proofs::Runs::rose_since))]
 fn find_farther<D: Disk>(
     alloc: Global,
@@ -113,7 +112,6 @@ fn find_farther<D: Disk>(
     find_at(alloc, disk, span, 4 << 20, 512, found)
 }
 
-// Adds what is found in one of those pieces.
 fn find_at<D: Disk>(
     alloc: Global,
     disk: &mut D,
@@ -131,14 +129,13 @@ fn find_at<D: Disk>(
     Ok(())
 }
 
-// Adds what is found in the first piece.
 fn find_in_first(piece: &Piece, found: &mut Vec<Found>) -> Result<(), AllocError> {
     lengths::find_file_systems(piece, found)?;
     others::find_others(piece, found)?;
     plain::find_plain(piece, found)
 }
 
-// Adds what is found in a piece between the first and the last.
+// Adds contents of a piece between the first and the last.
 fn find_in_next(piece: &Piece, found: &mut Vec<Found>) -> Result<(), AllocError> {
     if let Some(zfs) = others::find_zfs(piece) {
         found.push(zfs)?;
@@ -146,12 +143,11 @@ fn find_in_next(piece: &Piece, found: &mut Vec<Found>) -> Result<(), AllocError>
     plain::find_plain(piece, found)
 }
 
-// Adds what is found in the last piece.
 fn find_in_last(piece: &Piece, length: u64, found: &mut Vec<Found>) -> Result<(), AllocError> {
     others::find_late(piece, length, found)
 }
 
-// Returns what was found with its place on the disk.
+// Returns the contents with their places on the disk.
 fn place(alloc: Global, found: &[Found], start: u64, end: u64) -> Result<Vec<Content>, AllocError>
     ensures within { IfOk result (λ v. All (λ c. (start ≤ c.start) × (c.start < end)) v.items) }
 {
@@ -165,7 +161,6 @@ fn place(alloc: Global, found: &[Found], start: u64, end: u64) -> Result<Vec<Con
     Ok(contents)
 }
 
-// Returns it with its place on the disk.
 fn content_of(found: &Found, start: u64) -> Content
     ensures { result.start ≡ start }
 {
@@ -176,16 +171,16 @@ fn content_of(found: &Found, start: u64) -> Content
     }
 }
 
-// Returns the end of what has this length, where it fits in 64 bits.
+// Returns the end for this length, if it fits in 64 bits.
 fn end_of(length: Option<u64>, start: u64) -> Option<u64> {
     start.checked_add(length?)
 }
 
-/// Returns the image format that the disk is in, if it is one in which a disk is not stored byte for
-/// byte. The name of a compressed image ends with "(compressed)".
+/// Returns the image format of the disk, if the format does not store a disk byte for byte. The name of a compressed
+/// image ends with "(compressed)".
 ///
 /// # Errors
-/// `Io` if the disk failed, `OutOfMemory` if there was no memory.
+/// `Io` if the disk fails, `OutOfMemory` if an allocation fails.
 #[tactic(auto, using(gptman::proofs::Readers::both_read, gptman::proofs::Runs::rose_since))]
 pub fn find_format<D: Disk>(alloc: Global, disk: &mut D) -> gptman::Result<Option<&'static str>>
     ensures reads { Reads (D.state disk.old) (D.state disk.new) }
@@ -207,7 +202,7 @@ pub fn find_format<D: Disk>(alloc: Global, disk: &mut D) -> gptman::Result<Optio
 /// Returns the footer at the end of the disk, if there is one: that of a fixed VHD, of 512 or 511 bytes.
 ///
 /// # Errors
-/// `Io` if the disk failed, `OutOfMemory` if there was no memory.
+/// `Io` if the disk fails, `OutOfMemory` if an allocation fails.
 #[tactic(auto, using(gptman::proofs::Readers::both_read, gptman::proofs::Runs::rose_since))]
 pub fn find_footer<D: Disk>(alloc: Global, disk: &mut D) -> gptman::Result<Option<Content>>
     ensures reads { Reads (D.state disk.old) (D.state disk.new) }
@@ -223,7 +218,6 @@ pub fn find_footer<D: Disk>(alloc: Global, disk: &mut D) -> gptman::Result<Optio
     Ok(footer_in(&last, size))
 }
 
-// Returns the footer in the last piece of a disk of `size` bytes.
 fn footer_in(piece: &Piece, size: u64) -> Option<Content>
     ensures { IfSome result (λ c. c.start < size) }
 {

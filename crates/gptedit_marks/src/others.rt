@@ -1,16 +1,16 @@
-//! Swap space, tables of other systems, pools, and what is recognised near the end.
+//! Swap space, tables of other systems, pools, and contents with a mark near the end.
 
 use crate::found::{Found, product};
 use crate::piece::Piece;
 use std::alloc::AllocError;
 
-// The sizes of a page in bytes.
+// The possible page sizes in bytes.
 const PAGES: [u64; 5] = [4096, 8192, 16384, 32768, 65536];
 
-// What ends a first page that holds a hibernation image.
+// The end of the first page of a hibernation image.
 static SUSPENDED: [&[u8]; 4] = [b"S1SUSPEND", b"S2SUSPEND", b"ULSUSPEND", b"LINHIB0001"];
 
-/// Adds the other contents that are recognised in the first bytes of a range.
+/// Adds other contents in the first bytes of a range.
 pub fn find_others(piece: &Piece, found: &mut Vec<Found>) -> Result<(), AllocError> {
     for one in [
         find_swap(piece),
@@ -53,7 +53,7 @@ fn is_suspended(piece: &Piece, at: u64) -> bool {
     false
 }
 
-// Returns the length by the number of the last page.
+// Computes the length from the number of the last page.
 fn swap_length(piece: &Piece, page: u64) -> Option<u64> {
     let last = if piece.le32(1024)? == 1 {
         piece.le32(1028)?
@@ -72,7 +72,7 @@ fn find_apple(piece: &Piece) -> Option<Found> {
     }
 }
 
-// The exclusive or of all its 16-bit words is 0.
+// The XOR of all 16-bit words of a Sun label is 0.
 fn find_sun(piece: &Piece) -> Option<Found> {
     if !piece.has(508, b"\xda\xbe") {
         return None;
@@ -110,7 +110,7 @@ pub fn find_zfs(piece: &Piece) -> Option<Found> {
     None
 }
 
-// What is recognised near the end: its name, how far before the end, where its mark is there, and the mark.
+// A name, the start counted from the end, the offset of the mark from that start, and the mark.
 struct Late(&'static str, u64, u64, &'static [u8]);
 
 static LATE: [Late; 12] = [
@@ -148,7 +148,7 @@ static LATE: [Late; 12] = [
     ),
 ];
 
-/// Adds what is recognised in the last bytes of a range of `length` bytes.
+/// Adds contents in the last bytes of a range of `length` bytes.
 pub fn find_late(piece: &Piece, length: u64, found: &mut Vec<Found>) -> Result<(), AllocError> {
     for mark in &LATE {
         if let Some(at) = length.checked_sub(mark.1) {

@@ -1,4 +1,4 @@
-//! Pieces of a range of the disk, and the numbers that are stored in them.
+//! Pieces of a range of the disk, and the numbers in them.
 
 ghost use Rattle.std.specs.Prelude.{◌≡◌, ◌≤◌, ◌+◌};
 ghost use Rattle.gptman.specs.Answers.{HasCause};
@@ -7,17 +7,17 @@ ghost use Rattle.gptman.specs.Disk.{Reads};
 use gptman::Disk;
 use std::alloc::Global;
 
-// The greatest length of a piece in bytes.
+// The maximum length of a piece in bytes.
 const GREATEST: u64 = 128 << 10;
 
-/// The range of the disk that is looked at, as its first byte and the one after its last.
+/// The range of the disk that is searched: its first byte, and the byte after the last.
 #[derive(Clone, Copy)]
 pub struct Span {
     pub start: u64,
     pub end: u64,
 }
 
-/// Some bytes of a range, and where in the range they begin.
+/// Some bytes of a range, and their start in the range.
 #[derive(Drop)]
 pub struct Piece {
     at: u64,
@@ -32,13 +32,13 @@ impl Span {
 }
 
 impl Piece {
-    // Returns the bytes from `at` on, which counts from the start of the range.
+    // Returns the bytes from `at`, which counts from the start of the range.
     fn rest(&self, at: u64) -> Option<&[u8]> {
         let index = at.checked_sub(self.at)?;
         self.bytes.get(index as usize..)
     }
 
-    /// Reports whether these bytes are there.
+    /// Reports whether `mark` is at `at`.
     pub fn has(&self, at: u64, mark: &[u8]) -> bool {
         match self.rest(at) {
             Some(rest) => rest.starts_with(mark),
@@ -46,50 +46,50 @@ impl Piece {
         }
     }
 
-    /// Returns the byte there.
+    /// Returns the byte at `at`.
     pub fn byte(&self, at: u64) -> Option<u64> {
         let [byte] = self.rest(at)?.first_chunk::<1>()?;
         Some(u64::from(*byte))
     }
 
-    /// Returns the 16-bit number there, low byte first.
+    /// Returns the little-endian 16-bit number at `at`.
     pub fn le16(&self, at: u64) -> Option<u64> {
         let bytes = self.rest(at)?.first_chunk::<2>()?;
         Some(u64::from(u16::from_le_bytes(*bytes)))
     }
 
-    /// Returns the 32-bit number there, low byte first.
+    /// Returns the little-endian 32-bit number at `at`.
     pub fn le32(&self, at: u64) -> Option<u64> {
         let bytes = self.rest(at)?.first_chunk::<4>()?;
         Some(u64::from(u32::from_le_bytes(*bytes)))
     }
 
-    /// Returns the 64-bit number there, low byte first.
+    /// Returns the little-endian 64-bit number at `at`.
     pub fn le64(&self, at: u64) -> Option<u64> {
         let bytes = self.rest(at)?.first_chunk::<8>()?;
         Some(u64::from_le_bytes(*bytes))
     }
 
-    /// Returns the 16-bit number there, high byte first.
+    /// Returns the big-endian 16-bit number at `at`.
     pub fn be16(&self, at: u64) -> Option<u64> {
         let bytes = self.rest(at)?.first_chunk::<2>()?;
         Some(u64::from(u16::from_be_bytes(*bytes)))
     }
 
-    /// Returns the 32-bit number there, high byte first.
+    /// Returns the big-endian 32-bit number at `at`.
     pub fn be32(&self, at: u64) -> Option<u64> {
         let bytes = self.rest(at)?.first_chunk::<4>()?;
         Some(u64::from(u32::from_be_bytes(*bytes)))
     }
 
-    /// Returns the 64-bit number there, high byte first.
+    /// Returns the big-endian 64-bit number at `at`.
     pub fn be64(&self, at: u64) -> Option<u64> {
         let bytes = self.rest(at)?.first_chunk::<8>()?;
         Some(u64::from_be_bytes(*bytes))
     }
 }
 
-/// Reads at most `most` bytes of the range from its byte `at` on, fewer where the range ends before.
+/// Reads at most `most` bytes of the range from its byte `at`, fewer if the range ends before.
 pub fn read_piece<D: Disk>(
     alloc: Global,
     disk: &mut D,
@@ -107,7 +107,6 @@ pub fn read_piece<D: Disk>(
     Ok(Piece { at, bytes })
 }
 
-// Reads the bytes of the disk there.
 #[tactic(auto, using(gptman::proofs::Readers::both_read, gptman::proofs::Runs::rose_since))]
 fn read_bytes<D: Disk>(
     alloc: Global,

@@ -1,13 +1,13 @@
-//! Marks that need no second test, and tell no length.
+//! Marks that need no second test, of contents whose length is unknown.
 
 use crate::found::Found;
 use crate::piece::Piece;
 use std::alloc::AllocError;
 
-// A name, where it is recognised, and by which bytes.
+// A name, the offset of the mark, and the mark.
 struct Mark(&'static str, u64, &'static [u8]);
 
-// What takes the range from its start on.
+// Contents from the start of the range.
 static WHOLE: [Mark; 54] = [
     Mark("a ReFS file system", 3, b"ReFS\0\0\0\0"),
     Mark("a UDF file system", 34816, b"\0NSR02\x01"),
@@ -81,7 +81,7 @@ static WHOLE: [Mark; 54] = [
     Mark("a UFS file system", 263_516, b"\x19\x54\x01\x19"),
 ];
 
-// What begins where its mark is recognised, so many bytes before.
+// A name, the offset of the mark, the offset of the mark from the start of the contents, and the mark.
 struct Later(&'static str, u64, u64, &'static [u8]);
 
 // Boot loaders, labels and second headers.
@@ -162,7 +162,7 @@ static LATER: [Later; 19] = [
     ),
 ];
 
-/// Adds what is recognised in the piece by a mark.
+/// Adds contents with a mark in the piece.
 pub fn find_plain(piece: &Piece, found: &mut Vec<Found>) -> Result<(), AllocError> {
     for mark in &WHOLE {
         if piece.has(mark.1, mark.2) {
