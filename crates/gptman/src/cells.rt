@@ -1,4 +1,4 @@
-//! Numbers and runs of bytes at places of a record. All numbers are little endian.
+//! Numbers and byte ranges at offsets of a record. Numbers are little endian.
 
 ghost use Rattle.std.specs.Prelude.{◌≡◌, ◌+◌, ◌^◌, ◌<◌, ◌≤◌, ◌++◌, length, take, drop, slice_range};
 ghost use Rattle.byteorder.specs.Endian.{little_bytes};
@@ -6,12 +6,12 @@ ghost use Rattle.gptman_disk.specs.Bytes.{le, AreBytes};
 
 use byteorder::{ByteOrder, LittleEndian};
 
-/// Does nothing. A caller learns from it that a slice of bytes holds bytes.
+/// Does nothing. Its contract states that the elements of a byte slice are bytes.
 pub(crate) fn note_bytes(bytes: &[u8])
     ensures { AreBytes bytes.now }
 {}
 
-/// Writes the part over the bytes from `at` on.
+/// Overwrites the bytes from offset `at` with `part`.
 pub fn put(bytes: &mut [u8], at: usize, part: &[u8])
     requires { at + length part.now ≤ length bytes.old }
     ensures { bytes.new ≡ take at bytes.old ++ (part.now ++ drop (at + length part.now) bytes.old) }
@@ -19,7 +19,7 @@ pub fn put(bytes: &mut [u8], at: usize, part: &[u8])
     bytes[at..at + part.len()].copy_from_slice(part);
 }
 
-/// Writes the number over the 2 bytes from `at` on.
+/// Writes a number into the 2 bytes at offset `at`.
 pub(crate) fn put_u16(bytes: &mut [u8], at: usize, number: u16)
     requires { at + 2 ≤ length bytes.old }
     ensures written { bytes.new ≡ take at bytes.old ++ (little_bytes 2 number ++ drop (at + 2) bytes.old) }
@@ -28,7 +28,7 @@ pub(crate) fn put_u16(bytes: &mut [u8], at: usize, number: u16)
     LittleEndian::write_u16(&mut bytes[at..at + 2], number);
 }
 
-/// Writes the number over the 4 bytes from `at` on.
+/// Writes a number into the 4 bytes at offset `at`.
 pub fn put_u32(bytes: &mut [u8], at: usize, number: u32)
     requires { at + 4 ≤ length bytes.old }
     ensures written { bytes.new ≡ take at bytes.old ++ (little_bytes 4 number ++ drop (at + 4) bytes.old) }
@@ -37,7 +37,7 @@ pub fn put_u32(bytes: &mut [u8], at: usize, number: u32)
     LittleEndian::write_u32(&mut bytes[at..at + 4], number);
 }
 
-/// Writes the number over the 8 bytes from `at` on.
+/// Writes a number into the 8 bytes at offset `at`.
 pub(crate) fn put_u64(bytes: &mut [u8], at: usize, number: u64)
     requires { at + 8 ≤ length bytes.old }
     ensures written { bytes.new ≡ take at bytes.old ++ (little_bytes 8 number ++ drop (at + 8) bytes.old) }
@@ -46,7 +46,7 @@ pub(crate) fn put_u64(bytes: &mut [u8], at: usize, number: u64)
     LittleEndian::write_u64(&mut bytes[at..at + 8], number);
 }
 
-/// The `N` bytes from `at` on.
+/// Returns the `N` bytes at offset `at`.
 pub(crate) fn part_at<const N: usize>(bytes: &[u8], at: usize) -> [u8; N]
     requires { at + N ≤ length bytes.now }
     ensures { result ≡ slice_range bytes.now at (at + N) }
@@ -56,7 +56,7 @@ pub(crate) fn part_at<const N: usize>(bytes: &[u8], at: usize) -> [u8; N]
     part
 }
 
-/// The number in the 2 bytes from `at` on.
+/// Returns the number in the 2 bytes at offset `at`.
 pub(crate) fn u16_at(bytes: &[u8], at: usize) -> u16
     requires { at + 2 ≤ length bytes.now }
     ensures { result ≡ le (slice_range bytes.now at (at + 2)) }
@@ -64,7 +64,7 @@ pub(crate) fn u16_at(bytes: &[u8], at: usize) -> u16
     LittleEndian::read_u16(&part_at::<2>(bytes, at))
 }
 
-/// The number in the 4 bytes from `at` on.
+/// Returns the number in the 4 bytes at offset `at`.
 pub(crate) fn u32_at(bytes: &[u8], at: usize) -> u32
     requires { at + 4 ≤ length bytes.now }
     ensures { result ≡ le (slice_range bytes.now at (at + 4)) }
@@ -72,7 +72,7 @@ pub(crate) fn u32_at(bytes: &[u8], at: usize) -> u32
     LittleEndian::read_u32(&part_at::<4>(bytes, at))
 }
 
-/// The number in the 8 bytes from `at` on.
+/// Returns the number in the 8 bytes at offset `at`.
 pub(crate) fn u64_at(bytes: &[u8], at: usize) -> u64
     requires { at + 8 ≤ length bytes.now }
     ensures { result ≡ le (slice_range bytes.now at (at + 8)) }

@@ -1,7 +1,8 @@
-//! The records of a GUID partition table as bytes: the header's 92, an entry's 128, a name's 36 units.
+//! The records of a GUID partition table as bytes: headers of 92 bytes, entries of 128, names of 36 UTF-16
+//! units.
 //!
-//! This module touches no disk and computes no checksum. What is read and written back is the same
-//! byte for byte, also where a field has no sense.
+//! This module does no I/O and computes no checksum. Any bytes survive decoding and encoding unchanged, even if
+//! a field is invalid.
 
 pub mod entry;
 pub mod header;

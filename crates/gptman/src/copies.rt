@@ -1,4 +1,4 @@
-//! A look at both copies of a table, each by itself.
+//! Reads both copies of a table, one by one.
 
 ghost use Rattle.std.specs.Prelude.{◌≡◌, ◌↔◌, ◌⊎◌, ◌<◌, IfErr, IfOk, IsTrue};
 ghost use Rattle.gptman.specs.Answers.{answer_of, AnswersInMemory, IsFailure};
@@ -14,21 +14,21 @@ use crate::copy::{WholeCopy, last_sector, read_copy};
 use crate::{Disk, Error, GPTHeader, GPTPartitionEntry, Result};
 use std::alloc::Global;
 
-/// What the two copies are: each one, or its fault.
+/// Both copies of a table: each copy, or its fault.
 #[derive(Drop)]
 pub struct BothCopies {
     /// The copy in sector 1.
     pub primary: Result<WholeCopy>,
     /// The copy in the last whole sector.
     pub backup: Result<WholeCopy>,
-    /// Whether both places hold one table, each in the form of its place.
+    /// Whether both places hold the same table, each in the form of its place.
     pub are_same: bool,
 }
 
-/// Reads each copy by itself, with sectors of so many bytes, and tells the fault of each. A disk
-/// shorter than a sector has no backup copy: that is `InvalidSignature`.
+/// Reads both copies, and reports the fault of each. `sector_size` is in bytes, and must be above 0. A disk
+/// shorter than a sector has no backup copy; the fault is then `InvalidSignature`.
 ///
-/// `Io` where the length cannot be taken, `OutOfMemory` where there is no memory for the entries.
+/// `Io` if the length of the disk cannot be determined, `OutOfMemory` if the entries cannot be allocated.
 pub fn check<D: Disk>(alloc: Global, disk: &mut D, sector_size: u64) -> Result<BothCopies>
     requires { 0 < sector_size }
     ensures reads { Reads (D.state disk.old) (D.state disk.new) }
@@ -48,7 +48,7 @@ pub fn check<D: Disk>(alloc: Global, disk: &mut D, sector_size: u64) -> Result<B
     })
 }
 
-// Reads the copy in the last whole sector of a disk of so many bytes.
+// Reads the copy in the last whole sector of a disk of `size` bytes.
 fn look_at_backup<D: Disk>(
     alloc: Global,
     disk: &mut D,
@@ -68,7 +68,7 @@ fn look_at_backup<D: Disk>(
     look_at(alloc, disk, sector_size, last_sector(size, sector_size))
 }
 
-// Reads the copy whose header is at that byte. Want of memory is no fault of the copy.
+// Reads the copy whose header is at byte `at`. Allocation failure is an error, not a fault of the copy.
 fn look_at<D: Disk>(
     alloc: Global,
     disk: &mut D,
@@ -87,7 +87,7 @@ fn look_at<D: Disk>(
     }
 }
 
-// The copy whose header is at that byte.
+// Reads the copy whose header is at byte `at`.
 fn read_at<D: Disk>(alloc: Global, disk: &mut D, sector_size: u64, at: u64) -> Result<WholeCopy>
     requires { 0 < sector_size }
     ensures reads { Reads (D.state disk.old) (D.state disk.new) }
@@ -98,7 +98,7 @@ fn read_at<D: Disk>(alloc: Global, disk: &mut D, sector_size: u64, at: u64) -> R
     read_copy(alloc, disk, sector_size)
 }
 
-// Whether both copies were found, and are one table.
+// Reports whether both copies were found and are the same table.
 fn are_same(primary: &Result<WholeCopy>, backup: &Result<WholeCopy>) -> bool
     ensures { IsTrue result ↔ AreFoundSame (answer_of copy_of_whole primary.now)
         (answer_of copy_of_whole backup.now) }
@@ -109,7 +109,7 @@ fn are_same(primary: &Result<WholeCopy>, backup: &Result<WholeCopy>) -> bool
     }
 }
 
-// Whether the two copies are one table, the first in primary form and the second in backup form.
+// Reports whether the copies are the same table, the first in primary form and the second in backup form.
 fn are_one_table(primary: &WholeCopy, backup: &WholeCopy) -> bool
     ensures { IsTrue result ↔ AreOneTable (copy_of_whole primary.now) (copy_of_whole backup.now) }
 {
@@ -117,7 +117,7 @@ fn are_one_table(primary: &WholeCopy, backup: &WholeCopy) -> bool
         && are_same_entries(&primary.entries, &backup.entries)
 }
 
-// Whether the two headers are those of one table, the first in primary form and the second in backup
+// Reports whether the headers belong to the same table, the first in primary form and the second in backup
 // form.
 fn are_both_forms(primary: &GPTHeader, backup: &GPTHeader) -> bool
     ensures { IsTrue result ↔ AreBothForms primary.now backup.now }
@@ -127,14 +127,14 @@ fn are_both_forms(primary: &GPTHeader, backup: &GPTHeader) -> bool
         && has_sectors_exchanged(primary, backup)
 }
 
-// Whether the header stands in sector 1, and its entries from sector 2.
+// Reports whether the header is in sector 1, and its entries begin in sector 2.
 fn is_in_primary_form(header: &GPTHeader) -> bool
     ensures { IsTrue result ↔ IsHeaderForm at_primary header.now }
 {
     header.primary_lba == 1 && header.partition_entry_lba == 2
 }
 
-// Whether the other header stands in sector 1, and the entries behind the last usable sector.
+// Reports whether the other header is in sector 1, and the entries begin after the last usable sector.
 fn is_in_backup_form(header: &GPTHeader) -> bool
     ensures { IsTrue result ↔ IsHeaderForm at_backup header.now }
 {
@@ -142,8 +142,8 @@ fn is_in_backup_form(header: &GPTHeader) -> bool
         && header.partition_entry_lba.checked_sub(1) == Some(header.last_usable_lba)
 }
 
-// Whether the second header is the first with its two sectors the other way round. The place of the
-// entries and the checksums, which each copy has of its own, are not compared.
+// Reports whether the second header is the first with its two sectors exchanged. Checksums and the place of the
+// entries are not compared, because each copy has its own.
 fn has_sectors_exchanged(primary: &GPTHeader, backup: &GPTHeader) -> bool
     ensures { IsTrue result ↔ (backup.now ≡ with_sectors_exchanged primary.now backup.now) }
 {
@@ -158,7 +158,6 @@ fn has_sectors_exchanged(primary: &GPTHeader, backup: &GPTHeader) -> bool
     *backup == other
 }
 
-// Whether the two lists are equal.
 fn are_same_entries(a: &[GPTPartitionEntry], b: &[GPTPartitionEntry]) -> bool
     ensures { IsTrue result ↔ (a.now ≡ b.now) }
 {

@@ -1,4 +1,4 @@
-//! One whole copy as it is read: its header, and then its entries. The writing of one is handed on.
+//! Reads one complete copy: its header, then its entries. Re-exports `write_summed`, which writes one.
 
 ghost use Rattle.std.specs.Prelude.{◌≡◌, ◌≤◌, ◌<◌, ◌-◌, ◌*◌, ◌/◌, IfOk};
 ghost use Rattle.gptman.specs.Answers.{is_copy_fault, AnswersInMemory, RefusesOnly};
@@ -14,16 +14,16 @@ use crate::error::Result;
 pub use crate::header::write::write_summed;
 use std::alloc::Global;
 
-/// A copy that passes the tests of a reading.
+/// A copy that passed the tests of a read.
 #[derive(Drop)]
 pub struct WholeCopy {
     /// Its header.
     pub header: GPTHeader,
-    /// Its entries, all that the header counts.
+    /// Its entries, as many as the header counts.
     pub entries: Vec<GPTPartitionEntry>,
 }
 
-/// The copy whose header is at the disk's position. The sector size is in bytes, and above 0.
+/// Reads the copy whose header is at the disk's position. `sector_size` is in bytes, and must be above 0.
 ///
 /// The errors are those of `GPTHeader::read_from`, then those of `GPTHeader::read_partitions`.
 pub fn read_copy<D: Disk>(alloc: Global, disk: &mut D, sector_size: u64) -> Result<WholeCopy>
@@ -42,8 +42,8 @@ pub fn read_copy<D: Disk>(alloc: Global, disk: &mut D, sector_size: u64) -> Resu
     Ok(WholeCopy { header, entries })
 }
 
-/// The first byte of the last whole sector of so many bytes, where the backup header stands. The
-/// caller sees to it that there is one.
+/// Returns the first byte of the last whole sector of a disk of `size` bytes, where the backup header is. The
+/// disk must have at least one sector.
 pub fn last_sector(size: u64, sector_size: u64) -> u64
     requires sector { 0 < sector_size }
     requires room { sector_size ≤ size }

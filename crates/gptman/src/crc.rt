@@ -1,7 +1,7 @@
-//! CRC-32 in its ISO-HDLC form, the checksum of the header and of the entry array.
+//! CRC-32 (ISO-HDLC), the checksum of the header and of the entry array.
 //!
-//! Eight bytes at a time go through a register of 32 bits by eight tables of 256 words, and what is left
-//! a byte at a time by the first of them. This module knows nothing of what is summed, and takes no memory.
+//! Eight bytes at a time go through a register of 32 bits with eight tables of 256 words; the remaining bytes,
+//! one by one, use only the first table. This module does not know the format, and does not allocate.
 
 ghost use Rattle.std.specs.Prelude.{◌≡◌, ◌<◌, ◌*◌, suc, ℕ, List, [], ◌++◌, fold};
 ghost use Rattle.gptman.specs.Crc.{crc_of};
@@ -12,37 +12,37 @@ mod table;
 use byteorder::{ByteOrder, LittleEndian};
 use table::TABLES;
 
-/// The CRC-32 of the bytes, in its ISO-HDLC form, which the GPT format uses: polynomial 0x04C11DB7,
-/// bits of a byte taken from the lowest on, the register all ones at the start and complemented at the
-/// end. That of the text "123456789" is 0xCBF43926.
+/// Returns the CRC-32 of the bytes, in the ISO-HDLC form that the GPT format uses: polynomial 0x04C11DB7,
+/// lowest bit of a byte first, the register all ones at the start and complemented at the end. The CRC-32 of
+/// the text "123456789" is 0xCBF43926.
 pub fn crc32(bytes: &[u8]) -> u32
     ensures { result ≡ crc_of bytes.now }
 {
     !take_in_all(u32::MAX, bytes)
 }
 
-/// A checksum in the making, of a message that comes in pieces.
+/// A checksum of a message that arrives in pieces.
 #[derive(Clone, Copy)]
 pub(crate) struct Checksum {
     register: u32,
 }
 
 impl Checksum {
-    /// Of no bytes yet.
+    /// Begins a checksum, of no bytes so far.
     pub(crate) fn new() -> Self
         ensures { HasTaken result [] }
     {
         Checksum { register: u32::MAX }
     }
 
-    /// Takes in more bytes.
+    /// Adds bytes to the message.
     pub(crate) fn update(&mut self, bytes: &[u8])
         ensures { (m : List ℕ) → HasTaken self.old m → HasTaken self.new (m ++ bytes.now) }
     {
         self.register = take_in_all(self.register, bytes);
     }
 
-    /// The checksum of all the bytes that were taken in.
+    /// Returns the checksum of all bytes that were added.
     pub(crate) fn finish(self) -> u32
         ensures { (m : List ℕ) → HasTaken self m → result ≡ crc_of m }
     {
@@ -50,7 +50,7 @@ impl Checksum {
     }
 }
 
-// The register with the bytes taken in.
+// Returns the register after these bytes.
 fn take_in_all(register: u32, bytes: &[u8]) -> u32
     ensures { result ≡ with_message register bytes.now }
 {
@@ -58,7 +58,7 @@ fn take_in_all(register: u32, bytes: &[u8]) -> u32
     take_in_bytes(take_in_blocks(register, blocks), rest)
 }
 
-// The register with the blocks taken in, each eight bytes at once.
+// Returns the register after these blocks, of eight bytes each.
 fn take_in_blocks(mut register: u32, blocks: &[[u8; 8]]) -> u32
     ensures { result ≡ fold with_message register blocks.now }
 {
@@ -68,7 +68,7 @@ fn take_in_blocks(mut register: u32, blocks: &[[u8; 8]]) -> u32
     register
 }
 
-// The register with the bytes taken in, one after the other.
+// Returns the register after these bytes, one by one.
 fn take_in_bytes(mut register: u32, bytes: &[u8]) -> u32
     ensures { result ≡ with_message register bytes.now }
 {
@@ -78,8 +78,8 @@ fn take_in_bytes(mut register: u32, bytes: &[u8]) -> u32
     register
 }
 
-// The register with eight bytes taken in. What steps make of a sum without carries is the sum of what
-// they make of its parts, so each byte has a word of its own; the register reaches the first four alone.
+// Returns the register after eight bytes. The register is linear over XOR, so each byte contributes a word of
+// its own; the previous register affects only the first four bytes.
 fn take_in_block(register: u32, block: &[u8; 8]) -> u32
     ensures { result ≡ with_message register block.now }
 {
@@ -90,7 +90,7 @@ fn take_in_block(register: u32, block: &[u8; 8]) -> u32
     behind ^ word(7, a) ^ word(6, b) ^ word(5, c) ^ word(4, d)
 }
 
-// The register with a byte taken in.
+// Returns the register after one byte.
 fn take_in_byte(register: u32, byte: u8) -> u32
     ensures { result ≡ with_byte register byte }
 {
@@ -98,7 +98,7 @@ fn take_in_byte(register: u32, byte: u8) -> u32
     word(0, index as u8) ^ (register >> 8)
 }
 
-// What the register makes of this byte and so many zero bytes that follow it.
+// Returns a zero register after this byte and `followers` zero bytes.
 fn word(followers: usize, byte: u8) -> u32
     requires { followers < 8 }
     ensures { result ≡ steps (8 * suc followers) byte }

@@ -1,4 +1,4 @@
-//! Edits of a table as values, made one after the other.
+//! Edits of a table as values, applied in order.
 
 ghost use Rattle.std.specs.Prelude.{◌≡◌, ◌≤◌, ◌<◌, ◌⊎◌, [], ◌∷◌, ℕ, length};
 ghost use Rattle.std.specs.Prelude.{IfErr, IfNone, IfOk, IfSome, IsOk, IsTrue, OnErr, OnOk};
@@ -28,27 +28,27 @@ use crate::{Disk, Error, GPTPartitionEntry, Result};
 /// A change of a table. Numbers of entries count from 1.
 #[derive(Drop, Debug)]
 pub enum Edit {
-    /// Puts the entry under the number, in the stead of what is there.
+    /// Replaces the entry with the number.
     Put(u32, GPTPartitionEntry),
-    /// Puts the unused entry under the number.
+    /// Replaces the entry with the number by the unused entry.
     Remove(u32),
-    /// Puts the entries in order: the used ones by their first sector, then the unused ones.
+    /// Sorts the entries: used ones by their first sector, then unused ones.
     SortEntries,
-    /// Gives the disk this GUID, as its 16 bytes stand on it.
+    /// Sets the GUID of the disk, 16 bytes in their order on the disk.
     DiskGuid([u8; 16]),
 }
 
-/// How far a list of edits came.
+/// The outcome of a list of edits.
 #[derive(Drop, Debug)]
 pub struct Progress {
-    /// How many edits were made and written.
+    /// The number of edits that were applied and written.
     pub done: usize,
-    /// Why the next one was not, unless all were.
+    /// Why the next edit failed, or `None` if all were written.
     pub fault: Option<Error>,
 }
 
 impl Edit {
-    // The same edit again. Only that of an entry takes memory, for the text of its name.
+    // Copies the edit. Only `Put` allocates, for the text of the name.
     fn clone(&self) -> Result<Edit>
         ensures ok { IfOk result (λ edit. edit ≡ self.now) }
         ensures refused { IfErr result (λ e. fault_of e ≡ out_of_memory) }
@@ -63,10 +63,10 @@ impl Edit {
 }
 
 impl GPT {
-    /// Makes the edit, in memory alone.
+    /// Applies the edit in memory.
     ///
-    /// `InvalidPartitionNumber` where a number is 0, above the header's count or above the length of
-    /// the list; `OutOfMemory` where there is no memory to sort the entries. Nothing changes then.
+    /// `InvalidPartitionNumber` if a number is 0, above the header's count or above the length of the list;
+    /// `OutOfMemory` if sorting runs out of memory. The table is then unchanged.
     pub fn apply(&mut self, edit: Edit) -> Result<()>
         ensures answer { (refusal_of result ≡ edit_fault self.old edit)
             ⊎ ((edit ≡ SortEntries) × Refuses result out_of_memory) }
@@ -84,11 +84,12 @@ impl GPT {
         }
     }
 
-    /// Makes all of the edits, one after the other and in memory alone, or none of them.
+    /// Applies all edits in order, in memory, or none of them. An empty list needs no memory.
     ///
-    /// Where `apply` refuses one, of the table that those before it left, its refusal is the answer;
-    /// `OutOfMemory` where there is no memory for the same table again, for the name of an entry that
-    /// is put, or to sort the entries. Nothing changes then. An empty list takes no memory.
+    /// # Errors
+    /// The error of `apply` for the first edit that it refuses, on the table that the edits before it made;
+    /// `OutOfMemory` if the table or an entry cannot be copied, or sorting runs out of memory. The table is
+    /// then unchanged.
     pub fn apply_all(&mut self, edits: &[Edit]) -> Result<()>
         ensures answer { (refusal_of result ≡ edits_fault self.old edits.now)
             ⊎ Refuses result out_of_memory }
@@ -105,7 +106,7 @@ impl GPT {
         Ok(())
     }
 
-    // Makes the edits one after the other, up to the first that is refused.
+    // Applies the edits in order, up to the first that fails.
     fn apply_each(&mut self, edits: &[Edit]) -> Result<()>
         ensures answer { (refusal_of result ≡ edits_fault self.old edits.now)
             ⊎ Refuses result out_of_memory }
@@ -117,20 +118,18 @@ impl GPT {
         Ok(())
     }
 
-    /// Makes the edits one after the other and writes the table after each. Stops at the first that is
-    /// refused, or whose write is.
+    /// Applies the edits one by one, and writes the table after each. Stops at the first error.
     ///
-    /// `done` counts the edits that were made and written. `fault` says why the next one was not: what
-    /// `apply` refuses it with, or what `write_into` refuses the edited table with. In the first case
-    /// the value holds the table after `done` edits, and in the second the one after `done + 1`; where
-    /// all were written its checksums are made. On an honest disk of the stated layout, after a fault
-    /// other than `Io`, both places still hold the table after `done` edits, or the disk is as it was
-    /// where `done` is 0; after `Io`, if nothing was pending at first, the same holds of each place
-    /// alone, or it holds the table after `done + 1` edits, or its header is not synced. Without an edit
-    /// nothing is written.
+    /// `done` counts the edits that were applied and written. `fault` is the error of the next one. After an
+    /// error of `apply` the value has `done` edits, after one of `write_into` `done + 1`. If all were written,
+    /// its checksums are computed. An empty list writes and changes nothing.
     ///
-    /// The caller sees to it that the sector size is above 0 and the table coherent, as `is_coherent`
-    /// tells.
+    /// On an honest disk of the stated layout, after an error other than `Io` both places hold the table after
+    /// `done` edits, or the disk is unchanged if `done` is 0. After `Io`, if nothing was unsynced before, this
+    /// holds of each place separately, or the place holds the table after `done + 1` edits, or its header is
+    /// unsynced.
+    ///
+    /// The sector size must be above 0, and the table coherent (`is_coherent`).
     pub fn commit_all<D: Disk>(&mut self, disk: &mut D, edits: Vec<Edit>) -> Progress
         requires sector { 0 < self.old.sector_size }
         requires coherent { IsCoherent self.old.header (entries_in self.old) }
@@ -139,7 +138,8 @@ impl GPT {
             ⊎ HasFailedAsOften (D.state disk.old) (D.state disk.new) }
         ensures once { HasFailedOnceAtMost (D.state disk.old) (D.state disk.new) }
 
-        // Which edits were made, and why the next one was not. On the stated layout there is room for each.
+        // How many edits were applied and written, and why the next one failed. In the stated layout there is
+        // room for each.
         ensures count { result.done ≤ length edits.items }
         ensures all { IfNone result.fault (result.done ≡ length edits.items) }
         ensures allowed { (k : ℕ) → k < result.done → IsAllowedAt self.old edits.items k }
@@ -150,11 +150,11 @@ impl GPT {
             → IfSome result.fault (λ e. IsNotForRoom (fault_of e)) }
         ensures cause { IsTrue (is_failure result.fault) → Rose (D.state disk.old) (D.state disk.new) }
 
-        // What becomes of the value.
+        // The value, if all edits were written.
         ensures value { IfNone result.fault (self.new ≡ value_after self.old edits.items result.done) }
 
-        // What becomes of the disk. Unless it failed, both places hold the last table, or nothing was
-        // written where there is none.
+        // The disk. Unless it failed, both places hold the table of the last write; if there was none, it was
+        // only read.
         ensures empty { edits.items ≡ [] → disk.new ≡ disk.old }
         ensures wrote { Writes (table_ranges self.old) (D.state disk.old) (D.state disk.new) }
         ensures untouched { IsHonest (D.state disk.old) → result.done ≡ 0
@@ -167,8 +167,8 @@ impl GPT {
             → IsTrue (is_failure result.fault)
             ⊎ AreReadAlone (D.state disk.new).view (table_after self.old edits.items result.done) }
 
-        // From one good copy of the value's own table, a stop at any moment leaves the table after some of
-        // the edits at one place at least.
+        // From one good copy of the value's own table, a crash at any moment leaves the table after some of the
+        // edits in at least one place.
         ensures one_good { StartsFromOne (D.state disk.old) self.old (table_in self.old)
             → StopsHold (D.state disk.old) (D.state disk.new) self.old.sector_size
             (tables_to self.old edits.items (reached result.done result.fault)) }
@@ -181,13 +181,13 @@ impl GPT {
             → IfSome result.fault (λ e. HoldsLast (D.state disk.new) self.old edits.items result.done
             (is_io (fault_of e))) }
 
-        // After a fault each place stands as it was, where no edit was written, or in whatever a stop may
-        // leave holds the table after `done` edits or the next one, or has its header pending.
+        // After an error each place is unchanged, if no edit was written; or holds the table after `done` edits
+        // or after the next one, whatever a crash leaves; or has an unsynced header.
         ensures after { StartsSynced (D.state disk.old) self.old
             → IfSome result.fault (λ e. BothSidesAfterEdits self.old edits.items result.done
             (D.state disk.old) (D.state disk.new)) }
 
-        // From two good copies of it, so the disk is read as one of these tables.
+        // From two good copies of it, the disk is therefore read as one of these tables.
         ensures crash_safe { StartsStored (D.state disk.old) self.old (table_in self.old)
             → StopsAreReadAs (D.state disk.old) (D.state disk.new) self.old.sector_size
             (tables_to self.old edits.items (reached result.done result.fault)) }
@@ -206,7 +206,7 @@ impl GPT {
         Progress { done, fault: None }
     }
 
-    // Makes the edit and writes the table.
+    // Applies the edit and writes the table.
     fn commit<D: Disk>(&mut self, disk: &mut D, edit: Edit) -> Result<()>
         requires sector { 0 < self.old.sector_size }
         requires coherent { IsCoherent self.old.header (entries_in self.old) }
@@ -214,7 +214,7 @@ impl GPT {
         ensures counts { CountsFailure result (D.state disk.old) (D.state disk.new) }
         ensures once { HasFailedOnceAtMost (D.state disk.old) (D.state disk.new) }
 
-        // What is answered, and what becomes of the value.
+        // The result, and the edited value.
         ensures allowed { OnOk result (IsAllowed self.old edit) }
         ensures fits { OnOk result (HasRoomOn self.old (D.state disk.old).size) }
         ensures refused { IfErr result (λ e. RefusesEdit self.old edit (fault_of e) self.new
@@ -226,7 +226,7 @@ impl GPT {
         ensures sector { self.new.sector_size ≡ self.old.sector_size }
         ensures coherent { IsCoherent self.new.header (entries_in self.new) }
 
-        // What becomes of the disk.
+        // The disk: it has the edited table after `Ok`, and was only read after an error other than `Io`.
         ensures wrote { Writes (table_ranges self.old) (D.state disk.old) (D.state disk.new) }
         ensures synced { IsHonest (D.state disk.old) → OnOk result ((D.state disk.new).pending ≡ []) }
         ensures laid { IsHonest (D.state disk.old) → AreApart (table_ranges self.old) → OnOk result

@@ -1,6 +1,6 @@
-//! The header of one copy of the table: its checksums, its form, and how it is fitted to a disk.
+//! The header of one copy: its checksums, its form, and how it is fitted to a disk.
 //!
-//! This module knows one copy, header and entries, and of a second one its header alone.
+//! This module knows one copy, header and entries, and only the header of the other.
 
 ghost use Rattle.std.specs.Prelude.{◌≡◌, ◌<◌, ◌↔◌, ◌⊎◌, ℕ, if◌then◌else◌, IsTrue, IfOk, IfErr, OnOk, OnErr};
 ghost use Rattle.gptman.specs.Answers.{CountsFailure};
@@ -32,10 +32,10 @@ pub(crate) const SIGNATURE: [u8; 8] = [0x45, 0x46, 0x49, 0x20, 0x50, 0x41, 0x52,
 pub(crate) const REVISION: [u8; 4] = [0, 0, 1, 0];
 
 impl GPTHeader {
-    /// A header in primary form for a new table of 128 entries, fitted to the disk. The sector size
-    /// is in bytes, and above 0. Checksums and reserved bytes are zero.
+    /// Returns a header in primary form for a new table of 128 entries, fitted to the disk. `sector_size` is in
+    /// bytes, and must be above 0. Checksums and reserved bytes are zero.
     ///
-    /// `Io` where the disk failed, `Overflow` where it has too few sectors for two copies.
+    /// `Io` if the disk fails, `Overflow` if it has fewer than two sectors besides one entry array.
     pub fn new_from<D: Disk>(
         disk: &mut D,
         sector_size: u64,
@@ -55,11 +55,11 @@ impl GPTHeader {
         GPTHeader::with_entries(disk, sector_size, disk_guid, DEFAULT_ENTRY_COUNT)
     }
 
-    /// A header in primary form for a new table of so many entries, fitted to the disk. The sector size
-    /// is in bytes, and above 0. Checksums and reserved bytes are zero.
+    /// Returns a header in primary form for a new table of `count` entries, fitted to the disk. `sector_size`
+    /// is in bytes, and must be above 0. Checksums and reserved bytes are zero.
     ///
-    /// `Overflow` where the number is 0; then `Io` where the disk failed; then `Overflow` where it has too
-    /// few sectors for two copies.
+    /// `Overflow` if `count` is 0, then `Io` if the disk fails, then `Overflow` if it has fewer than two
+    /// sectors besides one entry array.
     pub fn with_entries<D: Disk>(
         disk: &mut D,
         sector_size: u64,
@@ -98,12 +98,11 @@ impl GPTHeader {
         Ok(header)
     }
 
-    /// Fits the header to the disk: the usable sectors, the sector of the header that is not in
-    /// sector 1, and the first sector of the entries where these are not in sector 2. The sector size
-    /// is in bytes, and above 0; no other field changes.
+    /// Fits the header to the disk: sets the usable sectors, the sector of the header that is not in sector 1,
+    /// and the first sector of the entries unless it is 2. `sector_size` is in bytes, and must be above 0.
     ///
-    /// `Overflow` where the entries take no bytes; then `Io` where the disk failed; then `Overflow`
-    /// where it has too few sectors for two copies. A refused call changes no field.
+    /// `Overflow` if the entries have no bytes, then `Io` if the disk fails, then `Overflow` if it has fewer
+    /// than two sectors besides one entry array. The header is then unchanged.
     pub fn update_from<D: Disk>(&mut self, disk: &mut D, sector_size: u64) -> Result<()>
         requires { 0 < sector_size }
         ensures reads { Reads (D.state disk.old) (D.state disk.new) }
@@ -126,7 +125,7 @@ impl GPTHeader {
         self.fit(sectors, array_size.div_ceil(sector_size))
     }
 
-    // Fits the header to a disk of so many sectors, where its array takes so many.
+    // Fits the header to a disk of `sectors` sectors, with an entry array of `array_sectors` sectors.
     fn fit(&mut self, sectors: u64, array_sectors: u64) -> Result<()>
         ensures answer { refusal_of result
             ≡ (if is_too_small sectors array_sectors then Some overflow else None) }
@@ -149,22 +148,22 @@ impl GPTHeader {
         Ok(())
     }
 
-    /// Whether this is the header of the primary copy: it stands in sector 1.
+    /// Reports whether this is the header of the primary copy: it is in sector 1.
     pub fn is_primary(&self) -> bool
         ensures { IsTrue result ↔ (self.now.primary_lba ≡ 1) }
     {
         self.primary_lba == 1
     }
 
-    /// Whether this is the header of the backup copy: it stands in another sector than 1.
+    /// Reports whether this is the header of the backup copy: it is not in sector 1.
     pub fn is_backup(&self) -> bool
         ensures { IsTrue result ↔ (¬ (self.now.primary_lba ≡ 1)) }
     {
         !self.is_primary()
     }
 
-    /// The CRC-32 (`crc::crc32`) of the 92 bytes of the header, with the four bytes of this checksum as
-    /// zero. The caller sees to it that the header size is 92.
+    /// Returns the CRC-32 of the header's 92 bytes, computed with this checksum as zero. The header size must
+    /// be 92.
     pub fn generate_crc32_checksum(&self) -> u32
         requires { self.now.header_size ≡ 92 }
         ensures { result ≡ header_crc (header_bytes self.now) }
@@ -175,8 +174,7 @@ impl GPTHeader {
         crc32(&bytes)
     }
 
-    /// Makes the checksum of the header, as `generate_crc32_checksum` answers it. No other field
-    /// changes. The caller sees to it that the header size is 92.
+    /// Sets the header's checksum to `generate_crc32_checksum`. The header size must be 92.
     pub fn update_crc32_checksum(&mut self)
         requires { self.old.header_size ≡ 92 }
         ensures { self.new ≡ record self.old { crc32_checksum = header_crc (header_bytes self.old) } }
@@ -184,9 +182,8 @@ impl GPTHeader {
         self.crc32_checksum = self.generate_crc32_checksum();
     }
 
-    /// The CRC-32 (`crc::crc32`) of the bytes of all entries, 128 each, in order. It takes no memory.
-    /// The caller sees to it that the header counts as many entries as there are, and gives their size
-    /// as 128 unless there are none, and its own as 92.
+    /// Returns the CRC-32 of the bytes of all entries, without allocating. The header must describe the
+    /// entries: its size is 92, its count their number, and its entry size 128 unless there are none.
     pub fn generate_partition_entry_array_crc32(&self, partitions: &[GPTPartitionEntry]) -> u32
         requires { IsCoherent self.now partitions.now }
         ensures { result ≡ crc_of (array_bytes partitions.now) }
@@ -194,8 +191,7 @@ impl GPTHeader {
         checksum_of(partitions)
     }
 
-    /// Makes the checksum of the entry array, as `generate_partition_entry_array_crc32` answers it and
-    /// under the same conditions. No other field changes.
+    /// Sets the checksum of the entries to `generate_partition_entry_array_crc32`, with the same precondition.
     pub fn update_partition_entry_array_crc32(&mut self, partitions: &[GPTPartitionEntry])
         requires { IsCoherent self.old partitions.now }
         ensures { self.new ≡ record self.old {
@@ -207,7 +203,7 @@ impl GPTHeader {
     }
 }
 
-// The CRC-32 of the bytes of all entries, in order.
+// Returns the CRC-32 of the bytes of all entries.
 fn checksum_of(partitions: &[GPTPartitionEntry]) -> u32
     ensures { result ≡ crc_of (array_bytes partitions.now) }
 {

@@ -1,7 +1,7 @@
 //! GUID partition tables that survive a crash.
 //!
-//! `codec`, `crc` and `sizes` have the bytes of the format, `header` and `copy` one copy of a table, `copies` both, and
-//! `table`, `place` and `edit` the table. Disks and errors are those of `gptman_disk`.
+//! `codec`, `crc` and `sizes` have the bytes of the format, `header` and `copy` one copy of a table, `copies`
+//! both, and `table`, `place` and `edit` the table. Disks and errors come from `gptman_disk`.
 #![tactic(auto)]
 
 pub mod cells;

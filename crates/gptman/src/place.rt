@@ -1,10 +1,9 @@
-//! Free sectors, and the places that they offer to new partitions. It looks at the list and at the
-//! header's bounds alone.
+//! Finds free sectors and places for new partitions, from the list of entries and the header's bounds only.
 //!
-//! A sector is free where it is usable, is not sector 0, and no used entry covers it. A run is a
-//! maximal interval of free sectors. An aligned slot is a run from its first multiple of `align` on to
-//! its end; a run with no such multiple has none. Entries may overlap, lie outside of the bounds or end
-//! before they start, and the bounds may stand in any order.
+//! A sector is free if it is usable, is not sector 0, and no used entry covers it. A run is a maximal range of
+//! free sectors. An aligned slot is a run from its first multiple of `align` to its end; a run without a
+//! multiple has none. Entries may overlap, be out of bounds or end before they start, and the bounds may be in
+//! any order.
 
 ghost use Rattle.std.specs.Prelude.{◌≡◌, ◌⊎◌, ◌<◌, ◌≤◌, ◌+◌, ◌^◌, All, IfErr, IfOk};
 ghost use Rattle.gptman.specs.Answers.{Refuses};
@@ -24,12 +23,12 @@ pub mod laws;
 mod sweep;
 
 impl GPT {
-    /// All aligned slots of free sectors, each as (start, length) in sectors, by ascending start. A slot
-    /// is what is left of a run of free sectors from its first multiple of `align` on. The last sector
-    /// of each, start + length - 1, is a number of 64 bits. It takes time in O(n log n) for n entries,
-    /// however many sectors there are. The caller sees to it that `align` is above 0.
+    /// Returns all aligned slots as (start, length) in sectors, by ascending start. A slot is what remains of a
+    /// run of free sectors from its first multiple of `align` on. The last sector of each, start + length - 1,
+    /// fits in 64 bits. Takes O(n log n) time for n entries, whatever the size of the disk. `align` must be
+    /// above 0.
     ///
-    /// `OutOfMemory` where there is no memory to find them.
+    /// `OutOfMemory` if an allocation fails.
     pub fn find_free_sectors(&self) -> Result<Vec<(u64, u64)>>
         requires { 0 < self.now.align }
         ensures refused { IfErr result (λ e. fault_of e ≡ out_of_memory) }
@@ -42,14 +41,14 @@ impl GPT {
         Ok(slots)
     }
 
-    /// The least sector, a multiple of `align`, from which `size` sectors are free; `None` where there
-    /// is no such sector. A size of 0 is treated as 1. The caller sees to it that `align` is above 0.
+    /// Returns the lowest sector, a multiple of `align`, from which `size` sectors are free, or `None` if there
+    /// is none. A size of 0 is treated as 1. `align` must be above 0.
     ///
     ///     if let Some(start) = table.find_first_place(2048)? {
     ///         // sectors start to start + 2047 are free
     ///     }
     ///
-    /// `OutOfMemory` where there is no memory to find it.
+    /// `OutOfMemory` if an allocation fails.
     pub fn find_first_place(&self, size: u64) -> Result<Option<u64>>
         requires { 0 < self.now.align }
         ensures refused { IfErr result (λ e. fault_of e ≡ out_of_memory) }
@@ -64,11 +63,10 @@ impl GPT {
         }
     }
 
-    /// The greatest sector, a multiple of `align`, from which `size` sectors are free; `None` where
-    /// there is no such sector. A size of 0 is treated as 1. The caller sees to it that `align` is above
-    /// 0.
+    /// Returns the highest sector, a multiple of `align`, from which `size` sectors are free, or `None` if
+    /// there is none. A size of 0 is treated as 1. `align` must be above 0.
     ///
-    /// `OutOfMemory` where there is no memory to find it.
+    /// `OutOfMemory` if an allocation fails.
     pub fn find_last_place(&self, size: u64) -> Result<Option<u64>>
         requires { 0 < self.now.align }
         ensures refused { IfErr result (λ e. fault_of e ≡ out_of_memory) }
@@ -84,11 +82,10 @@ impl GPT {
         }
     }
 
-    /// The start of the shortest aligned slot of at least `size` sectors, and of the leftmost of
-    /// equally short ones; `None` where there is no place for so many. A size of 0 is treated as 1. The
-    /// caller sees to it that `align` is above 0.
+    /// Returns the start of the shortest aligned slot of at least `size` sectors, the leftmost if several are
+    /// as short, or `None` if there is none. A size of 0 is treated as 1. `align` must be above 0.
     ///
-    /// `OutOfMemory` where there is no memory to find it.
+    /// `OutOfMemory` if an allocation fails.
     pub fn find_optimal_place(&self, size: u64) -> Result<Option<u64>>
         requires { 0 < self.now.align }
         ensures refused { IfErr result (λ e. fault_of e ≡ out_of_memory) }
@@ -103,11 +100,10 @@ impl GPT {
         }
     }
 
-    /// The greatest multiple of `align`, in sectors, that an aligned slot has room for. It may be 0. The
-    /// caller sees to it that `align` is above 0.
+    /// Returns the largest multiple of `align`, in sectors, that an aligned slot has room for. It may be 0.
+    /// `align` must be above 0.
     ///
-    /// `NoSpaceLeft` exactly where there is no aligned slot, unless `OutOfMemory`, where there is no
-    /// memory to tell, comes in its stead.
+    /// `NoSpaceLeft` if there is no aligned slot, `OutOfMemory` if an allocation fails.
     pub fn get_maximum_partition_size(&self) -> Result<u64>
         requires { 0 < self.now.align }
         ensures refused { IfErr result (λ e. (fault_of e ≡ no_space_left) ⊎ (fault_of e ≡ out_of_memory)) }

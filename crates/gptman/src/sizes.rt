@@ -1,4 +1,4 @@
-//! Sizes in bytes, and the usual number of entries.
+//! Sizes in bytes, and the default number of entries.
 
 ghost use Rattle.std.specs.Prelude.{◌≡◌, length};
 
@@ -10,13 +10,13 @@ pub const HEADER_SIZE: u32 = 92;
 /// The size of an entry.
 pub const ENTRY_SIZE: u32 = 128;
 
-/// How many entries a new table has, unless the caller gives a number.
+/// The number of entries of a new table, unless the caller chooses another.
 pub const DEFAULT_ENTRY_COUNT: u32 = 128;
 
-/// The sizes of sectors that disks have.
+/// The sector sizes that disks have.
 pub const SECTOR_SIZES: [u64; 4] = [512, 1024, 2048, 4096];
 
-/// Does nothing. A caller learns from it how long the first two fields of a header are.
+/// Does nothing. Its contract states the lengths of the first two fields of a header.
 pub(crate) fn note_sizes(header: &GPTHeader)
     ensures signature { length header.now.signature ≡ 8 }
     ensures revision { length header.now.revision ≡ 4 }

@@ -1,4 +1,4 @@
-//! The table: a header with its entries, of which a disk holds two copies.
+//! The table: a header and its entries. A disk holds two copies of it.
 
 ghost use Rattle.std.specs.Prelude.{◌≡◌, ◌↔◌, ◌<◌, ◌^◌, [], length, vec_len, IsTrue, IsOk, IfOk, IfErr};
 ghost use Rattle.std.specs.Borrow.{sem};
@@ -26,25 +26,24 @@ mod read;
 mod sort;
 mod write;
 
-/// A GUID partition table: a header, its entries, and how they are to be placed on a disk.
+/// A GUID partition table: a header, its entries, and how they are placed on a disk.
 #[derive(Drop, PartialEq, Eq, Debug)]
 pub struct GPT {
-    /// The size of a sector in bytes. The format does not keep it.
+    /// The size of a sector in bytes. It is not stored on the disk.
     pub sector_size: u64,
-    /// The header of the copy that this value stands for: the one that was read, or the primary one of
-    /// a new table.
+    /// The header of the own copy: the copy that was read, or the primary one of a new table.
     pub header: GPTHeader,
     pub(crate) partitions: Entries,
-    /// Partitions are offered places at multiples of so many sectors. It is no field of the format: a
-    /// new table has 2048, and one that was read has what its partitions begin at multiples of.
+    /// The alignment of the places offered to new partitions, in sectors. It is not stored on the disk: a new
+    /// table has 2048, and a read derives it from the starts of the partitions.
     pub align: u64,
 }
 
 impl GPT {
-    /// A table of these parts, none of which is tested: `is_coherent` tells whether the header says what
-    /// the list is, `check_write` whether the table may be written. It takes no memory.
+    /// Returns a table of these parts, without testing them or allocating. `is_coherent` reports whether the
+    /// header describes the list, `check_write` whether the table may be written.
     ///
-    /// The caller sees to it that there are fewer than 2^32 entries.
+    /// There must be fewer than 2^32 entries.
     pub fn from_parts(
         sector_size: u64,
         header: GPTHeader,
@@ -65,8 +64,8 @@ impl GPT {
         }
     }
 
-    /// Whether the header says what the list is: its size is 92, it counts as many entries as there
-    /// are, and their size is 128 or there are none.
+    /// Reports whether the header describes the list: its size is 92, its count the number of entries, and its
+    /// entry size 128 unless there are none.
     pub fn is_coherent(&self) -> bool
         ensures { IsTrue result ↔ IsCoherent self.now.header (entries_in self.now) }
     {
@@ -77,23 +76,23 @@ impl GPT {
             && (header.size_of_partition_entry == ENTRY_SIZE || count == 0)
     }
 
-    /// Whether the header is that of the primary copy.
+    /// Reports whether the header is that of the primary copy.
     pub fn is_primary(&self) -> bool
         ensures { IsTrue result ↔ (self.now.header.primary_lba ≡ 1) }
     {
         self.header.is_primary()
     }
 
-    /// Whether the header is that of the backup copy.
+    /// Reports whether the header is that of the backup copy.
     pub fn is_backup(&self) -> bool
         ensures { IsTrue result ↔ (¬ (self.now.header.primary_lba ≡ 1)) }
     {
         self.header.is_backup()
     }
 
-    /// The same table again.
+    /// Returns a copy of the table.
     ///
-    /// `OutOfMemory` where there is no memory for its entries. A table of none takes no memory.
+    /// `OutOfMemory` if its entries cannot be allocated. A table without entries needs no memory.
     pub fn clone(&self) -> Result<GPT>
         ensures ok { IfOk result (λ g. g ≡ self.now) }
         ensures refused { IfErr result (λ e. fault_of e ≡ out_of_memory) }
@@ -107,7 +106,7 @@ impl GPT {
         })
     }
 
-    /// The entries in order, each with its number, which counts from 1.
+    /// Returns an iterator over the entries in order, each with its number, from 1.
     #[tactic(auto, using(crate::proofs::Numbering::length_numbered))]
     pub fn iter(&self) -> Iter<'_>
         ensures items { result ≡ enumerate_from 1 (entries_in self.now) }
@@ -117,8 +116,8 @@ impl GPT {
         Iter::new(self.partitions.as_slice())
     }
 
-    /// The entries in order, each for writing and with its number, which counts from 1. The length of
-    /// the list and all else stay.
+    /// Returns a mutable iterator over the entries in order, each with its number, from 1. The length of the
+    /// list cannot change.
     pub fn iter_mut(&mut self) -> IterMut<'_>
         ensures* writes_back { sem 𝓛 (LendsIter self.entry result) }
         ensures items { items_left result ≡ enumerate_from 1 (entries_in self.old) }
@@ -127,7 +126,7 @@ impl GPT {
         IterMut::new(entries)
     }
 
-    // The entries, for writing.
+    // Returns the entries as a mutable slice.
     fn entries_mut(&mut self) -> &mut [GPTPartitionEntry]
         ensures* writes_back { sem 𝓛 (LendsEntries self.entry result) }
         ensures items { result.now ≡ entries_in self.old }

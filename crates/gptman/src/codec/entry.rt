@@ -1,4 +1,4 @@
-//! The 128 bytes of a partition entry: five fields and the 36 units of a name, each at its place.
+//! The 128 bytes of a partition entry: five fields, and the 36 units of a name.
 
 ghost use Rattle.std.specs.Prelude.{◌≡◌, ℕ, ◌^◌, ◌<◌, [], length, flat_map, slice_index, IfOk, IfErr, IsOk};
 ghost use Rattle.byteorder.specs.Endian.{little_bytes};
@@ -17,17 +17,17 @@ use byteorder::{ByteOrder, LittleEndian};
 use std::alloc::Global;
 use std::ops::RangeInclusive;
 
-/// An entry of the table: a partition, or room for one that is not used. The fields follow one another
-/// with no gap in the 128 bytes of the format's partition entry.
+/// An entry of the table: a partition, or an unused entry. The fields fill the 128 bytes of the format's
+/// partition entry, in this order and without gaps.
 ///
-/// Sectors are counted from 0. All numbers are little endian on the disk. Each field begins with its name
-/// in the UEFI specification.
+/// Sectors count from 0. Numbers are little endian on the disk. The comment of a field begins with its UEFI
+/// name.
 #[derive(Drop, PartialEq, Eq, Debug)]
 pub struct GPTPartitionEntry {
-    /// `PartitionTypeGUID`: the type of the partition, a GUID as its 16 bytes stand on the disk. All zero
-    /// means that the entry is not used.
+    /// `PartitionTypeGUID`: the GUID of the partition's type, 16 bytes in their order on the disk; all zero in
+    /// an unused entry.
     pub partition_type_guid: [u8; 16],
-    /// `UniquePartitionGUID`: the GUID of this partition alone, as its 16 bytes stand on the disk.
+    /// `UniquePartitionGUID`: the GUID of this partition, 16 bytes in their order on the disk.
     pub unique_partition_guid: [u8; 16],
     /// `StartingLBA`: the first sector of the partition.
     pub starting_lba: u64,
@@ -40,7 +40,7 @@ pub struct GPTPartitionEntry {
 }
 
 impl GPTPartitionEntry {
-    /// The unused entry, 128 zero bytes on the disk. It takes no memory.
+    /// Returns the unused entry, 128 zero bytes on the disk, without allocating.
     pub fn empty(alloc: Global) -> GPTPartitionEntry
         ensures { result ≡ empty_entry }
     {
@@ -54,10 +54,9 @@ impl GPTPartitionEntry {
         }
     }
 
-    /// The entry that the 128 bytes hold, each field at its place in the format's layout of an entry.
-    /// The name has the text of its units.
+    /// Decodes an entry from the 128 bytes of the format. The text of the name is decoded from its units.
     ///
-    /// `OutOfMemory` where there is no memory for the text. An empty name takes none.
+    /// `OutOfMemory` if the text cannot be allocated. An empty name needs no memory.
     pub fn decode(alloc: Global, bytes: &[u8; 128]) -> Result<Self>
         ensures coding { IfOk result (λ e. IsEntryCoding e bytes.now) }
         ensures name { IfOk result (λ e. HasReadName e) }
@@ -75,8 +74,8 @@ impl GPTPartitionEntry {
         })
     }
 
-    /// The entry as the 128 bytes of the format's layout, each field at its place. Of the name its 36
-    /// units alone are kept.
+    /// Encodes the entry as the 128 bytes of the format. Only the 36 units of the name are stored, not its
+    /// text.
     pub fn encode(&self) -> [u8; 128]
         ensures spelled { result ≡ entry_bytes self.now }
         ensures coding { IsEntryCoding self.now result }
@@ -94,23 +93,23 @@ impl GPTPartitionEntry {
         bytes
     }
 
-    /// Whether the entry is not used: its type is all zero.
+    /// Reports whether the entry is unused: its type GUID is all zero.
     pub fn is_unused(&self) -> bool
         ensures { result ≡ is_unused self.now }
     {
         LittleEndian::read_u128(&self.partition_type_guid) == 0
     }
 
-    /// Whether the entry is used: its type is not all zero.
+    /// Reports whether the entry is used: its type GUID is not all zero.
     pub fn is_used(&self) -> bool
         ensures { result ≡ is_used self.now }
     {
         !self.is_unused()
     }
 
-    /// How many sectors the partition has, used or not.
+    /// Returns the length of the partition in sectors, whether the entry is used or not.
     ///
-    /// `InvalidPartitionBoundaries` where it ends before it starts, `Overflow` where it has 2^64.
+    /// `InvalidPartitionBoundaries` if it ends before it starts, `Overflow` if the length is 2^64.
     pub fn size(&self) -> Result<u64>
         ensures { answer_of (λ n. n) result ≡ size_of self.now }
     {
@@ -123,10 +122,9 @@ impl GPTPartitionEntry {
         }
     }
 
-    /// The sectors of the partition, from the first to the last.
+    /// Returns the sectors of the partition, from the first to the last.
     ///
-    /// `UnusedPartition` where the entry is not used, then `InvalidPartitionBoundaries` where it ends
-    /// before it starts.
+    /// `UnusedPartition` if the entry is unused, else `InvalidPartitionBoundaries` if it ends before it starts.
     pub fn range(&self) -> Result<RangeInclusive<u64>>
         ensures { answer_of ends_of result ≡ sectors_of self.now }
     {
@@ -139,9 +137,9 @@ impl GPTPartitionEntry {
         Ok(self.starting_lba..=self.ending_lba)
     }
 
-    /// The same entry again.
+    /// Returns a copy of the entry.
     ///
-    /// `OutOfMemory` where there is no memory for the text of the name. An empty name takes none.
+    /// `OutOfMemory` if the text of the name cannot be allocated. An empty text needs no memory.
     pub fn clone(&self) -> Result<Self>
         ensures ok { IfOk result (λ e. e ≡ self.now) }
         ensures refused { IfErr result (λ e. fault_of e ≡ out_of_memory) }
@@ -154,7 +152,7 @@ impl GPTPartitionEntry {
     }
 }
 
-// The 36 units from byte 56 on.
+// Decodes the 36 units at byte 56.
 fn units_in(bytes: &[u8; 128]) -> [u16; 36]
     ensures { result ≡ units_at bytes.now }
 {
@@ -165,7 +163,7 @@ fn units_in(bytes: &[u8; 128]) -> [u16; 36]
     units
 }
 
-// The units as bytes, two for each.
+// Encodes the units, two bytes each.
 fn bytes_of(units: &[u16; 36]) -> [u8; 72]
     ensures bytes { result ≡ flat_map (little_bytes 2) units.now }
     ensures in_range { (k : ℕ) → slice_index units.now k < 2 ^ 16 }

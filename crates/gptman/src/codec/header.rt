@@ -1,4 +1,4 @@
-//! The 92 bytes of a header: fourteen fields, each at its place.
+//! The 92 bytes of a header: fourteen fields.
 
 ghost use Rattle.std.specs.Prelude.{◌≡◌};
 ghost use Rattle.gptman_disk.specs.Bytes.{AreBytes};
@@ -6,11 +6,11 @@ ghost use Rattle.gptman.specs.Coding.{FitsHeader, IsHeaderCoding, header_bytes};
 
 use crate::cells::{note_bytes, part_at, put, put_u32, put_u64, u32_at, u64_at};
 
-/// The header of a GUID partition table, field by field as the format lays it out in 92 bytes: in
-/// sector 1, and once more in the last sector. The fields follow one another with no gap.
+/// The header of one copy of a GUID partition table: the first 92 bytes of sector 1 or, in the backup copy, of
+/// the last whole sector. The fields fill them in this order and without gaps.
 ///
-/// Sectors are counted from 0. All numbers are little endian on the disk. Each field begins with its name
-/// in the UEFI specification.
+/// Sectors count from 0. Numbers are little endian on the disk. The comment of a field begins with its UEFI
+/// name.
 #[derive(Clone, Copy, PartialEq, Eq, Debug)]
 pub struct GPTHeader {
     /// `Signature`: the text "EFI PART".
@@ -19,9 +19,9 @@ pub struct GPTHeader {
     pub revision: [u8; 4],
     /// `HeaderSize`: the size of the header, 92 bytes.
     pub header_size: u32,
-    /// `HeaderCRC32`: the CRC-32 of the header's 92 bytes, with these four bytes taken as zero.
+    /// `HeaderCRC32`: the CRC-32 of the header's 92 bytes, computed with these four bytes as zero.
     pub crc32_checksum: u32,
-    /// `Reserved`: four bytes with no meaning, zero in a new header. They are kept as they were read.
+    /// `Reserved`: four bytes without a meaning, zero in a new header and otherwise preserved.
     pub reserved: [u8; 4],
     /// `MyLBA`: the sector of this header.
     pub primary_lba: u64,
@@ -31,21 +31,20 @@ pub struct GPTHeader {
     pub first_usable_lba: u64,
     /// `LastUsableLBA`: the last sector that a partition may use.
     pub last_usable_lba: u64,
-    /// `DiskGUID`: the GUID of the disk, as its 16 bytes stand on it.
+    /// `DiskGUID`: the GUID of the disk, 16 bytes in their order on the disk.
     pub disk_guid: [u8; 16],
     /// `PartitionEntryLBA`: the first sector of this copy's entries.
     pub partition_entry_lba: u64,
-    /// `NumberOfPartitionEntries`: how many entries there are, the unused ones included.
+    /// `NumberOfPartitionEntries`: the number of entries, used or not.
     pub number_of_partition_entries: u32,
-    /// `SizeOfPartitionEntry`: the size of an entry in bytes, 128 (or any where there is no entry).
+    /// `SizeOfPartitionEntry`: the size of an entry in bytes, 128 (any value if there are no entries).
     pub size_of_partition_entry: u32,
     /// `PartitionEntryArrayCRC32`: the CRC-32 of the bytes of all entries, in order.
     pub partition_entry_array_crc32: u32,
 }
 
 impl GPTHeader {
-    /// The header that the 92 bytes hold, each field at its place in the format's layout of a header.
-    /// No value is tested: `read_from` does that.
+    /// Decodes a header from the 92 bytes of the format. No value is tested; `read_from` does that.
     pub fn decode(bytes: &[u8; 92]) -> Self
         ensures coding { IsHeaderCoding result bytes.now }
         ensures spelled { bytes.now ≡ header_bytes result }
@@ -68,8 +67,8 @@ impl GPTHeader {
         }
     }
 
-    /// The header as the 92 bytes of the format's layout, each field at its place. No checksum is made.
-    /// `decode` of them is this header again.
+    /// Encodes the header as the 92 bytes of the format, from which `decode` returns this header again. No
+    /// checksum is computed.
     pub fn encode(&self) -> [u8; 92]
         ensures spelled { result ≡ header_bytes self.now }
         ensures coding { IsHeaderCoding self.now result }

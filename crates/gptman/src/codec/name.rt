@@ -1,4 +1,4 @@
-//! The name of a partition: a text, and the 36 units of UTF-16 that stand on the disk.
+//! The name of a partition: a text, and the 36 units of UTF-16 on the disk.
 
 ghost use Rattle.std.specs.Prelude.{◌≡◌, ℕ, List, [], ◌∷◌, ◌++◌, nat_eq, IfOk, IfErr, IsOk, Some};
 ghost use Rattle.std.specs.Prelude.{encode_utf8_all, position, replicate, string_bytes};
@@ -16,11 +16,10 @@ use std::fmt;
 use std::fmt::{Display, Formatter, Write};
 use std::marker::Model;
 
-/// The name of a partition. The format keeps it as 36 units of UTF-16, 72 bytes, padded with zeros.
+/// The name of a partition. The format stores it as 36 units of UTF-16 (72 bytes), padded with zeros.
 ///
-/// A name that was made from a text keeps the whole text, also where it is longer than the 36 units
-/// that the disk has room for. A name that was read has the units as they stood on the disk, and as
-/// its text what stands before the first zero unit.
+/// A name made from a text keeps the whole text, even if it is longer than 36 units. A name read from a disk
+/// keeps its units, and has the text before the first zero unit.
 #[derive(Drop, Debug)]
 pub struct PartitionName {
     text: String,
@@ -37,9 +36,9 @@ impl Model for PartitionName {
 }
 
 impl PartitionName {
-    /// The name with this text. Its units are the first 36 of the text, padded with zeros.
+    /// Returns the name with this text. Its units are the first 36 of the text, padded with zeros.
     ///
-    /// `OutOfMemory` where there is no memory for the text. An empty text takes none.
+    /// `OutOfMemory` if the text cannot be allocated. An empty text needs no memory.
     pub fn new(alloc: Global, text: &str) -> Result<Self>
         ensures text { IfOk result (λ n. n.text ≡ text.now) }
         ensures units { IfOk result (λ n. n.units ≡ units_of (chars text.now)) }
@@ -57,7 +56,7 @@ impl PartitionName {
         })
     }
 
-    /// The name with no text. It takes no memory.
+    /// Returns the empty name, without allocating.
     pub(crate) fn empty(alloc: Global) -> Self
         ensures text { result.text ≡ [] }
         ensures units { result.units ≡ replicate 36 0 }
@@ -68,10 +67,10 @@ impl PartitionName {
         }
     }
 
-    /// The name that is read from these units, which are kept as they are. Its text is what stands before
-    /// the first zero, where a surrogate that is in no pair gives U+FFFD.
+    /// Returns the name with these units. Its text is decoded from the units before the first zero; an unpaired
+    /// surrogate becomes U+FFFD.
     ///
-    /// `OutOfMemory` where there is no memory for the text. An empty text takes none.
+    /// `OutOfMemory` if the text cannot be allocated. An empty text needs no memory.
     pub fn from_units(alloc: Global, units: [u16; 36]) -> Result<Self>
         ensures units { IfOk result (λ n. n.units ≡ units) }
         ensures text { IfOk result (λ n. n.text ≡ encode_utf8_all (text_of units)) }
@@ -82,23 +81,23 @@ impl PartitionName {
         Ok(PartitionName { text, units })
     }
 
-    /// The text.
+    /// Returns the text.
     pub fn as_str(&self) -> &str
         ensures { result.now ≡ self.now.text }
     {
         self.text.as_str()
     }
 
-    /// The 36 units of UTF-16 that stand on the disk.
+    /// Returns the 36 units of UTF-16 that are on the disk.
     pub fn units(&self) -> &[u16; 36]
         ensures { result.now ≡ self.now.units }
     {
         &self.units
     }
 
-    /// The same name again.
+    /// Returns a copy of the name.
     ///
-    /// `OutOfMemory` where there is no memory for the text. An empty text takes none.
+    /// `OutOfMemory` if the text cannot be allocated. An empty text needs no memory.
     pub fn clone(&self) -> Result<Self>
         ensures ok { IfOk result (λ n. n ≡ self.now) }
         ensures refused { IfErr result (λ e. fault_of e ≡ out_of_memory) }
@@ -111,7 +110,7 @@ impl PartitionName {
     }
 }
 
-/// The text alone, whatever width or fill is asked for.
+/// Writes the text, ignoring the width and fill of the format.
 impl Display for PartitionName {
     ghost output = { λ n. Some n.text };
 
@@ -120,7 +119,7 @@ impl Display for PartitionName {
     }
 }
 
-/// Names are equal where both their texts and their units are.
+/// Names are equal if both their texts and their units are.
 impl PartialEq for PartitionName {
     ghost eq = { name_eq };
 
@@ -135,7 +134,7 @@ impl Eq for PartitionName {
     ghost laws = { name_equiv };
 }
 
-// The text again. An empty one takes no memory.
+// Copies the text. An empty text needs no memory.
 fn copied(alloc: Global, text: &str) -> std::result::Result<String, AllocError>
     ensures ok { IfOk result (λ copy. string_bytes copy ≡ text.now) }
     ensures empty { text.now ≡ [] → IsOk result }
@@ -145,7 +144,7 @@ fn copied(alloc: Global, text: &str) -> std::result::Result<String, AllocError>
     Ok(copy)
 }
 
-// The text of these units. No units take no memory.
+// Decodes the units. An empty slice needs no memory.
 fn text_of_units(alloc: Global, units: &[u16]) -> std::result::Result<String, AllocError>
     ensures ok { IfOk result (λ text. string_bytes text ≡ encode_utf8_all (utf16_lossy_chars units.now)) }
     ensures empty { utf16_lossy_chars units.now ≡ [] → IsOk result }
@@ -156,14 +155,14 @@ fn text_of_units(alloc: Global, units: &[u16]) -> std::result::Result<String, Al
     String::from_utf16_lossy(alloc, units)
 }
 
-// Where the first zero is.
+// Returns the index of the first zero.
 fn first_zero(units: &[u16]) -> Option<usize>
     ensures { result ≡ position (λ u. nat_eq u 0) units.now }
 {
     units.iter().position(|unit| *unit == 0)
 }
 
-// The units before the first zero.
+// Returns the units before the first zero.
 fn before_zero(units: &[u16]) -> &[u16]
     ensures { result.now ≡ before_first (λ u. nat_eq u 0) units.now }
 {
@@ -173,7 +172,7 @@ fn before_zero(units: &[u16]) -> &[u16]
     }
 }
 
-// One unit more, where there is room. Answers how many there are now.
+// Appends a unit if there is room, and returns the new length.
 fn add_unit(units: &mut [u16; 36], len: usize, unit: u16) -> usize
     ensures { (us : List ℕ) → HasUnits units.old len us → HasUnits units.new result (us ++ unit ∷ []) }
 {
@@ -185,7 +184,7 @@ fn add_unit(units: &mut [u16; 36], len: usize, unit: u16) -> usize
     }
 }
 
-// The units of one character more, as far as there is room. Answers how many there are now.
+// Appends the units of a character that there is room for, and returns the new length.
 fn add_char(units: &mut [u16; 36], mut len: usize, c: char) -> usize
     ensures { (us : List ℕ) → HasUnits units.old len us → HasUnits units.new result (us ++ encode_utf16 c) }
 {

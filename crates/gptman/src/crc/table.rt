@@ -1,7 +1,6 @@
-//! The tables of the checksum: a word for each byte and each count of bytes behind it.
+//! The tables of the checksum: a word for each byte and each number of bytes after it.
 
-/// Table k tells what 8 (k + 1) steps of the register make of each byte, in order of the bytes: the byte
-/// itself is taken in and k zero bytes behind it.
+/// Table k has, for each byte, the register 8 (k + 1) steps later: after the byte itself and k zero bytes.
 pub(crate) const TABLES: [[u32; 256]; 8] = [
     [
         0x00000000, 0x77073096, 0xee0e612c, 0x990951ba, 0x076dc419, 0x706af48f, 0xe963a535,

@@ -1,7 +1,7 @@
-//! Reading one copy: the header and its entries, with the tests that tell a good copy.
+//! Reads one copy, the header and its entries, and tests it.
 //!
-//! Entries come in blocks of up to 32, in a fixed array. No memory is asked for by the count that
-//! the header gives.
+//! Entries are read in blocks of up to 32, into a fixed array. Nothing is allocated according to the header's
+//! count.
 
 ghost use Rattle.std.specs.Prelude.{◌≡◌, ◌≢◌, ◌≤◌, ◌<◌, ◌+◌, ◌*◌, ◌⊎◌, ◌++◌, ℕ, List, [], length};
 ghost use Rattle.std.specs.Prelude.{IfOk, IfErr, OnOk, OnErr};
@@ -33,10 +33,11 @@ use crate::sizes::{ENTRY_SIZE, HEADER_SIZE};
 use std::alloc::Global;
 
 impl GPTHeader {
-    /// The header in the 92 bytes at the disk's position, which then is behind them.
+    /// Reads the header in the 92 bytes at the disk's position, and advances the position.
     ///
-    /// The first test that fails names the error: `Io` where the disk failed or ends before, then
-    /// `InvalidSignature`, `InvalidRevision`, `InvalidHeaderSize`, `InvalidChecksum`.
+    /// # Errors
+    /// The first test that fails: `Io` if the disk fails or ends before, then `InvalidSignature`,
+    /// `InvalidRevision`, `InvalidHeaderSize`, `InvalidChecksum`.
     pub fn read_from<D: Disk>(disk: &mut D) -> Result<GPTHeader>
         ensures reads { Reads (D.state disk.old) (D.state disk.new) }
         ensures counts { CountsFailure result (D.state disk.old) (D.state disk.new) }
@@ -53,7 +54,7 @@ impl GPTHeader {
         GPTHeader::decode(&bytes).test()
     }
 
-    // The header, where its values pass the tests.
+    // Returns the header if its values pass the tests.
     fn test(self) -> Result<GPTHeader>
         ensures answer { answer_of (λ h. h) result
             ≡ unless (first_failing (value_tests self (header_bytes self))) self }
@@ -77,14 +78,15 @@ impl GPTHeader {
         Ok(self)
     }
 
-    /// The entries of this header, 128 bytes each, from byte `partition_entry_lba * sector_size` of the
-    /// disk on, all of them. The sector size is in bytes, and above 0. The list grows as the entries come.
+    /// Reads all entries of this header: 128 bytes each, from byte `partition_entry_lba * sector_size` of the
+    /// disk on. `sector_size` is in bytes, and must be above 0. The list grows as entries are read.
     ///
-    /// The first test that fails names the error: `InvalidPartitionEntrySize` (not where there is no
-    /// entry), `Overflow` where that byte's number does not fit in 64 bits, `Io` where the disk failed
-    /// or ends before, `InvalidPartitionEntryArrayChecksum`; `OutOfMemory` at any growth of the list.
-    /// Entries that the header counts past the end of the disk are refused before any is read, and no
-    /// memory is taken for them; nor is any where it counts none.
+    /// # Errors
+    /// The first test that fails: if there are entries, `InvalidPartitionEntrySize`, `Overflow` if that byte
+    /// does not fit in 64 bits, `Io` if the disk fails or ends before the last entry; then
+    /// `InvalidPartitionEntryArrayChecksum`. If the header counts entries past the end of the disk, none is
+    /// read and nothing is allocated. `OutOfMemory` if the list or a name cannot be allocated, but not without
+    /// entries.
     pub fn read_partitions<D: Disk>(
         &self,
         alloc: Global,
@@ -120,7 +122,7 @@ impl GPTHeader {
         Ok(array.partitions)
     }
 
-    // Goes to the first byte of the entries, where there are some and the disk has them all.
+    // Seeks to the first entry, if there are entries and the disk has them all.
     fn seek_entries<D: Disk>(&self, disk: &mut D, sector_size: u64) -> Result<()>
         ensures reads { Reads (D.state disk.old) (D.state disk.new) }
         ensures counts { CountsFailure result (D.state disk.old) (D.state disk.new) }
@@ -151,11 +153,11 @@ impl GPTHeader {
 }
 
 impl GPTPartitionEntry {
-    /// The entry in the 128 bytes at the disk's position, which then is behind them. The name has the
-    /// text of its units. No value is tested.
+    /// Reads the entry in the 128 bytes at the disk's position, and advances the position. The text of the name
+    /// is decoded from its units. No value is tested.
     ///
-    /// `Io` where the disk failed or ends before, `OutOfMemory` where there is no memory for the text.
-    /// The bytes are read before any memory is taken, and an empty name takes none.
+    /// `Io` if the disk fails or ends before, `OutOfMemory` if the text cannot be allocated. The bytes are read
+    /// before anything is allocated, and an empty name needs no memory.
     pub fn read_from<D: Disk>(alloc: Global, disk: &mut D) -> Result<GPTPartitionEntry>
         ensures reads { Reads (D.state disk.old) (D.state disk.new) }
         ensures counts { CountsFailure result (D.state disk.old) (D.state disk.new) }
@@ -177,14 +179,14 @@ impl GPTPartitionEntry {
     }
 }
 
-// Entries that were read, with the checksum of their bytes.
+// Entries that were read, and the checksum of their bytes.
 #[derive(Drop)]
 struct EntryArray {
     partitions: Vec<GPTPartitionEntry>,
     checksum: u32,
 }
 
-// So many entries from the disk's position on.
+// Reads `count` entries at the disk's position.
 fn read_array<D: Disk>(alloc: Global, disk: &mut D, count: u32) -> Result<EntryArray>
     ensures reads { Reads (D.state disk.old) (D.state disk.new) }
     ensures counts { CountsFailure result (D.state disk.old) (D.state disk.new) }
@@ -222,8 +224,7 @@ fn read_array<D: Disk>(alloc: Global, disk: &mut D, count: u32) -> Result<EntryA
     })
 }
 
-// Up to 32 entries more from the disk's position on, behind those of the list. Their bytes go through
-// this buffer.
+// Reads up to 32 entries at the disk's position, through the buffer `bytes`, and appends them to the list.
 fn read_block<D: Disk>(
     alloc: Global,
     disk: &mut D,
@@ -252,7 +253,7 @@ fn read_block<D: Disk>(
     decode_block(alloc, block, count, partitions)
 }
 
-// The entries that the bytes hold, behind those of the list.
+// Decodes `count` entries, and appends them to the list.
 fn decode_block(
     alloc: Global,
     bytes: &[u8],

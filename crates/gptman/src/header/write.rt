@@ -1,4 +1,4 @@
-//! Writing one copy: the header with both checksums, then its entries in blocks of up to 32.
+//! Writes one copy: the header with both checksums, then its entries in blocks of up to 32.
 
 ghost use Rattle.std.specs.Prelude.{◌≡◌, ◌≤◌, ◌<◌, ◌+◌, ◌*◌, ◌⊎◌, ◌∷◌, [], nat_eq, if◌then◌else◌, length};
 ghost use Rattle.std.specs.Prelude.{take};
@@ -27,18 +27,17 @@ use crate::error::{Error, Result};
 use std::io;
 
 impl GPTHeader {
-    /// Makes both checksums, and writes the header at byte `primary_lba * sector_size` and then the
-    /// entries from byte `partition_entry_lba * sector_size` on. The sector size is in bytes. Nothing
-    /// is synced, and no memory is taken.
+    /// Computes both checksums, and writes the header at byte `primary_lba * sector_size`, then the entries
+    /// from byte `partition_entry_lba * sector_size` on. Does not sync or allocate.
     ///
-    /// The caller sees to it that the sector size is above 0, and that header and entries are coherent:
-    /// the header counts as many as there are, and gives their size as 128 unless there are none, and
-    /// its own as 92.
+    /// `sector_size` is in bytes, and must be above 0. The header must describe the entries: its size is 92,
+    /// its count their number, and its entry size 128 unless there are none.
     ///
-    /// `Overflow` where one of the two ranges does not fit in 64 bits, then `Io` where the disk failed,
-    /// then `NoSpaceLeft` where one ends past the disk; nothing is changed then but for the position.
-    /// `Io` also where a write failed: then at most the two checksums of the header changed, and
-    /// nothing was written, or the header's range is not synced.
+    /// # Errors
+    /// `Overflow` if one of the two ranges does not fit in 64 bits, then `Io` if the disk's length cannot be
+    /// determined, then `NoSpaceLeft` if a range ends past the disk. So far at most the disk's position has
+    /// changed. Then `Io` if a write fails: at most the header's two checksums have changed, and nothing was
+    /// written or the header's range is unsynced.
     pub fn write_into<D: Disk>(
         &mut self,
         disk: &mut D,
@@ -51,20 +50,21 @@ impl GPTHeader {
         ensures counts { CountsFailure result (D.state disk.old) (D.state disk.new) }
         ensures once { HasFailedOnceAtMost (D.state disk.old) (D.state disk.new) }
 
-        // What is answered.
+        // The result: `Io` only if the disk failed.
         ensures at_once { copy_write_fault self.old sector_size (D.state disk.old).size ≡ Some overflow
             → Refuses result overflow }
         ensures answer { Settles (copy_write_fault self.old sector_size (D.state disk.old).size) result
             (D.state disk.old) (D.state disk.new) }
         ensures cause { HasCause result (D.state disk.old) (D.state disk.new) }
 
-        // What becomes of the header.
+        // The header: it has both checksums after `Ok`, and is unchanged after an error other than `Io`.
         ensures value { OnOk result (self.new ≡ with_checksums self.old partitions.now) }
         ensures fits { OnOk result (FitsCopy self.new partitions.now) }
         ensures kept { IfErr result (λ e. (fault_of e ≡ io_fault) ⊎ (self.new ≡ self.old)) }
         ensures sums { SameButSums self.old self.new }
 
-        // What becomes of the disk.
+        // The disk: the copy is written and unsynced after `Ok`, and nothing is written after an error other
+        // than `Io`.
         ensures wrote { Writes (copy_ranges self.old sector_size) (D.state disk.old) (D.state disk.new) }
         ensures laid { LaysCopy self.new partitions.now sector_size result
             (D.state disk.old) (D.state disk.new) }
@@ -86,7 +86,7 @@ impl GPTHeader {
         Ok(())
     }
 
-    /// The header of the other copy, unless its first entry sector does not fit in 64 bits.
+    /// Returns the header of the other copy, or `None` if its first entry sector does not fit in 64 bits.
     pub fn other(&self) -> Option<GPTHeader>
         ensures { MatchOption result (has_other_header self.now ≡ false)
             (λ h. (has_other_header self.now ≡ true) × (h ≡ other_header self.now)) }
@@ -104,14 +104,14 @@ impl GPTHeader {
         })
     }
 
-    /// Whether the ranges of this copy, its header and its entries, start and end below byte 2^64.
+    /// Reports whether the ranges of this copy, its header and its entries, start and end below byte 2^64.
     pub fn is_addressable(&self, sector_size: u64) -> bool
         ensures { result ≡ list_all is_range_addressable (copy_ranges self.now sector_size) }
     {
         self.end_of_header(sector_size) < 1 << 64 && self.end_of_entries(sector_size) < 1 << 64
     }
 
-    /// Whether the ranges of this copy end within so many bytes.
+    /// Reports whether the ranges of this copy end within `size` bytes.
     pub fn is_inside(&self, sector_size: u64, size: u64) -> bool
         ensures { result ≡ list_all (is_range_inside size) (copy_ranges self.now sector_size) }
     {
@@ -119,14 +119,14 @@ impl GPTHeader {
             && self.end_of_entries(sector_size) <= u128::from(size)
     }
 
-    // The byte behind the header.
+    // Returns the byte after the header.
     fn end_of_header(&self, sector_size: u64) -> u128
         ensures { result ≡ self.now.primary_lba * sector_size + 92 }
     {
         u128::from(self.primary_lba) * u128::from(sector_size) + 92
     }
 
-    /// The byte behind the entries, or 0 where there are none.
+    /// Returns the byte after the entries, or 0 if there are none.
     pub(crate) fn end_of_entries(&self, sector_size: u64) -> u128
         ensures { result ≡ (if nat_eq self.now.number_of_partition_entries 0 then 0
             else self.now.partition_entry_lba * sector_size + 128 * self.now.number_of_partition_entries) }
@@ -139,15 +139,14 @@ impl GPTHeader {
     }
 }
 
-/// Makes both checksums of the header, where the one of its entries is this, and writes the header at
-/// byte `primary_lba * sector_size` and then the entries from byte `partition_entry_lba * sector_size`
-/// on. Nothing is synced, and no memory is taken. Two copies with the same entries take one such checksum.
+/// Computes the header's checksum, with `checksum` as that of its entries, and writes the header at byte
+/// `primary_lba * sector_size`, then the entries from byte `partition_entry_lba * sector_size` on. Does not
+/// sync or allocate. Two copies with the same entries share one `checksum`.
 ///
-/// The caller sees to it that header and entries are coherent, as for `GPTHeader::write_into`, and that
-/// both end within the disk.
+/// The header must describe the entries, as for `GPTHeader::write_into`, `checksum` must be that of the
+/// entries, and both ranges must end within the disk.
 ///
-/// An error comes only where the disk failed: then nothing was written, or the header's range is not
-/// synced.
+/// An error is returned only if the disk fails: nothing was written, or the header's range is unsynced.
 pub fn write_summed<D: Disk>(
     disk: &mut D,
     header: &mut GPTHeader,
@@ -179,8 +178,7 @@ pub fn write_summed<D: Disk>(
     write_copy(disk, header, sector_size, partitions)
 }
 
-// Writes the header, then the entries. After an error nothing was written, or the header's range is
-// pending.
+// Writes the header, then the entries. After an error nothing was written, or the header's range is unsynced.
 fn write_copy<D: Disk>(
     disk: &mut D,
     header: &GPTHeader,
@@ -212,7 +210,7 @@ fn write_copy<D: Disk>(
     write_entries(disk, partitions)
 }
 
-// Writes the entries from the disk's position on.
+// Writes the entries at the disk's position.
 fn write_entries<D: Disk>(disk: &mut D, partitions: &[GPTPartitionEntry]) -> io::Result<()>
     requires { HasNext (D.state disk.old) (128 * length partitions.now) }
     ensures keeps { Keeps (D.state disk.old) (D.state disk.new) }
@@ -237,8 +235,7 @@ fn write_entries<D: Disk>(disk: &mut D, partitions: &[GPTPartitionEntry]) -> io:
     Ok(())
 }
 
-// Writes up to 32 entries from the disk's position on, by one call. Their bytes are put into this
-// buffer.
+// Writes up to 32 entries at the disk's position, through the buffer `bytes` and in one call.
 fn write_block<D: Disk>(
     disk: &mut D,
     bytes: &mut [u8; 4096],
@@ -263,7 +260,7 @@ fn write_block<D: Disk>(
     disk.write_all(&bytes[..128 * block.len()])
 }
 
-// Puts the entries' bytes, one after the other, over the first of these.
+// Encodes the entries into the first bytes.
 fn encode_block(bytes: &mut [u8], block: &[GPTPartitionEntry])
     requires { 128 * length block.now ≤ length bytes.old }
     ensures bytes { take (128 * length block.now) bytes.new ≡ array_bytes block.now }

@@ -1,4 +1,4 @@
-//! Aligned slots, by one pass over the covered ranges in order.
+//! Finds aligned slots in one pass over the covered ranges in order.
 
 ghost use Rattle.std.specs.Prelude.{◌<◌, ◌≤◌, ◌+◌, ◌^◌, length, All, IfOk, MatchOption, OnOk};
 ghost use Rattle.std.specs.List.Sorted.{IsNonDecreasingBy};
@@ -8,8 +8,8 @@ ghost use Rattle.gptman.specs.Sweep.{AddsGap, AddsSlot, HasNoMultiple, IsOutside
 use crate::GPTHeader;
 use std::alloc::{AllocError, Global};
 
-/// The aligned slots of the usable sectors outside of the ranges, each as (start, length) in sectors,
-/// by ascending start; and in how many turns of the loop they were found. A range is (first, last).
+/// Returns the aligned slots of the usable sectors outside the ranges, as (start, length) in sectors by
+/// ascending start, and the number of iterations of the loop. A range is (first, last).
 pub(crate) fn sweep(
     alloc: Global,
     header: &GPTHeader,
@@ -25,7 +25,7 @@ pub(crate) fn sweep(
 {
     let mut slots = Vec::new(alloc);
     let mut turns = 0;
-    // No free sector is left up to this one. It starts at 0 at least, so sector 0 is never offered.
+    // Sectors up to this one are done. It is at least 0, so sector 0 is never offered.
     let mut passed = header.first_usable_lba.saturating_sub(1);
     for range in ranges {
         let to = header.last_usable_lba.min(range.0.saturating_sub(1));
@@ -37,7 +37,7 @@ pub(crate) fn sweep(
     Ok((slots, turns))
 }
 
-// Puts the aligned slot of the sectors behind `passed` up to `to` at the end, if there is one.
+// Appends the aligned slot of the sectors after `passed` up to `to`, if there is one.
 fn push_gap(slots: &mut Vec<(u64, u64)>, passed: u64, to: u64, align: u64) -> Result<(), AllocError>
     requires { 0 < align }
     ensures { OnOk result (AddsGap align passed to slots.old.items slots.new.items) }
@@ -48,7 +48,7 @@ fn push_gap(slots: &mut Vec<(u64, u64)>, passed: u64, to: u64, align: u64) -> Re
     Ok(())
 }
 
-// Puts the aligned slot of the sectors `from..=to` at the end, if there is one.
+// Appends the aligned slot of the sectors `from..=to`, if there is one.
 fn push_slot(slots: &mut Vec<(u64, u64)>, from: u64, to: u64, align: u64) -> Result<(), AllocError>
     requires ordered { from ≤ to }
     requires positive { 1 ≤ from }
@@ -61,7 +61,7 @@ fn push_slot(slots: &mut Vec<(u64, u64)>, from: u64, to: u64, align: u64) -> Res
     Ok(())
 }
 
-// The aligned slot of the sectors `from..=to`, as (start, length).
+// Returns the aligned slot of the sectors `from..=to`, as (start, length).
 fn slot_of(from: u64, to: u64, align: u64) -> Option<(u64, u64)>
     requires ordered { from ≤ to }
     requires positive { 1 ≤ from }

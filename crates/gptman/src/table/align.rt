@@ -1,4 +1,4 @@
-//! The alignment that a reading derives from a table's entries.
+//! The alignment that a read derives from a table's entries.
 
 ghost use Rattle.std.specs.Prelude.{◌<◌};
 ghost use Rattle.std.specs.Int.{IsGcd};
@@ -6,15 +6,15 @@ ghost use Rattle.gptman.specs.Alignment.{used_starts, IsAlignmentOf, IsGreatestU
 
 use crate::GPTPartitionEntry;
 
-/// The alignment of a table with no used entry, in sectors.
+/// The alignment of a table without used entries, in sectors.
 pub(crate) const DEFAULT_ALIGN: u64 = 2048;
 
-// The greatest alignment that is derived, in sectors.
+// The largest alignment that is derived, in sectors.
 const MAX_ALIGN: u64 = 16384;
 
-/// The alignment of these entries, in sectors: 2048 where none is used, 1 where the one that is used
-/// starts at the first usable sector or where all start at 0, else the greatest number up to 16384
-/// that divides the start of every used entry.
+/// Returns the alignment of these entries, in sectors: 2048 if none is used, 1 if the only used one starts at
+/// the first usable sector or all start at 0, else the largest number up to 16384 that divides the start of
+/// each used entry.
 pub(crate) fn find_alignment(entries: &[GPTPartitionEntry], first_usable_lba: u64) -> u64
     ensures { IsAlignmentOf first_usable_lba (used_starts entries.now) result }
 {
@@ -37,7 +37,7 @@ pub(crate) fn find_alignment(entries: &[GPTPartitionEntry], first_usable_lba: u6
     }
 }
 
-// The greatest common divisor.
+// Returns the greatest common divisor.
 fn gcd(mut a: u64, mut b: u64) -> u64
     ensures { IsGcd a b result }
 {
@@ -49,7 +49,7 @@ fn gcd(mut a: u64, mut b: u64) -> u64
     a
 }
 
-// The greatest divisor of the number that is no greater than the cap.
+// Returns the largest divisor of the number, up to `MAX_ALIGN`.
 fn capped_divisor(number: u64) -> u64
     requires { 0 < number }
     ensures { IsGreatestUpTo number result }

@@ -1,5 +1,5 @@
-//! The checks of a table before it is written, in O(n log n) for n entries: unique GUIDs by a set,
-//! boundaries by one pass over the entries in order of their start.
+//! Checks a table before it is written, in O(n log n) time for n entries: unique GUIDs with a set, boundaries
+//! in one pass over the entries by ascending start.
 
 ghost use Rattle.std.specs.Prelude.{◌≡◌, ◌≢◌, ◌≤◌, ◌⊎◌, ◌↔◌, All, AllPairs, IfOk, IsTrue, filter_map};
 ghost use Rattle.std.specs.List.Sorted.{IsNonDecreasingBy};
@@ -17,10 +17,12 @@ use crate::{Error, GPTHeader, GPTPartitionEntry, Result};
 use std::alloc::{AllocError, Global};
 use std::collections::BTreeSet;
 
-/// Refuses a table that may not be written: `ConflictPartitionGUID` where two used entries have one
-/// unique GUID, else `InvalidPartitionBoundaries` where an entry ends before it starts, two used ones
-/// share a sector, one lies outside of the usable sectors, or the first usable sector is behind the
-/// one after the last. `OutOfMemory` where there is no memory to tell.
+/// Checks whether a table may be written.
+///
+/// # Errors
+/// `ConflictPartitionGUID` if two used entries have the same unique GUID; else `InvalidPartitionBoundaries` if
+/// an entry ends before it starts, two used ones overlap, one is outside of the usable sectors, or the first
+/// usable sector is above the last one plus 1. `OutOfMemory` if an allocation fails.
 pub(crate) fn check(alloc: Global, header: &GPTHeader, entries: &[GPTPartitionEntry]) -> Result<()>
     ensures { Refuses result out_of_memory ⊎ IsValidity header.now entries.now (refusal_of result) }
 {
@@ -35,7 +37,7 @@ pub(crate) fn check(alloc: Global, header: &GPTHeader, entries: &[GPTPartitionEn
     Ok(())
 }
 
-// Whether any two used entries have different unique GUIDs.
+// Reports whether any two used entries have different unique GUIDs.
 fn have_own_guids(
     alloc: Global,
     entries: &[GPTPartitionEntry],
@@ -46,7 +48,7 @@ fn have_own_guids(
     are_distinct(alloc, &guids)
 }
 
-// The unique GUIDs of the used entries. It takes no memory for the others.
+// Returns the unique GUIDs of the used entries. Only these need memory.
 #[tactic(auto, using(crate::proofs::Taken::one_kept, crate::proofs::Taken::one_left))]
 fn used_guids(
     alloc: Global,
@@ -63,7 +65,7 @@ fn used_guids(
     Ok(guids)
 }
 
-// The unique GUID of an entry that is used.
+// Returns the unique GUID of a used entry.
 fn used_guid(entry: &GPTPartitionEntry) -> Option<[u8; 16]>
     ensures { result ≡ used_guid entry.now }
 {
@@ -74,7 +76,7 @@ fn used_guid(entry: &GPTPartitionEntry) -> Option<[u8; 16]>
     }
 }
 
-// Whether no GUID stands twice in the list.
+// Reports whether no GUID occurs twice.
 fn are_distinct(alloc: Global, guids: &[[u8; 16]]) -> std::result::Result<bool, AllocError>
     ensures { IfOk result (λ distinct. IsTrue distinct ↔ AllPairs (λ a b. a ≢ b) guids.now) }
 {
@@ -82,7 +84,7 @@ fn are_distinct(alloc: Global, guids: &[[u8; 16]]) -> std::result::Result<bool, 
     Ok(set.len() == guids.len())
 }
 
-// The GUIDs, each once.
+// Returns the GUIDs as a set.
 fn guid_set(
     alloc: Global,
     guids: &[[u8; 16]],
@@ -92,7 +94,7 @@ fn guid_set(
     guids.iter().copied().collect(alloc)
 }
 
-// Whether the entries and the bounds of the header are in order, and the used entries disjoint.
+// Reports whether the entries and the header's bounds are in order, and used entries do not overlap.
 fn have_good_boundaries(
     alloc: Global,
     header: &GPTHeader,
@@ -112,7 +114,7 @@ fn have_good_boundaries(
     are_disjoint(alloc, entries)
 }
 
-// Whether every entry, used or not, starts at or before its end.
+// Reports whether every entry, used or not, starts at or before its end.
 fn are_ordered(entries: &[GPTPartitionEntry]) -> bool
     ensures { IsTrue result ↔ All (λ e. e.starting_lba ≤ e.ending_lba) entries.now }
 {
@@ -121,14 +123,14 @@ fn are_ordered(entries: &[GPTPartitionEntry]) -> bool
         .all(|entry| entry.starting_lba <= entry.ending_lba)
 }
 
-// Whether each used entry lies within the usable sectors.
+// Reports whether each used entry is within the usable sectors.
 fn all_lie_within(header: &GPTHeader, entries: &[GPTPartitionEntry]) -> bool
     ensures { IsTrue result ↔ All (LiesWithin header.now) entries.now }
 {
     entries.iter().all(|entry| lies_within(header, entry))
 }
 
-// Whether the entry, if used, lies within the usable sectors.
+// Reports whether the entry, if used, is within the usable sectors.
 fn lies_within(header: &GPTHeader, entry: &GPTPartitionEntry) -> bool
     ensures { IsTrue result ↔ LiesWithin header.now entry.now }
 {
@@ -137,7 +139,7 @@ fn lies_within(header: &GPTHeader, entry: &GPTPartitionEntry) -> bool
             && entry.ending_lba <= header.last_usable_lba
 }
 
-// Whether no sector is covered by two entries.
+// Reports whether no sector is covered by two entries.
 fn are_disjoint(
     alloc: Global,
     entries: &[GPTPartitionEntry],
@@ -148,7 +150,7 @@ fn are_disjoint(
     Ok(end_in_turn(&ranges))
 }
 
-// Whether each range ends before the next one begins.
+// Reports whether each range ends before the next one begins.
 fn end_in_turn(ranges: &[(u64, u64)]) -> bool
     requires sorted { IsNonDecreasingBy (λ r. r.0) ranges.now }
     requires ordered { All (λ r. r.0 ≤ r.1) ranges.now }

@@ -1,4 +1,4 @@
-//! The sectors that the used entries cover, in order.
+//! The sectors that used entries cover, in order.
 
 ghost use Rattle.std.specs.Prelude.{◌≡◌, IfOk, filter_map};
 ghost use Rattle.std.specs.List.Sorted.{IsNonDecreasingBy, IsPermutation};
@@ -7,7 +7,7 @@ ghost use Rattle.gptman.specs.Entry.{covered_range};
 use crate::GPTPartitionEntry;
 use std::alloc::{AllocError, Global};
 
-/// The first and the last sector of each used entry that does not end before it starts, by ascending
+/// Returns the first and the last sector of each used entry that does not end before it starts, by ascending
 /// first sector. Entries may overlap.
 pub(crate) fn sorted_ranges(
     alloc: Global,
@@ -21,7 +21,7 @@ pub(crate) fn sorted_ranges(
     Ok(ranges)
 }
 
-// The same in the order of the entries. It takes no memory for those that cover nothing.
+// Returns the same in the order of the entries. Only entries that cover a sector need memory.
 #[tactic(auto, using(crate::proofs::Taken::one_kept, crate::proofs::Taken::one_left))]
 fn covered_ranges(
     alloc: Global,
@@ -38,7 +38,7 @@ fn covered_ranges(
     Ok(ranges)
 }
 
-// The first and the last sector that the entry covers, if it covers any.
+// Returns the first and the last sector that the entry covers, if it covers any.
 fn covered_range(entry: &GPTPartitionEntry) -> Option<(u64, u64)>
     ensures { result ≡ covered_range entry.now }
 {

@@ -1,4 +1,4 @@
-//! The list of a table's entries, of which contracts see the list alone.
+//! The entries of a table. Contracts see only a list of them.
 
 ghost use Rattle.std.specs.Prelude.{◌≡◌, ◌↔◌, ◌<◌, ◌^◌, Some, length, slice_get, vec_len, IsTrue, IfOk};
 ghost use Rattle.std.specs.Prelude.{[], IfErr, IsOk};
@@ -34,7 +34,7 @@ impl Model for Entries {
 impl Entries {
     ghost use Rattle.gptman.specs.Lending.{LendsItem, LendsItems};
 
-    /// The list with these entries. It takes no memory.
+    /// Returns the list of these entries, without allocating.
     pub(crate) fn new(items: Vec<GPTPartitionEntry>) -> Self
         requires { vec_len items < 2 ^ 32 }
         ensures { result ≡ items.items }
@@ -42,7 +42,7 @@ impl Entries {
         Entries { items }
     }
 
-    /// The entries as a slice.
+    /// Returns the entries as a slice.
     pub(crate) fn as_slice(&self) -> &[GPTPartitionEntry]
         ensures items { result.now ≡ self.now }
         ensures few { length self.now < 2 ^ 32 }
@@ -50,7 +50,7 @@ impl Entries {
         self.items.as_slice()
     }
 
-    /// The entries as a slice, for writing.
+    /// Returns the entries as a mutable slice.
     pub(crate) fn as_mut_slice(&mut self) -> &mut [GPTPartitionEntry]
         ensures* writes_back { sem 𝓛 (LendsItems self.entry result) }
         ensures items { result.now ≡ self.old }
@@ -59,7 +59,7 @@ impl Entries {
         self.items.as_mut_slice()
     }
 
-    /// The entry at index `k`, for writing. Indexes count from 0.
+    /// Returns the entry at index `k`, from 0, as a mutable reference.
     pub(crate) fn at_mut(&mut self, k: usize) -> &mut GPTPartitionEntry
         requires { k < length self.old }
         ensures* writes_back { sem 𝓛 (LendsItem self.entry k result) }
@@ -75,19 +75,19 @@ impl Entries {
         self.items.len() as u32
     }
 
-    /// The allocator that the list takes its memory from.
+    /// Returns the allocator of the list.
     pub(crate) fn alloc(&self) -> Global {
         *self.items.allocator()
     }
 
-    /// The unused entry. It takes no memory.
+    /// Returns the unused entry, without allocating.
     pub(crate) fn empty_entry(&self) -> GPTPartitionEntry
         ensures { result ≡ empty_entry }
     {
         GPTPartitionEntry::empty(self.alloc())
     }
 
-    /// The same list again, where there is memory for it. An empty one takes none.
+    /// Returns a copy of the list. An empty list needs no memory.
     pub(crate) fn clone(&self) -> Result<Self>
         ensures ok { IfOk result (λ es. es ≡ self.now) }
         ensures refused { IfErr result (λ e. fault_of e ≡ out_of_memory) }
@@ -98,7 +98,7 @@ impl Entries {
     }
 }
 
-// The same entries again.
+// Copies the entries.
 fn clone_all(alloc: Global, entries: &[GPTPartitionEntry]) -> Result<Vec<GPTPartitionEntry>>
     ensures ok { IfOk result (λ v. v.items ≡ entries.now) }
     ensures refused { IfErr result (λ e. fault_of e ≡ out_of_memory) }
@@ -111,7 +111,7 @@ fn clone_all(alloc: Global, entries: &[GPTPartitionEntry]) -> Result<Vec<GPTPart
     Ok(all)
 }
 
-/// Lists are equal where all their entries are.
+/// Lists are equal if all their entries are.
 impl PartialEq for Entries {
     ghost eq = { pointwise ⟦<GPTPartitionEntry as PartialEq>⟧.eq };
 
@@ -126,7 +126,7 @@ impl Eq for Entries {
     ghost laws = { lists_equiv laws-law };
 }
 
-// Whether two lists of entries are equal.
+// Reports whether two lists of entries are equal.
 fn same_entries(a: &[GPTPartitionEntry], b: &[GPTPartitionEntry]) -> bool
     ensures eq { result ≡ pointwise ⟦<GPTPartitionEntry as PartialEq>⟧.eq a.now b.now }
     ensures decides { IsTrue result ↔ (a.now ≡ b.now) }

@@ -1,4 +1,4 @@
-//! Going over a table's entries in order, each with its number.
+//! Iterators over a table's entries in order, each with its number.
 
 ghost use Rattle.std.specs.Prelude.{◌≡◌, ◌+◌, ◌<◌, ◌^◌, length};
 ghost use Rattle.std.specs.Iterator.{YieldsFirstBy, item_count};
@@ -9,8 +9,7 @@ use crate::GPTPartitionEntry;
 use std::marker::Model;
 use std::slice;
 
-/// The entries of a table in order, each with its number. Numbers count from 1. It ends after the
-/// last entry.
+/// An iterator over the entries of a table in order, each with its number, from 1.
 #[derive(Drop)]
 pub struct Iter<'a> {
     passed: u32,
@@ -30,7 +29,7 @@ impl<'a> Model for Iter<'a> {
 }
 
 impl<'a> Iter<'a> {
-    /// Goes over these entries.
+    /// Returns an iterator over these entries.
     pub(crate) fn new(entries: &'a [GPTPartitionEntry]) -> Self
         requires { length entries.now < 2 ^ 32 }
         ensures { result ≡ enumerate_from 1 entries.now }
@@ -57,8 +56,7 @@ impl<'a> Iterator for Iter<'a> {
     }
 }
 
-/// The entries of a table in order, each for writing and with its number. Numbers count from 1. It
-/// ends after the last entry.
+/// A mutable iterator over the entries of a table in order, each with its number, from 1.
 #[derive(Drop)]
 pub struct IterMut<'a> {
     passed: u32,
@@ -67,7 +65,7 @@ pub struct IterMut<'a> {
 }
 
 impl<'a> IterMut<'a> {
-    /// Goes over these entries.
+    /// Returns a mutable iterator over these entries.
     pub(crate) fn new(entries: &'a mut [GPTPartitionEntry]) -> Self
         requires { length entries.old < 2 ^ 32 }
         ensures passed { result.passed ≡ 0 }

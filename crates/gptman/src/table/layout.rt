@@ -1,4 +1,4 @@
-//! The stated layout: where the two copies of a table stand on a disk.
+//! The stated layout: where both copies of a table are on a disk.
 
 ghost use Rattle.std.specs.Prelude.{◌≡◌, ◌≤◌, ◌<◌, ◌⊎◌, ◌↔◌, [], ◌∷◌, ◌+◌, ◌*◌, IsTrue};
 ghost use Rattle.gptman_disk.specs.Ranges.{AreApart, AreInside};
@@ -10,17 +10,17 @@ use crate::sizes::{ENTRY_SIZE, HEADER_SIZE};
 use crate::table::GPT;
 
 impl GPT {
-    /// Whether the table has the stated layout on a disk of so many bytes: the right signature, revision and
-    /// sizes, as many entries as it counts, one header in sector 1 with its entries from sector 2, the other
-    /// in the last whole sector with its entries behind the last usable one, and all four within the disk
-    /// and apart from each other. Sectors have at least the 92 bytes of a header.
+    /// Reports whether the table has the stated layout on a disk of `size` bytes: the right signature, revision
+    /// and sizes, as many entries as it counts, one header in sector 1 with its entries from sector 2, the
+    /// other in the last whole sector with its entries after the last usable one, and all four ranges on the
+    /// disk and disjoint. A sector must have room for the 92 bytes of a header.
     pub fn has_layout(&self, size: u64) -> bool
         ensures { IsTrue result ↔ HasLayout self.now size }
     {
         self.has_right_header() && self.has_right_places(size)
     }
 
-    // Whether the header is one that every table may have.
+    // Reports whether signature, revision, form and sizes are right.
     fn has_right_header(&self) -> bool
         ensures { IsTrue result ↔ HasRightMarks self.now.header × IsInForm self.now.header
             × HasRightSizes self.now.header (entries_in self.now) self.now.sector_size }
@@ -28,7 +28,7 @@ impl GPT {
         self.has_right_marks() && self.is_in_form() && self.has_right_sizes()
     }
 
-    // Whether both copies stand in the places that such a disk has for them.
+    // Reports whether both copies are at the places that such a disk has for them.
     fn has_right_places(&self, size: u64) -> bool
         requires { 0 < self.now.sector_size }
         ensures { IsTrue result ↔ HasRightSectors (table_in self.now) self.now.sector_size size
@@ -37,14 +37,14 @@ impl GPT {
         self.has_right_sectors(size) && self.are_in_place(size)
     }
 
-    // Whether the header begins as every table's does.
+    // Reports whether signature and revision are right.
     fn has_right_marks(&self) -> bool
         ensures { IsTrue result ↔ HasRightMarks self.now.header }
     {
         self.header.signature == *b"EFI PART" && self.header.revision == [0, 0, 1, 0]
     }
 
-    // Whether the sector has room for a header, and the header says what the list is.
+    // Reports whether a sector has room for a header, and the header describes the list.
     fn has_right_sizes(&self) -> bool
         ensures { IsTrue result
             ↔ HasRightSizes self.now.header (entries_in self.now) self.now.sector_size }
@@ -56,7 +56,7 @@ impl GPT {
             && header.number_of_partition_entries as usize == self.partitions.as_slice().len()
     }
 
-    // Whether the header is that of one of the two copies.
+    // Reports whether the header is that of one of the two copies.
     fn is_in_form(&self) -> bool
         ensures { IsTrue result ↔ IsInForm self.now.header }
     {
@@ -76,7 +76,7 @@ impl GPT {
         self.header.backup_lba == 1 && entries > 0 && entries - 1 == self.header.last_usable_lba
     }
 
-    // Whether the two headers are those of sector 1 and of the last whole sector.
+    // Reports whether the two headers are in sector 1 and in the last whole sector.
     fn has_right_sectors(&self, size: u64) -> bool
         requires { 0 < self.now.sector_size }
         ensures { IsTrue result ↔ HasRightSectors (table_in self.now) self.now.sector_size size }
@@ -87,7 +87,7 @@ impl GPT {
             && header.primary_lba.max(header.backup_lba) == last.max(1)
     }
 
-    // Whether the four ranges are within the disk and apart from each other.
+    // Reports whether the four ranges are on the disk and disjoint.
     fn are_in_place(&self, size: u64) -> bool
         requires { 0 < self.now.sector_size }
         ensures { IsTrue result ↔ AreInPlace (table_in self.now) self.now.sector_size size }
@@ -106,7 +106,7 @@ impl GPT {
     }
 }
 
-// Whether the ranges are within a disk of so many bytes.
+// Reports whether the ranges are within a disk of `size` bytes.
 fn are_within(a: Bytes, b: Bytes, c: Bytes, d: Bytes, size: u64) -> bool
     ensures { IsTrue result ↔ AreInside ((a.start, a.length) ∷ (b.start, b.length)
         ∷ (c.start, c.length) ∷ (d.start, d.length) ∷ []) size }
@@ -114,7 +114,7 @@ fn are_within(a: Bytes, b: Bytes, c: Bytes, d: Bytes, size: u64) -> bool
     a.is_within(size) && b.is_within(size) && c.is_within(size) && d.is_within(size)
 }
 
-// Whether no two of the ranges have a byte in common.
+// Reports whether no two ranges overlap.
 fn are_apart(a: Bytes, b: Bytes, c: Bytes, d: Bytes) -> bool
     ensures { IsTrue result ↔ AreApart ((a.start, a.length) ∷ (b.start, b.length)
         ∷ (c.start, c.length) ∷ (d.start, d.length) ∷ []) }
@@ -135,7 +135,7 @@ struct Bytes {
 }
 
 impl Bytes {
-    // So many bytes from the start of this sector on.
+    // Returns the `length` bytes from the start of the sector on.
     fn new(sector: u64, sector_size: u64, length: u64) -> Bytes
         ensures start { result.start ≡ sector * sector_size }
         ensures length { result.length ≡ length }
@@ -146,7 +146,7 @@ impl Bytes {
         }
     }
 
-    // Whether it has no bytes, or ends within a disk of so many.
+    // Reports whether it is empty, or ends within a disk of `size` bytes.
     fn is_within(self, size: u64) -> bool
         ensures { IsTrue result ↔ (self.length ≡ 0) ⊎ (self.start + self.length ≤ size) }
     {
@@ -154,7 +154,7 @@ impl Bytes {
         self.length == 0 || self.start <= size && u128::from(self.length) <= size - self.start
     }
 
-    // Whether one of the two has no bytes, or they have none in common.
+    // Reports whether one of the two is empty, or they do not overlap.
     fn is_apart(self, other: Bytes) -> bool
         ensures { IsTrue result ↔ (self.length ≡ 0) ⊎ ((other.length ≡ 0)
             ⊎ ((self.start + self.length ≤ other.start) ⊎ (other.start + other.length ≤ self.start))) }
@@ -162,7 +162,7 @@ impl Bytes {
         self.length == 0 || other.length == 0 || self.is_before(other) || other.is_before(self)
     }
 
-    // Whether it ends where the other begins, or before.
+    // Reports whether it ends where the other begins, or before.
     fn is_before(self, other: Bytes) -> bool
         ensures { IsTrue result ↔ (self.start + self.length ≤ other.start) }
     {

@@ -1,5 +1,5 @@
-//! The protective MBR: 66 bytes in the first 512, which show the whole disk as one partition to a
-//! program that knows no GUID partition tables.
+//! The protective MBR: 66 of the first 512 bytes, which present the whole disk as one partition to programs
+//! that do not know GPT.
 
 ghost use Rattle.std.specs.Prelude.{◌≡◌, ◌≤◌, ◌<◌, ◌∷◌, [], true, false, IfOk};
 ghost use Rattle.gptman.specs.Answers.{refusal_of, CountsFailure, FailsPending, HasCause, RefusesUntouched};
@@ -10,23 +10,22 @@ use crate::cells::{put, put_u32};
 use crate::table::GPT;
 use crate::{Disk, Error, Result};
 
-// The byte of the disk at which the 66 bytes begin.
+// The first of the 66 bytes.
 const MBR_START: u64 = 446;
 
-// The byte behind them.
+// The byte after them.
 const MBR_END: u64 = 512;
 
 impl GPT {
-    /// Writes a protective MBR: the 66 bytes from byte 446 of the disk on, and no other. Its one
-    /// partition begins at sector 1 and has all whole sectors from there on, at most 0xFFFFFFFF.
-    /// The sector size is in bytes, and above 0; with 512 or more the 66 bytes lie in sector 0.
-    /// Nothing is synced, and no memory is taken. The layout is that of a master boot record: four
-    /// places for partitions of 16 bytes each from byte 446 on, and 55 aa.
+    /// Writes a protective MBR: only the 66 bytes from byte 446 of the disk on. Its partition begins at sector
+    /// 1 and has all whole sectors from there on, at most 0xFFFFFFFF. `sector_size` is in bytes, and must be
+    /// above 0; if it is 512 or more, the 66 bytes are in sector 0. Does not sync or allocate. The layout is
+    /// that of a master boot record: four partition slots of 16 bytes from byte 446 on, and 55 aa.
     ///
-    /// `Io` where the length cannot be taken, then `Overflow` where the disk is shorter than a
-    /// sector, then `NoSpaceLeft` where it is shorter than 512 bytes; nothing is written then.
-    /// `Io` also where the seek or the write failed: then nothing was written, or the 66 bytes are
-    /// not synced.
+    /// # Errors
+    /// `Io` if the disk's length cannot be determined, then `Overflow` if the disk is shorter than a sector,
+    /// then `NoSpaceLeft` if it is shorter than 512 bytes; nothing is written. Then `Io` if the seek or the
+    /// write fails: nothing was written, or the 66 bytes are unsynced.
     pub fn write_protective_mbr_into<D: Disk>(disk: &mut D, sector_size: u64) -> Result<()>
         requires { 0 < sector_size }
         ensures keeps { Keeps (D.state disk.old) (D.state disk.new) }
@@ -42,12 +41,8 @@ impl GPT {
         write_mbr(disk, sector_size, false)
     }
 
-    /// Writes a protective MBR whose partition is marked as bootable: byte 446 is 0x80, and all
-    /// else is as `write_protective_mbr_into` writes it. The sector size is in bytes, and above 0.
-    ///
-    /// The errors are the same: `Io` where the length cannot be taken, then `Overflow` where the
-    /// disk is shorter than a sector, then `NoSpaceLeft` where it is shorter than 512 bytes, then
-    /// `Io` where the seek or the write failed.
+    /// Writes a protective MBR as `write_protective_mbr_into` does, with the same errors, but marks its
+    /// partition as bootable: byte 446 is 0x80.
     pub fn write_bootable_protective_mbr_into<D: Disk>(disk: &mut D, sector_size: u64) -> Result<()>
         requires { 0 < sector_size }
         ensures keeps { Keeps (D.state disk.old) (D.state disk.new) }
@@ -64,7 +59,7 @@ impl GPT {
     }
 }
 
-// Writes a protective MBR, whose partition is marked as bootable or not.
+// Writes a protective MBR.
 fn write_mbr<D: Disk>(disk: &mut D, sector_size: u64, bootable: bool) -> Result<()>
     requires { 0 < sector_size }
     ensures keeps { Keeps (D.state disk.old) (D.state disk.new) }
@@ -84,11 +79,10 @@ fn write_mbr<D: Disk>(disk: &mut D, sector_size: u64, bootable: bool) -> Result<
     Ok(())
 }
 
-/// The 66 bytes of a protective MBR for a disk of so many bytes, which stand from byte 446 on. Its
-/// partition is marked as bootable or not. The sector size is in bytes, and above 0.
+/// Returns the 66 bytes of a protective MBR for a disk of `size` bytes, to be written from byte 446 on.
+/// `bootable` marks its partition. `sector_size` is in bytes, and must be above 0.
 ///
-/// `Overflow` where the disk is shorter than a sector, then `NoSpaceLeft` where it is shorter than 512
-/// bytes.
+/// `Overflow` if the disk is shorter than a sector, then `NoSpaceLeft` if it is shorter than 512 bytes.
 pub fn protective_mbr(sector_size: u64, size: u64, bootable: bool) -> Result<[u8; 66]>
     requires { 0 < sector_size }
     ensures answer { refusal_of result ≡ mbr_fault sector_size size }
@@ -103,7 +97,7 @@ pub fn protective_mbr(sector_size: u64, size: u64, bootable: bool) -> Result<[u8
     Ok(mbr_bytes(bootable, sector_size, size))
 }
 
-// The bytes of a protective MBR for a disk of so many bytes.
+// Returns the bytes of a protective MBR for a disk of at least one sector.
 fn mbr_bytes(bootable: bool, sector_size: u64, size: u64) -> [u8; 66]
     requires sector { 0 < sector_size }
     requires room { sector_size ≤ size }

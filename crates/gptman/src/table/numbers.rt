@@ -1,4 +1,4 @@
-//! Entries by their numbers, which count from 1, and by the sectors that they cover.
+//! Entries by number, from 1, and by the sectors that they cover.
 
 ghost use Rattle.std.specs.Prelude.{◌≡◌, ◌-◌, ◌<◌, ℕ, Some, length, option_map, position, slice_get};
 ghost use Rattle.std.specs.Prelude.{IfSome, IsSome, IsTrue, OnOk, OnErr};
@@ -17,7 +17,7 @@ use crate::table::GPT;
 use crate::{Error, GPTPartitionEntry, Result};
 use std::ops::{Index, IndexMut, RangeInclusive};
 
-/// The entry of a number, from 1 to the length of the list.
+/// Returns the entry with a number, from 1 to the length of the list.
 impl Index<u32> for GPT {
     type Output = GPTPartitionEntry;
 
@@ -30,7 +30,7 @@ impl Index<u32> for GPT {
     }
 }
 
-/// The entry of a number, from 1 to the length of the list, for writing. Nothing else changes.
+/// Returns the entry with a number, from 1 to the length of the list, as a mutable reference.
 impl IndexMut<u32> for GPT {
     fn index_mut(&mut self, i: u32) -> &mut GPTPartitionEntry
         requires { IsNumber self.old i }
@@ -42,14 +42,14 @@ impl IndexMut<u32> for GPT {
 }
 
 impl GPT {
-    // Whether the number is one of the header's and of the list's.
+    // Reports whether the number is at least 1, and within the header's count and the list.
     fn has_number(&self, i: u32) -> bool
         ensures { result ≡ has_number self.now i }
     {
         i >= 1 && i <= self.header.number_of_partition_entries && i <= self.partitions.len()
     }
 
-    /// The entry of the number, which counts from 1; `None` where the list has no such entry.
+    /// Returns the entry with the number, from 1, or `None` if the list has no such entry.
     pub fn get(&self, i: u32) -> Option<&GPTPartitionEntry>
         ensures value { option_map (λ e. e.now) result ≡ entry_of_number self.now i }
         ensures number { IsSome result → IsNumber self.now i }
@@ -58,8 +58,8 @@ impl GPT {
         self.partitions.as_slice().get(index)
     }
 
-    /// The lowest number of a used entry that covers the sector, from its first to its last; `None`
-    /// where no used entry does. In a table that may be written it is the only one.
+    /// Returns the lowest number of a used entry that covers the sector, or `None` if there is none. In a table
+    /// that may be written, at most one entry covers it.
     pub fn find_at_sector(&self, sector: u64) -> Option<u32>
         ensures lowest { result ≡ number_at sector (entries_in self.now) }
         ensures only { IsValid self.now.header (entries_in self.now) → (i : ℕ) → IsNumber self.now i
@@ -71,10 +71,10 @@ impl GPT {
         }
     }
 
-    /// Puts the entry under the number. All other entries stay.
+    /// Replaces the entry with the number.
     ///
-    /// `InvalidPartitionNumber` where the number is 0, above the header's count or above the length of
-    /// the list; nothing changes then.
+    /// `InvalidPartitionNumber` if the number is 0, above the header's count or above the length of the list.
+    /// The table is then unchanged.
     pub(crate) fn put(&mut self, i: u32, entry: GPTPartitionEntry) -> Result<()>
         ensures answer { refusal_of result ≡ number_fault self.old i }
         ensures value { OnOk result (self.new ≡ with_entry self.old i entry) }
@@ -87,10 +87,10 @@ impl GPT {
         Ok(())
     }
 
-    /// Puts the unused entry under the number. All other entries stay.
+    /// Replaces the entry with the number by the unused entry.
     ///
-    /// `InvalidPartitionNumber` where the number is 0, above the header's count or above the length of
-    /// the list; nothing changes then.
+    /// `InvalidPartitionNumber` if the number is 0, above the header's count or above the length of the list.
+    /// The table is then unchanged.
     pub fn remove(&mut self, i: u32) -> Result<()>
         ensures answer { refusal_of result ≡ number_fault self.old i }
         ensures value { OnOk result (self.new ≡ with_entry self.old i empty_entry) }
@@ -100,10 +100,10 @@ impl GPT {
         self.put(i, empty)
     }
 
-    /// Puts the unused entry in the stead of the one that `find_at_sector` names. All others stay.
+    /// Replaces the entry that `find_at_sector` returns by the unused entry.
     ///
-    /// `PartitionNotFound` where no used entry covers the sector, `InvalidPartitionNumber` where the
-    /// number is above the header's count; nothing changes then.
+    /// `PartitionNotFound` if no used entry covers the sector, `InvalidPartitionNumber` if the number is above
+    /// the header's count. The table is then unchanged.
     pub fn remove_at_sector(&mut self, sector: u64) -> Result<()>
         ensures answer { refusal_of result ≡ sector_fault self.old (number_at sector (entries_in self.old)) }
         ensures value { OnOk result (self.new ≡ without self.old (number_at sector (entries_in self.old))) }
@@ -115,12 +115,13 @@ impl GPT {
         }
     }
 
-    /// The bytes of the partition under the number, from the first to the last, counted from the start
-    /// of the disk. The caller sees to it that the sector size is above 0.
+    /// Returns the bytes of the partition with the number, from the first to the last, counted from the start
+    /// of the disk. The sector size must be above 0.
     ///
-    /// `InvalidPartitionNumber` where the number is 0, above the header's count or above the length of
-    /// the list, then `UnusedPartition`, then `InvalidPartitionBoundaries` where it ends before it
-    /// starts, then `Overflow` where the last byte's number does not fit in 64 bits.
+    /// # Errors
+    /// `InvalidPartitionNumber` if the number is 0, above the header's count or above the length of the list;
+    /// then `UnusedPartition`; then `InvalidPartitionBoundaries` if it ends before it starts; then `Overflow`
+    /// if its last byte does not fit in 64 bits.
     pub fn get_partition_byte_range(&self, number: u32) -> Result<RangeInclusive<u64>>
         requires { 0 < self.now.sector_size }
         ensures { answer_of ends_of result ≡ byte_range_in self.now number }
@@ -132,14 +133,14 @@ impl GPT {
     }
 }
 
-// Whether a used entry covers the sector.
+// Reports whether the entry is used and covers the sector.
 fn is_at(entry: &GPTPartitionEntry, sector: u64) -> bool
     ensures { result ≡ covers sector entry.now }
 {
     entry.is_used() && entry.starting_lba <= sector && sector <= entry.ending_lba
 }
 
-// Where the first entry that covers the sector stands.
+// Returns the index of the first entry that covers the sector.
 fn index_at(entries: &[GPTPartitionEntry], sector: u64) -> Option<usize>
     ensures first { result ≡ position (covers sector) entries.now }
     ensures within { IfSome result (λ k. k < length entries.now) }
@@ -147,7 +148,7 @@ fn index_at(entries: &[GPTPartitionEntry], sector: u64) -> Option<usize>
     entries.iter().position(|entry| is_at(entry, sector))
 }
 
-// The bytes of an entry.
+// Returns the bytes of an entry, from the first to the last.
 fn byte_range(entry: &GPTPartitionEntry, sector_size: u64) -> Result<RangeInclusive<u64>>
     requires { 0 < sector_size }
     ensures { answer_of ends_of result ≡ bytes_of sector_size entry.now }

@@ -1,4 +1,4 @@
-//! Making a table for a disk, and reading the one that a disk holds.
+//! Makes a table for a disk, and reads the table of a disk.
 
 ghost use Rattle.std.specs.Prelude.{◌≡◌, ◌≢◌, ◌≤◌, ◌<◌, ◌⊎◌, Ok, replicate, IfErr, IfOk, IsTrue, OnOk};
 ghost use Rattle.gptman.specs.Answers.{answer_of, is_copy_fault, is_damage};
@@ -23,15 +23,15 @@ use crate::{Disk, Error, GPTHeader, GPTPartitionEntry, Result};
 use std::alloc::Global;
 
 impl GPT {
-    /// A new table of 128 unused entries, in primary form, fitted to the disk. The sector size is in
-    /// bytes, and above 0; the GUID is the disk's, as its 16 bytes stand there. Nothing is written.
+    /// Returns a new table of 128 unused entries, in primary form, fitted to the disk. Nothing is written.
+    /// `sector_size` is in bytes, and must be above 0; `disk_guid` has the 16 bytes in their order on the disk.
     ///
     ///     let mut disk = FileDisk::open(&rt, "disk.img")?;
     ///     let mut table = GPT::new_from(rt.alloc(), &mut disk, 512, [0xff; 16])?;
     ///     table.write_into(&mut disk)?;
     ///
-    /// `Io` where the disk failed, `Overflow` where it has too few sectors for two copies,
-    /// `OutOfMemory` where there is no memory for the entries.
+    /// `Io` if the disk fails, `Overflow` if it has fewer than two sectors besides one entry array,
+    /// `OutOfMemory` if the entries cannot be allocated.
     pub fn new_from<D: Disk>(
         alloc: Global,
         disk: &mut D,
@@ -50,12 +50,12 @@ impl GPT {
         GPT::with_entries(alloc, disk, sector_size, disk_guid, DEFAULT_ENTRY_COUNT)
     }
 
-    /// A new table of so many unused entries, in primary form, fitted to the disk: `new_from` for another
-    /// number than 128. The sectors that its entries take are the fewest, so with fewer entries the first
-    /// usable sector comes earlier. Linux reads tables of at most 32768 entries.
+    /// Returns a new table like `new_from`, but of `count` unused entries. These take as few sectors as
+    /// possible, so with fewer entries the first usable sector is lower. Linux reads tables of at most 32768
+    /// entries.
     ///
-    /// `Overflow` where the number is 0; then `Io` where the disk failed; then `Overflow` where it has too
-    /// few sectors for two copies, `OutOfMemory` where there is no memory for the entries.
+    /// `Overflow` if `count` is 0, then `Io` if the disk fails, then `Overflow` if it has fewer than two
+    /// sectors besides one entry array, `OutOfMemory` if the entries cannot be allocated.
     pub fn with_entries<D: Disk>(
         alloc: Global,
         disk: &mut D,
@@ -84,10 +84,9 @@ impl GPT {
         })
     }
 
-    /// The table that the disk holds: the copy at its primary place, in sector 1, or where that one
-    /// has a fault the copy at its backup place, in the last whole sector. The sector size is in bytes,
-    /// and above 0. The value has the header and the entries of the copy that was taken, and the
-    /// alignment that they give.
+    /// Reads the table of the disk: the primary copy, in sector 1, or, if that has a fault, the backup copy, in
+    /// the last whole sector. `sector_size` is in bytes, and must be above 0. The value has the header and the
+    /// entries of that copy, and the alignment derived from them.
     ///
     ///     let mut disk = FileDisk::open_read(&rt, "disk.img")?;
     ///     let table = GPT::read_from(rt.alloc(), &mut disk, 512)?;
@@ -95,30 +94,33 @@ impl GPT {
     ///         // numbers count from 1
     ///     }
     ///
-    /// Where both copies have a fault, `InvalidSignature` if that is the fault of both or if the disk is
-    /// shorter than a sector, else `ReadError` with both. The fault of a copy is the first test that
-    /// fails: `Io` where the disk failed or ends before, then `InvalidSignature`, `InvalidRevision`,
-    /// `InvalidHeaderSize`, `InvalidChecksum` of the header, and then `InvalidPartitionEntrySize`,
-    /// `Overflow`, `Io` and `InvalidPartitionEntryArrayChecksum` of the entries. `Io` alone where the
-    /// length cannot be taken or the backup place cannot be gone to. `OutOfMemory`, at once, where there
-    /// is no memory for the entries or for the two faults.
+    /// # Errors
+    /// If both copies have a fault, `InvalidSignature` if it is the fault of both or the disk is shorter than a
+    /// sector, else `ReadError` with both. The fault of a copy is the first test that fails: `Io` if the disk
+    /// fails or ends before; of the header `InvalidSignature`, `InvalidRevision`, `InvalidHeaderSize`,
+    /// `InvalidChecksum`; of the entries `InvalidPartitionEntrySize`, `Overflow`, `Io`,
+    /// `InvalidPartitionEntryArrayChecksum`.
+    ///
+    /// `Io` if the disk's length cannot be determined, or the seek to the backup copy fails. `OutOfMemory`, at
+    /// once, if the entries or the two faults cannot be allocated.
     pub fn read_from<D: Disk>(alloc: Global, disk: &mut D, sector_size: u64) -> Result<GPT>
         requires { 0 < sector_size }
         ensures reads { Reads (D.state disk.old) (D.state disk.new) }
 
-        // Where the disk did not fail, the answer is the reading's, or that there is no memory.
+        // If the disk did not fail, the result is that of the read, or `OutOfMemory`.
         ensures answer { AnswersReading (reading_of (D.state disk.old).view sector_size) result
             (D.state disk.old) (D.state disk.new) }
 
-        // Where it failed all the same, that was once, in the primary copy, and the backup copy is read.
+        // If it failed and the result is `Ok`, it failed once, in the primary copy, and the backup copy was
+        // read.
         ensures counts { IsHonest (D.state disk.old)
             → IfOk result (CountsReading (D.state disk.old) (D.state disk.new)) }
         ensures unsigned { Refuses result invalid_signature
             → HasFailedAsOften (D.state disk.old) (D.state disk.new)
             ⊎ ((D.state disk.old).size < sector_size) }
 
-        // Also where it failed, what is read is an accepted copy, and a refusal is the disk's or a copy's
-        // own.
+        // Even if it failed, the returned copy is accepted, and an error is `Io`, `OutOfMemory` or the fault of
+        // the copies.
         ensures accepted { IsHonest (D.state disk.old)
             → IfOk result (λ g. MayBeRead (D.state disk.old) (D.state disk.new) sector_size (copy_of g)) }
         ensures refused { IsHonest (D.state disk.old)
@@ -126,7 +128,7 @@ impl GPT {
         ensures kinds { RefusesOnly is_reading_fault result }
         ensures cause { HasCause result (D.state disk.old) (D.state disk.new) }
 
-        // What is read.
+        // The value: its header describes its entries, and its alignment is derived from them.
         ensures sector { IfOk result (λ g. g.sector_size ≡ sector_size) }
         ensures value { IfOk result IsAsRead }
     {
@@ -140,24 +142,24 @@ impl GPT {
         read_backup(alloc, disk, sector_size, primary)
     }
 
-    /// The table that the disk holds, as `read_from` reads it with sectors of 512 bytes, or with
-    /// sectors of 4096 bytes where that one answers `InvalidSignature`.
+    /// Reads the table of the disk as `read_from` does with sectors of 512 bytes or, if that returns
+    /// `InvalidSignature`, of 4096 bytes.
     ///
     /// The errors are those of `read_from`.
     pub fn find_from<D: Disk>(alloc: Global, disk: &mut D) -> Result<GPT>
         ensures reads { Reads (D.state disk.old) (D.state disk.new) }
 
-        // Where the disk did not fail, the answer is that of the reading with one of the sizes, or that
-        // there is no memory.
+        // If the disk did not fail, the result is that of the read with one of the sizes, or `OutOfMemory`.
         ensures answer { AnswersReading
             (reading_of (D.state disk.old).view (found_sector_size (D.state disk.old).view))
             result (D.state disk.old) (D.state disk.new) }
 
-        // Where it failed all the same, that was once, in the primary copy, and the backup copy is read.
+        // If it failed and the result is `Ok`, it failed once, in the primary copy, and the backup copy was
+        // read.
         ensures counts { IsHonest (D.state disk.old)
             → IfOk result (CountsReading (D.state disk.old) (D.state disk.new)) }
 
-        // Also where it failed, 4096 is tried only where 512 shows no signature.
+        // Even if it failed, 4096 is tried only if a read with 512 finds no signature.
         ensures accepted { IsHonest (D.state disk.old)
             → IfOk result (λ g. MayBeRead (D.state disk.old) (D.state disk.new) g.sector_size (copy_of g)) }
         ensures found { IsHonest (D.state disk.old) → Rose (D.state disk.old) (D.state disk.new)
@@ -171,7 +173,7 @@ impl GPT {
         ensures kinds { RefusesOnly is_reading_fault result }
         ensures cause { HasCause result (D.state disk.old) (D.state disk.new) }
 
-        // What is read.
+        // The value: its header describes its entries, and its alignment is derived from them.
         ensures sector { IfOk result (λ g. (g.sector_size ≡ 512) ⊎ (g.sector_size ≡ 4096)) }
         ensures value { IfOk result IsAsRead }
     {
@@ -186,7 +188,7 @@ impl GPT {
     }
 }
 
-// The copy at the primary place.
+// Reads the copy at the primary place.
 fn read_primary<D: Disk>(alloc: Global, disk: &mut D, sector_size: u64) -> Result<GPT>
     requires { 0 < sector_size }
     ensures reads { Reads (D.state disk.old) (D.state disk.new) }
@@ -202,7 +204,7 @@ fn read_primary<D: Disk>(alloc: Global, disk: &mut D, sector_size: u64) -> Resul
     read_table(alloc, disk, sector_size)
 }
 
-// The copy at the backup place, where the primary one has this fault.
+// Reads the copy at the backup place, after the primary copy had this fault.
 fn read_backup<D: Disk>(
     alloc: Global,
     disk: &mut D,
@@ -234,7 +236,7 @@ fn read_backup<D: Disk>(
     settle(alloc, primary, backup)
 }
 
-// What is answered where the primary copy has this fault, and the backup copy was read so.
+// Returns the backup copy, or the error for both faults.
 fn settle(alloc: Global, primary: Error, backup: Result<GPT>) -> Result<GPT>
     requires damage { IsTrue (is_damage (fault_of primary)) }
     requires faults { RefusesOnly is_copy_fault backup }
@@ -257,7 +259,7 @@ fn settle(alloc: Global, primary: Error, backup: Result<GPT>) -> Result<GPT>
     Err(both(alloc, primary, backup)?)
 }
 
-// The table of the copy whose header is at the disk's position.
+// Reads the copy whose header is at the disk's position, and derives the alignment.
 fn read_table<D: Disk>(alloc: Global, disk: &mut D, sector_size: u64) -> Result<GPT>
     requires { 0 < sector_size }
     ensures reads { Reads (D.state disk.old) (D.state disk.new) }
@@ -280,7 +282,7 @@ fn read_table<D: Disk>(alloc: Global, disk: &mut D, sector_size: u64) -> Result<
     })
 }
 
-// The one fault that is said of two.
+// Returns one error for the two faults.
 fn both(alloc: Global, primary: Error, backup: Error) -> Result<Error>
     ensures both { IfOk result (λ e. fault_of e ≡ both (fault_of primary) (fault_of backup)) }
     ensures refused { IfErr result (λ e. fault_of e ≡ out_of_memory) }
@@ -293,7 +295,7 @@ fn both(alloc: Global, primary: Error, backup: Error) -> Result<Error>
     Ok(Error::ReadError(primary, backup))
 }
 
-// So many unused entries.
+// Returns `count` unused entries.
 fn empty_entries(alloc: Global, count: u32) -> Result<Vec<GPTPartitionEntry>>
     ensures entries { IfOk result (λ v. v.items ≡ replicate count empty_entry) }
     ensures refused { IfErr result (λ e. fault_of e ≡ out_of_memory) }

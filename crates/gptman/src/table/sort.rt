@@ -1,4 +1,4 @@
-//! Putting a table's entries in order.
+//! Sorts a table's entries.
 
 ghost use Rattle.std.specs.Prelude.{◌≡◌, [], IsOk, OnOk, OnErr, IfErr};
 ghost use Rattle.std.specs.List.Sorted.{IsPermutation, IsNonDecreasingBy, IsStableByKey};
@@ -13,10 +13,10 @@ use crate::{GPTPartitionEntry, Result};
 use std::alloc::{AllocError, Global};
 
 impl GPT {
-    /// Puts the entries in order: the used ones by their first sector, then the unused ones. Entries
-    /// that tie keep their order. It takes time in O(n log n).
+    /// Sorts the entries: used ones by their first sector, then unused ones. The sort is stable, and takes O(n
+    /// log n) time.
     ///
-    /// `OutOfMemory` where there is no memory to sort them; nothing changes then. No entries take none.
+    /// `OutOfMemory` if an allocation fails; the table is then unchanged. An empty list needs no memory.
     #[tactic(auto, using(crate::proofs::WrittenOver::written_over_same))]
     pub fn sort(&mut self) -> Result<()>
         ensures refused { IfErr result (λ e. fault_of e ≡ out_of_memory) }
@@ -31,7 +31,7 @@ impl GPT {
     }
 }
 
-// The whole list in order.
+// Sorts the list by rank.
 fn sort_list(
     alloc: Global,
     entries: &mut [GPTPartitionEntry],
@@ -43,7 +43,7 @@ fn sort_list(
     sort_stably(alloc, entries)
 }
 
-// A stable rearrangement of the whole list, by rank.
+// Sorts the list by rank, stably.
 fn sort_stably(
     alloc: Global,
     entries: &mut [GPTPartitionEntry],
@@ -57,7 +57,7 @@ fn sort_stably(
     entries.sort_by_key(alloc, |entry| rank(entry))
 }
 
-// Where an entry belongs: the unused ones after every sector.
+// Returns the sort key of an entry. Unused entries sort after every sector.
 fn rank(entry: &GPTPartitionEntry) -> u128
     ensures { result ≡ rank entry.now }
 {

@@ -1,6 +1,6 @@
-//! Writing a table: checks first, then two copies, the other one before the own one.
+//! Writes a table: checks first, then the other copy, then the own copy.
 //!
-//! Each copy is synced before the next is begun, so at any moment one of them is whole.
+//! Each copy is synced before the next is written, so at any moment at least one of them is complete.
 
 ghost use Rattle.std.specs.Prelude.{◌≡◌, ◌<◌, ◌⊎◌, [], ◌∷◌, None, Some, if◌then◌else◌};
 ghost use Rattle.std.specs.Prelude.{IfErr, IfOk, IsTrue, OnErr, OnOk};
@@ -32,25 +32,24 @@ use crate::table::checks::check;
 use crate::{Disk, Error, GPTHeader, GPTPartitionEntry, Result};
 
 impl GPT {
-    /// Writes the table to the disk, in two copies with a sync after each, the other copy first, and
-    /// answers the header of the other copy as it was written. The own copy is the one whose header the
-    /// value has, and the other one is the other of primary and backup.
+    /// Writes both copies of the table, the other copy first, with a sync after each, and returns the header of
+    /// the other copy as written. The own copy is the one whose header the value has.
     ///
-    /// The caller sees to it that the sector size is above 0 and the table coherent, as `is_coherent`
-    /// tells. A table that was made or read is so; the public fields of its header can change that.
+    /// The sector size must be above 0, and the table coherent (`is_coherent`). A table that was made or read
+    /// is coherent, but changes to the public fields of its header can break this.
     ///
-    /// The checks come before anything changes: `ConflictPartitionGUID` where two used entries have one
-    /// unique GUID; else `InvalidPartitionBoundaries` where an entry, used or not, ends before it
-    /// starts, two used ones share a sector, one lies outside of the usable sectors, or the first
-    /// usable sector is behind the one after the last; `Overflow` where a sector or a byte to be
-    /// written does not fit in 64 bits; `Io` where the length cannot be taken; `NoSpaceLeft` where a
-    /// copy ends past the disk. `OutOfMemory` where there is no memory for the checks of the entries;
-    /// no memory is taken after them.
+    /// # Errors
+    /// Before anything is written: `ConflictPartitionGUID` if two used entries have the same unique GUID; else
+    /// `InvalidPartitionBoundaries` if an entry, used or not, ends before it starts, two used ones overlap, one
+    /// is outside of the usable sectors, or the first usable sector is above the last one plus 1; `Overflow` if
+    /// a sector or byte to be written does not fit in 64 bits; `Io` if the disk's length cannot be determined;
+    /// `NoSpaceLeft` if a copy ends past the disk. `OutOfMemory` if the checks of the entries run out of
+    /// memory; later steps do not allocate.
     ///
-    /// After the checks only `Io` is answered: the disk failed in the middle, and is to be opened
-    /// again. Then at most the two checksums of the value's header differ. On an honest disk of the
-    /// stated layout whose place of the value's form held a table, with nothing pending, that the
-    /// other copy's ranges do not touch, one place at least still holds that table, or the new one.
+    /// Afterwards only `Io`, if the disk fails: open it again. At most the two checksums of the value's header
+    /// differ. On an honest disk of the stated layout, if the own place held a table before the write, nothing
+    /// was unsynced and the other copy's ranges do not overlap it, at least one place still holds that table or
+    /// the new one.
     pub fn write_into<D: Disk>(&mut self, disk: &mut D) -> Result<GPTHeader>
         requires sector { 0 < self.old.sector_size }
         requires coherent { IsCoherent self.old.header (entries_in self.old) }
@@ -58,8 +57,8 @@ impl GPT {
         ensures counts { CountsFailure result (D.state disk.old) (D.state disk.new) }
         ensures once { HasFailedOnceAtMost (D.state disk.old) (D.state disk.new) }
 
-        // What is answered. A valid table of the stated layout is refused by the disk and by want of
-        // memory alone.
+        // The result. A write of a valid table in the stated layout fails only if the disk fails or memory runs
+        // out.
         ensures answer { OnOk result (MayBeWritten self.old (D.state disk.old).size) }
         ensures refused { IfErr result
             (λ e. RefusesWrite self.old (fault_of e) (D.state disk.old) (D.state disk.new)) }
@@ -68,28 +67,30 @@ impl GPT {
             → IfErr result (λ e. IsFailureOrMemory (fault_of e) (D.state disk.old) (D.state disk.new)) }
         ensures cause { HasCause result (D.state disk.old) (D.state disk.new) }
 
-        // What becomes of the value, and the other header.
+        // The value, and the other header: both have their checksums after `Ok`; at most the checksums of the
+        // value change.
         ensures value { OnOk result (self.new ≡ value_with_checksums self.old) }
         ensures kept { IfErr result (λ e. (fault_of e ≡ io_fault) ⊎ (self.new ≡ self.old)) }
         ensures sums { IsButSums self.old self.new }
         ensures other { IfOk result (λ h. h ≡ other_with_checksums self.old) }
 
-        // What becomes of the disk, on the stated layout or not.
+        // The disk, in the stated layout or not. An error other than `Io` wrote nothing.
         ensures wrote { Writes (table_ranges self.old) (D.state disk.old) (D.state disk.new) }
         ensures synced { IsHonest (D.state disk.old) → OnOk result ((D.state disk.new).pending ≡ []) }
         ensures laid { IsHonest (D.state disk.old) → AreApart (table_ranges self.old)
             → IfOk result (HasBothCopies (D.state disk.new).view self.new) }
         ensures untouched { RefusesUnwritten result (D.state disk.old) (D.state disk.new) }
 
-        // Acknowledged, on the stated layout: both places hold the table, and each copy alone is read as it.
+        // After `Ok`, in the stated layout, both places hold the table, and each copy by itself is read as the
+        // table.
         ensures stored { StartsLaidOut (D.state disk.old) self.old
             → OnOk result (IsStored (D.state disk.new) self.old.sector_size (table_in self.old)) }
         ensures alone { StartsLaidOut (D.state disk.old) self.old
             → OnOk result (AreReadAlone (D.state disk.new).view self.old) }
 
-        // A stop at any moment leaves all bytes but the other copy's as they were, or that copy whole. So
-        // from one good copy it leaves the old table or the new one at one place at least, and all bytes
-        // outside the four ranges as they were.
+        // A crash at any moment leaves all bytes outside the other copy unchanged, or that copy complete. So
+        // from one good copy it leaves the old or the new table in at least one place, and all bytes outside
+        // the four ranges unchanged.
         ensures turns { StartsSynced (D.state disk.old) self.old
             → StopsComeInTurns (D.state disk.old) (D.state disk.new) self.old }
         ensures one_good { (was : Table) → StartsFromOne (D.state disk.old) self.old was
@@ -98,13 +99,13 @@ impl GPT {
         ensures outside { StartsSynced (D.state disk.old) self.old
             → StopsKeepOthers (D.state disk.old) (D.state disk.new) self.old }
 
-        // So the disk is read as one of the two tables, unless the reading takes a foreign copy.
+        // So the disk is read as one of the two tables, unless the read returns a foreign copy.
         ensures read { (was : Table) → StartsFromOne (D.state disk.old) self.old was
             → StopsAreReadAs (D.state disk.old) (D.state disk.new) self.old.sector_size
             (was ∷ table_in self.old ∷ []) }
 
-        // After an error each place stands as it was, or holds the new table in whatever a stop may leave,
-        // or has its header pending.
+        // After an error each place is unchanged, or holds the new table whatever a crash leaves, or has an
+        // unsynced header.
         ensures after { StartsSynced (D.state disk.old) self.old
             → OnErr result (BothSidesAfter self.old (D.state disk.old) (D.state disk.new)) }
 
@@ -119,15 +120,15 @@ impl GPT {
         let alloc = self.partitions.alloc();
         check(alloc, &self.header, self.partitions.as_slice())?;
 
-        // No memory is taken from here on.
+        // Nothing is allocated from here on.
         let other = self.writable_other(disk)?;
         self.write_both(disk, other)
     }
 
-    /// The checks of `write_into` alone, for a disk of so many bytes. An Ok says that a write of this table
-    /// to such a disk is refused by the disk alone, where it fails, or for want of memory.
+    /// Checks the table as `write_into` does, for a disk of `size` bytes. After `Ok`, a write of this table to
+    /// such a disk fails only if the disk fails or memory runs out.
     ///
-    /// The errors are those of `write_into` but `Io`, in the same order.
+    /// The errors are those of `write_into` except `Io`, in the same order.
     pub fn check_write(&self, size: u64) -> Result<()>
         ensures answer { OnOk result (MayBeWritten self.now size) }
         ensures refused { IfErr result (λ e. RefusesTable self.now size (fault_of e)) }
@@ -141,8 +142,7 @@ impl GPT {
         self.check_room(&other, size)
     }
 
-    // Writes both copies, where neither is refused: the other one, which gets this header, and then the
-    // own one.
+    // Writes the other copy, with the header `other`, and then the own copy. There must be room for both.
     fn write_both<D: Disk>(&mut self, disk: &mut D, mut other: GPTHeader) -> Result<GPTHeader>
         requires sector { 0 < self.old.sector_size }
         requires coherent { IsCoherent self.old.header (entries_in self.old) }
@@ -174,7 +174,7 @@ impl GPT {
         Ok(other)
     }
 
-    // The other header, where both copies may be written to the disk.
+    // Returns the other header, if both copies may be written to the disk.
     fn writable_other<D: Disk>(&self, disk: &mut D) -> Result<GPTHeader>
         ensures reads { Reads (D.state disk.old) (D.state disk.new) }
         ensures counts { CountsFailure result (D.state disk.old) (D.state disk.new) }
@@ -191,7 +191,7 @@ impl GPT {
         Ok(other)
     }
 
-    // The other header, where both copies start and end below byte 2^64.
+    // Returns the other header, if both copies start and end below byte 2^64.
     fn addressable_other(&self) -> Result<GPTHeader>
         ensures answer { refusal_of result
             ≡ (if is_addressable_table self.now then None else Some overflow) }
@@ -207,7 +207,7 @@ impl GPT {
         Ok(other)
     }
 
-    // Refuses a disk of so many bytes on which one of the two copies does not end.
+    // Returns `NoSpaceLeft` if a copy ends past `size` bytes.
     fn check_room(&self, other: &GPTHeader, size: u64) -> Result<()>
         requires other { other.now ≡ other_header self.now.header }
         requires addressable { IsTrue (is_addressable_table self.now) }
@@ -221,8 +221,8 @@ impl GPT {
     }
 }
 
-// Writes one copy, whose entries have this checksum, and syncs it. After an error nothing was written,
-// or the header's range is pending.
+// Writes one copy, with `checksum` as that of its entries, and syncs it. After an error nothing was written, or
+// the header's range is unsynced.
 fn write_and_sync<D: Disk>(
     disk: &mut D,
     header: &mut GPTHeader,
