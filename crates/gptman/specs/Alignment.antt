@@ -1,15 +1,15 @@
--- The alignment that a reading derives: what the starts of the used entries are multiples of.
+-- The alignment that a read derives from the starts of the used entries.
 use Prim.Native.Nat.{◌∣◌}
 use Rattle.std.specs.Prelude.{◌≡◌, ◌≢◌, ℕ, ◌≤◌, List, [], ◌∷◌, map, filter, All}
 use Rattle.gptman.specs.Entry.{is_used}
 use Rattle.gptman.specs.declared.codec.entry.GPTPartitionEntry.{GPTPartitionEntry}
 use Rattle.gptman.specs.declared.codec.header.GPTHeader.{GPTHeader}
 
--- the starts of the used entries
+-- The starts of the used entries.
 abbrev pub used_starts : List GPTPartitionEntry → List ℕ
 used_starts es = map (λ e. e.starting_lba) (filter is_used es)
 
--- a is the greatest number from 1 to 16384 that divides each of them
+-- a is the largest number from 1 to 16384 that divides each start.
 pub record IsGreatestDivisor (starts : List ℕ) (a : ℕ) : Type 0 where
   pub low : 1 ≤ a
   pub high : a ≤ 16384
@@ -19,20 +19,21 @@ pub record IsGreatestDivisor (starts : List ℕ) (a : ℕ) : Type 0 where
 abbrev pub AreZero : List ℕ → Type 0
 AreZero starts = All (λ s. s ≡ 0) starts
 
--- 2048 without used entries; 1 for one at the first usable sector, and where all start at 0; else the greatest divisor
+-- The alignment: 2048 if no entry is used; 1 if the only used one starts at the first usable sector, or all start at 0;
+-- else the largest divisor.
 pub record IsAlignmentOf (first : ℕ) (starts : List ℕ) (a : ℕ) : Type 0 where
   pub none : starts ≡ [] → a ≡ 2048
   pub alone : starts ≡ first ∷ [] → a ≡ 1
   pub zero : starts ≢ [] → AreZero starts → a ≡ 1
   pub other : starts ≢ [] → starts ≢ first ∷ [] → ¬ AreZero starts → IsGreatestDivisor starts a
 
--- the same for one number and up to 16384
+-- a is the largest divisor of the number from 1 to 16384.
 pub record IsGreatestUpTo (number a : ℕ) : Type 0 where
   pub low : 1 ≤ a
   pub high : a ≤ 16384
   pub divides : a ∣ number
   pub greatest : (d : ℕ) → d ≤ 16384 → d ∣ number → d ≤ a
 
--- the alignment of a table, in sectors
+-- The alignment of a table, in sectors.
 abbrev pub IsAlignment : GPTHeader → List GPTPartitionEntry → ℕ → Type 0
 IsAlignment h es a = IsAlignmentOf h.first_usable_lba (used_starts es) a

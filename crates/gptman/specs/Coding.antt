@@ -1,4 +1,4 @@
--- A header and an entry as bytes: numbers are little endian, and each field stands at its place.
+-- Headers and entries as bytes. Numbers are little endian, and each field is at its offset.
 use Rattle.std.specs.Prelude.{◌≡◌, ℕ, ◌+◌, ◌*◌, ◌^◌, ◌<◌, List, [], ◌++◌, map, flat_map, slice_range, slice_index, length, replicate, encode_utf8_all}
 use Rattle.std.specs.List.{range_with_len}
 use Rattle.byteorder.specs.Endian.{little_bytes}
@@ -7,7 +7,7 @@ use Rattle.gptman.specs.Name.{text_of}
 use Rattle.gptman.specs.declared.codec.header.GPTHeader.{GPTHeader}
 use Rattle.gptman.specs.declared.codec.entry.GPTPartitionEntry.{GPTPartitionEntry}
 
--- each field of the header is the number at its place in the bytes, or the bytes there
+-- Each field of the header is the number, or the bytes, at its offset.
 pub record IsHeaderCoding (h : GPTHeader) (b : List ℕ) : Type 0 where
   pub signature : h.signature ≡ slice_range b 0 8
   pub revision : h.revision ≡ slice_range b 8 12
@@ -24,11 +24,11 @@ pub record IsHeaderCoding (h : GPTHeader) (b : List ℕ) : Type 0 where
   pub size_of_partition_entry : h.size_of_partition_entry ≡ le (slice_range b 84 88)
   pub partition_entry_array_crc32 : h.partition_entry_array_crc32 ≡ le (slice_range b 88 92)
 
--- the 36 units of two bytes from byte 56 on
+-- The 36 units of two bytes from byte 56 on.
 unfoldable pub units_at : List ℕ → List ℕ
 units_at b = map (λ k. le (slice_range b (56 + 2 * k) (56 + 2 * k + 2))) (range_with_len 0 36)
 
--- the same for an entry; of the name only the units
+-- Each field of the entry is the number, or the bytes, at its offset. The text of the name is not encoded.
 pub record IsEntryCoding (e : GPTPartitionEntry) (b : List ℕ) : Type 0 where
   pub partition_type_guid : e.partition_type_guid ≡ slice_range b 0 16
   pub unique_partition_guid : e.unique_partition_guid ≡ slice_range b 16 32
@@ -37,11 +37,11 @@ pub record IsEntryCoding (e : GPTPartitionEntry) (b : List ℕ) : Type 0 where
   pub attribute_bits : e.attribute_bits ≡ le (slice_range b 48 56)
   pub units : e.partition_name.units ≡ units_at b
 
--- the entry was read: its text is that of its units
+-- The text of the name is that of its units, as in an entry that was read.
 abbrev pub HasReadName : GPTPartitionEntry → Type 0
 HasReadName e = e.partition_name.text ≡ encode_utf8_all (text_of e.partition_name.units)
 
--- the header that bytes hold
+-- The header that the bytes encode.
 abbrev pub header_of : List ℕ → GPTHeader
 header_of b = record {
   signature = slice_range b 0 8;
@@ -60,7 +60,7 @@ header_of b = record {
   partition_entry_array_crc32 = le (slice_range b 88 92);
 }
 
--- the entry that bytes hold, with the text of its units
+-- The entry that the bytes encode; its name has the text of its units.
 unfoldable pub entry_of : List ℕ → GPTPartitionEntry
 entry_of b = record {
   partition_type_guid = slice_range b 0 16;
@@ -71,7 +71,7 @@ entry_of b = record {
   partition_name = record { text = encode_utf8_all (text_of (units_at b)); units = units_at b };
 }
 
--- the bytes of a header: its parts, one after the other
+-- The bytes of a header: its fields in order.
 unfoldable pub header_bytes : GPTHeader → List ℕ
 header_bytes h =
     h.signature ++ h.revision ++ little_bytes 4 h.header_size ++ little_bytes 4 h.crc32_checksum ++ h.reserved
@@ -80,17 +80,17 @@ header_bytes h =
     ++ little_bytes 4 h.number_of_partition_entries ++ little_bytes 4 h.size_of_partition_entry
     ++ little_bytes 4 h.partition_entry_array_crc32
 
--- the bytes of an entry; of the name only the units
+-- The bytes of an entry: its fields in order, with only the units of the name.
 unfoldable pub entry_bytes : GPTPartitionEntry → List ℕ
 entry_bytes e =
     e.partition_type_guid ++ e.unique_partition_guid ++ little_bytes 8 e.starting_lba ++ little_bytes 8 e.ending_lba
     ++ little_bytes 8 e.attribute_bits ++ flat_map (little_bytes 2) e.partition_name.units
 
--- the bytes of all entries, in order
+-- The bytes of all entries, in order.
 abbrev pub array_bytes : List GPTPartitionEntry → List ℕ
 array_bytes es = flat_map entry_bytes es
 
--- the unused entry, 128 zero bytes
+-- The unused entry, 128 zero bytes.
 abbrev pub empty_entry : GPTPartitionEntry
 empty_entry = record {
   partition_type_guid = replicate 16 0;
@@ -101,7 +101,7 @@ empty_entry = record {
   partition_name = record { text = []; units = replicate 36 0 };
 }
 
--- each field of the header is a value of its type
+-- Each field of the header is a value of its type.
 pub record FitsHeader (h : GPTHeader) : Type 0 where
   pub signature : length h.signature ≡ 8
   pub revision : length h.revision ≡ 4
@@ -118,7 +118,7 @@ pub record FitsHeader (h : GPTHeader) : Type 0 where
   pub size_of_partition_entry : h.size_of_partition_entry < 2 ^ 32
   pub partition_entry_array_crc32 : h.partition_entry_array_crc32 < 2 ^ 32
 
--- each field of the entry is
+-- Each field of the entry is a value of its type.
 pub record FitsEntry (e : GPTPartitionEntry) : Type 0 where
   pub partition_type_guid : length e.partition_type_guid ≡ 16
   pub unique_partition_guid : length e.unique_partition_guid ≡ 16

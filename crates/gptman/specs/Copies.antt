@@ -1,4 +1,4 @@
--- What a look at both copies of a table tells.
+-- The report of `check` on both copies of a table.
 use Rattle.std.specs.Prelude.{◌≡◌, ◌⊎◌, ℕ, List, Result, Ok, IsTrue}
 use Rattle.gptman.specs.Answers.{answer_of, Fails}
 use Rattle.gptman.specs.Copy.{Copy, copy_of_whole}
@@ -14,17 +14,17 @@ use Rattle.gptman.specs.declared.codec.entry.GPTPartitionEntry.{GPTPartitionEntr
 use Rattle.gptman.specs.declared.codec.header.GPTHeader.{GPTHeader}
 use Rattle.gptman.specs.declared.copies.BothCopies.{BothCopies}
 
--- Both sides hold one table, each in its side's form.
+-- Both places hold the same table, each in the form of its place.
 pub record HoldOneTable (view : List ℕ) (ss : ℕ) : Type 0 where
   pub table : DiskTable
   pub at_primary : Holds view ss primary table
   pub at_backup : Holds view ss backup table
 
--- what was seen of a copy, unless the disk failed: it, or its fault
+-- A copy that was found, or its fault, unless the disk failed.
 abbrev pub IsSeenAs : Result Copy Fault → DiskState → DiskState → Result WholeCopy Error → Type 0
 IsSeenAs there old new seen = Fails seen old new ⊎ (answer_of copy_of_whole seen ≡ there)
 
--- the other header of the first, with the second's place of the entries and checksums
+-- The other header of the first one, with the checksums and the place of the entries of the second.
 abbrev pub with_sectors_exchanged : GPTHeader → GPTHeader → GPTHeader
 with_sectors_exchanged first second = record (other_header first) {
   crc32_checksum = second.crc32_checksum;
@@ -32,23 +32,24 @@ with_sectors_exchanged first second = record (other_header first) {
   partition_entry_array_crc32 = second.partition_entry_array_crc32;
 }
 
--- The two headers are those of one table, the first in primary form and the second in backup form.
+-- The headers are those of the same table, the first in primary form and the second in backup form.
 pub record AreBothForms (first second : GPTHeader) : Type 0 where
   pub at_primary : IsHeaderForm primary first
   pub at_backup : IsHeaderForm backup second
   pub same : (es : List GPTPartitionEntry) → table_of second es ≡ table_of first es
 
--- Two copies that were read are one table, the first in primary form and the second in backup form.
+-- The copies are the same table, the first in primary form and the second in backup form.
 pub record AreOneTable (first second : Copy) : Type 0 where
   pub forms : AreBothForms first.header second.header
   pub entries : first.entries ≡ second.entries
 
--- Both were found, and are one table.
+-- Both copies were found, and are the same table.
 abbrev pub AreFoundSame : Result Copy Fault → Result Copy Fault → Type 0
 AreFoundSame (Ok first) (Ok second) = AreOneTable first second
 AreFoundSame _ _ = ⊥
 
--- What was found of both copies, unless the disk failed: each copy, or its fault; and whether both sides hold one table.
+-- The copies that were found, unless the disk failed: each copy or its fault, and whether both places hold the same
+-- table.
 pub record IsChecked (ss : ℕ) (old new : DiskState) (copies : BothCopies) : Type 0 where
   pub at_primary : IsSeenAs (copy_in primary old.view ss) old new copies.primary
   pub at_backup : IsSeenAs (copy_in backup old.view ss) old new copies.backup

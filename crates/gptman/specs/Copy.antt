@@ -1,4 +1,4 @@
--- A copy: a header and its entries in their places on the disk.
+-- A copy: a header and its entries at their places on the disk.
 use Rattle.std.specs.Prelude.{◌≡◌, ◌≤◌, ◌<◌, ◌⊎◌, ◌+◌, ◌*◌, ◌^◌, ◌||◌, ℕ, Bool, List, [], ◌∷◌, ◌++◌, length, take, drop, map, replicate, get_or, nat_eq, nat_le, nat_lt, bytes_eq, Option, Some, None, Result, Ok, Err, if◌then◌else◌}
 use Rattle.std.specs.List.{range_with_len}
 use Rattle.gptman_disk.specs.Bytes.{part}
@@ -9,18 +9,18 @@ use Rattle.gptman.specs.declared.copy.WholeCopy.{WholeCopy}
 use Rattle.gptman.specs.declared.codec.header.GPTHeader.{GPTHeader}
 use Rattle.gptman.specs.declared.codec.entry.GPTPartitionEntry.{GPTPartitionEntry}
 
--- "EFI PART"
+-- The text "EFI PART".
 abbrev pub right_signature : List ℕ
 right_signature = 0x45 ∷ 0x46 ∷ 0x49 ∷ 0x20 ∷ 0x50 ∷ 0x41 ∷ 0x52 ∷ 0x54 ∷ []
 
 abbrev pub right_revision : List ℕ
 right_revision = 0 ∷ 0 ∷ 1 ∷ 0 ∷ []
 
--- the checksum of 92 bytes, with bytes 16 to 19 as zero
+-- The checksum of a header's 92 bytes, with bytes 16 to 19 as zero.
 abbrev pub header_crc : List ℕ → ℕ
 header_crc x = crc_of (take 16 x ++ replicate 4 0 ++ drop 20 x)
 
--- At byte p stands this header, of right signature, revision, size and checksum.
+-- This header is at byte p, with the right signature, revision, size and checksum.
 pub record HeaderAt (b : List ℕ) (p : ℕ) (h : GPTHeader) : Type 0 where
   pub inside : p + 92 ≤ length b
   pub coding : IsHeaderCoding h (part b p 92)
@@ -29,7 +29,7 @@ pub record HeaderAt (b : List ℕ) (p : ℕ) (h : GPTHeader) : Type 0 where
   pub header_size : h.header_size ≡ 92
   pub checksum : h.crc32_checksum ≡ header_crc (part b p 92)
 
--- At byte p stands this header, and where it says these entries, of right checksum.
+-- This header is at byte p, and these entries, with the right checksum, are at the place that it names.
 pub record CopyAt (b : List ℕ) (p ss : ℕ) (h : GPTHeader) (es : List GPTPartitionEntry) : Type 0 where
   pub header : HeaderAt b p h
   pub count : length es ≡ h.number_of_partition_entries
@@ -48,7 +48,7 @@ value_tests h x =
     ∷ (nat_eq h.crc32_checksum (header_crc x), invalid_checksum h.crc32_checksum (header_crc x))
     ∷ []
 
--- The five tests of a header at byte p of len bytes, whose bytes are x.
+-- The five tests of a header at byte p of a disk of len bytes, whose bytes are x.
 abbrev pub header_tests : ℕ → ℕ → List ℕ → List (Bool × Fault)
 header_tests len p x = (nat_le (p + 92) len, io) ∷ value_tests (header_of x) x
 
@@ -66,11 +66,11 @@ pub record Copy : Type 0 where
   pub header : GPTHeader
   pub entries : List GPTPartitionEntry
 
--- the n entries that bytes hold
+-- The n entries that the bytes encode.
 unfoldable pub entries_of : List ℕ → ℕ → List GPTPartitionEntry
 entries_of y n = map (λ i. entry_of (part y (128 * i) 128)) (range_with_len 0 n)
 
--- The copy at byte p if its header and its entries pass all nine tests, or the fault of the first that fails.
+-- The copy at byte p, if its header and entries pass all nine tests, or the fault of the first that fails.
 unfoldable pub copy_at : List ℕ → ℕ → ℕ → Result Copy Fault
 copy_at b p ss =
     let x = part b p 92 in
@@ -81,37 +81,38 @@ copy_at b p ss =
       | Some fault ↦ Err fault
     ]
 
--- what passed, or the fault
+-- The value if there is no fault, else the fault.
 abbrev pub unless : {X : Type 0} → Option Fault → X → Result X Fault
 unless None x = Ok x
 unless (Some fault) x = Err fault
 
--- the header at byte p alone, or its fault
+-- The header at byte p, or its fault.
 unfoldable pub header_result : List ℕ → ℕ → Result GPTHeader Fault
 header_result b p = let x = part b p 92 in unless (first_failing (header_tests (length b) p x)) (header_of x)
 
--- the entries of a header alone, or their fault
+-- The entries of a header, or their fault.
 unfoldable pub array_result : List ℕ → ℕ → GPTHeader → Result (List GPTPartitionEntry) Fault
 array_result b ss h =
     let y = part b (h.partition_entry_lba * ss) (128 * h.number_of_partition_entries) in
     unless (first_failing (array_tests (length b) ss h y)) (entries_of y h.number_of_partition_entries)
 
--- the entry at byte p alone, whatever it holds
+-- The entry at byte p, without tests of its values.
 unfoldable pub entry_result : List ℕ → ℕ → Result GPTPartitionEntry Fault
 entry_result b p = if nat_le (p + 128) (length b) then Ok (entry_of (part b p 128)) else Err io
 
--- a header with both checksums made for these entries
+-- A header with both checksums computed for these entries.
 unfoldable pub with_checksums : GPTHeader → List GPTPartitionEntry → GPTHeader
 with_checksums h es =
     let summed : GPTHeader = record h { partition_entry_array_crc32 = crc_of (array_bytes es) } in
     record summed { crc32_checksum = header_crc (header_bytes summed) }
 
--- The header size is 92, and the list of entries is as the header says.
+-- The header describes the entries: its size is 92, its count their number, and its entry size 128 unless there are
+-- none.
 pub record IsCoherent (h : GPTHeader) (es : List GPTPartitionEntry) : Type 0 where
   pub header_size : h.header_size ≡ 92
   pub count : length es ≡ h.number_of_partition_entries
   pub entry_size : (h.size_of_partition_entry ≡ 128) ⊎ (h.number_of_partition_entries ≡ 0)
 
--- the copy that was read
+-- The copy that was read.
 abbrev pub copy_of_whole : WholeCopy → Copy
 copy_of_whole whole = record { header = whole.header; entries = whole.entries.items }

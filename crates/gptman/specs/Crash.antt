@@ -1,4 +1,4 @@
--- What a write of a table starts from, and what it leaves where it is stopped or fails.
+-- The start of a write of a table, and the disk that it leaves after a crash or an error.
 use Rattle.std.specs.Prelude.{◌≡◌, ◌⊎◌, ℕ, List, [], ◌++◌, length, Ok, IsErr, IsTrue}
 use Rattle.gptman.specs.Copy.{IsCoherent}
 use Rattle.gptman_disk.specs.Disk.{AgreesOutside, DiskState, Image, IsHonest, IsPending, LeavesOnly, Outside}
@@ -14,12 +14,13 @@ use Rattle.gptman.specs.declared.codec.header.GPTHeader.{GPTHeader}
 use Rattle.gptman.specs.declared.edit.Edit.{Edit}
 use Rattle.gptman.specs.declared.table.GPT.{GPT}
 
--- the side that is not this one
+-- The other place.
 abbrev pub other_side : Side → Side
 other_side primary = backup
 other_side backup = primary
 
--- One good copy: nothing is pending, the side of the value's form holds the old table, and the old table's ranges there are clear of those that the value's other copy has.
+-- One good copy: nothing is unsynced, the place of the value's form holds the old table, and the old table's ranges
+-- there do not overlap those of the value's other copy.
 pub record IsKeptFor (disk : DiskState) (g : GPT) (old : Table) : Type 0 where
   pub synced : disk.pending ≡ []
   pub side : Side
@@ -27,27 +28,28 @@ pub record IsKeptFor (disk : DiskState) (g : GPT) (old : Table) : Type 0 where
   pub held : Holds disk.view g.sector_size side old
   pub clear : AreClear (copy_ranges_at side old g.sector_size disk.size) (copy_ranges_at (other_side side) (table_in g) g.sector_size disk.size)
 
--- The two tables have the same four ranges on a disk where both have the stated layout.
+-- The two tables have the same four ranges, on a disk where both have the stated layout.
 pub record HasRangesOf (old new : Table) : Type 0 where
   pub count : new.count ≡ old.count
   pub last : new.last_usable_lba ≡ old.last_usable_lba
 
--- An honest disk on which the value has the stated layout,
+-- An honest disk on which the value has the stated layout.
 pub record StartsLaidOut (disk : DiskState) (g : GPT) : Type 0 where
   pub honest : IsHonest disk
   pub layout : HasLayout g disk.size
 
--- with nothing pending,
+-- An honest disk on which the value has the stated layout, and nothing is unsynced.
 pub record StartsSynced (disk : DiskState) (g : GPT) : Type 0 where
   pub start : StartsLaidOut disk g
   pub synced : disk.pending ≡ []
 
--- An honest disk on which the value has the stated layout, with one good copy of the old table,
+-- An honest disk on which the value has the stated layout, with one good copy of the old table.
 pub record StartsFromOne (disk : DiskState) (g : GPT) (old : Table) : Type 0 where
   pub start : StartsLaidOut disk g
   pub kept : IsKeptFor disk g old
 
--- or with the old table in both places, which are the new one's places too, as it has as many entries and the same last usable sector.
+-- An honest disk on which the value has the stated layout, with the old table stored at both places. These are also the
+-- new table's places, as it has as many entries and the same last usable sector.
 pub record StartsStored (disk : DiskState) (g : GPT) (old : Table) : Type 0 where
   pub honest : IsTrue disk.is_honest
   pub layout : HasLayout g disk.size
@@ -55,41 +57,45 @@ pub record StartsStored (disk : DiskState) (g : GPT) (old : Table) : Type 0 wher
   pub count : (table_in g).count ≡ old.count
   pub last : (table_in g).last_usable_lba ≡ old.last_usable_lba
 
--- A stop at any moment since old leaves all bytes outside of the value's four ranges as they were.
+-- A crash at any moment since old leaves all bytes outside the value's four ranges unchanged.
 abbrev pub StopsKeepOthers : DiskState → DiskState → GPT → Type 0
 StopsKeepOthers old new g = LeavesOnly old new (AgreesOutside (copy_ranges_at primary (table_in g) g.sector_size old.size ++ copy_ranges_at backup (table_in g) g.sector_size old.size) old.view)
 
--- At any moment since old a stop leaves all bytes but those of the value's other copy as they were, or that copy is whole: its side holds the value's table.
+-- A crash at any moment since old leaves all bytes outside the value's other copy unchanged, or that copy complete: its
+-- place holds the value's table.
 abbrev pub StopsComeInTurns : DiskState → DiskState → GPT → Type 0
 StopsComeInTurns old new g = (side : Side) → IsHeaderForm side g.header
     → LeavesOnly old new (λ b. AgreesOutside (copy_ranges_at (other_side side) (table_in g) g.sector_size old.size) old.view b ⊎ Holds b g.sector_size (other_side side) (table_in g))
 
--- No byte of the ranges is pending, and each is as it was.
+-- No byte of the ranges is unsynced, and all are unchanged.
 pub record IsLeftAlone (ranges : List (ℕ × ℕ)) (old new : DiskState) : Type 0 where
   pub not_pending : (k : ℕ) → Inside ranges k → Outside new.pending k
   pub same : AgreesInside ranges old.view new.view
 
--- What a failed write leaves at a side: what was there, or the new table in whatever a stop may leave, or a header that is not synced.
+-- A place after a failed write: it is unchanged, or holds the new table whatever a crash leaves, or has an unsynced
+-- header.
 pub data SideAfter (side : Side) (t : Table) (ss : ℕ) (old new : DiskState) : Type 0 where
   left_alone : IsLeftAlone (copy_ranges_at side t ss old.size) old new → SideAfter side t ss old new
   written : ((b : List ℕ) → Image new b → Holds b ss side t) → SideAfter side t ss old new
   torn : IsPending (copy_start side old.size ss, 92) new → SideAfter side t ss old new
 
--- at both sides
+-- The same at both places.
 abbrev pub BothSidesAfter : GPT → DiskState → DiskState → Type 0
 BothSidesAfter g old new = SideAfter primary (table_in g) g.sector_size old new × SideAfter backup (table_in g) g.sector_size old new
 
--- What agrees with the view in the two ranges of one side is read as the table, from the backup side where the primary copy is not accepted.
+-- A disk that agrees with the view in the two ranges of a place is read as the table, from the backup place if the
+-- primary copy is not accepted.
 pub record IsReadAlone (view : List ℕ) (ss : ℕ) (t : Table) (b : List ℕ) : Type 0 where
   pub from_primary : AgreesInside (copy_ranges_at primary t ss (length view)) view b → ReadsTable b ss primary t
   pub from_backup : AgreesInside (copy_ranges_at backup t ss (length view)) view b → IsErr (copy_in primary b ss) → ReadsTable b ss backup t
 
--- Each copy of the value's table alone is read as it.
+-- Each copy of the value's table is read as the table without the other.
 abbrev pub AreReadAlone : List ℕ → GPT → Type 0
 AreReadAlone view g = (b : List ℕ) → IsReadAlone view g.sector_size (table_in g) b
 
--- A table that the primary side holds is one good copy for a value whose header was fitted to this disk, from one in primary form that counts as many
--- entries: on the stated layout, wherever the last usable sector and the backup sector were.
+-- A table that the primary place holds is one good copy for a value in the stated layout whose header was fitted to
+-- this disk, from one in primary form with as many entries. Its last usable sector and backup sector may have been
+-- elsewhere.
 abbrev pub GrowingIsSafe : DiskState → Type 0
 GrowingIsSafe disk = (was : Table) (h : GPTHeader) (g : GPT) → disk.pending ≡ [] → Holds disk.view g.sector_size primary was
     → IsHeaderForm primary h → h.number_of_partition_entries ≡ was.count
@@ -97,13 +103,13 @@ GrowingIsSafe disk = (was : Table) (h : GPTHeader) (g : GPT) → disk.pending �
     → HasLayout g disk.size
     → IsKeptFor disk g was
 
--- The value is a copy that is accepted at a side, in the form of that side.
+-- The value is a copy that is accepted at a place, in the form of that place.
 pub record IsReadInForm (view : List ℕ) (g : GPT) : Type 0 where
   pub side : Side
   pub accepted : copy_in side view g.sector_size ≡ Ok (copy_of g)
   pub form : IsHeaderForm side g.header
 
--- Such is what a reading takes in the form of the side from which it takes it.
+-- A copy that a read returns in the form of its place is such a value (`IsReadInForm`).
 abbrev pub TakesInForm : List ℕ → Type 0
 TakesInForm view = (g : GPT) → reading_of view g.sector_size ≡ Ok (copy_of g) → IsHeaderForm (taken_from view g.sector_size) g.header → IsReadInForm view g
 
@@ -113,7 +119,8 @@ pub record HasPlacesOf (g next : GPT) : Type 0 where
   pub form : (side : Side) → IsHeaderForm side g.header → IsHeaderForm side next.header
   pub ranges : HasRangesOf (table_in g) (table_in next)
 
--- A value that was read in the form of its side is one good copy for the write of any value with its places, and so of itself, on the stated layout.
+-- A value that was read in the form of its place is one good copy for a write of any value with its places, so also of
+-- itself, in the stated layout.
 abbrev pub KeepsWhatIsRead : DiskState → Type 0
 KeepsWhatIsRead disk = (g next : GPT) → IsHonest disk → disk.pending ≡ [] → IsReadInForm disk.view g → HasPlacesOf g next → HasLayout next disk.size
     → StartsFromOne disk next (table_in g)
@@ -122,7 +129,7 @@ KeepsWhatIsRead disk = (g next : GPT) → IsHonest disk → disk.pending ≡ [] 
 abbrev pub EditsKeepPlaces : Type 0
 EditsKeepPlaces = (g : GPT) (edit : Edit) (len : ℕ) → HasPlacesOf g (after_edit g edit) × (HasLayout g len → HasLayout (after_edit g edit) len)
 
--- A list of edits keeps these too, and that the header says what the list of entries is.
+-- A list of edits keeps these too, and that the header describes the entries.
 abbrev pub EditListsKeepPlaces : Type 0
 EditListsKeepPlaces = (g : GPT) (edits : List Edit) (len : ℕ) → let next = edited_all g edits in
     HasPlacesOf g next × (HasLayout g len → HasLayout next len) × (IsCoherent g.header (entries_in g) → IsCoherent next.header (entries_in next))

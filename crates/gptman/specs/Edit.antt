@@ -10,29 +10,29 @@ use Rattle.gptman.specs.declared.edit.Edit.{Edit}
 use Rattle.gptman.specs.declared.edit.Edit.TheVariants.{Put, Remove, SortEntries, DiskGuid}
 use Rattle.gptman.specs.declared.table.GPT.{GPT}
 
--- what an edit makes of a table
+-- The table after an edit.
 abbrev pub after_edit : GPT → Edit → GPT
 after_edit g (Put i e) = with_entry g i e
 after_edit g (Remove i) = with_entry g i empty_entry
 after_edit g SortEntries = with_entries g (by_rank rank (entries_in g))
 after_edit g (DiskGuid guid) = record g { header = record g.header { disk_guid = guid } }
 
--- the table after all edits, one after the other
+-- The table after all edits, in order.
 abbrev pub edited_all : GPT → List Edit → GPT
 edited_all g edits = fold after_edit g edits
 
--- the table after the first k edits
+-- The table after the first k edits.
 abbrev pub table_after : GPT → List Edit → ℕ → GPT
 table_after g edits k = edited_all g (take k edits)
 
--- what is refused of an edit's number
+-- The error of an edit, because of its number.
 abbrev pub edit_fault : GPT → Edit → Option Fault
 edit_fault g (Put i e) = number_fault g i
 edit_fault g (Remove i) = number_fault g i
 edit_fault g SortEntries = None
 edit_fault g (DiskGuid guid) = None
 
--- what is refused of the first edit that is refused, each of the table that those before it left
+-- The error of the first edit that fails, on the table that the edits before it made.
 abbrev pub edits_fault : GPT → List Edit → Option Fault
 edits_fault g [] = None
 edits_fault g (edit ∷ edits) = option_or (edit_fault g edit) (edits_fault (after_edit g edit) edits)

@@ -1,4 +1,4 @@
--- What a table ends as, where entries of it were lent.
+-- The final value of a table after a borrow of its entries.
 use Rattle.std.specs.Prelude.{ℕ, ◌+◌, List, slice_set}
 use Rattle.std.specs.Borrow.{Lends, MutBor, Fml, Array, follows}
 use Rattle.std.specs.List.{enumerate_from}
@@ -12,26 +12,26 @@ use Rattle.gptman.specs.declared.codec.entry.GPTPartitionEntry.{GPTPartitionEntr
 use Rattle.gptman.specs.declared.table.iter.IterMut.{IterMut}
 use Rattle.gptman.specs.declared.table.GPT.{GPT}
 
--- the list ends with its element at k set to the last value behind r
+-- When the borrow ends, the element at k is the last value of r.
 abbrev pub LendsItem : MutBor (List GPTPartitionEntry) → ℕ → MutBor GPTPartitionEntry → Fml
 LendsItem s k r = Lends entries.the_row entry.the_row s r (slice_set s.now k)
 
--- the table ends with entry i set to the last value behind r
+-- When the borrow ends, entry i is the last value of r.
 abbrev pub LendsEntry : MutBor GPT → ℕ → MutBor GPTPartitionEntry → Fml
 LendsEntry s i r = Lends table.the_row entry.the_row s r (with_entry s.now i)
 
--- the list ends as what r ends as
+-- When the borrow ends, the list is the last value of r.
 abbrev pub LendsItems : MutBor (List GPTPartitionEntry) → MutBor (List GPTPartitionEntry) → Fml
 LendsItems s r = Lends entries.the_row (Array entry.the_row 0) s r (written_over s.now)
 
--- the table ends with the list that r ends as
+-- When the borrow ends, the table has the list that is the last value of r.
 abbrev pub LendsEntries : MutBor GPT → MutBor (List GPTPartitionEntry) → Fml
 LendsEntries s r = Lends table.the_row (Array entry.the_row 0) s r (λ w. with_entries s.now (written_over (entries_in s.now) w))
 
--- the table ends with the list that what the iterator goes over ends as
+-- When the borrow ends, the table has the list that the iterator leaves.
 abbrev pub LendsIter : MutBor GPT → IterMut → Fml
 LendsIter s it = follows table.the_row (Array entry.the_row 0) s.ghost_name (iter_mut_name it.rest) (λ w. with_entries s.now (written_over (entries_in s.now) w))
 
--- the entries that are left, each with its number
+-- The remaining entries, each with its number.
 abbrev pub items_left : IterMut → List (ℕ × GPTPartitionEntry)
 items_left it = enumerate_from (it.passed + 1) (iter_mut_rest it.rest)

@@ -1,4 +1,4 @@
--- The name of a partition: what contracts see of it, and how units of UTF-16 are read.
+-- The name of a partition in contracts, and how its units of UTF-16 are decoded.
 use Rattle.std.specs.Prelude.{ℕ, Bool, nat_eq, List, ◌++◌, length, min, take, replicate, flat_map, ◌≡◌}
 use Rattle.std.specs.List.{before_first}
 use Rattle.std.specs.Char.Escape.{encode_utf16}
@@ -8,29 +8,29 @@ use Rattle.std.specs.Cmp.{IsEquivalence, on_equiv, and_equiv}
 use Rattle.std.specs.Cmp.Lexicographic.{nat_list_eq_equiv}
 use lib.Pointwise.{pointwise}
 
--- a name: the bytes of its text in UTF-8, and its 36 units
+-- A name: the bytes of its text in UTF-8, and its 36 units.
 pub record Name : Type 0 where
   pub text : List ℕ
   pub units : List ℕ
 
--- the text of a name's units: what stands before the first zero, or all of it; a surrogate outside of a pair gives U+FFFD
+-- The text of a name's units: of those before the first zero, or of all. An unpaired surrogate becomes U+FFFD.
 abbrev pub text_of : List ℕ → List ℕ
 text_of units = utf16_lossy_chars (before_first (λ u. nat_eq u 0) units)
 
--- units, cut or filled with zeros to 36
+-- Units, truncated or padded with zeros to 36.
 abbrev pub filled : List ℕ → List ℕ
 filled us = take 36 (us ++ replicate 36 0)
 
--- the units of a text, cut or filled
+-- The units of a text, truncated or padded to 36.
 abbrev pub units_of : List ℕ → List ℕ
 units_of cs = filled (flat_map encode_utf16 cs)
 
--- an array of 36 units holds those of us that fit, which are len
+-- An array of 36 units has those of us that fit, and there are len of them.
 pub record HasUnits (units : List ℕ) (len : ℕ) (us : List ℕ) : Type 0 where
   pub are : units ≡ filled us
   pub long : len ≡ min 36 (length us)
 
--- two names are equal where texts and units are
+-- Names are equal if their texts and their units are.
 abbrev pub name_eq : Name → Name → Bool
 name_eq = eq_of_both (λ a b. pointwise nat_eq a.text b.text) (λ a b. pointwise nat_eq a.units b.units)
 

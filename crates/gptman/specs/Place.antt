@@ -7,7 +7,7 @@ use Rattle.gptman.specs.declared.codec.header.GPTHeader.{GPTHeader}
 use Rattle.gptman.specs.declared.codec.entry.GPTPartitionEntry.{GPTPartitionEntry}
 use Rattle.gptman.specs.declared.table.GPT.{GPT}
 
--- The sector is one that the header gives to partitions; sector 0 never is.
+-- The header permits partitions to use the sector, and it is not sector 0.
 pub record IsUsable (h : GPTHeader) (sector : ℕ) : Type 0 where
   pub positive : 1 ≤ sector
   pub low : h.first_usable_lba ≤ sector
@@ -18,11 +18,11 @@ pub record IsFree (h : GPTHeader) (es : List GPTPartitionEntry) (sector : ℕ) :
   pub usable : IsUsable h sector
   pub uncovered : All (λ e. ¬ IsTrue (covers sector e)) es
 
--- the free sectors of a value
+-- The free sectors of a value.
 abbrev pub IsFreeIn : GPT → ℕ → Type 0
 IsFreeIn g = IsFree g.header (entries_in g)
 
--- From a to b all sectors are free, and neither neighbour is.
+-- The sectors from a to b are free, and neither neighbour is.
 pub record IsRun (free : ℕ → Type 0) (a b : ℕ) : Type 0 where
   pub ordered : a ≤ b
   pub inside : (x : ℕ) → a ≤ x → x ≤ b → free x
@@ -35,7 +35,7 @@ pub record IsFirstMultiple (align a s : ℕ) : Type 0 where
   pub from : a ≤ s
   pub least : (t : ℕ) → align ∣ t → a ≤ t → s ≤ t
 
--- The n sectors from s on are a run without what stands before its first multiple of align.
+-- The n sectors from s on are what remains of a run from its first multiple of align on.
 pub record IsAlignedSlot (free : ℕ → Type 0) (align s n : ℕ) : Type 0 where
   pub first : ℕ
   pub last : ℕ
@@ -44,36 +44,36 @@ pub record IsAlignedSlot (free : ℕ → Type 0) (align s n : ℕ) : Type 0 wher
   pub within : s ≤ last
   pub long : s + n ≡ last + 1
 
--- The list is exactly all aligned slots, each as its start and its length, by ascending start.
+-- The list has exactly the aligned slots, as (start, length), by ascending start.
 pub record AreSlots (free : ℕ → Type 0) (align : ℕ) (slots : List (ℕ × ℕ)) : Type 0 where
   pub each : All (λ s. IsAlignedSlot free align s.0 s.1) slots
   pub every : (s n : ℕ) → IsAlignedSlot free align s n → Contains slots (s, n)
   pub ascending : AllPairs (λ s t. s.0 < t.0) slots
 
--- there is no aligned slot
+-- There is no aligned slot.
 abbrev pub HasNoSlot : (ℕ → Type 0) → ℕ → Type 0
 HasNoSlot free align = (s n : ℕ) → ¬ IsAlignedSlot free align s n
 
--- s is a multiple of align, and the n sectors from s on are free
+-- s is a multiple of align, and the n sectors from s on are free.
 pub record IsPlace (free : ℕ → Type 0) (align n s : ℕ) : Type 0 where
   pub multiple : align ∣ s
   pub inside : (x : ℕ) → s ≤ x → x < s + n → free x
 
--- there is no place for n sectors
+-- There is no place for n sectors.
 abbrev pub HasNoPlace : (ℕ → Type 0) → ℕ → ℕ → Type 0
 HasNoPlace free align n = (s : ℕ) → ¬ IsPlace free align n s
 
--- the least place for n sectors
+-- The lowest place for n sectors.
 pub record IsFirstPlace (free : ℕ → Type 0) (align n s : ℕ) : Type 0 where
   pub place : IsPlace free align n s
   pub least : (t : ℕ) → IsPlace free align n t → s ≤ t
 
--- the greatest place for n sectors
+-- The highest place for n sectors.
 pub record IsLastPlace (free : ℕ → Type 0) (align n s : ℕ) : Type 0 where
   pub place : IsPlace free align n s
   pub greatest : (t : ℕ) → IsPlace free align n t → t ≤ s
 
--- s is the start of the shortest aligned slot of at least n sectors, and of the leftmost of equals
+-- s is the start of the shortest aligned slot of at least n sectors, the leftmost if several are as short.
 pub record IsBestPlace (free : ℕ → Type 0) (align n s : ℕ) : Type 0 where
   pub long : ℕ
   pub slot : IsAlignedSlot free align s long
@@ -81,7 +81,7 @@ pub record IsBestPlace (free : ℕ → Type 0) (align n s : ℕ) : Type 0 where
   pub shortest : (t k : ℕ) → IsAlignedSlot free align t k → n ≤ k → long ≤ k
   pub leftmost : (t : ℕ) → IsAlignedSlot free align t long → s ≤ t
 
--- the greatest multiple of align that an aligned slot has room for
+-- The largest multiple of align that an aligned slot has room for.
 pub record IsMaximumSize (free : ℕ → Type 0) (align m : ℕ) : Type 0 where
   pub start : ℕ
   pub long : ℕ
@@ -89,10 +89,10 @@ pub record IsMaximumSize (free : ℕ → Type 0) (align m : ℕ) : Type 0 where
   pub is : m ≡ long - long % align
   pub greatest : (t k : ℕ) → IsAlignedSlot free align t k → k - k % align ≤ m
 
--- a search for so many sectors, at least one, finds such a place in the value, or there is none
+-- The search for `size` sectors, at least one, finds such a place in the value, or there is none.
 abbrev pub FindsPlace : ((ℕ → Type 0) → ℕ → ℕ → ℕ → Type 0) → GPT → ℕ → Option ℕ → Type 0
 FindsPlace IsSuch g size found = MatchOption found (HasNoPlace (IsFreeIn g) g.align (max 1 size)) (IsSuch (IsFreeIn g) g.align (max 1 size))
 
--- the number of the last of so many sectors fits in 64 bits
+-- The last of the `size` sectors that were found fits in 64 bits.
 abbrev pub EndsIn64Bits : ℕ → Option ℕ → Type 0
 EndsIn64Bits size found = IfSome found (λ s. s + max 1 size ≤ 2 ^ 64)

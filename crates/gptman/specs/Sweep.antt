@@ -1,9 +1,9 @@
--- What one pass over the covered ranges, by ascending start, sees of the sectors.
+-- The sectors that one pass over the covered ranges, by ascending start, finds.
 use Rattle.std.specs.Prelude.{◌≡◌, ℕ, ◌+◌, ◌<◌, ◌≤◌, List, [], ◌∷◌, ◌++◌, All}
 use Rattle.gptman.specs.Place.{IsFirstMultiple, IsUsable}
 use Rattle.gptman.specs.declared.codec.header.GPTHeader.{GPTHeader}
 
--- the sector is not in the range, which is its first and its last sector
+-- The sector is not in the range (first, last).
 abbrev pub Misses : ℕ → ℕ × ℕ → Type 0
 Misses sector r = r.0 ≤ sector → ¬ (sector ≤ r.1)
 
@@ -12,22 +12,22 @@ pub record IsOutside (h : GPTHeader) (rs : List (ℕ × ℕ)) (sector : ℕ) : T
   pub usable : IsUsable h sector
   pub uncovered : All (Misses sector) rs
 
--- The slot goes from the first multiple of align from a on to b.
+-- The slot is from the first multiple of align from a on, to b.
 pub record IsSlotOf (align a b : ℕ) (slot : ℕ × ℕ) : Type 0 where
   pub start : IsFirstMultiple align a slot.0
   pub within : slot.0 ≤ b
   pub long : slot.0 + slot.1 ≡ b + 1
 
--- no multiple of align stands from a to b
+-- There is no multiple of align from a to b.
 abbrev pub HasNoMultiple : ℕ → ℕ → ℕ → Type 0
 HasNoMultiple align a b = (s : ℕ) → IsFirstMultiple align a s → b < s
 
--- The slot of the sectors from a to b, if they have one, comes to the end of the list.
+-- The slot of the sectors from a to b, if they have one, is appended to the list.
 pub data AddsSlot (align a b : ℕ) (old new : List (ℕ × ℕ)) : Type 0 where
   added : (slot : ℕ × ℕ) → IsSlotOf align a b slot → new ≡ old ++ slot ∷ [] → AddsSlot align a b old new
   kept : HasNoMultiple align a b → new ≡ old → AddsSlot align a b old new
 
--- The same for the sectors behind p up to b, if there are any.
+-- The slot of the sectors after p up to b, if they have one, is appended to the list.
 pub data AddsGap (align p b : ℕ) (old new : List (ℕ × ℕ)) : Type 0 where
   gap : p < b → AddsSlot align (p + 1) b old new → AddsGap align p b old new
   no_gap : b ≤ p → new ≡ old → AddsGap align p b old new

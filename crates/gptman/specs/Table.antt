@@ -1,4 +1,4 @@
--- What a table is, whichever of its two forms one looks at.
+-- A table, whichever of its two forms is read.
 use Rattle.std.specs.Prelude.{◌≡◌, ◌⊎◌, ◌+◌, ℕ, List, replicate, map, min, max}
 use Rattle.gptman.specs.Coding.{empty_entry}
 use Rattle.gptman.specs.Fit.{new_header_of, fit_header}
@@ -8,7 +8,7 @@ use Rattle.gptman.specs.declared.codec.header.GPTHeader.{GPTHeader}
 use Rattle.gptman.specs.declared.codec.entry.GPTPartitionEntry.{GPTPartitionEntry}
 use Rattle.gptman.specs.declared.table.GPT.{GPT}
 
--- an entry, without the text that its name has in memory
+-- An entry, without the text that its name has in memory.
 pub record TableEntry : Type 0 where
   pub partition_type_guid : List ℕ
   pub unique_partition_guid : List ℕ
@@ -17,7 +17,8 @@ pub record TableEntry : Type 0 where
   pub attribute_bits : ℕ
   pub units : List ℕ
 
--- A table, without what its two forms differ in and without checksums. The sectors of its headers are a pair in no order, kept with the lower first.
+-- A table, without checksums and without the differences of its two forms. The sectors of its headers are an unordered
+-- pair, stored with the lower one first.
 pub record Table : Type 0 where
   pub signature : List ℕ
   pub revision : List ℕ
@@ -32,7 +33,7 @@ pub record Table : Type 0 where
   pub entry_size : ℕ
   pub entries : List TableEntry
 
--- the table of a header and entries
+-- The table of a header and entries.
 abbrev pub table_of : GPTHeader → List GPTPartitionEntry → Table
 table_of h es = record {
   signature = h.signature;
@@ -56,29 +57,30 @@ table_of h es = record {
   }) es;
 }
 
--- the entries of a value, in order
+-- The entries of a value, in order.
 abbrev pub entries_in : GPT → List GPTPartitionEntry
 entries_in g = g.partitions
 
--- the table of a value
+-- The table of a value.
 abbrev pub table_in : GPT → Table
 table_in g = table_of g.header g.partitions
 
--- A header stands in this form: in sector 1 with its entries from sector 2, or in the other sector with its entries behind the last usable one.
+-- The header is in this form: in sector 1 with its entries from sector 2, or in the other sector with its entries after
+-- the last usable one.
 abbrev pub IsHeaderForm : Side → GPTHeader → Type 0
 IsHeaderForm primary h = (h.primary_lba ≡ 1) × (h.partition_entry_lba ≡ 2)
 IsHeaderForm backup h = (h.backup_lba ≡ 1) × (h.partition_entry_lba ≡ h.last_usable_lba + 1)
 
--- in one of the two
+-- The header is in one of the two forms.
 abbrev pub IsInForm : GPTHeader → Type 0
 IsInForm h = IsHeaderForm primary h ⊎ IsHeaderForm backup h
 
--- the copy is the table in the form of that side
+-- The copy is the table, in the form of that place.
 pub record IsForm (side : Side) (t : Table) (copy : Copy) : Type 0 where
   pub table : table_of copy.header copy.entries ≡ t
   pub form : IsHeaderForm side copy.header
 
--- the value of a new table on a disk of that length: so many unused entries
+-- A new table of `count` unused entries, for a disk of len bytes.
 abbrev pub new_table_of : ℕ → List ℕ → ℕ → ℕ → GPT
 new_table_of count guid ss len = record {
   sector_size = ss;
@@ -87,10 +89,10 @@ new_table_of count guid ss len = record {
   align = 2048;
 }
 
--- one of 128
+-- A new table of 128 unused entries.
 abbrev pub new_table : List ℕ → ℕ → ℕ → GPT
 new_table guid ss len = new_table_of 128 guid ss len
 
--- the value with its header fitted to a disk of len bytes
+-- The value with its header fitted to a disk of len bytes.
 abbrev pub grow_to : GPT → ℕ → GPT
 grow_to g len = record g { header = fit_header g.header g.sector_size len }

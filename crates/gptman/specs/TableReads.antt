@@ -1,4 +1,4 @@
--- What reading a table answers.
+-- Results of reading a table.
 use Rattle.std.specs.Prelude.{◌≡◌, ◌⊎◌, ◌&&◌, ℕ, Bool, true, false, List, Result, Ok, Err, IsErr}
 use Rattle.gptman.specs.Answers.{answer_of, Refuses, is_damage}
 use Rattle.gptman.specs.Copy.{Copy, IsCoherent}
@@ -10,7 +10,7 @@ use Rattle.gptman.specs.Table.{entries_in}
 use Rattle.gptman_disk.specs.declared.error.Error.{Error}
 use Rattle.gptman.specs.declared.table.GPT.{GPT}
 
--- what reading a table may refuse with
+-- The errors of reading a table.
 abbrev pub is_reading_fault : Fault → Bool
 is_reading_fault io = true
 is_reading_fault invalid_signature = true
@@ -18,37 +18,38 @@ is_reading_fault out_of_memory = true
 is_reading_fault (read_error first second) = is_damage first && is_damage second
 is_reading_fault _ = false
 
--- the copy that a value stands for
+-- The copy of a value: its header and its entries.
 abbrev pub copy_of : GPT → Copy
 copy_of g = record { header = g.header; entries = entries_in g }
 
--- On an honest disk that did not fail the answer is this one, or that there is no memory.
+-- On an honest disk that did not fail, the result is this one, or `OutOfMemory`.
 abbrev pub AnswersReading : Result Copy Fault → Result GPT Error → DiskState → DiskState → Type 0
 AnswersReading answer result old new = IsHonest old → Rose old new ⊎ (Refuses result out_of_memory ⊎ (answer_of copy_of result ≡ answer))
 
--- a reading with sectors of 512 bytes shows no signature
+-- A read with sectors of 512 bytes finds no signature.
 abbrev pub ShowsNoSignature : List ℕ → Type 0
 ShowsNoSignature b = reading_of b 512 ≡ Err invalid_signature
 
--- A value as a reading makes it: its entries are as its header says, and its alignment is theirs.
+-- A value as a read makes it: its header describes its entries, and its alignment is derived from them.
 pub record IsAsRead (g : GPT) : Type 0 where
   pub coherent : IsCoherent g.header (entries_in g)
   pub align : IsAlignment g.header (entries_in g) g.align
 
--- The copy is accepted at the primary side, or at the backup side where the primary one is not or the disk failed.
+-- The copy is accepted at the primary place, or at the backup place if the primary copy is not accepted or the disk
+-- failed.
 abbrev pub MayBeRead : DiskState → DiskState → ℕ → Copy → Type 0
 MayBeRead old new ss copy =
     (copy_in primary old.view ss ≡ Ok copy) ⊎ ((copy_in backup old.view ss ≡ Ok copy) × (IsErr (copy_in primary old.view ss) ⊎ Rose old new))
 
--- The disk failed nowhere in the reading; or once, and the copy at the backup side was taken.
+-- The disk did not fail; or it failed once, and the backup copy was read.
 abbrev pub CountsReading : DiskState → DiskState → GPT → Type 0
 CountsReading old new g = HasFailedAsOften old new ⊎ (HasFailedOnceAtMost old new × (copy_in backup old.view g.sector_size ≡ Ok (copy_of g)))
 
--- a copy's fault, or that the disk failed
+-- The fault of a copy, or `Io` because the disk failed.
 abbrev pub IsCopyFault : Side → List ℕ → ℕ → Fault → Type 0
 IsCopyFault side b ss fault = (fault ≡ io) ⊎ (copy_in side b ss ≡ Err fault)
 
--- Both copies' faults.
+-- The faults of both copies.
 pub record AreBothFaults (b : List ℕ) (ss : ℕ) (fault : Fault) : Type 0 where
   pub first : Fault
   pub second : Fault
@@ -56,12 +57,12 @@ pub record AreBothFaults (b : List ℕ) (ss : ℕ) (fault : Fault) : Type 0 wher
   pub at_primary : IsCopyFault primary b ss first
   pub at_backup : IsCopyFault backup b ss second
 
--- what a reading may refuse with, also where the disk failed
+-- The errors of a read, even if the disk failed.
 abbrev pub IsReadingFault : List ℕ → ℕ → Fault → Type 0
 IsReadingFault b ss fault = (fault ≡ io) ⊎ ((fault ≡ out_of_memory) ⊎ ((reading_of b ss ≡ Err fault) ⊎ AreBothFaults b ss fault))
 
--- What the fallback answers where the primary copy has a fault: the reading's answer, or want of memory; or the disk failed, in a seek or in the
--- reading of the backup copy.
+-- The result of reading the backup copy after a fault of the primary one: that of the read, or `OutOfMemory`; or the
+-- disk failed, in a seek or in the backup copy.
 pub data FallsBack {T : Type 0} (result : Result T Error) (f : T → Copy) (b : List ℕ) (ss : ℕ) (first : Fault) (old new : DiskState) : Type 0 where
   read : answer_of f result ≡ fallback b ss first → FallsBack result f b ss first old new
   no_memory : Refuses result out_of_memory → FallsBack result f b ss first old new
