@@ -1,4 +1,4 @@
--- What a write answers, and that a valid table of the stated layout is not refused.
+-- The result of a write, and that a valid table of the stated layout is not refused.
 use Rattle.std.proofs.Common.{◌≡◌, ◌≢◌, ◌⊎◌, ◌≤◌, ◌<◌, ◌+◌, ◌*◌, ◌^◌, ◌&&◌, ◌||◌, ℕ, Bool, true, false, not, List, [], ◌∷◌, ltb, ⊎_elim, Some, None, Result, Ok, Err, refl, sym, ap, ◌∙◌, subst, inl, inr, arith}
 use Rattle.std.specs.Prelude.{if◌then◌else◌, nat_eq, IfErr}
 use Rattle.std.specs.List.{list_all}
@@ -26,7 +26,7 @@ use Rattle.gptman.proofs.FourRanges.{other_laid}
 use Rattle.gptman.proofs.OtherHeader.{other_form}
 use Rattle.gptman.proofs.WrittenCopy.{array_inside, array_start, header_inside, written_array, written_start}
 
--- ---- the ranges of a table of the layout pass
+-- ---- the ranges of a table in the layout pass
 
 ranges_pass : (p : ℕ × ℕ → Bool) (h : GPTHeader) (ss : ℕ) → p (h.primary_lba * ss, 92) ≡ true
     → (h.number_of_partition_entries ≢ 0 → p (h.partition_entry_lba * ss, 128 * h.number_of_partition_entries) ≡ true) → list_all p (copy_ranges h ss) ≡ true
@@ -38,7 +38,7 @@ ranges_pass p h ss header array =
       | inr some ↦ ap at some.0 ∙ and_from (p (h.partition_entry_lba * ss, 128 * h.number_of_partition_entries)) true (array some.1) refl
     ])
 
--- whatever ranges within the disk pass, those of a copy of the layout do
+-- A test that ranges within the disk pass is passed by those of a copy in the layout.
 copy_passes : (p : ℕ × ℕ → Bool) (side : Side) (h : GPTHeader) (es : List GPTPartitionEntry) (ss len : ℕ) → ((at n : ℕ) → at + n ≤ len → p (at, n) ≡ true)
     → IsHeaderForm side h → IsLaidOut (table_of h es) ss len → list_all p (copy_ranges h ss) ≡ true
 copy_passes p side h es ss len within form laid =
@@ -63,7 +63,7 @@ or_second : (s t : Bool) → t ≡ true → (s || t) ≡ true
 or_second true t h = refl
 or_second false t h = h
 
--- A table of the layout is refused neither for its sectors nor for want of room.
+-- A table in the layout is not refused for its sectors or for lack of room.
 pub layout_fits : (g : GPT) (len : ℕ) → len < 2 ^ 64 → HasLayout g len → write_fault g.header g.sector_size len ≡ None
 layout_fits g len small layout =
     let h = g.header in
@@ -76,33 +76,33 @@ layout_fits g len small layout =
       (both_pass (is_inside len) layout.side h es ss len (λ at n inside. le-leb (at + n) len inside) layout.form layout.table, tt),
     )
 
--- ---- what a write answers
+-- ---- the result of a write
 
 never_valid : (h : GPTHeader) (es : List GPTPartitionEntry) (fault : Fault) → IsValid h es → IsValidity h es (Some fault) → ⊥
 never_valid h es fault is (shared_guid shared said) = shared is.own_guids
 never_valid h es fault is (bad_boundaries own bad said) = bad is.boundaries
 never_valid h es fault is (valid good said) = absurd (cc)
 
--- So a valid one with room is refused by the disk and by want of memory alone.
+-- A write of a valid table with room fails only if the disk fails or memory runs out.
 pub failed_or_memory : (g : GPT) (fault : Fault) (old new : DiskState) → IsValid g.header (entries_in g) → HasRoomOn g old.size → RefusesWrite g fault old new → IsFailureOrMemory fault old new
 failed_or_memory g fault old new is fits (no_memory out) = inl out
 failed_or_memory g fault old new is fits (not_valid said) = absurd (never_valid g.header (entries_in g) fault is said)
 failed_or_memory g fault old new is fits (no_room good full) = let e = sym fits ∙ full in absurd (cc)
 failed_or_memory g fault old new is fits (disk_failed good near failed) = inr failed
 
--- A disk that failed has risen.
+-- If the disk failed, its count of failures rose.
 pub failure_rose : {T : Type 0} (r : Result T Error) (old new : DiskState) → IfErr r (λ e. IsFailure (fault_of e) old new) → HasCause r old new
 failure_rose (Ok x) old new failed refuses = absurd refuses
 failure_rose (Err e) old new failed refuses = failed.1
 
--- what is refused of a valid table
+-- The error of writing a valid table.
 pub write_refused : {T : Type 0} (g : GPT) (r : Result T Error) (old new : DiskState) → IsValid g.header (entries_in g) → RefusesAtOnce (table_write_fault g old.size) r
     → Settles (table_write_fault g old.size) r old new → IfErr r (λ e. RefusesWrite g (fault_of e) old new)
 write_refused g (Ok x) old new is at_once answer = tt
 write_refused g (Err e) old new is at_once (inl said) = no_room is (sym said)
 write_refused g (Err e) old new is at_once (inr fails) = disk_failed is (λ far. ⊎_elim (λ near. absurd (cc)) (λ said. let e = sym fails.0 ∙ said in absurd (cc)) (at_once overflow far)) fails
 
--- what the checks pass is valid
+-- What passes the checks is valid.
 pub checked_valid : (h : GPTHeader) (es fs : List GPTPartitionEntry) → fs ≡ es → ⊥ ⊎ IsValidity h fs None → IsValid h es
 checked_valid h es fs is (inl never) = absurd never
 checked_valid h es fs is (inr (shared_guid shared said)) = absurd (cc)

@@ -6,7 +6,7 @@ use Rattle.gptman.specs.declared.codec.header.GPTHeader.{GPTHeader}
 use Rattle.gptman.proofs.OtherHeader.{other_table}
 use Rattle.gptman.specs.Copies.{with_sectors_exchanged, AreBothForms}
 
--- in the two forms, headers are of one table where the second is the first one turned
+-- Headers in the two forms are of one table if the second is the first with its sectors exchanged.
 pub both_forms : (first second : GPTHeader) → IsHeaderForm primary first → IsHeaderForm backup second → second ≡ with_sectors_exchanged first second
     → AreBothForms first second
 both_forms first second at_primary at_backup is = record {
@@ -15,7 +15,7 @@ both_forms first second at_primary at_backup is = record {
   same = λ es. ap (λ (h : GPTHeader). table_of h es) is ∙ other_table first es;
 }
 
--- and only there
+-- The converse.
 pub forms_turned : (first second : GPTHeader) → AreBothForms first second → second ≡ with_sectors_exchanged first second
 forms_turned first second are =
     let tables : table_of second [] ≡ table_of first [] = are.same [] in

@@ -1,4 +1,4 @@
--- Used entries are disjoint exactly where their ranges, by ascending start, end one before the next.
+-- Used entries are disjoint exactly if each of their ranges, by ascending start, ends before the next begins.
 use Rattle.std.proofs.Common.{◌≡◌, ℕ, ◌+◌, ◌<◌, ◌≤◌, List, length, get_or, Some, ap, inl, inr, arith}
 use Rattle.std.specs.List.{All, AllPairs, filter_map}
 use Rattle.std.specs.List.Sorted.{IsPermutation, IsNonDecreasingBy}
@@ -11,7 +11,7 @@ use Rattle.gptman.specs.declared.codec.entry.GPTPartitionEntry.{GPTPartitionEntr
 use Rattle.gptman.proofs.Covered.{covers_nothing, range_of}
 use Rattle.gptman.proofs.Pairs.{AllPairs-filter_map, AllPairs-from_filter_map, AllPairs-permutation}
 
--- no sector is in both ranges
+-- No sector is in both ranges.
 abbrev pub Separate : ℕ × ℕ → ℕ × ℕ → Type 0
 Separate r t = (x : ℕ) → r.0 ≤ x → x ≤ r.1 → t.0 ≤ x → x ≤ t.1 → ⊥
 
@@ -24,7 +24,7 @@ disjoint_entries e f r t er ft separate x first second =
     let there = (range_of f t ft).within x second in
     separate x here.0 here.1 there.0 there.1
 
--- the ranges in any order are separate where the entries are disjoint
+-- The ranges of disjoint entries are separate in any order.
 pub ranges_separate : (es : List GPTPartitionEntry) (rs : List (ℕ × ℕ)) → IsPermutation (filter_map covered_range es) rs → AllPairs AreDisjoint es → AllPairs Separate rs
 ranges_separate es rs p disjoint =
     AllPairs-permutation Separate (λ r t s x a b c d. s x c d a b) (filter_map covered_range es) rs p
@@ -35,7 +35,7 @@ entries_disjoint es rs p separate =
     AllPairs-from_filter_map covered_range AreDisjoint Separate disjoint_entries (λ e f none x c d. covers_nothing e none x c) (λ e f none x c d. covers_nothing f none x d) es
     (AllPairs-permutation Separate (λ r t s x a b c d. s x c d a b) rs (filter_map covered_range es) (IsPermutation-sym (filter_map covered_range es) rs p) separate)
 
--- in order of their starts, separate ranges end before later ones begin
+-- Separate ranges, by ascending start, end before later ones begin.
 pub end_before : (rs : List (ℕ × ℕ)) → IsNonDecreasingBy (λ r. r.0) rs → All (λ r. r.0 ≤ r.1) rs → AllPairs Separate rs → AllPairs EndsBefore rs
 end_before rs sorted ordered separate i j d less h = elim (cases_lt (get_or rs i d).1 (get_or rs j d).0) [
   | inl before ↦ before
@@ -45,7 +45,7 @@ end_before rs sorted ordered separate i j d less h = elim (cases_lt (get_or rs i
 pub are_separate : (rs : List (ℕ × ℕ)) → AllPairs EndsBefore rs → AllPairs Separate rs
 are_separate rs before i j d less h x a b c e = let f = before i j d less h in omega arith
 
--- from neighbours to all
+-- From neighbours to all pairs.
 pub all_end_before : (rs : List (ℕ × ℕ)) → IsNonDecreasingBy (λ r. r.0) rs → ((k : ℕ) → k + 1 < length rs → EndsBefore (get_or rs k (0, 0)) (get_or rs (k + 1) (0, 0))) → AllPairs EndsBefore rs
 all_end_before rs sorted next i j d less h =
     let step = next i (omega arith) in

@@ -1,4 +1,4 @@
--- Eight bytes taken into the register at once.
+-- Eight bytes processed by the register at once.
 use Rattle.std.proofs.Common.{◌≡◌, ℕ, zero, suc, ◌+◌, ◌*◌, ◌^◌, ◌<◌, List, [], ◌∷◌, length, take, drop, get_or, take-add, take-append-drop, arith, refl, sym, ap, ◌∙◌, bit_xor}
 use Rattle.std.specs.Prelude.{fold}
 use Rattle.std.specs.Simd.{first_chunks}
@@ -19,7 +19,7 @@ steps_more (suc n) k r =
     let more : suc n + k ≡ suc (n + k) = omega arith in
     ap (λ (m : ℕ). steps m r) more ∙ steps_more n k (step r)
 
--- the steps of a byte more: those of the low byte, and of the rest eight less
+-- The steps for one more byte: those of the low byte, and eight fewer of the rest.
 steps_by_byte : (n b x : ℕ) → b < 256 → steps (8 * suc n) (b + 256 * x) ≡ bit_xor (steps (8 * suc n) b) (steps (8 * n) x)
 steps_by_byte n b x h =
     let split : b + 256 * x ≡ bit_xor (x * 2 ^ 8) b = omega arith ∙ sym (xor_shifted x 8 b h) in
@@ -30,7 +30,7 @@ steps_by_byte n b x h =
     ∙ steps_xor (8 * suc n) b (x * 2 ^ 8)
     ∙ ap (bit_xor (steps (8 * suc n) b)) rest
 
--- a message taken in is the steps of all its bits, of its number added to the register
+-- A message, processed as one number.
 at_once : (r : ℕ) (m : List ℕ) → AreBytes m → with_message r m ≡ steps (8 * length m) (bit_xor r (le m))
 unfolding steps with_byte
 at_once r [] h = sym (xor_zero_r r)
@@ -48,13 +48,14 @@ at_once r (b ∷ m) h =
     ∙ steps_more 8 (8 * length m) (bit_xor r (b + 256 * le m))
     ∙ ap (steps (8 * length m)) first)
 
--- zero bits alone change nothing
+-- Zero bits do not change a zero register.
 steps_of_zero : (n : ℕ) → steps n 0 ≡ 0
 steps_of_zero n =
     let none : 0 ≡ 0 * 2 ^ n = omega arith in
     ap (steps n) none ∙ steps_shifted n 0
 
--- the words of the bytes, each with as many zero bytes behind it as there are bytes, and n more, added to a sum
+-- The words of the bytes, each followed by as many zero bytes as there are bytes after it, and n more, XORed with a
+-- sum.
 abbrev pub with_words : ℕ → ℕ → List ℕ → ℕ
 with_words n sum [] = sum
 with_words n sum (b ∷ bs) = with_words n (bit_xor sum (steps (8 * suc (n + length bs)) b)) bs
@@ -68,7 +69,7 @@ with_words_are n sum (b ∷ bs) h =
     ∙ ap (bit_xor sum) (sym (steps_by_byte (n + length bs) b (le bs) (head_below b bs h))
     ∙ ap (λ (k : ℕ). steps k (b + 256 * le bs)) more)
 
--- the words of four bytes, with no bytes behind them
+-- The words of four bytes, at the end of a message.
 four_words : (e f g h : ℕ) → AreBytes (e ∷ f ∷ g ∷ h ∷ []) → with_words 0 (steps 32 e) (f ∷ g ∷ h ∷ []) ≡ steps 64 (le (e ∷ f ∷ g ∷ h ∷ []) * 2 ^ 32)
 four_words e f g h bytes =
     with_words_are 0 (steps 32 e) (f ∷ g ∷ h ∷ []) (λ i. bytes (suc i))
@@ -76,7 +77,7 @@ four_words e f g h bytes =
     ∙ sym (steps_more 32 32 (le (e ∷ f ∷ g ∷ h ∷ []) * 2 ^ 32)
     ∙ ap (steps 32) (steps_shifted 32 (le (e ∷ f ∷ g ∷ h ∷ []))))
 
--- eight bytes taken in: the words of the last four, and then those of the first four with the register added
+-- Eight bytes: the words of the last four, then those of the first four combined with the register.
 pub block_by_words : (r a b c d e f g h : ℕ) → r < 2 ^ 32 → AreBytes (a ∷ b ∷ c ∷ d ∷ e ∷ f ∷ g ∷ h ∷ []) → with_words 4 (with_words 0 (steps 32 e) (f ∷ g ∷ h ∷ [])) (little_bytes 4 (bit_xor (le (a ∷ b ∷ c ∷ d ∷ [])) r)) ≡ with_message r (a ∷ b ∷ c ∷ d ∷ e ∷ f ∷ g ∷ h ∷ [])
 block_by_words r a b c d e f g h small bytes =
     let m = a ∷ b ∷ c ∷ d ∷ e ∷ f ∷ g ∷ h ∷ [] in
@@ -98,7 +99,7 @@ block_by_words r a b c d e f g h small bytes =
     ∙ ap (steps 64) turned
     ∙ sym (at_once r m bytes)
 
--- eight bytes by their places
+-- Eight bytes by index.
 pub eight_parts : (m : List ℕ) → length m ≡ 8 → get_or m 0 0 ∷ get_or m 1 0 ∷ get_or m 2 0 ∷ get_or m 3 0 ∷ get_or m 4 0 ∷ get_or m 5 0 ∷ get_or m 6 0 ∷ get_or m 7 0 ∷ [] ≡ m
 eight_parts (a ∷ b ∷ c ∷ d ∷ e ∷ f ∷ g ∷ h ∷ []) long = refl
 eight_parts _ long = absurd (omega arith)
@@ -111,7 +112,7 @@ chunks_taken r (suc k) m =
     ∙ sym (fold-append with_byte r (take 8 m) (take (8 * k) (drop 8 m)))
     ∙ ap (with_message r) (sym (take-add 8 (8 * k) m) ∙ ap (λ (n : ℕ). take n m) (sym longer))
 
--- blocks taken in, and then the bytes behind them
+-- Blocks, and then the bytes after them.
 pub chunks_and_rest : (r k : ℕ) (m : List ℕ) → with_message (fold with_message r (first_chunks 8 k m)) (drop (k * 8) m) ≡ with_message r m
 chunks_and_rest r k m =
     let turned : k * 8 ≡ 8 * k = omega arith in

@@ -9,11 +9,11 @@ use Rattle.gptman.specs.declared.crc.table.TheConstants.{TABLES}
 use Rattle.gptman.specs.Register.{step, steps, with_byte}
 use Rattle.gptman.proofs.Division.{parity, step_even}
 
--- what the register makes of each byte with k zero bytes behind it
+-- The register after each byte and k zero bytes.
 abbrev row : ℕ → List ℕ
 row k = map (steps (8 * suc k)) (range_with_len 0 256)
 
--- each word of the tables, computed
+-- The words of the tables, computed.
 tables_are : TABLES ≡ map row (range_with_len 0 8)
 unfolding steps step
 tables_are = refl
@@ -24,14 +24,14 @@ word_at k i hk hi =
     ∙ ap (λ (t : List ℕ). get_or t i 0) (get_or-map-range_with_len row 0 8 k k [] hk (omega arith))
     ∙ get_or-map-range_with_len (steps (8 * suc k)) 0 256 i i 0 hi (omega arith)
 
--- sums of sums
+-- Terms of an XOR exchanged.
 xor_swap : (a b c d : ℕ) → bit_xor (bit_xor a b) (bit_xor c d) ≡ bit_xor (bit_xor a c) (bit_xor b d)
 xor_swap a b c d =
     xor_assoc a b (bit_xor c d)
     ∙ ap (bit_xor a) (sym (xor_assoc b c d) ∙ ap (λ (x : ℕ). bit_xor x d) (xor_comm b c) ∙ xor_assoc c b d)
     ∙ sym (xor_assoc a c (bit_xor b d))
 
--- what falls out of the register, fed back
+-- The bit shifted out of the register, fed back.
 abbrev fed : ℕ → ℕ
 fed p = if nat_eq p 1 then 0xEDB88320 else 0
 
@@ -43,7 +43,7 @@ fed_xor a b =
       | inr x ↦ elim (parity b) [ inl y ↦ rw (x, y) refl | inr y ↦ rw (x, y) refl ]
     ]
 
--- a step is linear
+-- A step is linear.
 step_xor : (a b : ℕ) → step (bit_xor a b) ≡ bit_xor (step a) (step b)
 unfolding step
 step_xor a b =
@@ -56,7 +56,7 @@ unfolding steps
 steps_xor zero a b = refl
 steps_xor (suc n) a b = ap (steps n) (step_xor a b) ∙ steps_xor n (step a) (step b)
 
--- zeros that fall out change nothing
+-- Zeros that are shifted out change nothing.
 pub steps_shifted : (n h : ℕ) → steps n (h * 2 ^ n) ≡ h
 unfolding steps
 steps_shifted zero h = omega arith
@@ -67,7 +67,7 @@ steps_shifted (suc n) h =
     let half : h * 2 ^ suc n / 2 ≡ h * 2 ^ n = omega (arith, twice) in
     ap (steps n) (step_even (h * 2 ^ suc n) even ∙ half) ∙ steps_shifted n h
 
--- eight steps, by the low byte and the rest
+-- Eight steps, by the low byte and the rest.
 steps_byte : (x : ℕ) → steps 8 x ≡ bit_xor (steps 8 (x % 256)) (x / 256)
 steps_byte x =
     let low : x % 256 < 2 ^ 8 = omega arith in
@@ -75,7 +75,7 @@ steps_byte x =
     ap (steps 8) (sym split) ∙ steps_xor 8 (x / 256 * 2 ^ 8) (x % 256)
     ∙ ap (λ (h : ℕ). bit_xor h (steps 8 (x % 256))) (steps_shifted 8 (x / 256)) ∙ xor_comm (x / 256) (steps 8 (x % 256))
 
--- a byte taken in by what eight steps make of the low byte
+-- A byte, by the table of the low byte.
 pub with_byte_by_table : (r b : ℕ) → b < 256 → bit_xor (steps 8 (bit_xor r b % 256)) (r / 256) ≡ with_byte r b
 unfolding with_byte
 with_byte_by_table r b h =

@@ -1,4 +1,4 @@
--- What a list of edits leaves at each side where the next one is not written, and that each copy is read alone.
+-- The places after a list of edits whose next edit was not written, and that each copy is read without the other.
 use Rattle.std.proofs.Common.{◌≡◌, ◌⊎◌, ◌<◌, ◌+◌, ◌++◌, ⊎_elim, inl, inr, ℕ, true, List, [], ◌∷◌, length, refl, sym, ◌∙◌, subst, arith}
 use Rattle.std.specs.Prelude.{fold, take}
 use Rattle.std.proofs.lemmas.Bool.{cases_lt}
@@ -26,11 +26,11 @@ use Rattle.gptman_disk.proofs.Ranges.{Ranges}
 
 -- ---- one edit
 
--- where no call was made both sides are as they were
+-- Without a call both places are unchanged.
 pub still_after : (g : GPT) (a : DiskState) → a.pending ≡ [] → BothSidesAfter g a a
 still_after g a synced = (left_alone (untouched_ranges _ a a refl synced), left_alone (untouched_ranges _ a a refl synced))
 
--- what a write that failed leaves of an edited table
+-- The places after a failed write of an edited table.
 pub edited_after : (g mid : GPT) (edit : Edit) (a b : DiskState) → mid ≡ after_edit g edit → StartsSynced a g → (StartsSynced a mid → BothSidesAfter mid a b) → BothSidesAfter (after_edit g edit) a b
 edited_after g mid edit a b is from after =
     let next : StartsSynced a mid = record {
@@ -45,20 +45,20 @@ module _ (g : GPT) (made : List Edit) (now : GPT) (a b c : DiskState) (are : Are
   keeps : KeepsRanges g (after_edit now edit)
   keeps = keeps_both g now (after_edit now edit) are.sides (edited_keeps now edit)
 
-  -- the ranges of the next table are those of the first one
+  -- The next table has the ranges of the first one,
   same_as_first : (side : Side) → copy_ranges_at side (table_in (after_edit now edit)) (after_edit now edit).sector_size b.size ≡ copy_ranges_at side (table_in g) g.sector_size a.size
   same_as_first side =
       (λ i. copy_ranges_at side (table_in (after_edit now edit)) (keeps.sector i) (are.keeps.size i))
       ∙ sym (same_ranges side (table_in g) (table_in (after_edit now edit)) g.sector_size a.size (same_ranges_too g (after_edit now edit) keeps))
 
-  -- and of the last one
+  -- and of the last one.
   same_as_last : (side : Side) (len : ℕ) → len ≡ b.size
       → copy_ranges_at side (table_in (after_edit now edit)) (after_edit now edit).sector_size b.size ≡ copy_ranges_at side (table_in now) g.sector_size len
   same_as_last side len long =
       (λ i. copy_ranges_at side (table_in (after_edit now edit)) (keeps.sector i) (sym long i))
       ∙ sym (same_ranges side (table_in now) (table_in (after_edit now edit)) g.sector_size len (same_ranges_too now (after_edit now edit) (edited_keeps now edit)))
 
-  -- a side that was left alone still holds the last table
+  -- An unchanged place still holds the last table.
   still_holds : (side : Side) → IsSound b → IsStored b g.sector_size (table_in now)
       → IsLeftAlone (copy_ranges_at side (table_in (after_edit now edit)) (after_edit now edit).sector_size b.size) b c
       → HoldsInAnyImage c g.sector_size side (table_in (table_after g edits done))
@@ -106,12 +106,12 @@ module _ (g : GPT) (made : List Edit) (now : GPT) (a b c : DiskState) (are : Are
 
 -- ---- after the last edit
 
--- edits keep the ranges
+-- Edits keep the ranges.
 edits_keep : (g : GPT) (edits : List Edit) → KeepsRanges g (fold after_edit g edits)
 edits_keep g [] = record { sector = refl; header = refl; long = refl }
 edits_keep g (edit ∷ edits) = keeps_both g (after_edit g edit) (fold after_edit (after_edit g edit) edits) (edited_keeps g edit) (edits_keep (after_edit g edit) edits)
 
--- each copy of the last table is read alone
+-- Each copy of the last table is read without the other.
 pub stands_alone : {F : Type 0} (g : GPT) (edits : List Edit) (k : ℕ) (a c : DiskState) → 0 < k → F ⊎ Stands g edits k a c → F ⊎ AreReadAlone c.view (table_after g edits k)
 stands_alone {F} g edits k a c some stands = ⊎_elim (λ failed. inl failed) (λ here. ⊎_elim
     (λ none. absurd (let zero = none.0 in omega (arith, some, zero)))

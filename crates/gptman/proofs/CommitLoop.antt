@@ -1,4 +1,4 @@
--- Edits that are made and written one after the other.
+-- Edits that are applied and written one by one.
 use Rattle.std.proofs.Common.{◌≡◌, ◌≢◌, ◌⊎◌, ◌<◌, ◌≤◌, ◌+◌, ◌++◌, ⊎_elim, inl, inr, ℕ, zero, suc, true, List, [], ◌∷◌, length, Some, None, Option, refl, sym, ap, ◌∙◌, subst, arith, length-append, append_assoc, Bool, false}
 use Rattle.std.specs.Prelude.{fold, slice_get, if◌then◌else◌, Contains, IsTrue}
 use Rattle.std.proofs.lemmas.Bool.{cases_lt}
@@ -35,7 +35,7 @@ use Rattle.gptman.proofs.Sealing.{cleared_same}
 
 -- ---- a value with other checksums
 
--- the value with these two checksums
+-- The value with these two checksums.
 abbrev pub summed : GPT → ℕ → ℕ → GPT
 summed g own array = record g { header = record g.header { crc32_checksum = own; partition_entry_array_crc32 = array } }
 
@@ -53,7 +53,7 @@ sums_then g mid new first second =
     b ∙ ap (λ (x : GPT). summed x new.header.crc32_checksum new.header.partition_entry_array_crc32) a in
     subst (IsButSums g) (sym c) (sums_of g new.header.crc32_checksum new.header.partition_entry_array_crc32)
 
--- an edit of it is the edited value with these checksums
+-- An edit of it is the edited value with these checksums.
 edited_summed : (g : GPT) (edit : Edit) (own array : ℕ) → after_edit (summed g own array) edit ≡ summed (after_edit g edit) own array
 edited_summed g (Put i e) own array = refl
 edited_summed g (Remove i) own array = refl
@@ -78,7 +78,7 @@ fault_sums g new edit is = ap (λ (x : GPT). edit_fault x edit) (is_summed g new
 pub table_sums : (g new : GPT) → IsButSums g new → table_in new ≡ table_in g
 table_sums g new is = ap table_in (is_summed g new is)
 
--- validity asks nothing of checksums
+-- Validity does not depend on checksums.
 valid_summed : (g : GPT) (own array : ℕ) → IsValid (summed g own array).header (entries_in g) → IsValid g.header (entries_in g)
 valid_summed g own array is =
     let b = is.boundaries in
@@ -108,7 +108,7 @@ sealed_sums : (g : GPT) → IsButSums g (value_with_checksums g)
 unfolding with_checksums
 sealed_sums g = (refl, refl)
 
--- made checksums do not depend on those that were there
+-- Computed checksums do not depend on the previous ones,
 sealed_summed : (g : GPT) (own array : ℕ) → length g.header.signature ≡ 8 → length g.header.revision ≡ 4 → value_with_checksums (summed g own array) ≡ value_with_checksums g
 unfolding with_checksums
 sealed_summed g own array long_s long_r =
@@ -120,7 +120,7 @@ sealed_again : (g new : GPT) → IsButSums g new → length g.header.signature �
 sealed_again g new is long_s long_r =
     ap value_with_checksums (is_summed g new is) ∙ sealed_summed g new.header.crc32_checksum new.header.partition_entry_array_crc32 long_s long_r
 
--- nor do those of the other header
+-- nor do those of the other header.
 other_summed : (g : GPT) (own array : ℕ) → length g.header.signature ≡ 8 → length g.header.revision ≡ 4 → other_with_checksums (summed g own array) ≡ other_with_checksums g
 unfolding with_checksums
 other_summed g own array long_s long_r =
@@ -139,7 +139,7 @@ value_some g edits (suc k) some = refl
 
 -- ---- the tables after some of the edits
 
--- what comes after the first edits does not count for them
+-- Later edits do not affect the tables of the first ones.
 pub after_append : (g : GPT) (made more : List Edit) (k : ℕ) → k ≤ length made → table_after g (made ++ more) k ≡ table_after g made k
 after_append g made more k within = ap (fold after_edit g) (take-append-le k made more within)
 
@@ -150,7 +150,7 @@ value_append g made more (suc k) within = ap value_with_checksums (after_append 
 pub after_all : (g : GPT) (made : List Edit) → table_after g made (length made) ≡ fold after_edit g made
 after_all g made = ap (fold after_edit g) (take_all (length made) made (omega arith))
 
--- one side holds the table after some of these edits
+-- One place holds the table after some of these edits.
 pub record HoldsSome (g : GPT) (made : List Edit) (b : List ℕ) : Type 0 where
   pub k : ℕ
   pub within : k ≤ length made
@@ -172,7 +172,7 @@ listed g edits n k within =
     let at : ℕ → Table = λ j. table_in (table_after g edits j) in
     (k, omega (arith, within, length-map-range_with_len at 0 (n + 1)), get_or-map-range_with_len at 0 (n + 1) k k (table_in (table_after g edits k)) (omega (arith, within)) (let e : 0 + k ≡ k = omega arith in e))
 
--- so one of the listed tables is held
+-- So one of the listed tables is held.
 pub some_listed : (g : GPT) (made more edits : List Edit) (n : ℕ) (b : List ℕ) → edits ≡ made ++ more → length made ≤ n → HoldsSome g made b → HoldsOneOf b g.sector_size (tables_to g edits n)
 some_listed g made more edits n b is within some =
     let low = some.within in
@@ -184,7 +184,7 @@ some_listed g made more edits n b is within some =
       holds = subst (λ (x : GPT). Holds b g.sector_size some.side (table_in x)) same some.holds;
     }
 
--- an element of a longer list
+-- An element of a longer list.
 slice_get-append : {X : Type 0} (xs ys : List X) (k : ℕ) → k < length xs → slice_get (xs ++ ys) k ≡ slice_get xs k
 slice_get-append [] ys k below = absurd (omega arith)
 slice_get-append (x ∷ xs) ys zero below = refl
@@ -198,7 +198,7 @@ last_is (z ∷ xs) x (suc k) y at is = last_is xs x k y (omega (arith, at)) is
 
 -- ---- the loop
 
--- These edits were made and written one after the other, from the value g on the disk a to the value now on the disk b.
+-- These edits were applied and written one by one, from the value g on disk a to the value now on disk b.
 pub record AreMade (g : GPT) (made : List Edit) (now : GPT) (a b : DiskState) : Type 0 where
   pub coherent : IsCoherent now.header (entries_in now)
   pub sides : KeepsRanges g now
@@ -214,7 +214,7 @@ pub record AreMade (g : GPT) (made : List Edit) (now : GPT) (a b : DiskState) : 
   pub kept : a.is_honest ≡ true → HasLayout g a.size → IsKeptFor a g (table_in g) → IsKeptFor b now (table_in now)
   pub leaves : a.is_honest ≡ true → HasLayout g a.size → IsKeptFor a g (table_in g) → LeavesOnly a b (HoldsSome g made)
 
--- What the next edit does where it is made and written.
+-- The effect of the next edit, if it is applied and written.
 pub record IsMade (g : GPT) (edit : Edit) (new : GPT) (a b : DiskState) : Type 0 where
   pub coherent : IsCoherent new.header (entries_in new)
   pub accepted : IsAllowed g edit
@@ -229,14 +229,14 @@ pub record IsMade (g : GPT) (edit : Edit) (new : GPT) (a b : DiskState) : Type 0
       → LeavesOnly a b (λ x. HoldsOneOf x g.sector_size (table_in g ∷ table_in (after_edit g edit) ∷ []))
 
 module _ (g : GPT) (made : List Edit) (now : GPT) (a b : DiskState) (are : AreMade g made now a b) where
-  -- the table that the value holds
+  -- The table of the current value.
   pub now_table : table_in now ≡ table_in (table_after g made (length made))
   now_table = table_sums (fold after_edit g made) now are.value ∙ ap table_in (sym (after_all g made))
 
   pub now_layout : HasLayout g a.size → HasLayout now b.size
   now_layout layout = subst (HasLayout now) (sym are.keeps.size) (layout_still g now are.sides a.size layout)
 
-  -- what a stop leaves of the next write holds a table after some edits, the next one counted in
+  -- What a crash leaves of the next write holds a table after some edits, including the next one.
   pub next_some : (edit : Edit) (x : List ℕ) → HoldsOneOf x now.sector_size (table_in now ∷ table_in (after_edit now edit) ∷ []) → HoldsSome g (made ++ edit ∷ []) x
   next_some edit x one =
       let ss : ℕ → Type 0 = λ n. Holds x n one.side one.table in
@@ -262,7 +262,7 @@ module _ (g : GPT) (made : List Edit) (now : GPT) (a b : DiskState) (are : AreMa
         ]
       ]
 
-  -- what a stop leaves of the edits so far and of the next write
+  -- What a crash leaves of the edits so far and of the next write.
   pub leaves_next : (edit : Edit) (c : DiskState) → a.is_honest ≡ true → HasLayout g a.size → IsKeptFor a g (table_in g)
       → Wrote (four_ranges now.header now.sector_size) b c
       → (HasLayout now b.size → IsKeptFor b now (table_in now) → LeavesOnly b c (λ x. HoldsOneOf x now.sector_size (table_in now ∷ table_in (after_edit now edit) ∷ [])))
@@ -278,7 +278,7 @@ module _ (g : GPT) (made : List Edit) (now : GPT) (a b : DiskState) (are : AreMa
       wrote_then (within_self (four_ranges g.header g.sector_size)) so_far
       (subst (λ (rs : Ranges). Wrote rs b c) (ranges_still g now are.sides) (wrote so_far.honest))
 
-  -- what is wanted of the sides stays
+  -- The requirements on the places remain true.
   pub room_now : write_fault now.header now.sector_size b.size ≡ write_fault g.header g.sector_size a.size
   room_now = room_still g now are.sides b.size ∙ ap (write_fault g.header g.sector_size) are.keeps.size
 
@@ -297,7 +297,7 @@ module _ (g : GPT) (made : List Edit) (now : GPT) (a b : DiskState) (are : AreMa
         subst (λ (x : GPT). IsAllowed x e) (sym where_it_is) (subst (IsAllowed (fold after_edit g made)) (sym same) (accepted_sums (fold after_edit g made) now edit are.value accepted))
   ]
 
-  -- an edit keeps how long a header's texts are
+  -- An edit keeps the lengths of the header's byte fields.
   next_long : (edit : Edit) → length g.header.signature ≡ 8 → length g.header.revision ≡ 4
       → (let last = after_edit (fold after_edit g made) edit in (length last.header.signature ≡ 8) × (length last.header.revision ≡ 4))
   next_long edit long_s long_r =
@@ -311,7 +311,7 @@ module _ (g : GPT) (made : List Edit) (now : GPT) (a b : DiskState) (are : AreMa
   next_at : (edit : Edit) → table_after g (made ++ edit ∷ []) (length (made ++ edit ∷ [])) ≡ after_edit (fold after_edit g made) edit
   next_at edit = after_all g (made ++ edit ∷ []) ∙ fold-append after_edit g made (edit ∷ [])
 
-  -- the value that is written next, with its checksums made
+  -- The value that is written next, with its checksums,
   exact_next : (edit : Edit) → length g.header.signature ≡ 8 → length g.header.revision ≡ 4 → value_with_checksums (after_edit now edit) ≡ value_after g (made ++ edit ∷ []) (length (made ++ edit ∷ []))
   exact_next edit long_s long_r =
       let last : GPT = after_edit (fold after_edit g made) edit in
@@ -320,7 +320,7 @@ module _ (g : GPT) (made : List Edit) (now : GPT) (a b : DiskState) (are : AreMa
       sealed_again last (after_edit now edit) sums long.0 long.1
       ∙ sym (value_some g (made ++ edit ∷ []) (length (made ++ edit ∷ [])) (omega (arith, length-append made (edit ∷ []))) ∙ ap value_with_checksums (next_at edit))
 
-  -- and the other header that is written with it
+  -- and the other header that is written with it.
   other_next : (edit : Edit) → length g.header.signature ≡ 8 → length g.header.revision ≡ 4
       → other_with_checksums (after_edit now edit) ≡ other_with_checksums (table_after g (made ++ edit ∷ []) (length (made ++ edit ∷ [])))
   other_next edit long_s long_r =
@@ -329,7 +329,7 @@ module _ (g : GPT) (made : List Edit) (now : GPT) (a b : DiskState) (are : AreMa
       let long = next_long edit long_s long_r in
       other_again last (after_edit now edit) sums long.0 long.1 ∙ sym (ap other_with_checksums (next_at edit))
 
-  -- One edit more.
+  -- One more edit.
   pub made_next : (edit : Edit) (new : GPT) (c : DiskState) → length g.header.signature ≡ 8 → length g.header.revision ≡ 4 → IsMade now edit new b c → AreMade g (made ++ edit ∷ []) new a c
   made_next edit new c long_s long_r is =
       let sums : IsButSums (after_edit now edit) new = subst (IsButSums (after_edit now edit)) (sym is.value) (sealed_sums (after_edit now edit)) in
@@ -394,7 +394,7 @@ made_none g a coherent sound = record {
       | inr never ↦ absurd (omega (arith, never.1))
     ]
 
--- ---- where the loop ends
+-- ---- the end of the loop
 
 pub accepted_more : (g : GPT) (made more edits : List Edit) → edits ≡ made ++ more → ((k : ℕ) → k < length made → IsAllowedAt g made k) → (k : ℕ) → k < length made → IsAllowedAt g edits k
 accepted_more g made more edits is all k below edit at =
@@ -406,7 +406,7 @@ slice_get-next : {X : Type 0} (xs ys : List X) (x : X) → slice_get (xs ++ x �
 slice_get-next [] ys x = refl
 slice_get-next (z ∷ xs) ys x = slice_get-next xs ys x
 
--- calls that only read, one after the other
+-- Reads in sequence are a read.
 only_read_then : (a b c : DiskState) → OnlyRead a b → OnlyRead b c → OnlyRead a c
 only_read_then a b c first second = record {
   view = second.view ∙ first.view;
@@ -460,7 +460,7 @@ io_is : (fault : Fault) → IsTrue (is_io fault) → fault ≡ io
 io_is io is = refl
 io_is _ is = absurd (cc)
 
--- where edit was the next, and failed
+-- The next edit failed.
 module _ (g : GPT) (made : List Edit) (now : GPT) (a b c : DiskState) (are : AreMade g made now a b) (edits more : List Edit) (done : ℕ) (edit : Edit) (is : edits ≡ made ++ edit ∷ more) (count : done ≡ length made) where
   pub failed_refused : (fault : Fault) (new : GPT) → RefusesEdit now edit fault new b c → IsRefusedAt g edits done fault new a c
   failed_refused fault new refused = record {
@@ -473,7 +473,7 @@ module _ (g : GPT) (made : List Edit) (now : GPT) (a b c : DiskState) (are : Are
       → (HasLayout now b.size → (fault ≢ overflow) × (fault ≢ no_space_left)) → (fault ≢ overflow) × (fault ≢ no_space_left)
   failed_room fault layout room = room (now_layout g made now a b are layout)
 
-  -- a fault io is a failure of the disk
+  -- The error `Io` is a failure of the disk.
   pub failed_cause : (fault : Fault) → IsTrue (is_io fault) → (fault ≡ io → Rose b c) → Rose a c
   failed_cause fault failed rose = rose_since a b c are.keeps (rose (io_is fault failed))
 
@@ -521,14 +521,14 @@ module _ (g : GPT) (made : List Edit) (now : GPT) (a b c : DiskState) (are : Are
   at_next : table_after g edits (done + 1) ≡ after_edit (fold after_edit g made) edit
   at_next = (λ i. table_after g (split i) (longer i)) ∙ (after_append g (made ++ edit ∷ []) more (length (made ++ edit ∷ [])) (omega arith) ∙ (after_all g (made ++ edit ∷ []) ∙ fold-append after_edit g made (edit ∷ [])))
 
-  -- the table that the value holds, and the one that the edit makes of it
+  -- The table of the current value, and the one that the edit makes.
   pub last_table : table_in now ≡ table_in (table_after g edits done)
   last_table = table_sums (fold after_edit g made) now are.value ∙ ap table_in (sym (after_done g made now a b are edits (edit ∷ more) done is count))
 
   pub next_table : table_in (after_edit now edit) ≡ table_in (table_after g edits (done + 1))
   next_table = table_sums (after_edit (fold after_edit g made) edit) (after_edit now edit) (edited_sums (fold after_edit g made) now edit are.value) ∙ ap table_in (sym at_next)
 
-  -- what a stop may leave now holds the last table, or where the disk failed the next
+  -- Whatever a crash leaves now holds the last table or, if the disk failed, the next one.
   pub failed_last : (fault : Fault) → a.is_honest ≡ true → HasLayout g a.size → IsKeptFor a g (table_in g) → (b.is_honest ≡ true → IsSound b) → b.clock ≤ c.clock → IsSound c
       → (b.is_honest ≡ true → (fault ≡ io) ⊎ OnlyRead b c)
       → (HasLayout now b.size → IsKeptFor b now (table_in now) → LeavesOnly b c (λ x. HoldsOneOf x now.sector_size (table_in now ∷ table_in (after_edit now edit) ∷ [])))

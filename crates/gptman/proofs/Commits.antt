@@ -1,4 +1,4 @@
--- Edits keep a table's sides on the disk, and so does making its checksums.
+-- Edits, and computing checksums, keep the places of a table on the disk.
 use Rattle.std.proofs.Common.{◌≡◌, ◌⊎◌, ⊎_elim, ◌<◌, ◌^◌, inl, inr, Some, None, Bool, ℕ, suc, ◌-◌, true, false, List, [], ◌∷◌, length, nat_lt, refl, sym, ap, ◌∙◌, subst}
 use Rattle.std.specs.Prelude.{if◌then◌else◌}
 use Rattle.std.proofs.lemmas.List.{length-map, length-set}
@@ -35,11 +35,11 @@ use Rattle.gptman_disk.proofs.Ranges.{contains_first}
 use Rattle.gptman.proofs.Runs.{rose_since}
 use Rattle.gptman.proofs.WrittenCopy.{content_of}
 
--- a header with another disk GUID and other checksums
+-- A header with another disk GUID and other checksums.
 abbrev with_sums : GPTHeader → List ℕ → ℕ → ℕ → GPTHeader
 with_sums h guid own array = record h { disk_guid = guid; crc32_checksum = own; partition_entry_array_crc32 = array }
 
--- The same sector size, as many entries, and a header that differs in the disk GUID and the checksums alone.
+-- The same sector size, as many entries, and a header that differs only in the disk GUID and the checksums.
 pub record KeepsRanges (g new : GPT) : Type 0 where
   pub sector : new.sector_size ≡ g.sector_size
   pub header : new.header ≡ with_sums g.header new.header.disk_guid new.header.crc32_checksum new.header.partition_entry_array_crc32
@@ -58,7 +58,7 @@ unfolding by_rank
 length-by_rank r [] = refl
 length-by_rank r (x ∷ xs) = length-put_in r x (by_rank r xs) ∙ ap suc (length-by_rank r xs)
 
--- An edit does.
+-- An edit keeps the ranges.
 pub edited_keeps : (g : GPT) (edit : Edit) → KeepsRanges g (after_edit g edit)
 edited_keeps g (Put i e) = record { sector = refl; header = refl; long = length-set (entries_in g) (i - 1) e }
 edited_keeps g (Remove i) = record { sector = refl; header = refl; long = length-set (entries_in g) (i - 1) empty_entry }
@@ -68,7 +68,7 @@ edited_keeps g (DiskGuid guid) = record { sector = refl; header = refl; long = r
 pub edit_keeps : (g mid : GPT) (edit : Edit) → mid ≡ after_edit g edit → KeepsRanges g mid
 edit_keeps g mid edit is = subst (KeepsRanges g) (sym is) (edited_keeps g edit)
 
--- Making the checksums does.
+-- So do new checksums,
 pub sums_keep : (g new : GPT) → IsButSums g new → KeepsRanges g new
 sums_keep g new is =
     let at : GPTHeader → GPTHeader = λ h. with_sums h h.disk_guid h.crc32_checksum h.partition_entry_array_crc32 in
@@ -78,7 +78,7 @@ sums_keep g new is =
       long = ap (λ (x : GPT). length (entries_in x)) is.0;
     }
 
--- And one after the other.
+-- two such changes in sequence,
 pub keeps_both : (g mid new : GPT) → KeepsRanges g mid → KeepsRanges mid new → KeepsRanges g new
 keeps_both g mid new first second = record {
   sector = second.sector ∙ first.sector;
@@ -86,13 +86,13 @@ keeps_both g mid new first second = record {
   long = second.long ∙ first.long;
 }
 
--- So does a list of edits.
+-- and a list of edits.
 pub list_keeps : (g : GPT) (edits : List Edit) → KeepsRanges g (edited_all g edits)
 list_keeps g [] = record { sector = refl; header = refl; long = refl }
 list_keeps g (edit ∷ edits) =
     let next = after_edit g edit in keeps_both g next (edited_all next edits) (edited_keeps g edit) (list_keeps next edits)
 
--- ---- what stands on the sides stays
+-- ---- what the places hold is kept
 
 module _ (g new : GPT) (keeps : KeepsRanges g new) where
   abbrev like : GPTHeader
@@ -153,7 +153,7 @@ module _ (g new : GPT) (keeps : KeepsRanges g new) where
         clear = subst (λ (n : ℕ). AreClear (copy_ranges_at side was n disk.size) (copy_ranges_at (other_side side) (table_in new) n disk.size)) (sym keeps.sector) clear;
       }
 
-  -- and what a write is refused with for want of room
+  -- So is the error for lack of room.
   pub room_still : (len : ℕ) → write_fault new.header new.sector_size len ≡ write_fault g.header g.sector_size len
   room_still len = (λ i. write_fault (keeps.header i) (keeps.sector i) len)
 
@@ -162,7 +162,7 @@ module _ (g new : GPT) (keeps : KeepsRanges g new) where
 
 -- ---- one edit
 
--- where no call was made a stop leaves the disk as it was, and the old table on it
+-- Without a call a crash leaves the disk unchanged, with the old table on it.
 pub leaves_kept : (g : GPT) (disk : DiskState) (was : Table) (more : List Table) → IsSound disk → IsKeptFor disk g was → LeavesOnly disk disk (λ x. HoldsOneOf x g.sector_size (was ∷ more))
 leaves_kept g disk was more sound kept =
     leaves_still disk (λ x. HoldsOneOf x g.sector_size (was ∷ more)) sound kept.synced (λ x same. record {
@@ -172,7 +172,7 @@ leaves_kept g disk was more sound kept =
       holds = holds_local disk.view x g.sector_size kept.side was kept.held (record { long = same.long; same = λ k inside. same.same k tt });
     })
 
--- what a stop leaves of the write of an edited table
+-- What a crash leaves of the write of an edited table.
 pub leaves_edited : (g mid : GPT) (edit : Edit) (a b : DiskState) → mid ≡ after_edit g edit → StartsFromOne a g (table_in g)
     → ((was : Table) → StartsFromOne a mid was → StopsHold a b mid.sector_size (was ∷ table_in mid ∷ []))
     → StopsHold a b g.sector_size (table_in g ∷ table_in (after_edit g edit) ∷ [])
@@ -186,19 +186,19 @@ leaves_edited g mid edit a b is from written =
     let here = (subst P is written) (table_in g) next in
     subst (λ (n : ℕ). StopsHold a b n (table_in g ∷ table_in (after_edit g edit) ∷ [])) keeps.sector here
 
--- what a write stores of an edited table
+-- What a write of an edited table stores.
 pub stored_edited : (g mid : GPT) (edit : Edit) (disk : DiskState) → mid ≡ after_edit g edit → IsStored disk mid.sector_size (table_in mid) → IsStored disk g.sector_size (table_in (after_edit g edit))
 stored_edited g mid edit disk is stored =
     subst (λ (n : ℕ). IsStored disk n (table_in (after_edit g edit))) (edited_keeps g edit).sector (subst (λ (m : GPT). IsStored disk m.sector_size (table_in m)) is stored)
 
--- why a write of an edited table is refused
+-- Why a write of an edited table fails.
 pub refused_edit : (g mid new : GPT) (edit : Edit) (fault : Fault) (a b : DiskState) → mid ≡ after_edit g edit → edit_fault g edit ≡ None
     → RefusesWrite mid fault a b → (fault ≡ io) ⊎ (new ≡ mid) → IsButSums mid new → RefusesEdit g edit fault new a b
 refused_edit g mid new edit fault a b is none refused kept sums =
     not_written none (subst (λ (m : GPT). RefusesWrite m fault a b) is refused)
     (⊎_elim (λ failed. inr (failed, subst (λ (m : GPT). IsButSums m new) is sums)) (λ same. inl (same ∙ is)) kept)
 
--- a write that is refused on a disk that keeps its length
+-- A write that fails on a disk that keeps its length.
 pub write_since : (g : GPT) (fault : Fault) (a b c : DiskState) → Keeps a b → RefusesWrite g fault b c → RefusesWrite g fault a c
 write_since g fault a b c keeps (no_memory out) = no_memory out
 write_since g fault a b c keeps (not_valid validity) = not_valid validity
@@ -210,7 +210,7 @@ pub edit_since : (g new : GPT) (edit : Edit) (fault : Fault) (a b c : DiskState)
 edit_since g new edit fault a b c keeps (not_applied why same) = not_applied why same
 edit_since g new edit fault a b c keeps (not_written none refused left) = not_written none (write_since (after_edit g edit) fault a b c keeps refused) left
 
--- ---- there is room on the stated layout
+-- ---- there is room in the stated layout
 
 number_room : (i : ℕ) (known : Bool) (fault : Fault) → (if known then None else Some (invalid_partition_number i)) ≡ Some fault → IsNotForRoom fault
 number_room i true fault is = absurd (cc)

@@ -10,7 +10,7 @@ use Rattle.gptman.specs.Entry.{is_used}
 use Rattle.gptman.specs.declared.codec.entry.GPTPartitionEntry.{GPTPartitionEntry}
 use Rattle.gptman.specs.Alignment.{used_starts, IsGreatestUpTo, IsAlignmentOf}
 
--- g is a common divisor, which each common divisor divides
+-- g is a common divisor that every common divisor divides.
 pub record IsGreatestCommonDivisor (starts : List ℕ) (g : ℕ) : Type 0 where
   pub divides : All (λ s. g ∣ s) starts
   pub greatest : (d : ℕ) → All (λ s. d ∣ s) starts → d ∣ g
@@ -18,14 +18,14 @@ pub record IsGreatestCommonDivisor (starts : List ℕ) (g : ℕ) : Type 0 where
 All-init : {X : Type 0} (P : X → Type 0) (xs ys : List X) → All P (xs ++ ys) → All P xs
 All-init {X} P xs ys all k d h = subst (λ (x : X). P x) (get_or_append_left xs ys d k h) (all k d (omega (arith, h, length-append xs ys)))
 
--- one more number
+-- One more number.
 pub common_more : (starts : List ℕ) (g s h : ℕ) → IsGreatestCommonDivisor starts g → IsGcd g s h → IsGreatestCommonDivisor (starts ++ s ∷ []) h
 common_more starts g s h c d = record {
   divides = All-push (λ s. h ∣ s) starts s (All-weaker (λ s. g ∣ s) (λ s. h ∣ s) (λ s e. dvd_trans h d.0 e) starts c.divides) d.1;
   greatest = λ e all. d.2 e (c.greatest e (All-init (λ s. e ∣ s) starts (s ∷ []) all)) (All-contains (λ s. e ∣ s) (starts ++ s ∷ []) s all (Contains-push starts s));
 }
 
--- the starts with one more entry
+-- The starts with one more entry.
 pub starts_used : (es : List GPTPartitionEntry) (i : ℕ) (d : GPTPartitionEntry) → i < length es → is_used (get_or es i d) ≡ true → used_starts (take (i + 1) es) ≡ used_starts (take i es) ++ (get_or es i d).starting_lba ∷ []
 starts_used es i d h used =
     ap (map (λ (e : GPTPartitionEntry). e.starting_lba)) (filter_more is_used es i d h ∙ ap (λ (c : Bool). filter is_used (take i es) ++ cond c (get_or es i d ∷ []) []) used)
@@ -43,7 +43,7 @@ alignment_zero first starts g c e some = record {
   other = λ some more nonzero. absurd (nonzero (All-weaker (λ s. g ∣ s) (λ s. s ≡ 0) (λ s d. eq-zero_of_zero-dvd (subst (λ (g : ℕ). g ∣ s) e d)) starts c.divides));
 }
 
--- the common divisor of one number is that number
+-- The greatest common divisor of one number is the number.
 common_one : (s g : ℕ) → IsGreatestCommonDivisor (s ∷ []) g → g ≡ s
 common_one s g c = dvd_antisymm (All-head (λ s. g ∣ s) s [] c.divides) (c.greatest s (All-cons (λ x. s ∣ x) s [] (dvd_refl s) (All-nil (λ x. s ∣ x))))
 

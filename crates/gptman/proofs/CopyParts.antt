@@ -1,4 +1,4 @@
--- A copy is told by its header and then by its entries.
+-- A copy is determined by its header, then by its entries.
 use Rattle.std.proofs.Common.{◌≡◌, ℕ, Bool, List, ◌++◌, length, Option, Some, None, Result, Ok, Err, refl, ap, ◌∙◌}
 use Rattle.gptman_disk.specs.Bytes.{part}
 use Rattle.gptman.specs.Coding.{header_of}
@@ -9,23 +9,23 @@ use Rattle.gptman.specs.declared.codec.entry.GPTPartitionEntry.{GPTPartitionEntr
 use Rattle.gptman.proofs.FirstFailing.{first_tests, later_tests}
 use Rattle.gptman.proofs.CopyTests.{entries_start, entries_length}
 
--- the bytes of the entries of the header at byte p
+-- The bytes of the entries of the header at byte p.
 abbrev pub entries_part : List ℕ → ℕ → ℕ → List ℕ
 entries_part b p ss = part b (entries_start (header_of (part b p 92)) ss) (entries_length (header_of (part b p 92)))
 
--- all nine tests, in order
+-- All nine tests, in order.
 abbrev pub copy_tests : ℕ → ℕ → ℕ → List ℕ → List ℕ → List (Bool × Fault)
 copy_tests len p ss x y = header_tests len p x ++ array_tests len ss (header_of x) y
 
--- the fault of the copy at byte p, if it has one
+-- The fault of the copy at byte p, if it has one.
 abbrev pub copy_fault : List ℕ → ℕ → ℕ → Option Fault
 copy_fault b p ss = first_failing (copy_tests (length b) p ss (part b p 92) (entries_part b p ss))
 
--- the copy that stands there, if it has no fault
+-- The copy there, if it has no fault.
 abbrev pub copy_there : List ℕ → ℕ → ℕ → Copy
 copy_there b p ss = record { header = header_of (part b p 92); entries = entries_of (entries_part b p ss) (header_of (part b p 92)).number_of_partition_entries }
 
--- the same bytes at the same place are the same copy
+-- The same bytes at the same place are the same copy.
 pub copy_moved : {b c : List ℕ} {p q : ℕ} (ss : ℕ) → b ≡ c → p ≡ q → copy_at b p ss ≡ copy_at c q ss
 copy_moved ss same at = λ i. copy_at (same i) (at i) ss
 
@@ -53,7 +53,7 @@ module _ (b : List ℕ) (p ss : ℕ) where
       let choose : Option Fault → Result Copy Fault = λ o. elim o [ None ↦ Ok (copy_there b p ss) | Some other ↦ Err other ] in
       ap choose is
 
-  -- a header that is refused
+  -- The header is refused.
   pub header_refused : (fault : Fault) → header_result b p ≡ Err fault → copy_at b p ss ≡ Err fault
   unfolding header_result
   header_refused fault is =
@@ -61,7 +61,7 @@ module _ (b : List ℕ) (p ss : ℕ) where
       at_fault fault (first_tests (header_tests (length b) p here) (array_tests (length b) ss h (entries_part b p ss)) fault
       (refused_by (first_failing (header_tests (length b) p here)) h fault is))
 
-  -- entries that are refused
+  -- The entries are refused.
   pub array_refused : (h : GPTHeader) (fault : Fault) → header_result b p ≡ Ok h → array_result b ss h ≡ Err fault → copy_at b p ss ≡ Err fault
   unfolding header_result array_result
   array_refused h fault good is =
@@ -72,7 +72,7 @@ module _ (b : List ℕ) (p ss : ℕ) where
       ∙ ap tests_at passed.1
       ∙ refused_by (tests_at h) (entries_of (part b (entries_start h ss) (entries_length h)) h.number_of_partition_entries) fault is)
 
-  -- both pass
+  -- Both pass.
   pub both_pass : (h : GPTHeader) (es : List GPTPartitionEntry) → header_result b p ≡ Ok h → array_result b ss h ≡ Ok es → copy_at b p ss ≡ Ok (record { header = h; entries = es })
   unfolding header_result array_result
   both_pass h es good is =

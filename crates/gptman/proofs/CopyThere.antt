@@ -1,4 +1,4 @@
--- A header and entries that stand at a place are accepted there, and a copy that is accepted stands where it was read.
+-- A header and entries at a place are accepted there, and an accepted copy is at the place where it was read.
 use Rattle.std.proofs.Common.{◌≡◌, ◌≤◌, ◌<◌, ◌⊎◌, ◌||◌, ◌+◌, ◌*◌, ◌^◌, ℕ, Bool, true, List, [], length, get_or, eqb, ltb, leb, Option, Some, None, Result, Ok, Err, refl, sym, ap, ◌∙◌, subst, inl, inr, arith}
 use Rattle.std.proofs.lemmas.Bool.{le-leb, lt-ltb, eq-eqb, leb-true, eqb-true}
 use Rattle.std.proofs.lemmas.Bool.Decides.{eqb_tells}
@@ -19,7 +19,7 @@ use Rattle.gptman.proofs.CopyParts.{copy_tests, copy_fault, copy_there, entries_
 use Rattle.gptman.proofs.CopyTests.{entries_start, entries_length}
 use Rattle.gptman.specs.Stop.{AcceptsWhatStands}
 
--- entries that lie on the disk begin below its end
+-- Entries on the disk begin before its end.
 start_below : (n start size len : ℕ) → size ≡ 128 * n → (n ≡ 0) ⊎ (start + size ≤ len) → (n ≡ 0) ⊎ (start < len)
 start_below n start size len is inside = elim (eqb_tells n 0) as (λ _. (n ≡ 0) ⊎ (start < len)) [
   | inl zero ↦ inl zero.1
@@ -29,7 +29,7 @@ start_below n start size len is inside = elim (eqb_tells n 0) as (λ _. (n ≡ 0
   ]
 ]
 
--- a test of entries that passes, passes because there are none or by itself
+-- A test of entries passes if there are none, or by itself.
 some_or_none : (n : ℕ) (t : Bool) (P : Type 0) → (t ≡ true → P) → (eqb n 0 || t) ≡ true → (n ≡ 0) ⊎ P
 some_or_none n t P tells passed = elim (eqb_tells n 0) as (λ _. (n ≡ 0) ⊎ P) [
   | inl zero ↦ inl zero.1
@@ -44,7 +44,7 @@ named : (x : List ℕ) → HasReadName (entry_of x)
 unfolding entry_of
 named x = refl
 
--- an entry of those in bytes is the one in its part
+-- An entry of a list of bytes is the one of its part.
 entry_at : (b : List ℕ) (start n i : ℕ) (e : GPTPartitionEntry) → i < length (entries_of (part b start (128 * n)) n) → get_or (entries_of (part b start (128 * n)) n) i e ≡ entry_of (part b (start + 128 * i) 128)
 unfolding entries_of
 entry_at b start n i e lt =
@@ -58,11 +58,11 @@ counted : (y : List ℕ) (n : ℕ) → length (entries_of y n) ≡ n
 unfolding entries_of
 counted y n = length-map-range_with_len (λ (i : ℕ). entry_of (part y (128 * i) 128)) 0 n
 
--- the answer of a copy with such a fault, or with none
+-- The result for a copy with this fault, or with none.
 abbrev given : Copy → Option Fault → Result Copy Fault
 given there o = elim o [ None ↦ Ok there | Some fault ↦ Err fault ]
 
--- what is at byte p
+-- The bytes at p.
 module _ (b : List ℕ) (p ss : ℕ) where
   abbrev bytes : List ℕ
   bytes = part b p 92
@@ -157,7 +157,7 @@ module _ (b : List ℕ) (p ss : ℕ) where
         checksum = eqb-true header.partition_entry_array_crc32 (crc_of array) t.1.1.1.1.1.1.1.1.0;
       }
 
--- Where a header and entries stand, the copy is accepted, and it is these.
+-- A header and entries at a place are accepted, as this copy.
 pub copy_there_is : (b : List ℕ) (p ss : ℕ) (h : GPTHeader) (es : List GPTPartitionEntry) → length b ≤ 2 ^ 64 → CopyAt b p ss h es
     → copy_at b p ss ≡ Ok (record { header = h; entries = es })
 copy_there_is b p ss h es long c =
@@ -168,7 +168,7 @@ accepted : (o : Option Fault) (there copy : Copy) → given there o ≡ Ok copy 
 accepted None there copy ok = (refl, ap (λ (r : Result Copy Fault). elim r [ Ok c ↦ c | Err fault ↦ there ]) ok)
 accepted (Some fault) there copy ok = absurd (cc)
 
--- A copy that is accepted stands there.
+-- An accepted copy is there.
 there_copy_is : (b : List ℕ) (p ss : ℕ) (copy : Copy) → copy_at b p ss ≡ Ok copy → CopyAt b p ss copy.header copy.entries
 unfolding copy_at
 there_copy_is b p ss copy ok =

@@ -9,7 +9,7 @@ use Rattle.std.proofs.lemmas.Option.{cond_some, none-some}
 use Rattle.gptman.specs.Entry.{is_used, covers, covered_range}
 use Rattle.gptman.specs.declared.codec.entry.GPTPartitionEntry.{GPTPartitionEntry}
 
--- The sector is one of the entry's own.
+-- The entry covers the sector.
 pub record IsCovered (e : GPTPartitionEntry) (x : ℕ) : Type 0 where
   pub used : IsTrue (is_used e)
   pub from : e.starting_lba ≤ x
@@ -26,7 +26,7 @@ covers_if e x c =
     and_from (is_used e && nat_le e.starting_lba x) (nat_le x e.ending_lba) (and_from (is_used e) (nat_le e.starting_lba x) c.used (le-leb e.starting_lba x c.from))
     (le-leb x e.ending_lba c.to)
 
--- The sectors in the range are those that the entry covers.
+-- The range has exactly the sectors that the entry covers.
 pub record IsRangeOf (e : GPTPartitionEntry) (r : ℕ × ℕ) : Type 0 where
   pub covered : (x : ℕ) → r.0 ≤ x → x ≤ r.1 → IsTrue (covers x e)
   pub within : (x : ℕ) → IsTrue (covers x e) → (r.0 ≤ x) × (x ≤ r.1)
@@ -42,7 +42,7 @@ range_of e r h =
       within = λ x is. let c = covered_if e x is in (omega (arith, c.from), omega (arith, c.to));
     }
 
--- an entry without a range covers no sector
+-- An entry without a range covers no sector.
 pub covers_nothing : (e : GPTPartitionEntry) → covered_range e ≡ None → (x : ℕ) → ¬ IsTrue (covers x e)
 covers_nothing e h x covered =
     let c = covered_if e x covered in
@@ -62,6 +62,6 @@ all_ordered : (es : List GPTPartitionEntry) → All (λ r. r.0 ≤ r.1) (filter_
 all_ordered [] = All-nil (λ r. r.0 ≤ r.1)
 all_ordered (e ∷ es) = one_ordered e (filter_map covered_range es) (is_used e && nat_le e.starting_lba e.ending_lba) refl (all_ordered es)
 
--- no range ends before it starts
+-- No range ends before it starts.
 pub ordered_ranges : (es : List GPTPartitionEntry) (rs : List (ℕ × ℕ)) → IsPermutation (filter_map covered_range es) rs → All (λ r. r.0 ≤ r.1) rs
 ordered_ranges es rs p = All-permutation (λ r. r.0 ≤ r.1) _ rs p (all_ordered es)

@@ -9,7 +9,7 @@ use Rattle.gptman.specs.Valid.{IsValid}
 use Rattle.gptman.specs.declared.codec.entry.GPTPartitionEntry.{GPTPartitionEntry}
 use Rattle.gptman.specs.declared.codec.header.GPTHeader.{GPTHeader}
 
--- the first place that passes, where none before it does
+-- The first index that passes, if none before it does.
 first_place : {X : Type 0} (p : X → Bool) (xs : List X) (k : ℕ) (d : X) → k < length xs → p (get_or xs k d) ≡ true → ((j : ℕ) → j < k → p (get_or xs j d) ≡ false) → position_or_len p xs ≡ k
 first_place p [] k d below hit before = omega (arith, below)
 first_place p (x ∷ xs) zero d below hit before = rw hit refl
@@ -22,7 +22,7 @@ not_true : (b : Bool) → ¬ IsTrue b → b ≡ false
 not_true true never = search rules
 not_true false never = refl
 
--- in a table that may be written at most one entry covers a sector
+-- In a table that may be written, at most one entry covers a sector.
 pub only_number : (h : GPTHeader) (es : List GPTPartitionEntry) (sector i : ℕ) → IsValid h es → 1 ≤ i → i ≤ length es → IsTrue (covers sector (get_or es (i - 1) empty_entry)) → number_at sector es ≡ Some i
 only_number h es sector i valid low high covered =
     let k : ℕ = i - 1 in

@@ -1,4 +1,4 @@
--- The long division, kept in a register.
+-- Long division in a register.
 use Rattle.std.proofs.Common.{lit<, ◌≡◌, ℕ, zero, suc, ◌+◌, ◌-◌, ◌*◌, ◌/◌, ◌%◌, ◌^◌, ◌<◌, Bool, true, false, ◌⊎◌, inl, inr, List, [], ◌∷◌, ◌++◌, length, get_or, reverse, replicate, arith, refl, sym, ap, ◌∙◌, bit_xor}
 use Rattle.std.specs.Prelude.{nat_eq, not, flat_map, if◌then◌else◌}
 use Rattle.std.specs.Int.Bits.{xor_lt, xor_shr, xor_mod, xor_zero_r, xor_comm}
@@ -9,14 +9,14 @@ use Rattle.gptman.specs.Crc.{low_bits, number, minus, divide, crc_of}
 use Rattle.gptman_disk.specs.Bytes.{AreBytes}
 use Rattle.gptman.specs.Register.{step, steps, with_byte, with_message}
 
--- the sum of two bits without a carry
+-- The sum of two bits without a carry.
 abbrev xor : Bool → Bool → Bool
 xor p b = if p then not b else b
 
 pub parity : (a : ℕ) → (a % 2 ≡ 0) ⊎ (a % 2 ≡ 1)
 parity a = elim (cases_lt (a % 2) 1) [ inl low ↦ inl (omega arith) | inr high ↦ inr (omega arith) ]
 
--- the lowest bit of a sum
+-- The lowest bit of an XOR.
 xor_lowest : (a b : ℕ) → nat_eq (bit_xor a b % 2) 1 ≡ xor (nat_eq (a % 2) 1) (nat_eq (b % 2) 1)
 xor_lowest a b =
     ap (λ (x : ℕ). nat_eq x 1) (xor_mod a b 1)
@@ -35,11 +35,11 @@ xor_false : (b : Bool) → xor b false ≡ b
 xor_false true = refl
 xor_false false = refl
 
--- two heads of one list
+-- Equal lists from equal heads and tails.
 cons_same : {b c : Bool} {xs ys : List Bool} → b ≡ c → xs ≡ ys → b ∷ xs ≡ c ∷ ys
 cons_same p q = cc
 
--- to take off b and then a is to take off their sum
+-- Subtracting b and then a is subtracting their XOR.
 minus_twice : (n a b : ℕ) (xs : List Bool) → minus (low_bits n a) (minus (low_bits n b) xs) ≡ minus (low_bits n (bit_xor a b)) xs
 minus_twice zero a b xs = refl
 minus_twice (suc n) a b [] = refl
@@ -55,14 +55,14 @@ minus_zero (suc n) (x ∷ xs) = cons_same refl (minus_zero n xs)
 half_below : (n a : ℕ) → a < 2 ^ suc n → a / 2 < 2 ^ n
 half_below n a h = let p = pow-suc 2 n in omega (arith, p)
 
--- a bit above a number's highest takes nothing off
+-- A bit above the highest of a number subtracts nothing.
 minus_above : (n a : ℕ) (xs : List Bool) → a < 2 ^ n → minus (low_bits (suc n) a) xs ≡ minus (low_bits n a) xs
 minus_above zero a [] h = refl
 minus_above zero a (x ∷ xs) h = let e : a ≡ 0 = omega arith in rw e refl
 minus_above (suc n) a [] h = refl
 minus_above (suc n) a (x ∷ xs) h = cons_same refl (minus_above n (a / 2) xs (half_below n a h))
 
--- the bits of a number, taken off zeros
+-- The bits of a number, subtracted from zeros.
 minus_zeros : (n k b : ℕ) (xs : List Bool) → b < 2 ^ n → minus (low_bits (n + k) b) (replicate n false ++ xs) ≡ low_bits n b ++ xs
 minus_zeros zero k b xs h =
     let e : b ≡ 0 = omega arith in
@@ -72,13 +72,13 @@ minus_zeros (suc n) k b xs h =
     let z : suc n + k ≡ suc (n + k) = omega arith in
     rw z (cons_same (xor_false _) (minus_zeros n k (b / 2) xs (half_below n b h)))
 
--- the register and the bits ahead of it, as the register takes them in
+-- The register and the bits ahead, combined as the register processes them.
 minus_absorbs : (n k r b : ℕ) (xs : List Bool) → b < 2 ^ n
     → minus (low_bits (n + k) r) (low_bits n b ++ xs) ≡ minus (low_bits (n + k) (bit_xor r b)) (replicate n false ++ xs)
 minus_absorbs n k r b xs h =
     ap (minus (low_bits (n + k) r)) (sym (minus_zeros n k b xs h)) ∙ minus_twice (n + k) r b (replicate n false ++ xs)
 
--- ---- the division's steps
+-- ---- the steps of the division
 
 divide_set : (n : ℕ) (bs : List Bool) → divide (suc n) (true ∷ bs) ≡ divide n (minus (low_bits 32 0xEDB88320) bs)
 unfolding divide
@@ -88,11 +88,11 @@ divide_clear : (n : ℕ) (bs : List Bool) → divide (suc n) (false ∷ bs) ≡ 
 unfolding divide
 divide_clear n bs = refl
 
--- the first bit of what is left, and the others
+-- The first remaining bit, and the others.
 first_bit : (w r : ℕ) (xs : List Bool) → minus (low_bits (suc w) r) (false ∷ xs) ≡ nat_eq (r % 2) 1 ∷ minus (low_bits w (r / 2)) xs
 first_bit w r xs = cons_same (xor_false _) refl
 
--- a register stays within 32 bits
+-- A register stays within 32 bits.
 step_below : (r : ℕ) → r < 2 ^ 32 → step r < 2 ^ 32
 unfolding step
 step_below r h =
@@ -109,7 +109,7 @@ pub step_odd : (r : ℕ) → r % 2 ≡ 1 → step r ≡ bit_xor 0xEDB88320 (r / 
 unfolding step
 step_odd r x = rw x (xor_comm (r / 2) 0xEDB88320)
 
--- a step of the division is a step of the register
+-- A step of the division is a step of the register.
 divide_step : (n r : ℕ) (xs : List Bool) → r < 2 ^ 32
     → divide (suc n) (minus (low_bits 32 r) (false ∷ xs)) ≡ divide n (minus (low_bits 32 (step r)) xs)
 divide_step n r xs h =
@@ -133,7 +133,7 @@ unfolding steps
 steps_below zero r h = h
 steps_below (suc k) r h = steps_below k (step r) (step_below r h)
 
--- as many steps as there are zeros ahead
+-- As many steps as there are zeros ahead.
 divide_steps : (k n m r : ℕ) (xs : List Bool) → m ≡ k + n → r < 2 ^ 32
     → divide m (minus (low_bits 32 r) (replicate k false ++ xs)) ≡ divide n (minus (low_bits 32 (steps k r)) xs)
 unfolding steps
@@ -159,11 +159,11 @@ register_below [] r bytes h = h
 register_below (b ∷ m) r bytes h =
     register_below m (steps 8 (bit_xor r b)) (λ i. bytes (suc i)) (steps_below 8 (bit_xor r b) (below_32 r b h (bytes 0)))
 
--- the bits of a message, in each byte the lowest first
+-- The bits of a message, lowest first in each byte.
 abbrev message_bits : List ℕ → List Bool
 message_bits m = flat_map (low_bits 8) m
 
--- the whole division is the register that has taken in the bytes
+-- The whole division is the register after all bytes.
 divide_all : (m : List ℕ) (r : ℕ) → ((i : ℕ) → get_or m i 0 < 256) → r < 2 ^ 32
     → divide (length (message_bits m)) (minus (low_bits 32 r) (message_bits m ++ replicate 32 false)) ≡ low_bits 32 (with_message r m)
 unfolding with_byte divide
@@ -180,7 +180,7 @@ divide_all (b ∷ m) r bytes h =
 
 -- ---- the ends
 
--- n bits complemented
+-- n bits complemented.
 abbrev complement : ℕ → List Bool → List Bool
 complement n bs = minus (replicate n true) bs
 
@@ -189,7 +189,7 @@ length-complement zero xs = refl
 length-complement (suc n) [] = refl
 length-complement (suc n) (x ∷ xs) = let h = length-complement n xs in omega (arith, h)
 
--- the number of bits, the lowest of them first
+-- The number of bits, lowest first.
 abbrev low_number : List Bool → ℕ
 low_number [] = 0
 low_number (b ∷ bs) = (if b then 1 else 0) + 2 * low_number bs
@@ -223,7 +223,7 @@ complement_number (suc n) r h =
       | inr x ↦ rw x (omega (arith, rest, p, x))
     ]
 
--- the checksum, from the register
+-- The checksum from the register.
 pub crc_of_register : (m : List ℕ) → ((i : ℕ) → get_or m i 0 < 256) → crc_of m ≡ 2 ^ 32 - 1 - with_message (2 ^ 32 - 1) m
 unfolding crc_of
 crc_of_register m bytes =

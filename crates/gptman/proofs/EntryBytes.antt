@@ -14,7 +14,7 @@ use Rattle.gptman.specs.declared.codec.entry.GPTPartitionEntry.{GPTPartitionEntr
 use Rattle.gptman.proofs.Assembly.{cells, elements, taken_more}
 use Rattle.gptman.proofs.Numbers.{le_of, le_back}
 
--- the k-th unit's bytes
+-- The bytes of unit k.
 unit_bytes : (us : List ℕ) (k : ℕ) → k < length us → take 2 (drop (2 * k) (flat_map (little_bytes 2) us)) ≡ little_bytes 2 (get_or us k 0)
 unit_bytes [] k h = absurd (omega arith)
 unit_bytes (u ∷ us) zero h = refl
@@ -22,7 +22,7 @@ unit_bytes (u ∷ us) (suc k) h =
     let e : 2 * suc k ≡ suc (suc (2 * k)) = omega arith in
     rw e (unit_bytes us k (omega arith))
 
--- the same, behind a front of 56 bytes
+-- The same, after 56 bytes.
 unit_at : (front us : List ℕ) (k : ℕ) → length front ≡ 56 → k < length us
     → slice_range (front ++ flat_map (little_bytes 2) us) (56 + 2 * k) (56 + 2 * k + 2) ≡ little_bytes 2 (get_or us k 0)
 unit_at front us k len h =
@@ -31,7 +31,7 @@ unit_at front us k len h =
     sym (drop-drop (2 * k) 56 (front ++ flat_map (little_bytes 2) us)) ∙ ap (drop (2 * k)) (drop_at front (flat_map (little_bytes 2) us) 56 len) in
     ap (λ (n : ℕ). take n (drop (56 + 2 * k) (front ++ flat_map (little_bytes 2) us))) size ∙ ap (take 2) past ∙ unit_bytes us k h
 
--- the units behind a front are read back
+-- The units after these bytes are decoded again.
 units_back : (front us : List ℕ) → length front ≡ 56 → length us ≡ 36 → ((k : ℕ) → slice_index us k < 2 ^ 16)
     → us ≡ units_at (front ++ flat_map (little_bytes 2) us)
 unfolding units_at
@@ -40,7 +40,7 @@ units_back front us len size fits =
     fill_by_all (λ (k : ℕ). le (slice_range b (56 + 2 * k) (56 + 2 * k + 2))) us 36 0 size
     (λ k h. sym (ap le (unit_at front us k len (omega (arith, size))) ∙ le_of 2 (get_or us k 0) (fits k)))
 
--- the fields before the name
+-- The fields before the name.
 abbrev pub front_of : List ℕ → List ℕ → ℕ → ℕ → ℕ → List ℕ
 front_of t q s d a = t ++ q ++ little_bytes 8 s ++ little_bytes 8 d ++ little_bytes 8 a
 
@@ -71,11 +71,11 @@ front_at t q s d a rest lt lq fs fd fa =
     let Q : List ℕ → Type 0 = λ xs. FrontAt (map (elements t) (range_with_len 0 16)) xs s d a (front_of (map (elements t) (range_with_len 0 16)) xs s d a ++ rest) in
     subst P (sym (cells t 16 lt)) (subst Q (sym (cells q 16 lq)) (front_listed (elements t) (elements q) s d a rest fs fd fa))
 
--- the entry with this text of its name in memory
+-- The entry with this text of its name in memory.
 abbrev pub with_text : GPTPartitionEntry → List ℕ → GPTPartitionEntry
 with_text e text = record e { partition_name = record e.partition_name { text = text } }
 
--- an entry corresponds to its bytes, whatever text its name has in memory
+-- An entry corresponds to its bytes (`IsEntryCoding`), whatever text its name has in memory.
 pub spelled_corresponds : (e : GPTPartitionEntry) (text : List ℕ) → FitsEntry e → IsEntryCoding (with_text e text) (entry_bytes e)
 unfolding entry_bytes
 spelled_corresponds e text fits =
@@ -90,7 +90,7 @@ spelled_corresponds e text fits =
       units = units_back _ e.partition_name.units front.long fits.units fits.unit;
     }
 
--- the first n units give the first 2 * n bytes from byte 56 on
+-- The first n units are the first 2 * n bytes from byte 56 on.
 units_taken : (b : List ℕ) (n : ℕ) → 56 + 2 * n ≤ length b → AreBytes b
     → flat_map (little_bytes 2) (map (λ k. le (slice_range b (56 + 2 * k) (56 + 2 * k + 2))) (range_with_len 0 n)) ≡ take (2 * n) (drop 56 b)
 units_taken b zero h bytes = refl
@@ -108,7 +108,7 @@ units_taken b (suc n) h bytes =
     ∙ ap₂ (λ (x y : List ℕ). x ++ y) (units_taken b n (omega arith) bytes) (append-nil (little_bytes 2 (f n)) ∙ last)
     ∙ sym (take-add (2 * n) 2 (drop 56 b)) ∙ ap (λ (k : ℕ). take k (drop 56 b)) (sym size)
 
--- what corresponds to an entry is its bytes
+-- Bytes that correspond to an entry are its bytes.
 pub spelling_is : (e : GPTPartitionEntry) (b : List ℕ) → length b ≡ 128 → AreBytes b → IsEntryCoding e b → b ≡ entry_bytes e
 unfolding entry_bytes units_at
 spelling_is e b len bytes c =
@@ -120,7 +120,7 @@ spelling_is e b len bytes c =
     let t6 = taken_more b 56 72 t5 (ap (flat_map (little_bytes 2)) c.units ∙ units_taken b 36 (omega (arith, len)) bytes) in
     sym (take_all 128 b (omega (arith, len))) ∙ sym t6
 
--- the bytes of one unit more, behind those of the units before it
+-- The bytes of one more unit, after those of the previous units.
 pub units_written : (old new us : List ℕ) (k : ℕ) → take (2 * k) old ≡ flat_map (little_bytes 2) (take k us) → 2 * k + 2 ≤ length old → k < length us
     → new ≡ take (2 * k) old ++ (little_bytes 2 (get_or us k 0) ++ drop (2 * k + 2) old) → take (2 * (k + 1)) new ≡ flat_map (little_bytes 2) (take (k + 1) us)
 units_written old new us k before room lt put =
@@ -132,7 +132,7 @@ units_written old new us k before room lt put =
     ∙ sym (ap (flat_map (little_bytes 2)) (take_more us k 0 lt) ∙ flat_map-append (little_bytes 2) (take k us) (get_or us k 0 ∷ [])
     ∙ ap (λ (xs : List ℕ). flat_map (little_bytes 2) (take k us) ++ xs) (append-nil (little_bytes 2 (get_or us k 0))))
 
--- an entry that was read is the one that its bytes hold
+-- An entry that was read is the one that its bytes encode.
 pub entry_is : (e : GPTPartitionEntry) (x : List ℕ) → IsEntryCoding e x → HasReadName e → e ≡ entry_of x
 unfolding entry_of
 entry_is e x c name = λ i. record {

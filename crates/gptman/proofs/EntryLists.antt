@@ -1,4 +1,4 @@
--- Entries that are read in blocks are those of all the bytes.
+-- Entries that are read in blocks are those of all bytes.
 use Rattle.std.proofs.Common.{◌≡◌, ◌≤◌, ◌+◌, ◌-◌, ◌*◌, ℕ, zero, suc, List, [], ◌∷◌, ◌++◌, length, take, drop, refl, sym, ap, ◌∙◌, arith, append_assoc, take-add}
 use Rattle.std.specs.Prelude.{slice_range}
 use Rattle.std.proofs.lemmas.List.{append-nil, drop-drop}
@@ -9,11 +9,11 @@ use Rattle.gptman.specs.Copy.{entries_of}
 use Rattle.gptman.specs.declared.codec.entry.GPTPartitionEntry.{GPTPartitionEntry}
 use Rattle.gptman_disk.proofs.Overlays.{part-part}
 
--- two parts that adjoin
+-- Two adjacent parts.
 pub part-more : (b : List ℕ) (at n m : ℕ) → part b at n ++ part b (at + n) m ≡ part b at (n + m)
 part-more b at n m = ap (λ (xs : List ℕ). part b at n ++ take m xs) (sym (drop-drop n at b)) ∙ sym (take-add n m (drop at b))
 
--- a slice is a part
+-- A slice is a part.
 pub part-slice : (b : List ℕ) (at n : ℕ) → slice_range b at (at + n) ≡ part b at n
 part-slice b at n = let size : at + n - at ≡ n = omega arith in ap (λ (k : ℕ). take k (drop at b)) size
 
@@ -21,12 +21,12 @@ pub length-entries_of : (y : List ℕ) (n : ℕ) → length (entries_of y n) ≡
 unfolding entries_of
 length-entries_of y n = length-map-range_with_len (λ i. entry_of (part y (128 * i) 128)) 0 n
 
--- one entry more
+-- One more entry.
 pub entries_of-more : (y : List ℕ) (n : ℕ) → entries_of y (n + 1) ≡ entries_of y n ++ entry_of (part y (128 * n) 128) ∷ []
 unfolding entries_of
 entries_of-more y n = map-range_with_len_more (λ i. entry_of (part y (128 * i) 128)) 0 n n (omega arith)
 
--- the first entries of more bytes
+-- The first entries of more bytes.
 entries_of-front : (b : List ℕ) (at k n : ℕ) → n ≤ k → entries_of (part b at (128 * k)) n ≡ entries_of (part b at (128 * n)) n
 unfolding entries_of
 entries_of-front b at k zero h = refl
@@ -39,7 +39,7 @@ entries_of-front b at k (suc n) h =
     (part-part b at (128 * k) (128 * n) 128 (omega arith) ∙ sym (part-part b at (128 * suc n) (128 * n) 128 (omega arith)))
     ∙ sym (ap (entries_of (part b at (128 * suc n))) more ∙ entries_of-more (part b at (128 * suc n)) n)
 
--- a block behind others
+-- A block after others.
 pub entries_of-blocks : (b : List ℕ) (at n m : ℕ) → entries_of (part b at (128 * n)) n ++ entries_of (part b (at + 128 * n) (128 * m)) m ≡ entries_of (part b at (128 * (n + m))) (n + m)
 unfolding entries_of
 entries_of-blocks b at n zero =

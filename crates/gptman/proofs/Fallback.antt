@@ -1,4 +1,4 @@
--- The reading of a disk whose primary copy has a fault.
+-- The read of a disk whose primary copy has a fault.
 use Rattle.std.proofs.Common.{◌≡◌, ◌≢◌, ◌⊎◌, ⊎_elim, inl, inr, ◌≤◌, ◌<◌, ℕ, ◌-◌, ◌*◌, ◌/◌, ◌&&◌, Bool, true, false, List, length, ltb, Result, Ok, Err, arith, refl, subst, sym, ap, ◌∙◌}
 use Rattle.std.specs.Prelude.{IfErr, IfOk, IsErr, IsTrue, if◌then◌else◌}
 use Rattle.std.proofs.lemmas.Bool.{and_from}
@@ -15,11 +15,11 @@ use Rattle.gptman.proofs.CopyParts.{header_refused}
 use Rattle.gptman.proofs.CopyTests.{header_short}
 use Rattle.gptman.proofs.Runs.{rose_before, rose_since}
 
--- the backup copy, or the fault that is said of it and of the first
+-- The backup copy, or the error for both faults.
 abbrev pub second_copy : Fault → Result Copy Fault → Result Copy Fault
 second_copy first r = elim r [ Ok copy ↦ Ok copy | Err second ↦ Err (both first second) ]
 
--- a copy's fault that is no want of memory is damage
+-- A fault of a copy other than allocation failure is damage.
 pub damage_from : (f : Fault) → is_copy_fault f ≡ true → f ≢ out_of_memory → is_damage f ≡ true
 damage_from io h known = h
 damage_from invalid_signature h known = h
@@ -38,7 +38,7 @@ damage_from overflow h known = h
 damage_from out_of_memory h known = absurd (known refl)
 damage_from (invalid_entry_size n) h known = h
 
--- a fault of the signature is that one
+-- A fault of the signature is that fault.
 pub signature_fault : (f : Fault) → is_signature_fault f ≡ true → f ≡ invalid_signature
 signature_fault invalid_signature is = refl
 signature_fault _ is = absurd (cc)
@@ -48,7 +48,7 @@ kinds_by : (first second : Fault) (t : Bool) → is_damage first ≡ true → is
 kinds_by first second true d e is = rw is ((λ same. cc), refl)
 kinds_by first second false d e is = rw is ((λ same. cc), and_from (is_damage first) (is_damage second) d e)
 
--- what is said of two faults is one of a reading, and no failure of the disk
+-- The error for two faults is one of a read, and not `Io`.
 pub both_kinds : (first second : Fault) → is_damage first ≡ true → is_damage second ≡ true → (both first second ≢ io) × IsTrue (is_reading_fault (both first second))
 both_kinds first second d e = kinds_by first second (is_signature_fault first && is_signature_fault second) d e refl
 
@@ -67,14 +67,14 @@ pub answer_refused : {T : Type 0} (f : T → Copy) (r : Result T Error) (fault :
 answer_refused f (Ok x) fault is = absurd (cc)
 answer_refused f (Err e) fault is = cc
 
--- where the primary copy is accepted it is taken
+-- An accepted primary copy is returned.
 pub taken_first : (b : List ℕ) (ss : ℕ) (copy : Copy) → copy_in primary b ss ≡ Ok copy → reading_of b ss ≡ Ok copy
 unfolding reading_of
 taken_first b ss copy is =
     let choose : Result Copy Fault → Result Copy Fault = λ r. elim r [ Ok c ↦ Ok c | Err first ↦ fallback b ss first ] in
     ap choose is
 
--- where it is not, the fallback is
+-- Otherwise the fallback is.
 pub refused_first : (b : List ℕ) (ss : ℕ) (fault : Fault) → copy_in primary b ss ≡ Err fault → reading_of b ss ≡ fallback b ss fault
 unfolding reading_of
 refused_first b ss fault is =
@@ -93,7 +93,7 @@ fallback_long b ss first long =
     let choose : Bool → Result Copy Fault = λ small. elim small [ true ↦ Err invalid_signature | false ↦ second_copy first (copy_in backup b ss) ] in
     ap choose t
 
--- a disk of less than a sector has no backup side
+-- A disk shorter than a sector has no backup place.
 pub backup_short : (b : List ℕ) (ss : ℕ) → length b < ss → copy_in backup b ss ≡ Err invalid_signature
 unfolding copy_in
 backup_short b ss short =
@@ -107,7 +107,7 @@ room_by b ss copy true is at =
     absurd (cc)
 room_by b ss copy false is at = grind arith
 
--- so a disk that has a backup copy is no shorter
+-- So a disk with a backup copy is not shorter.
 pub backup_room : (b : List ℕ) (ss : ℕ) (copy : Copy) → copy_in backup b ss ≡ Ok copy → ss ≤ length b
 backup_room b ss copy at = room_by b ss copy (ltb (length b) ss) refl at
 
@@ -122,13 +122,13 @@ primary_at : (b : List ℕ) (ss : ℕ) → copy_in primary b ss ≡ copy_at b ss
 unfolding copy_in
 primary_at b ss = refl
 
--- a disk that is shorter than a sector has no signature
+-- A disk shorter than a sector has no signature.
 reading_short : (b : List ℕ) (ss : ℕ) → length b < ss → reading_of b ss ≡ Err invalid_signature
 reading_short b ss short =
     let far : copy_at b ss ss ≡ Err io = header_refused b ss ss io (header_short b ss (omega (arith, short))) in
     refused_first b ss io (primary_at b ss ∙ far) ∙ fallback_short b ss io short
 
--- the fault that it gives where the disk failed at the primary side
+-- The error of the fallback, if the disk failed at the primary place.
 fallback_err : (b : List ℕ) (ss : ℕ) (fault : Fault) → Err fault ≡ fallback b ss io → IsReadingFault b ss fault
 fallback_err b ss fault is = by_length (ltb (length b) ss) refl
   where
@@ -144,7 +144,7 @@ fallback_err b ss fault is = by_length (ltb (length b) ss) refl
         inr (inr (inl (reading_short b ss short ∙ sym (is ∙ fallback_short b ss io short))))
     by_length false large = second_err (copy_in backup b ss) refl (is ∙ fallback_long b ss io (grind arith))
 
--- what a refusal of the whole reading is
+-- The error of the whole read.
 reading_refused : (r : Result GPT Error) (b : List ℕ) (ss : ℕ) (first : Fault) (old new : DiskState) → IsCopyFault primary b ss first → FallsBack r copy_of b ss first old new
     → IfErr r (λ e. IsReadingFault b ss (fault_of e))
 reading_refused (Ok g) b ss first old new at back = tt
@@ -157,7 +157,7 @@ reading_refused (Err e) b ss first old new at (no_backup said rose) = inr (inr (
 abbrev size_by : Result Copy Fault → ℕ
 size_by r = elim r [ Ok copy ↦ 512 | Err fault ↦ if is_signature_fault fault then 4096 else 512 ]
 
--- the sector size that is settled on
+-- The sector size that is found.
 pub found_ok : (b : List ℕ) (copy : Copy) → reading_of b 512 ≡ Ok copy → found_sector_size b ≡ 512
 unfolding found_sector_size
 found_ok b copy is = ap size_by is
@@ -180,7 +180,7 @@ taken_by b ss first copy true small is =
     absurd (cc)
 taken_by b ss first copy false large is = copy_second first copy (copy_in backup b ss) (is ∙ fallback_long b ss first (grind arith))
 
--- what the fallback takes is the backup copy
+-- A copy that the fallback returns is the backup copy.
 taken_backup : (r : Result GPT Error) (b : List ℕ) (ss : ℕ) (first : Fault) (old new : DiskState) → FallsBack r copy_of b ss first old new
     → IfOk r (λ g. copy_in backup b ss ≡ Ok (copy_of g))
 taken_backup (Err e) b ss first old new back = tt
@@ -189,14 +189,14 @@ taken_backup (Ok g) b ss first old new (no_memory out) = absurd out
 taken_backup (Ok g) b ss first old new (no_seek failed rose) = absurd failed
 taken_backup (Ok g) b ss first old new (no_backup said rose) = absurd said
 
--- The copy at the primary place was not taken, and what follows is the answer of the fallback.
+-- The primary copy was not returned, and this is the result of the fallback.
 pub record FellBack (r : Result GPT Error) (ss : ℕ) (first : Fault) (old mid new : DiskState) : Type 0 where
   pub before : Keeps old mid
   pub after : Keeps mid new
   pub at_primary : IsFailure first old mid ⊎ (copy_in primary old.view ss ≡ Err first)
   pub back : FallsBack r copy_of old.view ss first mid new
 
--- from what the two readings answered
+-- From the results of both reads.
 pub fell_back : (r : Result GPT Error) (ss : ℕ) (first : Fault) (old mid new : DiskState) → Keeps old mid → Keeps mid new → mid.view ≡ old.view → first ≢ out_of_memory
     → IsFailure first old mid ⊎ ((first ≡ out_of_memory) ⊎ (Err first ≡ copy_in primary old.view ss)) → FallsBack r copy_of mid.view ss first mid new
     → FellBack r ss first old mid new
@@ -207,7 +207,7 @@ fell_back r ss first old mid new before after same known answer back = record {
   back = subst (λ (b : List ℕ). FallsBack r copy_of b ss first mid new) same back;
 }
 
--- then the reading answers so, unless the disk failed
+-- The whole read then has this result, unless the disk failed.
 answer_by : (r : Result GPT Error) (ss : ℕ) (first : Fault) (old mid new : DiskState) → Keeps old mid → Keeps mid new
     → IsFailure first old mid ⊎ (copy_in primary old.view ss ≡ Err first) → FallsBack r copy_of old.view ss first mid new
     → Rose old new ⊎ (Refuses r out_of_memory ⊎ (answer_of copy_of r ≡ reading_of old.view ss))
@@ -221,12 +221,12 @@ pub answer_after : {r : Result GPT Error} {ss : ℕ} {first : Fault} {old mid ne
     → Rose old new ⊎ (Refuses r out_of_memory ⊎ (answer_of copy_of r ≡ reading_of old.view ss))
 answer_after {r} {ss} {first} {old} {mid} {new} f = answer_by r ss first old mid new f.before f.after f.at_primary f.back
 
--- it is refused so
+-- It fails with this error,
 pub refused_after : {r : Result GPT Error} {ss : ℕ} {first : Fault} {old mid new : DiskState} → FellBack r ss first old mid new
     → IfErr r (λ e. IsReadingFault old.view ss (fault_of e))
 refused_after {r} {ss} {first} {old} {mid} {new} f = reading_refused r old.view ss first mid new (⊎_elim (λ failed. inl failed.0) inr f.at_primary) f.back
 
--- and it takes the backup copy
+-- and returns the backup copy.
 pub accepted_after : {r : Result GPT Error} {ss : ℕ} {first : Fault} {old mid new : DiskState} → FellBack r ss first old mid new
     → IfOk r (λ g. MayBeRead old new ss (copy_of g))
 accepted_after {r} {ss} {first} {old} {mid} {new} f =
@@ -241,16 +241,16 @@ primary_by b ss copy true small at =
     absurd (cc)
 primary_by b ss copy false large at = grind arith
 
--- a disk with a primary copy is no shorter than a sector
+-- A disk with a primary copy is not shorter than a sector,
 primary_room : (b : List ℕ) (ss : ℕ) (copy : Copy) → copy_in primary b ss ≡ Ok copy → ss ≤ length b
 primary_room b ss copy at = primary_by b ss copy (ltb (length b) ss) refl at
 
--- nor is one of which a copy was read
+-- nor is one from which a copy was read.
 pub read_room : (old new : DiskState) (ss : ℕ) (copy : Copy) → MayBeRead old new ss copy → ss ≤ length old.view
 read_room old new ss copy (inl first) = primary_room old.view ss copy first
 read_room old new ss copy (inr second) = backup_room old.view ss copy second.0
 
--- a reading with sectors of 4096 bytes behind one with 512: what it takes may be read
+-- A read with sectors of 4096 bytes after one with 512 returns a copy that may be read.
 pub second_read : (r : Result GPT Error) (old mid new : DiskState) → mid.view ≡ old.view → Keeps old mid
     → IfOk r (λ g. g.sector_size ≡ 4096) → IfOk r (λ g. MayBeRead mid new 4096 (copy_of g)) → IfOk r (λ g. MayBeRead old new g.sector_size (copy_of g))
 second_read (Err e) old mid new same keeps size taken = tt
@@ -259,7 +259,7 @@ second_read (Ok g) old mid new same keeps size (inr second) =
     let here : copy_in backup old.view 4096 ≡ Ok (copy_of g) = ap (λ b. copy_in backup b 4096) (sym same) ∙ second.0 in
     rw size (inr (here, ⊎_elim (λ bad. inl (subst (λ b. IsErr (copy_in primary b 4096)) same bad)) (λ rose. inr (rose_since old mid new keeps rose)) second.1))
 
--- and the disk failed in it as in a single reading: on a disk of a sector of 4096 bytes the first one that shows no signature met no failure
+-- The disk failed in it as in a single read: on a disk of at least 4096 bytes, the first read met no failure.
 pub second_counts : (r : Result GPT Error) (old mid new : DiskState) → mid.view ≡ old.view → length old.view ≡ old.size
     → HasFailedAsOften old mid ⊎ (old.size < 512)
     → IfOk r (λ g. g.sector_size ≡ 4096) → IfOk r (λ g. MayBeRead mid new 4096 (copy_of g)) → IfOk r (CountsReading mid new) → IfOk r (CountsReading old new)

@@ -1,20 +1,20 @@
--- Tests in order, of which the first that fails tells the fault.
+-- Tests in order. The first that fails determines the fault.
 use Rattle.std.proofs.Common.{◌≡◌, ◌⊎◌, ◌||◌, ◌++◌, ℕ, Bool, true, false, List, [], ◌∷◌, eqb, Some, None, refl, ap, ◌∙◌, inl, inr}
 use Rattle.std.proofs.lemmas.Bool.{eq-eqb, or_left, or_right}
 use Rattle.std.specs.Prelude.{if◌then◌else◌}
 use Rattle.gptman_disk.specs.Fault.{Fault, first_failing}
 
--- each test passes
+-- Each test passes.
 abbrev pub AllTests : List (Bool × Fault) → Type 0
 AllTests [] = Unit {0}
 AllTests (test ∷ tests) = (test.0 ≡ true) × AllTests tests
 
--- tests that pass find no fault
+-- Tests that pass have no fault.
 pub none_from_tests : (tests : List (Bool × Fault)) → AllTests tests → first_failing tests ≡ None
 none_from_tests [] h = refl
 none_from_tests (test ∷ tests) h = ap (λ (b : Bool). if b then first_failing tests else Some test.1) h.0 ∙ none_from_tests tests h.1
 
--- where there is no fault, each test passes
+-- Without a fault each test passes.
 pub tests_pass : (tests : List (Bool × Fault)) → first_failing tests ≡ None → AllTests tests
 tests_pass [] h = tt
 tests_pass (test ∷ tests) h =
@@ -23,12 +23,12 @@ tests_pass (test ∷ tests) h =
       | false ↦ λ e. absurd (cc)
     ]) h
 
--- a test of entries passes where there are none
+-- A test of entries passes if there are none.
 pub none_or : (n : ℕ) (t : Bool) (P : Type 0) → (P → t ≡ true) → (n ≡ 0) ⊎ P → (eqb n 0 || t) ≡ true
 none_or n t P passes (inl zero) = or_left (eqb n 0) t (eq-eqb n 0 zero)
 none_or n t P passes (inr p) = or_right (eqb n 0) t (passes p)
 
--- further tests count where the first all pass
+-- Further tests count if the first ones pass,
 pub later_tests : (xs ys : List (Bool × Fault)) → first_failing xs ≡ None → first_failing (xs ++ ys) ≡ first_failing ys
 later_tests [] ys none = refl
 later_tests (x ∷ xs) ys none =
@@ -37,7 +37,7 @@ later_tests (x ∷ xs) ys none =
       | false ↦ λ e. absurd (cc)
     ]) none
 
--- and not where one of them fails
+-- and do not if one of those fails.
 pub first_tests : (xs ys : List (Bool × Fault)) (fault : Fault) → first_failing xs ≡ Some fault → first_failing (xs ++ ys) ≡ Some fault
 first_tests [] ys fault some = absurd (cc)
 first_tests (x ∷ xs) ys fault some =

@@ -1,4 +1,4 @@
--- The four ranges of a table on the stated layout, as those of its two headers.
+-- The four ranges of a table in the stated layout, as those of its two headers.
 use Rattle.std.proofs.Common.{◌≡◌, ℕ, ◌+◌, ◌-◌, ◌*◌, ◌/◌, ◌++◌, List, [], ◌∷◌, sym, ap, ◌∙◌, subst}
 use Rattle.gptman.specs.Crash.{HasRangesOf, other_side}
 use Rattle.gptman_disk.specs.Disk.{Within}
@@ -18,7 +18,7 @@ use Rattle.gptman.proofs.WrittenCopy.{written_start, written_array}
 -- ---- a header in a form
 
 module _ (side : Side) (h : GPTHeader) (es : List GPTPartitionEntry) (ss len : ℕ) (form : IsHeaderForm side h) (laid : IsLaidOut (table_of h es) ss len) where
-  -- its ranges are those of its table at the side
+  -- Its ranges are those of its table at the place,
   pub form_ranges : copy_ranges_at side (table_of h es) ss len ≡ full_ranges h ss
   form_ranges =
       let start = written_start side h es ss len form laid in
@@ -28,28 +28,28 @@ module _ (side : Side) (h : GPTHeader) (es : List GPTPartitionEntry) (ss len : �
   pub other_laid : IsLaidOut (table_of (other_header h) es) ss len
   other_laid = subst (λ (t : Table). IsLaidOut t ss len) (sym (other_table h es)) laid
 
--- and those of the other header are the table's at the other side
+-- and those of the other header are the table's at the other place.
 pub other_ranges : (side : Side) (h : GPTHeader) (es : List GPTPartitionEntry) (ss len : ℕ) → IsHeaderForm side h → IsLaidOut (table_of h es) ss len
     → copy_ranges_at (other_side side) (table_of h es) ss len ≡ full_ranges (other_header h) ss
 other_ranges side h es ss len form laid =
     ap (λ (t : Table). copy_ranges_at (other_side side) t ss len) (sym (other_table h es))
     ∙ form_ranges (other_side side) (other_header h) es ss len (other_form side h form) (other_laid side h es ss len form laid)
 
--- a table's ranges at a side and at the other one are apart
+-- A table's ranges at its two places are disjoint.
 pub sides_apart : (side : Side) (t : Table) (ss len : ℕ) → IsLaidOut t ss len → AreApart (copy_ranges_at side t ss len ++ copy_ranges_at (other_side side) t ss len)
 sides_apart primary t ss len laid = laid.apart
 sides_apart backup t ss len laid = apart_exchanged (copy_ranges_at primary t ss len) (copy_ranges_at backup t ss len) laid.apart
 
--- all four ranges of a table
+-- All four ranges of a table.
 abbrev pub four_ranges_at : Table → ℕ → ℕ → Ranges
 four_ranges_at t ss len = copy_ranges_at primary t ss len ++ copy_ranges_at backup t ss len
 
--- The ranges of both sides are the four ranges.
+-- The ranges of both places are the four ranges.
 pub in_four : (side : Side) (t : Table) (ss len : ℕ) → Within (copy_ranges_at side t ss len ++ copy_ranges_at (other_side side) t ss len) (four_ranges_at t ss len)
 in_four primary t ss len = record { covers = λ k o. o }
 in_four backup t ss len = within_both (within_right (copy_ranges_at primary t ss len) (copy_ranges_at backup t ss len)) (within_left (copy_ranges_at primary t ss len) (copy_ranges_at backup t ss len))
 
--- What a write of a table of the layout writes lies in them.
+-- A write of a table in the layout writes only in them.
 pub within_four : (side : Side) (h : GPTHeader) (es : List GPTPartitionEntry) (ss len : ℕ) → IsHeaderForm side h → IsLaidOut (table_of h es) ss len
     → Within (four_ranges h ss) (four_ranges_at (table_of h es) ss len)
 within_four side h es ss len form laid =
@@ -60,12 +60,12 @@ within_four side h es ss len form laid =
     (within_then (within_copy (other_header h) ss) (within_right (full_ranges h ss) (full_ranges (other_header h) ss))) in
     within_then both (subst (λ (rs : Ranges). Within rs (four_ranges_at (table_of h es) ss len)) (λ i. own i ++ other i) (in_four side (table_of h es) ss len))
 
--- no byte of the other side's is one of the side's
+-- The two places share no byte.
 pub sides_clear : (side : Side) (t : Table) (ss len : ℕ) → IsLaidOut t ss len → AreClear (copy_ranges_at (other_side side) t ss len) (copy_ranges_at side t ss len)
 sides_clear primary t ss len laid = clear_if_apart (copy_ranges_at backup t ss len) (copy_ranges_at primary t ss len) (sides_apart backup t ss len laid)
 sides_clear backup t ss len laid = clear_if_apart (copy_ranges_at primary t ss len) (copy_ranges_at backup t ss len) (sides_apart primary t ss len laid)
 
--- Tables of one count and one last usable sector have the same ranges.
+-- Tables with the same count and last usable sector have the same ranges.
 pub same_ranges : (side : Side) (old new : Table) (ss len : ℕ) → HasRangesOf old new → copy_ranges_at side old ss len ≡ copy_ranges_at side new ss len
 same_ranges primary old new ss len same = ap (λ (n : ℕ). (ss, 92) ∷ (2 * ss, 128 * n) ∷ []) (sym same.count)
 same_ranges backup old new ss len same = λ i. ((len / ss - 1) * ss, 92) ∷ ((sym same.last i + 1) * ss, 128 * sym same.count i) ∷ []

@@ -9,25 +9,25 @@ use Rattle.gptman.specs.Sweep.{AddsSlot}
 use Rattle.gptman.specs.Sweep.AddsSlot.{added, kept}
 use Rattle.gptman.proofs.Multiples.{one_first_multiple}
 
--- of two runs that share a sector neither begins later
+-- If two runs share a sector, neither begins later,
 pub not_later : (F : ℕ → Type 0) (a b c d x : ℕ) → IsRun F a b → IsRun F c d → a ≤ x → x ≤ b → c ≤ x → c ≤ a
 not_later F a b c d x p q ax xb cx = elim (cases_lt a c) [
   | inl less ↦ absurd (q.before (c - 1) (omega arith) (p.inside (c - 1) (omega arith) (omega arith)))
   | inr more ↦ more
 ]
 
--- nor ends later
+-- nor ends later.
 pub not_longer : (F : ℕ → Type 0) (a b c d x : ℕ) → IsRun F a b → IsRun F c d → a ≤ x → x ≤ b → c ≤ x → x ≤ d → b ≤ d
 not_longer F a b c d x p q ax xb cx xd = elim (cases_lt d b) [
   | inl less ↦ absurd (q.after (p.inside (d + 1) (omega arith) (omega arith)))
   | inr more ↦ more
 ]
 
--- the start of a slot is free
+-- The start of a slot is free.
 pub slot_free : (F : ℕ → Type 0) (align s n : ℕ) → IsAlignedSlot F align s n → F s
 slot_free F align s n t = t.run.inside s t.start.from t.within
 
--- a slot that starts in a run is that run's
+-- A slot that starts in a run belongs to that run.
 pub slot_of_run : (F : ℕ → Type 0) (align a b s n : ℕ) → IsRun F a b → IsAlignedSlot F align s n → a ≤ s → s ≤ b → IsFirstMultiple align a s × (s + n ≡ b + 1)
 slot_of_run F align a b s n p t sa sb =
     let h1 = not_later F a b t.first t.last s p t.run sa sb t.start.from in
@@ -38,7 +38,7 @@ slot_of_run F align a b s n p t sa sb =
     let long = t.long in
     (subst (λ (y : ℕ). IsFirstMultiple align y s) e t.start, omega arith)
 
--- the list has the slots that start up to p, and p is not free
+-- The list has the slots that start up to p, and p is not free.
 pub record Swept (F : ℕ → Type 0) (align : ℕ) (slots : List (ℕ × ℕ)) (p : ℕ) : Type 0 where
   pub each : All (λ s. IsAlignedSlot F align s.0 s.1) slots
   pub below : All (λ s. s.0 ≤ p) slots
@@ -46,7 +46,7 @@ pub record Swept (F : ℕ → Type 0) (align : ℕ) (slots : List (ℕ × ℕ)) 
   pub ascending : AllPairs (λ s t. s.0 < t.0) slots
   pub wall : ¬ F p
 
--- past sectors that are not free
+-- Past sectors that are not free.
 pub swept_skip : (F : ℕ → Type 0) (align : ℕ) (slots : List (ℕ × ℕ)) (p q : ℕ) → p ≤ q → ((x : ℕ) → p < x → x ≤ q → ¬ F x) → Swept F align slots p
     → Swept F align slots q
 swept_skip F align slots p q le none w = record {
@@ -63,7 +63,7 @@ swept_skip F align slots p q le none w = record {
   ];
 }
 
--- past a run, whose slot came to the list
+-- Past a run whose slot was appended to the list.
 pub swept_run : (F : ℕ → Type 0) (align : ℕ) (old new : List (ℕ × ℕ)) (p r q : ℕ) → Swept F align old p → IsRun F (p + 1) r → r < q
     → ((x : ℕ) → r < x → x ≤ q → ¬ F x) → AddsSlot align (p + 1) r old new → Swept F align new q
 swept_run F align old new p r q w run rq none (added slot is e) =
@@ -107,7 +107,7 @@ swept_run F align old new p r q w run rq none (kept bare e) =
       wall = none q rq (omega arith);
     } in subst (λ (l : List (ℕ × ℕ)). Swept F align l q) (sym e) all
 
--- nothing free is left
+-- No free sector remains.
 pub swept_all : (F : ℕ → Type 0) (align : ℕ) (slots : List (ℕ × ℕ)) (p : ℕ) → ((x : ℕ) → p < x → ¬ F x) → Swept F align slots p → AreSlots F align slots
 swept_all F align slots p none w = record {
   each = w.each;

@@ -1,4 +1,4 @@
--- Free by the entries is the same as outside of their ranges; slots depend on which sectors are free alone.
+-- Free by the entries is the same as outside their ranges. Slots depend only on which sectors are free.
 use Rattle.std.proofs.Common.{◌⊎◌, inl, inr, ℕ, ◌+◌, ◌≡◌, List, [], ◌∷◌, Some, IsTrue, arith}
 use Rattle.std.specs.List.{All, filter_map}
 use Rattle.std.specs.List.Sorted.{IsPermutation}
@@ -14,7 +14,7 @@ use Rattle.gptman.proofs.Covered.{covers_nothing, range_of}
 use Rattle.gptman.proofs.Pairs.{All-filter_map, All-from_filter_map}
 use Rattle.gptman.proofs.Places.{IsSettled}
 
--- the entry does not cover the sector
+-- The entry does not cover the sector.
 abbrev pub Spares : ℕ → GPTPartitionEntry → Type 0
 Spares x e = ¬ IsTrue (covers x e)
 
@@ -67,7 +67,7 @@ slots_same F G to from align slots are = record {
   ascending = are.ascending;
 }
 
--- the slots outside of the ranges are those of the entries
+-- The slots outside the ranges are those of the entries.
 pub slots_of_entries : (h : GPTHeader) (es : List GPTPartitionEntry) (rs : List (ℕ × ℕ)) → IsPermutation (filter_map covered_range es) rs → (align : ℕ)
     (slots : List (ℕ × ℕ)) → AreSlots (IsOutside h rs) align slots → AreSlots (IsFree h es) align slots
 slots_of_entries h es rs p align slots are = slots_same (IsOutside h rs) (IsFree h es) (free_if_outside h es rs p) (outside_if_free h es rs p) align slots are
@@ -96,7 +96,7 @@ usable_or_not h x = elim (cases_lt x 1) [
   ]
 ]
 
--- and the last usable one is a bound
+-- The last usable sector is a bound.
 pub free_settled : (h : GPTHeader) (es : List GPTPartitionEntry) → IsSettled (IsFree h es)
 free_settled h es = record {
   free_or_not = λ x. elim (usable_or_not h x) [

@@ -1,4 +1,4 @@
--- GUIDs of used entries are distinct exactly where a set of them is as large as their list.
+-- GUIDs of used entries are distinct exactly if the set of them is as large as their list.
 use Rattle.std.proofs.Common.{◌≡◌, ◌≢◌, ℕ, Bool, eqb, List, length, Some, None, sym, ◌∙◌, subst, IsTrue}
 use Rattle.std.specs.Bool.{Decides}
 use Rattle.std.specs.List.{AllPairs, filter_map}
@@ -18,14 +18,14 @@ use Rattle.gptman.specs.Valid.{HasOwnGuids}
 use Rattle.gptman.specs.declared.codec.entry.GPTPartitionEntry.{GPTPartitionEntry}
 use Rattle.gptman.proofs.Pairs.{AllPairs-filter_map, AllPairs-from_filter_map}
 
--- the order of byte lists answers Equal for one list alone
+-- The order of byte lists returns Equal only for equal lists.
 same : (a b : List ℕ) → Decides (eq_by_cmp (slice_cmp nat_cmp) a b) (a ≡ b)
 same a b = subst (λ (t : Bool). Decides t (a ≡ b)) (sym (is_eq-slice_cmp a b)) (bytes_eq-Decides a b)
 
 laws : IsEquivalence (eq_by_cmp (slice_cmp nat_cmp))
 laws = eq_by_cmp_equiv nat_list_cmp_total
 
--- a set made from the list is as large as the list exactly where all differ
+-- A set made from a list is as large as the list exactly if all elements differ.
 pub distinct_by_count : (xs : List (List ℕ)) (n : BTreeSet (List ℕ)) → IsFromIterResult (slice_cmp nat_cmp) xs n → Decides (eqb (btree_set_len n) (length xs)) (AllPairs (λ a b. a ≢ b) xs)
 distinct_by_count xs n h =
     let count = btree_set_len-from_list nat_list_cmp_total xs n h in (
@@ -36,7 +36,7 @@ distinct_by_count xs n h =
 unused_has_none : (e : GPTPartitionEntry) → used_guid e ≡ None → ¬ IsTrue (is_used e)
 unused_has_none e none used = none-some e.unique_partition_guid (sym none ∙ cond-true (is_used e) (Some e.unique_partition_guid) None used)
 
--- of the GUIDs and of the entries
+-- From GUIDs to entries.
 pub guids_pairs : (es : List GPTPartitionEntry) → (AllPairs (λ a b. a ≢ b) (filter_map used_guid es) → HasOwnGuids es) × (HasOwnGuids es → AllPairs (λ a b. a ≢ b) (filter_map used_guid es))
 guids_pairs es = (
   AllPairs-from_filter_map used_guid (λ e f. IsTrue (is_used e) → IsTrue (is_used f) → e.unique_partition_guid ≢ f.unique_partition_guid) (λ a b. a ≢ b)

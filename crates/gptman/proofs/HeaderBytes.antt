@@ -9,7 +9,7 @@ use Rattle.gptman.specs.declared.codec.header.GPTHeader.{GPTHeader}
 use Rattle.gptman.proofs.Assembly.{cells, elements, taken_more}
 use Rattle.gptman.proofs.Numbers.{le_of, le_back}
 
--- a header whose byte fields are given element by element
+-- A header whose byte fields are given by element.
 abbrev listed : GPTHeader → (ℕ → ℕ) → (ℕ → ℕ) → (ℕ → ℕ) → (ℕ → ℕ) → GPTHeader
 listed h s r z g = record h {
   signature = map s (range_with_len 0 8);
@@ -47,13 +47,13 @@ listed_same h fits =
     ∙ ap (λ (xs : List ℕ). record h { signature = s; revision = r; reserved = xs }) (cells h.reserved 4 fits.reserved)
     ∙ ap (λ (xs : List ℕ). record h { signature = s; revision = r; reserved = z; disk_guid = xs }) (cells h.disk_guid 16 fits.disk_guid)
 
--- a header corresponds to its bytes
+-- A header corresponds to its bytes (`IsHeaderCoding`).
 pub spelled_corresponds : (h : GPTHeader) → FitsHeader h → IsHeaderCoding h (header_bytes h)
 spelled_corresponds h fits =
     let P : GPTHeader → Type 0 = λ k. IsHeaderCoding k (header_bytes k) in
     subst P (sym (listed_same h fits)) (listed_corresponds h (elements h.signature) (elements h.revision) (elements h.reserved) (elements h.disk_guid) fits)
 
--- a header that bytes hold is that one
+-- A header that bytes encode is that one.
 pub header_is : (h : GPTHeader) (b : List ℕ) → IsHeaderCoding h b → h ≡ header_of b
 header_is h b c = λ i. record {
   signature = c.signature i;
@@ -72,11 +72,11 @@ header_is h b c = λ i. record {
   partition_entry_array_crc32 = c.partition_entry_array_crc32 i;
 }
 
--- bytes hold one header
+-- Bytes encode one header.
 pub one_header : (g h : GPTHeader) (b : List ℕ) → IsHeaderCoding g b → IsHeaderCoding h b → g ≡ h
 one_header g h b cg ch = header_is g b cg ∙ sym (header_is h b ch)
 
--- what corresponds to a header is its bytes
+-- Bytes that correspond to a header are its bytes.
 pub spelling_is : (h : GPTHeader) (b : List ℕ) → length b ≡ 92 → AreBytes b → IsHeaderCoding h b → b ≡ header_bytes h
 unfolding header_bytes
 spelling_is h b len bytes e =
@@ -96,7 +96,7 @@ spelling_is h b len bytes e =
     let t14 = taken_more b 88 4 t13 (ap (little_bytes 4) e.partition_entry_array_crc32 ∙ le_back 4 b 88 (omega (arith, len)) bytes) in
     sym (take_all 92 b (omega (arith, len))) ∙ sym t14
 
--- a header is 92 bytes long
+-- A header has 92 bytes.
 pub header_long : (h : GPTHeader) → FitsHeader h → length (header_bytes h) ≡ 92
 unfolding header_bytes
 header_long h fits = simp length-append (omega (arith, fits.signature, fits.revision, fits.reserved, fits.disk_guid))

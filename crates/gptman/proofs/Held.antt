@@ -1,4 +1,4 @@
--- What a side holds is told by its two ranges.
+-- The two ranges of a place decide what it holds.
 use Rattle.std.proofs.Common.{◌≡◌, ◌*◌, ℕ, Bool, true, false, List, length, ltb, Result, Ok, Err, refl, sym, ap, ◌∙◌, inl, inr, arith}
 use Rattle.std.specs.Prelude.{Option, Some, None}
 use Rattle.gptman_disk.specs.Bytes.{part}
@@ -15,7 +15,7 @@ use Rattle.gptman.proofs.CopyParts.{copy_fault, copy_tests, copy_there, entries_
 use Rattle.gptman.proofs.WrittenCopy.{array_start, written_array}
 use Rattle.gptman.proofs.CopyTests.{entries_start, entries_length}
 
--- ---- a copy is told by the length and by its two parts
+-- ---- the length and the two parts of a copy determine it
 
 abbrev given : Option Fault → Copy → Result Copy Fault
 given o copy = elim o [ None ↦ Ok copy | Some fault ↦ Err fault ]
@@ -27,7 +27,7 @@ copy_at-is : (b : List ℕ) (p ss : ℕ) → copy_at b p ss ≡ copy_from (lengt
 unfolding copy_at
 copy_at-is b p ss = refl
 
--- What agrees in length, in the header and in the entries that it says is one copy.
+-- Lists that agree in length, in the header and in the entries that it names have the same copy.
 pub copy_at-local : (b c : List ℕ) (p ss : ℕ) → length c ≡ length b → part c p 92 ≡ part b p 92 → entries_part c p ss ≡ entries_part b p ss → copy_at c p ss ≡ copy_at b p ss
 copy_at-local b c p ss long header entries =
     copy_at-is c p ss ∙ (λ i. copy_from (long i) p ss (header i) (entries i)) ∙ sym (copy_at-is b p ss)
@@ -41,7 +41,7 @@ accepted_cases b p ss copy (Some fault) is ok =
     let e : ◌≡◌ {A = Result Copy Fault} (Err fault) (Ok copy) = sym (ap (λ (o : Option Fault). given o (copy_there b p ss)) is) ∙ ok in
     absurd (cc)
 
--- an accepted copy is the one that stands there
+-- An accepted copy is the one that is there.
 pub accepted_is : (b : List ℕ) (p ss : ℕ) (copy : Copy) → copy_at b p ss ≡ Ok copy → copy_there b p ss ≡ copy
 accepted_is b p ss copy ok = accepted_cases b p ss copy (copy_fault b p ss) refl ok
 
@@ -65,7 +65,7 @@ at_side side b c ss t copy ok form agrees =
     part_in b c (entries_start h ss) (entries_length h) agrees.long (λ k low high. agrees.same k (inr (inl (omega (arith, low, start), omega (arith, high, start, size))))) in
     copy_at-local b c p ss agrees.long header (ap (λ (x : List ℕ). part c (entries_start (header_of x) ss) (entries_length (header_of x))) header ∙ entries) ∙ ok
 
--- What agrees with a list in the two ranges that a table has at a side holds it there too.
+-- A list that agrees with another in the two ranges of a table at a place holds it there too.
 pub holds_local : (b c : List ℕ) (ss : ℕ) (side : Side) (t : Table) → Holds b ss side t → AgreesInside (copy_ranges_at side t ss (length b)) b c → Holds c ss side t
 unfolding copy_in
 holds_local b c ss primary t holds agrees = record {

@@ -1,4 +1,4 @@
--- Copies that are laid over a list of bytes.
+-- Copies written over a list of bytes.
 use Rattle.std.proofs.Common.{◌≡◌, ◌⊎◌, inl, inr, ◌≤◌, ℕ, ◌+◌, ◌*◌, ◌++◌, Bool, true, List, [], ◌∷◌, length, sym, ap, ◌∙◌, subst, arith}
 use Rattle.std.specs.List.{All, list_all}
 use Rattle.std.specs.Prelude.{if◌then◌else◌, nat_eq}
@@ -19,11 +19,11 @@ use Rattle.gptman.proofs.Apart.{clear_if_apart}
 use Rattle.gptman.proofs.Argument.{IsToldBy, stays}
 use Rattle.gptman.proofs.Pieces.{ranges_of, AllStand, laid_agrees, laid_stand}
 
--- the two ranges of a copy, its header and its entries, also where there are no entries
+-- The two ranges of a copy, its header and its entries, even without entries.
 abbrev pub full_ranges : GPTHeader → ℕ → Ranges
 full_ranges h ss = (h.primary_lba * ss, 92) ∷ (h.partition_entry_lba * ss, 128 * h.number_of_partition_entries) ∷ []
 
--- A copy that was laid stands there, where its two ranges are apart and on the disk. The list is as long as it was.
+-- A written copy is there if its two ranges are disjoint and on the disk. The length of the list is unchanged.
 pub laid_stands : (old new : List ℕ) (h : GPTHeader) (es : List GPTPartitionEntry) (ss : ℕ) → AreApart (full_ranges h ss) → AreInside (full_ranges h ss) (length old)
     → FitsHeader h → All FitsEntry es → length es ≡ h.number_of_partition_entries → IsCopyLaid h es ss old new → HasBytes new h es ss × (length new ≡ length old)
 laid_stands old new h es ss apart inside fits_h fits count laid =
@@ -37,7 +37,7 @@ laid_stands old new h es ss apart inside fits_h fits count laid =
       ap (λ (b : List ℕ). length b) laid ∙ (laid_agrees old pieces room).long,
     )
 
--- It is told by the bytes in its ranges.
+-- The bytes in its ranges decide it.
 pub bytes_told : (h : GPTHeader) (es : List GPTPartitionEntry) (ss : ℕ) → All FitsEntry es → length es ≡ h.number_of_partition_entries
     → IsToldBy (λ b. HasBytes b h es ss) (full_ranges h ss)
 bytes_told h es ss fits count b c has agrees =
@@ -48,13 +48,13 @@ bytes_told h es ss fits count b c has agrees =
           (λ k low high. agrees.same k (inr (inl (low, omega (arith, high, array))))) ∙ has.entries;
     }
 
--- ---- the ranges of a copy where an empty array has none
+-- ---- the ranges of a copy, if an empty array has none
 
--- the range of n entries from a byte on
+-- The range of n entries from a byte on.
 abbrev pub entries_range : ℕ → Bool → ℕ → Ranges
 entries_range n none start = if none then [] else ((start, 128 * n) ∷ [])
 
--- ranges that are apart without those of no entries are apart with them
+-- Ranges that are disjoint without those of empty arrays are disjoint with them.
 with_empty : (a c p q n : ℕ) → AreApart (((a, 92) ∷ entries_range n (nat_eq n 0) c) ++ ((p, 92) ∷ entries_range n (nat_eq n 0) q))
     → AreApart ((a, 92) ∷ (c, 128 * n) ∷ (p, 92) ∷ (q, 128 * n) ∷ [])
 with_empty a c p q n apart =
@@ -72,7 +72,7 @@ with_empty a c p q n apart =
       | inr some ↦ subst P some.0 apart
     ]
 
--- the ranges of a copy that lie on a disk
+-- The ranges of a copy on a disk.
 pub copy_inside : (h : GPTHeader) (ss len : ℕ) → list_all (is_inside len) (copy_ranges h ss) ≡ true → AreInside (full_ranges h ss) len
 copy_inside h ss len inside =
     let n : ℕ = h.number_of_partition_entries in
@@ -86,7 +86,7 @@ copy_inside h ss len inside =
     ] in
     (inr (leb-true (h.primary_lba * ss + 92) len parts.0), (entries, tt))
 
--- two copies that are apart, their empty arrays counted in
+-- Two disjoint copies, including empty arrays.
 pub copies_apart : (g h : GPTHeader) (ss : ℕ) → h.number_of_partition_entries ≡ g.number_of_partition_entries → AreApart (copy_ranges g ss ++ copy_ranges h ss)
     → AreApart (full_ranges g ss ++ full_ranges h ss)
 copies_apart g h ss same apart =
@@ -94,7 +94,7 @@ copies_apart g h ss same apart =
     let Q : ℕ → Type 0 = λ n. AreApart (full_ranges g ss ++ ((h.primary_lba * ss, 92) ∷ (h.partition_entry_lba * ss, 128 * n) ∷ [])) in
     subst Q (sym same) (with_empty (g.primary_lba * ss) (g.partition_entry_lba * ss) (h.primary_lba * ss) (h.partition_entry_lba * ss) g.number_of_partition_entries (subst P same apart))
 
--- the ranges that are written are among those of the copy
+-- The ranges that are written are among those of the copy.
 pub within_copy : (h : GPTHeader) (ss : ℕ) → Within (copy_ranges h ss) (full_ranges h ss)
 within_copy h ss =
     let start : ℕ = h.partition_entry_lba * ss in
@@ -105,7 +105,7 @@ within_copy h ss =
       | inr some ↦ subst P (sym some.0) (within_self (full_ranges h ss))
     ]
 
--- Two copies that are apart and on the disk stand there once both are laid.
+-- Two disjoint copies on the disk are both there after both were written.
 pub laid_both : (old mid new : List ℕ) (g h : GPTHeader) (es : List GPTPartitionEntry) (ss : ℕ) → AreApart (copy_ranges g ss ++ copy_ranges h ss)
     → list_all (is_inside (length old)) (copy_ranges g ss) ≡ true → list_all (is_inside (length old)) (copy_ranges h ss) ≡ true
     → FitsHeader g → FitsHeader h → All FitsEntry es → length es ≡ g.number_of_partition_entries → length es ≡ h.number_of_partition_entries

@@ -7,7 +7,7 @@ use Rattle.gptman.specs.Table.{Table, entries_in, table_in, IsHeaderForm, IsInFo
 use Rattle.gptman.specs.declared.codec.header.GPTHeader.{GPTHeader}
 use Rattle.gptman.specs.declared.table.GPT.{GPT}
 
--- the side of a header that is in a form
+-- The place of a header that is in a form.
 record HasForm (h : GPTHeader) : Type 0 where
   side : Side
   form : IsHeaderForm side h
@@ -38,13 +38,13 @@ laid_out g len marks sizes form sectors place =
       form = has.form;
     }
 
--- the parts that are not the header's
+-- The parts that do not concern the header.
 pub places_of : (g : GPT) (len : ℕ) → HasLayout g len → HasRightSectors (table_in g) g.sector_size len × AreInPlace (table_in g) g.sector_size len
 places_of g len layout =
     let t = layout.table in
     (record { low = t.low_sector; high = t.high_sector }, record { inside = t.inside; apart = t.apart; fits = t.fits })
 
--- Four ranges by their starts and lengths are those of a table at both sides.
+-- Four ranges by start and length are those of a table at both places.
 pub four_at : (t : Table) (ss len a b c d la lb lc ld : ℕ) → a ≡ 1 * ss → la ≡ 92 → b ≡ 2 * ss → lb ≡ 128 * t.count → c ≡ (len / ss - 1) * ss → lc ≡ 92
     → d ≡ (t.last_usable_lba + 1) * ss → ld ≡ 128 * t.count
     → (a, la) ∷ (b, lb) ∷ (c, lc) ∷ (d, ld) ∷ [] ≡ copy_ranges_at primary t ss len ++ copy_ranges_at backup t ss len

@@ -1,16 +1,16 @@
--- Multiples of a number, and the first of them from a place on.
+-- Multiples of a number, and the first one from a number on.
 use Prim.Native.Nat.{◌∣◌}
 use Rattle.std.proofs.Common.{sym, ◌≡◌, ℕ, ◌+◌, ◌-◌, ◌*◌, ◌/◌, ◌%◌, ◌<◌, ◌≤◌, inl, inr, subst, arith}
 use Rattle.std.proofs.Math.Nat.{dvd-sub, dvd-mul_left, le_of_dvd, dvd_of_mod-eq-zero}
 use Rattle.std.proofs.lemmas.Bool.{cases_lt}
 use Rattle.gptman.specs.Place.{IsFirstMultiple}
 
--- two multiples lie at least n apart
+-- Two multiples differ by at least n.
 pub multiples_apart : (n a b : ℕ) → n ∣ a → n ∣ b → a < b → a + n ≤ b
 multiples_apart n a b p q h =
     let d : n ≤ b - a = le_of_dvd (omega arith) (dvd-sub n q p) in omega arith
 
--- a multiple that is less than n after a is the first
+-- A multiple less than n after a is the first.
 pub first_multiple_at : (n a s : ℕ) → n ∣ s → a ≤ s → s < a + n → IsFirstMultiple n a s
 first_multiple_at n a s d from near = record {
   multiple = d;
@@ -21,17 +21,17 @@ first_multiple_at n a s d from near = record {
   ];
 }
 
--- there is one first multiple
+-- There is only one first multiple.
 pub one_first_multiple : (n a s t : ℕ) → IsFirstMultiple n a s → IsFirstMultiple n a t → s ≡ t
 one_first_multiple n a s t p q =
     let up = p.least t q.multiple q.from in
     let down = q.least s p.multiple p.from in omega arith
 
--- a itself, where it is a multiple
+-- It is a, if that is a multiple,
 pub first_here : (n a : ℕ) → 0 < n → a % n ≡ 0 → IsFirstMultiple n a a
 first_here n a pos e = first_multiple_at n a a (dvd_of_mod-eq-zero n e) (omega arith) (omega arith)
 
--- and else what is left to the next one later
+-- else it is the next one.
 pub first_later : (n a : ℕ) → 0 < n → 0 < a % n → IsFirstMultiple n a (a + (n - a % n))
 first_later n a pos over =
     let low : a % n < n = omega arith in
@@ -39,7 +39,7 @@ first_later n a pos over =
     let is : (a / n + 1) * n ≡ a + (n - a % n) = omega arith in
     first_multiple_at n a (a + (n - a % n)) (subst (λ (x : ℕ). n ∣ x) is next) (omega arith) (omega arith)
 
--- the first multiple, by how far it is
+-- The first multiple, by its distance.
 pub first_by : (n a skip : ℕ) → 0 < n → (a % n ≡ 0 → skip ≡ 0) → (0 < a % n → skip ≡ n - a % n) → IsFirstMultiple n a (a + skip)
 first_by n a skip pos none some = elim (cases_lt 0 (a % n)) [
   | inl over ↦ subst (λ (k : ℕ). IsFirstMultiple n a (a + k)) (sym (some over)) (first_later n a pos over)
@@ -49,7 +49,7 @@ first_by n a skip pos none some = elim (cases_lt 0 (a % n)) [
       subst (λ (s : ℕ). IsFirstMultiple n a s) e (first_here n a pos (omega arith))
 ]
 
--- there is a first multiple
+-- There is a first multiple.
 pub a_first_multiple : (n a : ℕ) → 0 < n → (s : ℕ) × IsFirstMultiple n a s
 a_first_multiple n a pos = elim (cases_lt 0 (a % n)) [
   | inl over ↦ (a + (n - a % n), first_later n a pos over)

@@ -6,25 +6,25 @@ use Rattle.std.proofs.lemmas.List.{take-replicate, take-append-le}
 use Rattle.std.specs.Char.Utf16.{utf16_chars, utf16_lossy_chars, is_high_surrogate, is_low_surrogate}
 use Rattle.gptman.specs.Name.{filled, HasUnits}
 
--- no units have no characters
+-- No units have no characters.
 pub none_of_none : (us : List ℕ) → length us ≡ 0 → utf16_lossy_chars us ≡ []
 unfolding utf16_chars
 none_of_none [] none = refl
 none_of_none (u ∷ us) none = cc
 
--- in either case there is one at least
+-- Either case has at least one character,
 either_some : (b : Bool) (x y : Option ℕ) (xs ys : List (Option ℕ)) → map (λ o. unwrap_or o 0xFFFD) (if b then x ∷ xs else y ∷ ys) ≡ [] → ⊥
 either_some true x y xs ys none = cc
 either_some false x y xs ys none = cc
 
--- and some have some
+-- so some units have some.
 pub some_of_some : (us : List ℕ) → eqb (length us) 0 ≡ false → utf16_lossy_chars us ≡ [] → ⊥
 unfolding utf16_chars
 some_of_some [] some none = cc
 some_of_some (u ∷ []) some none = cc
 some_of_some (h ∷ l ∷ us) some none = either_some (is_high_surrogate h && is_low_surrogate l) _ _ _ _ none
 
--- a place after a list's elements is written where zeros stood
+-- A unit after the elements of a list overwrites zeros.
 fill_more : (us : List ℕ) (n k l u : ℕ) → length us < n → n ≤ length us + k → n ≤ length us + 1 + l
     → set (take n (us ++ replicate k 0)) (length us) u ≡ take n ((us ++ u ∷ []) ++ replicate l 0)
 fill_more [] zero k l u lt enough more = absurd (omega arith)
@@ -35,7 +35,7 @@ fill_more (x ∷ us) zero k l u lt enough more = absurd (omega arith)
 fill_more (x ∷ us) (suc n) k l u lt enough more =
     ap (λ (xs : List ℕ). x ∷ xs) (fill_more us n k l u (omega arith) (omega arith) (omega arith))
 
--- where there is no room, nothing changes
+-- Without room nothing changes.
 fill_full : (us : List ℕ) (n u : ℕ) → n ≤ length us → take n (us ++ replicate n 0) ≡ take n ((us ++ u ∷ []) ++ replicate n 0)
 fill_full us n u h =
     take-append-le n us (replicate n 0) h

@@ -7,11 +7,11 @@ pub length_numbered : {X : Type 0} (n : ℕ) (xs : List X) → length (enumerate
 length_numbered n [] = refl
 length_numbered n (x ∷ xs) = let e = length_numbered (n + 1) xs in omega (arith, e)
 
--- a fold that does not read the numbers
+-- A fold that ignores the numbers.
 pub fold_numbered : {X A : Type 0} (h : A → X → A) (a : A) (n : ℕ) (xs : List X) → fold (λ b (y : ℕ × X). h b y.1) a (enumerate_from n xs) ≡ fold h a xs
 fold_numbered h a n [] = refl
 fold_numbered h a n (x ∷ xs) = fold_numbered h (h a x) (n + 1) xs
 
--- a test that does not read the number
+-- A test that ignores the number.
 pub count_numbered : {X : Type 0} (p : X → Bool) (n : ℕ) (xs : List X) → count_by (λ (y : ℕ × X). p y.1) (enumerate_from n xs) ≡ count_by p xs
 count_numbered p n xs = fold_numbered (λ (a : ℕ) x. a + (if p x then 1 else 0)) 0 n xs

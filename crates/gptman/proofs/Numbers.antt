@@ -1,4 +1,4 @@
--- Numbers as bytes, the lowest first.
+-- Numbers as bytes, lowest first.
 use Rattle.std.proofs.Common.{lit<, ◌≡◌, ℕ, zero, suc, ◌+◌, ◌*◌, ◌-◌, ◌/◌, ◌^◌, ◌<◌, ◌≤◌, List, [], ◌∷◌, length, take, drop, arith, refl, sym, ap, ◌∙◌}
 use Rattle.std.specs.Prelude.{slice_range, Bool, false, ◌&&◌, nat_eq}
 use Rattle.std.specs.List.{list_all}
@@ -11,7 +11,7 @@ use Rattle.byteorder.specs.Endian.{little_from, little_number, little_bytes}
 use Rattle.byteorder.specs.Numbers.{little_from-cons, little_number-reads_back, length-bytes_low_first}
 use Rattle.gptman_disk.specs.Bytes.{le, AreBytes}
 
--- the number that `byteorder` reads is the one that the bytes spell
+-- The number that `byteorder` reads is that of the bytes.
 little_from_is : (xs : List ℕ) → little_from 0 (length xs) xs ≡ le xs
 little_from_is [] = refl
 little_from_is (x ∷ xs) =
@@ -22,7 +22,7 @@ little_from_is (x ∷ xs) =
 pub little_number_is : (n : ℕ) (xs : List ℕ) → length xs ≡ n → little_number n xs ≡ le xs
 little_number_is n xs len = ap (λ (k : ℕ). little_from 0 k xs) (sym len) ∙ little_from_is xs
 
--- a number is what its bytes spell
+-- A number is that of its bytes.
 pub le_of : (n x : ℕ) → x < 256 ^ n → le (little_bytes n x) ≡ x
 le_of n x h =
     sym (little_number_is n (little_bytes n x) (length-bytes_low_first 0 n x))
@@ -42,12 +42,12 @@ no_sum (suc x) n =
     let first : nat_eq (suc x) 0 ≡ false = grind (arith, nat_tests) in
     rw (more, first) refl
 
--- a number is zero where all its bytes are
+-- A number is zero exactly if all its bytes are.
 pub zero_bytes : (xs : List ℕ) → nat_eq (le xs) 0 ≡ list_all (λ x. nat_eq x 0) xs
 zero_bytes [] = refl
 zero_bytes (x ∷ xs) = no_sum x (le xs) ∙ ap (λ (b : Bool). nat_eq x 0 && b) (zero_bytes xs)
 
--- bytes with one number are the same
+-- Bytes with the same number are the same.
 pub le_injective : (b c : List ℕ) → length b ≡ length c → AreBytes b → AreBytes c → le b ≡ le c → b ≡ c
 le_injective [] [] len hb hc e = refl
 le_injective [] (y ∷ c) len hb hc e = absurd (omega arith)
@@ -71,7 +71,7 @@ bytes_drop zero b h = h
 bytes_drop (suc n) [] h = h
 bytes_drop (suc n) (x ∷ b) h = bytes_drop n b (λ k. h (suc k))
 
--- a number of n bytes is below 256 ^ n
+-- A number of n bytes is below 256 ^ n.
 pub le_below : (b : List ℕ) (n : ℕ) → length b ≡ n → AreBytes b → le b < 256 ^ n
 le_below [] zero len h = omega arith
 le_below [] (suc n) len h = absurd (omega arith)
@@ -98,7 +98,7 @@ length-slice b at n h =
 bytes_slice : (b : List ℕ) (at n : ℕ) → AreBytes b → AreBytes (slice_range b at (at + n))
 bytes_slice b at n h = bytes_take (at + n - at) (drop at b) (bytes_drop at b h)
 
--- the bytes of the number at a place are those that stand there
+-- The bytes of the number at an offset are the bytes there.
 pub le_back : (n : ℕ) (b : List ℕ) (at : ℕ) → at + n ≤ length b → AreBytes b → little_bytes n (le (slice_range b at (at + n))) ≡ slice_range b at (at + n)
 le_back n b at h bytes =
     let len = length-slice b at n h in

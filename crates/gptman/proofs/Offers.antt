@@ -1,4 +1,4 @@
--- What the calls that look for a place offer, from the slot that they choose.
+-- The places that the searches return, from the slot that they choose.
 use Rattle.std.proofs.Common.{◌≡◌, ℕ, ◌+◌, ◌-◌, ◌*◌, ◌/◌, ◌%◌, ◌^◌, ◌<◌, ◌≤◌, max, List, sym, subst, arith}
 use Rattle.std.specs.List.{All}
 use Rattle.std.proofs.lemmas.List.Elements.{All-contains}
@@ -9,14 +9,14 @@ use Rattle.gptman.specs.declared.table.GPT.{GPT}
 use Rattle.gptman.proofs.FreeSectors.{free_settled}
 use Rattle.gptman.proofs.Places.{best_is, first_is, last_is, no_place, IsSettled}
 
--- The slots of the value, among which a place for n sectors is looked for where size is asked.
+-- The slots of the value, in which a place for n sectors is searched for this size.
 pub record IsAsked (g : GPT) (size n : ℕ) (slots : List (ℕ × ℕ)) : Type 0 where
   pub positive : 0 < g.align
   pub is : n ≡ max 1 size
   pub found : AreSlots (IsFreeIn g) g.align slots
   pub fits : All (λ s. s.0 + s.1 ≤ 2 ^ 64) slots
 
--- from the list as it was found
+-- From the list that was found.
 pub asked : (g : GPT) (size n : ℕ) (slots items : List (ℕ × ℕ)) → 0 < g.align → n ≡ max 1 size → slots ≡ items → AreSlots (IsFreeIn g) g.align items
     → All (λ s. s.0 + s.1 ≤ 2 ^ 64) items → IsAsked g size n slots
 asked g size n slots items positive is same are fits = record {
@@ -32,7 +32,7 @@ none_offered g size n slots a short =
     subst (λ (n : ℕ). HasNoPlace (IsFreeIn g) g.align n) a.is
     (no_place (IsFreeIn g) g.align n slots (free_settled g.header (entries_in g)) a.positive (omega arith) a.found short)
 
--- Of the slot that is better than the others, a choice makes such a place, within the slot.
+-- From a slot that is better than the others, a choice returns such a place within the slot.
 pub record Chooses (better : ℕ × ℕ → ℕ × ℕ → Type 0) (start : ℕ → ℕ → ℕ × ℕ → ℕ) (IsSuch : (ℕ → Type 0) → ℕ → ℕ → ℕ → Type 0) : Type 1 where
   pub found : (F : ℕ → Type 0) (align n : ℕ) (slots : List (ℕ × ℕ)) (s : ℕ × ℕ) → IsSettled F → 0 < align → 1 ≤ n → AreSlots F align slots
       → IsBestSlot better n slots s → IsSuch F align n (start align n s)
@@ -55,7 +55,7 @@ best = record {
   within = λ align n s positive fits. omega arith;
 }
 
--- what is offered of the chosen slot
+-- The place in the chosen slot.
 pub offered : {better : ℕ × ℕ → ℕ × ℕ → Type 0} {start : ℕ → ℕ → ℕ × ℕ → ℕ} {IsSuch : (ℕ → Type 0) → ℕ → ℕ → ℕ → Type 0} → Chooses better start IsSuch
     → (g : GPT) (size n : ℕ) (slots : List (ℕ × ℕ)) (s : ℕ × ℕ) → IsAsked g size n slots → IsBestSlot better n slots s → record {
       refused : Unit {0};

@@ -15,13 +15,13 @@ use Rattle.gptman.proofs.Argument.{leaves_ranges}
 use Rattle.gptman.proofs.FourRanges.{four_ranges_at, sides_apart, same_ranges, within_four}
 use Rattle.gptman_disk.proofs.Ranges.{Ranges, agrees_wider}
 
--- All bytes outside of the four ranges
+-- All bytes outside the four ranges are unchanged.
 pub leaves_outside : (g : GPT) (a b : DiskState) → a.pending ≡ [] → HasLayout g a.size → Wrote (four_ranges g.header g.sector_size) a b
     → LeavesOnly a b (AgreesOutside (four_ranges_at (table_in g) g.sector_size a.size) a.view)
 leaves_outside g a b synced layout run x left =
     agrees_wider (within_four layout.side g.header (entries_in g) g.sector_size a.size layout.form layout.table) (leaves_ranges (four_ranges g.header g.sector_size) a b run synced x left)
 
--- where no call was made a stop leaves the disk as it was
+-- Without a call a crash leaves the disk unchanged.
 pub leaves_still : (a : DiskState) (P : List ℕ → Type 0) → IsSound a → a.pending ≡ [] → ((x : List ℕ) → AgreesOutside [] a.view x → P x) → LeavesOnly a a P
 leaves_still a P sound synced here x left = here x (subst (λ (ps : Ranges). AgreesOutside ps a.view x) synced (sound.only_now x left))
 
@@ -31,7 +31,7 @@ pub stored_at : (side : Side) (disk : DiskState) (ss : ℕ) (t : Table) → IsSt
 stored_at primary disk ss t stored = stored.at_primary
 stored_at backup disk ss t stored = stored.at_backup
 
--- A table that the side of the value's form holds, with the same ranges, is one good copy for the value.
+-- A table with the same ranges that the place of the value's form holds is one good copy for the value.
 pub held_is_kept : (side : Side) (disk : DiskState) (g : GPT) (old : Table) → disk.pending ≡ [] → IsHeaderForm side g.header → Holds disk.view g.sector_size side old → HasLayout g disk.size
     → HasRangesOf old (table_in g) → IsKeptFor disk g old
 held_is_kept side disk g old synced form held layout same =
@@ -45,7 +45,7 @@ held_is_kept side disk g old synced form held layout same =
           (clear_if_apart (copy_ranges_at side (table_in g) g.sector_size disk.size) other (sides_apart side (table_in g) g.sector_size disk.size layout.table));
     }
 
--- Two good copies of a table with the same ranges are one good copy at the value's own side.
+-- Two good copies of a table with the same ranges are one good copy at the value's own place.
 pub stored_is_kept : (disk : DiskState) (g : GPT) (old : Table) → IsStored disk g.sector_size old → HasLayout g disk.size → HasRangesOf old (table_in g)
     → IsKeptFor disk g old
 stored_is_kept disk g old stored layout same =
@@ -57,6 +57,6 @@ one_of_stored disk g old from = record {
   kept = stored_is_kept disk g old from.stored from.layout (record { count = from.count; last = from.last });
 }
 
--- One good copy leaves nothing pending.
+-- With one good copy nothing is pending.
 pub one_is_synced : (disk : DiskState) (g : GPT) (old : Table) → StartsFromOne disk g old → StartsSynced disk g
 one_is_synced disk g old from = record { start = from.start; synced = from.kept.synced }

@@ -9,14 +9,14 @@ use Rattle.gptman.specs.Write.{other_header}
 use Rattle.gptman.specs.declared.codec.header.GPTHeader.{GPTHeader}
 use Rattle.gptman.specs.declared.codec.entry.GPTPartitionEntry.{GPTPartitionEntry}
 
--- the other header is of the same table
+-- The other header is of the same table.
 pub other_table : (h : GPTHeader) (es : List GPTPartitionEntry) → table_of (other_header h) es ≡ table_of h es
 other_table h es =
     let low : min h.backup_lba h.primary_lba ≡ min h.primary_lba h.backup_lba = omega arith in
     let high : max h.backup_lba h.primary_lba ≡ max h.primary_lba h.backup_lba = omega arith in
     λ i. record (table_of h es) { low_sector = low i; high_sector = high i }
 
--- the first sector of the other copy's entries, by that of these
+-- The first sector of the other copy's entries.
 other_at_2 : (n last : ℕ) → n ≡ 2 → (if nat_eq n 2 then last + 1 else 2) ≡ last + 1
 other_at_2 n last e = ap (λ (k : ℕ). if nat_eq k 2 then last + 1 else 2) e
 
@@ -26,7 +26,7 @@ other_at_last n last e = elim (eqb_tells n 2) as (λ _. (if nat_eq n 2 then last
   | inr not ↦ ap (λ (b : Bool). if b then last + 1 else 2) not.0
 ]
 
--- it stands in the other form
+-- It is in the other form.
 pub other_form : (side : Side) (h : GPTHeader) → IsHeaderForm side h → IsHeaderForm (other_side side) (other_header h)
 other_form primary h form = (form.0, other_at_2 h.partition_entry_lba h.last_usable_lba form.1)
 other_form backup h form = (form.0, other_at_last h.partition_entry_lba h.last_usable_lba form.1)

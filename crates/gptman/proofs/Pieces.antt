@@ -1,4 +1,4 @@
--- Pieces of bytes that are laid over a list, one after the other.
+-- Pieces of bytes written over a list, one after the other.
 use Rattle.std.proofs.Common.{◌≡◌, ◌⊎◌, inl, inr, ◌≤◌, ℕ, ◌+◌, List, [], ◌∷◌, length, refl, sym, ◌∙◌, subst, arith}
 use Rattle.gptman_disk.specs.Disk.{AgreesOutside, overlay}
 use Rattle.gptman_disk.specs.Bytes.{part}
@@ -6,22 +6,22 @@ use Rattle.gptman_disk.specs.Ranges.{AreApart, AreInside}
 use Rattle.gptman_disk.proofs.Ranges.{Ranges, agrees_self, agrees_then, agrees_wider, within_self, within_first, within_later}
 use Rattle.gptman_disk.proofs.Overlays.{agrees_overlay, overlay_nothing, part-overlay, part_same}
 
--- the list with the pieces laid over it, each a start and its bytes, the first of them first
+-- The list with the pieces, each a start and its bytes, written over it in order.
 abbrev pub laid_over : List ℕ → List (ℕ × List ℕ) → List ℕ
 laid_over old [] = old
 laid_over old (piece ∷ pieces) = laid_over (overlay old piece.0 piece.1) pieces
 
--- the ranges of the pieces
+-- The ranges of the pieces.
 abbrev pub ranges_of : List (ℕ × List ℕ) → Ranges
 ranges_of [] = []
 ranges_of (piece ∷ pieces) = (piece.0, length piece.1) ∷ ranges_of pieces
 
--- each piece stands in the list
+-- Each piece is in the list.
 abbrev pub AllStand : List (ℕ × List ℕ) → List ℕ → Type 0
 AllStand [] b = Unit {0}
 AllStand (piece ∷ pieces) b = (part b piece.0 (length piece.1) ≡ piece.1) × AllStand pieces b
 
--- one piece, of no bytes or within the list
+-- One piece, empty or within the list.
 piece_agrees : (old : List ℕ) (at : ℕ) (bytes : List ℕ) → (length bytes ≡ 0) ⊎ (at + length bytes ≤ length old) → AgreesOutside ((at, length bytes) ∷ []) old (overlay old at bytes)
 piece_agrees old at bytes (inr fits) = agrees_overlay old at bytes fits
 piece_agrees old at [] (inl none) = subst (AgreesOutside ((at, 0) ∷ []) old) (sym (overlay_nothing old at)) (agrees_self ((at, 0) ∷ []) old)
@@ -35,14 +35,14 @@ piece_stands old at (x ∷ bytes) (inl none) = absurd (omega arith)
 rest_inside : (old : List ℕ) (at : ℕ) (bytes : List ℕ) (rs : Ranges) → AreInside ((at, length bytes) ∷ rs) (length old) → AreInside rs (length (overlay old at bytes))
 rest_inside old at bytes rs inside = subst (AreInside rs) (sym (piece_agrees old at bytes inside.0).long) inside.1
 
--- Outside of the pieces nothing changes.
+-- Bytes outside the pieces are unchanged.
 pub laid_agrees : (old : List ℕ) (pieces : List (ℕ × List ℕ)) → AreInside (ranges_of pieces) (length old) → AgreesOutside (ranges_of pieces) old (laid_over old pieces)
 laid_agrees old [] inside = agrees_self [] old
 laid_agrees old (piece ∷ pieces) inside =
     agrees_then (agrees_wider (within_first refl) (piece_agrees old piece.0 piece.1 inside.0))
     (agrees_wider (within_later (within_self (ranges_of pieces))) (laid_agrees (overlay old piece.0 piece.1) pieces (rest_inside old piece.0 piece.1 (ranges_of pieces) inside)))
 
--- Pieces that are apart all stand there in the end.
+-- Disjoint pieces are all in the list at the end.
 pub laid_stand : (old : List ℕ) (pieces : List (ℕ × List ℕ)) → AreApart (ranges_of pieces) → AreInside (ranges_of pieces) (length old) → AllStand pieces (laid_over old pieces)
 laid_stand old [] apart inside = tt
 laid_stand old (piece ∷ pieces) apart inside =

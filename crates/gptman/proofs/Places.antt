@@ -11,13 +11,13 @@ use Rattle.gptman.specs.Chosen.{round_down, AreShort, IsBestSlot, IsNoLater, IsG
 use Rattle.gptman.proofs.Multiples.{one_first_multiple, multiples_apart, a_first_multiple}
 use Rattle.gptman.proofs.FreeRuns.{slot_of_run}
 
--- each sector is free or not, and above some sector none is
+-- Each sector is free or not, and above some sector none is.
 pub record IsSettled (F : ℕ → Type 0) : Type 0 where
   pub free_or_not : (x : ℕ) → F x ⊎ ¬ F x
   pub top : ℕ
   pub none_above : (x : ℕ) → F x → x ≤ top
 
--- the free sectors from a to x, of which a is the first
+-- The free sectors from the first one, a, to x.
 record BackTo (F : ℕ → Type 0) (x : ℕ) : Type 0 where
   first : ℕ
   le : first ≤ x
@@ -49,7 +49,7 @@ back F s (suc n) f = elim (s.free_or_not n) [
   }
 ]
 
--- the free sectors from x to the last
+-- The free sectors from x to the last one.
 record OnTo (F : ℕ → Type 0) (x : ℕ) : Type 0 where
   last : ℕ
   le : x ≤ last
@@ -81,7 +81,7 @@ onward F dec (suc k) x none f = elim (dec (x + 1)) [
   }
 ]
 
--- a slot around n free sectors from t on
+-- A slot around n free sectors from t on.
 pub record SlotAround (F : ℕ → Type 0) (align n t : ℕ) : Type 0 where
   pub start : ℕ
   pub long : ℕ
@@ -119,14 +119,14 @@ around F settled align n t pos some p =
       to = omega arith;
     }
 
--- n sectors within a slot, from a multiple on, are a place
+-- n sectors within a slot, from a multiple on, are a place.
 pub place_in : (F : ℕ → Type 0) (align s l n t : ℕ) → IsAlignedSlot F align s l → align ∣ t → s ≤ t → t + n ≤ s + l → IsPlace F align n t
 place_in F align s l n t slot d from to =
     let start = slot.start.from in
     let long = slot.long in
     record { multiple = d; inside = λ x h k. slot.run.inside x (omega arith) (omega arith) }
 
--- no slot is long enough, so there is no place
+-- If no slot is long enough, there is no place.
 pub no_place : (F : ℕ → Type 0) (align n : ℕ) (slots : List (ℕ × ℕ)) → IsSettled F → 0 < align → 1 ≤ n → AreSlots F align slots → AreShort n slots
     → HasNoPlace F align n
 no_place F align n slots settled pos some are short t p =
@@ -151,7 +151,7 @@ first_is F align n slots s settled pos some are c =
           omega arith;
     }
 
--- two slots, of which one begins in the other, are one
+-- Two slots of which one begins in the other are the same.
 same_start : (F : ℕ → Type 0) (align s l t k : ℕ) → IsAlignedSlot F align s l → IsAlignedSlot F align t k → s ≤ t → t < s + l → (s ≡ t) × (l ≡ k)
 same_start F align s l t k a b from to =
     let start = a.start.from in
@@ -161,7 +161,7 @@ same_start F align s l t k a b from to =
     let ends = both.1 in
     (same, omega arith)
 
--- the last place in a slot
+-- The last place in a slot.
 last_in : (align s l n : ℕ) → 0 < align → n ≤ l → align ∣ s → (t : ℕ) → align ∣ t → s ≤ t → t + n ≤ s + l → t ≤ s + (l - n) / align * align
 last_in align s l n pos fits ds t dt from to =
     let top : ℕ = s + (l - n) / align * align in
@@ -215,7 +215,7 @@ best_is F align n slots s are c = record {
   leftmost = λ t slot. tight_left s (t, s.1) (All-contains (λ t. n ≤ t.1 → IsTighter s t) slots (t, s.1) c.best (are.every t s.1 slot) c.fits) refl;
 }
 
--- the greatest rounded length is the maximum
+-- The largest rounded length is the maximum.
 pub max_is : (F : ℕ → Type 0) (align m : ℕ) (slots : List (ℕ × ℕ)) → AreSlots F align slots → IsGreatest (map (round_down align) slots) m
     → IsMaximumSize F align m
 max_is F align m slots are g =
@@ -236,18 +236,18 @@ max_is F align m slots are g =
 pub no_slot : (F : ℕ → Type 0) (align : ℕ) (slots : List (ℕ × ℕ)) → AreSlots F align slots → length slots ≡ 0 → HasNoSlot F align
 no_slot F align slots are empty s n slot = let has = are.every s n slot in omega (arith, has.1)
 
--- the maximum is a multiple of align
+-- The maximum is a multiple of align,
 pub max_multiple : (F : ℕ → Type 0) (align m : ℕ) → IsMaximumSize F align m → align ∣ m
 max_multiple F align m x =
     let is = x.is in
     let whole : x.long / align * align ≡ m = omega arith in
     subst (λ (y : ℕ). align ∣ y) whole (dvd-mul_left align (x.long / align))
 
--- and has a place
+-- has a place,
 pub max_place : (F : ℕ → Type 0) (align m : ℕ) → IsMaximumSize F align m → (s : ℕ) × IsPlace F align m s
 max_place F align m x = let is = x.is in (x.start, place_in F align x.start x.long m x.start x.slot x.slot.start.multiple (omega arith) (omega arith))
 
--- and what is greater by align has none
+-- and with align more has none.
 pub above_max : (F : ℕ → Type 0) (align m : ℕ) → IsSettled F → 0 < align → IsMaximumSize F align m → HasNoPlace F align (m + align)
 above_max F align m settled pos x t p =
     let a = around F settled align (m + align) t pos (omega arith) p in

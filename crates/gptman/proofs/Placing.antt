@@ -1,4 +1,4 @@
--- What placement does to a table, and what its maximum size offers.
+-- The effect of a new entry on a table, and what its maximum size offers.
 use Rattle.std.proofs.Common.{◌≢◌, ℕ, ◌+◌, ◌-◌, ◌<◌, ◌≤◌, List, length, sym, arith, IsTrue}
 use Rattle.std.proofs.lemmas.List.Elements.{All-set}
 use Rattle.gptman.specs.Entry.{is_used, covers}
@@ -13,7 +13,7 @@ use Rattle.gptman.proofs.FreeSectors.{free_settled}
 use Rattle.gptman.proofs.Pairs.{all_pairs_set}
 use Rattle.gptman.proofs.Places.{max_multiple, max_place, above_max}
 
--- the sectors of a new entry are free
+-- The sectors of a new entry are free.
 new_free : (h : GPTHeader) (es : List GPTPartitionEntry) (align n s : ℕ) (e : GPTPartitionEntry) → IsPlace (IsFree h es) align n s → IsNewAt es e s n
     → (x : ℕ) → IsTrue (covers x e) → IsFree h es x
 new_free h es align n s e place new x covered =

@@ -1,4 +1,4 @@
--- Each copy of a stored table is read as it alone.
+-- Each copy of a stored table is read without the other.
 use Rattle.std.proofs.Common.{◌≡◌, ℕ, List, Result, Ok, Err, refl, rules}
 use Rattle.std.specs.Prelude.{IsErr}
 use Rattle.gptman.specs.Copy.{Copy}

@@ -1,4 +1,4 @@
--- The entries of an accepted copy are told by what they hold.
+-- The contents of an accepted copy's entries determine them.
 use Rattle.std.proofs.Common.{◌≡◌, ◌*◌, ℕ, List, [], ◌∷◌, map, Ok, refl, sym, ap, ◌∙◌, subst}
 use Rattle.std.specs.List.{range_with_len}
 use Rattle.std.specs.Prelude.{encode_utf8_all}
@@ -14,7 +14,7 @@ use Rattle.gptman.proofs.CopyParts.{entries_part}
 use Rattle.gptman.proofs.Fallback.{backup_long, backup_room}
 use Rattle.gptman.proofs.Held.{accepted_is}
 
--- an entry as it is read back: its text is that of its units
+-- An entry that was read: its text is that of its units.
 abbrev entry_in : TableEntry → GPTPartitionEntry
 entry_in e = record {
   partition_type_guid = e.partition_type_guid;
@@ -25,7 +25,7 @@ entry_in e = record {
   partition_name = record { text = encode_utf8_all (text_of e.units); units = e.units };
 }
 
--- the entries with these contents, as they are read back
+-- The entries with these contents, as they are read.
 abbrev back : List GPTPartitionEntry → List GPTPartitionEntry
 back es = map entry_in (map content_of es)
 
@@ -45,7 +45,7 @@ unfolding copy_in
 back_in primary b ss copy ok = back_at b ss ss copy ok
 back_in backup b ss copy ok = back_at b _ ss copy (sym (backup_long b ss (backup_room b ss copy ok)) ∙ ok)
 
--- So the entries of two accepted copies are equal where they hold the same.
+-- So the entries of two accepted copies are equal if their contents are.
 pub same_entries : (first second : Side) (b c : List ℕ) (ss : ℕ) (x y : Copy) → copy_in first b ss ≡ Ok x → copy_in second c ss ≡ Ok y
     → map content_of x.entries ≡ map content_of y.entries → x.entries ≡ y.entries
 same_entries first second b c ss x y at_first at_second same =

@@ -1,4 +1,4 @@
--- A write after calls that only read: what it begins with, and what it leaves, are as if these calls were not.
+-- A write after calls that only read starts from, and leaves, the same as without them.
 use Rattle.std.proofs.Common.{◌≡◌, ◌⊎◌, true, ℕ, List, length, sym, ◌∙◌, subst}
 use Rattle.gptman_disk.specs.Disk.{AgreesOutside, DiskState, IsPending, Reads, Wrote}
 use Rattle.gptman_disk.specs.Ranges.{AgreesInside}
@@ -23,11 +23,11 @@ module _ (g : GPT) (a b : DiskState) (read : Reads a b) where
   pub synced_still : StartsSynced a g → StartsSynced b g
   synced_still from = record { start = laid_out_still from.start; synced = (read.only from.start.honest).pending ∙ from.synced }
 
-  -- a stop while they read leaves all bytes as they were
+  -- A crash during these reads leaves all bytes unchanged.
   pub turns_still : length a.view ≡ a.size → StartsSynced a g → StopsComeInTurns a b g
   turns_still long from = turns_of g a b long from (λ side form laid. only_read (read.only from.start.honest))
 
-  -- so where a stop in the write leaves the other copy whole, or the bytes outside of it as they were, a stop in both does
+  -- If a crash in the write leaves the other copy complete, or the bytes outside it unchanged, so does a crash in both.
   pub turns_then : (c : DiskState) (ranges : Ranges) → length a.view ≡ a.size → StartsSynced a g → Wrote ranges b c → StopsComeInTurns b c g → StopsComeInTurns a c g
   turns_then c ranges long from wrote next = λ side form.
       let only = read.only from.start.honest in
@@ -38,11 +38,11 @@ module _ (g : GPT) (a b : DiskState) (read : Reads a b) where
       (subst (λ (n : ℕ). AgreesOutside (copy_ranges_at (other_side side) (table_in g) g.sector_size n) b.view x ⊎ Holds x g.sector_size (other_side side) (table_in g)) read.keeps.size is) in
       leaves_then (here a) only.wrote.time wrote.time (turns_still long from side form) (λ x left. same x (next side form x left))
 
-  -- what is written is the same
+  -- The written bytes are the same,
   pub wrote_still : (c : DiskState) (ranges : Ranges) → a.is_honest ≡ true → Wrote ranges b c → Wrote ranges a c
   wrote_still c ranges honest wrote = wrote_then (within_self ranges) (wrote_wider within_none (read.only honest).wrote) wrote
 
-  -- and so is what an error leaves at a side
+  -- and so is a place after an error.
   side_still : (c : DiskState) (side : Side) (t : Table) (ss : ℕ) → b.view ≡ a.view → SideAfter side t ss b c → SideAfter side t ss a c
   side_still c side t ss view (left_alone is) = left_alone (subst (λ (n : ℕ). IsLeftAlone (copy_ranges_at side t ss n) a c) read.keeps.size (record {
     not_pending = is.not_pending;

@@ -1,4 +1,4 @@
--- The entry that stands at a byte.
+-- The entry at a byte.
 use Rattle.std.proofs.Common.{◌≡◌, ◌≤◌, ◌<◌, ◌⊎◌, inl, inr, ℕ, ◌+◌, true, false, List, length, Result, Ok, Err, nat_le, arith, refl, ap, ◌∙◌}
 use Rattle.std.specs.Prelude.{IfOk, IfErr}
 use Rattle.gptman_disk.specs.Bytes.{part}
@@ -10,12 +10,12 @@ use Rattle.gptman.specs.declared.codec.entry.GPTPartitionEntry.{GPTPartitionEntr
 use Rattle.gptman_disk.specs.declared.error.Error.{Error}
 use Rattle.gptman.proofs.EntryBytes.{entry_is}
 
--- the list ends before it
+-- The list ends before it.
 pub entry_short : (b : List ℕ) (p : ℕ) → length b < p + 128 → entry_result b p ≡ Err io
 unfolding entry_result
 entry_short b p short = let past : nat_le (p + 128) (length b) ≡ false = grind arith in rw past refl
 
--- what decoding its bytes answers
+-- The result of decoding its bytes.
 pub entry_decoded : (b : List ℕ) (p : ℕ) (r : Result GPTPartitionEntry Error) (x : List ℕ) → p + 128 ≤ length b → x ≡ part b p 128
     → IfOk r (λ e. IsEntryCoding e x) → IfOk r HasReadName → IfErr r (λ e. fault_of e ≡ out_of_memory)
     → Refuses r out_of_memory ⊎ (answer_of (λ e. e) r ≡ entry_result b p)

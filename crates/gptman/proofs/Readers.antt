@@ -1,4 +1,4 @@
--- Runs of calls that only read.
+-- Sequences of calls that only read.
 use Rattle.std.proofs.Common.{◌≡◌, ◌⊎◌, ⊎_elim, ◌+◌, ◌<◌, inl, inr, ℕ, true, length, Result, Err, arith, refl, sym, ◌∙◌, []}
 use Rattle.gptman.specs.Answers.{answer_of, Fails, IsFailure, Refuses}
 use Rattle.gptman_disk.specs.Disk.{DiskState, IsSound, Keeps, OnlyRead, PassesEnd, Reads, Rose}
@@ -7,11 +7,11 @@ use Rattle.gptman_disk.specs.declared.error.Error.{Error}
 use Rattle.gptman_disk.proofs.Ranges.{within_none}
 use Rattle.gptman.proofs.Runs.{keeps_then, rose_since, wrote_not, wrote_then}
 
--- before the first call
+-- Before the first call.
 pub reads_not : (a : DiskState) → a.is_honest ≡ true → IsSound a → OnlyRead a a
 reads_not a honest sound = record { view = refl; pending = refl; wrote = wrote_not [] a honest sound }
 
--- one more
+-- One more call.
 pub reads_then : {a b c : DiskState} → OnlyRead a b → OnlyRead b c → OnlyRead a c
 reads_then ab bc = record {
   view = bc.view ∙ ab.view;
@@ -19,19 +19,19 @@ reads_then ab bc = record {
   wrote = wrote_then within_none ab.wrote bc.wrote;
 }
 
--- one call after another
+-- One call after another.
 pub both_read : {a b c : DiskState} → Reads a b → Reads b c → Reads a c
 both_read ab bc = record {
   keeps = keeps_then ab.keeps bc.keeps;
   only = λ honest. let first = ab.only honest in reads_then first (bc.only first.wrote.honest);
 }
 
--- a read that is refused: the disk failed, or it ends before, which the answer says too
+-- A read that fails: the disk failed, or ends before, as the result says.
 pub read_refused : {A : Type 0} (answer : Result A Fault) (old new : DiskState) (n : ℕ) → length old.view ≡ old.size
     → (length old.view < old.position + n → answer ≡ Err io) → Rose old new ⊎ PassesEnd old n → IsFailure io old new ⊎ (Err io ≡ answer)
 read_refused answer old new n size short cause = ⊎_elim (λ rose. inl (refl, rose)) (λ past. inr (sym (short (omega (arith, past, size))))) cause
 
--- an answer in memory after calls that only read
+-- A result in memory after calls that only read.
 pub answer_since : {T A : Type 0} (f : T → A) (r : Result T Error) (old mid new : DiskState) (here there : Result A Fault) → Keeps old mid → here ≡ there
     → Fails r mid new ⊎ (Refuses r out_of_memory ⊎ (answer_of f r ≡ here)) → Fails r old new ⊎ (Refuses r out_of_memory ⊎ (answer_of f r ≡ there))
 answer_since f r old mid new here there keeps same (inl fails) = inl (fails.0, rose_since old mid new keeps fails.1)

@@ -1,4 +1,5 @@
--- A disk that holds a table of a list at one side at least, and whose reading takes no foreign copy, is read as one of the list.
+-- A disk that holds a listed table in at least one place, and from which no foreign copy is read, is read as a listed
+-- table.
 use Rattle.std.proofs.Common.{◌≡◌, ℕ, Bool, true, false, List, length, ltb, Result, Ok, Err, refl, sym, ap, ◌∙◌, subst, inl, inr, arith}
 use Rattle.std.specs.List.{Contains}
 use Rattle.gptman_disk.specs.Fault.{Fault}
@@ -22,7 +23,7 @@ pub from_second : (b : List ℕ) (ss : ℕ) (fault : Fault) → copy_in primary 
 unfolding taken_from
 from_second b ss fault is = ap from is
 
--- where the primary copy has a fault the backup one is taken
+-- If the primary copy has a fault, the backup copy is returned.
 pub taken_second : (b : List ℕ) (ss : ℕ) (fault : Fault) (copy : Copy) → copy_in primary b ss ≡ Err fault → copy_in backup b ss ≡ Ok copy → reading_of b ss ≡ Ok copy
 taken_second b ss fault copy refused at =
     refused_first b ss fault refused ∙ fallback_long b ss fault (backup_room b ss copy at) ∙ ap (second_copy fault) at
@@ -47,9 +48,9 @@ reads_cases b ss tables (Err fault) is backup t listed holds known = record {
 pub reads_one_of : (b : List ℕ) (ss : ℕ) (tables : List Table) → HoldsOneOf b ss tables → ¬ ReadsForeign b ss tables → ReadsOneOf b ss tables
 reads_one_of b ss tables holds known = reads_cases b ss tables (copy_in primary b ss) refl holds.side holds.table holds.listed holds.holds known
 
--- ---- what a reading takes
+-- ---- the copy that a read returns
 
--- the fallback gives no other copy than that of the backup side
+-- The fallback returns only the backup copy.
 second_given : (b : List ℕ) (ss : ℕ) (fault : Fault) (copy : Copy) (r : Result Copy Fault) → copy_in backup b ss ≡ r → second_copy fault r ≡ Ok copy → copy_in backup b ss ≡ Ok copy
 second_given b ss fault copy (Ok second) is ok = is ∙ ok
 second_given b ss fault copy (Err second) is ok = absurd (cc)
@@ -64,7 +65,7 @@ taken_cases b ss copy (Err fault) is ok =
     ap (λ (p : Side). copy_in p b ss) (from_second b ss fault is)
     ∙ given_by_fallback b ss fault copy (ltb (length b) ss) refl (sym (refused_first b ss fault is) ∙ ok)
 
--- What a reading takes is accepted at the side from which it is taken. In that side's form it is held there.
+-- A copy that a read returns is accepted at its place. In the form of that place it is held there.
 pub holds_what_is_read : HoldsWhatIsRead
 holds_what_is_read b ss copy ok form = record {
   copy = copy;

@@ -1,9 +1,9 @@
--- How a run of disk calls goes on.
+-- Sequences of disk calls.
 use Rattle.std.proofs.Common.{◌≡◌, true, inl, inr, ⊎_elim, ℕ, List, ◌++◌, ◌∙◌, arith}
 use Rattle.gptman_disk.specs.Disk.{DiskState, IsSound, AgreesOutside, Within, Elapses, Keeps, LeavesOnly, Rose, Wrote}
 use Rattle.gptman_disk.proofs.Ranges.{Ranges, agrees_self, agrees_then, agrees_wider, within_then, within_left, within_right, within_both}
 
--- before the first call
+-- Before the first call.
 pub elapses_not : (a : DiskState) → IsSound a → Elapses a a
 elapses_not a sound = record { later = omega arith; nothing_else = λ t b le left. inl left; keeps = λ t b le left. left; earlier = sound.earlier }
 
@@ -18,7 +18,7 @@ elapses_then {a} {b} {c} ab bc = record {
   earlier = bc.earlier;
 }
 
--- one step more, within which a stop leaves what has P
+-- One more step, during which P holds of whatever a crash leaves.
 pub leaves_then : {a b c : DiskState} (P : List ℕ → Type 0) → Elapses a b → Elapses b c → LeavesOnly a b P → LeavesOnly b c P → LeavesOnly a c P
 leaves_then {a} P ab bc first next = λ x left. ⊎_elim (first x) (next x) (bc.nothing_else a.clock x ab.later left)
 
@@ -43,7 +43,7 @@ wrote_wider {inner} {outer} {a} {b} within ab = record {
     through : Within (inner ++ a.pending) (outer ++ a.pending)
     through = within_both (within_then within (within_left outer a.pending)) (within_right outer a.pending)
 
--- one step more, which wrote within the ranges
+-- One more step, which wrote within the ranges.
 pub wrote_then : {outer inner : Ranges} {a b c : DiskState} → Within inner outer → Wrote outer a b → Wrote inner b c → Wrote outer a c
 wrote_then {outer} {inner} {a} {b} {c} within ab next = record {
   honest = bc.honest;
@@ -60,7 +60,7 @@ wrote_then {outer} {inner} {a} {b} {c} within ab next = record {
     through : Within (outer ++ b.pending) (outer ++ a.pending)
     through = within_both (within_left outer a.pending) ab.pending
 
--- a failure since a later moment is one since an earlier one
+-- A failure since a later moment is one since an earlier moment.
 pub rose_since : (a b c : DiskState) → Keeps a b → Rose b c → Rose a c
 rose_since a b c first (inl more) = inl (omega (arith, more, first.failures))
 rose_since a b c first (inr top) = inr top

@@ -1,4 +1,4 @@
--- Tables can be told apart.
+-- Equality of tables is decidable.
 use Rattle.std.proofs.Common.{◌≡◌, ◌⊎◌, ◌+◌, ◌<◌, ℕ, zero, suc, Bool, true, false, List, [], ◌∷◌, length, get_or, eqb, refl, sym, ap, subst, inl, inr, arith}
 use Rattle.std.specs.Bool.{Decides}
 use Rattle.std.specs.Prelude.{bytes_eq, slice_index_or}
@@ -34,7 +34,7 @@ entry_of_cells cells = record {
   units = get_or cells 5 [];
 }
 
--- all of a table but its entries, which are told by themselves
+-- All fields of a table except its entries.
 abbrev table_cells : Table → List (List ℕ)
 table_cells t =
     t.signature ∷ t.revision ∷ (t.header_size ∷ []) ∷ t.reserved ∷ (t.low_sector ∷ []) ∷ (t.high_sector ∷ []) ∷ (t.first_usable_lba ∷ [])
@@ -62,7 +62,7 @@ cells_decide = pointwise_decides bytes_decides
 entry_decides : (d e : TableEntry) → Decides (pointwise bytes_eq (entry_cells d) (entry_cells e)) (d ≡ e)
 entry_decides d e = Decides-like _ (ap entry_of_cells) (ap entry_cells) (cells_decide (entry_cells d) (entry_cells e))
 
--- Tables can be told apart.
+-- Equality of tables is decidable.
 table_decided : (t u : Table) → (t ≡ u) ⊎ (¬ (t ≡ u))
 table_decided t u =
     decided _ (Decides-like _ (λ both. λ i. table_of_cells (both.0 i) (both.1 i)) (λ same. (ap table_cells same, ap (λ (v : Table). v.entries) same))
@@ -77,7 +77,7 @@ header_form_decided : (side : Side) (h : GPTHeader) → IsHeaderForm side h ⊎ 
 header_form_decided primary h = both_decided h.primary_lba 1 h.partition_entry_lba 2
 header_form_decided backup h = both_decided h.backup_lba 1 h.partition_entry_lba (h.last_usable_lba + 1)
 
--- A copy is a table in a side's form, or it is not.
+-- A copy is a table in the form of a place, or it is not.
 form_decided : (side : Side) (t : Table) (copy : Copy) → IsForm side t copy ⊎ (¬ IsForm side t copy)
 form_decided side t copy = elim (table_decided (table_of copy.header copy.entries) t) as (λ _. IsForm side t copy ⊎ (¬ IsForm side t copy)) [
   | inl table ↦ elim (header_form_decided side copy.header) as (λ _. IsForm side t copy ⊎ (¬ IsForm side t copy)) [
@@ -95,7 +95,7 @@ contains_at x y xs (suc k) below e = inr (k, omega arith, e)
 pub contains_cases : {X : Type 0} (x y : X) (xs : List X) → Contains (x ∷ xs) y → (x ≡ y) ⊎ Contains xs y
 contains_cases x y xs has = contains_at x y xs has.0 has.1 has.2
 
--- The copy is one of the tables in the side's form, or none of them.
+-- The copy is one of the tables in the form of the place, or none of them.
 pub record IsOneOf (side : Side) (copy : Copy) (tables : List Table) : Type 0 where
   pub table : Table
   pub listed : Contains tables table

@@ -1,4 +1,4 @@
--- Sealing a header makes both checksums right, and changes nothing else.
+-- Sealing a header makes both checksums right, and changes nothing more.
 use Rattle.std.proofs.Common.{◌≡◌, ◌++◌, ℕ, List, length, take, drop, map, get_or, replicate, refl, sym, ap, ◌∙◌}
 use Rattle.std.specs.List.{range_with_len}
 use Rattle.gptman.specs.Coding.{header_bytes, array_bytes}
@@ -16,11 +16,11 @@ pub record IsSealed (h : GPTHeader) (es : List GPTPartitionEntry) : Type 0 where
   pub array : h.partition_entry_array_crc32 ≡ crc_of (array_bytes es)
   pub header : h.crc32_checksum ≡ header_crc (header_bytes h)
 
--- the bytes of a header with the checksum cleared, as `header_crc` takes them
+-- The bytes of a header with the checksum cleared, as in `header_crc`.
 abbrev cleared : List ℕ → List ℕ
 cleared x = take 16 x ++ replicate 4 0 ++ drop 20 x
 
--- a header whose first two fields are given element by element
+-- A header whose first two fields are given by element.
 abbrev listed : GPTHeader → (ℕ → ℕ) → (ℕ → ℕ) → GPTHeader
 listed h s r = record h { signature = map s (range_with_len 0 8); revision = map r (range_with_len 0 4) }
 
@@ -40,7 +40,7 @@ cleared_same h sum long_s long_r =
     ∙ ap crc_of (cleared_listed h s r sum)
     ∙ ap (λ (g : GPTHeader). crc_of (cleared (header_bytes g))) (sym same)
 
--- Both checksums of a header with its checksums are right.
+-- Both checksums of a sealed header are right.
 pub sealed_is : (h : GPTHeader) (es : List GPTPartitionEntry) → length h.signature ≡ 8 → length h.revision ≡ 4 → IsSealed (with_checksums h es) es
 unfolding with_checksums
 sealed_is h es long_s long_r =
@@ -50,23 +50,23 @@ sealed_is h es long_s long_r =
       header = sym (cleared_same summed (header_crc (header_bytes summed)) long_s long_r);
     }
 
--- a header with its checksums is of the same table
+-- A sealed header is of the same table,
 pub sealed_table : (h : GPTHeader) (es : List GPTPartitionEntry) → table_of (with_checksums h es) es ≡ table_of h es
 unfolding with_checksums
 sealed_table h es = refl
 
--- in the same form
+-- in the same form,
 pub sealed_form : (side : Side) (h : GPTHeader) (es : List GPTPartitionEntry) → IsHeaderForm side h → IsHeaderForm side (with_checksums h es)
 unfolding with_checksums
 sealed_form primary h es form = form
 sealed_form backup h es form = form
 
--- and is written to the same ranges
+-- in the same ranges,
 pub sealed_ranges : (h : GPTHeader) (es : List GPTPartitionEntry) (ss : ℕ) → copy_ranges (with_checksums h es) ss ≡ copy_ranges h ss
 unfolding with_checksums
 sealed_ranges h es ss = refl
 
--- with the same number of entries
+-- and with as many entries.
 pub sealed_count : (h : GPTHeader) (es : List GPTPartitionEntry) → (with_checksums h es).number_of_partition_entries ≡ h.number_of_partition_entries
 unfolding with_checksums
 sealed_count h es = refl

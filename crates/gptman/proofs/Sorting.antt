@@ -1,4 +1,4 @@
--- A rising list with the elements of another, those that tie in their old order, is the other one sorted.
+-- A sorted list with the elements of another, ties in their old order, is the other one sorted.
 use Rattle.std.proofs.Common.{◌≡◌, ℕ, suc, ◌<◌, ◌≤◌, List, [], ◌∷◌, length, Bool, true, false, refl, sym, ◌∙◌, ap, cond, get_or, arith, nat_lt, nat_eq, filter, subst, ◌⊎◌, inl, inr}
 use Rattle.std.proofs.lemmas.Bool.Decides.{nat_tests, leb_tells, eqb_tells}
 use Rattle.std.specs.List.Sorted.{IsNonDecreasingBy, IsStableByKey, ties}
@@ -6,7 +6,7 @@ use Rattle.std.specs.Ordering.{nat_cmp, is_lt}
 use Rattle.gptman.specs.Order.{put_in, by_rank}
 
 module _ {X : Type 0} (r : X → ℕ) where
-  -- the elements that tie with z
+  -- The elements of the same rank as z.
   abbrev pub class : X → List X → List X
   class z xs = filter (λ y. nat_eq (r z) (r y)) xs
 
@@ -117,12 +117,12 @@ module _ {X : Type 0} (r : X → ℕ) where
   by_rank_rises [] = tt
   by_rank_rises (x ∷ xs) = put_rises 0 x (by_rank r xs) (omega arith) (by_rank_rises xs)
 
-  -- a stable sort gives the one sorted list
+  -- A stable sort returns the one sorted list.
   pub sorted_is : (xs ys : List X) → IsNonDecreasingBy r ys → IsStableByKey r nat_cmp xs ys → ys ≡ by_rank r xs
   sorted_is xs ys up stable =
       one_order 0 ys (by_rank r xs) (rises_from 0 ys (λ k d h. omega arith) up) (by_rank_rises xs)
       (λ z. ap (λ (p : X → Bool). filter p ys) (λ i y. sym (ties_is z y) i) ∙ stable z ∙ ap (λ (p : X → Bool). filter p xs) (λ i y. ties_is z y i) ∙ sym (by_rank_class z xs))
 
-  -- sorting twice is sorting once
+  -- Sorting twice is sorting once.
   pub by_rank_twice : (xs : List X) → by_rank r (by_rank r xs) ≡ by_rank r xs
   by_rank_twice xs = one_order 0 (by_rank r (by_rank r xs)) (by_rank r xs) (by_rank_rises (by_rank r xs)) (by_rank_rises xs) (λ z. by_rank_class z (by_rank r xs))

@@ -11,14 +11,14 @@ use Rattle.gptman.specs.Sweep.AddsGap.{gap, no_gap}
 use Rattle.gptman.specs.declared.codec.header.GPTHeader.{GPTHeader}
 use Rattle.gptman.proofs.FreeRuns.{Swept, swept_skip, swept_run, swept_all}
 
--- After i ranges: the slots up to p, which is no smaller than the end of each of these ranges. Which sectors are outside is said of all ranges from the
--- start, and not of those so far.
+-- After i ranges: the slots up to p, which is at least the end of each of them. Outside means outside all ranges from
+-- the start, not only of those so far.
 pub record Going (h : GPTHeader) (align : ℕ) (rs : List (ℕ × ℕ)) (i : ℕ) (slots : List (ℕ × ℕ)) (p : ℕ) : Type 0 where
   pub swept : Swept (IsOutside h rs) align slots p
   pub ends : All (λ r. r.1 ≤ p) (take i rs)
   pub low : h.first_usable_lba ≤ p + 1
 
--- a usable sector past the ranges so far and before all later ones is outside
+-- A usable sector after the ranges so far and before all later ones is outside.
 outside_between : (h : GPTHeader) (rs : List (ℕ × ℕ)) (i p x : ℕ) → IsNonDecreasingBy (λ r. r.0) rs → All (λ r. r.1 ≤ p) (take i rs) → p < x
     → h.first_usable_lba ≤ x → x ≤ h.last_usable_lba → ((d : ℕ × ℕ) → i < length rs → x < (get_or rs i d).0) → IsOutside h rs x
 outside_between h rs i p x sorted ends above low high before = record {
@@ -36,22 +36,22 @@ outside_between h rs i p x sorted ends above low high before = record {
   ];
 }
 
--- a sector of a range is not outside
+-- A sector of a range is not outside,
 in_range : (h : GPTHeader) (rs : List (ℕ × ℕ)) (i x : ℕ) (d : ℕ × ℕ) → i < length rs → (get_or rs i d).0 ≤ x → x ≤ (get_or rs i d).1 → ¬ IsOutside h rs x
 in_range h rs i x d within from to o = o.uncovered i d within from to
 
--- nor is one behind the last usable sector
+-- nor is one after the last usable sector.
 past_last : (h : GPTHeader) (rs : List (ℕ × ℕ)) (x : ℕ) → h.last_usable_lba < x → ¬ IsOutside h rs x
 past_last h rs x past o = let high = o.usable.high in omega arith
 
--- the ends after one more range
+-- The ends after one more range.
 ends_more : (rs : List (ℕ × ℕ)) (i p q : ℕ) (r : ℕ × ℕ) → i < length rs → r ≡ get_or rs i r → All (λ r. r.1 ≤ p) (take i rs) → p ≤ q → r.1 ≤ q
     → All (λ r. r.1 ≤ q) (take (i + 1) rs)
 ends_more rs i p q r within e ends le here =
     let now : (get_or rs i r).1 ≤ q = let same : r.1 ≡ (get_or rs i r).1 = ap (λ (r : ℕ × ℕ). r.1) e in omega arith in
     All-more (λ r. r.1 ≤ q) rs i r within (All-weaker (λ r. r.1 ≤ p) (λ r. r.1 ≤ q) (λ r h. omega arith) (take i rs) ends) now
 
--- the run before a range
+-- The run before a range.
 run_before : (h : GPTHeader) (align : ℕ) (rs : List (ℕ × ℕ)) (i p to : ℕ) (slots : List (ℕ × ℕ)) (r : ℕ × ℕ) → IsNonDecreasingBy (λ r. r.0) rs
     → i < length rs → r ≡ get_or rs i r → r.0 ≤ r.1 → Going h align rs i slots p → to ≡ min h.last_usable_lba (r.0 - 1) → p < to
     → IsRun (IsOutside h rs) (p + 1) to
@@ -70,7 +70,7 @@ run_before h align rs i p to slots r sorted within e ordered g is room =
       ];
     }
 
--- one more range, of which the greatest end so far is q
+-- One more range; the greatest end so far is q.
 pub going_on : (h : GPTHeader) (align : ℕ) (rs : List (ℕ × ℕ)) (i p to q : ℕ) (slots new : List (ℕ × ℕ)) (r : ℕ × ℕ) → IsNonDecreasingBy (λ r. r.0) rs
     → i < length rs → r ≡ get_or rs i r → r.0 ≤ r.1 → Going h align rs i slots p → to ≡ min h.last_usable_lba (r.0 - 1) → AddsGap align p to slots new
     → q ≡ max p r.1 → Going h align rs (i + 1) new q
@@ -90,7 +90,7 @@ going_on h align rs i p to q slots new r sorted within e ordered g is adds most 
       low = let low = g.low in omega arith;
     }
 
--- after the last range
+-- After the last range.
 pub all_passed : (h : GPTHeader) (align : ℕ) (rs : List (ℕ × ℕ)) (i p : ℕ) (slots new : List (ℕ × ℕ)) → IsNonDecreasingBy (λ r. r.0) rs → length rs ≤ i
     → Going h align rs i slots p → AddsGap align p h.last_usable_lba slots new → AreSlots (IsOutside h rs) align new
 all_passed h align rs i p slots new sorted all g (gap room slot) =
@@ -108,7 +108,7 @@ all_passed h align rs i p slots new sorted all g (no_gap none same) =
     subst (λ (l : List (ℕ × ℕ)). AreSlots (IsOutside h rs) align l) (sym same)
     (swept_all (IsOutside h rs) align slots p (λ x above. past_last h rs x (omega arith)) g.swept)
 
--- a slot ends where the number of its last sector fits
+-- The last sector of a slot fits.
 pub slots_fit : (h : GPTHeader) (align : ℕ) (rs slots : List (ℕ × ℕ)) → h.last_usable_lba < 2 ^ 64 → AreSlots (IsOutside h rs) align slots
     → All (λ s. s.0 + s.1 ≤ 2 ^ 64) slots
 slots_fit h align rs slots small are = All-weaker (λ s. IsAlignedSlot (IsOutside h rs) align s.0 s.1) (λ s. s.0 + s.1 ≤ 2 ^ 64) (λ s slot.

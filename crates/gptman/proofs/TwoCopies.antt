@@ -18,7 +18,7 @@ use Rattle.gptman.proofs.FirstFailing.{tests_pass}
 use Rattle.gptman_disk.proofs.Ranges.{Ranges, within_left, within_right}
 use Rattle.gptman.proofs.Runs.{wrote_then, wrote_wider}
 
--- the other copy is written, and then the own one
+-- The other copy is written, then the own one.
 pub wrote_other : {a b : DiskState} (h other : GPTHeader) (ss : ℕ) → other ≡ other_header h → Wrote (copy_ranges other ss) a b → Wrote (four_ranges h ss) a b
 wrote_other {a} {b} h other ss is wrote =
     wrote_wider (within_right (copy_ranges h ss) (copy_ranges (other_header h) ss)) (subst (λ (x : GPTHeader). Wrote (copy_ranges x ss) a b) is wrote)
@@ -30,13 +30,13 @@ both_pass : (a b : Bool) (x y : Fault) → a ≡ true → b ≡ true → first_f
 both_pass true b x y is_a is_b = ap (λ (t : Bool). first_failing ((true, x) ∷ (t, y) ∷ [])) is_b
 both_pass false b x y is_a is_b = cc
 
--- Neither copy is refused by itself, and both lie on the disk.
+-- Neither copy is refused, and both are on the disk.
 pub record AreAllowed (h : GPTHeader) (ss len : ℕ) : Type 0 where
   pub own : copy_write_fault h ss len ≡ None
   pub other : copy_write_fault (other_header h) ss len ≡ None
   pub inside : list_all (is_inside len) (four_ranges h ss) ≡ true
 
--- That is so where the table is not refused.
+-- This holds if the table is not refused.
 pub both_allowed : (h : GPTHeader) (ss len : ℕ) → write_fault h ss len ≡ None → AreAllowed h ss len
 both_allowed h ss len none =
     let own : Ranges = copy_ranges h ss in
@@ -55,7 +55,7 @@ pub room_inside : (h : GPTHeader) (ss : ℕ) (disk : DiskState) → length disk.
     → list_all (is_inside (length disk.view)) (four_ranges h ss) ≡ true
 room_inside h ss disk long room = (both_allowed h ss (length disk.view) (ap (write_fault h ss) long ∙ room)).inside
 
--- Both copies stand where both were copied, off the layout too, where their ranges are apart and nothing was refused.
+-- Both copies are there after both were written, in any layout, if their ranges are disjoint and nothing was refused.
 pub copied_stand : (h : GPTHeader) (es : List GPTPartitionEntry) (ss : ℕ) (a b c : DiskState) → AreApart (four_ranges h ss) → list_all (is_inside (length a.view)) (four_ranges h ss) ≡ true
     → length es ≡ h.number_of_partition_entries → IsCopied (other_header h) es ss a b → Wrote (copy_ranges h ss) b c → IsCopied h es ss b c
     → HasBytes c.view (with_checksums h es) es ss × HasBytes c.view (with_checksums (other_header h) es) es ss

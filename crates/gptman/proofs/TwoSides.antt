@@ -1,4 +1,4 @@
--- The argument about stops, with the two sides of the stated layout and the tables that they hold.
+-- The argument about crashes, for the two places of the stated layout and the tables that they hold.
 use Rattle.std.proofs.Common.{◌≡◌, ◌⊎◌, inl, inr, ⊎_elim, ◌<◌, ◌*◌, ◌^◌, ℕ, List, [], ◌∷◌, length, refl, sym, ap, ◌∙◌, subst, arith}
 use Rattle.std.specs.List.{All}
 use Rattle.std.proofs.lemmas.List.{length-map}
@@ -27,9 +27,9 @@ use Rattle.gptman.proofs.OtherHeader.{other_table, other_form}
 use Rattle.gptman.proofs.Sealing.{IsSealed, sealed_is, sealed_table, sealed_form}
 use Rattle.gptman.proofs.WrittenCopy.{content_of, written_array, written_holds, written_start}
 
--- ---- what is written whole is accepted
+-- ---- a completely written copy is accepted
 
--- A header of the table with its checksums, in the form of a side.
+-- A header of the table with its checksums, in the form of a place.
 pub record IsHeaderOf (t : Table) (side : Side) (h : GPTHeader) (es : List GPTPartitionEntry) : Type 0 where
   pub table : table_of h es ≡ t
   pub form : IsHeaderForm side h
@@ -42,7 +42,7 @@ header_laid t side h es ss len is laid = subst (λ (u : Table). IsLaidOut u ss l
 header_count : (t : Table) (side : Side) (h : GPTHeader) (es : List GPTPartitionEntry) (ss len : ℕ) → IsHeaderOf t side h es → IsLaidOut t ss len → length es ≡ h.number_of_partition_entries
 header_count t side h es ss len is laid = sym (length-map es content_of) ∙ (header_laid t side h es ss len is laid).entries
 
--- the ranges of its copy are those of the table at the side
+-- The ranges of its copy are those of the table at the place.
 header_ranges : (t : Table) (side : Side) (h : GPTHeader) (es : List GPTPartitionEntry) (ss len : ℕ) → IsHeaderOf t side h es → IsLaidOut t ss len → copy_ranges_at side t ss len ≡ full_ranges h ss
 header_ranges t side h es ss len is laid =
     let start = written_start side h es ss len is.form (header_laid t side h es ss len is laid) in
@@ -50,7 +50,7 @@ header_ranges t side h es ss len is laid =
     ap (λ (u : Table). copy_ranges_at side u ss len) (sym is.table)
     ∙ (λ i. (sym start i, 92) ∷ (sym array i, 128 * h.number_of_partition_entries) ∷ [])
 
--- the side holds the table where its bytes stand
+-- The place holds the table if its bytes are there.
 pub header_held : (b : List ℕ) (t : Table) (side : Side) (h : GPTHeader) (es : List GPTPartitionEntry) (ss : ℕ) → length b < 2 ^ 64 → IsHeaderOf t side h es → IsLaidOut t ss (length b)
     → All FitsEntry es → HasBytes b h es ss → Holds b ss side t
 header_held b t side h es ss small is laid fits has =
@@ -66,17 +66,17 @@ sealed_header side h es t table form fits = record {
   sums = sealed_is h es fits.signature fits.revision;
 }
 
--- ---- a side holds a table, of a list of so many bytes
+-- ---- a place of a list of this length holds a table
 
 abbrev pub HeldAt : ℕ → ℕ → Side → Table → List ℕ → Type 0
 HeldAt len ss side t b = (length b ≡ len) × Holds b ss side t
 
--- It is told by the bytes in its two ranges there.
+-- The bytes in its two ranges there decide it.
 pub held_told : (len ss : ℕ) (side : Side) (t : Table) → IsToldBy (HeldAt len ss side t) (copy_ranges_at side t ss len)
 held_told len ss side t b c held agrees =
     (agrees.long ∙ held.0, holds_local b c ss side t held.1 (subst (λ (n : ℕ). AgreesInside (copy_ranges_at side t ss n) b c) (sym held.0) agrees))
 
--- the two ranges of a side are apart and on the disk
+-- The two ranges of a place are disjoint and on the disk.
 side_apart : (side : Side) (t : Table) (ss len : ℕ) → IsLaidOut t ss len → AreApart (copy_ranges_at side t ss len)
 side_apart primary t ss len laid = ((laid.apart.0.0, tt), (tt, tt))
 side_apart backup t ss len laid = laid.apart.1.1
@@ -85,13 +85,13 @@ side_inside : (side : Side) (t : Table) (ss len : ℕ) → IsLaidOut t ss len �
 side_inside primary t ss len laid = (laid.inside.0, (laid.inside.1.0, tt))
 side_inside backup t ss len laid = laid.inside.1.1
 
--- A copy of a table was laid, with its checksums made, and synced.
+-- A copy of a table was written, with its checksums, and synced.
 pub record IsCopied (h : GPTHeader) (es : List GPTPartitionEntry) (ss : ℕ) (a b : DiskState) : Type 0 where
   pub fits : FitsCopy (with_checksums h es) es
   pub laid : IsCopyLaid (with_checksums h es) es ss a.view b.view
   pub synced : b.pending ≡ []
 
--- so said of the header and the entries that a call was given
+-- The same for the header and the entries that a call was given.
 pub copied : (h g first : GPTHeader) (es fs : List GPTPartitionEntry) (ss : ℕ) (a b : DiskState) → g ≡ h → fs ≡ es → first ≡ with_checksums g fs → FitsCopy first fs
     → IsCopyLaid first fs ss a.view b.view → b.pending ≡ [] → IsCopied h es ss a b
 copied h g first es fs ss a b same_h same_es is fits laid synced =
@@ -102,7 +102,7 @@ copied h g first es fs ss a b same_h same_es is fits laid synced =
       synced = synced;
     }
 
--- Then its side holds the table.
+-- Its place then holds the table.
 copied_held : (side : Side) (h : GPTHeader) (es : List GPTPartitionEntry) (t : Table) (ss len : ℕ) (a b : DiskState) → table_of h es ≡ t → IsHeaderForm side h → IsLaidOut t ss len
     → len < 2 ^ 64 → length a.view ≡ len → IsCopied h es ss a b → HeldAt len ss side t b.view
 copied_held side h es t ss len a b table form laid small long copy =
@@ -115,7 +115,7 @@ copied_held side h es t ss len a b table form laid small long copy =
     let same : length b.view ≡ len = stands.1 ∙ long in
     (same, header_held b.view t side g es ss (omega (arith, small, same)) is (subst (IsLaidOut t ss) (sym same) laid) copy.fits.1 stands.0)
 
--- ---- a write of a value, whose header is in the form of a side
+-- ---- a write of a value whose header is in the form of a place
 
 module _ (side : Side) (h : GPTHeader) (es : List GPTPartitionEntry) (ss len : ℕ) (form : IsHeaderForm side h) (laid : IsLaidOut (table_of h es) ss len) where
   abbrev t : Table
@@ -127,7 +127,7 @@ module _ (side : Side) (h : GPTHeader) (es : List GPTPartitionEntry) (ss len : �
   abbrev other : Ranges
   other = copy_ranges_at (other_side side) t ss len
 
-  -- how far it came
+  -- How far it got.
   abbrev pub Comes : DiskState → DiskState → Type 1
   Comes a c = Came own other (copy_start side len ss, 92) (copy_start (other_side side) len ss, 92) (HeldAt len ss side t) (HeldAt len ss (other_side side) t) a c
 
@@ -140,38 +140,38 @@ module _ (side : Side) (h : GPTHeader) (es : List GPTPartitionEntry) (ss len : �
   other_start : (other_header h).primary_lba * ss ≡ copy_start (other_side side) len ss
   other_start = written_start (other_side side) (other_header h) es ss len (other_form side h form) (subst (λ (u : Table). IsLaidOut u ss len) (sym (other_table h es)) laid)
 
-  -- the other copy was begun
+  -- The other copy was begun.
   pub first_fails : (a b : DiskState) → Wrote (copy_ranges (other_header h) ss) a b → Untouched a b ⊎ IsPending (header_range (other_header h) ss) b → Comes a b
   first_fails a b run begun =
       other_begun (other_run a b run) (⊎_elim (λ still. inl still) (λ torn. inr (subst (λ (n : ℕ). IsPending (n, 92) b) other_start torn)) begun)
 
-  -- it is held once it was copied
+  -- It is held after it was written.
   other_held : (a b : DiskState) → len < 2 ^ 64 → length a.view ≡ len → IsCopied (other_header h) es ss a b → HeldAt len ss (other_side side) t b.view
   other_held a b small long copy =
       copied_held (other_side side) (other_header h) es t ss len a b (other_table h es) (other_form side h form) laid small long copy
 
-  -- and then the own one was begun
+  -- The own copy was begun after that.
   pub second_fails : (a b c : DiskState) → len < 2 ^ 64 → length a.view ≡ len → Wrote (copy_ranges (other_header h) ss) a b → IsCopied (other_header h) es ss a b
       → Wrote (copy_ranges h ss) b c → Untouched b c ⊎ IsPending (header_range h ss) c → Comes a c
   second_fails a b c small long run copy second begun =
       own_begun b (other_run a b run) copy.synced (other_held a b small long copy) (own_run b c second) (⊎_elim (λ still. inl still)
       (λ torn. inr (subst (λ (n : ℕ). IsPending (n, 92) c) (written_start side h es ss len form laid) torn)) begun)
 
-  -- or both were written
+  -- Both copies were written.
   pub both_done : (a b c : DiskState) → len < 2 ^ 64 → length a.view ≡ len → Wrote (copy_ranges (other_header h) ss) a b → IsCopied (other_header h) es ss a b
       → Wrote (copy_ranges h ss) b c → IsCopied h es ss b c → Comes a c
   both_done a b c small long run copy second done =
       let first = other_held a b small long copy in
       written b (other_run a b run) copy.synced first (own_run b c second) done.synced (copied_held side h es t ss len b c refl form laid small first.0 done)
 
-  -- ---- so at any moment only the other copy's bytes have changed, or its side holds the new table
+  -- ---- so at any moment only the other copy's bytes have changed, or its place holds the new table
 
   pub in_turns : (a c : DiskState) → a.pending ≡ [] → Comes a c → LeavesOnly a c (λ x. AgreesOutside other a.view x ⊎ Holds x ss (other_side side) t)
   in_turns a c synced come = λ x left. ⊎_elim (λ few. inl few) (λ new. inr new.1)
       (at_any_moment own other (copy_start side len ss, 92) (copy_start (other_side side) len ss, 92) (HeldAt len ss side t) (HeldAt len ss (other_side side) t) a c
       (held_told len ss (other_side side) t) (sides_clear side t ss len laid) synced come x left)
 
-  -- ---- and from one good copy, a stop leaves the old table or the new one
+  -- ---- from one good copy, a crash leaves the old or the new table
 
   pub one_good : (was : Table) (a x : List ℕ) → length a ≡ len → Holds a ss side was → AreClear (copy_ranges_at side was ss len) other
       → AgreesOutside other a x ⊎ Holds x ss (other_side side) t → HoldsOneOf x ss (was ∷ t ∷ [])
@@ -185,7 +185,8 @@ module _ (side : Side) (h : GPTHeader) (es : List GPTPartitionEntry) (ss len : �
       (λ new. record { side = other_side side; table = t; listed = contains_later t was (t ∷ []) (contains_first t []); holds = new })
       come
 
-  -- ---- and after an error each side is as it was, or holds the new table in whatever a stop may leave, or has its header pending
+  -- ---- after an error each place is unchanged, or holds the new table whatever a crash leaves, or has a pending
+  -- header
 
   alone : (p : Side) (a c : DiskState) → a.size ≡ len → IsLeftAlone (copy_ranges_at p t ss len) a c → SideAfter p t ss a c
   alone p a c size is = left_alone (subst (λ (n : ℕ). IsLeftAlone (copy_ranges_at p t ss n) a c) (sym size) is)
@@ -223,7 +224,7 @@ module _ (side : Side) (h : GPTHeader) (es : List GPTPartitionEntry) (ss len : �
   other_after a c size synced (own_begun b first stored new second begun) = holds_new (new_held b c stored new second)
   other_after a c size synced (written b first stored new second done here) = holds_new (new_held b c stored new second)
 
-  -- ---- after Ok both sides hold it
+  -- ---- after Ok both places hold it
 
   pub stored_both : (a b c : DiskState) → len < 2 ^ 64 → length a.view ≡ len → IsCopied (other_header h) es ss a b → Wrote (copy_ranges h ss) b c
       → IsCopied h es ss b c → Holds c.view ss side t × Holds c.view ss (other_side side) t
@@ -233,15 +234,15 @@ module _ (side : Side) (h : GPTHeader) (es : List GPTPartitionEntry) (ss len : �
         (stays (HeldAt len ss (other_side side) t) other own b.view c.view (held_told len ss (other_side side) t) other_clear first (own_run b c second).view).1,
       )
 
--- ---- said of a value, whose header is in the form of one side or the other
+-- ---- for a value whose header is in the form of either place
 
--- both sides, by name
+-- Both places, by name.
 pub by_name : (P : Side → Type 0) (side : Side) → P side → P (other_side side) → P primary × P backup
 by_name P primary own other = (own, other)
 by_name P backup own other = (other, own)
 
 module _ (g : GPT) (a c : DiskState) (long : length a.view ≡ a.size) where
-  -- how far the write of the value came, in whichever of the two forms its header is
+  -- How far the write of the value got, in either form of its header.
   abbrev pub ComesFor : Type 1
   ComesFor = (side : Side) (form : IsHeaderForm side g.header) (laid : IsLaidOut (table_in g) g.sector_size a.size) → Comes side g.header (entries_in g) g.sector_size a.size form laid a c
 

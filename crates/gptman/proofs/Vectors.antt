@@ -1,4 +1,4 @@
--- The definition at messages whose checksums are known.
+-- The definition for messages whose checksums are known.
 use Rattle.std.proofs.Common.{◌≡◌, [], ◌∷◌, codes, refl}
 use Rattle.gptman.specs.Crc.{divide, crc_of}
 

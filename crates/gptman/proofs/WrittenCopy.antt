@@ -1,4 +1,4 @@
--- The bytes of a header and entries, where they stand, are a copy that is accepted.
+-- The bytes of a header and entries, at their places, are an accepted copy.
 use Rattle.std.proofs.Common.{◌≡◌, ◌≤◌, ◌<◌, ◌⊎◌, ◌+◌, ◌-◌, ◌*◌, ◌/◌, ◌^◌, ℕ, Bool, true, false, List, [], ◌∷◌, length, map, get_or, ltb, Result, Err, refl, sym, ap, ◌∙◌, subst, inl, inr, arith}
 use Rattle.std.specs.List.{All}
 use Rattle.std.specs.Prelude.{encode_utf8_all}
@@ -25,7 +25,7 @@ use Rattle.gptman.proofs.CopyThere.{copy_there_is}
 use Rattle.gptman.proofs.Sealing.{IsSealed}
 use Rattle.gptman.proofs.CopyTests.{entries_start, entries_length}
 
--- what an entry holds, as a table has it
+-- The contents of an entry, as a table has them.
 abbrev pub content_of : GPTPartitionEntry → TableEntry
 content_of e = record {
   partition_type_guid = e.partition_type_guid;
@@ -36,14 +36,14 @@ content_of e = record {
   units = e.partition_name.units;
 }
 
--- an entry as it is read back: its text is that of its units
+-- An entry as it is read: its text is that of its units.
 abbrev pub as_read : GPTPartitionEntry → GPTPartitionEntry
 as_read e = with_text e (encode_utf8_all (text_of e.partition_name.units))
 
 read_coding : (e : GPTPartitionEntry) → FitsEntry e → IsEntryCoding (as_read e) (entry_bytes e)
 read_coding e fits = entry_coding e (encode_utf8_all (text_of e.partition_name.units)) fits
 
--- A header that a reading does not refuse, with its number of entries.
+-- A header that a read does not refuse, with its number of entries.
 pub record IsRight (h : GPTHeader) (es : List GPTPartitionEntry) : Type 0 where
   pub signature : h.signature ≡ right_signature
   pub revision : h.revision ≡ right_revision
@@ -51,7 +51,7 @@ pub record IsRight (h : GPTHeader) (es : List GPTPartitionEntry) : Type 0 where
   pub entry_size : (h.number_of_partition_entries ≡ 0) ⊎ (h.size_of_partition_entry ≡ 128)
   pub count : length es ≡ h.number_of_partition_entries
 
--- What is written is a copy, its names as their units decode.
+-- The written bytes are a copy, with names as their units decode.
 pub written_at : (b : List ℕ) (p ss : ℕ) (h : GPTHeader) (es : List GPTPartitionEntry) → FitsHeader h → All FitsEntry es → IsSealed h es → IsRight h es
     → p + 92 ≤ length b → (h.number_of_partition_entries ≡ 0) ⊎ (entries_start h ss + entries_length h ≤ length b)
     → part b p 92 ≡ header_bytes h → part b (entries_start h ss) (entries_length h) ≡ array_bytes es → CopyAt b p ss h (map as_read es)
@@ -88,22 +88,22 @@ read_content : (es : List GPTPartitionEntry) → map content_of (map as_read es)
 read_content [] = refl
 read_content (e ∷ es) = ap (λ (xs : List TableEntry). content_of e ∷ xs) (read_content es)
 
--- the table is that of the entries in memory
+-- Its table is that of the entries in memory.
 pub read_table : (h : GPTHeader) (es : List GPTPartitionEntry) → table_of h (map as_read es) ≡ table_of h es
 read_table h es = ap (λ (xs : List TableEntry). record (table_of h es) { entries = xs }) (read_content es)
 
--- a header of the layout is written where its side begins
+-- A header in the layout is written at the start of its place.
 pub written_start : (side : Side) (h : GPTHeader) (es : List GPTPartitionEntry) (ss len : ℕ) → IsHeaderForm side h → IsLaidOut (table_of h es) ss len → h.primary_lba * ss ≡ copy_start side len ss
 written_start primary h es ss len form laid = ap (λ (n : ℕ). n * ss) form.0 ∙ (let e : 1 * ss ≡ ss = omega arith in e)
 written_start backup h es ss len form laid =
     let sector : h.primary_lba ≡ len / ss - 1 = omega (arith, laid.low_sector, laid.high_sector, form.0) in
     ap (λ (n : ℕ). n * ss) sector
 
--- where the entries of a table in the form of a side begin
+-- The start of the entries of a table in the form of a place.
 abbrev pub array_start : Side → Table → ℕ → ℕ
 array_start side t ss = elim side [ primary ↦ 2 * ss | backup ↦ (t.last_usable_lba + 1) * ss ]
 
--- and its entries where theirs do
+-- Its entries are written at their start.
 pub written_array : (side : Side) (h : GPTHeader) (es : List GPTPartitionEntry) (ss : ℕ) → IsHeaderForm side h → h.partition_entry_lba * ss ≡ array_start side (table_of h es) ss
 written_array primary h es ss form = ap (λ (n : ℕ). n * ss) form.1
 written_array backup h es ss form = ap (λ (n : ℕ). n * ss) form.1
@@ -112,17 +112,17 @@ on_disk : (at len : ℕ) → ((let n : ℕ = 92 in n ≡ 0) ⊎ (at + 92 ≤ len
 on_disk at len (inl e) = absurd (omega arith)
 on_disk at len (inr h) = h
 
--- a table's header at a side lies on the disk
+-- A table's header at a place is on the disk,
 pub header_inside : (side : Side) (t : Table) (ss len : ℕ) → IsLaidOut t ss len → copy_start side len ss + 92 ≤ len
 header_inside primary t ss len laid = on_disk ss len laid.inside.0
 header_inside backup t ss len laid = on_disk (copy_start backup len ss) len laid.inside.1.1.0
 
--- and so do its entries
+-- and so are its entries.
 pub array_inside : (side : Side) (t : Table) (ss len : ℕ) → IsLaidOut t ss len → (128 * t.count ≡ 0) ⊎ (array_start side t ss + 128 * t.count ≤ len)
 array_inside primary t ss len laid = laid.inside.1.0
 array_inside backup t ss len laid = laid.inside.1.1.1.0
 
--- the copy at a side of a disk with a sector
+-- The copy at a place of a disk of at least one sector.
 pub copy_in-at : (side : Side) (b : List ℕ) (ss : ℕ) → ss ≤ length b → (short : Bool) → ltb (length b) ss ≡ short → copy_in side b ss ≡ copy_at b (copy_start side (length b) ss) ss
 unfolding copy_in
 copy_in-at primary b ss long short is = refl
@@ -131,7 +131,7 @@ copy_in-at backup b ss long false is =
     let choose : Bool → Result Copy Fault = λ t. elim t [ true ↦ Err invalid_signature | false ↦ copy_at b (copy_start backup (length b) ss) ss ] in
     ap choose is
 
--- A table of the layout whose bytes stand on the disk is held at its side.
+-- A table in the layout whose bytes are on the disk is held at its place.
 pub written_holds : (b : List ℕ) (ss : ℕ) (side : Side) (h : GPTHeader) (es : List GPTPartitionEntry) → length b ≤ 2 ^ 64 → IsLaidOut (table_of h es) ss (length b) → IsHeaderForm side h
     → FitsHeader h → All FitsEntry es → IsSealed h es → HasBytes b h es ss → Holds b ss side (table_of h es)
 written_holds b ss side h es small laid form header_fits fits sums has =

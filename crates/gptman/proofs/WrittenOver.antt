@@ -1,4 +1,4 @@
--- A list that is written over whole.
+-- A list that is completely overwritten.
 use Rattle.std.proofs.Common.{◌≡◌, ◌≤◌, List, length, arith, take_all}
 use Rattle.std.proofs.lemmas.List.{take-append-le}
 use Rattle.gptman.specs.Number.{written_over}

@@ -16,7 +16,7 @@ use Rattle.gptman.specs.declared.copy.WholeCopy.{WholeCopy}
 use Rattle.gptman.proofs.Found.{found_before, found_since}
 use Rattle.gptman.proofs.copies.check.Goals as goal
 
--- what was found as one table is held so
+-- Copies that are found as one table are held as one.
 both_hold : (view : List ℕ) (ss : ℕ) (p b : Result WholeCopy Error) (old new : DiskState) → Fails p old new ⊎ (answer_of copy_of_whole p ≡ copy_in primary view ss)
     → Fails b old new ⊎ (answer_of copy_of_whole b ≡ copy_in backup view ss) → AreFoundSame (answer_of copy_of_whole p) (answer_of copy_of_whole b)
     → HoldOneTable view ss × AreFoundSame (answer_of copy_of_whole p) (answer_of copy_of_whole b)
@@ -41,7 +41,7 @@ both_hold view ss (Ok p) (Err e) old new at_primary at_backup same = absurd same
 both_hold view ss (Err e) (Ok b) old new at_primary at_backup same = absurd same
 both_hold view ss (Err e) (Err d) old new at_primary at_backup same = absurd same
 
--- what is held as one table is found so
+-- A table that both places hold is found as one.
 found_so : (view : List ℕ) (ss : ℕ) (p b : Result WholeCopy Error) (old new : DiskState) → Fails p old new ⊎ (answer_of copy_of_whole p ≡ copy_in primary view ss)
     → Fails b old new ⊎ (answer_of copy_of_whole b ≡ copy_in backup view ss) → HoldOneTable view ss
     → AreFoundSame (answer_of copy_of_whole p) (answer_of copy_of_whole b) ⊎ Rose old new

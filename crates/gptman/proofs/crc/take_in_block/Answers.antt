@@ -6,7 +6,7 @@ use Rattle.gptman.proofs.Numbers.{little_number_is}
 use Rattle.gptman.proofs.ByBlock.{with_words, block_by_words, eight_parts}
 use Rattle.gptman.proofs.crc.take_in_block.Goals as goal
 
--- the words of the first four bytes, in the code's order, added to those of the last four
+-- The words of the first four bytes, in the order of the code, combined with those of the last four.
 abbrev added : ℕ → List ℕ → ℕ
 added behind s =
     bit_xor (bit_xor (bit_xor (bit_xor behind

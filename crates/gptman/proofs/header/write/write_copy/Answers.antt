@@ -12,7 +12,7 @@ use Rattle.gptman.proofs.header.write.write_copy.Given.{Over}
 use Rattle.gptman.proofs.header.write.write_copy.Goals as goal
 use Rattle.gptman.proofs.header.write.write_copy.Goals.{After-write_all, In_ok-write_all}
 
--- the header was written, or a part of it
+-- The header was written, or a part of it.
 header_wrote : (g : Over) (c : After-write_all g) → IsTrue (g.D.Disk.state c.args.disk.now).is_honest
     → Wrote (copy_ranges c.args.header.now c.args.sector_size) (g.D.Disk.state c.args.disk.now) (g.D.Disk.state c.write_all.new.self)
 header_wrote g c honest =
@@ -21,7 +21,7 @@ header_wrote g c honest =
     wrote_then (within_header c.args.header.now c.args.sector_size _ _ c.in_ok-seek_start.ensures.answer.1 size) (wrote_wider within_none seek)
     (c.write_all.ensures.wrote seek.honest)
 
--- once it is written, its range is pending
+-- After the write its range is pending.
 header_left : (g : Over) (c : In_ok-write_all g) → IsTrue (g.D.Disk.state c.args.disk.now).is_honest
     → IsPending (header_range c.args.header.now c.args.sector_size) (g.D.Disk.state c.write_all.new.self)
 header_left g c honest =
@@ -81,7 +81,7 @@ returns-clause-wrote g c = λ honest.
     wrote_then (within_array c.args.header.now c.args.sector_size _ _ c.in_ok-seek_start-2.ensures.answer.1 c.requires.count some)
     (wrote_then within_none header seek) (c.write_entries.ensures.wrote seek.honest)
 
--- it still is once the entries are written
+-- It still is after the entries are written.
 header_pending : (g : Over) (c : goal.After-write_entries g) → IsTrue (g.D.Disk.state c.args.disk.now).is_honest
     → IsPending (header_range c.args.header.now c.args.sector_size) (g.D.Disk.state c.write_entries.new.disk)
 header_pending g c honest =

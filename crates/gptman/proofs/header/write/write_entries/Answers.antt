@@ -13,11 +13,11 @@ use Rattle.gptman.proofs.header.write.write_entries.Given.{Over}
 use Rattle.gptman.proofs.header.write.write_entries.Goals as goal
 use Rattle.gptman.proofs.header.write.write_entries.Goals.{After-write_block}
 
--- the entries of one block
+-- The entries of one block.
 abbrev block_of : List GPTPartitionEntry → ℕ → ℕ → List GPTPartitionEntry
 block_of es done end = take (end - done) (drop done es)
 
--- with the block, no more than the range of all entries was written
+-- With the block, only the range of all entries was written.
 block_wrote : (g : Over) (c : After-write_block g) → IsTrue (g.D.Disk.state c.args.disk.now).is_honest
     → Wrote (((g.D.Disk.state c.args.disk.now).position, 128 * length c.args.partitions.now) ∷ []) (g.D.Disk.state c.args.disk.now) (g.D.Disk.state c.write_block.new.disk)
 block_wrote g c honest =

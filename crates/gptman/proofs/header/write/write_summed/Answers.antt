@@ -7,7 +7,7 @@ use Rattle.gptman_disk.proofs.Ranges.{Ranges}
 use Rattle.gptman.proofs.WriteRanges.{ranges_still}
 use Rattle.gptman.proofs.header.write.write_summed.Goals as goal
 
--- the header with this checksum of its entries, and then its own
+-- The header with this checksum of its entries, then with its own.
 abbrev summed : GPTHeader → ℕ → GPTHeader
 summed h checksum =
     let with_array : GPTHeader = record h { partition_entry_array_crc32 = checksum } in

@@ -1,4 +1,4 @@
--- The rest of the division says how far the next multiple is.
+-- The remainder determines the distance to the next multiple.
 use Rattle.std.proofs.Common.{arith}
 use Rattle.gptman.proofs.Multiples.{first_by}
 use Rattle.gptman.proofs.place.sweep.slot_of.Goals as goal

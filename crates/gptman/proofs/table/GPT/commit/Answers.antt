@@ -34,7 +34,7 @@ returns-in_err-write_into-clause-coherent g c =
     coherent_still c.args.self.now c.write_into.new.self (keeps_both c.args.self.now c.apply.new.self c.write_into.new.self
     (edit_keeps c.args.self.now c.apply.new.self c.args.edit c.in_ok-apply.ensures.value) (sums_keep c.apply.new.self c.write_into.new.self c.write_into.ensures.sums)) c.requires.coherent
 
--- why the write is refused
+-- Why the write fails.
 why : (g : Over) (c : goal.After-from_residual-in_err-write_into g)
     → RefusesEdit c.args.self.now c.args.edit (fault_of c.in_err-write_into.field-0.0) c.write_into.new.self (g.D.Disk.state c.args.disk.now) (g.D.Disk.state c.write_into.new.disk)
 why g c =

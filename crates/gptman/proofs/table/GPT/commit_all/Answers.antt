@@ -60,9 +60,9 @@ loop-edit-preserved g c =
       ⊎_elim (λ same. same ∙ at.invariant.5) (λ refused. absurd refused) done.counts,
     )
 
--- ---- an edit was refused
+-- ---- an edit failed
 
--- the edits so far, the one that was refused, and those behind it
+-- The edits so far, the one that failed, and those after it.
 all_edits : (g : Over) (c : goal.After-drop-edit-iterator g) → c.args.edits.items ≡ c.loop-edit.yielded ++ c.in-Some.edit ∷ into_iter_items c.next.new.self
 all_edits g c =
     let at = c.loop-edit in
@@ -125,7 +125,7 @@ returns-in-Err-clause-after g c = λ from.
     failed_after c.args.self.now at.yielded at.self (g.D.Disk.state c.args.disk.now) (g.D.Disk.state at.disk) (g.D.Disk.state c.commit.new.disk) at.invariant.0 c.args.edits.items _ at.done
     c.in-Some.edit (all_edits g c) at.invariant.2 from (g.met.D.Disk.sound at.disk) c.in-Err.ensures.after
 
--- a stop leaves the table after some of the edits
+-- A crash leaves the table after some of the edits.
 failed_good : (g : Over) (c : goal.After-drop-edit-iterator g) → StartsFromOne (g.D.Disk.state c.args.disk.now) c.args.self.now (table_in c.args.self.now)
     → StopsHold (g.D.Disk.state c.args.disk.now) (g.D.Disk.state c.commit.new.disk) c.args.self.now.sector_size
     (tables_to c.args.self.now c.args.edits.items (reached c.loop-edit.done (Some c.in-Err.fault)))
@@ -174,7 +174,7 @@ returns-in-Err-clause-empty g c = λ empty.
     let none : length (c.loop-edit.yielded ++ c.in-Some.edit ∷ into_iter_items c.next.new.self) ≡ 0 = ap length (sym (all_edits g c) ∙ empty) in
     absurd (omega (arith, none, length-append c.loop-edit.yielded (c.in-Some.edit ∷ into_iter_items c.next.new.self)))
 
--- ---- all edits were made
+-- ---- all edits were written
 
 made_all : (g : Over) (c : goal.After-drop-edit-iterator-2 g) → c.args.edits.items ≡ c.loop-edit.yielded ++ []
 made_all g c =

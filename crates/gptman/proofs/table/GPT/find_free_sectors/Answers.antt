@@ -8,7 +8,7 @@ use Rattle.gptman.proofs.Covered.{ordered_ranges}
 use Rattle.gptman.proofs.FreeSectors.{slots_of_entries}
 use Rattle.gptman.proofs.table.GPT.find_free_sectors.Goals as goal
 
--- the ranges are those of the value's entries
+-- The ranges are those of the value's entries.
 moved : (es list : List GPTPartitionEntry) (rs ranges : List (ℕ × ℕ)) → list ≡ es → ranges ≡ rs → IsPermutation (filter_map covered_range list) rs
     → IsPermutation (filter_map covered_range es) ranges
 moved es list rs ranges same here p =

@@ -11,7 +11,7 @@ use Rattle.gptman.proofs.table.GPT.find_from.Given.{Over}
 use Rattle.gptman.proofs.table.GPT.find_from.Goals as goal
 use Rattle.gptman.proofs.table.GPT.find_from.Goals.{After-read_from-2}
 
--- with sectors of 512 the disk was read
+-- The disk was read with sectors of 512 bytes.
 read_at_512 : {X : Type 0} (b : List ℕ) (copy : Copy) → X ⊎ (⊥ ⊎ (Ok copy ≡ reading_of b 512)) → X ⊎ ((found_sector_size b ≡ 512) × (Ok copy ≡ reading_of b 512))
 read_at_512 b copy answer = ⊎_elim inl (⊎_elim (λ out. absurd out) (λ is. inr (found_ok b copy (sym is), is))) answer
 
@@ -35,11 +35,11 @@ returns-then-not-is_invalid_signature-clause-answer g c = λ honest.
 pub returns-clause-reads : goal.returns-clause-reads
 returns-clause-reads g c = both_read c.read_from.ensures.reads c.read_from-2.ensures.reads
 
--- with sectors of 512 no signature was shown
+-- With sectors of 512 bytes no signature was found,
 none_at_512 : (g : Over) (c : After-read_from-2 g) → is_signature_fault (fault_of c.in-Err.fault) ≡ true
 none_at_512 g c = search rules
 
--- so they have 4096, unless the disk failed
+-- so they have 4096, unless the disk failed.
 found_4096 : (g : Over) (c : After-read_from-2 g) → IsTrue (g.D.Disk.state c.args.disk.now).is_honest
     → Rose (g.D.Disk.state c.args.disk.now) (g.D.Disk.state c.read_from-2.new.disk) ⊎ (found_sector_size (g.D.Disk.state c.args.disk.now).view ≡ 4096)
 found_4096 g c honest =

@@ -15,7 +15,7 @@ returns-in-Ok-clause-answer g c = λ honest.
 pub returns-clause-reads : goal.returns-clause-reads
 returns-clause-reads g c = both_read c.read_primary.ensures.reads c.read_backup.ensures.reads
 
--- the primary copy was refused, and what follows is the answer of the fallback
+-- The primary copy was refused, and this is the result of the fallback.
 primary_refused : (g : Over) (c : goal.After-read_backup g) → IsTrue (g.D.Disk.state c.args.disk.now).is_honest
     → FellBack c.read_backup.result c.args.sector_size (fault_of c.in-Err.primary) (g.D.Disk.state c.args.disk.now)
     (g.D.Disk.state c.read_primary.new.disk) (g.D.Disk.state c.read_backup.new.disk)

@@ -15,14 +15,14 @@ use Rattle.gptman.proofs.table.GPT.write_both.Goals as goal
 
 -- ---- the other copy could not be written or synced
 
--- the other copy's ranges were written
+-- The other copy's ranges were written.
 other_begun : (g : Over) (c : goal.After-from_residual g) (honest : IsTrue (g.D.Disk.state c.args.disk.now).is_honest)
     → Wrote (copy_ranges (other_header c.args.self.now.header) c.args.self.now.sector_size) (g.D.Disk.state c.args.disk.now) (g.D.Disk.state c.write_and_sync.new.disk)
 other_begun g c honest =
     subst (λ (h : GPTHeader). Wrote (copy_ranges h c.args.self.now.sector_size) (g.D.Disk.state c.args.disk.now) (g.D.Disk.state c.write_and_sync.new.disk))
     c.requires.other (c.write_and_sync.ensures.wrote honest)
 
--- the own copy's were, and before them the other copy's
+-- The own copy's ranges were written after the other copy.
 other_then : (g : Over) (c : goal.After-from_residual-in_err-write_and_sync-2 g) (honest : IsTrue (g.D.Disk.state c.args.disk.now).is_honest)
     → IsCopied (other_header c.args.self.now.header) (entries_in c.args.self.now) c.args.self.now.sector_size (g.D.Disk.state c.args.disk.now) (g.D.Disk.state c.write_and_sync.new.disk)
 other_then g c honest =
@@ -30,7 +30,7 @@ other_then g c honest =
     copied (other_header c.args.self.now.header) c.args.other c.write_and_sync.new.header (entries_in c.args.self.now) _ c.args.self.now.sector_size _ _ c.requires.other
     c.as_slice-entries.ensures.items first.value first.fits (first.laid honest) (first.synced honest)
 
--- both were written
+-- Both were written.
 other_done : (g : Over) (c : goal.In_ok-write_and_sync-2 g) (honest : IsTrue (g.D.Disk.state c.args.disk.now).is_honest)
     → IsCopied (other_header c.args.self.now.header) (entries_in c.args.self.now) c.args.self.now.sector_size (g.D.Disk.state c.args.disk.now) (g.D.Disk.state c.write_and_sync.new.disk)
 other_done g c honest =
@@ -61,7 +61,7 @@ pub returns-in_err-write_and_sync-clause-wrote : goal.returns-in_err-write_and_s
 returns-in_err-write_and_sync-clause-wrote g c = λ honest.
     wrote_other c.args.self.now.header c.args.other c.args.self.now.sector_size c.requires.other (c.write_and_sync.ensures.wrote honest)
 
--- ---- the own copy could not be
+-- ---- the own copy could not be written or synced
 
 come_second : (g : Over) (c : goal.After-from_residual-in_err-write_and_sync-2 g) (honest : IsTrue (g.D.Disk.state c.args.disk.now).is_honest)
     → ComesFor c.args.self.now (g.D.Disk.state c.args.disk.now) (g.D.Disk.state c.write_and_sync-2.new.disk) (g.met.D.Disk.sound c.args.disk.now honest).size
@@ -144,7 +144,7 @@ returns-clause-laid g c = λ honest apart.
     let other_is : c.write_and_sync.new.header ≡ with_checksums (other_header h) es = c.in_ok-write_and_sync.ensures.value ∙ (λ i. with_checksums (c.requires.other i) (c.as_slice-entries.ensures.items i)) in
     (subst (λ (x : GPTHeader). HasBytes new.view x es ss) (sym own_is) stand.0, subst (λ (x : GPTHeader). HasBytes new.view x es ss) (sym other_is) stand.1)
 
--- ---- neither is refused by itself
+-- ---- neither copy is refused
 
 pub write_and_sync-requires-clause-allowed : goal.write_and_sync-requires-clause-allowed
 write_and_sync-requires-clause-allowed g c =

@@ -24,7 +24,7 @@ use Rattle.gptman.proofs.TwoSides.{ComesFor, good_of, turns_of}
 use Rattle.gptman.proofs.table.GPT.write_into.Given.{Over}
 use Rattle.gptman.proofs.table.GPT.write_into.Goals as goal
 
--- ---- the checks refuse: no call was made
+-- ---- the checks refuse the table: no call was made
 
 come_check : (g : Over) (c : goal.After-from_residual g) (honest : IsTrue (g.D.Disk.state c.args.disk.now).is_honest)
     → ComesFor c.args.self.now (g.D.Disk.state c.args.disk.now) (g.D.Disk.state c.args.disk.now) (g.met.D.Disk.sound c.args.disk.now honest).size
@@ -55,7 +55,7 @@ pub returns-in_err-check-clause-crash_safe : goal.returns-in_err-check-clause-cr
 returns-in_err-check-clause-crash_safe g c = λ was from x left known.
     reads_one_of x _ _ (good_check g c was (one_of_stored (g.D.Disk.state c.args.disk.now) c.args.self.now was from) x left) known
 
--- ---- the disk's length is taken, or the other header refused: the disk was only read
+-- ---- the length is taken, or the other header refused: the disk was only read
 
 turns_read : (g : Over) (c : goal.After-from_residual-in_err-other g) → StartsSynced (g.D.Disk.state c.args.disk.now) c.args.self.now
     → StopsComeInTurns (g.D.Disk.state c.args.disk.now) (g.D.Disk.state c.writable_other.new.disk) c.args.self.now
@@ -83,7 +83,7 @@ pub returns-in_err-other-clause-crash_safe : goal.returns-in_err-other-clause-cr
 returns-in_err-other-clause-crash_safe g c = λ was from x left known.
     reads_one_of x _ _ (still g c was (one_of_stored (g.D.Disk.state c.args.disk.now) c.args.self.now was from) x left) known
 
--- the table is valid where the checks passed
+-- The table is valid if the checks passed.
 valid_then : (g : Over) (c : goal.After-from_residual-in_err-other g) → IsValid c.args.self.now.header (entries_in c.args.self.now)
 valid_then g c = checked_valid c.args.self.now.header (entries_in c.args.self.now) _ c.as_slice.ensures.items c.in_ok-check.ensures
 
@@ -106,7 +106,7 @@ returns-in_err-other-clause-room g c = λ layout valid.
 valid_there : (g : Over) (c : goal.After-write_both g) → IsValid c.args.self.now.header (entries_in c.args.self.now)
 valid_there g c = checked_valid c.args.self.now.header (entries_in c.args.self.now) _ c.as_slice.ensures.items c.in_ok-check.ensures
 
--- there is room
+-- There is room.
 room : (g : Over) (c : goal.After-write_both g) → HasRoomOn c.args.self.now (g.D.Disk.state c.args.disk.now).size
 room g c = ⊎_elim (λ is. sym is) (λ fails. absurd fails.0) c.in_ok-other.ensures.answer
 

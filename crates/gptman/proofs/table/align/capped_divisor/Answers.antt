@@ -4,7 +4,7 @@ use Rattle.std.proofs.Math.Nat.{le_of_dvd, mod-eq-zero_of_dvd}
 use Rattle.std.proofs.lemmas.Bool.{cases_lt}
 use Rattle.gptman.proofs.table.align.capped_divisor.Goals as goal
 
--- a number that leaves a rest does not divide
+-- A number with a remainder does not divide.
 no_divisor : (k n : ℕ) → n % k ≢ 0 → ¬ (k ∣ n)
 no_divisor k n rest d = rest (mod-eq-zero_of_dvd k d)
 

@@ -8,18 +8,18 @@ use Rattle.gptman.proofs.CommonDivisor.{IsGreatestCommonDivisor, common_more, st
 use Rattle.gptman.proofs.table.align.find_alignment.Goals as goal
 use Rattle.gptman.proofs.table.align.find_alignment.Goals.{then-is_used, else-is_used, else-count-eq1-via-then-count-eq1+else-common-first_usable_lba, else-count-eq1-via-else-count-eq1}
 
--- what the loop knows of the entries so far
+-- The invariant of the loop over the entries.
 abbrev Counted : List ℕ → ℕ → ℕ → ℕ → Type 0
 Counted starts common count i = IsGreatestCommonDivisor starts common × (count ≡ length starts) × (count ≤ i)
 
--- at the end, of all entries
+-- At the end it covers all entries.
 whole : (es : List GPTPartitionEntry) (i common : ℕ) → length es ≤ i → IsGreatestCommonDivisor (used_starts (take i es)) common → IsGreatestCommonDivisor (used_starts es) common
 whole es i common h c = subst (λ (l : List GPTPartitionEntry). IsGreatestCommonDivisor (used_starts l) common) (take_all i es h) c
 
 count_all : (es : List GPTPartitionEntry) (i count : ℕ) → length es ≤ i → count ≡ length (used_starts (take i es)) → count ≡ length (used_starts es)
 count_all es i count h e = subst (λ (l : List GPTPartitionEntry). count ≡ length (used_starts l)) (take_all i es h) e
 
--- a used entry
+-- A used entry.
 used_more : (es : List GPTPartitionEntry) (i : ℕ) (d : GPTPartitionEntry) (common count new g n : ℕ) → i < length es → Counted (used_starts (take i es)) common count i → is_used (get_or es i d) ≡ true → IsGcd common (get_or es i d).starting_lba new → g ≡ new → n ≡ count + 1 → Counted (used_starts (take (i + 1) es)) g n (i + 1)
 used_more es i d common count new g n h inv used gcd is more =
     let e = starts_used es i d h used in
@@ -28,7 +28,7 @@ used_more es i d common count new g n h inv used gcd is more =
     subst (λ (starts : List ℕ). Counted starts g n (i + 1)) (sym e)
     (subst (λ (g : ℕ). IsGreatestCommonDivisor (used_starts (take i es) ++ (get_or es i d).starting_lba ∷ []) g) (sym is) (common_more (used_starts (take i es)) common (get_or es i d).starting_lba new inv.0 gcd), omega arith, omega arith)
 
--- an unused one
+-- An unused entry.
 unused_more : (es : List GPTPartitionEntry) (i : ℕ) (d : GPTPartitionEntry) (common count g n : ℕ) → i < length es → Counted (used_starts (take i es)) common count i → is_used (get_or es i d) ≡ false → g ≡ common → n ≡ count → Counted (used_starts (take (i + 1) es)) g n (i + 1)
 unused_more es i d common count g n h inv unused is same =
     let now = inv.1 in let le = inv.2 in

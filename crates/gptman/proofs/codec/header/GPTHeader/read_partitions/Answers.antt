@@ -29,7 +29,7 @@ returns-in_err-array-clause-answer g c = λ honest.
 pub returns-then-self-array-clause-reads : goal.returns-then-self-array-clause-reads
 returns-then-self-array-clause-reads g c = both_read c.seek_entries.ensures.reads c.read_array.ensures.reads
 
--- the entries are in place, and the checksum that was made is theirs
+-- The entries are in place, and the computed checksum is theirs.
 record AreRead (g : Over) (c : In_ok-array g) : Type 0 where
   placed : IsInPlace (g.D.Disk.state c.args.disk.now).view c.args.sector_size c.args.self.now
   bytes : part (g.D.Disk.state c.seek_entries.new.disk).view (g.D.Disk.state c.seek_entries.new.disk).position (128 * c.args.self.now.number_of_partition_entries)
