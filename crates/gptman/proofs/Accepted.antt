@@ -102,7 +102,7 @@ write_refused g (Ok x) old new is at_once answer = tt
 write_refused g (Err e) old new is at_once (inl said) = no_room is (sym said)
 write_refused g (Err e) old new is at_once (inr fails) = disk_failed is (λ far. ⊎_elim (λ near. absurd (cc)) (λ said. let e = sym fails.0 ∙ said in absurd (cc)) (at_once overflow far)) fails
 
--- What passes the checks is valid.
+-- A table that passes the checks is valid.
 pub checked_valid : (h : GPTHeader) (es fs : List GPTPartitionEntry) → fs ≡ es → ⊥ ⊎ IsValidity h fs None → IsValid h es
 checked_valid h es fs is (inl never) = absurd never
 checked_valid h es fs is (inr (shared_guid shared said)) = absurd (cc)

@@ -35,7 +35,7 @@ use Rattle.gptman.proofs.Sealing.{cleared_same}
 
 -- ---- a value with other checksums
 
--- The value with these two checksums.
+-- The value with these checksums.
 abbrev pub summed : GPT → ℕ → ℕ → GPT
 summed g own array = record g { header = record g.header { crc32_checksum = own; partition_entry_array_crc32 = array } }
 
@@ -236,7 +236,7 @@ module _ (g : GPT) (made : List Edit) (now : GPT) (a b : DiskState) (are : AreMa
   pub now_layout : HasLayout g a.size → HasLayout now b.size
   now_layout layout = subst (HasLayout now) (sym are.keeps.size) (layout_still g now are.sides a.size layout)
 
-  -- What a crash leaves of the next write holds a table after some edits, including the next one.
+  -- After a crash in the next write the disk holds a table after some edits, possibly the next one.
   pub next_some : (edit : Edit) (x : List ℕ) → HoldsOneOf x now.sector_size (table_in now ∷ table_in (after_edit now edit) ∷ []) → HoldsSome g (made ++ edit ∷ []) x
   next_some edit x one =
       let ss : ℕ → Type 0 = λ n. Holds x n one.side one.table in
@@ -262,7 +262,7 @@ module _ (g : GPT) (made : List Edit) (now : GPT) (a b : DiskState) (are : AreMa
         ]
       ]
 
-  -- What a crash leaves of the edits so far and of the next write.
+  -- After a crash in the edits so far or in the next write.
   pub leaves_next : (edit : Edit) (c : DiskState) → a.is_honest ≡ true → HasLayout g a.size → IsKeptFor a g (table_in g)
       → Wrote (four_ranges now.header now.sector_size) b c
       → (HasLayout now b.size → IsKeptFor b now (table_in now) → LeavesOnly b c (λ x. HoldsOneOf x now.sector_size (table_in now ∷ table_in (after_edit now edit) ∷ [])))

@@ -172,7 +172,7 @@ leaves_kept g disk was more sound kept =
       holds = holds_local disk.view x g.sector_size kept.side was kept.held (record { long = same.long; same = λ k inside. same.same k tt });
     })
 
--- What a crash leaves of the write of an edited table.
+-- After a crash in the write of an edited table.
 pub leaves_edited : (g mid : GPT) (edit : Edit) (a b : DiskState) → mid ≡ after_edit g edit → StartsFromOne a g (table_in g)
     → ((was : Table) → StartsFromOne a mid was → StopsHold a b mid.sector_size (was ∷ table_in mid ∷ []))
     → StopsHold a b g.sector_size (table_in g ∷ table_in (after_edit g edit) ∷ [])
@@ -186,7 +186,7 @@ leaves_edited g mid edit a b is from written =
     let here = (subst P is written) (table_in g) next in
     subst (λ (n : ℕ). StopsHold a b n (table_in g ∷ table_in (after_edit g edit) ∷ [])) keeps.sector here
 
--- What a write of an edited table stores.
+-- After the write of an edited table it is stored.
 pub stored_edited : (g mid : GPT) (edit : Edit) (disk : DiskState) → mid ≡ after_edit g edit → IsStored disk mid.sector_size (table_in mid) → IsStored disk g.sector_size (table_in (after_edit g edit))
 stored_edited g mid edit disk is stored =
     subst (λ (n : ℕ). IsStored disk n (table_in (after_edit g edit))) (edited_keeps g edit).sector (subst (λ (m : GPT). IsStored disk m.sector_size (table_in m)) is stored)

@@ -1,4 +1,4 @@
--- What is found of a copy on an unchanged disk.
+-- A copy that was found on an unchanged disk, or its fault,
 use Rattle.std.proofs.Common.{◌≡◌, ◌⊎◌, inl, inr, ◌∙◌}
 use Rattle.std.specs.Prelude.{Result}
 use Rattle.gptman.specs.Answers.{answer_of, Fails}
@@ -8,7 +8,7 @@ use Rattle.gptman_disk.specs.Fault.{Fault}
 use Rattle.gptman_disk.specs.declared.error.Error.{Error}
 use Rattle.gptman.proofs.Runs.{rose_before, rose_since}
 
--- After calls that only read,
+-- after calls that only read,
 pub found_since : {X : Type 0} (f : X → Copy) (r : Result X Error) (old mid new : DiskState) (there here : Result Copy Fault) → Keeps old mid → here ≡ there
     → Fails r mid new ⊎ (answer_of f r ≡ here) → Fails r old new ⊎ (answer_of f r ≡ there)
 found_since f r old mid new there here keeps same (inl fails) = inl (fails.0, rose_since old mid new keeps fails.1)

@@ -1,4 +1,4 @@
--- What holds for every result of a call.
+-- Facts that hold for every result of a call.
 use Rattle.std.specs.Prelude.{Result, Ok, Err, IfErr, OnOk, OnErr}
 
 pub on_ok_of : {T E P : Type 0} (r : Result T E) → P → OnOk r P

@@ -1,4 +1,4 @@
--- Pieces of bytes written over a list, one after the other.
+-- Pieces of bytes that overwrite a list one by one.
 use Rattle.std.proofs.Common.{◌≡◌, ◌⊎◌, inl, inr, ◌≤◌, ℕ, ◌+◌, List, [], ◌∷◌, length, refl, sym, ◌∙◌, subst, arith}
 use Rattle.gptman_disk.specs.Disk.{AgreesOutside, overlay}
 use Rattle.gptman_disk.specs.Bytes.{part}
@@ -6,7 +6,7 @@ use Rattle.gptman_disk.specs.Ranges.{AreApart, AreInside}
 use Rattle.gptman_disk.proofs.Ranges.{Ranges, agrees_self, agrees_then, agrees_wider, within_self, within_first, within_later}
 use Rattle.gptman_disk.proofs.Overlays.{agrees_overlay, overlay_nothing, part-overlay, part_same}
 
--- The list with the pieces, each a start and its bytes, written over it in order.
+-- The list overwritten with the pieces in order. A piece is a start and its bytes.
 abbrev pub laid_over : List ℕ → List (ℕ × List ℕ) → List ℕ
 laid_over old [] = old
 laid_over old (piece ∷ pieces) = laid_over (overlay old piece.0 piece.1) pieces

@@ -151,7 +151,7 @@ first_is F align n slots s settled pos some are c =
           omega arith;
     }
 
--- Two slots of which one begins in the other are the same.
+-- If a slot begins in another one, they are the same.
 same_start : (F : ℕ → Type 0) (align s l t k : ℕ) → IsAlignedSlot F align s l → IsAlignedSlot F align t k → s ≤ t → t < s + l → (s ≡ t) × (l ≡ k)
 same_start F align s l t k a b from to =
     let start = a.start.from in

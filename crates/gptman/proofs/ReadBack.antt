@@ -25,7 +25,7 @@ entry_in e = record {
   partition_name = record { text = encode_utf8_all (text_of e.units); units = e.units };
 }
 
--- The entries with these contents, as they are read.
+-- The entries with these contents after a read.
 abbrev back : List GPTPartitionEntry → List GPTPartitionEntry
 back es = map entry_in (map content_of es)
 

@@ -36,7 +36,7 @@ content_of e = record {
   units = e.partition_name.units;
 }
 
--- An entry as it is read: its text is that of its units.
+-- An entry after a read: its text is that of its units.
 abbrev pub as_read : GPTPartitionEntry → GPTPartitionEntry
 as_read e = with_text e (encode_utf8_all (text_of e.partition_name.units))
 

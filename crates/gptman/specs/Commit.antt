@@ -84,14 +84,15 @@ pub record IsLaidAfter (disk : DiskState) (g : GPT) (edits : List Edit) (k : ℕ
 abbrev pub HoldsInAnyImage : DiskState → ℕ → Side → Table → Type 0
 HoldsInAnyImage disk ss side t = (b : List ℕ) → Image disk b → Holds b ss side t
 
--- A place after k edits were written and the next one failed: it is unchanged, if k is 0; or it holds the table after k
--- or k + 1 edits, whatever a crash leaves; or its header is unsynced.
+-- A place after k edits were written and the next one failed: unchanged, if k is 0; or holding the table after k or k +
+-- 1 edits, whatever a crash leaves; or with an unsynced header.
 pub data SideAfterEdits (side : Side) (g : GPT) (edits : List Edit) (k : ℕ) (old new : DiskState) : Type 0 where
   as_it_was : k ≡ 0 → IsLeftAlone (copy_ranges_at side (table_in g) g.sector_size old.size) old new → SideAfterEdits side g edits k old new
   holds_last : 0 < k → HoldsInAnyImage new g.sector_size side (table_in (table_after g edits k)) → SideAfterEdits side g edits k old new
   holds_next : HoldsInAnyImage new g.sector_size side (table_in (table_after g edits (k + 1))) → SideAfterEdits side g edits k old new
   header_pending : IsPending (copy_start side old.size g.sector_size, 92) new → SideAfterEdits side g edits k old new
 
--- The same at both places.
+-- Each place is unchanged, if k is 0; or holds the table after k or k + 1 edits, whatever a crash leaves; or has an
+-- unsynced header.
 abbrev pub BothSidesAfterEdits : GPT → List Edit → ℕ → DiskState → DiskState → Type 0
 BothSidesAfterEdits g edits k old new = SideAfterEdits primary g edits k old new × SideAfterEdits backup g edits k old new

@@ -72,14 +72,14 @@ pub record IsLeftAlone (ranges : List (ℕ × ℕ)) (old new : DiskState) : Type
   pub not_pending : (k : ℕ) → Inside ranges k → Outside new.pending k
   pub same : AgreesInside ranges old.view new.view
 
--- A place after a failed write: it is unchanged, or holds the new table whatever a crash leaves, or has an unsynced
+-- A place after a failed write: unchanged; or holding the new table, whatever a crash leaves; or with an unsynced
 -- header.
 pub data SideAfter (side : Side) (t : Table) (ss : ℕ) (old new : DiskState) : Type 0 where
   left_alone : IsLeftAlone (copy_ranges_at side t ss old.size) old new → SideAfter side t ss old new
   written : ((b : List ℕ) → Image new b → Holds b ss side t) → SideAfter side t ss old new
   torn : IsPending (copy_start side old.size ss, 92) new → SideAfter side t ss old new
 
--- The same at both places.
+-- Each place is unchanged, or holds the new table whatever a crash leaves, or has an unsynced header.
 abbrev pub BothSidesAfter : GPT → DiskState → DiskState → Type 0
 BothSidesAfter g old new = SideAfter primary (table_in g) g.sector_size old new × SideAfter backup (table_in g) g.sector_size old new
 
@@ -129,7 +129,7 @@ KeepsWhatIsRead disk = (g next : GPT) → IsHonest disk → disk.pending ≡ [] 
 abbrev pub EditsKeepPlaces : Type 0
 EditsKeepPlaces = (g : GPT) (edit : Edit) (len : ℕ) → HasPlacesOf g (after_edit g edit) × (HasLayout g len → HasLayout (after_edit g edit) len)
 
--- A list of edits keeps these too, and that the header describes the entries.
+-- A list of edits keeps the places of a value, the stated layout, and coherence.
 abbrev pub EditListsKeepPlaces : Type 0
 EditListsKeepPlaces = (g : GPT) (edits : List Edit) (len : ℕ) → let next = edited_all g edits in
     HasPlacesOf g next × (HasLayout g len → HasLayout next len) × (IsCoherent g.header (entries_in g) → IsCoherent next.header (entries_in next))

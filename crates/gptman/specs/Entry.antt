@@ -13,7 +13,7 @@ is_unused e = list_all (λ x. nat_eq x 0) e.partition_type_guid
 abbrev pub is_used : GPTPartitionEntry → Bool
 is_used e = not (is_unused e)
 
--- The entry is used, and has the sector. An entry that ends before it starts has none.
+-- The entry is used and covers the sector. An entry that ends before it starts covers none.
 abbrev pub covers : ℕ → GPTPartitionEntry → Bool
 covers sector e = is_used e && nat_le e.starting_lba sector && nat_le sector e.ending_lba
 

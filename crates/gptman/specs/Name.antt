@@ -25,7 +25,7 @@ filled us = take 36 (us ++ replicate 36 0)
 abbrev pub units_of : List ℕ → List ℕ
 units_of cs = filled (flat_map encode_utf16 cs)
 
--- An array of 36 units has those of us that fit, and there are len of them.
+-- An array of 36 units has the first units of a list, padded with zeros; len is how many fit.
 pub record HasUnits (units : List ℕ) (len : ℕ) (us : List ℕ) : Type 0 where
   pub are : units ≡ filled us
   pub long : len ≡ min 36 (length us)

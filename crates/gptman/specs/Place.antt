@@ -7,7 +7,7 @@ use Rattle.gptman.specs.declared.codec.header.GPTHeader.{GPTHeader}
 use Rattle.gptman.specs.declared.codec.entry.GPTPartitionEntry.{GPTPartitionEntry}
 use Rattle.gptman.specs.declared.table.GPT.{GPT}
 
--- The header permits partitions to use the sector, and it is not sector 0.
+-- The sector is within the header's bounds, and is not sector 0.
 pub record IsUsable (h : GPTHeader) (sector : ℕ) : Type 0 where
   pub positive : 1 ≤ sector
   pub low : h.first_usable_lba ≤ sector
@@ -35,7 +35,7 @@ pub record IsFirstMultiple (align a s : ℕ) : Type 0 where
   pub from : a ≤ s
   pub least : (t : ℕ) → align ∣ t → a ≤ t → s ≤ t
 
--- The n sectors from s on are what remains of a run from its first multiple of align on.
+-- The n sectors from s on are a run without the sectors before its first multiple of align.
 pub record IsAlignedSlot (free : ℕ → Type 0) (align s n : ℕ) : Type 0 where
   pub first : ℕ
   pub last : ℕ

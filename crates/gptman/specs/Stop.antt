@@ -60,7 +60,8 @@ abbrev pub HoldsWhatIsRead : Type 0
 HoldsWhatIsRead = (b : List ℕ) (ss : ℕ) (copy : Copy) → reading_of b ss ≡ Ok copy → IsHeaderForm (taken_from b ss) copy.header
     → Holds b ss (taken_from b ss) (table_of copy.header copy.entries)
 
--- A copy is accepted, with this header and these entries, exactly if they are there.
+-- On a disk of fewer than 2^64 bytes, a copy is accepted, with this header and these entries, exactly if they are
+-- there.
 abbrev pub AcceptsWhatStands : Type 0
 AcceptsWhatStands = (b : List ℕ) (p ss : ℕ) (h : GPTHeader) (es : List GPTPartitionEntry) → length b < 2 ^ 64
     → (copy_at b p ss ≡ Ok (record { header = h; entries = es })) ↔ CopyAt b p ss h es

@@ -28,9 +28,9 @@ use crate::{Disk, Error, GPTPartitionEntry, Result};
 /// A change of a table. Numbers of entries count from 1.
 #[derive(Drop, Debug)]
 pub enum Edit {
-    /// Replaces the entry with the number.
+    /// Replaces the entry with this number.
     Put(u32, GPTPartitionEntry),
-    /// Replaces the entry with the number by the unused entry.
+    /// Replaces the entry with this number by the unused entry.
     Remove(u32),
     /// Sorts the entries: used ones by their first sector, then unused ones.
     SortEntries,
@@ -153,8 +153,8 @@ impl GPT {
         // The value, if all edits were written.
         ensures value { IfNone result.fault (self.new ≡ value_after self.old edits.items result.done) }
 
-        // The disk. Unless it failed, both places hold the table of the last write; if there was none, it was
-        // only read.
+        // The disk. Unless it failed, in the stated layout both places hold the table of the last write;
+        // without a write it was only read.
         ensures empty { edits.items ≡ [] → disk.new ≡ disk.old }
         ensures wrote { Writes (table_ranges self.old) (D.state disk.old) (D.state disk.new) }
         ensures untouched { IsHonest (D.state disk.old) → result.done ≡ 0
@@ -187,7 +187,8 @@ impl GPT {
             → IfSome result.fault (λ e. BothSidesAfterEdits self.old edits.items result.done
             (D.state disk.old) (D.state disk.new)) }
 
-        // From two good copies of it, the disk is therefore read as one of these tables.
+        // So from two good copies the disk is read as one of these tables, unless the read returns a foreign
+        // copy.
         ensures crash_safe { StartsStored (D.state disk.old) self.old (table_in self.old)
             → StopsAreReadAs (D.state disk.old) (D.state disk.new) self.old.sector_size
             (tables_to self.old edits.items (reached result.done result.fault)) }

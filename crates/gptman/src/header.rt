@@ -174,7 +174,7 @@ impl GPTHeader {
         crc32(&bytes)
     }
 
-    /// Sets the header's checksum to `generate_crc32_checksum`. The header size must be 92.
+    /// Sets the header's checksum to the result of `generate_crc32_checksum`. The header size must be 92.
     pub fn update_crc32_checksum(&mut self)
         requires { self.old.header_size ≡ 92 }
         ensures { self.new ≡ record self.old { crc32_checksum = header_crc (header_bytes self.old) } }
@@ -191,7 +191,8 @@ impl GPTHeader {
         checksum_of(partitions)
     }
 
-    /// Sets the checksum of the entries to `generate_partition_entry_array_crc32`, with the same precondition.
+    /// Sets the checksum of the entries to the result of `generate_partition_entry_array_crc32`, with its
+    /// precondition.
     pub fn update_partition_entry_array_crc32(&mut self, partitions: &[GPTPartitionEntry])
         requires { IsCoherent self.old partitions.now }
         ensures { self.new ≡ record self.old {

@@ -23,10 +23,9 @@ pub mod laws;
 mod sweep;
 
 impl GPT {
-    /// Returns all aligned slots as (start, length) in sectors, by ascending start. A slot is what remains of a
-    /// run of free sectors from its first multiple of `align` on. The last sector of each, start + length - 1,
-    /// fits in 64 bits. Takes O(n log n) time for n entries, whatever the size of the disk. `align` must be
-    /// above 0.
+    /// Returns all aligned slots as (start, length) in sectors, by ascending start. A slot is a run of free
+    /// sectors, from its first multiple of `align` on. The last sector of each, start + length - 1, fits in 64
+    /// bits. Takes O(n log n) time for n entries, whatever the size of the disk. `align` must be above 0.
     ///
     /// `OutOfMemory` if an allocation fails.
     pub fn find_free_sectors(&self) -> Result<Vec<(u64, u64)>>

@@ -88,7 +88,7 @@ impl PartitionName {
         self.text.as_str()
     }
 
-    /// Returns the 36 units of UTF-16 that are on the disk.
+    /// Returns the 36 units of UTF-16, as stored on the disk.
     pub fn units(&self) -> &[u16; 36]
         ensures { result.now ≡ self.now.units }
     {

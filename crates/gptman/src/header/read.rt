@@ -1,7 +1,7 @@
 //! Reads one copy, the header and its entries, and tests it.
 //!
-//! Entries are read in blocks of up to 32, into a fixed array. Nothing is allocated according to the header's
-//! count.
+//! Entries are read in blocks of up to 32, into a fixed array. No memory is allocated in advance for the
+//! header's count.
 
 ghost use Rattle.std.specs.Prelude.{◌≡◌, ◌≢◌, ◌≤◌, ◌<◌, ◌+◌, ◌*◌, ◌⊎◌, ◌++◌, ℕ, List, [], length};
 ghost use Rattle.std.specs.Prelude.{IfOk, IfErr, OnOk, OnErr};
@@ -83,10 +83,10 @@ impl GPTHeader {
     ///
     /// # Errors
     /// The first test that fails: if there are entries, `InvalidPartitionEntrySize`, `Overflow` if that byte
-    /// does not fit in 64 bits, `Io` if the disk fails or ends before the last entry; then
+    /// does not fit in 64 bits, `Io` if the disk fails or does not have them all; then
     /// `InvalidPartitionEntryArrayChecksum`. If the header counts entries past the end of the disk, none is
-    /// read and nothing is allocated. `OutOfMemory` if the list or a name cannot be allocated, but not without
-    /// entries.
+    /// read and nothing is allocated. `OutOfMemory` if the list or a name cannot be allocated; without entries
+    /// nothing is.
     pub fn read_partitions<D: Disk>(
         &self,
         alloc: Global,

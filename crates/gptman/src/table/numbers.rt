@@ -49,7 +49,7 @@ impl GPT {
         i >= 1 && i <= self.header.number_of_partition_entries && i <= self.partitions.len()
     }
 
-    /// Returns the entry with the number, from 1, or `None` if the list has no such entry.
+    /// Returns entry number `i`, from 1, or `None` if the list has no such entry.
     pub fn get(&self, i: u32) -> Option<&GPTPartitionEntry>
         ensures value { option_map (λ e. e.now) result ≡ entry_of_number self.now i }
         ensures number { IsSome result → IsNumber self.now i }
@@ -71,7 +71,7 @@ impl GPT {
         }
     }
 
-    /// Replaces the entry with the number.
+    /// Replaces entry number `i`.
     ///
     /// `InvalidPartitionNumber` if the number is 0, above the header's count or above the length of the list.
     /// The table is then unchanged.
@@ -87,7 +87,7 @@ impl GPT {
         Ok(())
     }
 
-    /// Replaces the entry with the number by the unused entry.
+    /// Replaces entry number `i` by the unused entry.
     ///
     /// `InvalidPartitionNumber` if the number is 0, above the header's count or above the length of the list.
     /// The table is then unchanged.
@@ -115,8 +115,8 @@ impl GPT {
         }
     }
 
-    /// Returns the bytes of the partition with the number, from the first to the last, counted from the start
-    /// of the disk. The sector size must be above 0.
+    /// Returns the bytes of partition `number`, from the first to the last, counted from the start of the disk.
+    /// The sector size must be above 0.
     ///
     /// # Errors
     /// `InvalidPartitionNumber` if the number is 0, above the header's count or above the length of the list;

@@ -7,7 +7,7 @@ use Rattle.gptman.proofs.Fitting.{fit_fault_is}
 use Rattle.gptman.proofs.codec.header.GPTHeader.update_from.Given.{Over}
 use Rattle.gptman.proofs.codec.header.GPTHeader.update_from.Goals as goal
 
--- The arguments of `fit`: the length of the disk, and the sectors of the entries, of which there are some.
+-- The length of the disk, and the sectors of the entries, which are not empty.
 record IsGiven (g : Over) (c : goal.After-fit g) : Type 0 where
   some : array_size c.args.self.now ≢ 0
   length_is : c.in_ok-sectors.field-0 ≡ (g.D.Disk.state c.args.disk.now).size
