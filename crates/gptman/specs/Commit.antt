@@ -84,8 +84,8 @@ pub record IsLaidAfter (disk : DiskState) (g : GPT) (edits : List Edit) (k : ℕ
 abbrev pub HoldsInAnyImage : DiskState → ℕ → Side → Table → Type 0
 HoldsInAnyImage disk ss side t = (b : List ℕ) → Image disk b → Holds b ss side t
 
--- A place after k edits were written and the next one failed: unchanged, if k is 0; or holding the table after k or k +
--- 1 edits, whatever a crash leaves; or with an unsynced header.
+-- A place after k edits were written and the next one failed: unchanged, if k is 0; or holding the table after k or
+-- k + 1 edits, whatever a crash leaves; or with an unsynced header.
 pub data SideAfterEdits (side : Side) (g : GPT) (edits : List Edit) (k : ℕ) (old new : DiskState) : Type 0 where
   as_it_was : k ≡ 0 → IsLeftAlone (copy_ranges_at side (table_in g) g.sector_size old.size) old new → SideAfterEdits side g edits k old new
   holds_last : 0 < k → HoldsInAnyImage new g.sector_size side (table_in (table_after g edits k)) → SideAfterEdits side g edits k old new

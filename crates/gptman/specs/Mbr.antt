@@ -29,7 +29,7 @@ pub record IsMbrLaid (bootable : Bool) (ss : ℕ) (old new : DiskState) : Type 0
 abbrev pub AnswersMbr : {T : Type 0} → ℕ → Result T Error → DiskState → DiskState → Type 0
 AnswersMbr ss result old new = Settles (mbr_fault ss old.size) result old new
 
--- On an honest disk, after `Ok` the MBR is written.
+-- On an honest disk, after `Ok` the MBR is written, and unsynced.
 abbrev pub LaysMbr : {T E : Type 0} → Bool → ℕ → Result T E → DiskState → DiskState → Type 0
 LaysMbr bootable ss result old new = IsHonest old → OnOk result (IsMbrLaid bootable ss old new)
 
