@@ -178,9 +178,9 @@ def try_growth(tally, program):
     tally.equals("the status of check after growth", 1, ended[0])
     tally.holds("check names grow", "`gptedit grow disk.img`" in ended[1])
     says(tally, program, ["add", "disk.img", "--type", "linux", "--size", "1MiB"], "",
-         "gptedit: disk.img: the table does not stand where gptedit writes one\n"
-         "where the disk has grown, `gptedit grow disk.img` mends that, else the tool that made it; "
-         "`gptedit check disk.img` tells which\n", 1)
+         "gptedit: disk.img: the table is not where gptedit writes one\n"
+         "if the disk has grown, run `gptedit grow disk.img`, otherwise the tool that made the table; "
+         "`gptedit check disk.img` says which\n", 1)
     grown = "usable sectors 34..262110 -> 34..524254\n"
     before = program.state("disk.img")
     says(tally, program, ["grow", "disk.img", "-n"],
@@ -197,8 +197,8 @@ def try_growth(tally, program):
         tally.equals(f"check of a bad {place} copy", (1, f"the {place} copy is bad (InvalidSignature: no header "
                      "of a table stands there): `gptedit repair disk.img`\n", ""), ended)
         says(tally, program, ["repair", "disk.img", "-n"],
-             "a dry run, nothing is written:\nboth copies are written anew\n")
-        says(tally, program, ["repair", "disk.img"], "both copies are written anew\n")
+             "a dry run, nothing is written:\nboth copies are rewritten\n")
+        says(tally, program, ["repair", "disk.img"], "both copies are rewritten\n")
         tally.holds(f"repair of the {place} copy gives the image", program.state("disk.img") == good)
     empty = ["new", "disk.img", "--force", "--guid", DISK]
     program.run(*empty)
@@ -212,7 +212,7 @@ def try_growth(tally, program):
     says(tally, program, ["check", "disk.img"],
          "there is no protective MBR: `gptedit repair disk.img`\n", "", 1)
     says(tally, program, ["repair", "disk.img"],
-         "both copies are written anew\na protective MBR is written\n")
+         "both copies are rewritten\na protective MBR is written\n")
     tally.holds("repair of the MBR gives the image", program.state("disk.img") == good)
 
 

@@ -121,7 +121,7 @@ def try_tables(tally, program):
     with open(program.file("disk.img"), "r+b") as file:
         file.truncate(64 * MIB)
     for words in (ADD + ["--size", "1s"], ["repair", "disk.img"], ["remove", "disk.img", "1"]):
-        refused(tally, program, words, "the table does not stand where gptedit writes one")
+        refused(tally, program, words, "the table is not where gptedit writes one")
     refused(tally, program, ["grow", "disk.img"], "copy the image again, or run `truncate -s 134217728 disk.img`")
     tally.equals("the status of check of an image that was cut", 1, program.run("check", "disk.img")[0])
 
@@ -132,7 +132,7 @@ def try_two_tables(tally, program):
     backup = program.bytes_of("disk.img")[-33 * 512:]
     program.run("set", "disk.img", "1", "--name", "other", "--guid", ROOT)
     program.put("disk.img", 128 * MIB - len(backup), backup)
-    tally.equals("check of two tables", (1, "the two copies are two tables, of which the primary is taken: "
+    tally.equals("check of two tables", (1, "the two copies are different tables; the primary one is used: "
                  "`gptedit repair disk.img`\n", ""), program.run("check", "disk.img"))
     program.run("repair", "disk.img")
     entry = commands.ESP_ENTRY._replace(name="other", guid=ROOT)

@@ -154,7 +154,7 @@ impl fmt::Display for OtherFormat<'_> {
         )?;
         write!(
             f,
-            "`qemu-img convert -O raw {image} {image}.raw` makes one, or qemu-nbd gives it as a device"
+            "`qemu-img convert -O raw {image} {image}.raw` makes one, or qemu-nbd exports it as a device"
         )
     }
 }
@@ -196,6 +196,6 @@ impl fmt::Display for FailedReading<'_> {
             "the disk failed in the reading of a copy of the table: {}",
             self.0
         )?;
-        f.write_str("nothing is written to it; copy what is there to another disk first")
+        f.write_str("nothing is written to it; copy its contents to another disk first")
     }
 }

@@ -49,7 +49,7 @@ pub fn tell<W: Write>(
         out.write_all(DRY)?;
     }
     if may_lose {
-        out.write_all(b"a stop may leave neither table\n")?;
+        out.write_all(b"a crash may leave neither table\n")?;
     }
     if let Some(replaced) = &plan.replaced {
         let (obstacle, remains) = (replaced.obstacle, replaced.remains);
@@ -104,7 +104,7 @@ fn tell_table<W: Write>(
     match (&task.work, &plan.was) {
         _ if !plan.is_changed => out.write_all(b"unchanged\n")?,
         (Work::Edit(_), _) if task.purpose == Purpose::Repair => {
-            out.write_all(b"both copies are written anew\n")?
+            out.write_all(b"both copies are rewritten\n")?
         }
         (Work::Edit(_) | Work::Grow(_), Some(was)) => print_changes(out, alloc, was, next)?,
         _ => show_table(out, alloc, image.name, look.size, next, &CopiesState::Good)?,

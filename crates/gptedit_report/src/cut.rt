@@ -89,7 +89,7 @@ impl fmt::Display for CutText<'_> {
             f,
             "\ncopy the image again, or run {longer} and `gptedit repair {name}`: "
         )?;
-        f.write_str("what was cut off is then zeros")?;
+        f.write_str("the part that was cut off is then zeros")?;
         write!(
             f,
             "\nto remove what does not fit, then run `gptedit remove {name}"

@@ -49,17 +49,17 @@ fn advice_for(error: &Error) -> &'static str {
 fn command_for(error: &Error) -> Option<(&'static str, &'static str)> {
     match error {
         Error::OutOfMemory | Error::Overflow => None,
-        Error::Io(_) => Some(("check", "tells what is there now")),
+        Error::Io(_) => Some(("check", "reports what the disk has now")),
         Error::InvalidSignature | Error::ReadError(_, _) => None,
-        Error::NoSpaceLeft => Some(("free", "lists what is free")),
+        Error::NoSpaceLeft => Some(("free", "lists the free sectors")),
         Error::ConflictPartitionGUID => {
-            Some(("randomize", "gives each partition a GUID of its own"))
+            Some(("randomize", "sets a new GUID for each partition"))
         }
         Error::InvalidPartitionNumber(_)
         | Error::UnusedPartition
         | Error::PartitionNotFound
         | Error::InvalidPartitionBoundaries => Some(("show", "lists the partitions")),
-        _ => Some(("check", "tells what is wrong")),
+        _ => Some(("check", "reports the faults")),
     }
 }
 
@@ -100,7 +100,7 @@ fn write_sums<W: fmt::Write>(
 // Returns the meaning of an error without numbers.
 fn plain_meaning(error: &Error) -> &'static str {
     match error {
-        Error::InvalidSignature => "no header of a table stands there",
+        Error::InvalidSignature => "there is no header of a table",
         Error::InvalidRevision => "the header has another revision than 1.0",
         Error::InvalidHeaderSize => "the header does not give its size as 92 bytes",
         Error::ReadError(_, _) => "there is no good copy",

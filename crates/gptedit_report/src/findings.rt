@@ -324,10 +324,10 @@ impl Wrong<'_> {
     // Returns the text of a finding without numbers.
     fn text(&self) -> &'static str {
         match self {
-            Wrong::PrimaryElsewhere => "the primary copy says that it stands elsewhere",
-            Wrong::BackupElsewhere => "the backup copy says that it stands elsewhere",
-            Wrong::TwoTables => "the two copies are two tables, of which the primary is taken",
-            Wrong::NoLayout => "the table does not stand where gptedit writes one",
+            Wrong::PrimaryElsewhere => "the primary header says that its copy is elsewhere",
+            Wrong::BackupElsewhere => "the backup header says that its copy is elsewhere",
+            Wrong::TwoTables => "the two copies are different tables; the primary one is used",
+            Wrong::NoLayout => "the table is not where gptedit writes one",
             Wrong::NoMbr => "there is no protective MBR",
             Wrong::OtherMbr => "there is no protective MBR: sector 0 is a boot sector",
             Wrong::DosMbr => "the disk has a DOS partition table",

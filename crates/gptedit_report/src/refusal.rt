@@ -99,7 +99,7 @@ impl RefusalText<'_> {
     ) -> fmt::Result {
         self.write_entry(f, number)?;
         f.write_str(
-            " would not stay where it is\n--replace gives it other sectors, and moves no contents",
+            " would not stay where it is\n--replace assigns other sectors to it and does not move its contents",
         )
     }
 
@@ -116,7 +116,7 @@ impl RefusalText<'_> {
         let image = Escaped(self.image);
         write!(
             f,
-            "there is no room for partition {number}: `gptedit free {image}` lists what is free"
+            "there is no room for partition {number}: `gptedit free {image}` lists the free sectors"
         )
     }
 
@@ -186,12 +186,12 @@ fn write_too_large<W: fmt::Write>(f: &mut fmt::Formatter<W>, number: u32) -> fmt
 /// Writes that a table does not have the stated layout, and the remedy.
 pub fn write_not_laid_out<W: fmt::Write>(f: &mut fmt::Formatter<W>, image: &str) -> fmt::Result {
     let image = Escaped(image);
-    writeln!(f, "the table does not stand where gptedit writes one")?;
+    writeln!(f, "the table is not where gptedit writes one")?;
     write!(
         f,
-        "where the disk has grown, `gptedit grow {image}` mends that, else the tool that made it; "
+        "if the disk has grown, run `gptedit grow {image}`, otherwise the tool that made the table; "
     )?;
-    write!(f, "`gptedit check {image}` tells which")
+    write!(f, "`gptedit check {image}` says which")
 }
 
 fn write_too_small<W: fmt::Write>(f: &mut fmt::Formatter<W>) -> fmt::Result {
@@ -222,8 +222,8 @@ fn write_out_of_bounds<W: fmt::Write>(
 }
 
 fn write_no_safe_order<W: fmt::Write>(f: &mut fmt::Formatter<W>) -> fmt::Result {
-    f.write_str("the new table would be written over the only good copy of the old one\n")?;
-    f.write_str("--overwrite writes it all the same: a stop meanwhile may leave neither")
+    f.write_str("the new table would overwrite the only good copy of the old one\n")?;
+    f.write_str("--overwrite writes it anyway; a crash during the write may leave neither")
 }
 
 /// Writes that two partitions would have the same GUID, and the remedy.
@@ -249,5 +249,5 @@ pub fn write_bad_boundaries<W: fmt::Write>(
         write!(f, ", {first}..{last}")?;
     }
     f.write_str("\n")?;
-    write!(f, "`gptedit free {image}` lists what is free")
+    write!(f, "`gptedit free {image}` lists the free sectors")
 }
