@@ -40,7 +40,7 @@ def try_faults(tally, program):
 
 def try_fault_names(tally, page):
     """Counts whether the page has each name of a fault that the source of the program has."""
-    names = re.findall('=> "([A-Z][A-Za-z]*)",', text_of("crates/gptimg_core/src/lines.rt"))
+    names = re.findall('=> "([A-Z][A-Za-z]*)",', text_of("crates/gptman_disk/src/error.rt"))
     for name in names:
         tally.contains(f"docs/FAULTS.md: the fault {name}", f"`{name}", page)
     tally.holds("the source has names of faults", names)
