@@ -103,7 +103,7 @@ def try_copies(tally, program):
     make(program, ONE)
     other = of({1: entry(2048, 6143, "other", ROOT)})
     table.put(program.file(IMAGE), table.pieces_of(other, SIZE)[1:3])
-    says(tally, program, "two tables", "two tables", f"repair {IMAGE}")
+    says(tally, program, "two tables", "different tables", f"repair {IMAGE}")
 
 
 def try_lengths(tally, program):

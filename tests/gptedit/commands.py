@@ -194,8 +194,8 @@ def try_growth(tally, program):
     for at, place in (512, "primary"), (256 * MIB - 512, "backup"):
         program.put("disk.img", at, bytes(512))
         ended = program.run("check", "disk.img")
-        tally.equals(f"check of a bad {place} copy", (1, f"the {place} copy is bad (InvalidSignature: no header "
-                     "of a table stands there): `gptedit repair disk.img`\n", ""), ended)
+        tally.equals(f"check of a bad {place} copy", (1, f"the {place} copy is bad (InvalidSignature: there is no "
+                     "header of a table): `gptedit repair disk.img`\n", ""), ended)
         says(tally, program, ["repair", "disk.img", "-n"],
              "a dry run, nothing is written:\nboth copies are rewritten\n")
         says(tally, program, ["repair", "disk.img"], "both copies are rewritten\n")

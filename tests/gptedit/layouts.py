@@ -124,7 +124,7 @@ def try_layout(tally, program):
     program.run("apply", "disk.img", "disk.toml", "--replace")
     holds_table(tally, program, "apply --replace", both)
     program.write("moved.toml", LAYOUT.replace('size = "64MiB"', 'size = "32MiB"').encode())
-    refused(tally, program, ["apply", "disk.img", "moved.toml"], " would not stay where it is\n--replace gives")
+    refused(tally, program, ["apply", "disk.img", "moved.toml"], " would not stay where it is\n--replace assigns")
     program.run("apply", "disk.img", "moved.toml", "--replace")
     found = table.read(program.file("disk.img")).entries[1]
     tally.equals("apply --replace of another size", ESP_ENTRY._replace(last=67583), found)
