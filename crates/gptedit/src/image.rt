@@ -2,10 +2,9 @@
 
 use crate::failure::{Failure, refuse, refuse_busy, refuse_device, refuse_error, refuse_no_table};
 use gptedit_busy::{Lock, OpenError, Opened};
-use gptedit_look::{Look, Looked, look};
-use gptedit_marks::find_format;
+use gptedit_look::salvage::salvage;
+use gptedit_look::{Look, Looked, find_format, look};
 use gptedit_report::NoTableText;
-use gptedit_salvage::salvage;
 use gptedit_text::values::Escaped;
 use gptman::{Error, FileDisk};
 use std::alloc::Global;

@@ -5,9 +5,10 @@ use crate::image::Image;
 use crate::making::USUAL_SIZE;
 use gptedit_core::{Amount, Refusal, layout_of};
 use gptedit_look::first_sector::read_first_sector;
+use gptedit_look::salvage::salvage;
 use gptedit_look::{FirstSector, Look, MbrKind};
-use gptedit_report::{CopiesState, Edges, free_json, print_free, show_table, table_json};
-use gptedit_salvage::salvage;
+use gptedit_report::{CopiesState, Edges, free_json, print_free, print_salvaged, salvaged_json};
+use gptedit_report::{show_table, table_json};
 use gptedit_text::values::Escaped;
 use gptedit_text::{Header, write_layout};
 use gptman::GPT;
@@ -181,10 +182,10 @@ pub fn print_salvage<W: Write>(
         Err(error) => return Err(refuse_error(alloc, image.name, &error)),
     };
     if is_json {
-        let text = gptedit_salvage::json(alloc, image.name, &salvaged)?;
+        let text = salvaged_json(alloc, image.name, &salvaged)?;
         writeln!(out, "{text}")?;
     } else {
-        gptedit_salvage::print(out, alloc, image.name, &salvaged)?;
+        print_salvaged(out, alloc, image.name, &salvaged)?;
     }
     Ok(match (salvaged.has_failed(), salvaged.is_empty()) {
         (true, _) => 5,

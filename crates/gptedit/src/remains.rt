@@ -3,9 +3,9 @@
 use crate::failure::{Failure, refuse_error};
 use crate::image::Image;
 use crate::own::has_same_entries;
+use gptedit_look::salvage::{FoundCopy, salvage};
 use gptedit_look::{Look, Obstacle, What};
 use gptedit_report::Remains;
-use gptedit_salvage::{FoundCopy, salvage};
 use gptman::GPT;
 use std::alloc::Global;
 

@@ -1,6 +1,6 @@
 //! Messages about the use of a disk.
 
-use gptedit_busy::{How, Part, Use};
+use gptedit_look::{How, Part, Use};
 use gptedit_text::values::Escaped;
 use std::fmt;
 

@@ -6,7 +6,7 @@ use crate::loops::{Loop, Shown, find_loops};
 use crate::mounts::Mounts;
 use crate::opening::Opened;
 use crate::target::Target;
-use crate::uses::{How, Part, Use, Users};
+use gptedit_look::{How, Part, Use, Users};
 use std::alloc::AllocError;
 use std::fs;
 use std::rt::Files;

@@ -1,7 +1,6 @@
 //! Opens and locks an image, identifies its block device, and finds its uses.
 //!
-//! Only memory safety and termination are proved of the search in `/proc` and `/sys`. `is_harmless`, which decides
-//! whether a use permits a change, has a contract.
+//! Only memory safety and termination are proved of the search in `/proc` and `/sys`.
 #![tactic(auto)]
 
 pub mod device;
@@ -13,9 +12,7 @@ mod mounts;
 mod node;
 pub mod opening;
 mod target;
-pub mod uses;
 
 pub use device::Device;
 pub use finding::find_users;
 pub use opening::{Holder, Lock, OpenError, Opened, open};
-pub use uses::{How, Part, Use, Users, is_harmless};

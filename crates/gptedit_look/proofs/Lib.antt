@@ -7,3 +7,4 @@ pub mod Changes
 pub mod Clears
 pub mod Beside
 pub mod Headers
+pub mod NoReads

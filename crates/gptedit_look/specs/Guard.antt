@@ -6,7 +6,7 @@ use Rattle.gptman.specs.declared.copy.WholeCopy.{WholeCopy}
 use Rattle.gptman.specs.Error.{Error}
 use Rattle.gptman.specs.TableWrites.{table_ranges}
 use Rattle.gptman.specs.declared.table.GPT.{GPT}
-use Rattle.gptedit_marks.specs.declared.Content.{Content}
+use Rattle.gptedit_look.specs.declared.marks.Content.{Content}
 use Rattle.gptedit_look.specs.declared.raw.RawHeader.{RawHeader}
 use Rattle.gptedit_look.specs.declared.seen.Look.{Look}
 use Rattle.gptedit_look.specs.declared.seen.Purpose.{Purpose}

@@ -6,3 +6,4 @@ pub mod Seen
 pub mod Protective
 pub mod Mended
 pub mod Wiped
+pub mod Harm

@@ -5,12 +5,12 @@ ghost use Rattle.gptedit_look.specs.Guard.{entries_size, last_of, GetsPlace, Giv
 ghost use Rattle.gptedit_look.specs.Guard.{IsAllowed, IsContent, IsFooter, IsGiven, IsGoodIn, IsOfBackup};
 ghost use Rattle.gptedit_look.specs.Guard.{IsOfCopy, IsOfOther, IsOfTable, IsOwn, IsOwnOf, IsRepair};
 ghost use Rattle.gptedit_look.specs.Guard.{IsReplaced, IsSpanned, IsUnknown, IsUsable};
-ghost use Rattle.gptedit_marks.specs.declared.Content.{Content};
+ghost use Rattle.gptedit_look.specs.declared.marks.Content.{Content};
 
 use crate::bytes::{is_in, start_after, start_of};
 use crate::raw::RawHeader;
 use crate::seen::{Look, Purpose};
-use gptedit_marks::Content;
+use crate::marks::Content;
 use gptman::copy::WholeCopy;
 use gptman::{GPT, GPTHeader, Result};
 

@@ -8,7 +8,7 @@ use crate::first_sector::{FirstSector, read_first_sector};
 use crate::raw::{RawHeader, read_raw_header, read_raw_header_at};
 use crate::seen::{Look, Looked};
 use crate::signatures::{Place, Signature, find_signatures};
-use gptedit_marks::{Content, find_contents, find_footer};
+use crate::marks::{Content, find_contents, find_footer};
 use gptman::{BothCopies, Disk, Error, GPT, Result, check};
 use gptman_change::read_table;
 use std::alloc::Global;

@@ -5,7 +5,7 @@ ghost use Rattle.std.specs.Prelude.{◌<◌};
 use crate::first_sector::FirstSector;
 use crate::raw::RawHeader;
 use crate::signatures::Signature;
-use gptedit_marks::Content;
+use crate::marks::Content;
 use gptman::{BothCopies, GPT};
 
 /// The result of an inspection.

@@ -8,7 +8,7 @@ use crate::grounds::{
 };
 use crate::seen::{Look, Obstacle, What};
 use crate::signatures::Signature;
-use gptedit_marks::Content;
+use crate::marks::Content;
 use gptman::GPT;
 
 /// Returns the first thing on the disk that a new table would destroy, wherever it is: a table or header, a protective

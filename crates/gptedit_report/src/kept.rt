@@ -2,7 +2,7 @@
 
 use crate::compare::used_at;
 use gptedit_look::{FirstSector, Listed};
-use gptedit_marks::Content;
+use gptedit_look::Content;
 use gptman::{GPT, GPTPartitionEntry};
 use std::alloc::{AllocError, Global};
 use std::fmt;

@@ -21,6 +21,7 @@ mod members;
 pub mod no_table;
 pub mod obstacle;
 pub mod refusal;
+pub mod salvage;
 mod sfdisk;
 pub mod show;
 mod texts;
@@ -41,6 +42,7 @@ pub use kept::{Shortened, ShortenedText, UnlistedText, find_shortened, find_unli
 pub use no_table::NoTableText;
 pub use obstacle::{ObstacleText, Remains, WhatText};
 pub use refusal::{RefusalText, write_bad_boundaries, write_not_laid_out, write_shared_guid};
+pub use salvage::{print_salvaged, salvaged_json};
 pub use show::show_table;
 pub use types::{print_types, types_json};
 pub use way::{Otherwise, Way};

@@ -3,6 +3,7 @@
 use gptguid_core::text_of;
 use serde_json::{Map, Value, put};
 use std::alloc::{AllocError, Global};
+use std::fmt;
 
 /// The members of an object.
 #[derive(Drop)]
@@ -60,4 +61,17 @@ impl Members {
         let Members { map, .. } = self;
         Value::Object(map)
     }
+}
+
+/// Returns the texts as a list.
+pub(crate) fn list_of_texts<T: fmt::Display>(
+    alloc: Global,
+    texts: &[T],
+) -> Result<Vec<Value>, AllocError> {
+    let mut values = Vec::with_capacity(alloc, texts.len())?;
+    for text in texts {
+        let text = format!(in alloc; "{text}")?;
+        values.push(Value::try_from_str(alloc, text.as_str())?)?;
+    }
+    Ok(values)
 }

@@ -3,7 +3,7 @@
 use crate::fault::Meaning;
 use crate::way::SAVE;
 use gptedit_look::Look;
-use gptedit_salvage::{FoundCopy, Place, Salvaged};
+use gptedit_look::salvage::{CopyKind, FoundCopy, Salvaged};
 use gptedit_text::values::Escaped;
 use std::fmt;
 
@@ -30,8 +30,8 @@ impl fmt::Display for NoTableText<'_> {
             write!(f, "; of the backup, {}", Meaning(backup))?;
         }
         f.write_str("\n")?;
-        let primary = count_in(self.salvaged, Place::Primary);
-        let backup = count_in(self.salvaged, Place::Backup);
+        let primary = count_in(self.salvaged, CopyKind::Primary);
+        let backup = count_in(self.salvaged, CopyKind::Backup);
         if primary > 0 || backup > 0 {
             writeln!(
                 f,
@@ -51,10 +51,10 @@ impl fmt::Display for NoTableText<'_> {
 }
 
 // Returns the number of readable entries in the place of a copy.
-fn count_in(salvaged: &Salvaged, place: Place) -> usize {
+fn count_in(salvaged: &Salvaged, kind: CopyKind) -> usize {
     let mut most = 0;
     for copy in salvaged.copies.iter() {
-        if place_of_entries(copy) == place {
+        if place_of_entries(copy) == kind {
             most = copy.count_sensible().max(most);
         }
     }
@@ -62,10 +62,10 @@ fn count_in(salvaged: &Salvaged, place: Place) -> usize {
 }
 
 // Returns the place from which the entries of a copy were read.
-fn place_of_entries(copy: &FoundCopy) -> Place {
-    match copy.spot.place {
-        place if !copy.has_others_entries() => place,
-        Place::Primary => Place::Backup,
-        Place::Backup | Place::Other => Place::Primary,
+fn place_of_entries(copy: &FoundCopy) -> CopyKind {
+    match copy.spot.kind {
+        kind if !copy.has_others_entries() => kind,
+        CopyKind::Primary => CopyKind::Backup,
+        CopyKind::Backup | CopyKind::Other => CopyKind::Primary,
     }
 }

@@ -1,0 +1,181 @@
+//! Headers as stored, and their faults.
+
+ghost use Rattle.gptman.specs.Disk.{Reads};
+
+use crate::salvage::fault::Fault;
+use crate::salvage::found::{CopyKind, Spot};
+use crate::salvage::mend::{WrongByte, find_wrong_byte};
+use crate::salvage::reading::read_at;
+use gptman::crc::crc32;
+use gptman::{Disk, GPTHeader};
+use std::alloc::{AllocError, Global};
+
+// The number of bytes read of a header.
+const LEAST_SIZE: u32 = 92;
+
+// "EFI PART".
+const SIGNATURE: [u8; 8] = *b"EFI PART";
+
+// Revision 1.0.
+const REVISION: [u8; 4] = [0, 0, 1, 0];
+
+/// The contents of the sector of a header.
+#[derive(Drop)]
+pub enum Seen {
+    /// Nothing like a header.
+    Nothing,
+    /// The read failed.
+    Failure,
+    /// A header and its faults.
+    Header(GPTHeader, Vec<Fault>),
+}
+
+/// Reads the sector of a header.
+#[tactic(auto, using(gptman::proofs::Readers::both_read))]
+pub fn read_header<D: Disk>(alloc: Global, disk: &mut D, spot: Spot) -> Result<Seen, AllocError>
+    ensures reads { Reads (D.state disk.old) (D.state disk.new) }
+{
+    if spot.lba >= spot.sectors {
+        return Ok(Seen::Nothing);
+    }
+    let mut bytes = [0; 4096];
+    let sector = &mut bytes[..spot.sector_size.min(4096) as usize];
+    if !read_at(disk, spot.lba.saturating_mul(spot.sector_size), sector) {
+        return Ok(Seen::Failure);
+    }
+    see_header(alloc, sector, spot)
+}
+
+// Returns the header at the start of the sector, with one wrong byte corrected.
+fn see_header(alloc: Global, sector: &mut [u8], spot: Spot) -> Result<Seen, AllocError> {
+    let Some(first) = sector.first_chunk::<92>() else {
+        return Ok(Seen::Nothing);
+    };
+    let stored = GPTHeader::decode(first);
+    if !is_like_header(&stored) {
+        return Ok(Seen::Nothing);
+    }
+    let mut faults = Vec::new(alloc);
+    note_form(&mut faults, &stored, sector.len())?;
+    let header = check_sum(&mut faults, stored, sector)?;
+    note_places(&mut faults, &header, spot)?;
+    Ok(Seen::Header(header, faults))
+}
+
+// Reports whether this looks like a header: by its signature, or by 7 bytes of it with revision 1.0 and size 92.
+fn is_like_header(header: &GPTHeader) -> bool {
+    if header.signature == SIGNATURE {
+        return true;
+    }
+    let same = header
+        .signature
+        .iter()
+        .zip(SIGNATURE.iter())
+        .filter(|(byte, right)| *byte == *right)
+        .count();
+    same >= 7 && header.revision == REVISION && header.header_size == LEAST_SIZE
+}
+
+// Records faults in the form of a header in a sector of this length.
+fn note_form(faults: &mut Vec<Fault>, header: &GPTHeader, len: usize) -> Result<(), AllocError> {
+    if header.signature != SIGNATURE {
+        faults.push(Fault::Signature)?;
+    }
+    if header.revision != REVISION {
+        faults.push(Fault::Revision(header.revision))?;
+    }
+    let size = header.header_size;
+    if size < LEAST_SIZE || size as usize > len {
+        faults.push(Fault::HeaderSize(size))?;
+    } else if size > LEAST_SIZE {
+        faults.push(Fault::LongHeader(size))?;
+    }
+    Ok(())
+}
+
+// Records a wrong checksum, or the one byte that makes it right. Returns the header with this byte.
+fn check_sum(
+    faults: &mut Vec<Fault>,
+    header: GPTHeader,
+    sector: &mut [u8],
+) -> Result<GPTHeader, AllocError> {
+    let stored = header.crc32_checksum;
+    let size = header.header_size;
+    let least = checksum_of(sector, LEAST_SIZE);
+    let computed = if size > LEAST_SIZE && size as usize <= sector.len() {
+        checksum_of(sector, size)
+    } else {
+        least
+    };
+    if stored == computed {
+        return Ok(header);
+    }
+    if let Some(wrong) = find_wrong_byte(LEAST_SIZE as usize, stored, least, is_summed) {
+        if let Some(mended) = mend(header, sector, wrong) {
+            faults.push(mended.1)?;
+            return Ok(mended.0);
+        }
+    }
+    faults.push(Fault::HeaderChecksum { stored, computed })?;
+    Ok(header)
+}
+
+// Reports whether the checksum of a header depends on the byte.
+fn is_summed(index: usize) -> bool {
+    index < 16 || index >= 20
+}
+
+// Returns the header with this byte corrected, and the fault. `sector` no longer has the stored checksum.
+fn mend(header: GPTHeader, sector: &[u8], wrong: WrongByte) -> Option<(GPTHeader, Fault)> {
+    let mut bytes = *sector.first_chunk::<92>()?;
+    let index = wrong.index;
+    if index >= 92 {
+        return None;
+    }
+    let was = bytes[index];
+    let is = was ^ wrong.bits;
+    bytes[index] = is;
+    let fault = Fault::HeaderByte { index, was, is };
+    let mended = GPTHeader {
+        crc32_checksum: header.crc32_checksum,
+        ..GPTHeader::decode(&bytes)
+    };
+    Some((mended, fault))
+}
+
+// Returns the checksum of a header of this size, in which the stored one is zero. Sets that to zero in `sector`.
+fn checksum_of(sector: &mut [u8], size: u32) -> u32 {
+    for byte in sector.iter_mut().skip(16).take(4) {
+        *byte = 0;
+    }
+    match sector.get(..size as usize) {
+        Some(bytes) => crc32(bytes),
+        None => 0,
+    }
+}
+
+// Records sectors in a header that are wrong or unusual.
+fn note_places(faults: &mut Vec<Fault>, header: &GPTHeader, spot: Spot) -> Result<(), AllocError> {
+    if header.primary_lba != spot.lba {
+        let said = header.primary_lba;
+        faults.push(Fault::OtherSector { said })?;
+    }
+    let (said, sectors) = (header.backup_lba, spot.sectors);
+    let usual = match spot.kind {
+        CopyKind::Primary => sectors.saturating_sub(1),
+        CopyKind::Backup => 1,
+        CopyKind::Other => said,
+    };
+    if said != usual {
+        faults.push(Fault::OtherCopy {
+            said,
+            usual,
+            sectors,
+        })?;
+    }
+    let (first, last) = (header.first_usable_lba, header.last_usable_lba);
+    if first > last || last >= sectors {
+        faults.push(Fault::Bounds { first, last })?;
+    }
+    Ok(())
+}

@@ -1,5 +1,0 @@
-use Rattle.gptman.specs.Disk.{Reads}
-use Rattle.gptedit_salvage.proofs.arrays.find_of_other.Given as goal
-
-abbrev pub invariant-loop-span : goal.invariant-loop-span
-invariant-loop-span g l = Reads (g.D.Disk.state l.fn.disk) (g.D.Disk.state l.disk)
