@@ -69,7 +69,7 @@ fn write(
     task: &mut Task,
     plan: &Plan,
 ) -> Result<(), Failure> {
-    let sector_size = look.sector_size.max(1);
+    let sector_size = look.sector_size;
     if plan.is_changed {
         if let Became::Refused { table, refusal } = task.run(alloc, image, sector_size, false)? {
             return Err(refuse_asked(alloc, image.name, table.as_ref(), sector_size, &refusal));

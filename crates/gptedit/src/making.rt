@@ -66,7 +66,7 @@ fn is_unsafe(
     look: &Look,
     anew: &mut Anew,
 ) -> Result<bool, Failure> {
-    match anew.remake(alloc, image, look.sector_size.max(1), true) {
+    match anew.remake(alloc, image, look.sector_size, true) {
         Ok(Became::Refused { refusal, .. }) => Ok(matches!(
             refusal,
             Refusal::NoSafeOrder | Refusal::NotLaidOut

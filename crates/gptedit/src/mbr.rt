@@ -26,7 +26,7 @@ pub fn change_mbr(
         (Purpose::Edit, _) => false,
         (Purpose::Repair | Purpose::Fit, _) => true,
     };
-    let sector_size = look.sector_size.max(1);
+    let sector_size = look.sector_size;
     match mend_mbr(&mut image.opened.disk, sector_size, may_make, is_dry) {
         Ok(change) => Ok(change),
         Err(error) => Err(refuse_error(alloc, image.name, &error)),
@@ -44,7 +44,7 @@ fn make_mbr(
         return Ok(MbrChange::Made);
     }
     let disk = &mut image.opened.disk;
-    if let Err(error) = GPT::write_protective_mbr_into(disk, look.sector_size.max(1)) {
+    if let Err(error) = GPT::write_protective_mbr_into(disk, look.sector_size) {
         return Err(refuse_error(alloc, image.name, &error));
     }
     match disk.sync() {

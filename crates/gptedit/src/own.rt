@@ -14,7 +14,7 @@ pub struct Own {
 impl Own {
     /// Returns those of the good copies.
     pub fn of(look: &Look) -> Own {
-        let sector_size = look.sector_size.max(1);
+        let sector_size = look.sector_size;
         Own {
             primary: range_of(&look.copies.primary, sector_size),
             backup: range_of(&look.copies.backup, sector_size),
@@ -64,7 +64,7 @@ pub fn has_same_entries<D: Disk>(
     let Some(other) = next.header.other() else {
         return Ok(false);
     };
-    let sector_size = look.sector_size.max(1);
+    let sector_size = look.sector_size;
     let (mut here, mut there) = ([0; PIECE], [0; PIECE]);
     let first = other.partition_entry_lba;
     if range.first < first {

@@ -113,7 +113,7 @@ fn draft(
     look: &Look,
     task: &mut Task,
 ) -> Result<Plan, Failure> {
-    let sector_size = look.sector_size.max(1);
+    let sector_size = look.sector_size;
     match task.run(alloc, image, sector_size, true)? {
         Became::Changed { was, next } => Ok(Plan {
             was,
@@ -154,7 +154,7 @@ fn refuse_task(
             return refuse(alloc, image, &text);
         }
     }
-    refuse_asked(alloc, image, table, look.sector_size.max(1), refusal)
+    refuse_asked(alloc, image, table, look.sector_size, refusal)
 }
 
 /// Returns a copy of a table.
@@ -396,7 +396,7 @@ fn find_data(
     first: u64,
     end: u64,
 ) -> Result<Option<u64>, Failure> {
-    let sector_size = look.sector_size.max(1);
+    let sector_size = look.sector_size;
     let own = Own::of(look);
     let mut bytes = vec![in alloc; 0; sector_size.min(LARGEST) as usize]?;
     for sector in first..end {

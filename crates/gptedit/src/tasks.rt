@@ -56,7 +56,7 @@ pub fn repair<R: RandomSource + AllocGlobal>(
 ) -> Result<Task, Failure> {
     if has_usual_bounds {
         let mut bounds = fit(Bounds::Usual, Purpose::Repair);
-        let became = bounds.run(rt.alloc(), image, look.sector_size.max(1), true)?;
+        let became = bounds.run(rt.alloc(), image, look.sector_size, true)?;
         if !matches!(&became, Became::Unchanged { .. }) {
             return Ok(bounds);
         }
