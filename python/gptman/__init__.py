@@ -16,5 +16,5 @@ from ._calls import crc32 as crc32, version as version
 from ._disk import Copies as Copies, Disk as Disk, Partition as Partition, Step as Step, check as check
 from .errors import *
 
-# The name of `Error` in earlier versions.
+# Another name of `Error`.
 Fault = Error

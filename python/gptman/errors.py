@@ -12,7 +12,7 @@ class Error(Exception):
 
     @property
     def name(self) -> str:
-        """The name of the error in docs/FAULTS.md, which is that of its class."""
+        """The name of the error, which is that of its class."""
         return type(self).__name__
 
     def __str__(self) -> str:
@@ -106,7 +106,7 @@ class PartitionNotFound(Error):
 
 
 class Overflow(Error):
-    """The disk is too short for one copy, or a place is past byte 2^64."""
+    """The disk is too short for one copy, a place is past byte 2^64, or the table to be fitted has no entries."""
 
     number = 14
 
@@ -136,7 +136,7 @@ class OtherLayout(Error):
 
 
 class DosDisk(Error):
-    """The first sector is an MBR with partitions of its own; with `over_dos=True` it is overwritten."""
+    """The first sector is an MBR with partitions of its own; `over_dos=True` permits a write all the same."""
 
     number = 102
 
