@@ -1,5 +1,6 @@
 """Each line that `check` can print, and that each is followed: the command that it names is run on a copy, is not
 refused, and `check` is then quiet about it."""
+import itertools
 import re
 import struct
 
@@ -10,6 +11,7 @@ from makers import IMAGE, ONE, SIZE, break_both, entry, make, of, put_dos, set_f
 END = SIZE // 512 - 1
 BOUNDS = f"repair {IMAGE} --bounds"
 NAMED = re.compile(r"`gptedit ([^`]*)`")
+FILES = itertools.count()
 
 # What is wrong with a copy: the name of the fault, and the field that is changed (its place in the header, its
 # format and value), with the checksum made right or not.
@@ -25,9 +27,10 @@ def numbers_in(program):
 
 
 def commands_in(program, line):
-    """The commands that a line of `check` names, with each number and a GUID where it leaves that open."""
+    """The commands that a line of `check` names, with each number, a GUID and a new file where it leaves that open."""
     for named in NAMED.findall(line):
-        words = ["12345678-1234-4234-8234-123456789abc" if word == "GUID" else word for word in named.split()]
+        chosen = {"GUID": "12345678-1234-4234-8234-123456789abc", "FILE": f"backup{next(FILES)}.toml"}
+        words = [chosen.get(word, word) for word in named.split()]
         if "N" not in words:
             yield [words]
             continue
@@ -116,7 +119,7 @@ def try_lengths(tally, program):
     says(tally, program, "a footer", "longer|footer", None)
     make(program, ONE)
     program.set_length(IMAGE, SIZE - MIB)
-    says(tally, program, "a disk that was cut", "shorter", None)
+    says(tally, program, "a disk that was cut where no partition is", "shorter", f"grow {IMAGE}")
 
 
 def try_cut(tally, program):

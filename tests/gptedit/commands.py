@@ -87,7 +87,7 @@ def try_sizes(tally, program):
         ended = program.run("add", "disk.img", "--type", "linux", "--size=" + size)
         tally.equals(f"the status of --size={size}", 2, ended[0])
     says(tally, program, ["add", "disk.img", "--type", "linux", "--size", "1000B"], "",
-         "gptedit: disk.img: 1000B is no whole number of sectors of 512 bytes: say 1024B or 2s\n", 1)
+         "gptedit: disk.img: 1000B is not a whole number of sectors of 512 bytes; use 1024B or 2s\n", 1)
 
 
 def try_places(tally, program):
@@ -178,9 +178,8 @@ def try_growth(tally, program):
     tally.equals("the status of check after growth", 1, ended[0])
     tally.holds("check names grow", "`gptedit grow disk.img`" in ended[1])
     says(tally, program, ["add", "disk.img", "--type", "linux", "--size", "1MiB"], "",
-         "gptedit: disk.img: the table is not where gptedit writes one\n"
-         "if the disk has grown, run `gptedit grow disk.img`, otherwise the tool that made the table; "
-         "`gptedit check disk.img` says which\n", 1)
+         "gptedit: disk.img: the table is for a disk of another length, or is not in the layout that gptedit writes\n"
+         "if the length of the disk has changed, run `gptedit grow disk.img`; else see `gptedit check disk.img`\n", 1)
     grown = "usable sectors 34..262110 -> 34..524254\n"
     before = program.state("disk.img")
     says(tally, program, ["grow", "disk.img", "-n"],

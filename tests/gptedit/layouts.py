@@ -42,8 +42,8 @@ ROOT_ENTRY = table.Entry(X86_ROOT, ROOT, 133120, 260095, 0, "root")
 # Texts that are no layouts, and what is told of each.
 WRONG = [
     ("[disk\n", "line 1, column 6: "),
-    ("x = 1\n", 'line 1: "x" is no key of the layout; the keys are disk, partition'),
-    ('[disk]\nsize = "1MiB"\n', 'line 2: "size" is no key of '),
+    ("x = 1\n", 'line 1: "x" is not a key of the layout; the keys are disk, partition'),
+    ('[disk]\nsize = "1MiB"\n', 'line 2: "size" is not a key of '),
     ('[[partition]]\nsize = "1MiB"\nsize = "2MiB"\n', "line 3, "),
     ('[[partition]]\n\nsize = "1MB"\n', "line 3: size of "),
     ("[[partition]]\nsize = 7\n", "line 2: size of "),
@@ -51,23 +51,23 @@ WRONG = [
     ('[[partition]]\nguid = "12"\n', "line 2: guid of "),
     ("[[partition]]\nnumber = 0\n", "line 2: number of "),
     ("[[partition]]\nnumber = 99999999999999999999\n", "line 2, column 10: "),
-    ("[[partition]]\nnumber = 1\n[[partition]]\nnumber = 1\n", "a partition before it has the number 1"),
-    ('[[partition]]\nsize = "rest"\n[[partition]]\nsize = "rest"\n', "only one partition has the rest"),
+    ("[[partition]]\nnumber = 1\n[[partition]]\nnumber = 1\n", "an earlier partition has the number 1"),
+    ('[[partition]]\nsize = "rest"\n[[partition]]\nsize = "rest"\n', "only one partition can have the rest"),
     ('[[partition]]\nname = "' + "x" * 37 + '"\n', "line 2: name of "),
-    ('[[partition]]\nname = "a\\u0000b"\n', "a name has no zero character"),
+    ('[[partition]]\nname = "a\\u0000b"\n', "a name must not contain a zero character"),
     ('[[partition]]\nattributes = "required"\n', "line 2: attributes of "),
     ('[[partition]]\nattributes = ["requird"]\n', "line 2: attributes of "),
     ("partition = 3\n", "line 1: partition of "),
     ("label: dos\n", "line 1: label of "),
     ("label: gpt\nunit: cylinders\n", "line 2: unit of "),
     ("label: gpt\nlabel-id: 7\n", "line 2: label-id of "),
-    ("label: gpt\nsecret: 7\n", 'line 2: "secret" is no key of '),
+    ("label: gpt\nsecret: 7\n", 'line 2: "secret" is not a key of '),
     ("label: gpt\n\nstart=x\n", "line 3: start of "),
-    ("label: gpt\nsize=1MiB, colour=red\n", 'line 2: "colour" is no key of '),
-    ("label: gpt\nsector-size: 4096\n", "sector-size is 4096 here, and 512 in the table"),
-    ("label: gpt\nfirst-lba: 2048\n", "first-lba is 2048 here, and 34 in the table"),
-    ("label: gpt\nlast-lba: 7\n", "last-lba is 7 here, and 262110 in the table"),
-    ("label: gpt\ntable-length: 7\n", "table-length is 7 here, and 128 in the table"),
+    ("label: gpt\nsize=1MiB, colour=red\n", 'line 2: "colour" is not a key of '),
+    ("label: gpt\nsector-size: 4096\n", "sector-size is 4096 in the layout, but 512 on the disk"),
+    ("label: gpt\nfirst-lba: 2048\n", "first-lba is 2048 in the layout, but 34 on the disk"),
+    ("label: gpt\nlast-lba: 7\n", "last-lba is 7 in the layout, but 262110 on the disk"),
+    ("label: gpt\ntable-length: 7\n", "table-length is 7 in the layout, but 128 on the disk"),
     (b"\xff\xfe", "disk.toml: "),
 ]
 
@@ -120,11 +120,12 @@ def try_layout(tally, program):
     start(program, False)
     program.run("add", "disk.img", "--type", "swap", "--size", "1MiB", "--number", "7", "--start", "200000s")
     refused(tally, program, ["apply", "disk.img", "disk.toml"],
-            'partition 7 (200000..202047 1 MiB linux-swap "") is not in the layout\n--replace removes it')
+            'partition 7 (200000..202047 1 MiB linux-swap "") is not in the layout\n'
+            "add it there to keep it, or use --replace to remove it")
     program.run("apply", "disk.img", "disk.toml", "--replace")
     holds_table(tally, program, "apply --replace", both)
     program.write("moved.toml", LAYOUT.replace('size = "64MiB"', 'size = "32MiB"').encode())
-    refused(tally, program, ["apply", "disk.img", "moved.toml"], " would not stay where it is\n--replace assigns")
+    refused(tally, program, ["apply", "disk.img", "moved.toml"], " would move or change size\n")
     program.run("apply", "disk.img", "moved.toml", "--replace")
     found = table.read(program.file("disk.img")).entries[1]
     tally.equals("apply --replace of another size", ESP_ENTRY._replace(last=67583), found)

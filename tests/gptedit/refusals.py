@@ -26,39 +26,39 @@ DOS = bytes(4) + b"\x83" + bytes(3) + struct.pack("<II", 63, 4096) + bytes(48) +
 # Formats that are not a disk byte for byte.
 FORMATS = [("qcow2", 0, b"QFI\xfb"), ("VMDK", 0, b"KDMV"), ("VMDK", 0, b"COWD"),
            ("VMDK", 0, b"# Disk DescriptorFile"), ("VDI", 64, b"\x7f\x10\xda\xbe"), ("VHD", 0, b"conectix"),
-           ("VHDX", 0, b"vhdxfile")]
+           ("VHDX", 0, b"vhdxfile"), ("gzip (compressed)", 0, b"\x1f\x8b\x08\x08")]
 
 ADD = ["add", "disk.img", "--type", "linux"]
 
 # Words over the image of `start`, and what is told of them.
 ROWS = [
-    (ADD + ["--size", "1GiB"], "there is no room for partition 2"),
-    (ADD + ["--size", "1MiB", "--number", "1"], 'partition 1 (2048..133119 64 MiB efi "ESP") is there already'),
-    (ADD + ["--size", "1MiB", "--number", "129"], "there is no entry 129: the table has 128"),
+    (ADD + ["--size", "1GiB"], "partition 2 does not fit into a free range"),
+    (ADD + ["--size", "1MiB", "--number", "1"], 'partition 1 (2048..133119 64 MiB efi "ESP") already exists'),
+    (ADD + ["--size", "1MiB", "--number", "129"], "entry 129 does not exist; the last entry is 128"),
     (ADD + ["--size", "0s"], "partition 2 has no size"),
     (ADD + ["--size", "1MiB", "--align", "0s"], "the alignment must not be zero; use for example --align 1MiB"),
-    (ADD + ["--size", "1MiB", "--align", "100B"], "100B is no whole number of sectors of 512 bytes"),
-    (ADD + ["--size", "1MiB", "--start", "3B"], "3B is no whole number of sectors of 512 bytes"),
-    (ADD + ["--size", "1MiB", "--start", "2048s"], "partitions would share sectors"),
-    (ADD + ["--size", "1MiB", "--start", "0s"], "outside of the usable ones, 34..262110"),
-    (ADD + ["--size", "1MiB", "--start", "262110s"], "outside of the usable ones, 34..262110"),
-    (ADD + ["--size", "2s", "--start", "262110s"], "outside of the usable ones, 34..262110"),
-    (ADD + ["--size", "2s", "--start", "33s"], "outside of the usable ones, 34..262110"),
-    (ADD + ["--size", "1s", "--start", "133119s"], "partitions would share sectors"),
+    (ADD + ["--size", "1MiB", "--align", "100B"], "100B is not a whole number of sectors of 512 bytes"),
+    (ADD + ["--size", "1MiB", "--start", "3B"], "3B is not a whole number of sectors of 512 bytes"),
+    (ADD + ["--size", "1MiB", "--start", "2048s"], "partitions would overlap"),
+    (ADD + ["--size", "1MiB", "--start", "0s"], "outside the usable sectors, 34..262110"),
+    (ADD + ["--size", "1MiB", "--start", "262110s"], "outside the usable sectors, 34..262110"),
+    (ADD + ["--size", "2s", "--start", "262110s"], "outside the usable sectors, 34..262110"),
+    (ADD + ["--size", "2s", "--start", "33s"], "outside the usable sectors, 34..262110"),
+    (ADD + ["--size", "1s", "--start", "133119s"], "partitions would overlap"),
     (ADD + ["--size", "2s", "--start", "18446744073709551615s"], "partition 2 would end past 2^64 sectors"),
-    (ADD + ["--size", "1MiB", "--guid", ESP], "two partitions would have one GUID"),
+    (ADD + ["--size", "1MiB", "--guid", ESP], "two partitions would have the same GUID"),
     (["set", "disk.img", "2", "--name", "x"], "entry 2 is not used"),
-    (["set", "disk.img", "500", "--name", "x"], "there is no entry 500: the table has 128"),
+    (["set", "disk.img", "500", "--name", "x"], "entry 500 does not exist; the last entry is 128"),
     (["set", "disk.img", "1", "--type", "00000000-0000-0000-0000-000000000000"], "partition 1 has no type"),
     (["resize", "disk.img", "2", "1MiB"], "entry 2 is not used"),
-    (["resize", "disk.img", "1", "1GiB"], "outside of the usable ones, 34..262110"),
+    (["resize", "disk.img", "1", "1GiB"], "outside the usable sectors, 34..262110"),
     (["resize", "disk.img", "1", "0s"], "partition 1 has no size"),
-    (["resize", "disk.img", "1", "3B"], "3B is no whole number"),
+    (["resize", "disk.img", "1", "3B"], "3B is not a whole number"),
     (["remove", "disk.img", "2"], "entry 2 is not used"),
     (["remove", "disk.img", "1", "1"], "entry 1 is not used"),
-    (["remove", "disk.img", "4294967295"], "there is no entry 4294967295: the table has 128"),
+    (["remove", "disk.img", "4294967295"], "entry 4294967295 does not exist; the last entry is 128"),
     (["free", "disk.img", "--align", "0s"], "the alignment must not be zero; use for example --align 1MiB"),
-    (["new", "disk.img"], "there is a GUID partition table of 1 partitions, which would be lost"),
+    (["new", "disk.img"], "there is a GUID partition table with 1 partition, which would be lost"),
     (["show", "none.img"], "No such file or directory"), (["new", "."], ""), (["new", "/dev/null"], ""),
     (["apply", "disk.img", "none.toml"], "No such file or directory"), (["apply", "disk.img", "."], ""),
 ]
@@ -80,7 +80,7 @@ def try_words(tally, program):
     for words, text in ROWS:
         refused(tally, program, words, text)
     program.run("add", "disk.img", "--type", "linux", "--size", "1MiB", "--start", "133120s")
-    refused(tally, program, ["resize", "disk.img", "1", "65MiB"], "partitions would share sectors")
+    refused(tally, program, ["resize", "disk.img", "1", "65MiB"], "partitions would overlap")
 
 
 def try_contents(tally, program):
@@ -105,7 +105,7 @@ def try_formats(tally, program):
         start(program)
         program.put("disk.img", at, mark)
         for words in (["new", "disk.img", "--force"], ADD + ["--size", "1MiB", "--force"], ["show", "disk.img"]):
-            refused(tally, program, words, f"this is no raw image, but one in the format {name}")
+            refused(tally, program, words, f"the format of the image is {name}, not raw")
 
 
 def try_tables(tally, program):
@@ -121,7 +121,7 @@ def try_tables(tally, program):
     with open(program.file("disk.img"), "r+b") as file:
         file.truncate(64 * MIB)
     for words in (ADD + ["--size", "1s"], ["repair", "disk.img"], ["remove", "disk.img", "1"]):
-        refused(tally, program, words, "the table is not where gptedit writes one")
+        refused(tally, program, words, "the table is for a disk of another length")
     refused(tally, program, ["grow", "disk.img"], "copy the image again, or run `truncate -s 134217728 disk.img`")
     tally.equals("the status of check of an image that was cut", 1, program.run("check", "disk.img")[0])
 
@@ -132,7 +132,7 @@ def try_two_tables(tally, program):
     backup = program.bytes_of("disk.img")[-33 * 512:]
     program.run("set", "disk.img", "1", "--name", "other", "--guid", ROOT)
     program.put("disk.img", 128 * MIB - len(backup), backup)
-    tally.equals("check of two tables", (1, "the two copies are different tables; the primary one is used: "
+    tally.equals("check of two tables", (1, "the copies are different tables; repair keeps the primary one: "
                  "`gptedit repair disk.img`\n", ""), program.run("check", "disk.img"))
     program.run("repair", "disk.img")
     entry = commands.ESP_ENTRY._replace(name="other", guid=ROOT)

@@ -479,6 +479,10 @@ def try_create(tally, program):
     found = table.read(program.file(IMAGE))
     tally.equals("a layout's bounds and number of entries", (56, 2048, ONE),
                  found and (found.count, found.first, found.entries))
+    program.make_image(IMAGE, SIZE)
+    program.write("disk.toml", layout.replace("[disk]\n", "[disk]\nentries = 0\n").encode())
+    refused(tally, program, ["apply", IMAGE, "disk.toml", "--create"], "the number of entries must not be zero",
+            statuses=REFUSED)
 
 
 def try_wipe(tally, program):

@@ -35,21 +35,22 @@ HEADERS = [
 
 # Layouts with a value that is none, and what is told of each.
 WRONG = [
-    ('[disk]\nentries = "128"\n', "line 2: entries of the disk: it is a whole number from 0 to 4294967295"),
+    ('[disk]\nentries = "128"\n', "line 2: entries of the disk: it must be a whole number from 1 to 32768"),
     ("[disk]\nentries = -1\n", "line 2: entries of "),
     ("[disk]\nentries = 4294967296\n", "line 2: entries of "),
     ("label: gpt\ntable-length: 4294967296\n", "line 2: table-length of "),
-    ("[disk]\nfirst-usable = 34\n", 'line 2: first-usable of the disk: it is a text with s for the unit, as "34s"'),
-    ('[disk]\nfirst-usable = "34"\n', "line 2: first-usable of the disk: a sector is a whole number with s"),
+    ("[disk]\nfirst-usable = 34\n", "line 2: first-usable of the disk: it must be a text with the unit s, for example "
+     '"34s"'),
+    ('[disk]\nfirst-usable = "34"\n', "line 2: first-usable of the disk: it must be a whole number with the unit s"),
     ('[disk]\nlast-usable = "1MiB"\n', "line 2: last-usable of "),
     ('[disk]\nlast-usable = "18446744073709551616s"\n', "line 2: last-usable of "),
     ("[disk]\nsector-size = 512\n", "line 2: sector-size of "),
     ('[disk]\nsector-size = "1s"\n', "line 2: sector-size of "),
     ('[[partition]]\nname-utf16 = 7\n', "line 2: name-utf16 of "),
     ('[[partition]]\nname = "A"\nname-utf16 = "0041"\n', "line 3: name-utf16 of partition 1 of the file: the "
-     "partition has a name too; give only one of the two"),
-] + [(f'[[partition]]\nname-utf16 = "{units}"\n', "line 2: name-utf16 of partition 1 of the file: it is at most 36 "
-      "units of UTF-16, of four hexadecimal digits each") for units in
+     "partition also has the key name; use only one of the two"),
+] + [(f'[[partition]]\nname-utf16 = "{units}"\n', "line 2: name-utf16 of partition 1 of the file: it must be at most "
+      "36 units of UTF-16, of four hexadecimal digits each") for units in
      ["41", "004g", "00041", "+041", "0041  0042", "0041 ", " 0041", "0041,0042", " ".join(["0041"] * 37)]]
 
 EMPTY = ["", "\n", "  \n\t\n", "# nothing\n\n# at all", "\ufeff", "\ufeff# nothing\n"]
@@ -125,7 +126,8 @@ def try_escapes(tally, program):
         told = f'2048..4095 1 MiB efi "{escaped}"'
         says(tally, program, ["remove", "disk.img", "1", "-n"], f"a dry run, nothing is written:\n- 1 {told}\n")
         ended = program.run("add", "disk.img", "--type", "efi", "--size", "4KiB", "--number", "1")
-        tally.holds(f"a refusal with U+{code:04X}: {ended}", ended[0] == 1 and f"partition 1 ({told}) is" in ended[2])
+        tally.holds(f"a refusal with U+{code:04X}: {ended}", ended[0] == 1 and
+                    f"partition 1 ({told}) already exists" in ended[2])
         encoded = program.run("show", "disk.img", "--json")[1]
         tally.equals(f"the name with U+{code:04X} in JSON", name,
                      json.loads(encoded)["partitiontable"]["partitions"][0]["name"])
@@ -145,7 +147,7 @@ def try_quotes(tally, program):
     tally.equals("a name with a quote in TOML", 'a"b\\c',
                  tomllib.loads(program.run("dump", "disk.img")[1])["partition"][0]["name"])
     is_kept(tally, program, "a name with a quote", units_of('a"b\\c'))
-    refused(tally, program, ["apply", "disk.img", "-"], '"x\\u{202e}y" is no key of the layout',
+    refused(tally, program, ["apply", "disk.img", "-"], '"x\\u{202e}y" is not a key of the layout',
             text='"x\u202ey" = 1\n')
     ended = program.run("show", "no\u202e\x1b[1mdisk.img")
     tally.holds(f"a path is escaped: {ended}", ended[0] != 0 and "no\\u{202e}\\u{1b}[1mdisk.img: " in ended[2])
@@ -195,8 +197,8 @@ def try_headers(tally, program):
         for text, name in (("[disk]\n" + in_toml, key), ("label: gpt\n" + in_script, script_key)):
             refused(tally, program, ["apply", "disk.img", "-"], "is not in the layout", text=text.format(is_) + "\n")
             for words in (["apply", "disk.img", "-"], ["apply", "disk.img", "-", "--replace"]):
-                refused(tally, program, words, f"{name} is {other} here, and {is_} in the table\n"
-                        f"without {name} the partitions are put into the table as it is",
+                refused(tally, program, words, f"{name} is {other} in the layout, but {is_} on the disk\n"
+                        f"remove {name} from the layout to keep that of the disk",
                         text=text.format(other) + "\n")
     for text, told in WRONG:
         refused(tally, program, ["apply", "disk.img", "-"], told, text=text)
@@ -241,7 +243,7 @@ def try_empty(tally, program):
     """Texts that say nothing, and layouts that say that there are no partitions."""
     start(program)
     told = ("the layout is empty: it has no key and no header\n"
-            "a layout without partitions says so by [disk], or as a script by label: gpt")
+            "a layout for a table without partitions has [disk], or as a script label: gpt")
     for text in EMPTY:
         program.write("disk.toml", text.encode())
         for words in (["apply", "disk.img", "disk.toml"], ["apply", "disk.img", "disk.toml", "--replace"]):
@@ -249,7 +251,7 @@ def try_empty(tally, program):
         refused(tally, program, ["apply", "disk.img", "-", "--replace"], "gptedit: -: " + told, text=text)
     for text in ["[disk]\n", "label: gpt\n", "partition = []\n", f'[disk]\nguid = "{DISK}"\n']:
         start(program)
-        refused(tally, program, ["apply", "disk.img", "-"], "is not in the layout\n--replace removes it", text=text)
+        refused(tally, program, ["apply", "disk.img", "-"], "is not in the layout\nadd it there to keep it", text=text)
         says(tally, program, ["apply", "disk.img", "-", "--replace"], '- 1 2048..133119 64 MiB efi "ESP"\n', text=text)
         holds_table(tally, program, f"apply --replace of {text!r}", {})
         says(tally, program, ["apply", "disk.img", "-"], "unchanged\n", text=text)

@@ -5,7 +5,7 @@ import subprocess
 from harness import table
 from harness.runs import there
 from commands import DISK, ESP, MIB, ROOT
-from makers import IMAGE, TWO, entry, make
+from makers import IMAGE, SIZE, TWO, entry, make
 
 NAME = ["set", IMAGE, "1", "--name", "x"]
 
@@ -252,5 +252,20 @@ def try_sizes(tally, program):
     return None
 
 
+def try_short(tally, program):
+    """A block device that is shorter than its table: its length cannot be restored, so `truncate` is not named."""
+    if not can_loop(program):
+        return "no loop devices for this user: left out"
+    make(program, {1: entry(2048, 4095), 2: entry(8192, SIZE // 512 - 34, "two", ROOT)})
+    program.set_length(IMAGE, SIZE - MIB)
+    with Loop(program) as loop:
+        for command in "check", "grow":
+            status, out, err = program.plain(command, loop.path)
+            tally.holds(f"{command} of a device that is too short: {status} {out!r} {err!r}", status == 1 and
+                        f"at least {SIZE} bytes" in out + err and "truncate" not in out + err)
+    return None
+
+
 SUBJECTS = {"devices in use": try_uses, "a use of the whole disk": try_whole, "a Btrfs over two disks": try_btrfs,
-            "no /proc, no /sys": try_hidden, "devices of 4096 bytes": try_sizes}
+            "no /proc, no /sys": try_hidden, "devices of 4096 bytes": try_sizes,
+            "devices that are too short": try_short}

@@ -2,6 +2,7 @@
 
 use crate::failure::{Failure, refuse};
 use crate::looking::layout_text;
+use gptedit_text::values::Escaped;
 use gptman::GPT;
 use std::fs::File;
 use std::io::Write;
@@ -16,15 +17,18 @@ pub fn refuse_backup<R: Files<File = File> + AllocGlobal>(
     was: Option<&GPT>,
 ) -> Result<(), Failure> {
     if was.is_none() {
-        let why = "there is no table to write to the file of --backup\n\
-            `gptedit salvage` prints what can be read; run this without --backup";
+        let name = Escaped(image);
+        let why = format!(in rt.alloc();
+            "there is no good table for --backup to save\n\
+            save what `gptedit salvage {name}` prints, then run this without --backup"
+        )?;
         return Err(refuse(rt.alloc(), image, &why));
     }
     if fs::symlink_metadata(rt, file).is_ok() {
         return Err(refuse(
             rt.alloc(),
             file,
-            &"the file of --backup exists already; give another name",
+            &"the file already exists; use another name for --backup",
         ));
     }
     Ok(())

@@ -25,7 +25,7 @@ where
     R: Files<File = File> + RandomSource + AllocGlobal + Clone + Drop,
 {
     let alloc = rt.alloc();
-    let mut findings = find_all(alloc, look)?;
+    let mut findings = find_all(alloc, look, image.opened.device.is_some())?;
     let mut tried = Vec::new(alloc);
     for finding in findings.iter_mut() {
         keep_way(rt, image, look, &mut tried, finding)?;

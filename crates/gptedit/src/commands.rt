@@ -148,7 +148,7 @@ where
     if is_written {
         if let Some(device) = &image.opened.device {
             let (command, name) = (device.command(), Escaped(image.name));
-            let _ = eprintln!(rt; "`{command} {name}` tells the kernel");
+            let _ = eprintln!(rt; "run `{command} {name}` so that the kernel reads the new table");
         }
     }
     Ok(())

@@ -64,7 +64,10 @@ impl<'a> Image<'a> {
         let sector_size = self.known_size.or(usual_size);
         match look(alloc, &mut self.opened.disk, sector_size) {
             Ok(Looked::Seen(look)) => Ok(look),
-            Ok(Looked::TooMany(count)) => Err(refuse_no_table(alloc, self.name, &TooMany(count))),
+            Ok(Looked::TooMany(count)) => {
+                let image = self.name;
+                Err(refuse_no_table(alloc, image, &TooMany { count, image }))
+            }
             Err(error) => Err(refuse_error(alloc, self.name, &error)),
         }
     }
@@ -81,7 +84,11 @@ impl<'a> Image<'a> {
 
     /// Returns the same failure for `apply`, and mentions `--create`.
     pub fn no_table_to_apply(&mut self, alloc: Global, look: &Look) -> Failure {
-        self.without_table(alloc, look, "\nif no table was there, --create makes one")
+        self.without_table(
+            alloc,
+            look,
+            "\nif there never was a table, use --create to make one",
+        )
     }
 
     fn without_table(&mut self, alloc: Global, look: &Look, more: &str) -> Failure {
@@ -146,29 +153,44 @@ struct OtherFormat<'a> {
 impl fmt::Display for OtherFormat<'_> {
     fn fmt<W: fmt::Write>(&self, f: &mut fmt::Formatter<W>) -> fmt::Result {
         let image = Escaped(self.image);
-        writeln!(
-            f,
-            "this is no raw image, but one in the format {}",
-            self.format
-        )?;
+        writeln!(f, "the format of the image is {}, not raw", self.format)?;
+        if !is_of_qemu(self.format) {
+            return f.write_str("convert it to a raw image with a program for that format");
+        }
         write!(
             f,
-            "`qemu-img convert -O raw {image} {image}.raw` makes one, or qemu-nbd exports it as a device"
+            "convert it with `qemu-img convert -O raw {image} {image}.raw`, or export it with qemu-nbd"
         )
+    }
+}
+
+// Reports whether qemu-img reads images of this format.
+fn is_of_qemu(format: &str) -> bool {
+    match format {
+        "qcow2" | "VMDK" | "VDI" | "VHD" | "VHDX" | "QED" | "Parallels" => true,
+        "Bochs" | "cloop" | "DMG" => true,
+        _ => false,
     }
 }
 
 // Message: a header counts too many entries.
 #[derive(Clone, Copy)]
-struct TooMany(u32);
+struct TooMany<'a> {
+    count: u32,
+    image: &'a str,
+}
 
-impl fmt::Display for TooMany {
+impl fmt::Display for TooMany<'_> {
     fn fmt<W: fmt::Write>(&self, f: &mut fmt::Formatter<W>) -> fmt::Result {
+        let (count, image) = (self.count, Escaped(self.image));
+        writeln!(
+            f,
+            "a header of the table counts {count} entries, but gptedit reads at most 32768"
+        )?;
         write!(
             f,
-            "a header of the table counts {} entries, and gptedit reads 32768 at most\n\
-             if a table was there, copy the disk before anything is written to it",
-            self.0
+            "`gptedit salvage {image}` prints what can be read; \
+             copy the disk before anything is written to it"
         )
     }
 }
@@ -180,7 +202,7 @@ struct NoSectorSize;
 impl fmt::Display for NoSectorSize {
     fn fmt<W: fmt::Write>(&self, f: &mut fmt::Formatter<W>) -> fmt::Result {
         f.write_str("the sector size of the device cannot be read\n")?;
-        f.write_str("give it, as with --sector 512")
+        f.write_str("use --sector, for example --sector 512")
     }
 }
 
@@ -192,9 +214,9 @@ impl fmt::Display for FailedReading<'_> {
     fn fmt<W: fmt::Write>(&self, f: &mut fmt::Formatter<W>) -> fmt::Result {
         writeln!(
             f,
-            "the disk failed in the reading of a copy of the table: {}",
+            "the disk failed while a copy of the table was read: {}",
             self.0
         )?;
-        f.write_str("nothing is written to it; copy its contents to another disk first")
+        f.write_str("nothing was written; first copy its contents to another disk")
     }
 }

@@ -48,11 +48,11 @@ fn read_text<R: Files<File = File> + Input + AllocGlobal>(
         Err(error) => return Err(not_read(alloc, file, error)),
     };
     if bytes.len() as u64 > MAX_LAYOUT_BYTES {
-        return Err(refuse(alloc, file, &"a layout has at most 64 MiB"));
+        return Err(refuse(alloc, file, &"the layout is larger than 64 MiB"));
     }
     match String::from_utf8(bytes) {
         Ok(text) => Ok(text),
-        Err(_) => Err(refuse(alloc, file, &"a layout is a text in UTF-8")),
+        Err(_) => Err(refuse(alloc, file, &"the layout is not a text in UTF-8")),
     }
 }
 

@@ -20,7 +20,7 @@ pub fn warn_of_dos<R: Eprint>(rt: &R, image: &Image<'_>, first_sector: &FirstSec
     if first_sector.kind == MbrKind::Dos {
         let name = Escaped(image.name);
         let _ = eprintln!(rt;
-            "gptedit: {name}: the disk has a DOS partition table; a GUID partition table there may be an old one"
+            "gptedit: {name}: the disk has a DOS partition table; a GUID partition table on it may be an old one"
         );
     }
 }

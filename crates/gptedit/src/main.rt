@@ -88,6 +88,6 @@ where
 
 // Explains how to name an image whose path is not UTF-8.
 fn eprint_not_utf8<R: Eprint>(rt: &R) {
-    let _ = eprintln!(rt; "gptedit: a word is not UTF-8");
+    let _ = eprintln!(rt; "gptedit: an argument is not UTF-8");
     let _ = eprintln!(rt; "let the shell open such a path: `gptedit show /dev/fd/3 3<>PATH`");
 }

@@ -131,7 +131,7 @@ fn draft(
         }),
         Became::Refused { table, refusal } => Err(refuse_task(
             alloc,
-            image.name,
+            image,
             look,
             task,
             table.as_ref(),
@@ -143,18 +143,19 @@ fn draft(
 // Returns the refusal of a task. If partitions do not fit on a shortened disk, it includes a remedy.
 fn refuse_task(
     alloc: Global,
-    image: &str,
+    image: &Image<'_>,
     look: &Look,
     task: &Task,
     table: Option<&GPT>,
     refusal: &Refusal,
 ) -> Failure {
     if let (Work::Grow(_), Refusal::BadBoundaries, Some(table)) = (&task.work, refusal, table) {
-        if let Some(text) = CutText::of(table, look.size, image) {
-            return refuse(alloc, image, &text);
+        let is_device = image.opened.device.is_some();
+        if let Some(text) = CutText::of(table, look.size, is_device, image.name) {
+            return refuse(alloc, image.name, &text);
         }
     }
-    refuse_asked(alloc, image, table, look.sector_size, refusal)
+    refuse_asked(alloc, image.name, table, look.sector_size, refusal)
 }
 
 /// Returns a copy of a table.
@@ -210,7 +211,7 @@ impl fmt::Display for OverBounds<'_> {
     fn fmt<W: fmt::Write>(&self, f: &mut fmt::Formatter<W>) -> fmt::Result {
         writeln!(f, "{}", self.edges)?;
         let image = Escaped(self.image);
-        write!(f, "`gptedit repair {image} --bounds` sets the usual ones")
+        write!(f, "`gptedit repair {image} --bounds` sets the usual bounds")
     }
 }
 
@@ -424,7 +425,7 @@ struct Freed(u64);
 
 impl fmt::Display for Freed {
     fn fmt<W: fmt::Write>(&self, f: &mut fmt::Formatter<W>) -> fmt::Result {
-        writeln!(f, "sector {} would become usable, and is not zero", self.0)?;
-        f.write_str("--overwrite sets the bounds all the same")
+        writeln!(f, "sector {} would become usable, but is not zero", self.0)?;
+        f.write_str("--overwrite sets the bounds anyway")
     }
 }

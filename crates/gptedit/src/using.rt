@@ -4,7 +4,8 @@ use gptedit_look::{How, Part, Use};
 use gptedit_text::values::Escaped;
 use std::fmt;
 
-/// Message: a part of the disk is in use. Hidden characters are escaped.
+/// Message: a part of the disk is in use, and the remedy. Two lines, without the last newline. Hidden characters are
+/// escaped.
 #[derive(Clone, Copy)]
 pub struct UseText<'a>(pub &'a Use);
 
@@ -15,8 +16,14 @@ impl fmt::Display for UseText<'_> {
             Part::Partition(number) => write!(f, "partition {number} ")?,
         }
         write_how(f, &self.0.how)?;
+        f.write_str(match &self.0.how {
+            How::Mounted(_) | How::Btrfs => "\nunmount it first",
+            How::Swap => "\nrun swapoff first",
+            How::Held(_) => "\nclose that first",
+            How::Unknown(_) => "\nmake sure that it is not in use",
+        })?;
         f.write_str(
-            "\nclose it first; --in-use writes the table all the same, and the kernel keeps the old one until it is told",
+            "; --in-use writes anyway, but the kernel keeps the old table until it reads it again",
         )
     }
 }

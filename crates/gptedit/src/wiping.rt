@@ -71,8 +71,8 @@ where
     R: Files<File = File> + AllocGlobal + Clone + Drop,
 {
     if !options.may_overwrite {
-        let why = "there is a GUID partition table, or what is left of one, which would be lost\n\
-            --overwrite clears it all the same";
+        let why = "there is a GUID partition table, or the remains of one, which would be lost\n\
+            --overwrite clears it anyway";
         return Err(refuse(rt.alloc(), image.name, &why));
     }
     if options.may_use {

@@ -219,7 +219,7 @@ impl fmt::Display for OpenError {
             OpenError::NotADisk => f.write_str("the image must be a file or a block device"),
             OpenError::Locked { holder } => write!(f, "{holder}"),
             OpenError::Replaced => {
-                f.write_str("another file was put in its place meanwhile; run it again")
+                f.write_str("another file has replaced it meanwhile; run the command again")
             }
             OpenError::OutOfMemory => f.write_str("out of memory"),
         }
@@ -230,13 +230,16 @@ impl fmt::Display for Holder {
     fn fmt<W: fmt::Write>(&self, f: &mut fmt::Formatter<W>) -> fmt::Result {
         f.write_str(match self {
             Holder::Ancestor => {
-                "the program that started this one holds the lock\n--lock none goes on under that lock"
+                "the program that started this one holds the lock\n\
+                 use --lock none to run under that lock"
             }
             Holder::Other => {
-                "another program holds the lock\nrun it again later, or with --lock wait"
+                "another program holds the lock\n\
+                 run the command again later, or with --lock wait"
             }
             Holder::Machine => {
-                "another program has the image open and locked, as a virtual machine does\nend that program first; --lock none goes on all the same"
+                "another program, for example a virtual machine, has the image open and locked\n\
+                 end that program first; --lock none ignores its lock, which may damage the contents"
             }
         })
     }

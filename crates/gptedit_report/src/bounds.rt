@@ -73,13 +73,16 @@ impl fmt::Display for Edges {
             least,
             most,
         } = *self;
-        write!(f, "the usable sectors are {first}..{last}, ")?;
+        write!(f, "the usable sectors {first}..{last} ")?;
         match (self.is_first_over(), self.is_last_over()) {
-            (true, true) => f.write_str("and begin and end inside of the copies of the table")?,
-            (true, false) => f.write_str("and begin inside of the primary copy of the table")?,
-            (false, true) => f.write_str("and end inside of the backup copy of the table")?,
-            (false, false) => f.write_str("and end before the backup copy of the table")?,
+            (true, true) => f.write_str("begin and end inside the copies of the table")?,
+            (true, false) => f.write_str("begin inside the primary copy of the table")?,
+            (false, true) => f.write_str("end inside the backup copy of the table")?,
+            (false, false) => f.write_str("end too early")?,
         }
-        write!(f, ", which leaves {least}..{most}")
+        write!(
+            f,
+            "; the sectors between the two copies are {least}..{most}"
+        )
     }
 }

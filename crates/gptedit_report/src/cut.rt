@@ -2,12 +2,13 @@
 
 use crate::bounds::Edges;
 use crate::layout::{Standing, length_to};
-use crate::way::Truncate;
+use crate::way::{Truncate, write_longer_disk};
 use gptedit_text::values::Escaped;
 use gptman::GPT;
 use std::fmt;
 
-/// Message: partitions do not fit on a shortened disk, and the remedies. Three lines, without the last newline.
+/// Message: partitions do not fit on a shortened disk, and the remedies. Three lines for an image, two for a block
+/// device, without the last newline.
 #[derive(Clone, Copy)]
 pub struct CutText<'a> {
     table: &'a GPT,
@@ -15,12 +16,14 @@ pub struct CutText<'a> {
     // The length of the disk in bytes, now and before.
     size: u64,
     size_before: u64,
+    is_device: bool,
     image: &'a str,
 }
 
 impl<'a> CutText<'a> {
     /// Returns the message for a disk of `size` bytes, if it is shorter than its table and a partition does not fit.
-    pub fn of(table: &'a GPT, size: u64, image: &'a str) -> Option<CutText<'a>> {
+    /// `is_device` says whether it is a block device, not an image file.
+    pub fn of(table: &'a GPT, size: u64, is_device: bool, image: &'a str) -> Option<CutText<'a>> {
         let Standing::Cut(last) = Standing::of(table, size) else {
             return None;
         };
@@ -29,6 +32,7 @@ impl<'a> CutText<'a> {
             edges: Edges::of(table, size),
             size,
             size_before: length_to(last, table.sector_size),
+            is_device,
             image,
         };
         if text.count() == 0 { None } else { Some(text) }
@@ -65,7 +69,7 @@ impl<'a> CutText<'a> {
         self.write_numbers(f, " ")?;
         write!(
             f,
-            " {verb} not fit: the disk leaves sectors {least}..{most} to partitions"
+            " {verb} not fit on the disk, which has sectors {least}..{most} for partitions"
         )
     }
 }
@@ -85,14 +89,18 @@ impl fmt::Display for CutText<'_> {
         );
         let name = Escaped(image);
         self.write_reason(f)?;
+        f.write_str("\n")?;
+        if self.is_device {
+            return write_longer_disk(f, self.size_before);
+        }
         write!(
             f,
-            "\ncopy the image again, or run {longer} and `gptedit repair {name}`: "
+            "copy the image again, or run {longer} and `gptedit repair {name}`: "
         )?;
         f.write_str("the part that was cut off is then zeros")?;
         write!(
             f,
-            "\nto remove what does not fit, then run `gptedit remove {name}"
+            "\nto remove what does not fit, continue with `gptedit remove {name}"
         )?;
         self.write_numbers(f, " ")?;
         write!(f, "`, {shorter} and `gptedit grow {name}`")

@@ -146,13 +146,10 @@ impl fmt::Display for EntryFault {
                 last,
             } => write!(
                 f,
-                "partition {number} ends before it starts (sectors {first}..{last})"
+                "partition {number} (sectors {first}..{last}) ends before it starts"
             ),
             EntryFault::UnusedEndsBefore { number } => {
-                write!(
-                    f,
-                    "entry {number}, which is not used, ends before it starts"
-                )
+                write!(f, "unused entry {number} ends before it starts")
             }
             EntryFault::Outside {
                 number,
@@ -160,13 +157,13 @@ impl fmt::Display for EntryFault {
                 last,
             } => write!(
                 f,
-                "partition {number} is outside of the usable sectors (sectors {first}..{last})"
+                "partition {number} (sectors {first}..{last}) reaches outside the usable sectors"
             ),
             EntryFault::Overlap { number, other } => {
-                write!(f, "partitions {number} and {other} share sectors")
+                write!(f, "partitions {number} and {other} overlap")
             }
             EntryFault::SharedGuid { number, other } => {
-                write!(f, "partitions {number} and {other} have one GUID")
+                write!(f, "partitions {number} and {other} have the same GUID")
             }
         }
     }

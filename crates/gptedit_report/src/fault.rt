@@ -20,7 +20,7 @@ impl fmt::Display for ErrorText<'_> {
                 let (primary, backup) = (Meaning(primary), Meaning(backup));
                 writeln!(
                     f,
-                    "there is no good copy: of the primary one, {primary}; of the backup, {backup}"
+                    "the disk has no good copy of a table; primary: {primary}; backup: {backup}"
                 )?;
             }
             error => writeln!(f, "{}", Meaning(error))?,
@@ -36,12 +36,12 @@ impl fmt::Display for ErrorText<'_> {
 // Returns the advice if no command helps.
 fn advice_for(error: &Error) -> &'static str {
     match error {
-        Error::Overflow => "make the disk longer",
+        Error::Overflow => "a longer disk is needed",
         Error::InvalidSignature | Error::ReadError(_, _) => {
-            "if a table was there, copy the disk before anything is written to it; \
-             use --sector if its sectors have another size"
+            "if there was a table, copy the disk before anything is written to it; \
+             if its sectors have another size, use --sector"
         }
-        _ => "run it again where there is more",
+        _ => "run the command again with more memory",
     }
 }
 
@@ -49,16 +49,12 @@ fn advice_for(error: &Error) -> &'static str {
 fn command_for(error: &Error) -> Option<(&'static str, &'static str)> {
     match error {
         Error::OutOfMemory | Error::Overflow => None,
-        Error::Io(_) => Some(("check", "reports what the disk has now")),
+        Error::Io(_) => Some(("check", "reports the state of the table")),
         Error::InvalidSignature | Error::ReadError(_, _) => None,
-        Error::NoSpaceLeft => Some(("free", "lists the free sectors")),
-        Error::ConflictPartitionGUID => {
-            Some(("randomize", "sets a new GUID for each partition"))
+        Error::NoSpaceLeft => Some(("free", "lists the free ranges")),
+        Error::InvalidPartitionNumber(_) | Error::UnusedPartition | Error::PartitionNotFound => {
+            Some(("show", "lists the partitions"))
         }
-        Error::InvalidPartitionNumber(_)
-        | Error::UnusedPartition
-        | Error::PartitionNotFound
-        | Error::InvalidPartitionBoundaries => Some(("show", "lists the partitions")),
         _ => Some(("check", "reports the faults")),
     }
 }
@@ -75,9 +71,9 @@ impl fmt::Display for Meaning<'_> {
             Error::InvalidPartitionEntryArrayChecksum(stored, computed) => {
                 write_sums(f, "entries", *stored, *computed)
             }
-            Error::InvalidPartitionNumber(number) => write!(f, "there is no entry {number}"),
+            Error::InvalidPartitionNumber(number) => write!(f, "entry {number} does not exist"),
             Error::InvalidPartitionEntrySize(size) => {
-                write!(f, "the entries have {size} bytes, and not 128")
+                write!(f, "the size of an entry is {size} bytes, not 128")
             }
             error => f.write_str(plain_meaning(error)),
         }
@@ -93,7 +89,7 @@ fn write_sums<W: fmt::Write>(
 ) -> fmt::Result {
     write!(
         f,
-        "the checksum of the {what} is {computed:08x}, and not {stored:08x} as stored"
+        "the checksum of the {what} is {computed:08x}, but {stored:08x} is stored"
     )
 }
 
@@ -101,18 +97,18 @@ fn write_sums<W: fmt::Write>(
 fn plain_meaning(error: &Error) -> &'static str {
     match error {
         Error::InvalidSignature => "there is no header of a table",
-        Error::InvalidRevision => "the header has another revision than 1.0",
-        Error::InvalidHeaderSize => "the header does not give its size as 92 bytes",
+        Error::InvalidRevision => "the revision of the header is not 1.0",
+        Error::InvalidHeaderSize => "the header size is not 92 bytes",
         Error::ReadError(_, _) => "there is no good copy",
-        Error::NoSpaceLeft => "there is no room",
-        Error::ConflictPartitionGUID => "two partitions have one GUID",
+        Error::NoSpaceLeft => "no free range is large enough",
+        Error::ConflictPartitionGUID => "two partitions have the same GUID",
         Error::InvalidPartitionBoundaries => {
-            "partitions would share sectors, end before they start, or lie outside of the usable sectors"
+            "partitions overlap, end before they start, or lie outside the usable sectors"
         }
         Error::UnusedPartition => "the entry is not used",
         Error::PartitionNotFound => "no partition has that sector",
         Error::Overflow => "the disk has too few sectors for two copies of the table",
-        Error::OutOfMemory => "there was no memory",
+        Error::OutOfMemory => "out of memory",
         _ => "the table is damaged",
     }
 }

@@ -31,7 +31,7 @@ pub enum Wrong<'a> {
     BackupBad(&'a Error),
     /// The primary header has another place for itself or its entries.
     PrimaryElsewhere,
-    /// The backup header or its entries are elsewhere.
+    /// The backup header does not name sector 1, or its entries do not follow the last usable sector.
     BackupElsewhere,
     /// The two copies are different tables.
     TwoTables,
@@ -70,9 +70,14 @@ impl Wrong<'_> {
     }
 }
 
-/// Returns all findings, in the order in which they are printed.
-pub fn find_all<'a>(alloc: Global, look: &'a Look) -> Result<Vec<Finding<'a>>, AllocError> {
-    let mut findings = Findings::new(alloc, look)?;
+/// Returns all findings, in the order in which they are printed. `is_device` says whether the disk is a block device,
+/// not an image file.
+pub fn find_all<'a>(
+    alloc: Global,
+    look: &'a Look,
+    is_device: bool,
+) -> Result<Vec<Finding<'a>>, AllocError> {
+    let mut findings = Findings::new(alloc, look, is_device)?;
     findings.add_copies()?;
     findings.add_standing()?;
     findings.add_bounds()?;
@@ -88,6 +93,7 @@ pub fn find_all<'a>(alloc: Global, look: &'a Look) -> Result<Vec<Finding<'a>>, A
 struct Findings<'a> {
     alloc: Global,
     look: &'a Look,
+    is_device: bool,
     standing: Option<Standing>,
     faults: Vec<EntryFault>,
     removal: Removal,
@@ -95,7 +101,7 @@ struct Findings<'a> {
 }
 
 impl<'a> Findings<'a> {
-    fn new(alloc: Global, look: &'a Look) -> Result<Findings<'a>, AllocError> {
+    fn new(alloc: Global, look: &'a Look, is_device: bool) -> Result<Findings<'a>, AllocError> {
         let faults = match &look.table {
             Some(table) => find_entry_faults(alloc, table)?,
             None => Vec::new(alloc),
@@ -107,6 +113,7 @@ impl<'a> Findings<'a> {
         Ok(Findings {
             alloc,
             look,
+            is_device,
             standing,
             removal: Removal::of(alloc, &faults)?,
             faults,
@@ -118,9 +125,9 @@ impl<'a> Findings<'a> {
     fn add(&mut self, wrong: Wrong<'a>) -> Result<(), AllocError> {
         let mut ways = Vec::new(self.alloc);
         match self.standing {
-            None | Some(Standing::Cut(_)) => (),
+            None => (),
             Some(Standing::Right) => ways.push(Way::Repair)?,
-            Some(Standing::Grown(_)) => ways.push(Way::Grow)?,
+            Some(Standing::Grown(_)) | Some(Standing::Cut(_)) => ways.push(Way::Grow)?,
             Some(Standing::Other) if self.are_bounds_over() => ways.push(Way::RepairBounds)?,
             Some(Standing::Other) => (),
         }
@@ -135,7 +142,12 @@ impl<'a> Findings<'a> {
         match self.standing {
             None => Otherwise::Save,
             Some(Standing::Cut(last)) => {
-                Otherwise::Lengthen(length_to(last, self.look.sector_size))
+                let size = length_to(last, self.look.sector_size);
+                if self.is_device {
+                    Otherwise::LongerDisk(size)
+                } else {
+                    Otherwise::Lengthen(size)
+                }
             }
             _ => Otherwise::OtherTool,
         }
@@ -208,7 +220,11 @@ impl<'a> Findings<'a> {
         if !edges.are_over() && !is_low {
             return Ok(());
         }
-        let mut ways = vec![in self.alloc; Way::RepairBounds]?;
+        let way = match self.standing {
+            Some(Standing::Grown(_)) | Some(Standing::Cut(_)) => Way::Grow,
+            _ => Way::RepairBounds,
+        };
+        let mut ways = vec![in self.alloc; way]?;
         if let Some(way) = self.removal.way(self.alloc)? {
             ways.push(way)?;
         }
@@ -280,18 +296,22 @@ impl fmt::Display for Wrong<'_> {
             Wrong::PrimaryBad(fault) => write_bad(f, "primary", *fault),
             Wrong::BackupBad(fault) => write_bad(f, "backup", *fault),
             Wrong::Grown(last) => {
-                f.write_str("the disk is longer than the table says, which ends at sector ")?;
-                write!(f, "{last}")
+                write!(
+                    f,
+                    "the disk is longer than the table, which ends at sector {last}"
+                )
             }
             Wrong::Cut(last) => {
-                f.write_str("the disk is shorter than the table says, which ends at sector ")?;
-                write!(f, "{last}")
+                write!(
+                    f,
+                    "the disk is shorter than the table, which ends at sector {last}"
+                )
             }
             Wrong::Bounds(edges) => write!(f, "{edges}"),
             Wrong::Entry(fault) => write!(f, "{fault}"),
             Wrong::Protective(count) => write!(f, "the MBR has {count} entries of type 0xEE"),
             Wrong::Signature(signature) => write_signature(f, signature),
-            Wrong::Footer(name) => write!(f, "the image ends with {name}"),
+            Wrong::Footer(name) => write!(f, "the disk ends with {name}"),
             other => f.write_str(other.text()),
         }
     }
@@ -316,7 +336,7 @@ fn write_signature<W: fmt::Write>(f: &mut fmt::Formatter<W>, signature: &Signatu
     };
     write!(
         f,
-        "the header of a table with sectors of {sector_size} bytes is at the {place}, at byte {at}"
+        "a header of a table with sectors of {sector_size} bytes is at the {place} of the disk, at byte {at}"
     )
 }
 
@@ -324,16 +344,17 @@ impl Wrong<'_> {
     // Returns the text of a finding without numbers.
     fn text(&self) -> &'static str {
         match self {
-            Wrong::PrimaryElsewhere => "the primary header says that its copy is elsewhere",
-            Wrong::BackupElsewhere => "the backup header says that its copy is elsewhere",
-            Wrong::TwoTables => "the two copies are different tables; the primary one is used",
-            Wrong::NoLayout => "the table is not where gptedit writes one",
+            Wrong::PrimaryElsewhere =>
+                "the primary copy is not in its usual place (header in sector 1, entries from sector 2 on)",
+            Wrong::BackupElsewhere =>
+                "the backup entries do not follow the last usable sector, or their header does not name sector 1",
+            Wrong::TwoTables => "the copies are different tables; repair keeps the primary one",
+            Wrong::NoLayout => "the table is not in the layout that gptedit writes",
             Wrong::NoMbr => "there is no protective MBR",
-            Wrong::OtherMbr => "there is no protective MBR: sector 0 is a boot sector",
+            Wrong::OtherMbr => "there is no protective MBR, but a boot sector in sector 0",
             Wrong::DosMbr => "the disk has a DOS partition table",
-            Wrong::MbrLength => "the protective MBR has another length than the disk",
-            Wrong::Hybrid =>
-                "the MBR is a hybrid one: it lists partitions beside the protective entry",
+            Wrong::MbrLength => "the length in the protective MBR is not that of the disk",
+            Wrong::Hybrid => "the MBR is hybrid: it lists partitions besides the protective entry",
             _ => "a copy is bad",
         }
     }

@@ -62,17 +62,20 @@ impl fmt::Display for ShortenedText<'_> {
         let name = self.content.name;
         write!(
             f,
-            "partition {number} would end at sector {next_last}, and has {name}"
+            "partition {number} would end at sector {next_last}, but contains {name}"
         )?;
         match self.content.end {
             Some(end) => {
                 let sectors = end.div_ceil(self.sector_size.max(1));
                 let last = sectors.saturating_sub(1).max(first);
                 writeln!(f, " that ends at sector {last}")?;
+                f.write_str("shrink that first; --overwrite writes the table anyway")
             }
-            None => writeln!(f, ", whose length is not known")?,
+            None => {
+                writeln!(f, " of unknown length")?;
+                f.write_str("shrink that first, then use --overwrite")
+            }
         }
-        f.write_str("make that shorter first; --overwrite writes the table all the same")
     }
 }
 

@@ -7,8 +7,7 @@ use gptedit_look::salvage::{CopyKind, FoundCopy, Salvaged};
 use gptedit_text::values::Escaped;
 use std::fmt;
 
-/// Message: no copy of the table is good, the fault of each, and the remedy. Two or three lines, without the last
-/// newline.
+/// Message: no copy of the table is good, the fault of each, and the remedy. Three lines, without the last newline.
 #[derive(Clone, Copy)]
 pub struct NoTableText<'a> {
     /// The inspection of the disk.
@@ -22,12 +21,12 @@ pub struct NoTableText<'a> {
 impl fmt::Display for NoTableText<'_> {
     fn fmt<W: fmt::Write>(&self, f: &mut fmt::Formatter<W>) -> fmt::Result {
         let copies = &self.look.copies;
-        f.write_str("there is no good copy")?;
+        f.write_str("the disk has no good copy of a table")?;
         if let Err(primary) = &copies.primary {
-            write!(f, ": of the primary one, {}", Meaning(primary))?;
+            write!(f, "; primary: {}", Meaning(primary))?;
         }
         if let Err(backup) = &copies.backup {
-            write!(f, "; of the backup, {}", Meaning(backup))?;
+            write!(f, "; backup: {}", Meaning(backup))?;
         }
         f.write_str("\n")?;
         let primary = count_in(self.salvaged, CopyKind::Primary);
@@ -44,7 +43,7 @@ impl fmt::Display for NoTableText<'_> {
             "`gptedit salvage {image}` prints what can be read; {SAVE}"
         )?;
         if primary == 0 && backup == 0 {
-            f.write_str("; use --sector if its sectors have another size")?;
+            f.write_str("\nif its sectors have another size, use --sector")?;
         }
         Ok(())
     }

@@ -37,7 +37,7 @@ impl fmt::Display for ObstacleText<'_> {
             (_, Purpose::New) => self.write_new(f),
             (What::DosDisk, _) => f.write_str(DOS),
             (What::Footer(name), _) => {
-                writeln!(f, "the image ends with {name}, which would be overwritten")?;
+                writeln!(f, "the disk ends with {name}, which would be overwritten")?;
                 f.write_str(LIFTED)
             }
             (What::BoardCode, Purpose::Edit | Purpose::Fit) => {
@@ -55,10 +55,10 @@ impl fmt::Display for ObstacleText<'_> {
 // The refusal for a disk with a DOS partition table.
 const DOS: &str =
     "the disk has a DOS partition table, and its boot loader may be in sectors 1..33\n\
-    --overwrite writes the GUID partition table all the same";
+    --overwrite writes the GUID partition table anyway";
 
 // The option that permits a change.
-const LIFTED: &str = "--overwrite writes the table all the same";
+const LIFTED: &str = "--overwrite writes the table anyway";
 
 impl ObstacleText<'_> {
     // Writes the refusal of a new table.
@@ -66,9 +66,14 @@ impl ObstacleText<'_> {
         write!(f, "there is {}", self.what())?;
         if let (What::Table, Some(table)) = (self.obstacle.what, self.table) {
             let count = table.iter().filter(|(_, entry)| entry.is_used()).count();
-            write!(f, " of {count} partitions")?;
+            let noun = if count == 1 {
+                "partition"
+            } else {
+                "partitions"
+            };
+            write!(f, " with {count} {noun}")?;
         }
-        f.write_str(", which would be lost\n--overwrite writes a new table all the same")
+        f.write_str(", which would be lost\n--overwrite writes a new table anyway")
     }
 
     // Writes the sectors and their contents.
@@ -76,22 +81,21 @@ impl ObstacleText<'_> {
         let Obstacle { first, last, .. } = *self.obstacle;
         writeln!(
             f,
-            "sectors {first}..{last} would be overwritten, where there is {}",
+            "sectors {first}..{last} hold {}, which would be overwritten",
             self.what()
         )
     }
 
-    // Writes that `repair` writes there. Over the same entries it replaces nothing.
+    // Writes that `repair` writes there, after its dry run. Over the same entries it replaces nothing.
     fn write_repair<W: fmt::Write>(&self, f: &mut fmt::Formatter<W>) -> fmt::Result {
         let image = Escaped(self.image);
-        write!(f, "`gptedit repair {image}` writes the copy there")?;
-        if self.remains == Remains::SameEntries {
-            return Ok(());
+        if self.remains != Remains::SameEntries {
+            write!(
+                f,
+                "`gptedit repair {image} --dry-run` names what would be lost; "
+            )?;
         }
-        write!(
-            f,
-            "; `gptedit repair {image} --dry-run` names what it replaces"
-        )
+        write!(f, "`gptedit repair {image}` writes the copy there")
     }
 
     fn what(&self) -> WhatText {
@@ -134,7 +138,7 @@ fn remains_name(remains: Remains) -> &'static str {
         Remains::OtherEntries =>
             "an array of entries of another table, or of older entries of this one",
         Remains::Unknown =>
-            "something in the place of a broken copy, as the boot loader of a board",
+            "unknown data in the place of a broken copy, such as the boot loader of a board",
     }
 }
 
@@ -142,13 +146,12 @@ fn remains_name(remains: Remains) -> &'static str {
 fn plain_name(what: What) -> &'static str {
     match what {
         What::DosDisk => "an MBR with partitions",
-        What::ElsewhereEntries =>
-            "something in the place of entries that another tool put elsewhere",
-        What::AfterLastUsable => "something after the last usable sector",
+        What::ElsewhereEntries => "data other than the entries of the table",
+        What::AfterLastUsable => "data after the last usable sector",
         What::Table => "a GUID partition table",
         What::Header => "the header of a GUID partition table",
         What::ProtectiveMbr => "a protective MBR",
         What::BootSector => "a boot sector",
-        _ => "something that is not zero",
+        _ => "data that is not zero",
     }
 }

@@ -33,12 +33,12 @@ impl fmt::Display for RefusalText<'_> {
             Refusal::WouldMove(number) => self.write_would_move(f, *number),
             Refusal::NotAsked(number) => self.write_not_asked(f, *number),
             Refusal::NoRoom(number) => self.write_no_room(f, *number),
-            Refusal::Twice(number) => write!(f, "entry {number} is asked for twice: name it once"),
+            Refusal::Twice(number) => write!(f, "entry {number} is named twice; name it once"),
             Refusal::NoType(number) => write_no_type(f, *number),
             Refusal::NoSize(number) => write_no_size(f, *number),
             Refusal::TooLarge(number) => write_too_large(f, *number),
             Refusal::NotLaidOut => write_not_laid_out(f, self.image),
-            Refusal::TooSmall => write_too_small(f),
+            Refusal::TooSmall => self.write_too_small(f),
             Refusal::SharedGuid => write_shared_guid(f, self.image),
             Refusal::BadBoundaries => write_bad_boundaries(f, self.image, self.table),
             Refusal::TooSmallFor(count) => write_too_small_for(f, *count),
@@ -59,25 +59,24 @@ impl RefusalText<'_> {
 
     fn write_no_unused<W: fmt::Write>(&self, f: &mut fmt::Formatter<W>) -> fmt::Result {
         let (count, image) = (self.count(), Escaped(self.image));
+        writeln!(f, "all {count} entries of the table are used")?;
         write!(
             f,
-            "all {count} entries are used: `gptedit remove {image} N` empties one"
+            "first remove a partition that is no longer needed: `gptedit remove {image} N --backup FILE`"
         )
     }
 
     fn write_no_entry<W: fmt::Write>(&self, f: &mut fmt::Formatter<W>, number: u32) -> fmt::Result {
         let count = self.count();
-        write!(f, "there is no entry {number}: the table has {count}")
+        write!(
+            f,
+            "entry {number} does not exist; the last entry is {count}"
+        )
     }
 
     fn write_is_used<W: fmt::Write>(&self, f: &mut fmt::Formatter<W>, number: u32) -> fmt::Result {
         self.write_entry(f, number)?;
-        write!(
-            f,
-            " is there already\nwithout a number the lowest unused one is taken; "
-        )?;
-        let image = Escaped(self.image);
-        write!(f, "`gptedit remove {image} {number}` empties it")
+        f.write_str(" already exists\nwithout --number, the lowest unused entry is used")
     }
 
     fn write_is_unused<W: fmt::Write>(
@@ -87,7 +86,7 @@ impl RefusalText<'_> {
     ) -> fmt::Result {
         write!(
             f,
-            "entry {number} is not used: `gptedit show {}` lists those that are",
+            "entry {number} is not used; `gptedit show {}` lists the partitions",
             Escaped(self.image)
         )
     }
@@ -99,7 +98,8 @@ impl RefusalText<'_> {
     ) -> fmt::Result {
         self.write_entry(f, number)?;
         f.write_str(
-            " would not stay where it is\n--replace assigns other sectors to it and does not move its contents",
+            " would move or change size\n\
+             omit its start and size to keep it; --replace changes it, but does not move its contents",
         )
     }
 
@@ -109,15 +109,23 @@ impl RefusalText<'_> {
         number: u32,
     ) -> fmt::Result {
         self.write_entry(f, number)?;
-        f.write_str(" is not in the layout\n--replace removes it")
+        f.write_str(" is not in the layout\nadd it there to keep it, or use --replace to remove it")
     }
 
     fn write_no_room<W: fmt::Write>(&self, f: &mut fmt::Formatter<W>, number: u32) -> fmt::Result {
         let image = Escaped(self.image);
         write!(
             f,
-            "there is no room for partition {number}: `gptedit free {image}` lists the free sectors"
+            "partition {number} does not fit into a free range at this alignment; \
+             `gptedit free {image}` lists the ranges"
         )
+    }
+
+    fn write_too_small<W: fmt::Write>(&self, f: &mut fmt::Formatter<W>) -> fmt::Result {
+        if self.count() == 0 {
+            return f.write_str("the table has no entries, and cannot be fitted to the disk");
+        }
+        f.write_str("the disk is too small for two copies of the table; a longer disk is needed")
     }
 
     // Writes the number of a partition, and its entry.
@@ -141,13 +149,13 @@ fn write_not_whole<W: fmt::Write>(
 ) -> fmt::Result {
     write!(
         f,
-        "{} is no whole number of sectors of {sector_size} bytes",
+        "{} is not a whole number of sectors of {sector_size} bytes",
         AmountText(amount)
     )?;
     let Some((bytes, sectors)) = round_up(amount, sector_size) else {
         return Ok(());
     };
-    write!(f, ": say {bytes}B or {sectors}s")
+    write!(f, "; use {bytes}B or {sectors}s")
 }
 
 // Returns the amount, rounded up to a whole number of sectors, in bytes and in sectors.
@@ -162,51 +170,45 @@ fn round_up(amount: Amount, sector_size: u64) -> Option<(u64, u64)> {
 }
 
 fn write_no_type<W: fmt::Write>(f: &mut fmt::Formatter<W>, number: u32) -> fmt::Result {
-    write!(
-        f,
-        "partition {number} has no type: say --type, or type in the layout; "
-    )?;
-    f.write_str("`gptedit types` lists those that have a name")
+    write!(f, "partition {number} has no type, or a type of zeros; ")?;
+    f.write_str("use one that `gptedit types` lists, or another GUID")
 }
 
 fn write_no_size<W: fmt::Write>(f: &mut fmt::Formatter<W>, number: u32) -> fmt::Result {
     write!(
         f,
-        "partition {number} has no size: say --size, or size in the layout, as 64MiB, 2048s or rest"
+        "partition {number} has no size, or a size of zero; use for example 64MiB or 2048s"
     )
 }
 
 fn write_too_large<W: fmt::Write>(f: &mut fmt::Formatter<W>, number: u32) -> fmt::Result {
     write!(
         f,
-        "partition {number} would end past 2^64 sectors: say a smaller start or size"
+        "partition {number} would end past 2^64 sectors; use a smaller start or size"
     )
 }
 
 /// Writes that a table does not have the stated layout, and the remedy.
 pub fn write_not_laid_out<W: fmt::Write>(f: &mut fmt::Formatter<W>, image: &str) -> fmt::Result {
     let image = Escaped(image);
-    writeln!(f, "the table is not where gptedit writes one")?;
+    writeln!(
+        f,
+        "the table is for a disk of another length, or is not in the layout that gptedit writes"
+    )?;
     write!(
         f,
-        "if the disk has grown, run `gptedit grow {image}`, otherwise the tool that made the table; "
+        "if the length of the disk has changed, run `gptedit grow {image}`; "
     )?;
-    write!(f, "`gptedit check {image}` says which")
-}
-
-fn write_too_small<W: fmt::Write>(f: &mut fmt::Formatter<W>) -> fmt::Result {
-    f.write_str(
-        "the disk is too small for the table, or the table has no entries: make the disk longer",
-    )
+    write!(f, "else see `gptedit check {image}`")
 }
 
 fn write_too_small_for<W: fmt::Write>(f: &mut fmt::Formatter<W>, count: u32) -> fmt::Result {
     if count == 0 {
-        return f.write_str("a table has at least one entry: say --entries 128");
+        return f.write_str("the number of entries must not be zero; use for example 128");
     }
     write!(
         f,
-        "the disk is too small for two copies of a table of {count} entries: say fewer, or make it longer"
+        "the disk is too small for two copies of a table of {count} entries; use fewer, or a longer disk"
     )
 }
 
@@ -217,22 +219,23 @@ fn write_out_of_bounds<W: fmt::Write>(
 ) -> fmt::Result {
     write!(
         f,
-        "the usable sectors cannot end before they begin, or reach out of {first}..{last}: say others"
+        "the usable sectors must be within {first}..{last} and not end before they begin; correct the layout"
     )
 }
 
 fn write_no_safe_order<W: fmt::Write>(f: &mut fmt::Formatter<W>) -> fmt::Result {
     f.write_str("the new table would overwrite the only good copy of the old one\n")?;
-    f.write_str("--overwrite writes it anyway; a crash during the write may leave neither")
+    f.write_str("--overwrite writes it anyway; a crash during the write may then leave neither")
 }
 
 /// Writes that two partitions would have the same GUID, and the remedy.
 pub fn write_shared_guid<W: fmt::Write>(f: &mut fmt::Formatter<W>, image: &str) -> fmt::Result {
     let image = Escaped(image);
-    writeln!(f, "two partitions would have one GUID")?;
+    writeln!(f, "two partitions would have the same GUID")?;
+    f.write_str("use another one, or omit it for a random one; ")?;
     write!(
         f,
-        "say another, or none for a random one; `gptedit show {image}` lists those that are there"
+        "`gptedit check {image}` reports GUIDs that are shared already"
     )
 }
 
@@ -243,11 +246,13 @@ pub fn write_bad_boundaries<W: fmt::Write>(
     table: Option<&GPT>,
 ) -> fmt::Result {
     let image = Escaped(image);
-    f.write_str("partitions would share sectors, or lie outside of the usable ones")?;
+    f.write_str("partitions would overlap, or lie outside the usable sectors")?;
     if let Some(table) = table {
         let (first, last) = (table.header.first_usable_lba, table.header.last_usable_lba);
         write!(f, ", {first}..{last}")?;
     }
-    f.write_str("\n")?;
-    write!(f, "`gptedit free {image}` lists the free sectors")
+    write!(
+        f,
+        "\n`gptedit free {image}` lists the free ranges; `gptedit check {image}` reports existing faults"
+    )
 }

@@ -47,8 +47,10 @@ impl Way {
 pub enum Otherwise {
     /// Copy the disk first: there is no table.
     Save,
-    /// Restore the former length of the disk, in bytes.
+    /// Restore the former length of the image, in bytes.
     Lengthen(u64),
+    /// Copy the disk again, to one of at least this length in bytes.
+    LongerDisk(u64),
     /// Use the tool that made it.
     OtherTool,
 }
@@ -78,7 +80,7 @@ impl fmt::Display for WayOut<'_> {
                 for number in numbers.iter() {
                     write!(f, " {number}")?;
                 }
-                f.write_str("`")
+                f.write_str(" --backup FILE`")
             }
             Some(Way::PutOver(number)) => {
                 write!(
@@ -107,8 +109,19 @@ fn write_otherwise<W: fmt::Write>(
             "copy the image again, or restore its length with {}",
             Truncate { size, image }
         ),
-        Otherwise::OtherTool => f.write_str("the tool that made it"),
+        Otherwise::LongerDisk(size) => write_longer_disk(f, size),
+        Otherwise::OtherTool => {
+            f.write_str("no command corrects it; use the program that wrote it")
+        }
     }
+}
+
+/// Writes the advice for a block device that is too short: it needs `size` bytes.
+pub(crate) fn write_longer_disk<W: fmt::Write>(
+    f: &mut fmt::Formatter<W>,
+    size: u64,
+) -> fmt::Result {
+    write!(f, "copy the disk again, to one of at least {size} bytes")
 }
 
 /// The command that sets the length of an image to `size` bytes.

@@ -58,7 +58,7 @@ impl fmt::Display for LayoutError {
             }
             LayoutError::Empty => f.write_str(
                 "the layout is empty: it has no key and no header\n\
-                 a layout without partitions says so by [disk], or as a script by label: gpt",
+                 a layout for a table without partitions has [disk], or as a script label: gpt",
             ),
             LayoutError::Unknown { place, key } => write_unknown(f, *place, key.as_str()),
             LayoutError::Fault { place, key, fault } => {
@@ -66,7 +66,7 @@ impl fmt::Display for LayoutError {
                 let section = place.section;
                 write!(f, "{key} of {section}: {fault}")
             }
-            LayoutError::OutOfMemory => f.write_str("no memory"),
+            LayoutError::OutOfMemory => f.write_str("out of memory"),
         }
     }
 }
@@ -83,7 +83,7 @@ fn write_unknown<W: fmt::Write>(f: &mut fmt::Formatter<W>, place: Place, key: &s
     let section = place.section;
     write!(
         f,
-        "\"{}\" is no key of {section}; the keys are ",
+        "\"{}\" is not a key of {section}; the keys are ",
         Escaped(key)
     )?;
     let mut comma = "";

@@ -91,10 +91,11 @@ impl Form {
 impl fmt::Display for OtherValue {
     fn fmt<W: fmt::Write>(&self, f: &mut fmt::Formatter<W>) -> fmt::Result {
         let OtherValue { key, said, is } = *self;
-        writeln!(f, "{key} is {said} here, and {is} in the table")?;
-        write!(
-            f,
-            "without {key} the partitions are put into the table as it is"
-        )
+        writeln!(f, "{key} is {said} in the layout, but {is} on the disk")?;
+        write!(f, "remove {key} from the layout to keep that of the disk")?;
+        if key == "sector-size" {
+            f.write_str("; values in sectors then mean other bytes")?;
+        }
+        Ok(())
     }
 }

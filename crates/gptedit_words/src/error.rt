@@ -11,8 +11,7 @@ use std::error::Error;
 use std::{fmt, io};
 
 // The message for `set` without a field.
-const NOTHING_TO_SET: &str =
-    "error: nothing to set: give --name, --type, --guid or --attributes\n\n\
+const NOTHING_TO_SET: &str = "error: nothing to set; use --name, --type, --guid or --attributes\n\n\
                               For more information, try '--help'.\n";
 
 /// An error of a command line.
@@ -64,7 +63,12 @@ impl fmt::Display for WordsError<'_> {
             WordsError::Usage(error) => write!(f, "{error}"),
             WordsError::Value { word, text, wrong } => write_value(f, word, text, wrong),
             WordsError::Sector(text) => {
-                write_value(f, "--sector", text, "512, 1024, 2048, 4096, or auto")
+                write_value(
+                    f,
+                    "--sector",
+                    text,
+                    "it must be 512, 1024, 2048, 4096 or auto",
+                )
             }
             WordsError::LongName(text) => {
                 write_value(f, "--name", text, "a name has at most 36 units of UTF-16")

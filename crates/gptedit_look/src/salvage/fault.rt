@@ -111,16 +111,10 @@ impl fmt::Display for Fault {
             Fault::Signature => f.write_str("the header does not begin with EFI PART"),
             Fault::Revision(bytes) => write_revision(f, bytes),
             Fault::LongHeader(size) => {
-                write!(
-                    f,
-                    "the header says that it has {size} bytes; gptman reads 92 only"
-                )
+                write!(f, "the header size is {size} bytes; gptman reads only 92")
             }
             Fault::HeaderSize(size) => {
-                write!(
-                    f,
-                    "the header says that it has {size} bytes, which none has"
-                )
+                write!(f, "the header size is {size} bytes, which is not valid")
             }
             Fault::HeaderChecksum { stored, computed } => {
                 write!(f, "the header's checksum is wrong: ")?;
@@ -129,9 +123,9 @@ impl fmt::Display for Fault {
             Fault::HeaderByte { index, was, is } => {
                 write!(
                     f,
-                    "byte {index} of the header is {was:02x} and was read as {is:02x}, "
+                    "byte {index} of the header is {was:02x}, but was read as {is:02x}, "
                 )?;
-                f.write_str("by the header's checksum")
+                f.write_str("which matches the header's checksum")
             }
             Fault::OtherSector { said } => write!(f, "the header says that it is in sector {said}"),
             Fault::OtherCopy {
@@ -208,9 +202,9 @@ fn write_entries_fault<W: fmt::Write>(f: &mut fmt::Formatter<W>, fault: Fault) -
         } => {
             write!(
                 f,
-                "byte {index} of entry {number} is {was:02x} and was read as {is:02x}, "
+                "byte {index} of entry {number} is {was:02x}, but was read as {is:02x}, "
             )?;
-            f.write_str("by the checksum of the entries")
+            f.write_str("which matches the checksum of the entries")
         }
         _ => Ok(()),
     }
@@ -219,7 +213,7 @@ fn write_entries_fault<W: fmt::Write>(f: &mut fmt::Formatter<W>, fault: Fault) -
 fn write_revision<W: fmt::Write>(f: &mut fmt::Formatter<W>, bytes: [u8; 4]) -> fmt::Result {
     let number = u32::from_le_bytes(bytes);
     let (major, minor) = (number >> 16, number & 0xffff);
-    write!(f, "the header's revision is {major}.{minor}, and not 1.0")
+    write!(f, "the header's revision is {major}.{minor}, not 1.0")
 }
 
 // Writes a stored checksum and the computed one.
@@ -241,7 +235,7 @@ fn write_other<W: fmt::Write>(
     if said >= sectors {
         write!(f, "which is past the end of the disk")
     } else {
-        write!(f, "and not in sector {usual}")
+        write!(f, "not in sector {usual}")
     }
 }
 
@@ -273,7 +267,7 @@ impl fmt::Display for EntryFault {
             EntryFault::EndsBeforeStart => f.write_str("it ends before it starts"),
             EntryFault::PastEnd => f.write_str("it ends past the end of the disk"),
             EntryFault::NotUsable { first, last } => {
-                write!(f, "it is not all in the usable sectors {first}..{last}")
+                write!(f, "it is not within the usable sectors {first}..{last}")
             }
             EntryFault::Overlaps(number) => write!(f, "it overlaps partition {number}"),
             EntryFault::SharesGuid(number) => write!(f, "it has the GUID of partition {number}"),

@@ -124,7 +124,7 @@ fn print_entry_faults<W: Write>(out: &mut W, found: &FoundEntry, frame: &Frame) 
         let (first, last) = (frame.first, frame.last);
         write!(
             out,
-            "#   partition {number}: it is not all in {first}..{last}, "
+            "#   partition {number}: it is not within {first}..{last}, "
         )?;
         writeln!(out, "the sectors between the copies of a table here")?;
     }

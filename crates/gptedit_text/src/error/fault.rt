@@ -64,7 +64,7 @@ impl fmt::Display for Fault {
             Fault::Taken(number) => {
                 write!(
                     f,
-                    "a partition before it has the number {number}; give each its own"
+                    "an earlier partition has the number {number}; give each its own"
                 )
             }
             fault => f.write_str(fault.rule()),
@@ -76,35 +76,44 @@ impl Fault {
     // Returns the rule for a fault without a value.
     fn rule(self) -> &'static str {
         match self {
-            Fault::NotTable => "it is one table, as [disk]",
-            Fault::NotTables => "it is a table for each partition, as [[partition]]",
-            Fault::NotText => "it is a text in double quotes",
-            Fault::NotSize => "it is a text with a unit, as \"2048s\" (sectors) or \"64MiB\"",
-            Fault::NotNumber => "a number is whole, from 1 to 4294967295",
-            Fault::NotAttributes => "attributes are a list, as [\"required\", 60]",
-            Fault::SecondRest => "only one partition has the rest; give the others a size",
-            Fault::LongName => "a name has at most 36 units of UTF-16",
-            Fault::ZeroInName => "a name has no zero character",
-            Fault::NotUnits => {
-                "it is at most 36 units of UTF-16, of four hexadecimal digits each, as \"0041 d800\""
+            Fault::NotTable => "it must be one table, [disk]",
+            Fault::NotTables => "it must be a table [[partition]] for each partition",
+            Fault::NotText => "it must be a text in double quotes",
+            Fault::NotSize => {
+                "it must be a text with a unit, for example \"2048s\" (sectors) or \"64MiB\""
             }
-            Fault::TwoNames => "the partition has a name too; give only one of the two",
-            Fault::NotEntries => "it is a whole number from 0 to 4294967295, as 128",
-            Fault::NotSectorSize => "it is a number of bytes with a unit, as \"512B\" or \"4KiB\"",
-            Fault::NotSector => "it is a text with s for the unit, as \"34s\"",
-            Fault::NotGpt => "the label is gpt",
-            Fault::NotInSectors => "the unit is sectors",
-            Fault::NotCount => "it is a whole number below 2^64",
+            Fault::NotNumber => "it must be a whole number from 1 to 4294967295",
+            Fault::NotAttributes => "it must be a list, for example [\"required\", 60]",
+            Fault::SecondRest => "only one partition can have the rest; give the others a size",
+            Fault::LongName => "a name has at most 36 units of UTF-16",
+            Fault::ZeroInName => "a name must not contain a zero character",
+            Fault::NotUnits => {
+                "it must be at most 36 units of UTF-16, of four hexadecimal digits each, for example \
+                 \"0041 d800\""
+            }
+            Fault::TwoNames => "the partition also has the key name; use only one of the two",
+            Fault::NotEntries => "it must be a whole number from 1 to 32768, for example 128",
+            Fault::NotSectorSize => {
+                "it must be a number of bytes with a unit, for example \"512B\" or \"4KiB\""
+            }
+            Fault::NotSector => "it must be a text with the unit s, for example \"34s\"",
+            Fault::NotGpt => "it must be gpt; other partition tables are not supported",
+            Fault::NotInSectors => "it must be sectors",
+            Fault::NotCount => "it must be a whole number below 2^64",
             Fault::NotExtent => {
-                "it is a number of sectors, or of bytes with a unit, as 64MiB; + is the default"
+                "it must be a number of sectors, or of bytes with a unit, for example 64MiB; \
+                 + is the default"
             }
             Fault::NotScriptAttributes => {
                 "attributes are RequiredPartition, NoBlockIOProtocol, LegacyBIOSBootable and bits \
-                 from 0 to 63, as GUID:60,63"
+                 from 0 to 63, for example GUID:60,63"
             }
-            Fault::Bootable => "the attribute is attrs=\"LegacyBIOSBootable\"",
-            Fault::OpenQuote => "a double quote has a second one, and a comma or a blank behind it",
-            Fault::NotUtf8 => "its escapes are UTF-8",
+            Fault::Bootable =>
+                "a GUID partition table has no such mark; use attrs=\"LegacyBIOSBootable\"",
+            Fault::OpenQuote => {
+                "a double quote must be closed, and a comma or a blank must follow"
+            }
+            Fault::NotUtf8 => "its escapes must be UTF-8",
             Fault::Value(_) | Fault::Taken(_) => "",
         }
     }

@@ -31,21 +31,25 @@ pub enum Wrong {
 impl fmt::Display for Wrong {
     fn fmt<W: fmt::Write>(&self, f: &mut fmt::Formatter<W>) -> fmt::Result {
         f.write_str(match self {
-            Wrong::NoUnit => "a size has a unit, as 2048s (sectors) or 64MiB",
-            Wrong::NoAmount => "a size is a whole number with a unit, as 2048s (sectors) or 64MiB",
-            Wrong::NoSector => "a sector is a whole number with s, as 34s",
-            Wrong::NoSize => {
-                "a size is a whole number with a unit, as 2048s (sectors) or 64MiB, or rest"
+            Wrong::NoUnit => "a unit is missing; use for example 2048s (sectors) or 64MiB",
+            Wrong::NoAmount => {
+                "it must be a whole number with a unit, for example 2048s (sectors) or 64MiB"
             }
-            Wrong::TooLarge => "a size is below 2^64 sectors or bytes",
-            Wrong::NoType => "a type is a name, as efi or linux, or a GUID",
-            Wrong::NoGuid => "a GUID is written as c12a7328-f81f-11d2-ba4b-00a0c93ec93b",
+            Wrong::NoSector => "it must be a whole number with the unit s, for example 34s",
+            Wrong::NoSize => {
+                "it must be rest, or a whole number with a unit, for example 2048s (sectors) or 64MiB"
+            }
+            Wrong::TooLarge => "it must be below 2^64 sectors or bytes",
+            Wrong::NoType => {
+                "it must be a GUID, or a name that `gptedit types` lists, for example efi or linux"
+            }
+            Wrong::NoGuid => "it must have the form c12a7328-f81f-11d2-ba4b-00a0c93ec93b",
             Wrong::NoAttribute => {
                 "attributes are required, no-block-io, legacy-boot, grow-file-system, read-only, \
                  no-auto and bits from 0 to 63, with commas between; or all 64 bits as 0x.."
             }
-            Wrong::NoChoice => "a choice is first, last or best",
-            Wrong::NoLock => "it is wait, fail or none",
+            Wrong::NoChoice => "it must be first, last or best",
+            Wrong::NoLock => "it must be wait, fail or none",
         })
     }
 }
