@@ -10,6 +10,9 @@ ROOT = "c0ffee00-0000-4000-8000-000000000002"
 EFI = "c12a7328-f81f-11d2-ba4b-00a0c93ec93b"
 LINUX = "0fc63daf-8483-4772-8e79-3d69d8477de4"
 SWAP = "0657fd6d-a4ab-43c4-84e5-0933c84b4f4f"
+# The names of attributes by their bits, and those of sfdisk.
+NAMED = {0: "required", 1: "no-block-io", 2: "legacy-boot", 59: "grow-file-system", 60: "read-only", 63: "no-auto"}
+SFDISK = {0: "RequiredPartition", 1: "NoBlockIOProtocol", 2: "LegacyBIOSBootable"}
 
 HEAD = f"""disk.img: 262144 sectors of 512 bytes (128 MiB), GUID {DISK}
 usable sectors 34..262110, 128 entries; both copies good
@@ -155,11 +158,9 @@ def try_editing(tally, program):
 def try_attributes(tally, program):
     """Each attribute, by its name and by the number of its bit."""
     start(program)
-    names = {"required": 0, "no-block-io": 1, "legacy-boot": 2, "grow-file-system": 59, "read-only": 60,
-             "no-auto": 63}
-    rows = [(name, 1 << bit) for name, bit in names.items()]
+    rows = [(name, 1 << bit) for bit, name in NAMED.items()]
     rows += [(str(bit), 1 << bit) for bit in range(64)]
-    rows += [("required,no-auto,7", 1 | 1 << 63 | 1 << 7), ("", 0)]
+    rows += [(f"{NAMED[0]},{NAMED[63]},7", 1 | 1 << 63 | 1 << 7), ("", 0)]
     for text, bits in rows:
         program.run("set", "disk.img", "1", "--attributes=" + text)
         found = table.read(program.file("disk.img")).entries[1].attributes

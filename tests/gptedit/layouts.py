@@ -7,7 +7,7 @@ import subprocess
 import uuid
 
 from harness import table
-from commands import DISK, EFI, ESP, ESP_ENTRY, LINUX, MIB, ROOT, SWAP, holds_table, says, start
+from commands import DISK, EFI, ESP, ESP_ENTRY, LINUX, MIB, NAMED, ROOT, SFDISK, SWAP, holds_table, says, start
 from refusals import refused
 
 LAYOUTS = 200
@@ -15,9 +15,6 @@ SCRIPTS = 80
 RANDOM = 4 * MIB
 # sfdisk writes no name with characters past U+FFFF.
 NAMES = ["", "root", "EFI System", "home-1", "Größe", "名前", "a'b", "tab\tbed", "x" * 36]
-BITS = {"required": 0, "no-block-io": 1, "legacy-boot": 2, "grow-file-system": 59, "read-only": 60,
-        "no-auto": 63}
-SPELLINGS = {0: "RequiredPartition", 1: "NoBlockIOProtocol", 2: "LegacyBIOSBootable"}
 
 # The layout of the guide, and the table that it gives an image of 128 MiB.
 LAYOUT = f"""[disk]
@@ -170,7 +167,7 @@ def draw(random_, number, names=NAMES):
         if last > RANDOM // 512 - 34:
             break
         free = [n for n in range(1, 129) if n not in entries]
-        bits = sum(1 << b for b in random_.sample(sorted(SPELLINGS) + list(range(48, 64)), random_.randrange(4)))
+        bits = sum(1 << b for b in random_.sample(sorted(SFDISK) + list(range(48, 64)), random_.randrange(4)))
         guid = str(uuid.UUID(int=random_.getrandbits(128)))
         kind = random_.choice([EFI, LINUX, SWAP, str(uuid.UUID(int=random_.getrandbits(128)))])
         entries[random_.choice(free[:9])] = table.Entry(kind, guid, first, last, bits, random_.choice(names))
@@ -187,8 +184,8 @@ def toml_of(guid, entries):
     """The layout in TOML."""
     lines = ["[disk]", f'guid = "{guid}"']
     for number, entry in entries.items():
-        names = [quoted(name) if entry.attributes >> bit & 1 else "" for name, bit in BITS.items()]
-        others = [str(bit) for bit in range(64) if entry.attributes >> bit & 1 and bit not in BITS.values()]
+        names = [quoted(name) if entry.attributes >> bit & 1 else "" for bit, name in NAMED.items()]
+        others = [str(bit) for bit in range(64) if entry.attributes >> bit & 1 and bit not in NAMED]
         lines += ["[[partition]]", f"number = {number}", f"name = {quoted(entry.name)}", f'type = "{entry.type}"',
                   f'guid = "{entry.guid}"', f'start = "{entry.first}s"',
                   f'size = "{entry.last - entry.first + 1}s"',
@@ -200,7 +197,7 @@ def script_of(guid, entries):
     """The layout as a script of sfdisk."""
     lines = ["label: gpt", f"label-id: {guid}", "unit: sectors", "first-lba: 34", ""]
     for number, entry in entries.items():
-        words = [word for bit, word in SPELLINGS.items() if entry.attributes >> bit & 1]
+        words = [word for bit, word in SFDISK.items() if entry.attributes >> bit & 1]
         others = ",".join(str(bit) for bit in range(48, 64) if entry.attributes >> bit & 1)
         attributes = " ".join(words + (["GUID:" + others] if others else []))
         lines.append(f"disk.img{number} : start={entry.first}, size={entry.last - entry.first + 1}, "

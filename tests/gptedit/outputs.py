@@ -6,11 +6,9 @@ import subprocess
 import tomllib
 
 from harness import table
-from commands import DISK, ESP, LINUX, ROOT
+from commands import DISK, ESP, LINUX, NAMED, ROOT, SFDISK
 from makers import IMAGE, ONE, SIZE, TWO, entry, make, of, set_field
 
-NAMED = {0: "required", 1: "no-block-io", 2: "legacy-boot", 59: "grow-file-system", 60: "read-only", 63: "no-auto"}
-SFDISK = {0: "RequiredPartition", 1: "NoBlockIOProtocol", 2: "LegacyBIOSBootable"}
 TYPES = os.path.join(os.path.dirname(__file__), "..", "..", "docs", "generated", "TYPES.md")
 
 
