@@ -1,6 +1,6 @@
 //! Faults of values.
 
-use crate::values::Wrong;
+use crate::values::{AllSfdiskNames, AttributeName, Wrong};
 use std::fmt;
 
 /// Why the value under a key is wrong.
@@ -67,13 +67,24 @@ impl fmt::Display for Fault {
                     "an earlier partition has the number {number}; give each its own"
                 )
             }
+            Fault::NotAttributes => {
+                let name = AttributeName(0);
+                write!(f, "it must be a list, for example [\"{name}\", 60]")
+            }
+            Fault::NotScriptAttributes => {
+                write!(
+                    f,
+                    "attributes are {} and bits from 0 to 63, for example GUID:60,63",
+                    AllSfdiskNames
+                )
+            }
             fault => f.write_str(fault.rule()),
         }
     }
 }
 
 impl Fault {
-    // Returns the rule for a fault without a value.
+    // Returns the rule for a fault whose message is one text.
     fn rule(self) -> &'static str {
         match self {
             Fault::NotTable => "it must be one table, [disk]",
@@ -83,7 +94,6 @@ impl Fault {
                 "it must be a text with a unit, for example \"2048s\" (sectors) or \"64MiB\""
             }
             Fault::NotNumber => "it must be a whole number from 1 to 4294967295",
-            Fault::NotAttributes => "it must be a list, for example [\"required\", 60]",
             Fault::SecondRest => "only one partition can have the rest; give the others a size",
             Fault::LongName => "a name has at most 36 units of UTF-16",
             Fault::ZeroInName => "a name must not contain a zero character",
@@ -104,17 +114,14 @@ impl Fault {
                 "it must be a number of sectors, or of bytes with a unit, for example 64MiB; \
                  + is the default"
             }
-            Fault::NotScriptAttributes => {
-                "attributes are RequiredPartition, NoBlockIOProtocol, LegacyBIOSBootable and bits \
-                 from 0 to 63, for example GUID:60,63"
-            }
             Fault::Bootable =>
                 "a GUID partition table has no such mark; use attrs=\"LegacyBIOSBootable\"",
             Fault::OpenQuote => {
                 "a double quote must be closed, and a comma or a blank must follow"
             }
             Fault::NotUtf8 => "its escapes must be UTF-8",
-            Fault::Value(_) | Fault::Taken(_) => "",
+            Fault::Value(_) | Fault::Taken(_) | Fault::NotAttributes | Fault::NotScriptAttributes =>
+                "",
         }
     }
 }

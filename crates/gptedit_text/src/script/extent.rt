@@ -4,23 +4,11 @@ ghost use Rattle.std.specs.Prelude.{◌≡◌, ◌≢◌, ◌<◌, ◌≤◌, �
 ghost use Rattle.std.specs.Str.Parse.{digits_value, IsNumeral};
 ghost use Rattle.gptedit_text.specs.Scripts.{HasScriptUnit, SaysExtent, SaysNoScriptNumber, SaysScriptNumber};
 
+use crate::values::{EIB, GIB, KIB, MIB, PIB, TIB, Unit};
 use gptedit_core::Amount;
 
-// The units, in bytes.
-const UNITS: [(&str, u64); 12] = [
-    ("K", 1 << 10),
-    ("KiB", 1 << 10),
-    ("M", 1 << 20),
-    ("MiB", 1 << 20),
-    ("G", 1 << 30),
-    ("GiB", 1 << 30),
-    ("T", 1 << 40),
-    ("TiB", 1 << 40),
-    ("P", 1 << 50),
-    ("PiB", 1 << 50),
-    ("E", 1 << 60),
-    ("EiB", 1 << 60),
-];
+// The units of scripts, each by its name or its letter.
+const UNITS: [Unit; 6] = [KIB, MIB, GIB, TIB, PIB, EIB];
 
 /// Reads a number of sectors, or of bytes with a unit, as `64MiB` or `64M`. `0x1E` is hexadecimal, not 1 EiB.
 pub fn read_extent(text: &str) -> Option<Amount>
@@ -42,9 +30,12 @@ pub fn read_extent(text: &str) -> Option<Amount>
 fn split_unit(text: &str) -> Option<(&str, u64)>
     ensures { IfSome result (λ parts. HasScriptUnit text.now parts.0.now parts.1) }
 {
-    for (name, bytes) in UNITS {
-        if let Some(number) = text.strip_suffix(name) {
-            return Some((number, bytes));
+    for unit in UNITS {
+        if let Some(number) = text.strip_suffix(unit.name) {
+            return Some((number, unit.bytes));
+        }
+        if let Some(number) = text.strip_suffix(unit.letter) {
+            return Some((number, unit.bytes));
         }
     }
     None

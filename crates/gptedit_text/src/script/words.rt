@@ -1,15 +1,8 @@
 //! Types, attributes and names in a script.
 
 use crate::error::{Fault, LayoutError, Place};
-use crate::values::{Wrong, read_type};
+use crate::values::{Wrong, find_sfdisk_bit, read_type};
 use std::alloc::Global;
-
-// The named attributes, and their bits.
-const NAMES: [(&str, u64); 3] = [
-    ("RequiredPartition", 0),
-    ("NoBlockIOProtocol", 1),
-    ("LegacyBIOSBootable", 2),
-];
 
 /// Reads a type: a letter or a short name of `sfdisk`, a name, or a GUID.
 pub fn read_script_type(word: &str) -> Result<[u8; 16], Wrong> {
@@ -37,10 +30,8 @@ pub fn read_script_attributes(text: &str) -> Option<u64> {
 
 // Reads one attribute: its name, or the number of its bit, maybe after `GUID:`.
 fn read_attribute(word: &str) -> Option<u64> {
-    for (name, bit) in NAMES {
-        if word == name {
-            return Some(1 << bit);
-        }
+    if let Some(bit) = find_sfdisk_bit(word) {
+        return Some(1 << bit);
     }
     let number = word.strip_prefix("GUID:").unwrap_or(word);
     if number.starts_with('+') {

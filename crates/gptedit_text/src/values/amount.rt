@@ -7,19 +7,14 @@ ghost use Rattle.std.specs.Int.{IsInRange};
 ghost use Rattle.std.specs.Result.{OkIff};
 ghost use Rattle.std.specs.Str.Parse.{digits_value, IsNumeral};
 
+use crate::values::units::{B, GIB, KIB, MIB, TIB, Unit};
 use crate::values::wrong::Wrong;
 use gptedit_core::{Amount, Size};
 use std::fmt;
 use std::num::IntErrorKind;
 
-// The units in bytes, the largest first. `B` is last, since each other unit ends with it.
-const UNITS: [(&str, u64); 5] = [
-    ("TiB", 1 << 40),
-    ("GiB", 1 << 30),
-    ("MiB", 1 << 20),
-    ("KiB", 1 << 10),
-    ("B", 1),
-];
+// The units of amounts, the largest first. `B` is last, since each other unit ends with it.
+const UNITS: [Unit; 5] = [TIB, GIB, MIB, KIB, B];
 
 /// Reads an amount: a whole number with a unit, as `2048s` in sectors, or `512B`, `64KiB`, `64MiB`, `1GiB`, `2TiB` in
 /// bytes.
@@ -74,9 +69,9 @@ fn split_unit(text: &str) -> Option<(&str, u64)>
     ensures some { IfSome result (λ parts. 0 < parts.1) }
     ensures unknown { result ≡ None → (number : List ℕ) (unit : ℕ) → IsNumeral 10 number → ¬ (HasUnit text.now number unit) }
 {
-    for (name, bytes) in UNITS {
-        match number_before(text, name) {
-            Some(number) => return Some((number, bytes)),
+    for unit in UNITS {
+        match number_before(text, unit.name) {
+            Some(number) => return Some((number, unit.bytes)),
             None => (),
         }
     }
@@ -162,9 +157,9 @@ impl fmt::Display for AmountText {
 }
 
 fn write_bytes<W: fmt::Write>(f: &mut fmt::Formatter<W>, bytes: u64) -> fmt::Result {
-    for (name, unit) in UNITS {
-        if bytes >= unit && bytes % unit == 0 {
-            return write!(f, "{}{name}", bytes / unit);
+    for unit in UNITS {
+        if bytes >= unit.bytes && bytes % unit.bytes == 0 {
+            return write!(f, "{}{}", bytes / unit.bytes, unit.name);
         }
     }
     write!(f, "{bytes}B")

@@ -9,19 +9,52 @@ ghost use Rattle.gptedit_text.specs.Words.{SaysEach, SaysNoAttributes, words_of}
 use crate::values::wrong::Wrong;
 use std::fmt;
 
-// The bits that have a name.
-const NAMES: [(&str, u64); 6] = [
-    ("required", 0),
-    ("no-block-io", 1),
-    ("legacy-boot", 2),
-    ("grow-file-system", 59),
-    ("read-only", 60),
-    ("no-auto", 63),
+// An attribute that has a name.
+#[derive(Clone, Copy)]
+struct Attribute {
+    name: &'static str,
+    // The number of its bit.
+    bit: u64,
+    // Its name in scripts and JSON of `sfdisk`, if it has one.
+    sfdisk: Option<&'static str>,
+}
+
+// The attributes that have names, in the order of their bits.
+const ATTRIBUTES: [Attribute; 6] = [
+    Attribute {
+        name: "required",
+        bit: 0,
+        sfdisk: Some("RequiredPartition"),
+    },
+    Attribute {
+        name: "no-block-io",
+        bit: 1,
+        sfdisk: Some("NoBlockIOProtocol"),
+    },
+    Attribute {
+        name: "legacy-boot",
+        bit: 2,
+        sfdisk: Some("LegacyBIOSBootable"),
+    },
+    Attribute {
+        name: "grow-file-system",
+        bit: 59,
+        sfdisk: None,
+    },
+    Attribute {
+        name: "read-only",
+        bit: 60,
+        sfdisk: None,
+    },
+    Attribute {
+        name: "no-auto",
+        bit: 63,
+        sfdisk: None,
+    },
 ];
 
-/// Reads attributes: an empty text for none; or, separated by commas, `required` (bit 0), `no-block-io` (1),
-/// `legacy-boot` (2), `grow-file-system` (59), `read-only` (60), `no-auto` (63) and numbers of bits, from 0 to 63; or
-/// all bits as `0x` and hexadecimal digits.
+/// Reads attributes: an empty text for none; or names and numbers of bits, from 0 to 63, separated by commas; or all
+/// bits as `0x` and hexadecimal digits.
 pub fn read_attributes(text: &str) -> Result<u64, Wrong>
     ensures said { IfOk result (SaysAttributes text.now) }
     ensures refused { IfErr result (λ wrong. SaysNoAttributes text.now) }
@@ -76,9 +109,32 @@ fn find_bit(word: &str) -> Option<u64>
     ensures found { IfSome result (λ bit. (bit < 64) × Contains attribute_names (word.now, bit)) }
     ensures unknown { result ≡ None → (bit : ℕ) → ¬ (Contains attribute_names (word.now, bit)) }
 {
-    for (name, bit) in NAMES {
-        if word == name {
-            return Some(bit);
+    for attribute in ATTRIBUTES {
+        if word == attribute.name {
+            return Some(attribute.bit);
+        }
+    }
+    None
+}
+
+/// Returns the bit that has this name in `sfdisk`.
+pub(crate) fn find_sfdisk_bit(word: &str) -> Option<u64>
+    ensures { IfSome result (λ bit. bit < 64) }
+{
+    for attribute in ATTRIBUTES {
+        match attribute.sfdisk {
+            Some(name) if word == name => return Some(attribute.bit),
+            _ => (),
+        }
+    }
+    None
+}
+
+/// Returns the name of this bit in `sfdisk`, if it has one.
+pub fn sfdisk_name(bit: u64) -> Option<&'static str> {
+    for attribute in ATTRIBUTES {
+        if bit == attribute.bit {
+            return attribute.sfdisk;
         }
     }
     None
@@ -121,11 +177,45 @@ pub struct AttributeName(pub u64);
 impl fmt::Display for AttributeName {
     fn fmt<W: fmt::Write>(&self, f: &mut fmt::Formatter<W>) -> fmt::Result {
         let bit = self.0;
-        for (name, named) in NAMES {
-            if bit == named {
-                return f.write_str(name);
+        for attribute in ATTRIBUTES {
+            if bit == attribute.bit {
+                return f.write_str(attribute.name);
             }
         }
         write!(f, "{bit}")
+    }
+}
+
+/// The names of all attributes, separated by commas.
+#[derive(Clone, Copy)]
+pub(crate) struct AllNames;
+
+impl fmt::Display for AllNames {
+    fn fmt<W: fmt::Write>(&self, f: &mut fmt::Formatter<W>) -> fmt::Result {
+        let mut comma = "";
+        for attribute in ATTRIBUTES {
+            let name = attribute.name;
+            write!(f, "{comma}{name}")?;
+            comma = ", ";
+        }
+        Ok(())
+    }
+}
+
+/// The names of all attributes that have one in `sfdisk`, separated by commas.
+#[derive(Clone, Copy)]
+pub(crate) struct AllSfdiskNames;
+
+impl fmt::Display for AllSfdiskNames {
+    fn fmt<W: fmt::Write>(&self, f: &mut fmt::Formatter<W>) -> fmt::Result {
+        let mut is_first = true;
+        for attribute in ATTRIBUTES {
+            if let Some(name) = attribute.sfdisk {
+                let comma = if is_first { "" } else { ", " };
+                write!(f, "{comma}{name}")?;
+                is_first = false;
+            }
+        }
+        Ok(())
     }
 }

@@ -2,17 +2,11 @@
 
 ghost use Rattle.std.specs.Prelude.{◌<◌, ◌≤◌, ◌^◌};
 
+use crate::values::units::{EIB, GIB, KIB, MIB, PIB, TIB, Unit};
 use std::fmt;
 
 // The units, the largest first.
-const UNITS: [(&str, u64); 6] = [
-    ("EiB", 1 << 60),
-    ("PiB", 1 << 50),
-    ("TiB", 1 << 40),
-    ("GiB", 1 << 30),
-    ("MiB", 1 << 20),
-    ("KiB", 1 << 10),
-];
+const UNITS: [Unit; 6] = [EIB, PIB, TIB, GIB, MIB, KIB];
 
 /// A number of bytes, printed in the largest unit that is not larger, with at most one decimal, rounded down: `512
 /// B`, `64 MiB`, `1.5 GiB`.
@@ -22,9 +16,9 @@ pub struct ByteCount(pub u64);
 impl fmt::Display for ByteCount {
     fn fmt<W: fmt::Write>(&self, f: &mut fmt::Formatter<W>) -> fmt::Result {
         let bytes = self.0;
-        for (name, unit) in UNITS {
-            if bytes >= unit {
-                return write_in(f, bytes, name, unit);
+        for unit in UNITS {
+            if bytes >= unit.bytes {
+                return write_in(f, bytes, unit.name, unit.bytes);
             }
         }
         write!(f, "{bytes} B")

@@ -1,5 +1,6 @@
 //! Faults of words.
 
+use crate::values::attributes::AllNames;
 use std::fmt;
 
 /// Why a word is wrong.
@@ -30,7 +31,7 @@ pub enum Wrong {
 /// Prints the rule that the word breaks.
 impl fmt::Display for Wrong {
     fn fmt<W: fmt::Write>(&self, f: &mut fmt::Formatter<W>) -> fmt::Result {
-        f.write_str(match self {
+        let rule = match self {
             Wrong::NoUnit => "a unit is missing; use for example 2048s (sectors) or 64MiB",
             Wrong::NoAmount => {
                 "it must be a whole number with a unit, for example 2048s (sectors) or 64MiB"
@@ -45,11 +46,15 @@ impl fmt::Display for Wrong {
             }
             Wrong::NoGuid => "it must have the form c12a7328-f81f-11d2-ba4b-00a0c93ec93b",
             Wrong::NoAttribute => {
-                "attributes are required, no-block-io, legacy-boot, grow-file-system, read-only, \
-                 no-auto and bits from 0 to 63, with commas between; or all 64 bits as 0x.."
+                return write!(
+                    f,
+                    "attributes are {} and bits from 0 to 63, with commas between; or all 64 bits as 0x..",
+                    AllNames
+                );
             }
             Wrong::NoChoice => "it must be first, last or best",
             Wrong::NoLock => "it must be wait, fail or none",
-        })
+        };
+        f.write_str(rule)
     }
 }

@@ -2,5 +2,5 @@ use Rattle.std.proofs.Common.{◌≡◌, take}
 use Rattle.gptedit_text.proofs.Tables.{Lacks}
 use Rattle.gptedit_text.proofs.values.attributes.find_bit.Given as goal
 
-abbrev pub invariant-loop-name : goal.invariant-loop-name
-invariant-loop-name l = Lacks (λ name. l.word ≡ name) (take l.name-index l.name-items)
+abbrev pub invariant-loop-attribute : goal.invariant-loop-attribute
+invariant-loop-attribute l = Lacks (λ row. row.name.now) (λ name. l.word ≡ name) (take l.attribute-index l.attribute-items)
