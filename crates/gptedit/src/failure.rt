@@ -118,7 +118,18 @@ pub fn refuse_error(alloc: Global, image: &str, error: &Error) -> Failure {
         Error::OutOfMemory => Failure::OutOfMemory,
         Error::Io(_) => refuse_device(alloc, image, &text),
         Error::InvalidSignature | Error::ReadError(_, _) => refuse_no_table(alloc, image, &text),
-        _ => refuse(alloc, image, &text),
+        Error::InvalidRevision
+        | Error::InvalidHeaderSize
+        | Error::InvalidChecksum(_, _)
+        | Error::InvalidPartitionEntryArrayChecksum(_, _)
+        | Error::InvalidPartitionEntrySize(_)
+        | Error::NoSpaceLeft
+        | Error::ConflictPartitionGUID
+        | Error::InvalidPartitionBoundaries
+        | Error::InvalidPartitionNumber(_)
+        | Error::UnusedPartition
+        | Error::PartitionNotFound
+        | Error::Overflow => refuse(alloc, image, &text),
     }
 }
 

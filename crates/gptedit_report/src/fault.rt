@@ -26,36 +26,43 @@ impl fmt::Display for ErrorText<'_> {
             error => writeln!(f, "{}", Meaning(error))?,
         }
         let image = Escaped(self.image);
-        match command_for(self.error) {
-            Some((command, does)) => write!(f, "`gptedit {command} {image}` {does}"),
-            None => f.write_str(advice_for(self.error)),
+        match remedy_for(self.error) {
+            Remedy::Command(command, does) => write!(f, "`gptedit {command} {image}` {does}"),
+            Remedy::Advice(advice) => f.write_str(advice),
         }
     }
 }
 
-// Returns the advice if no command helps.
-fn advice_for(error: &Error) -> &'static str {
+// What helps after an error.
+#[derive(Clone, Copy)]
+enum Remedy {
+    // A command, and its effect.
+    Command(&'static str, &'static str),
+    // What to do if no command helps.
+    Advice(&'static str),
+}
+
+// Returns what helps after an error.
+fn remedy_for(error: &Error) -> Remedy {
     match error {
-        Error::Overflow => "a longer disk is needed",
-        Error::InvalidSignature | Error::ReadError(_, _) => {
+        Error::Io(_) => Remedy::Command("check", "reports the state of the table"),
+        Error::InvalidSignature | Error::ReadError(_, _) => Remedy::Advice(
             "if there was a table, copy the disk before anything is written to it; \
-             if its sectors have another size, use --sector"
-        }
-        _ => "run the command again with more memory",
-    }
-}
-
-// Returns the command that helps, and its effect.
-fn command_for(error: &Error) -> Option<(&'static str, &'static str)> {
-    match error {
-        Error::OutOfMemory | Error::Overflow => None,
-        Error::Io(_) => Some(("check", "reports the state of the table")),
-        Error::InvalidSignature | Error::ReadError(_, _) => None,
-        Error::NoSpaceLeft => Some(("free", "lists the free ranges")),
+             if its sectors have another size, use --sector",
+        ),
+        Error::InvalidRevision
+        | Error::InvalidHeaderSize
+        | Error::InvalidChecksum(_, _)
+        | Error::InvalidPartitionEntryArrayChecksum(_, _)
+        | Error::InvalidPartitionEntrySize(_)
+        | Error::ConflictPartitionGUID
+        | Error::InvalidPartitionBoundaries => Remedy::Command("check", "reports the faults"),
+        Error::NoSpaceLeft => Remedy::Command("free", "lists the free ranges"),
         Error::InvalidPartitionNumber(_) | Error::UnusedPartition | Error::PartitionNotFound => {
-            Some(("show", "lists the partitions"))
+            Remedy::Command("show", "lists the partitions")
         }
-        _ => Some(("check", "reports the faults")),
+        Error::Overflow => Remedy::Advice("a longer disk is needed"),
+        Error::OutOfMemory => Remedy::Advice("run the command again with more memory"),
     }
 }
 
@@ -65,18 +72,35 @@ pub(crate) struct Meaning<'a>(pub(crate) &'a Error);
 
 impl fmt::Display for Meaning<'_> {
     fn fmt<W: fmt::Write>(&self, f: &mut fmt::Formatter<W>) -> fmt::Result {
-        match self.0 {
-            Error::Io(error) => write!(f, "the disk failed: {error}"),
-            Error::InvalidChecksum(stored, computed) => write_sums(f, "header", *stored, *computed),
+        let meaning = match self.0 {
+            Error::Io(error) => return write!(f, "the disk failed: {error}"),
+            Error::InvalidSignature => "there is no header of a table",
+            Error::InvalidRevision => "the revision of the header is not 1.0",
+            Error::InvalidHeaderSize => "the header size is not 92 bytes",
+            Error::InvalidChecksum(stored, computed) => {
+                return write_sums(f, "header", *stored, *computed);
+            }
             Error::InvalidPartitionEntryArrayChecksum(stored, computed) => {
-                write_sums(f, "entries", *stored, *computed)
+                return write_sums(f, "entries", *stored, *computed);
             }
-            Error::InvalidPartitionNumber(number) => write!(f, "entry {number} does not exist"),
+            Error::ReadError(_, _) => "there is no good copy",
+            Error::NoSpaceLeft => "no free range is large enough",
+            Error::ConflictPartitionGUID => "two partitions have the same GUID",
+            Error::InvalidPartitionBoundaries => {
+                "partitions overlap, end before they start, or lie outside the usable sectors"
+            }
+            Error::InvalidPartitionNumber(number) => {
+                return write!(f, "entry {number} does not exist");
+            }
+            Error::UnusedPartition => "the entry is not used",
+            Error::PartitionNotFound => "no partition has that sector",
+            Error::Overflow => "the disk has too few sectors for two copies of the table",
+            Error::OutOfMemory => "out of memory",
             Error::InvalidPartitionEntrySize(size) => {
-                write!(f, "the size of an entry is {size} bytes, not 128")
+                return write!(f, "the size of an entry is {size} bytes, not 128");
             }
-            error => f.write_str(plain_meaning(error)),
-        }
+        };
+        f.write_str(meaning)
     }
 }
 
@@ -91,24 +115,4 @@ fn write_sums<W: fmt::Write>(
         f,
         "the checksum of the {what} is {computed:08x}, but {stored:08x} is stored"
     )
-}
-
-// Returns the meaning of an error without numbers.
-fn plain_meaning(error: &Error) -> &'static str {
-    match error {
-        Error::InvalidSignature => "there is no header of a table",
-        Error::InvalidRevision => "the revision of the header is not 1.0",
-        Error::InvalidHeaderSize => "the header size is not 92 bytes",
-        Error::ReadError(_, _) => "there is no good copy",
-        Error::NoSpaceLeft => "no free range is large enough",
-        Error::ConflictPartitionGUID => "two partitions have the same GUID",
-        Error::InvalidPartitionBoundaries => {
-            "partitions overlap, end before they start, or lie outside the usable sectors"
-        }
-        Error::UnusedPartition => "the entry is not used",
-        Error::PartitionNotFound => "no partition has that sector",
-        Error::Overflow => "the disk has too few sectors for two copies of the table",
-        Error::OutOfMemory => "out of memory",
-        _ => "the table is damaged",
-    }
 }

@@ -1,13 +1,7 @@
 //! The spellings of `sfdisk --json`.
 
+use gptedit_text::values::sfdisk_name;
 use std::fmt;
-
-// The attributes that have names in `sfdisk`, with their bits.
-const NAMES: [(&str, u64); 3] = [
-    ("RequiredPartition", 1),
-    ("NoBlockIOProtocol", 2),
-    ("LegacyBIOSBootable", 4),
-];
 
 // The lowest attribute bit that belongs to the partition type.
 const TYPE_BITS: u32 = 48;
@@ -20,10 +14,13 @@ pub(crate) struct Attributes(pub(crate) u64);
 impl fmt::Display for Attributes {
     fn fmt<W: fmt::Write>(&self, f: &mut fmt::Formatter<W>) -> fmt::Result {
         let mut space = "";
-        for (name, bit) in NAMES {
-            if self.0 & bit != 0 {
-                write!(f, "{space}{name}")?;
-                space = " ";
+        for bit in 0..TYPE_BITS {
+            match sfdisk_name(u64::from(bit)) {
+                Some(name) if self.0 >> bit & 1 == 1 => {
+                    write!(f, "{space}{name}")?;
+                    space = " ";
+                }
+                _ => (),
             }
         }
         if self.0 >> TYPE_BITS == 0 {
