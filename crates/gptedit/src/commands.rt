@@ -95,7 +95,9 @@ where
         looking::warn_of_dos(rt, image, &look.first_sector);
     }
     match command {
-        Command::Show => looking::show(out, alloc, image, &look, is_json)?,
+        Command::Show { has_map } => {
+            looking::show(out, alloc, image, &look, *has_map, is_json)?;
+        }
         Command::Free { align } => looking::free(out, alloc, image, &look, *align, is_json)?,
         Command::Dump => looking::dump(out, alloc, image, &look, is_json)?,
         _ => return check(rt, out, image, &look, is_json),

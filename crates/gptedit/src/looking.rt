@@ -7,8 +7,8 @@ use gptedit_core::{Amount, Refusal, layout_of};
 use gptedit_look::first_sector::read_first_sector;
 use gptedit_look::salvage::salvage;
 use gptedit_look::{FirstSector, Look, MbrKind};
-use gptedit_report::{CopiesState, Edges, free_json, print_free, print_salvaged, salvaged_json};
-use gptedit_report::{show_table, table_json};
+use gptedit_report::{CopiesState, Edges, free_json, print_free, print_map, print_salvaged};
+use gptedit_report::{salvaged_json, show_table, table_json};
 use gptedit_text::values::Escaped;
 use gptedit_text::{Header, write_layout};
 use gptman::GPT;
@@ -36,12 +36,13 @@ pub fn look_for_dos<R: Eprint + AllocGlobal>(rt: &R, image: &mut Image<'_>) -> R
     }
 }
 
-/// Prints the table.
+/// Prints the table, and a map of the disk if `has_map` is set.
 pub fn show<W: Write>(
     out: &mut W,
     alloc: Global,
     image: &mut Image<'_>,
     look: &Look,
+    has_map: bool,
     is_json: bool,
 ) -> Result<(), Failure> {
     let Some(table) = &look.table else {
@@ -52,6 +53,10 @@ pub fn show<W: Write>(
         return print_state_json(out, alloc, image, look, table, &state, false);
     }
     show_table(out, alloc, image.name, look.size, table, &state)?;
+    if has_map {
+        out.write_all(b"\n")?;
+        print_map(out, alloc, image.name, look.size, table, &look.copies)?;
+    }
     Ok(())
 }
 

@@ -253,9 +253,14 @@ pub record AsksOptions (found : Found) (options : Options) : Type 0 where
   pub lock_is : GivesOr SaysLock Wait (first_value found (codes "--lock")) options.lock
   pub backup_is : option_map (λ file. file.now) options.backup ≡ first_value found (codes "--backup")
 
+-- `show IMAGE` draws a map if `--map` is given. A map is not JSON.
+pub record AsksShow (found : Found) (has_map : Bool) : Type 0 where
+  pub map : IsFlag found (codes "--map") has_map
+  pub text : IsSet found (codes "--map") → ¬ (IsSet found (codes "--json"))
+
 -- The command of this name does this with an image, with these arguments.
 abbrev pub IsCommand : List ℕ → Found → Command → Type 0
-IsCommand name found Show = name ≡ codes "show"
+IsCommand name found (Show has_map) = (name ≡ codes "show") × AsksShow found has_map
 IsCommand name found Check = name ≡ codes "check"
 IsCommand name found (Free align) = (name ≡ codes "free") × Gives SaysAmount (first_value found (codes "--align")) align
 IsCommand name found Dump = name ≡ codes "dump"

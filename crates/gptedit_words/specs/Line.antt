@@ -75,7 +75,7 @@ change name rules = with_words name ((text_place (codes "IMAGE") ∷ rules) ++ w
 
 -- The commands that only read.
 abbrev pub looks : List Shape
-looks = look (codes "show") []
+looks = look (codes "show") (flag (codes "--map") ∷ [])
     ∷ look (codes "check") []
     ∷ look (codes "free") (value (codes "--align") ∷ [])
     ∷ look (codes "dump") []

@@ -3,10 +3,10 @@ use Rattle.std.specs.Prelude.{◌≡◌, ◌≢◌, ◌⊎◌, ◌||◌, ℕ, Bo
 use Rattle.clap.specs.Words.{first_value, matched_of, one_text}
 use Rattle.clap.specs.declared.parser.matches.Found.{Found}
 use Rattle.gptedit_text.specs.Words.{SaysNoAttributes}
-use Rattle.gptedit_words.specs.Asks.{IsMissingOrWrong, IsNoSectorOf, IsWrong, texts_of_place}
+use Rattle.gptedit_words.specs.Asks.{IsMissingOrWrong, IsNoSectorOf, IsUnset, IsWrong, texts_of_place}
 use Rattle.gptedit_words.specs.Asks.{SaysNoAmount, SaysNoChoice, SaysNoGuid, SaysNoLock, SaysNoNewSize, SaysNoNumber, SaysNoSize, SaysNoType}
 use Rattle.gptedit_words.specs.declared.error.WordsError.{WordsError}
-use Rattle.gptedit_words.specs.declared.error.WordsError.TheVariants.{LongName, Missing, NothingToSet, OutOfMemory, Sector, Usage, Value}
+use Rattle.gptedit_words.specs.declared.error.WordsError.TheVariants.{LongName, MapAsJson, Missing, NothingToSet, OutOfMemory, Sector, Usage, Value}
 
 -- The arguments are refused for this reason, for a name that is too long, or because an allocation failed.
 abbrev pub RefusedOnlyFor : {A : Type 0} → Found → Type 0 → Result A WordsError → Type 0
@@ -17,6 +17,7 @@ RefusedOnlyFor found reason (Err (Usage error)) = reason
 RefusedOnlyFor found reason (Err (Value word text wrong)) = reason
 RefusedOnlyFor found reason (Err (Sector text)) = reason
 RefusedOnlyFor found reason (Err NothingToSet) = reason
+RefusedOnlyFor found reason (Err MapAsJson) = reason
 RefusedOnlyFor found reason (Err (Missing word)) = reason
 
 -- The given fields of an entry are valid.
@@ -94,8 +95,13 @@ pub record CanWrite (name : List ℕ) (found : Found) : Type 0 where
   pub change : CanChange name found
   pub lock : ¬ (IsWrong SaysNoLock (first_value found (codes "--lock")))
 
+-- The arguments of `show` are valid: not both `--map` and `--json`.
+abbrev pub CanShow : Found → Type 0
+CanShow found = IsUnset found (codes "--map") ⊎ IsUnset found (codes "--json")
+
 -- The arguments of this command are valid.
 pub record CanRun (name : List ℕ) (found : Found) : Type 0 where
+  pub show : name ≡ codes "show" → CanShow found
   pub free : name ≡ codes "free" → ¬ (IsWrong SaysNoAmount (first_value found (codes "--align")))
   pub write : IsOfLook name ⊎ CanWrite name found
 

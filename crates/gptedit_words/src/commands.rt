@@ -7,8 +7,11 @@ pub(crate) static LOOKS: [Definition; 6] = [
     Definition {
         name: "show",
         about: "Shows the table",
-        example: "Example:\n  gptedit show disk.img",
-        arguments: &[IMAGE],
+        example: "Example:\n  gptedit show disk.img --map",
+        arguments: &[
+            IMAGE,
+            Argument::Flag("--map", "Also draws the disk as a line of characters"),
+        ],
         options: READING,
     },
     Definition {

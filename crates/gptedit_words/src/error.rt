@@ -14,6 +14,10 @@ use std::{fmt, io};
 const NOTHING_TO_SET: &str = "error: nothing to set; use --name, --type, --guid or --attributes\n\n\
                               For more information, try '--help'.\n";
 
+// The message for `show --map --json`.
+const MAP_AS_JSON: &str = "error: the argument '--map' cannot be used with '--json'\n\n\
+                           For more information, try '--help'.\n";
+
 /// An error of a command line.
 #[derive(Drop, Debug)]
 pub enum WordsError<'a> {
@@ -31,6 +35,8 @@ pub enum WordsError<'a> {
     LongName(&'a str),
     /// `set` has nothing to set.
     NothingToSet,
+    /// `show` has both `--map` and `--json`.
+    MapAsJson,
     /// The argument is missing. `clap` reports that first, as `Usage`.
     Missing(&'static str),
     /// An allocation failed.
@@ -74,6 +80,7 @@ impl fmt::Display for WordsError<'_> {
                 write_value(f, "--name", text, "a name has at most 36 units of UTF-16")
             }
             WordsError::NothingToSet => f.write_str(NOTHING_TO_SET),
+            WordsError::MapAsJson => f.write_str(MAP_AS_JSON),
             WordsError::Missing(word) => writeln!(f, "error: {word} is missing"),
             WordsError::OutOfMemory => f.write_str("error: out of memory\n"),
         }

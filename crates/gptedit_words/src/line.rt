@@ -3,7 +3,7 @@
 ghost use Rattle.std.specs.Prelude.{◌≡◌, ◌≢◌, codes, IfErr, IfOk, None};
 ghost use Rattle.clap.specs.Words.{first_value, found_of};
 ghost use Rattle.gptedit_words.specs.Asks.{AsksOptions, IsChange, IsCommand, IsRequest, IsWrong, SaysNoLock};
-ghost use Rattle.gptedit_words.specs.Refusals.{CanAsk, CanChange, CanMake, CanRun, RefusedOnlyFor};
+ghost use Rattle.gptedit_words.specs.Refusals.{CanAsk, CanChange, CanMake, CanRun, CanShow, RefusedOnlyFor};
 ghost use Rattle.gptedit_words.specs.Spelled.{texts_of, IsRefused, IsSpelled};
 
 use crate::definition::command;
@@ -17,8 +17,8 @@ use std::alloc::Global;
 /// Parses these arguments. The first is the program's name.
 ///
 /// # Errors
-/// `Usage` if they do not fit the command line; `Missing`, `Value`, `Sector`, `LongName` or `NothingToSet` if the
-/// arguments of a command are wrong; `OutOfMemory` if an allocation fails.
+/// `Usage` if they do not fit the command line; `Missing`, `Value`, `Sector`, `LongName`, `NothingToSet` or `MapAsJson`
+/// if the arguments of a command are wrong; `OutOfMemory` if an allocation fails.
 pub fn read_words<'a>(alloc: Global, words: &'a [String]) -> Result<Request<'a>, WordsError<'a>>
     ensures said { IfOk result (IsSpelled (texts_of words.entry.now)) }
     ensures refused { IfErr result (IsRefused (texts_of words.entry.now)) }
@@ -60,7 +60,7 @@ fn read_command<'a>(
     ensures refused { RefusedOnlyFor (found_of words.now) (¬ (CanRun name.now (found_of words.now))) result }
 {
     match name {
-        "show" => Ok(Command::Show),
+        "show" => read_show(words),
         "check" => Ok(Command::Check),
         "free" => Ok(Command::Free {
             align: amount(words, "--align")?,
@@ -72,6 +72,17 @@ fn read_command<'a>(
             options: read_options(words)?,
         }),
     }
+}
+
+fn read_show<'a>(words: &ArgMatches<'a>) -> Result<Command<'a>, WordsError<'a>>
+    ensures said { IfOk result (IsCommand (codes "show") (found_of words.now)) }
+    ensures refused { RefusedOnlyFor (found_of words.now) (¬ (CanShow (found_of words.now))) result }
+{
+    let has_map = words.get_flag("--map");
+    if has_map && words.get_flag("--json") {
+        return Err(WordsError::MapAsJson);
+    }
+    Ok(Command::Show { has_map })
 }
 
 fn read_options<'a>(words: &ArgMatches<'a>) -> Result<Options<'a>, WordsError<'a>>

@@ -31,7 +31,10 @@ pub struct ImageRequest<'a> {
 #[derive(Drop, Debug)]
 pub enum Command<'a> {
     /// Prints the table.
-    Show,
+    Show {
+        /// Whether to draw a map of the disk.
+        has_map: bool,
+    },
     /// Checks both copies of the table.
     Check,
     /// Prints the free ranges.
