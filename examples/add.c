@@ -1,8 +1,4 @@
 /* add IMAGE FIRST LAST NAME: adds a partition for Linux from sector FIRST to LAST, under the lowest unused number. */
-#include <fcntl.h>
-#include <stdio.h>
-#include <string.h>
-
 #include "gptman_fd.h"
 
 /* The type of a partition for Linux, as its bytes stand on a disk. */
@@ -12,7 +8,7 @@ static const uint8_t LINUX[16] = {0xaf, 0x3d, 0xc6, 0x0f, 0x83, 0x84, 0x72, 0x47
 /* A random GUID. 0, or -1. */
 static int draw_guid(uint8_t *guid) {
     int fd = open("/dev/urandom", O_RDONLY);
-    int status = fd < 0 ? -1 : gptman_pread_all(fd, guid, 16, 0);
+    int status = fd < 0 || read(fd, guid, 16) != 16 ? -1 : 0;
     guid[7] = (uint8_t)((guid[7] & 0x0f) | 0x40), guid[8] = (uint8_t)((guid[8] & 0x3f) | 0x80);
     if (fd >= 0) close(fd);
     return status;
@@ -21,12 +17,11 @@ static int draw_guid(uint8_t *guid) {
 int main(int argc, char **argv) {
     static const uint8_t unused[16];
     if (argc != 5) return 2;
-    int fd = open(argv[1], O_RDWR);
-    gptman_ends ends = {0};
+    gptman_disk disk;
     gptman_table table;
     gptman_partition *partitions = NULL;
-    uint32_t answer = fd < 0 ? GPTMAN_IO : gptman_ends_open(&ends, fd, 512), i = 0;
-    if (answer == GPTMAN_OK) answer = gptman_read_fd(&ends, &table, &partitions);
+    uint32_t answer = gptman_open(&disk, open(argv[1], O_RDWR), 512), i = 0;
+    if (answer == GPTMAN_OK) answer = gptman_read_fd(&disk, &table, &partitions);
     if (answer == GPTMAN_OK) {
         while (i < table.entry_count && memcmp(partitions[i].type_guid, unused, 16) != 0) i++;
         if (i == table.entry_count) answer = GPTMAN_NO_SPACE_LEFT;
@@ -38,10 +33,10 @@ int main(int argc, char **argv) {
         added->first_lba = strtoull(argv[2], NULL, 10), added->last_lba = strtoull(argv[3], NULL, 10);
         answer = gptman_set_name(added, (const uint8_t *)argv[4], strlen(argv[4]));
         if (answer == GPTMAN_OK && draw_guid(added->unique_guid) != 0) answer = GPTMAN_IO;
-        if (answer == GPTMAN_OK) answer = gptman_write_fd(&ends, partitions, table.entry_count);
+        if (answer == GPTMAN_OK) answer = gptman_write_fd(&disk, partitions, table.entry_count);
     }
     free(partitions);
-    gptman_ends_free(&ends);
-    if (answer != GPTMAN_OK) fprintf(stderr, "add: fault: %s\n", gptman_fault_name(answer));
+    if (answer != GPTMAN_OK) gptman_perror("add", answer);
+    else gptman_tell_kernel(&disk, argv[1]);
     return answer != GPTMAN_OK;
 }

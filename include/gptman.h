@@ -27,6 +27,14 @@ typedef struct gptman_table {
     uint64_t align;            /* partitions begin at multiples of this number of sectors */
     uint32_t entry_count;      /* the number of entries, including unused ones */
     uint32_t is_backup;        /* 1: the primary copy has a fault, the backup copy was read; else 0 */
+
+    /* The sectors of both copies, by the header that was read. It does not state where the entries of the other copy
+     * are: they are given at the sector from which a write stores them. */
+    uint64_t primary_header_lba;
+    uint64_t primary_entries_lba;
+    uint64_t backup_header_lba;
+    uint64_t backup_entries_lba;
+    uint64_t reserved[6]; /* zeros; room for later versions */
 } gptman_table;
 
 /* An entry of a table. It is unused if type_guid is all zeros. */
@@ -62,9 +70,10 @@ typedef struct gptman_copies {
     uint32_t primary_fault; /* the fault of the copy in sector 1, or GPTMAN_OK */
     uint32_t backup_fault;  /* the same for the copy in the last whole sector */
     uint32_t are_same;      /* 1: both places hold one table, each in the form of its place; else 0 */
+    uint32_t reserved[5];   /* zeros; room for later versions */
 } gptman_copies;
 
-/* The results of calls. */
+/* The results of calls. Errors of a table are below 100. A later version may return others. */
 enum {
     GPTMAN_OK = 0,
     GPTMAN_IO = 1,
@@ -97,22 +106,6 @@ enum {
 
 /* The flags of a write: GPTMAN_OVER_DOS if the first sector may have partitions of its own, else 0. */
 enum { GPTMAN_OVER_DOS = 1 };
-
-/* Returns the name of a result, as in docs/FAULTS.md, or "Unknown" if no call returns it. */
-static inline const char *gptman_fault_name(uint32_t answer) {
-    static const char *const names[] = {
-        "Ok", "Io", "InvalidSignature", "InvalidRevision", "InvalidHeaderSize", "InvalidChecksum",
-        "InvalidPartitionEntryArrayChecksum", "ReadError", "NoSpaceLeft", "ConflictPartitionGUID",
-        "InvalidPartitionBoundaries", "InvalidPartitionNumber", "UnusedPartition", "PartitionNotFound", "Overflow",
-        "OutOfMemory", "InvalidPartitionEntrySize",
-    };
-    static const char *const more[] = {
-        "OtherLength", "OtherLayout", "DosDisk", "LacksBytes", "LacksRoom", "BadArgument",
-    };
-    if (answer >= 100 && answer - 100 < sizeof more / sizeof *more) return more[answer - 100];
-    if (answer == GPTMAN_FD_ASKS_AGAIN) return "AsksAgain";
-    return answer < sizeof names / sizeof *names ? names[answer] : "Unknown";
-}
 
 /* Reads the table of a disk.
  *
@@ -277,15 +270,32 @@ uint32_t gptman_set_name(gptman_partition *partition, const uint8_t *text, size_
 /* Returns the CRC-32 of these bytes, as used for headers and entries. */
 uint32_t gptman_crc32(const uint8_t *bytes, size_t byte_count);
 
+/* The size of a buffer for any name of a result, including the final zero. */
+enum { GPTMAN_FAULT_NAME_SIZE = 35 };
+
+/* Writes the name of a result, as in docs/FAULTS.md, to `text`, followed by a zero: "Ok", "InvalidSignature", or
+ * "Unknown" if no call returns it.
+ *
+ * GPTMAN_LACKS_ROOM: `text_size` is not above the length of the name. */
+uint32_t gptman_fault_name(uint32_t result, char *text, size_t text_size);
+
 /* Returns the version of the library: MAJOR * 65536 + MINOR * 256 + PATCH. */
 uint32_t gptman_version(void);
 
+/* The binary interface of this header. */
+enum { GPTMAN_ABI = 1 };
+
+/* Returns the number of the binary interface, which is that in the name of the shared library. While it stays, calls
+ * keep their arguments, numbers their meaning, and structs their size: a new field takes the place of reserved zeros.
+ * Numbers and calls may be added. A call sets reserved fields to 0, and reads none. */
+uint32_t gptman_abi(void);
+
 #if defined(__STDC_VERSION__) && __STDC_VERSION__ >= 201112L
-_Static_assert(sizeof(gptman_table) == 48, "the size of a table");
+_Static_assert(sizeof(gptman_table) == 128, "the size of a table");
 _Static_assert(sizeof(gptman_partition) == 128, "the size of a partition");
 _Static_assert(sizeof(gptman_step) == 32, "the size of a step");
 _Static_assert(sizeof(gptman_needed) == 32, "the size of what is needed");
-_Static_assert(sizeof(gptman_copies) == 12, "the size of what two copies are");
+_Static_assert(sizeof(gptman_copies) == 32, "the size of what two copies are");
 #endif
 
 #ifdef __cplusplus

@@ -9,13 +9,17 @@ from pathlib import Path
 from typing import Any
 
 NAME = "libgptman.so.1"
+ABI = 1
+LONGEST_NAME = 35
 
 
 class Table(ctypes.Structure):
     """table"""
 
     _fields_ = [("disk_guid", c_uint8 * 16), ("first_usable_lba", c_uint64), ("last_usable_lba", c_uint64),
-                ("align", c_uint64), ("entry_count", c_uint32), ("is_backup", c_uint32)]
+                ("align", c_uint64), ("entry_count", c_uint32), ("is_backup", c_uint32),
+                ("primary_header_lba", c_uint64), ("primary_entries_lba", c_uint64), ("backup_header_lba", c_uint64),
+                ("backup_entries_lba", c_uint64), ("reserved", c_uint64 * 6)]
 
 
 class Entry(ctypes.Structure):
@@ -40,7 +44,8 @@ class Needed(ctypes.Structure):
 class Copies(ctypes.Structure):
     """copies"""
 
-    _fields_ = [("primary_fault", c_uint32), ("backup_fault", c_uint32), ("are_same", c_uint32)]
+    _fields_ = [("primary_fault", c_uint32), ("backup_fault", c_uint32), ("are_same", c_uint32),
+                ("reserved", c_uint32 * 5)]
 
 
 DISK = [c_char_p, c_size_t, c_char_p, c_size_t, c_uint64]
@@ -61,7 +66,9 @@ CALLS: dict[str, list[Any]] = {
     "mbr": [c_uint64, c_uint64, c_uint32, *BYTES],
     "place": [POINTER(Table), *ENTRIES, c_uint64, c_uint32, POINTER(c_uint64)],
     "crc32": [c_char_p, c_size_t],
+    "fault_name": [c_uint32, c_char_p, c_size_t],
     "version": [],
+    "abi": [],
 }
 
 
@@ -80,15 +87,17 @@ def load() -> ctypes.CDLL:
     """Loads the library and gives its calls their types.
 
     Raises:
-        ImportError: the library is not there, or is not one.
+        ImportError: the library is not there, is not one, or has another binary interface.
     """
     try:
         loaded = ctypes.CDLL(find())
-    except OSError as error:
+        for name, types in CALLS.items():
+            function = getattr(loaded, f"gptman_{name}")
+            function.argtypes, function.restype = types, c_uint32
+    except (OSError, AttributeError) as error:
         raise ImportError(f"{error}; install {NAME}, or set GPTMAN_LIBRARY to its path") from None
-    for name, types in CALLS.items():
-        function = getattr(loaded, f"gptman_{name}")
-        function.argtypes, function.restype = types, c_uint32
+    if loaded.gptman_abi() != ABI:
+        raise ImportError(f"{find()} has the binary interface {loaded.gptman_abi()}, not {ABI}")
     return loaded
 
 
@@ -99,6 +108,13 @@ def call(name: str, *words: Any) -> int:
     """Makes the call with this name, and returns its answer."""
     answer: int = getattr(library, f"gptman_{name}")(*words)
     return answer
+
+
+def fault_name(number: int) -> str:
+    """Returns the name of an answer of a call, or "Unknown" if none has this number."""
+    text = ctypes.create_string_buffer(LONGEST_NAME)
+    call("fault_name", number, text, LONGEST_NAME)
+    return text.value.decode()
 
 
 def crc32(data: bytes) -> int:

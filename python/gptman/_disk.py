@@ -7,6 +7,7 @@ import errno
 import fcntl
 import operator
 import os
+import sys
 import uuid
 from ctypes import byref, c_uint8, c_uint16, c_uint64
 from dataclasses import dataclass, field
@@ -21,6 +22,7 @@ SYNC = 2
 MBR_START, MBR_LENGTH = 446, 66
 MOST_ENTRIES, MOST_BYTES, MOST_ROUNDS = 1 << 20, 1 << 28, 12
 SECTOR_SIZES = 512, 1024, 2048, 4096
+BLKSSZGET = 0x1268
 UNUSED = bytes(16)
 
 StrPath = Union[str, bytes, "os.PathLike[str]"]
@@ -88,7 +90,7 @@ def check(path: StrPath, sector_size: int = 512) -> Copies:
 
     Args:
         path: a disk image or block device.
-        sector_size: in bytes.
+        sector_size: as for `Disk`.
 
     Raises:
         Error: the library refuses the call, for example `BadArgument`.
@@ -153,11 +155,11 @@ class _File:
 
     def __init__(self, path: StrPath, sector_size: int, writable: bool = False, lock: bool = True,
                  over_dos: bool = False) -> None:
-        self.sector_size = sector_size
         self._flags = OVER_DOS if over_dos else 0
         self._lengths = 0, 0
         self._fd = os.open(path, os.O_RDWR if writable else os.O_RDONLY)
         try:
+            self.sector_size = sector_size or self._reported_size()
             if writable and lock:
                 self._lock()
             self.size = os.lseek(self._fd, 0, os.SEEK_END)
@@ -186,7 +188,7 @@ class _File:
         """
         copies = _calls.Copies()
         self._ask(lambda ends, needed: call("check", *ends, byref(copies), needed))
-        primary, backup = (Error.of(number).name if number else None
+        primary, backup = (_calls.fault_name(number) if number else None
                            for number in (copies.primary_fault, copies.backup_fault))
         return Copies(primary, backup, bool(copies.are_same))
 
@@ -212,6 +214,13 @@ class _File:
             raise Error.of(answer)
         self._write_all(bytes(data), MBR_START)
         os.fsync(self._fd)
+
+    def _reported_size(self) -> int:
+        """Returns the sector size of a block device, or 0 if it is none."""
+        try:
+            return int.from_bytes(fcntl.ioctl(self._fd, BLKSSZGET, bytes(4)), sys.byteorder)
+        except OSError:
+            return 0
 
     def _lock(self) -> None:
         """Waits until no other program holds the advisory lock on the file; goes on if the file system has none."""
@@ -311,6 +320,8 @@ class Disk(_File):
         align: `find_place` returns multiples of this number of sectors.
         entry_count: the number of entries, used or not.
         is_backup: whether the table is that of the backup copy, as the primary copy is damaged.
+        primary_header_lba, primary_entries_lba, backup_header_lba, backup_entries_lba: the sectors of both copies, by
+            the header that was read; the entries of the other copy are where `write` stores them.
         sector_size: in bytes.
         size: the length of the disk in bytes.
     """
@@ -324,7 +335,7 @@ class Disk(_File):
 
         Args:
             path: a disk image or block device.
-            sector_size: 512, 1024, 2048 or 4096 bytes.
+            sector_size: 512, 1024, 2048 or 4096 bytes; 0 takes what the block device reports.
             writable: whether the disk is opened for writing.
             new: for `create`.
             lock: whether to wait for the advisory lock of flock if the disk is opened for writing, and to hold it
@@ -388,6 +399,9 @@ class Disk(_File):
         self.first_usable_lba, self.last_usable_lba = int(table.first_usable_lba), int(table.last_usable_lba)
         self.align, self.entry_count = int(table.align), int(table.entry_count)
         self.is_backup = bool(table.is_backup)
+        self.primary_header_lba, self.backup_header_lba = int(table.primary_header_lba), int(table.backup_header_lba)
+        self.primary_entries_lba = int(table.primary_entries_lba)
+        self.backup_entries_lba = int(table.backup_entries_lba)
         numbered = dict(enumerate(entries[:self.entry_count], 1))
         self.partitions = {number: _partition_of(entry) for number, entry in numbered.items()
                            if bytes(entry.type_guid) != UNUSED}

@@ -1,4 +1,6 @@
-"""The errors of the library: one class for each number of include/gptman.h. docs/FAULTS.md says what to do."""
+"""The errors of the library: one class for each name that it has, with its number. docs/FAULTS.md says what to do."""
+
+from ._calls import fault_name as _fault_name
 
 
 class Error(Exception):
@@ -30,136 +32,97 @@ class Error(Exception):
 class Io(Error):
     """A part of the copy is past the end of the disk. If the system refuses a call, that is `OSError`."""
 
-    number = 1
-
 
 class InvalidSignature(Error):
     """There is no header, or no table if neither copy has one."""
-
-    number = 2
 
 
 class InvalidRevision(Error):
     """The version of the header is not 1.0."""
 
-    number = 3
-
 
 class InvalidHeaderSize(Error):
     """The size of the header is not 92 bytes."""
-
-    number = 4
 
 
 class InvalidChecksum(Error):
     """The header does not match its checksum."""
 
-    number = 5
-
 
 class InvalidPartitionEntryArrayChecksum(Error):
     """The entries do not match their checksum."""
-
-    number = 6
 
 
 class ReadError(Error):
     """Neither copy of the table can be read; `check` reports the error of each."""
 
-    number = 7
-
 
 class NoSpaceLeft(Error):
     """A copy of the table, or the MBR, does not fit on the disk."""
-
-    number = 8
 
 
 class ConflictPartitionGUID(Error):
     """Two partitions have the same unique GUID."""
 
-    number = 9
-
 
 class InvalidPartitionBoundaries(Error):
     """Partitions overlap, are outside the usable sectors or end before they begin, or the disk is too short."""
-
-    number = 10
 
 
 class InvalidPartitionNumber(Error):
     """The table has no entry of this number."""
 
-    number = 11
-
 
 class UnusedPartition(Error):
     """The entry is unused."""
-
-    number = 12
 
 
 class PartitionNotFound(Error):
     """There is no such partition."""
 
-    number = 13
-
 
 class Overflow(Error):
     """The disk is too short for one copy, a place is past byte 2^64, or the table to be fitted has no entries."""
-
-    number = 14
 
 
 class OutOfMemory(Error):
     """An allocation failed in the library; this says nothing about the disk."""
 
-    number = 15
-
 
 class InvalidPartitionEntrySize(Error):
     """The size of an entry is not 128 bytes."""
-
-    number = 16
 
 
 class OtherLength(Error):
     """The table was made for a disk of another length; `Disk.fit` fits it."""
 
-    number = 100
-
 
 class OtherLayout(Error):
     """The table does not have the layout of docs/FORMAT.md, or a write could overwrite data of another program."""
-
-    number = 101
 
 
 class DosDisk(Error):
     """The first sector is an MBR with partitions of its own; `over_dos=True` permits a write all the same."""
 
-    number = 102
-
 
 class LacksBytes(Error):
     """The table needs more than 256 MiB at one end of the disk."""
-
-    number = 103
 
 
 class LacksRoom(Error):
     """The table has more than 1,048,576 entries."""
 
-    number = 104
-
 
 class BadArgument(Error):
     """The sector size is not 512, 1024, 2048 or 4096 bytes, or another argument is invalid."""
-
-    number = 105
 
 
 class AsksAgain(Error):
     """The library asked again for what it had, which no known version does."""
 
-    number = 150
+
+_kinds = {kind.__name__: kind for kind in Error.__subclasses__()}
+for _number in range(1, 256):
+    _kind = _kinds.get(_fault_name(_number))
+    if _kind:
+        _kind.number = _number

@@ -14,6 +14,7 @@ import calls  # noqa: E402
 import examples  # noqa: E402
 import helpers  # noqa: E402
 import package  # noqa: E402
+import tasks  # noqa: E402
 import wild  # noqa: E402
 from built import build  # noqa: E402
 
@@ -25,7 +26,7 @@ def main():
     with tempfile.TemporaryDirectory() as folder:
         library = build(os.path.realpath(sys.argv[1]), folder)
         program = Program(os.path.realpath(sys.argv[2]), folder)
-        for module in (examples, calls, helpers, package, wild):
+        for module in (examples, tasks, calls, helpers, package, wild):
             for name, run in module.SUBJECTS.items():
                 tally.subject(name, run, library, program)
     return tally.end()

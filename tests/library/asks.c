@@ -1,5 +1,6 @@
 /* asks: the calls of gptman_fd.h over a library that asks again for what it has, for what is on no disk, or for a byte
  * more each time. A line for each answer. */
+#define _DEFAULT_SOURCE
 #include <stdio.h>
 
 #include "gptman.h"
@@ -50,24 +51,26 @@ static uint32_t ask_fit(const uint8_t *head, size_t head_length, const uint8_t *
 #define gptman_fit ask_fit
 #include "gptman_fd.h"
 
+static void print(uint32_t answer, char end) {
+    char name[GPTMAN_FAULT_NAME_SIZE];
+    if (gptman_fault_name(answer, name, sizeof name) == 0) printf("%s%c", name, end);
+}
+
 int main(int argc, char **argv) {
-    gptman_ends ends;
+    gptman_disk disk;
     gptman_table table;
     gptman_partition *partitions;
     gptman_copies copies;
     int fd = argc == 2 ? open(argv[1], O_RDWR) : -1;
-    if (gptman_ends_open(&ends, fd, 512) != 0) return 2;
-    size_of_disk = ends.size;
+    if (gptman_open(&disk, fd, 512) != 0) return 2;
+    size_of_disk = (uint64_t)lseek(fd, 0, SEEK_END);
     for (int k = 0; k < HOW_MANY; k++) {
         way = k;
-        uint32_t read = gptman_read_fd(&ends, &table, &partitions);
+        uint32_t read = gptman_read_fd(&disk, &table, &partitions);
         if (partitions != NULL) return 3;
-        printf("%s ", gptman_fault_name(read));
-        gptman_ends_free(&ends);
-        if (way < SAME_ROOM) printf("%s ", gptman_fault_name(gptman_check_fd(&ends, &copies)));
-        gptman_ends_free(&ends);
-        printf("%s\n", gptman_fault_name(gptman_fit_fd(&ends)));
-        gptman_ends_free(&ends);
+        print(read, ' ');
+        if (way < SAME_ROOM) print(gptman_check_fd(&disk, &copies), ' ');
+        print(gptman_fit_fd(&disk), '\n');
     }
     return 0;
 }

@@ -4,7 +4,7 @@ import subprocess
 from typing import NamedTuple
 
 TOP = os.path.realpath(os.path.join(os.path.dirname(os.path.abspath(__file__)), "..", ".."))
-WARNINGS = ["-Wall", "-Wextra", "-Werror", "-pedantic", "-D_XOPEN_SOURCE=700"]
+WARNINGS = ["-Wall", "-Wextra", "-Werror", "-pedantic"]
 
 
 class Library(NamedTuple):

@@ -7,7 +7,7 @@
  *                               failure, nor is a sync that drops: sector 1 is garbage then, and the next write fails
  * calls                         how many writes, syncs and requests for memory there were since then
  * flags NUMBER                  the flags of the writes from now on, until a file is opened
- * read | check | fit | free | plain | bootable | new GUID COUNT
+ * read | check | fit | plain | bootable | new GUID COUNT
  * write NUMBER TYPE UNIQUE FIRST LAST      writes what was read last, with this entry
  * same                          writes what was read last */
 #define _DEFAULT_SOURCE
@@ -74,18 +74,16 @@ static void *try_malloc(size_t size) {
 #define malloc try_malloc
 #include "gptman_fd.h"
 
-static gptman_ends ends;
+static gptman_disk disk = {-1, 0, 0};
 static gptman_table table;
 static gptman_partition *partitions;
 
 static uint32_t open_image(const char *path, uint64_t sector, const char *mode) {
     int fd = open(path, strcmp(mode, "reading") == 0 ? O_RDONLY : O_RDWR);
     if (fd < 0) exit(4);
-    if (ends.fd > 0) close(ends.fd);
-    gptman_ends_free(&ends);
+    if (disk.fd > 0) close(disk.fd);
     free(partitions), partitions = NULL;
-    return strcmp(mode, "unlocked") == 0 ? gptman_ends_open_unlocked(&ends, fd, sector)
-                                         : gptman_ends_open(&ends, fd, sector);
+    return strcmp(mode, "unlocked") == 0 ? gptman_open_unlocked(&disk, fd, sector) : gptman_open(&disk, fd, sector);
 }
 
 static void print_bytes(const uint8_t *bytes, size_t count) {
@@ -104,7 +102,7 @@ static void read_bytes(uint8_t *bytes, size_t count, const char *digits) {
 static uint32_t read_table(void) {
     static const uint8_t unused[16];
     free(partitions);
-    uint32_t answer = gptman_read_fd(&ends, &table, &partitions);
+    uint32_t answer = gptman_read_fd(&disk, &table, &partitions);
     if (answer != 0) return answer;
     printf("%u ", table.is_backup), print_bytes(table.disk_guid, 16);
     printf(" %" PRIu64 " %" PRIu64 " %u\n", table.first_usable_lba, table.last_usable_lba, table.entry_count);
@@ -117,9 +115,11 @@ static uint32_t read_table(void) {
 
 static uint32_t check_both(void) {
     gptman_copies copies;
-    uint32_t answer = gptman_check_fd(&ends, &copies);
+    uint32_t answer = gptman_check_fd(&disk, &copies);
     if (answer != 0) return answer;
-    const char *primary = gptman_fault_name(copies.primary_fault), *backup = gptman_fault_name(copies.backup_fault);
+    char primary[GPTMAN_FAULT_NAME_SIZE], backup[GPTMAN_FAULT_NAME_SIZE];
+    if (gptman_fault_name(copies.primary_fault, primary, sizeof primary) != 0) exit(7);
+    if (gptman_fault_name(copies.backup_fault, backup, sizeof backup) != 0) exit(7);
     printf(copies.primary_fault ? "primary fault %s\n" : "primary ok\n", primary);
     printf(copies.backup_fault ? "backup fault %s\n" : "backup ok\n", backup);
     printf("same %s\n", copies.are_same ? "yes" : "no");
@@ -133,13 +133,13 @@ static uint32_t write_table(uint32_t number, const char *type, const char *uniqu
         read_bytes(entry->type_guid, 16, type), read_bytes(entry->unique_guid, 16, unique);
         entry->first_lba = first, entry->last_lba = last;
     }
-    return gptman_write_fd(&ends, partitions, partitions == NULL ? 0 : table.entry_count);
+    return gptman_write_fd(&disk, partitions, partitions == NULL ? 0 : table.entry_count);
 }
 
 static uint32_t make_new(const char *digits, uint32_t count) {
     uint8_t guid[16];
     read_bytes(guid, 16, digits);
-    return gptman_new_fd(&ends, guid, count);
+    return gptman_new_fd(&disk, guid, count);
 }
 
 static uint32_t set_failing(const char *kind, long number, const char *how) {
@@ -158,13 +158,12 @@ static uint32_t do_line(char words[6][4096]) {
     if (strcmp(name, "calls") == 0) {
         return printf("%ld %ld %ld\n", failing.writes, failing.syncs, failing.requests) < 0;
     }
-    if (strcmp(name, "flags") == 0) return ends.flags = (uint32_t)strtoull(words[1], NULL, 10), 0u;
+    if (strcmp(name, "flags") == 0) return disk.flags = (uint32_t)strtoull(words[1], NULL, 10), 0u;
     if (strcmp(name, "read") == 0) return read_table();
     if (strcmp(name, "check") == 0) return check_both();
-    if (strcmp(name, "fit") == 0) return gptman_fit_fd(&ends);
-    if (strcmp(name, "free") == 0) return gptman_ends_free(&ends), 0u;
-    if (strcmp(name, "plain") == 0) return gptman_mbr_fd(&ends, 0);
-    if (strcmp(name, "bootable") == 0) return gptman_mbr_fd(&ends, 1);
+    if (strcmp(name, "fit") == 0) return gptman_fit_fd(&disk);
+    if (strcmp(name, "plain") == 0) return gptman_mbr_fd(&disk, 0);
+    if (strcmp(name, "bootable") == 0) return gptman_mbr_fd(&disk, 1);
     if (strcmp(name, "new") == 0) return make_new(words[1], (uint32_t)strtoull(words[2], NULL, 10));
     if (strcmp(name, "same") == 0) return write_table(0, "", "", 0, 0);
     if (strcmp(name, "write") != 0) exit(6);
@@ -174,15 +173,15 @@ static uint32_t do_line(char words[6][4096]) {
 
 int main(void) {
     static char line[8192], words[6][4096];
-    ends.fd = -1;
     while (fgets(line, sizeof line, stdin) != NULL) {
         for (int i = 0; i < 6; i++) words[i][0] = 0;
         sscanf(line, "%4095s %4095s %4095s %4095s %4095s %4095s", words[0], words[1], words[2], words[3], words[4],
                words[5]);
-        uint32_t answer = do_line(words);
-        printf("%s\n\n", gptman_fault_name(answer));
+        char fault[GPTMAN_FAULT_NAME_SIZE];
+        if (gptman_fault_name(do_line(words), fault, sizeof fault) != 0) return 7;
+        printf("%s\n\n", fault);
         fflush(stdout);
     }
-    gptman_ends_free(&ends), free(partitions);
+    free(partitions);
     return 0;
 }

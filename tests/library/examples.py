@@ -130,7 +130,7 @@ def try_headers(tally, library, program):
 
 
 CALLS = {f"gptman_{call}" for call in ["read", "write", "new", "fit", "check", "dos", "mbr", "place", "get_name", "set_name",
-                                       "crc32", "version"]}
+                                       "crc32", "version", "fault_name", "abi"]}
 
 
 def try_names(tally, program):
@@ -146,18 +146,15 @@ def exported(kind, path):
     return {line.split()[-1] for line in lines if len(line.split()) == 3}
 
 
-AROUND = """#include <fcntl.h>
+AROUND = """#include "gptman_fd.h"
 #include <inttypes.h>
-#include <stdio.h>
-#include <string.h>
-#include "gptman_fd.h"
 int main(int argc, char **argv) {
-    gptman_ends ends;
+    gptman_disk disk;
     gptman_table table;
     gptman_partition *partitions = NULL;
     int fd = argc == 2 ? open(argv[1], O_RDONLY) : -1;
 %s
-    free(partitions), gptman_ends_free(&ends);
+    free(partitions);
     return (int)fault;
 }
 """
@@ -222,7 +219,7 @@ def header(name):
 
 def prototypes_in(text):
     """The prototypes of functions in a text, each in one line."""
-    found = re.findall(r"^(?:static inline )?((?:uint32_t|void|const char) \*?gptman_\w+\([^)]*\))", text, re.M)
+    found = re.findall(r"^(?:static inline )?((?:uint32_t|void) gptman_\w+\([^)]*\))", text, re.M)
     return {re.sub(r"\s+", " ", prototype) for prototype in found}
 
 

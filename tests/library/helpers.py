@@ -455,8 +455,8 @@ def try_short(tally, library, program):
 
 
 def try_requests(tally, library, program):
-    """Each request for memory of gptman_fd.h is refused in turn, and the same ends serve the next call; freed ends do
-    too. Accesses are watched, where the compiler can."""
+    """Each request for memory of gptman_fd.h is refused in turn, and the same disk serves the next call. Accesses are
+    watched, where the compiler can."""
     data, old = start_of(None)
     try:
         handle, note = OverC(library, *SANITIZED), None
@@ -486,8 +486,7 @@ def try_requests(tally, library, program):
                     tally.holds(f"a call after {what} and request {number} refused", is_done(call()))
                 refused += 1
         for call in handle.check, lambda: handle.read()[0], handle.same, handle.fit, handle.mbr:
-            handle.ask("free")
-            tally.holds("a call after the ends were freed", is_done(call()))
+            tally.holds("a call after all requests that were refused", is_done(call()))
     tally.equals("the status, where all memory was given back", 0, handle.close())
     return f"{refused} requests refused" + (f", {note}" if note else "")
 

@@ -22,7 +22,11 @@ PYTHON = os.path.join(TOP, "python")
 NAMES = """#include <stdio.h>
 #include "gptman.h"
 int main(void) {
-    for (uint32_t n = 0; n < 1000; n++) printf("%u %s\\n", n, gptman_fault_name(n));
+    char name[GPTMAN_FAULT_NAME_SIZE];
+    for (uint32_t n = 0; n < 1000; n++) {
+        if (gptman_fault_name(n, name, sizeof name) != GPTMAN_OK) return 1;
+        printf("%u %s\\n", n, name);
+    }
     return 0;
 }
 """

@@ -148,7 +148,7 @@ static void call_plans(arguments *a) {
 }
 
 static void call_others(arguments *a) {
-    gptman_copies copies = {77, 77, 77};
+    gptman_copies copies = {77, 77, 77, {0}};
     uint32_t looked = gptman_check(ENDS(a), &copies, &a->needed);
     answered(CHECK, looked, BIT(103) | BIT(105));
     expect(CHECK, looked == 0 || (copies.primary_fault == 77 && copies.backup_fault == 77 && copies.are_same == 77));
@@ -222,7 +222,7 @@ static uint32_t call_each(const uint8_t *head, const uint8_t *tail) {
     static gptman_partition partitions[128];
     static gptman_step steps[64];
     static uint8_t bytes[1 << 16];
-    gptman_table table = {{0}, 0, 0, 0, 0, 0};
+    gptman_table table = {{0}, 0, 0, 0, 0, 0, 0, 0, 0, 0, {0}};
     gptman_needed needed = {0, 0, 0, 0};
     gptman_copies copies;
     uint64_t lba;

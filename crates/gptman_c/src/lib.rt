@@ -17,6 +17,8 @@ ghost use Rattle.gptman_plan.specs.Checking.{IsCheckTold};
 ghost use Rattle.gptman_plan.specs.Crossing.{HasCount, IsOffer, IsRefused, IsTold};
 ghost use Rattle.gptman_plan.specs.Dos.{IsDosDisk};
 ghost use Rattle.gptman_plan.specs.Ends.{HasEnds, HaveRange, IsKnown};
+ghost use Rattle.gptman_plan.specs.Faults.{answer_name};
+ghost use Rattle.gptman.specs.Fault.{Fault, fault_number, variant_name};
 ghost use Rattle.gptman.specs.Name.{units_of};
 ghost use Rattle.std.specs.Prelude.{◌∷◌, ◌++◌, IsUtf8};
 ghost use Rattle.std.specs.Str.{chars};
@@ -34,8 +36,8 @@ use gptman_plan::checking::{Look, look_at_both};
 use gptman_plan::dos::{Seen, look_for_dos};
 use gptman_plan::ends::Ends;
 use gptman_plan::faults::{
-    BAD_ARGUMENT, DOS_DISK, LACKS_BYTES, LACKS_ROOM, NO_SPACE_LEFT, OTHER_LAYOUT, OTHER_LENGTH,
-    OUT_OF_MEMORY,
+    self, BAD_ARGUMENT, DOS_DISK, LACKS_BYTES, LACKS_ROOM, NO_SPACE_LEFT, OTHER_LAYOUT,
+    OTHER_LENGTH, OUT_OF_MEMORY,
 };
 use gptman_plan::fitting::plan_fit;
 use gptman_plan::making::plan_new;
@@ -684,6 +686,39 @@ pub extern "C" fn gptman_crc32(bytes: &[u8]) -> u32
     ensures { result ≡ crc_of bytes.now }
 {
     crc32(bytes)
+}
+
+/// Encodes the name of an answer into `text`, followed by a zero: that of the error with this number, or of an answer of
+/// the calls themselves. It is "Ok" for 0, and "Unknown" for a number that no call returns.
+///
+/// Returns:
+///
+/// - 0: the name is stored; bytes after the zero are unchanged.
+/// - 104: `text` is too short for the name and the zero; 35 bytes are always enough.
+#[unsafe(no_mangle)]
+pub extern "C" fn gptman_fault_name(answer: u32, text: &mut [u8]) -> u32
+    ensures text { result ≡ 0 → text.new ≡ answer_name answer
+        ++ 0 ∷ drop (length (answer_name answer) + 1) text.old }
+    ensures fault { result ≡ 0 → (fault : Fault) → answer ≡ fault_number fault
+        → text.new ≡ variant_name fault ++ 0 ∷ drop (length (variant_name fault) + 1) text.old }
+    ensures room { result ≡ 104 → length text.old ≤ length (answer_name answer) }
+    ensures longest { result ≡ 104 → length text.old < 35 }
+    ensures answers { (result ≡ 0) ⊎ (result ≡ 104) }
+    ensures kept { result ≢ 0 → text.new ≡ text.old }
+{
+    if lay_text(faults::name_of(answer).as_bytes(), text) {
+        0
+    } else {
+        LACKS_ROOM
+    }
+}
+
+/// Returns the number of the binary interface.
+#[unsafe(no_mangle)]
+pub extern "C" fn gptman_abi() -> u32
+    ensures { result ≡ 1 }
+{
+    1
 }
 
 /// Returns the version MAJOR.MINOR.PATCH of the library as MAJOR * 65536 + MINOR * 256 + PATCH.

@@ -1,6 +1,6 @@
 -- A check of the disk with zeros between its ends holds for every disk with these ends.
 use Rattle.std.proofs.Common.{◌≡◌, ◌≤◌, ⊎_elim, ◌↔◌, ℕ, List, sym, ◌∙◌, ap, subst}
-use Rattle.std.specs.Prelude.{Result, Ok, Err, IfOk, IsTrue}
+use Rattle.std.specs.Prelude.{Result, Ok, Err, IfOk, IsTrue, replicate}
 use Rattle.gptman.specs.Answers.{answer_of}
 use Rattle.gptman.specs.Copy.{Copy, copy_of_whole}
 use Rattle.gptman.specs.Disk.{DiskState}
@@ -56,11 +56,12 @@ one_table_as a b ss same hold = record {
 -- and a check has the same result
 pub check_told : (start b : List ℕ) (ss : ℕ) (copies : BothCopies) (check : Check) → ((side : Side) → copy_in side b ss ≡ copy_in side start ss) → AreFoundIn start ss copies
     → check.primary_fault ≡ number_in (answer_of copy_of_whole copies.primary) → check.backup_fault ≡ number_in (answer_of copy_of_whole copies.backup)
-    → (IsTrue copies.are_same ↔ (check.are_same ≡ 1)) → check.are_same ≤ 1 → IsCheckTold b ss check
-check_told start b ss copies check told found first second flag low = record {
+    → (IsTrue copies.are_same ↔ (check.are_same ≡ 1)) → check.are_same ≤ 1 → check.reserved ≡ replicate 5 0 → IsCheckTold b ss check
+check_told start b ss copies check told found first second flag low zeros = record {
   at_primary = first ∙ ap number_in (found.at_primary ∙ sym (told primary));
   at_backup = second ∙ ap number_in (found.at_backup ∙ sym (told backup));
   same = λ one. one_table_as start b ss (λ side. sym (told side)) (found.same (flag.1 one));
   differ = λ hold. flag.0 (found.differ (one_table_as b start ss told hold));
   flag = low;
+  reserved = zeros;
 }

@@ -1,5 +1,5 @@
 -- A check of both copies, given only the ends of the disk.
-use Rattle.std.specs.Prelude.{◌≡◌, ◌≤◌, ℕ, List, Result, Ok, Err, IsTrue}
+use Rattle.std.specs.Prelude.{◌≡◌, ◌≤◌, ℕ, List, Result, Ok, Err, IsTrue, replicate}
 use Rattle.gptman.specs.Answers.{answer_of}
 use Rattle.gptman.specs.Copy.{Copy, copy_of_whole}
 use Rattle.gptman.specs.Fault.{Fault}
@@ -28,6 +28,7 @@ pub record IsCheckTold (b : List ℕ) (ss : ℕ) (check : Check) : Type 0 where
   pub same : check.are_same ≡ 1 → HoldOneTable b ss
   pub differ : HoldOneTable b ss → check.are_same ≡ 1
   pub flag : check.are_same ≤ 1
+  pub reserved : check.reserved ≡ replicate 5 0
 
 -- on every disk with these ends, each place has the same copy, or the same fault, as on the disk with zeros between
 -- them

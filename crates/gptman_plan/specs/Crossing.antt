@@ -1,5 +1,5 @@
 -- The structs that are shared with C, in terms of the library.
-use Rattle.std.specs.Prelude.{◌≡◌, ◌++◌, ℕ, List, length, map, take, Option, Result, Ok, Err}
+use Rattle.std.specs.Prelude.{◌≡◌, ◌++◌, ◌+◌, ◌-◌, ◌^◌, ℕ, List, length, map, min, replicate, take, Option, Result, Ok, Err}
 use Rattle.gptman.specs.Alignment.{IsAlignment}
 use Rattle.gptman.specs.Copy.{Copy}
 use Rattle.gptman.specs.Fault.{Fault}
@@ -9,6 +9,7 @@ use Rattle.gptman.specs.Reading.{Side, primary, backup}
 use Rattle.gptman.specs.Table.{Table as TheTable, TableEntry, entries_in, table_in}
 use Rattle.gptman.specs.declared.table.GPT.{GPT}
 use Rattle.gptman.specs.declared.codec.entry.GPTPartitionEntry.{GPTPartitionEntry}
+use Rattle.gptman.specs.declared.codec.header.GPTHeader.{GPTHeader}
 use Rattle.gptman.specs.Fault.{fault_number}
 use Rattle.gptman_plan.specs.declared.records.Partition.{Partition}
 use Rattle.gptman_plan.specs.declared.records.Table.{Table}
@@ -59,6 +60,14 @@ abbrev pub side_number : Side → ℕ
 side_number primary = 0
 side_number backup = 1
 
+-- The sectors of both copies, by the header that was read from this side. It does not state where the entries of the
+-- other copy are: they are at the sector from which a write stores them.
+abbrev pub HasPlaces : Side → GPTHeader → Table → Type 0
+HasPlaces primary h t =
+    (t.primary_header_lba ≡ h.primary_lba) × (t.primary_entries_lba ≡ h.partition_entry_lba) × (t.backup_header_lba ≡ h.backup_lba) × (t.backup_entries_lba ≡ min (h.last_usable_lba + 1) (2 ^ 64 - 1))
+HasPlaces backup h t =
+    (t.primary_header_lba ≡ h.backup_lba) × (t.primary_entries_lba ≡ 2) × (t.backup_header_lba ≡ h.primary_lba) × (t.backup_entries_lba ≡ h.partition_entry_lba)
+
 -- The result of a read that selected this copy, at this side: the fields of its header, and its entries at the start of
 -- the array.
 pub record IsTold (taken : Result Copy Fault) (side : Side) (table : Table) (partitions : List Partition) : Type 0 where
@@ -70,6 +79,8 @@ pub record IsTold (taken : Result Copy Fault) (side : Side) (table : Table) (par
   pub align : IsAlignment copy.header copy.entries table.align
   pub count : table.entry_count ≡ copy.header.number_of_partition_entries
   pub from : table.is_backup ≡ side_number side
+  pub places : HasPlaces side copy.header table
+  pub reserved : table.reserved ≡ replicate 6 0
   pub partitions_are : take (length copy.entries) partitions ≡ map partition_of copy.entries
 
 -- The read selected a copy with this number of entries.

@@ -3,6 +3,7 @@ pub mod Checking
 pub mod Crossing
 pub mod Dos
 pub mod Ends
+pub mod Faults
 pub mod Naming
 pub mod Plan
 pub mod Planning

@@ -1,7 +1,7 @@
 //! Checks both copies of a table, given only the ends of the disk. As for a read, the result holds for every disk with
 //! these ends.
 
-ghost use Rattle.std.specs.Prelude.{◌≡◌, ◌≤◌, ◌<◌, ◌+◌, ◌↔◌, length, IfErr, IfOk, IsTrue, MatchOption};
+ghost use Rattle.std.specs.Prelude.{◌≡◌, ◌≤◌, ◌<◌, ◌+◌, ◌↔◌, length, replicate, IfErr, IfOk, IsTrue, MatchOption};
 ghost use Rattle.gptman.specs.Answers.{answer_of};
 ghost use Rattle.gptman.specs.Copy.{copy_of_whole};
 ghost use Rattle.gptman.specs.Fault.{fault_of, out_of_memory};
@@ -75,11 +75,13 @@ fn check_of(copies: &BothCopies) -> Check
     ensures backup { result.backup_fault ≡ number_in (answer_of copy_of_whole copies.now.backup) }
     ensures same { IsTrue copies.now.are_same ↔ (result.are_same ≡ 1) }
     ensures flag { result.are_same ≤ 1 }
+    ensures reserved { result.reserved ≡ replicate 5 0 }
 {
     Check {
         primary_fault: fault_in(&copies.primary),
         backup_fault: fault_in(&copies.backup),
         are_same: u32::from(copies.are_same),
+        reserved: [0; 5],
     }
 }
 

@@ -16,6 +16,16 @@ pub struct Table {
     pub entry_count: u32,
     /// 1 if the primary copy has a fault and the backup copy was read, else 0.
     pub is_backup: u32,
+    /// The sector of the primary header.
+    pub primary_header_lba: u64,
+    /// The first sector of the primary entries.
+    pub primary_entries_lba: u64,
+    /// The sector of the backup header.
+    pub backup_header_lba: u64,
+    /// The first sector of the backup entries.
+    pub backup_entries_lba: u64,
+    /// Zeros: room for later versions.
+    pub reserved: [u64; 6],
 }
 
 /// An entry of a table. It is unused if the type GUID is zero.
@@ -74,4 +84,6 @@ pub struct Check {
     pub backup_fault: u32,
     /// 1 if both places hold one table, each in the form of its place, else 0.
     pub are_same: u32,
+    /// Zeros: room for later versions.
+    pub reserved: [u32; 5],
 }

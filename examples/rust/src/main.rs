@@ -14,6 +14,11 @@ struct Table {
     align: u64,
     entry_count: u32,
     is_backup: u32,
+    primary_header_lba: u64,
+    primary_entries_lba: u64,
+    backup_header_lba: u64,
+    backup_entries_lba: u64,
+    reserved: [u64; 6],
 }
 
 /// An entry of a table: gptman_partition.

@@ -12,4 +12,4 @@ returns-clause-look c = λ b ends.
     let ss = c.args.sector_size in
     let told = at_none (AreCopiesTold e ss) (IsLackOf (λ b. reading_ranges b ss) e) c.lack_of_copies.result c.in_default.is c.lack_of_copies.ensures.told in
     let made = c.check_of.ensures in
-    check_told (zeroed e) b ss c.in_ok-copies.copies c.check_of.result (λ side. told side b ends) c.in_ok-copies.ensures.found made.primary made.backup made.same made.flag
+    check_told (zeroed e) b ss c.in_ok-copies.copies c.check_of.result (λ side. told side b ends) c.in_ok-copies.ensures.found made.primary made.backup made.same made.flag made.reserved
