@@ -1,8 +1,8 @@
 /* gptman.h: GUID partition tables, for C and other languages.
  *
  * The library does no I/O. You pass the first and the last bytes of a disk, the "ends", and it returns the table, or
- * the steps of a write, which you carry out. It keeps no state between calls, and accesses no memory except the arrays
- * that it is given.
+ * the steps of a write, which you carry out. It keeps no state between calls, and accesses no memory of the caller except
+ * the arrays that it is given.
  *
  * Each pointer must be that of an array with at least as many elements as the count after it says, aligned for its
  * type. It may be null only if the count is 0. An array that a call writes to must not overlap another one. The caller
@@ -202,8 +202,9 @@ uint32_t gptman_new(const uint8_t *head, size_t head_length, const uint8_t *tail
  * or the fitted one, whatever else is on it. No protective MBR is written.
  *
  * The other results are those of gptman_read and gptman_write except GPTMAN_OTHER_LENGTH, and
- * GPTMAN_INVALID_PARTITION_BOUNDARIES: also if a partition would end past the last usable sector of a shorter disk;
- * GPTMAN_OVERFLOW: also if the disk has too few sectors for two copies, or the table has no entries;
+ * GPTMAN_INVALID_PARTITION_BOUNDARIES: also if a partition would end past the last usable sector of a shorter disk, or
+ *     the disk has too few sectors for two copies;
+ * GPTMAN_OVERFLOW: also if the disk has too few sectors for one copy, or the table has no entries;
  * GPTMAN_OTHER_LAYOUT: the copy that is read is not in its place, or the fitted table does not have the layout of
  *     docs/FORMAT.md;
  * GPTMAN_BAD_ARGUMENT: `sector_size` is 0, the ends together are longer than the disk, or `flags` is above 1. */

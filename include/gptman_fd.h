@@ -98,7 +98,7 @@ static inline uint32_t gptman_fd_once(const gptman_disk *disk, int kind, gptman_
     return answer;
 }
 
-/* Extends the end that is nearer to the missing bytes, to at most 256 MiB: no system reads a table that needs more. */
+/* Extends the end that is nearer to the missing bytes, to at most 256 MiB: room for two million entries. */
 static inline uint32_t gptman_fd_extend(gptman_fd_call *c) {
     uint64_t from = c->needed.from, length = c->needed.length, rest = c->size - from;
     if (from > c->size || length > rest || from + length <= c->first || rest <= c->last) return GPTMAN_FD_ASKS_AGAIN;

@@ -367,8 +367,8 @@ pub extern "C" fn gptman_new(
 /// - 0: `steps` has the `needed.steps` steps, and `bytes` their bytes.
 /// - 1 to 16: the table cannot be read, as for `gptman_read`; or 9: two partitions have the same unique GUID; 10: an
 ///   entry ends before it starts, two partitions overlap, or one is outside the usable sectors, as on a disk that has
-///   become too short for it; 8 or 14: the disk has too few sectors for two copies, or the table has no entries; 15: an
-///   allocation failed.
+///   become too short for it or for two copies; 14: the disk has too few sectors for one copy, or the table has no
+///   entries; 15: an allocation failed.
 /// - 103: the plan needs `needed.length` bytes of the disk from byte `needed.from`, and neither `head` nor `tail` has
 ///   all of them.
 /// - 104: `steps` has fewer than `needed.steps` elements, or `bytes` fewer than `needed.bytes`.
