@@ -170,13 +170,13 @@ def try_none(tally, program):
     last = 16 * MIB // 512 - 1
     far = (1 << 64) - 1
     for entries, reason in [
-            ({1: entry(2048, 4095), 2: entry(4095, 5000, "two", ROOT)}, "partition 1 and partition 2 share sectors"),
-            ({1: entry(2048, 4095), 2: entry(2048, 2048, "two", ROOT)}, "partition 1 and partition 2 share sectors"),
+            ({1: entry(2048, 4095), 2: entry(4095, 5000, "two", ROOT)}, "partition 1 and partition 2 overlap"),
+            ({1: entry(2048, 4095), 2: entry(2048, 2048, "two", ROOT)}, "partition 1 and partition 2 overlap"),
             ({3: entry(5000, 4000)}, "partition 3 ends before it starts"),
             ({3: entry(far, 0)}, "partition 3 ends before it starts"),
-            ({1: entry(33, 4000)}, "MBR and primary copy and partition 1 share sectors"),
-            ({1: entry(0, 4000)}, "MBR and primary copy and partition 1 share sectors"),
-            ({1: entry(4000, last)}, "partition 1 and backup copy share sectors"),
+            ({1: entry(33, 4000)}, "MBR and primary copy and partition 1 overlap"),
+            ({1: entry(0, 4000)}, "MBR and primary copy and partition 1 overlap"),
+            ({1: entry(4000, last)}, "partition 1 and backup copy overlap"),
             ({1: entry(last + 1, last + 9)}, "partition 1 ends after the disk"),
             ({1: entry(far, far)}, "partition 1 ends after the disk"),
             ({1: entry(far - 1, far), 2: entry(7, 8, "two", ROOT)}, "partition 1 ends after the disk"),

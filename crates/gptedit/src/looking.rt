@@ -7,8 +7,10 @@ use gptedit_core::{Amount, Refusal, layout_of};
 use gptedit_look::first_sector::read_first_sector;
 use gptedit_look::salvage::salvage;
 use gptedit_look::{FirstSector, Look, MbrKind};
-use gptedit_report::{CopiesState, Edges, free_json, print_free, print_map, print_salvaged};
-use gptedit_report::{salvaged_json, show_table, table_json};
+use gptedit_report::{
+    CopiesState, Edges, free_json, print_free, print_map, print_salvaged, salvaged_json,
+    show_table, table_json,
+};
 use gptedit_text::values::Escaped;
 use gptedit_text::{Header, write_layout};
 use gptman::GPT;

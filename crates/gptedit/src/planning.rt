@@ -9,8 +9,9 @@ use crate::task::{Became, Task, Work};
 use crate::using::UseText;
 use gptedit_busy::find_users;
 use gptedit_core::{Bounds, Refusal};
-use gptedit_look::{Look, MbrChange, MbrKind, Obstacle, Purpose, What};
-use gptedit_look::{find_contents, find_obstacle};
+use gptedit_look::{
+    Look, MbrChange, MbrKind, Obstacle, Purpose, What, find_contents, find_obstacle,
+};
 use gptedit_report::{
     CutText, Edges, ObstacleText, Remains, Shortened, ShortenedText, find_shortened,
 };

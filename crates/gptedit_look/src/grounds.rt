@@ -8,9 +8,9 @@ ghost use Rattle.gptedit_look.specs.Guard.{IsReplaced, IsSpanned, IsUnknown, IsU
 ghost use Rattle.gptedit_look.specs.declared.marks.Content.{Content};
 
 use crate::bytes::{is_in, start_after, start_of};
+use crate::marks::Content;
 use crate::raw::RawHeader;
 use crate::seen::{Look, Purpose};
-use crate::marks::Content;
 use gptman::copy::WholeCopy;
 use gptman::{GPT, GPTHeader, Result};
 

@@ -5,10 +5,10 @@ ghost use Rattle.gptman.specs.Answers.{HasCause};
 ghost use Rattle.gptman.specs.Disk.{Reads};
 
 use crate::first_sector::{FirstSector, read_first_sector};
+use crate::marks::{Content, find_contents, find_footer};
 use crate::raw::{RawHeader, read_raw_header, read_raw_header_at};
 use crate::seen::{Look, Looked};
 use crate::signatures::{Place, Signature, find_signatures};
-use crate::marks::{Content, find_contents, find_footer};
 use gptman::{BothCopies, Disk, Error, GPT, Result, check};
 use gptman_change::read_table;
 use std::alloc::Global;

@@ -3,9 +3,9 @@
 ghost use Rattle.std.specs.Prelude.{◌<◌};
 
 use crate::first_sector::FirstSector;
+use crate::marks::Content;
 use crate::raw::RawHeader;
 use crate::signatures::Signature;
-use crate::marks::Content;
 use gptman::{BothCopies, GPT};
 
 /// The result of an inspection.

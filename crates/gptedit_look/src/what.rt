@@ -6,9 +6,9 @@ use crate::first_sector::MbrKind;
 use crate::grounds::{
     are_entries_elsewhere, is_in_content, is_in_footer, is_of_broken, is_of_low_entries,
 };
+use crate::marks::Content;
 use crate::seen::{Look, Obstacle, What};
 use crate::signatures::Signature;
-use crate::marks::Content;
 use gptman::GPT;
 
 /// Returns the first thing on the disk that a new table would destroy, wherever it is: a table or header, a protective

@@ -1,8 +1,7 @@
 //! Effects of a change on things that depend on partitions: their contents, and the entries of a hybrid MBR.
 
 use crate::compare::used_at;
-use gptedit_look::{FirstSector, Listed};
-use gptedit_look::Content;
+use gptedit_look::{Content, FirstSector, Listed};
 use gptman::{GPT, GPTPartitionEntry};
 use std::alloc::{AllocError, Global};
 use std::fmt;

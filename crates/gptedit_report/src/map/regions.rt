@@ -40,7 +40,7 @@ pub(crate) enum NoMap<'a> {
     EndsBefore(u32),
     /// The partition with this number ends after the disk.
     EndsAfter(u32),
-    /// Two owners share sectors.
+    /// Two owners overlap.
     Overlap(Owner<'a>, Owner<'a>),
 }
 
@@ -215,7 +215,7 @@ impl fmt::Display for NoMap<'_> {
         match self {
             NoMap::EndsBefore(number) => write!(f, "partition {number} ends before it starts"),
             NoMap::EndsAfter(number) => write!(f, "partition {number} ends after the disk"),
-            NoMap::Overlap(one, other) => write!(f, "{one} and {other} share sectors"),
+            NoMap::Overlap(one, other) => write!(f, "{one} and {other} overlap"),
         }
     }
 }

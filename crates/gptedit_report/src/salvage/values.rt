@@ -11,7 +11,11 @@ use std::alloc::{AllocError, Global};
 /// Returns the result of a search as JSON: `device`, `size` in bytes, `best` (the index of the best copy, or null), and
 /// `copies`. Each copy has `sector_size`, `place` (`primary`, `backup` or `other`), `lba`, `sectors`, `header` (or
 /// null), `faults` and `entries`, each with its own `faults`. Hidden characters are escaped.
-pub fn salvaged_json(alloc: Global, image: &str, salvaged: &Salvaged) -> Result<String, AllocError> {
+pub fn salvaged_json(
+    alloc: Global,
+    image: &str,
+    salvaged: &Salvaged,
+) -> Result<String, AllocError> {
     let mut copies = Vec::new(alloc);
     for copy in salvaged.copies.iter() {
         copies.push(copy_value(alloc, copy)?)?;
