@@ -75,9 +75,9 @@ static uint64_t mostly(uint64_t usual, uint64_t odd) { return draw(12) == 0 ? od
 /* The pointer of an array, or null where there may be one. */
 static void *at(room r, size_t count) { return count == 0 && draw(2) ? NULL : r.at; }
 
-enum { READ, CHECK, WRITE, NEW, FIT, DOS, MBR, PLACE, GET_NAME, SET_NAME, CALLS };
+enum { READ, CHECK, WRITE, NEW, FIT, DOS, MBR, PLACE, GET_NAME, SET_NAME, FAULT_NAME, CALLS };
 static const char *const names[CALLS] = {"read", "check", "write", "new", "fit", "dos", "mbr", "place",
-                                         "get_name", "set_name"};
+                                         "get_name", "set_name", "fault_name"};
 static long done[CALLS];
 
 /* The answers from 100 on have the bits from 32 on. */
@@ -161,6 +161,11 @@ static void call_others(arguments *a) {
     uint32_t mbr = gptman_mbr(a->size, a->sector, (uint32_t)mostly(draw(2), 2), last, count);
     answered(MBR, mbr, BIT(8) | BIT(14) | BIT(104) | BIT(105));
     expect(MBR, (mbr != 0 || count >= GPTMAN_MBR_LENGTH) && (mbr != 104 || count < GPTMAN_MBR_LENGTH));
+    size_t room = a->byte_count < 40 ? a->byte_count : mostly(40, draw(40));
+    char *name = (char *)a->bytes.at + (a->byte_count - room);
+    uint32_t named = gptman_fault_name((uint32_t)mostly(draw(160), draw_length()), name, room);
+    answered(FAULT_NAME, named, BIT(104));
+    expect(FAULT_NAME, named == 0 ? memchr(name, 0, room) != NULL : room < GPTMAN_FAULT_NAME_SIZE);
     uint64_t lba = 7;
     a->table.align = mostly(1 + draw(8), draw_length());
     uint64_t size = mostly(draw(20), draw_length());

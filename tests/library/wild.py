@@ -8,7 +8,7 @@ from built import TOP
 from handles import SANITIZED
 
 WRAPPED = ["-Wl,--wrap=malloc", "-Wl,--wrap=realloc", "-Wl,--wrap=free"]
-CALLS = "read check write new fit dos mbr place get_name set_name".split()
+CALLS = "read check write new fit dos mbr place get_name set_name fault_name".split()
 
 
 def compile_wild(library, name, *words):
