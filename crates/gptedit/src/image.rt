@@ -6,6 +6,7 @@ use gptedit_look::salvage::salvage;
 use gptedit_look::{Look, Looked, find_format, look};
 use gptedit_report::NoTableText;
 use gptedit_text::values::Escaped;
+use gptman::sizes::MAX_ENTRY_COUNT;
 use gptman::{Error, FileDisk};
 use std::alloc::Global;
 use std::fs::File;
@@ -185,7 +186,7 @@ impl fmt::Display for TooMany<'_> {
         let (count, image) = (self.count, Escaped(self.image));
         writeln!(
             f,
-            "a header of the table counts {count} entries, but gptedit reads at most 32768"
+            "a header of the table counts {count} entries, but gptedit reads at most {MAX_ENTRY_COUNT}"
         )?;
         write!(
             f,

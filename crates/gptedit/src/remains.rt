@@ -3,7 +3,8 @@
 use crate::failure::{Failure, refuse_error};
 use crate::image::Image;
 use crate::own::has_same_entries;
-use gptedit_look::salvage::{FoundCopy, salvage};
+use gptedit_formats::copies::FoundCopy;
+use gptedit_look::salvage::salvage;
 use gptedit_look::{Look, Obstacle, What};
 use gptedit_report::Remains;
 use gptman::GPT;

@@ -15,6 +15,7 @@ use crate::seen::Look;
 use crate::signatures::{Place, Signature, place_at};
 use crate::zeros::{Zeroed, put_zeros};
 use gptman::copy::WholeCopy;
+use gptman::sizes::MAX_ENTRY_COUNT;
 use gptman::{Disk, Error, GPTHeader, Result};
 use std::alloc::Global;
 
@@ -26,9 +27,6 @@ const HEADER_SIZE: u64 = 92;
 
 // The size of an entry in bytes.
 const ENTRY_SIZE: u64 = 128;
-
-// The maximum number of entries of a header.
-const MOST_ENTRIES: u32 = 32768;
 
 // The first byte of the entries of an MBR.
 const MBR_START: u64 = 446;
@@ -399,7 +397,7 @@ fn has_usual_entries(header: &RawHeader, sector_size: u64) -> bool
     requires { 0 < sector_size }
     ensures { IsTrue result ↔ HasUsualEntries header.now sector_size }
 {
-    if header.count > MOST_ENTRIES || header.entry_size != 128 {
+    if header.count > MAX_ENTRY_COUNT || header.entry_size != 128 {
         return false;
     }
     let sector = header.at / sector_size;

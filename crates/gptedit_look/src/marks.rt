@@ -1,4 +1,4 @@
-//! Recognises contents by their bytes: file systems, members of arrays, image formats, footers.
+//! Finds contents on the disk: file systems, members of arrays, image formats, footers.
 //!
 //! Only reads. Does not recognise GPT or the MBR.
 
@@ -6,15 +6,12 @@ ghost use Rattle.std.specs.Prelude.{◌≡◌, ◌≤◌, ◌<◌, All, IfOk, If
 ghost use Rattle.gptman.specs.Answers.{HasCause};
 ghost use Rattle.gptman.specs.Disk.{Reads};
 
-mod formats;
-mod found;
-mod lengths;
-mod others;
 mod piece;
-mod plain;
 
-use crate::marks::found::Found;
-use crate::marks::piece::{Piece, Span, read_piece};
+use crate::marks::piece::{Span, read_piece};
+use gptedit_formats::contents::{
+    Found, Piece, find_in_first, find_in_last, find_in_next, formats,
+};
 use gptman::Disk;
 use std::alloc::{AllocError, Global};
 
@@ -126,24 +123,6 @@ fn find_at<D: Disk>(
     let piece = read_piece(alloc, disk, span, at, most)?;
     find_in_next(&piece, found)?;
     Ok(())
-}
-
-fn find_in_first(piece: &Piece, found: &mut Vec<Found>) -> Result<(), AllocError> {
-    lengths::find_file_systems(piece, found)?;
-    others::find_others(piece, found)?;
-    plain::find_plain(piece, found)
-}
-
-// Adds contents of a piece between the first and the last.
-fn find_in_next(piece: &Piece, found: &mut Vec<Found>) -> Result<(), AllocError> {
-    if let Some(zfs) = others::find_zfs(piece) {
-        found.push(zfs)?;
-    }
-    plain::find_plain(piece, found)
-}
-
-fn find_in_last(piece: &Piece, length: u64, found: &mut Vec<Found>) -> Result<(), AllocError> {
-    others::find_late(piece, length, found)
 }
 
 // Returns the contents with their places on the disk.

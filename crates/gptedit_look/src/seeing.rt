@@ -9,12 +9,10 @@ use crate::marks::{Content, find_contents, find_footer};
 use crate::raw::{RawHeader, read_raw_header, read_raw_header_at};
 use crate::seen::{Look, Looked};
 use crate::signatures::{Place, Signature, find_signatures};
+use gptman::sizes::MAX_ENTRY_COUNT;
 use gptman::{BothCopies, Disk, Error, GPT, Result, check};
 use gptman_change::read_table;
 use std::alloc::Global;
-
-// The maximum number of entries that is read.
-const MOST_ENTRIES: u32 = 32768;
 
 // The sector size in bytes if there is no table and none is given.
 const DEFAULT_SECTOR_SIZE: u64 = 512;
@@ -22,7 +20,7 @@ const DEFAULT_SECTOR_SIZE: u64 = 512;
 /// Inspects a disk with this sector size in bytes. `None` detects it: 512, or 4096 if there is no signature with 512.
 /// Only reads.
 ///
-/// Returns `Looked::TooMany` before any entries are read if a header counts more than 32,768.
+/// Returns `Looked::TooMany` before any entries are read if a header counts more than `MAX_ENTRY_COUNT`.
 ///
 /// # Errors
 /// `Io` if the disk fails, `OutOfMemory` if an allocation fails.
@@ -75,7 +73,7 @@ fn find_too_many_in<D: Disk>(disk: &mut D, sector_size: u64) -> Result<Option<u3
 // Returns the entry count, if it is too large.
 fn too_many_of(header: Option<RawHeader>) -> Option<u32> {
     match header {
-        Some(header) if header.count > MOST_ENTRIES => Some(header.count),
+        Some(header) if header.count > MAX_ENTRY_COUNT => Some(header.count),
         _ => None,
     }
 }

@@ -3,7 +3,7 @@
 use crate::fault::Meaning;
 use crate::way::SAVE;
 use gptedit_look::Look;
-use gptedit_look::salvage::{CopyKind, FoundCopy, Salvaged};
+use gptedit_formats::copies::{CopyKind, FoundCopy, Salvaged};
 use gptedit_text::values::Escaped;
 use std::fmt;
 

@@ -117,17 +117,25 @@ pub struct WhatText {
 
 impl fmt::Display for WhatText {
     fn fmt<W: fmt::Write>(&self, f: &mut fmt::Formatter<W>) -> fmt::Result {
-        match self.what {
-            What::Content(name) | What::Footer(name) => f.write_str(name),
+        let name = match self.what {
+            What::Content(name) | What::Footer(name) => name,
             What::OtherSectorSize(size) => {
-                write!(
+                return write!(
                     f,
                     "the header of a GUID partition table with sectors of {size} bytes"
-                )
+                );
             }
-            What::BoardCode => f.write_str(remains_name(self.remains)),
-            other => f.write_str(plain_name(other)),
-        }
+            What::BoardCode => remains_name(self.remains),
+            What::DosDisk => "an MBR with partitions",
+            What::ElsewhereEntries => "data other than the entries of the table",
+            What::AfterLastUsable => "data after the last usable sector",
+            What::Table => "a GUID partition table",
+            What::Header => "the header of a GUID partition table",
+            What::ProtectiveMbr => "a protective MBR",
+            What::BootSector => "a boot sector",
+            What::Unknown => "data that is not zero",
+        };
+        f.write_str(name)
     }
 }
 
@@ -139,19 +147,5 @@ fn remains_name(remains: Remains) -> &'static str {
             "an array of entries of another table, or of older entries of this one",
         Remains::Unknown =>
             "unknown data in the place of a broken copy, such as the boot loader of a board",
-    }
-}
-
-// Returns the name of data whose format has no name.
-fn plain_name(what: What) -> &'static str {
-    match what {
-        What::DosDisk => "an MBR with partitions",
-        What::ElsewhereEntries => "data other than the entries of the table",
-        What::AfterLastUsable => "data after the last usable sector",
-        What::Table => "a GUID partition table",
-        What::Header => "the header of a GUID partition table",
-        What::ProtectiveMbr => "a protective MBR",
-        What::BootSector => "a boot sector",
-        _ => "data that is not zero",
     }
 }

@@ -1,4 +1,4 @@
-//! Sizes in bytes, and the default number of entries.
+//! Sizes in bytes, and numbers of entries.
 
 ghost use Rattle.std.specs.Prelude.{◌≡◌, length};
 
@@ -12,6 +12,9 @@ pub const ENTRY_SIZE: u32 = 128;
 
 /// The number of entries of a new table, unless the caller chooses another.
 pub const DEFAULT_ENTRY_COUNT: u32 = 128;
+
+/// The number of entries up to which Linux reads a table. The library reads more.
+pub const MAX_ENTRY_COUNT: u32 = 32768;
 
 /// The sector sizes that disks have.
 pub const SECTOR_SIZES: [u64; 4] = [512, 1024, 2048, 4096];

@@ -5,7 +5,7 @@ use Rattle.std.specs.IoError.{error_kind}
 use Rattle.std.specs.declared.io.Error.{Error}
 use Rattle.std.specs.declared.io.ErrorKind.TheVariants.{OutOfMemory}
 use Rattle.gptman_disk.specs.Disk.{overlay, AgreesOutside, DiskState}
-use Rattle.gptman_disk.specs.Memory.{view_of}
+use Rattle.gptman_disk.specs.Memory.{memory_state, view_of}
 use Rattle.gptman_disk.specs.declared.disk.memory.Event.{Event}
 use Rattle.gptman_disk.specs.declared.disk.memory.Event.TheVariants.{Write, Sync}
 use Rattle.gptman_disk.specs.declared.disk.memory.Written.{Written}
@@ -47,6 +47,10 @@ pub record History : Type 0 where
 
 abbrev pub history_of : MemoryDisk → History
 history_of disk = record { start = disk.start.items; events = disk.events.items }
+
+-- the state of the disk, as contracts see it
+abbrev pub state_of : MemoryDisk → DiskState
+state_of disk = memory_state disk.start.items disk.bytes.items disk.events.items disk.position disk.failures
 
 -- the bytes that a crash with these fates leaves: those of the last sync, or of the start, after the writes since then
 abbrev pub bytes_left : List Fate → History → List ℕ

@@ -1,7 +1,8 @@
-//! Reads a disk in bounded pieces.
+//! Reads headers, and a disk in bounded pieces.
 
 ghost use Rattle.gptman.specs.Disk.{Reads};
 
+use gptedit_formats::copies::{Seen, Spot, decode_header};
 use gptman::Disk;
 use std::alloc::{AllocError, Global};
 
@@ -57,4 +58,20 @@ fn read_piece<D: Disk>(
         bytes.extend_from_slice(piece)?;
     }
     Ok(is_read)
+}
+
+/// Reads the sector of a header.
+#[tactic(auto, using(gptman::proofs::Readers::both_read))]
+pub fn read_header<D: Disk>(alloc: Global, disk: &mut D, spot: Spot) -> Result<Seen, AllocError>
+    ensures reads { Reads (D.state disk.old) (D.state disk.new) }
+{
+    if spot.lba >= spot.sectors {
+        return Ok(Seen::Nothing);
+    }
+    let mut bytes = [0; 4096];
+    let sector = &mut bytes[..spot.sector_size.min(4096) as usize];
+    if !read_at(disk, spot.lba.saturating_mul(spot.sector_size), sector) {
+        return Ok(Seen::Failure);
+    }
+    decode_header(alloc, sector, spot)
 }

@@ -5,12 +5,12 @@ ghost use Rattle.gptman.specs.Answers.{IsFailure};
 ghost use Rattle.gptman.specs.Disk.{Reads};
 ghost use Rattle.gptman.specs.Fault.{fault_of, out_of_memory};
 
-use crate::salvage::arrays::{Span, find_array, is_likely, note_array, note_length, read_array};
-use crate::salvage::choice::find_best;
-use crate::salvage::fault::Fault;
-use crate::salvage::found::{CopyKind, FoundCopy, Salvaged, Spot};
-use crate::salvage::headers::{Seen, read_header};
-use crate::salvage::judge::judge;
+use crate::salvage::arrays::{find_array, read_array};
+use crate::salvage::reading::read_header;
+use gptedit_formats::copies::{
+    CopyKind, Fault, FoundCopy, Salvaged, Seen, Spot, bare_span, find_best, is_known, is_likely,
+    judge, keep_one_size, may_be_size, note_array, note_length,
+};
 use gptman::sizes::SECTOR_SIZES;
 use gptman::{Disk, GPTHeader};
 use std::alloc::{AllocError, Global};
@@ -65,48 +65,10 @@ fn find_copies<D: Disk>(
     Ok(copies)
 }
 
-// Drops copies with entries and no header, unless their sector size is that of the best copy: one array is at the usual
-// place for several sector sizes, shifted by some entries.
-fn keep_one_size(copies: &mut Vec<FoundCopy>) {
-    let best = find_best(copies).and_then(|index| copies.get(index));
-    let Some(best) = best else {
-        return;
-    };
-    let sector_size = best.spot.sector_size;
-    copies.retain(|copy| {
-        copy.header.is_some() || copy.entries.is_empty() || copy.spot.sector_size == sector_size
-    });
-}
-
 fn is_tried(sector_size: u64, asked: Option<u64>) -> bool {
     match asked {
         Some(asked) => asked == sector_size,
         None => true,
-    }
-}
-
-// Reports whether a header has this sector size, or there is no header.
-fn may_be_size(copies: &[FoundCopy], sector_size: u64) -> bool {
-    !copies.iter().any(|copy| copy.header.is_some())
-        || copies.iter().any(|copy| copy.header.is_some() && copy.spot.sector_size == sector_size)
-}
-
-// Returns the place of the primary copy on a disk of `size` bytes.
-fn primary_spot(size: u64, sector_size: u64) -> Spot {
-    Spot {
-        sector_size,
-        sectors: size.checked_div(sector_size).unwrap_or(0),
-        kind: CopyKind::Primary,
-        lba: 1,
-    }
-}
-
-// Returns the place of the backup copy.
-fn backup_spot(primary: Spot) -> Spot {
-    Spot {
-        kind: CopyKind::Backup,
-        lba: primary.sectors.saturating_sub(1),
-        ..primary
     }
 }
 
@@ -121,8 +83,8 @@ fn find_at_size<D: Disk>(
 ) -> Result<(), AllocError>
     ensures reads { Reads (D.state disk.old) (D.state disk.new) }
 {
-    let primary = primary_spot(size, sector_size);
-    let backup = backup_spot(primary);
+    let primary = Spot::primary(size, sector_size);
+    let backup = primary.backup();
     let after_primary = find_copy(alloc, disk, primary, copies)?;
     let after_backup = find_copy(alloc, disk, backup, copies)?;
     find_other(alloc, disk, primary, after_primary, copies)?;
@@ -173,24 +135,11 @@ fn find_copy<D: Disk>(
             Ok(Some(header.backup_lba))
         }
         Seen::Failure => {
-            copies.push(unreadable_copy(alloc, spot)?)?;
+            copies.push(FoundCopy::unreadable(alloc, spot)?)?;
             Ok(None)
         }
         Seen::Nothing => Ok(None),
     }
-}
-
-// Returns a copy whose header cannot be read.
-fn unreadable_copy(alloc: Global, spot: Spot) -> Result<FoundCopy, AllocError> {
-    let mut faults = Vec::new(alloc);
-    faults.push(Fault::Unreadable { lba: spot.lba })?;
-    Ok(FoundCopy {
-        spot,
-        header: None,
-        faults,
-        entries_lba: None,
-        entries: Vec::new(alloc),
-    })
 }
 
 // Reads the entries of a header, and records the faults of the copy.
@@ -229,9 +178,9 @@ fn find_bare_at_size<D: Disk>(
 ) -> Result<(), AllocError>
     ensures reads { Reads (D.state disk.old) (D.state disk.new) }
 {
-    let primary = primary_spot(size, sector_size);
+    let primary = Spot::primary(size, sector_size);
     find_bare(alloc, disk, primary, copies)?;
-    find_bare(alloc, disk, backup_spot(primary), copies)
+    find_bare(alloc, disk, primary.backup(), copies)
 }
 
 // Adds the copy without a header at this place, if most of its entries are likely and no header has them.
@@ -266,25 +215,4 @@ fn find_bare<D: Disk>(
         entries,
     })?;
     Ok(())
-}
-
-// Returns the array to read without a header: with the length that a header has, or the usual one.
-fn bare_span(copies: &[FoundCopy], spot: Spot) -> Span {
-    for copy in copies {
-        if let Some(header) = &copy.header {
-            if copy.spot.sector_size == spot.sector_size {
-                return Span::said_by(header).at_usual_place(spot);
-            }
-        }
-    }
-    Span::usual(spot)
-}
-
-// Reports whether there is a header at this place, or a header has the entries from this sector.
-fn is_known(copies: &[FoundCopy], spot: Spot, entries_lba: u64) -> bool {
-    copies.iter().any(|copy| {
-        copy.header.is_some()
-            && copy.spot.sector_size == spot.sector_size
-            && (copy.spot.lba == spot.lba || copy.entries_lba == Some(entries_lba))
-    })
 }

@@ -1,7 +1,7 @@
 //! Advice on writing a salvaged layout.
 
 use crate::salvage::layouts::Frame;
-use gptedit_look::salvage::{FoundCopy, FoundEntry, Salvaged};
+use gptedit_formats::copies::{FoundCopy, FoundEntry, Salvaged};
 use std::fmt;
 
 /// Advice on writing the layout.

@@ -1,10 +1,10 @@
 //! The layout for a copy.
 
 use gptedit_core::{Amount, Asked, DEFAULT_ALIGN, Layout, Mode, Size};
-use gptedit_look::salvage::{EntryFault, FoundCopy, FoundEntry, MAX_ENTRIES};
+use gptedit_formats::copies::{EntryFault, FoundCopy, FoundEntry};
 use gptedit_text::Header;
 use gptman::GPTHeader;
-use gptman::sizes::DEFAULT_ENTRY_COUNT;
+use gptman::sizes::{DEFAULT_ENTRY_COUNT, MAX_ENTRY_COUNT};
 use std::alloc::{AllocError, Global};
 
 /// The header values of a layout, and the sectors for its partitions.
@@ -58,7 +58,7 @@ impl Frame {
 // Returns the number of entries, if a table may have that many.
 fn count_of(header: &GPTHeader) -> Option<u32> {
     let count = header.number_of_partition_entries;
-    if count == 0 || count > MAX_ENTRIES {
+    if count == 0 || count > MAX_ENTRY_COUNT {
         None
     } else {
         Some(count)

@@ -3,7 +3,7 @@
 use crate::salvage::advice::{Advice, count_missing, is_in_layout};
 use crate::salvage::layouts::{Frame, layout_of, layout_of_one};
 use crate::salvage::texts::{HeaderText, Partitions, SpotText};
-use gptedit_look::salvage::{FoundCopy, FoundEntry, Salvaged};
+use gptedit_formats::copies::{FoundCopy, FoundEntry, Salvaged};
 use gptedit_text::values::Escaped;
 use gptedit_text::{Header, write_layout};
 use gptman::sizes::SECTOR_SIZES;

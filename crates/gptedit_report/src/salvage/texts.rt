@@ -1,7 +1,7 @@
 //! Copies and headers as texts.
 
 use crate::texts::GuidText;
-use gptedit_look::salvage::{CopyKind, Spot};
+use gptedit_formats::copies::{CopyKind, Spot};
 use gptman::GPTHeader;
 use std::fmt;
 

@@ -2,7 +2,7 @@
 
 use crate::json::print_json;
 use crate::members::{Members, list_of_texts};
-use gptedit_look::salvage::{CopyKind, FoundCopy, FoundEntry, Salvaged};
+use gptedit_formats::copies::{CopyKind, FoundCopy, FoundEntry, Salvaged};
 use gptedit_text::values::UnitsText;
 use gptman::GPTHeader;
 use serde_json::Value;

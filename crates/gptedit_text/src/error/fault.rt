@@ -1,6 +1,7 @@
 //! Faults of values.
 
 use crate::values::{AllSfdiskNames, AttributeName, Wrong};
+use gptman::sizes::{DEFAULT_ENTRY_COUNT, MAX_ENTRY_COUNT};
 use std::fmt;
 
 /// Why the value under a key is wrong.
@@ -67,6 +68,12 @@ impl fmt::Display for Fault {
                     "an earlier partition has the number {number}; give each its own"
                 )
             }
+            Fault::NotEntries => {
+                write!(
+                    f,
+                    "it must be a whole number from 1 to {MAX_ENTRY_COUNT}, for example {DEFAULT_ENTRY_COUNT}"
+                )
+            }
             Fault::NotAttributes => {
                 let name = AttributeName(0);
                 write!(f, "it must be a list, for example [\"{name}\", 60]")
@@ -102,7 +109,6 @@ impl Fault {
                  \"0041 d800\""
             }
             Fault::TwoNames => "the partition also has the key name; use only one of the two",
-            Fault::NotEntries => "it must be a whole number from 1 to 32768, for example 128",
             Fault::NotSectorSize => {
                 "it must be a number of bytes with a unit, for example \"512B\" or \"4KiB\""
             }
@@ -120,8 +126,11 @@ impl Fault {
                 "a double quote must be closed, and a comma or a blank must follow"
             }
             Fault::NotUtf8 => "its escapes must be UTF-8",
-            Fault::Value(_) | Fault::Taken(_) | Fault::NotAttributes | Fault::NotScriptAttributes =>
-                "",
+            Fault::Value(_)
+            | Fault::Taken(_)
+            | Fault::NotEntries
+            | Fault::NotAttributes
+            | Fault::NotScriptAttributes => "",
         }
     }
 }

@@ -15,7 +15,7 @@ ghost use Rattle.gptman_disk.specs.Disk.{Image, IsFresh, IsHonest, IsLaid};
 ghost use Rattle.gptman_disk.specs.Disk.{CoverTheSame, Keeps, MayBeLaid, Moves, PassesEnd, Reads};
 ghost use Rattle.gptman_disk.specs.Disk.{ReadsOnAsBefore, Rose};
 ghost use Rattle.gptman_disk.specs.Disk.{StandsAt, StaysAt, Untouched, Writes};
-ghost use Rattle.gptman_disk.specs.Memory.{after_call, event_fits, memory_sound, memory_state, serves};
+ghost use Rattle.gptman_disk.specs.Memory.{after_call, event_fits, memory_sound, serves};
 ghost use Rattle.gptman_disk.specs.Memory.{view_of, AddsPending};
 
 use super::{Disk, count_failure, passes_end, past_end};
@@ -68,7 +68,7 @@ pub struct MemoryDisk {
 
 impl MemoryDisk {
     ghost use Rattle.gptman_disk.specs.Fault.{fault_of, out_of_memory};
-    ghost use Rattle.gptman_disk.specs.Fate.{bytes_left, calls_left, history_of};
+    ghost use Rattle.gptman_disk.specs.Fate.{bytes_left, calls_left, history_of, state_of};
 
     /// Returns a disk of these bytes, all of them synced, at position 0, without a fuse.
     ///
@@ -77,7 +77,7 @@ impl MemoryDisk {
     /// `OutOfMemory` if the copy of the bytes cannot be allocated.
     pub fn new(alloc: Global, bytes: Vec<u8>) -> Result<MemoryDisk>
         ensures refused { IfErr result (λ e. fault_of e ≡ out_of_memory) }
-        ensures value { IfOk result (λ disk. IsFresh bytes.items (⟦<MemoryDisk as Disk>⟧.state disk)) }
+        ensures value { IfOk result (λ disk. IsFresh bytes.items (state_of disk)) }
         ensures fuse { IfOk result (λ disk. calls_left disk ≡ None) }
     {
         Ok(MemoryDisk {
@@ -98,7 +98,7 @@ impl MemoryDisk {
     /// `OutOfMemory` if the copy of the bytes cannot be allocated.
     pub fn with_fuse(alloc: Global, bytes: Vec<u8>, calls: u64) -> Result<MemoryDisk>
         ensures refused { IfErr result (λ e. fault_of e ≡ out_of_memory) }
-        ensures value { IfOk result (λ disk. IsFresh bytes.items (⟦<MemoryDisk as Disk>⟧.state disk)) }
+        ensures value { IfOk result (λ disk. IsFresh bytes.items (state_of disk)) }
         ensures fuse { IfOk result (λ disk. calls_left disk ≡ Some calls) }
     {
         let mut disk = MemoryDisk::new(alloc, bytes)?;
@@ -116,10 +116,8 @@ impl MemoryDisk {
     /// `OutOfMemory` if the bytes cannot be allocated.
     pub fn stop(self, fates: &[Fate]) -> Result<MemoryDisk>
         ensures refused { IfErr result (λ e. fault_of e ≡ out_of_memory) }
-        ensures image { IfOk result (λ disk. Image (⟦<MemoryDisk as Disk>⟧.state self)
-            (⟦<MemoryDisk as Disk>⟧.state disk).view) }
-        ensures value { IfOk result (λ disk. IsFresh (bytes_left fates.now (history_of self))
-            (⟦<MemoryDisk as Disk>⟧.state disk)) }
+        ensures image { IfOk result (λ disk. Image (state_of self) (state_of disk).view) }
+        ensures value { IfOk result (λ disk. IsFresh (bytes_left fates.now (history_of self)) (state_of disk)) }
         ensures fuse { IfOk result (λ disk. calls_left disk ≡ None) }
     {
         let mut view = self.start.to_vec(self.alloc)?;
@@ -146,7 +144,7 @@ impl MemoryDisk {
 
     /// Returns the bytes that a read returns, from the first to the last.
     pub fn bytes(&self) -> &[u8]
-        ensures { result.now ≡ (⟦<MemoryDisk as Disk>⟧.state self.now).view }
+        ensures { result.now ≡ (state_of self.now).view }
     {
         &self.bytes
     }
@@ -212,25 +210,20 @@ fn lack_memory(failures: &mut u64) -> io::Error
 }
 
 impl Disk for MemoryDisk {
-    ghost use Rattle.gptman_disk.specs.Fate.{calls_left, history_of, CountsStops, CountsStopsOfWrite};
+    ghost use Rattle.gptman_disk.specs.Fate.{calls_left, history_of, state_of, CountsStops, CountsStopsOfWrite};
     ghost use Rattle.gptman_disk.specs.Fate.{HasNoMemory, HasSync, HasWrite};
 
-    ghost state = { λ d. memory_state d.start.items d.bytes.items d.events.items d.position d.failures };
+    ghost state = { state_of };
 
     /// Seeks as the trait says. Fails only if the fuse does not serve the call; the position is then unchanged.
     fn seek_start(&mut self, at: u64) -> io::Result<u64>
-        ensures reads { Reads (⟦<MemoryDisk as Disk>⟧.state self.old)
-            (⟦<MemoryDisk as Disk>⟧.state self.new) }
-        ensures answer { IfOk result (StandsAt (⟦<MemoryDisk as Disk>⟧.state self.new) at) }
-        ensures cause { OnErr result (Rose (⟦<MemoryDisk as Disk>⟧.state self.old)
-            (⟦<MemoryDisk as Disk>⟧.state self.new)) }
-        ensures counts { OnOk result (HasFailedAsOften (⟦<MemoryDisk as Disk>⟧.state self.old)
-            (⟦<MemoryDisk as Disk>⟧.state self.new)) }
-        ensures once { OnErr result (HasFailedOnce (⟦<MemoryDisk as Disk>⟧.state self.old)
-            (⟦<MemoryDisk as Disk>⟧.state self.new)) }
+        ensures reads { Reads (state_of self.old) (state_of self.new) }
+        ensures answer { IfOk result (StandsAt (state_of self.new) at) }
+        ensures cause { OnErr result (Rose (state_of self.old) (state_of self.new)) }
+        ensures counts { OnOk result (HasFailedAsOften (state_of self.old) (state_of self.new)) }
+        ensures once { OnErr result (HasFailedOnce (state_of self.old) (state_of self.new)) }
         ensures served { IsOk result ↔ IsTrue (serves (calls_left self.old)) }
-        ensures kept { OnErr result (StaysAt (⟦<MemoryDisk as Disk>⟧.state self.old)
-            (⟦<MemoryDisk as Disk>⟧.state self.new)) }
+        ensures kept { OnErr result (StaysAt (state_of self.old) (state_of self.new)) }
         ensures fuse { calls_left self.new ≡ after_call (calls_left self.old) }
     {
         if !is_served(&mut self.fuse) {
@@ -242,19 +235,13 @@ impl Disk for MemoryDisk {
 
     /// Seeks as the trait says. Fails only if the fuse does not serve the call; the position is then unchanged.
     fn seek_end(&mut self) -> io::Result<u64>
-        ensures reads { Reads (⟦<MemoryDisk as Disk>⟧.state self.old)
-            (⟦<MemoryDisk as Disk>⟧.state self.new) }
-        ensures answer { IfOk result
-            (StandsAt (⟦<MemoryDisk as Disk>⟧.state self.new) (⟦<MemoryDisk as Disk>⟧.state self.old).size) }
-        ensures cause { OnErr result (Rose (⟦<MemoryDisk as Disk>⟧.state self.old)
-            (⟦<MemoryDisk as Disk>⟧.state self.new)) }
-        ensures counts { OnOk result (HasFailedAsOften (⟦<MemoryDisk as Disk>⟧.state self.old)
-            (⟦<MemoryDisk as Disk>⟧.state self.new)) }
-        ensures once { OnErr result (HasFailedOnce (⟦<MemoryDisk as Disk>⟧.state self.old)
-            (⟦<MemoryDisk as Disk>⟧.state self.new)) }
+        ensures reads { Reads (state_of self.old) (state_of self.new) }
+        ensures answer { IfOk result (StandsAt (state_of self.new) (state_of self.old).size) }
+        ensures cause { OnErr result (Rose (state_of self.old) (state_of self.new)) }
+        ensures counts { OnOk result (HasFailedAsOften (state_of self.old) (state_of self.new)) }
+        ensures once { OnErr result (HasFailedOnce (state_of self.old) (state_of self.new)) }
         ensures served { IsOk result ↔ IsTrue (serves (calls_left self.old)) }
-        ensures kept { OnErr result (StaysAt (⟦<MemoryDisk as Disk>⟧.state self.old)
-            (⟦<MemoryDisk as Disk>⟧.state self.new)) }
+        ensures kept { OnErr result (StaysAt (state_of self.old) (state_of self.new)) }
         ensures fuse { calls_left self.new ≡ after_call (calls_left self.old) }
     {
         if !is_served(&mut self.fuse) {
@@ -267,28 +254,21 @@ impl Disk for MemoryDisk {
     /// Reads as the trait says. Fails only if the read passes the end, which is not counted as a failure, or if the
     /// fuse does not serve the call. Position and buffer are then unchanged.
     fn read_exact(&mut self, buf: &mut [u8]) -> io::Result<()>
-        ensures reads { Reads (⟦<MemoryDisk as Disk>⟧.state self.old)
-            (⟦<MemoryDisk as Disk>⟧.state self.new) }
-        ensures within { OnOk result (HasNext (⟦<MemoryDisk as Disk>⟧.state self.old) (length buf.old)) }
-        ensures cause { OnErr result (Rose (⟦<MemoryDisk as Disk>⟧.state self.old)
-            (⟦<MemoryDisk as Disk>⟧.state self.new)
-            ⊎ PassesEnd (⟦<MemoryDisk as Disk>⟧.state self.old) (length buf.old)) }
-        ensures counts { OnOk result (HasFailedAsOften (⟦<MemoryDisk as Disk>⟧.state self.old)
-            (⟦<MemoryDisk as Disk>⟧.state self.new)) }
-        ensures once { OnErr result (HasFailedOnce (⟦<MemoryDisk as Disk>⟧.state self.old)
-            (⟦<MemoryDisk as Disk>⟧.state self.new)
-            ⊎ PassesEnd (⟦<MemoryDisk as Disk>⟧.state self.old) (length buf.old)) }
-        ensures past_end { PassesEnd (⟦<MemoryDisk as Disk>⟧.state self.old) (length buf.old)
-            → IsErr result × HasFailedAsOften (⟦<MemoryDisk as Disk>⟧.state self.old)
-            (⟦<MemoryDisk as Disk>⟧.state self.new) }
+        ensures reads { Reads (state_of self.old) (state_of self.new) }
+        ensures within { OnOk result (HasNext (state_of self.old) (length buf.old)) }
+        ensures cause { OnErr result (Rose (state_of self.old) (state_of self.new)
+            ⊎ PassesEnd (state_of self.old) (length buf.old)) }
+        ensures counts { OnOk result (HasFailedAsOften (state_of self.old) (state_of self.new)) }
+        ensures once { OnErr result (HasFailedOnce (state_of self.old) (state_of self.new)
+            ⊎ PassesEnd (state_of self.old) (length buf.old)) }
+        ensures past_end { PassesEnd (state_of self.old) (length buf.old) → IsErr result
+            × HasFailedAsOften (state_of self.old) (state_of self.new) }
         ensures served { IsOk result ↔ (IsTrue (serves (calls_left self.old))
-            × HasNext (⟦<MemoryDisk as Disk>⟧.state self.old) (length buf.old)) }
-        ensures kept { OnErr result (StaysAt (⟦<MemoryDisk as Disk>⟧.state self.old)
-            (⟦<MemoryDisk as Disk>⟧.state self.new) × (buf.new ≡ buf.old)) }
-        ensures value { IsHonest (⟦<MemoryDisk as Disk>⟧.state self.old)
-            → OnOk result (buf.new ≡ next_bytes (⟦<MemoryDisk as Disk>⟧.state self.old) (length buf.old)) }
-        ensures moves { OnOk result (Moves (⟦<MemoryDisk as Disk>⟧.state self.old)
-            (⟦<MemoryDisk as Disk>⟧.state self.new) (length buf.old)) }
+            × HasNext (state_of self.old) (length buf.old)) }
+        ensures kept { OnErr result (StaysAt (state_of self.old) (state_of self.new) × (buf.new ≡ buf.old)) }
+        ensures value { IsHonest (state_of self.old)
+            → OnOk result (buf.new ≡ next_bytes (state_of self.old) (length buf.old)) }
+        ensures moves { OnOk result (Moves (state_of self.old) (state_of self.new) (length buf.old)) }
         ensures fuse { calls_left self.new ≡ after_call (calls_left self.old) }
     {
         let served = is_served(&mut self.fuse);
@@ -310,43 +290,31 @@ impl Disk for MemoryDisk {
     /// returns the old bytes. If the record cannot be allocated, the write fails with an error of kind `OutOfMemory`
     /// and changes nothing.
     fn write_all(&mut self, buf: &[u8]) -> io::Result<()>
-        requires { HasNext (⟦<MemoryDisk as Disk>⟧.state self.old) (length buf.now) }
-        ensures keeps { Keeps (⟦<MemoryDisk as Disk>⟧.state self.old)
-            (⟦<MemoryDisk as Disk>⟧.state self.new) }
-        ensures cause { OnErr result (Rose (⟦<MemoryDisk as Disk>⟧.state self.old)
-            (⟦<MemoryDisk as Disk>⟧.state self.new)) }
-        ensures counts { OnOk result (HasFailedAsOften (⟦<MemoryDisk as Disk>⟧.state self.old)
-            (⟦<MemoryDisk as Disk>⟧.state self.new)) }
-        ensures once { OnErr result (HasFailedOnce (⟦<MemoryDisk as Disk>⟧.state self.old)
-            (⟦<MemoryDisk as Disk>⟧.state self.new)) }
+        requires { HasNext (state_of self.old) (length buf.now) }
+        ensures keeps { Keeps (state_of self.old) (state_of self.new) }
+        ensures cause { OnErr result (Rose (state_of self.old) (state_of self.new)) }
+        ensures counts { OnOk result (HasFailedAsOften (state_of self.old) (state_of self.new)) }
+        ensures once { OnErr result (HasFailedOnce (state_of self.old) (state_of self.new)) }
         ensures served { OnOk result (IsTrue (serves (calls_left self.old))) }
-        ensures moves { OnOk result (Moves (⟦<MemoryDisk as Disk>⟧.state self.old)
-            (⟦<MemoryDisk as Disk>⟧.state self.new) (length buf.now)) }
-        ensures wrote { Writes (next_range (⟦<MemoryDisk as Disk>⟧.state self.old) (length buf.now) ∷ [])
-            (⟦<MemoryDisk as Disk>⟧.state self.old) (⟦<MemoryDisk as Disk>⟧.state self.new) }
-        ensures laid { IsHonest (⟦<MemoryDisk as Disk>⟧.state self.old)
-            → OnOk result (IsLaid buf.now (⟦<MemoryDisk as Disk>⟧.state self.old)
-            (⟦<MemoryDisk as Disk>⟧.state self.new)) }
-        ensures failed { IsHonest (⟦<MemoryDisk as Disk>⟧.state self.old)
-            → OnErr result (MayBeLaid (length buf.now) (⟦<MemoryDisk as Disk>⟧.state self.old)
-            (⟦<MemoryDisk as Disk>⟧.state self.new)) }
-        ensures pending { AddsPending (next_range (⟦<MemoryDisk as Disk>⟧.state self.old) (length buf.now))
-            (⟦<MemoryDisk as Disk>⟧.state self.old) (⟦<MemoryDisk as Disk>⟧.state self.new)
-            ⊎ (IsErr result × Untouched (⟦<MemoryDisk as Disk>⟧.state self.old)
-            (⟦<MemoryDisk as Disk>⟧.state self.new)) }
+        ensures moves { OnOk result (Moves (state_of self.old) (state_of self.new) (length buf.now)) }
+        ensures wrote { Writes (next_range (state_of self.old) (length buf.now) ∷ [])
+            (state_of self.old) (state_of self.new) }
+        ensures laid { IsHonest (state_of self.old)
+            → OnOk result (IsLaid buf.now (state_of self.old) (state_of self.new)) }
+        ensures failed { IsHonest (state_of self.old)
+            → OnErr result (MayBeLaid (length buf.now) (state_of self.old) (state_of self.new)) }
+        ensures pending { AddsPending (next_range (state_of self.old) (length buf.now))
+            (state_of self.old) (state_of self.new)
+            ⊎ (IsErr result × Untouched (state_of self.old) (state_of self.new)) }
         ensures recorded { OnOk result
-            (HasWrite ((⟦<MemoryDisk as Disk>⟧.state self.old).position) buf.now true
-            (history_of self.old) (history_of self.new)) }
+            (HasWrite ((state_of self.old).position) buf.now true (history_of self.old) (history_of self.new)) }
         ensures refused { IfErr result (λ e. HasNoMemory e (history_of self.old) (history_of self.new)
             ⊎ (serves (calls_left self.old) ≡ false)
-            × HasWrite ((⟦<MemoryDisk as Disk>⟧.state self.old).position) buf.now false
-            (history_of self.old) (history_of self.new)) }
+            × HasWrite ((state_of self.old).position) buf.now false (history_of self.old) (history_of self.new)) }
         ensures stops { CountsStopsOfWrite result
-            (next_range (⟦<MemoryDisk as Disk>⟧.state self.old) (length buf.now))
-            (history_of self.old) (history_of self.new)
-            (⟦<MemoryDisk as Disk>⟧.state self.old) (⟦<MemoryDisk as Disk>⟧.state self.new) }
-        ensures kept { OnErr result (ReadsOnAsBefore (⟦<MemoryDisk as Disk>⟧.state self.old)
-            (⟦<MemoryDisk as Disk>⟧.state self.new)) }
+            (next_range (state_of self.old) (length buf.now))
+            (history_of self.old) (history_of self.new) (state_of self.old) (state_of self.new) }
+        ensures kept { OnErr result (ReadsOnAsBefore (state_of self.old) (state_of self.new)) }
         ensures fuse { calls_left self.new ≡ after_call (calls_left self.old) }
     {
         let done = is_served(&mut self.fuse);
@@ -373,35 +341,23 @@ impl Disk for MemoryDisk {
     /// Syncs as the trait says. Fails if the fuse does not serve the call, or, with an error of kind `OutOfMemory`, if
     /// the record cannot be allocated. Record and position are then unchanged.
     fn sync(&mut self) -> io::Result<()>
-        ensures keeps { Keeps (⟦<MemoryDisk as Disk>⟧.state self.old)
-            (⟦<MemoryDisk as Disk>⟧.state self.new) }
-        ensures cause { OnErr result (Rose (⟦<MemoryDisk as Disk>⟧.state self.old)
-            (⟦<MemoryDisk as Disk>⟧.state self.new)) }
-        ensures counts { OnOk result (HasFailedAsOften (⟦<MemoryDisk as Disk>⟧.state self.old)
-            (⟦<MemoryDisk as Disk>⟧.state self.new)) }
-        ensures once { OnErr result (HasFailedOnce (⟦<MemoryDisk as Disk>⟧.state self.old)
-            (⟦<MemoryDisk as Disk>⟧.state self.new)) }
+        ensures keeps { Keeps (state_of self.old) (state_of self.new) }
+        ensures cause { OnErr result (Rose (state_of self.old) (state_of self.new)) }
+        ensures counts { OnOk result (HasFailedAsOften (state_of self.old) (state_of self.new)) }
+        ensures once { OnErr result (HasFailedOnce (state_of self.old) (state_of self.new)) }
         ensures served { OnOk result (IsTrue (serves (calls_left self.old))) }
-        ensures stays { OnOk result ((⟦<MemoryDisk as Disk>⟧.state self.new).position ≡
-            (⟦<MemoryDisk as Disk>⟧.state self.old).position) }
-        ensures wrote { Writes [] (⟦<MemoryDisk as Disk>⟧.state self.old)
-            (⟦<MemoryDisk as Disk>⟧.state self.new) }
-        ensures view { IsHonest (⟦<MemoryDisk as Disk>⟧.state self.old)
-            → (⟦<MemoryDisk as Disk>⟧.state self.new).view ≡ (⟦<MemoryDisk as Disk>⟧.state self.old).view }
-        ensures synced { IsHonest (⟦<MemoryDisk as Disk>⟧.state self.old)
-            → OnOk result ((⟦<MemoryDisk as Disk>⟧.state self.new).pending ≡ []) }
-        ensures failed { IsHonest (⟦<MemoryDisk as Disk>⟧.state self.old)
-            → OnErr result (CoverTheSame (⟦<MemoryDisk as Disk>⟧.state self.new).pending
-            (⟦<MemoryDisk as Disk>⟧.state self.old).pending) }
-        ensures pending { OnErr result ((⟦<MemoryDisk as Disk>⟧.state self.new).pending ≡
-            (⟦<MemoryDisk as Disk>⟧.state self.old).pending) }
+        ensures stays { OnOk result ((state_of self.new).position ≡ (state_of self.old).position) }
+        ensures wrote { Writes [] (state_of self.old) (state_of self.new) }
+        ensures view { IsHonest (state_of self.old) → (state_of self.new).view ≡ (state_of self.old).view }
+        ensures synced { IsHonest (state_of self.old) → OnOk result ((state_of self.new).pending ≡ []) }
+        ensures failed { IsHonest (state_of self.old)
+            → OnErr result (CoverTheSame (state_of self.new).pending (state_of self.old).pending) }
+        ensures pending { OnErr result ((state_of self.new).pending ≡ (state_of self.old).pending) }
         ensures recorded { OnOk result (HasSync (history_of self.old) (history_of self.new)) }
         ensures refused { IfErr result (λ e. HasNoMemory e (history_of self.old) (history_of self.new)
             ⊎ (serves (calls_left self.old) ≡ false) × (history_of self.new ≡ history_of self.old)) }
-        ensures stops { CountsStops [] (history_of self.new) (⟦<MemoryDisk as Disk>⟧.state self.old)
-            (⟦<MemoryDisk as Disk>⟧.state self.new) }
-        ensures kept { OnErr result (StaysAt (⟦<MemoryDisk as Disk>⟧.state self.old)
-            (⟦<MemoryDisk as Disk>⟧.state self.new)) }
+        ensures stops { CountsStops [] (history_of self.new) (state_of self.old) (state_of self.new) }
+        ensures kept { OnErr result (StaysAt (state_of self.old) (state_of self.new)) }
         ensures fuse { calls_left self.new ≡ after_call (calls_left self.old) }
     {
         if !is_served(&mut self.fuse) {

@@ -14,5 +14,5 @@ returns-then-header-gt1 c =
     let times = div_ceil_times (128 * h.count) ss c.requires in
     let whole : sectors * ss ≡ div_ceil (128 * h.count) ss * ss = ap (λ x. x * ss) is in
     let other : h.at / ss ≢ 1 = search rules in
-    usual_iff h ss sectors c.checked_sub.result c.eq.result (omega (arith, c.if-header-gt-MOST_ENTRIES.false)) (cc) c.if-header-gt1.true other
+    usual_iff h ss sectors c.checked_sub.result c.eq.result (omega (arith, c.if-header-gt-MAX_ENTRY_COUNT.false)) (cc) c.if-header-gt1.true other
     (omega (arith, whole, times.0)) (omega (arith, whole, times.1)) c.checked_sub.ensures c.eq.ensures

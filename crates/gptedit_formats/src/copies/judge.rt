@@ -1,7 +1,7 @@
 //! Finds faults of the entries of a copy. The time is O(n log n) for n entries.
 
-use crate::salvage::fault::EntryFault;
-use crate::salvage::found::{FoundEntry, Spot};
+use crate::copies::fault::EntryFault;
+use crate::copies::found::{FoundEntry, Spot};
 use gptman::GPTHeader;
 use std::alloc::{AllocError, Global};
 

@@ -1,7 +1,7 @@
 //! Marks that need no second test, of contents whose length is unknown.
 
-use crate::marks::found::Found;
-use crate::marks::piece::Piece;
+use crate::contents::found::Found;
+use crate::contents::piece::Piece;
 use std::alloc::AllocError;
 
 // A name, the offset of the mark, and the mark.

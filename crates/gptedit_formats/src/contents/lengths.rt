@@ -1,7 +1,7 @@
 //! File systems that store their length, or whose mark needs a second test.
 
-use crate::marks::found::{Found, is_size, is_some_number, power, product};
-use crate::marks::piece::Piece;
+use crate::contents::found::{Found, is_size, is_some_number, power, product};
+use crate::contents::piece::Piece;
 use std::alloc::AllocError;
 
 /// Adds the file systems in the first bytes of a range.

@@ -1,6 +1,6 @@
 //! Image formats that do not store a disk byte for byte.
 
-use crate::marks::piece::Piece;
+use crate::contents::piece::Piece;
 
 // A name, the offset of the mark, and the mark.
 struct Mark(&'static str, u64, &'static [u8]);

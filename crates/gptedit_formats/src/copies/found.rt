@@ -1,7 +1,8 @@
 //! The result of a search for copies.
 
-use crate::salvage::fault::{EntryFault, Fault};
+use crate::copies::fault::{EntryFault, Fault};
 use gptman::{GPTHeader, GPTPartitionEntry};
+use std::alloc::{AllocError, Global};
 
 /// The result of a search.
 #[derive(Drop)]
@@ -57,6 +58,27 @@ pub struct Spot {
     pub lba: u64,
 }
 
+impl Spot {
+    /// Returns the place of the primary copy on a disk of `size` bytes.
+    pub fn primary(size: u64, sector_size: u64) -> Spot {
+        Spot {
+            sector_size,
+            sectors: size.checked_div(sector_size).unwrap_or(0),
+            kind: CopyKind::Primary,
+            lba: 1,
+        }
+    }
+
+    /// Returns the place of the backup copy.
+    pub fn backup(self) -> Spot {
+        Spot {
+            kind: CopyKind::Backup,
+            lba: self.sectors.saturating_sub(1),
+            ..self
+        }
+    }
+}
+
 /// The findings for a copy.
 #[derive(Drop)]
 pub struct FoundCopy {
@@ -73,6 +95,19 @@ pub struct FoundCopy {
 }
 
 impl FoundCopy {
+    /// Returns a copy whose header cannot be read.
+    pub fn unreadable(alloc: Global, spot: Spot) -> Result<FoundCopy, AllocError> {
+        let mut faults = Vec::new(alloc);
+        faults.push(Fault::Unreadable { lba: spot.lba })?;
+        Ok(FoundCopy {
+            spot,
+            header: None,
+            faults,
+            entries_lba: None,
+            entries: Vec::new(alloc),
+        })
+    }
+
     /// Reports whether it has a header or entries.
     pub fn is_there(&self) -> bool {
         self.header.is_some() || !self.entries.is_empty()

@@ -1,13 +1,10 @@
 //! Headers as stored, and their faults.
 
-ghost use Rattle.gptman.specs.Disk.{Reads};
-
-use crate::salvage::fault::Fault;
-use crate::salvage::found::{CopyKind, Spot};
-use crate::salvage::mend::{WrongByte, find_wrong_byte};
-use crate::salvage::reading::read_at;
+use crate::copies::fault::Fault;
+use crate::copies::found::{CopyKind, Spot};
+use crate::copies::mend::{WrongByte, find_wrong_byte};
+use gptman::GPTHeader;
 use gptman::crc::crc32;
-use gptman::{Disk, GPTHeader};
 use std::alloc::{AllocError, Global};
 
 // The number of bytes read of a header.
@@ -30,24 +27,8 @@ pub enum Seen {
     Header(GPTHeader, Vec<Fault>),
 }
 
-/// Reads the sector of a header.
-#[tactic(auto, using(gptman::proofs::Readers::both_read))]
-pub fn read_header<D: Disk>(alloc: Global, disk: &mut D, spot: Spot) -> Result<Seen, AllocError>
-    ensures reads { Reads (D.state disk.old) (D.state disk.new) }
-{
-    if spot.lba >= spot.sectors {
-        return Ok(Seen::Nothing);
-    }
-    let mut bytes = [0; 4096];
-    let sector = &mut bytes[..spot.sector_size.min(4096) as usize];
-    if !read_at(disk, spot.lba.saturating_mul(spot.sector_size), sector) {
-        return Ok(Seen::Failure);
-    }
-    see_header(alloc, sector, spot)
-}
-
-// Returns the header at the start of the sector, with one wrong byte corrected.
-fn see_header(alloc: Global, sector: &mut [u8], spot: Spot) -> Result<Seen, AllocError> {
+/// Decodes the header at the start of the sector, and corrects one wrong byte.
+pub fn decode_header(alloc: Global, sector: &mut [u8], spot: Spot) -> Result<Seen, AllocError> {
     let Some(first) = sector.first_chunk::<92>() else {
         return Ok(Seen::Nothing);
     };

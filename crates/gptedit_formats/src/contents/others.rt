@@ -1,7 +1,7 @@
 //! Swap space, tables of other systems, pools, and contents with a mark near the end.
 
-use crate::marks::found::{Found, product};
-use crate::marks::piece::Piece;
+use crate::contents::found::{Found, product};
+use crate::contents::piece::Piece;
 use std::alloc::AllocError;
 
 // The possible page sizes in bytes.

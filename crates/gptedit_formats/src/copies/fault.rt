@@ -1,5 +1,6 @@
 //! Faults of copies and entries.
 
+use gptman::sizes::MAX_ENTRY_COUNT;
 use std::fmt;
 
 /// A fault of a copy.
@@ -149,7 +150,7 @@ fn write_entries_fault<W: fmt::Write>(f: &mut fmt::Formatter<W>, fault: Fault) -
     match fault {
         Fault::NoEntries => f.write_str("the header counts no entries"),
         Fault::TooMany(count) => {
-            let most = crate::salvage::MAX_ENTRIES;
+            let most = MAX_ENTRY_COUNT;
             write!(
                 f,
                 "the header counts {count} entries; at most {most} are read"
