@@ -9,7 +9,6 @@ mod plain;
 
 pub use found::Found;
 pub use piece::Piece;
-
 use std::alloc::AllocError;
 
 /// Adds the contents in the first piece of a range.
@@ -28,10 +27,6 @@ pub fn find_in_next(piece: &Piece, found: &mut Vec<Found>) -> Result<(), AllocEr
 }
 
 /// Adds the contents in the last piece of a range of `length` bytes.
-pub fn find_in_last(
-    piece: &Piece,
-    length: u64,
-    found: &mut Vec<Found>,
-) -> Result<(), AllocError> {
+pub fn find_in_last(piece: &Piece, length: u64, found: &mut Vec<Found>) -> Result<(), AllocError> {
     others::find_late(piece, length, found)
 }

@@ -9,9 +9,7 @@ ghost use Rattle.gptman.specs.Disk.{Reads};
 mod piece;
 
 use crate::marks::piece::{Span, read_piece};
-use gptedit_formats::contents::{
-    Found, Piece, find_in_first, find_in_last, find_in_next, formats,
-};
+use gptedit_formats::contents::{Found, Piece, find_in_first, find_in_last, find_in_next, formats};
 use gptman::Disk;
 use std::alloc::{AllocError, Global};
 

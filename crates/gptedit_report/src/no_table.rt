@@ -2,8 +2,8 @@
 
 use crate::fault::Meaning;
 use crate::way::SAVE;
-use gptedit_look::Look;
 use gptedit_formats::copies::{CopyKind, FoundCopy, Salvaged};
+use gptedit_look::Look;
 use gptedit_text::values::Escaped;
 use std::fmt;
 
