@@ -102,7 +102,7 @@ class OtherLayout(Error):
 
 
 class DosDisk(Error):
-    """The first sector is an MBR with partitions of its own; `over_dos=True` permits a write all the same."""
+    """The first sector is an MBR with partitions of its own; `over_dos=True` permits a write anyway."""
 
 
 class LacksBytes(Error):
