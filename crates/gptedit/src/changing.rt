@@ -6,8 +6,8 @@ use crate::failure::{Failure, refuse_asked, refuse_error};
 use crate::image::Image;
 use crate::mbr::change_mbr;
 use crate::planning::{Plan, make_plan};
+use crate::reporting::{Done, report};
 use crate::task::{Became, Task, Work};
-use crate::telling::{Done, tell};
 use gptedit_look::{Look, Purpose, clear_signatures};
 use gptedit_words::Options;
 use std::alloc::Global;
@@ -46,7 +46,7 @@ where
         plan: &plan,
         may_lose: may_lose(look, task),
     };
-    tell(out, alloc, image, look, &done, how)?;
+    report(out, alloc, image, look, &done, how)?;
     Ok(!how.is_dry && is_needed)
 }
 

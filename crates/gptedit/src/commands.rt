@@ -210,7 +210,7 @@ where
         return task_without(rt, image, look, &wanted, parsed);
     };
     match wanted {
-        Change::Lay(layout) => tasks::edit(rt, Job::Lay(layout)),
+        Change::Edit(layout) => tasks::edit(rt, Job::Apply(layout)),
         Change::Sort => tasks::edit(rt, Job::Sort),
         Change::Grow => Ok(tasks::grow()),
         Change::Repair { has_usual_bounds } => tasks::repair(rt, image, look, has_usual_bounds),
@@ -222,7 +222,7 @@ where
         } => match parsed {
             Some(parsed) => {
                 let layout = layout_for(alloc, file, parsed, table, is_replacing)?;
-                tasks::edit(rt, Job::Lay(layout))
+                tasks::edit(rt, Job::Apply(layout))
             }
             None => Err(image.no_table(alloc, look)),
         },

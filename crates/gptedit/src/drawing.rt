@@ -22,7 +22,7 @@ pub fn request_for<R: RandomSource + AllocGlobal>(rt: &R, job: Job) -> Result<Re
     ensures { IfOk result has_random }
 {
     let count = match &job {
-        Job::Lay(layout) => layout.asked.len(),
+        Job::Apply(layout) => layout.asked.len(),
         Job::Sort => 0,
         Job::Rewrite => 0,
     };

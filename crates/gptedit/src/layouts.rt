@@ -1,7 +1,7 @@
 //! Reads layouts from files.
 
 use crate::failure::{Failure, refuse};
-use gptedit_core::{Layout, Mode};
+use gptedit_core::{Mode, RequestedLayout};
 use gptedit_text::{LayoutError, MAX_LAYOUT_BYTES, Parsed, is_script, read_layout, read_script};
 use gptman::GPT;
 use std::alloc::Global;
@@ -103,7 +103,7 @@ pub fn layout_for(
     parsed: Parsed,
     table: &GPT,
     is_replacing: bool,
-) -> Result<Layout, Failure> {
+) -> Result<RequestedLayout, Failure> {
     if let Err(other) = parsed.header.check(parsed.form, table) {
         return Err(refuse(alloc, file, &other));
     }
@@ -116,7 +116,11 @@ pub fn layout_for(
 }
 
 // Returns the numbers of the partitions that the layout does not list.
-fn find_left_out(alloc: Global, table: &GPT, layout: &Layout) -> Result<Vec<u32>, Failure> {
+fn find_left_out(
+    alloc: Global,
+    table: &GPT,
+    layout: &RequestedLayout,
+) -> Result<Vec<u32>, Failure> {
     let mut asked = BTreeSet::new(alloc);
     for entry in layout.asked.iter() {
         if let Some(number) = entry.number {

@@ -19,14 +19,14 @@ mod mbr;
 mod own;
 mod planning;
 mod remains;
+mod reporting;
 mod task;
 mod tasks;
-mod telling;
 mod using;
 mod wiping;
 
 use crate::failure::Failure;
-use gptedit_words::{Request, read_words};
+use gptedit_words::{CommandLine, read_words};
 use std::fs::File;
 use std::io::{BufWriter, ErrorKind, Write};
 use std::process::ExitCode;
@@ -79,8 +79,8 @@ where
     };
     let mut out = BufWriter::with_capacity(alloc, PIECE, io::writer(rt))?;
     let status = match request {
-        Request::Types { is_json } => commands::print_types(alloc, &mut out, is_json)?,
-        Request::Image(asked) => commands::perform(rt, &mut out, asked)?,
+        CommandLine::Types { is_json } => commands::print_types(alloc, &mut out, is_json)?,
+        CommandLine::Image(asked) => commands::perform(rt, &mut out, asked)?,
     };
     out.flush()?;
     Ok(status)

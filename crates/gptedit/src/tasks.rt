@@ -4,7 +4,9 @@ use crate::drawing::{draw_guid, request_for};
 use crate::failure::Failure;
 use crate::image::Image;
 use crate::task::{Became, Edit, Task, Work};
-use gptedit_core::{Amount, Asked, Bounds, Choice, DEFAULT_ALIGN, Growth, Job, Layout, Mode, Size};
+use gptedit_core::{
+    Amount, Asked, Bounds, Choice, DEFAULT_ALIGN, Growth, Job, Mode, RequestedLayout, Size,
+};
 use gptedit_look::{Look, Purpose};
 use gptedit_report::Way;
 use gptguid_core::from_name;
@@ -15,7 +17,7 @@ use std::random::RandomSource;
 /// Returns the task of a job.
 pub fn edit<R: RandomSource + AllocGlobal>(rt: &R, job: Job) -> Result<Task, Failure> {
     let only_removes = match &job {
-        Job::Lay(layout) => layout.asked.is_empty(),
+        Job::Apply(layout) => layout.asked.is_empty(),
         _ => false,
     };
     let purpose = match &job {
@@ -76,14 +78,14 @@ pub fn randomize<R: RandomSource + AllocGlobal>(rt: &R, table: &GPT) -> Result<T
             })?;
         }
     }
-    let layout = Layout {
+    let layout = RequestedLayout {
         mode: Mode::Change,
         disk_guid: Some(draw_guid(rt)?),
         align: Amount::Sectors(1),
         removed: Vec::new(alloc),
         asked,
     };
-    edit(rt, Job::Lay(layout))
+    edit(rt, Job::Apply(layout))
 }
 
 /// Returns the task of a command that corrects a finding.
@@ -105,7 +107,7 @@ pub fn mend<R: RandomSource + AllocGlobal>(
             for number in numbers.iter() {
                 layout.removed.push(*number)?;
             }
-            edit(rt, Job::Lay(layout))
+            edit(rt, Job::Apply(layout))
         }
         Way::SetGuid(number) => {
             let mut layout = layout_of(alloc, Mode::Change);
@@ -113,15 +115,15 @@ pub fn mend<R: RandomSource + AllocGlobal>(
                 unique_guid: Some(draw_guid(rt)?),
                 ..Asked::nothing(Some(*number))
             })?;
-            edit(rt, Job::Lay(layout))
+            edit(rt, Job::Apply(layout))
         }
         Way::PutOver(number) => put_over(rt, *number),
     }
 }
 
 // Returns a layout that requests nothing.
-fn layout_of(alloc: Global, mode: Mode) -> Layout {
-    Layout {
+fn layout_of(alloc: Global, mode: Mode) -> RequestedLayout {
+    RequestedLayout {
         mode,
         disk_guid: None,
         align: Amount::Sectors(1),
@@ -140,7 +142,7 @@ fn put_over<R: RandomSource + AllocGlobal>(rt: &R, number: u32) -> Result<Task, 
         choice: Choice::First,
         ..Asked::nothing(Some(number))
     })?;
-    edit(rt, Job::Lay(layout))
+    edit(rt, Job::Apply(layout))
 }
 
 const MIB: Amount = Amount::Bytes(1 << 20);

@@ -5,7 +5,7 @@ use crate::commands::How;
 use crate::failure::{Failure, refuse, refuse_error};
 use crate::image::Image;
 use crate::planning::refuse_users;
-use crate::telling::DRY;
+use crate::reporting::DRY;
 use gptedit_look::{Look, MbrKind, wipe};
 use gptedit_report::wiped_json;
 use gptedit_words::Options;
@@ -48,7 +48,7 @@ where
         let text = wiped_json(alloc, image.name, is_needed, how.is_dry)?;
         writeln!(out, "{text}")?;
     } else {
-        tell(out, is_needed, kind, how.is_dry)?;
+        report(out, is_needed, kind, how.is_dry)?;
     }
     Ok(is_needed && !how.is_dry)
 }
@@ -82,7 +82,7 @@ where
 }
 
 // Reports the result for a disk whose MBR was of this kind.
-fn tell<W: Write>(
+fn report<W: Write>(
     out: &mut W,
     is_needed: bool,
     kind: MbrKind,

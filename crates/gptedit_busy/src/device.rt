@@ -1,6 +1,6 @@
 //! Block devices, as Linux describes them.
 
-use crate::kernel::{is_there, list, read_line};
+use crate::kernel::{is_there, list, read_first_line};
 use crate::target::Target;
 use std::alloc::AllocError;
 use std::rt::Files;
@@ -45,7 +45,7 @@ impl Device {
     pub fn sector_size<R: Files + AllocGlobal>(&self, rt: &R) -> Result<Option<u64>, AllocError> {
         for place in ["queue", "../queue"] {
             let path = format!(in rt.alloc(); "{}/{place}/logical_block_size", self.folder)?;
-            if let Some(line) = read_line(rt, path.as_str())? {
+            if let Some(line) = read_first_line(rt, path.as_str())? {
                 return Ok(line.as_str().parse::<u64>().ok());
             }
         }
@@ -73,7 +73,7 @@ impl Device {
         for name in list(rt, self.folder.as_str())?.iter() {
             let folder = format!(in alloc; "{}/{name}", self.folder)?;
             let path = format!(in alloc; "{folder}/partition")?;
-            if let Some(line) = read_line(rt, path.as_str())? {
+            if let Some(line) = read_first_line(rt, path.as_str())? {
                 let number = line.as_str().parse::<u32>().unwrap_or(0);
                 put_part(rt, &mut parts, Some(number), folder)?;
             }

@@ -25,7 +25,7 @@ fn read_bytes<R: Files + AllocGlobal>(rt: &R, path: &str) -> Result<Option<Vec<u
 }
 
 /// Returns the first line of such a file, trimmed.
-pub(crate) fn read_line<R: Files + AllocGlobal>(
+pub(crate) fn read_first_line<R: Files + AllocGlobal>(
     rt: &R,
     path: &str,
 ) -> Result<Option<String>, AllocError> {

@@ -1,6 +1,6 @@
 //! Loop devices.
 
-use crate::kernel::{is_there, list, read_line, read_path};
+use crate::kernel::{is_there, list, read_first_line, read_path};
 use crate::target::Target;
 use std::alloc::AllocError;
 use std::rt::Files;
@@ -59,7 +59,7 @@ fn read_loop<R: Files + AllocGlobal>(
         return Ok(None);
     };
     let offset = format!(in alloc; "{folder}/loop/offset")?;
-    let is_whole = match read_line(rt, offset.as_str())? {
+    let is_whole = match read_first_line(rt, offset.as_str())? {
         Some(offset) => offset.as_str() == "0",
         None => true,
     };

@@ -1,6 +1,6 @@
 //! The block device or file of a path.
 
-use crate::kernel::read_line;
+use crate::kernel::read_first_line;
 use std::alloc::AllocError;
 use std::fs;
 use std::fs::Metadata;
@@ -49,7 +49,7 @@ impl Target {
         rt: &R,
         path: &str,
     ) -> Result<Option<Target>, AllocError> {
-        match read_line(rt, path)? {
+        match read_first_line(rt, path)? {
             Some(line) => Ok(Target::read(line.as_str())),
             None => Ok(None),
         }

@@ -10,21 +10,21 @@ use Rattle.gptman.specs.Table.{entries_in}
 use Rattle.gptman.specs.declared.codec.entry.GPTPartitionEntry.{GPTPartitionEntry}
 use Rattle.gptman.specs.declared.codec.header.GPTHeader.{GPTHeader}
 use Rattle.gptman.specs.declared.table.GPT.{GPT}
-use Rattle.gptedit_core.specs.Laying.{IsLaid}
+use Rattle.gptedit_core.specs.Applying.{IsApplied}
 use Rattle.gptedit_core.specs.Named.{AreNumbered, AreThere, IsAgain, IsThere, IsUnnamed, LayoutsStay, StaysAs}
 use Rattle.gptedit_core.specs.Resolving.{and_then, entry_asked, entry_there, lowest_unused, number_asked, number_asked_or, partition_at, place_asked, resolved, resolved_all, unless, use_fault, used_at}
 use Rattle.gptedit_core.specs.declared.asked.Asked.{Asked}
-use Rattle.gptedit_core.specs.declared.asked.Layout.{Layout}
+use Rattle.gptedit_core.specs.declared.asked.RequestedLayout.{RequestedLayout}
 use Rattle.gptedit_core.specs.declared.asked.Mode.{Mode}
 use Rattle.gptedit_core.specs.declared.asked.Mode.TheVariants.{Become}
 use Rattle.gptedit_core.specs.declared.place.Place.{Place}
 use Rattle.gptedit_core.specs.declared.refusal.Refusal.{Refusal}
 use Rattle.gptedit_core.specs.declared.refusal.Refusal.TheVariants.{NoEntry, NoType}
-use Rattle.gptedit_core.specs.declared.resolve.Partition.{Partition}
-use Rattle.gptedit_core.specs.declared.plan.Job.TheVariants.{Lay}
+use Rattle.gptedit_core.specs.declared.resolve.ResolvedPartition.{ResolvedPartition}
+use Rattle.gptedit_core.specs.declared.plan.Job.TheVariants.{Apply}
 use Rattle.gptedit_core.proofs.Dumped.{equal_entries, own_part, own_there, used_is, with_used, HasNumber, IsOwn, OwnedBy}
 use Rattle.gptedit_core.proofs.Kept.{done_keeps}
-use Rattle.gptedit_core.proofs.Laid.{change_named}
+use Rattle.gptedit_core.proofs.Applied.{change_named}
 use Rattle.gptedit_core.proofs.Same.{cleared_same, put_same, removed_same}
 use Rattle.gptedit_core.proofs.Steps.{and_then_ok, else_ok}
 
@@ -78,7 +78,7 @@ of_by g i e true low is =
     (leb-true 1 i low, same)
 
 -- The partition that was put first, under a requested number.
-pub record IsFirst (a : Asked) (i : ℕ) (p : Partition) : Type 0 where
+pub record IsFirst (a : Asked) (i : ℕ) (p : ResolvedPartition) : Type 0 where
   pub number : i ≡ p.number
   pub x : GPTPartitionEntry
   pub used : ¬ IsTrue (is_unused p.entry)
@@ -89,13 +89,13 @@ pub record IsFirst (a : Asked) (i : ℕ) (p : Partition) : Type 0 where
     partition_name = unwrap_or a.name x.partition_name;
   }
 
-pub is_first : (g : GPT) (mode : Mode) (a : Asked) (random : List ℕ) (i : ℕ) (p : Partition) → a.number ≡ Some i → resolved g mode a random ≡ Ok p → IsFirst a i p
+pub is_first : (g : GPT) (mode : Mode) (a : Asked) (random : List ℕ) (i : ℕ) (p : ResolvedPartition) → a.number ≡ Some i → resolved g mode a random ≡ Ok p → IsFirst a i p
 is_first g mode a random i p number_is is =
     let number = and_then_ok (number_asked g a) (partition_at g mode a random) p is in
     let n : ℕ = number.0 in
     let used = used_at g n in
     let e : GPTPartitionEntry = entry_asked a used random in
-    let last : Place → Result Partition Refusal = λ place. if is_unused e then Err (NoType n) else Ok (record { number = n; entry = e; place = place }) in
+    let last : Place → Result ResolvedPartition Refusal = λ place. if is_unused e then Err (NoType n) else Ok (record { number = n; entry = e; place = place }) in
     let use_of = and_then_ok (unless (use_fault mode n used) n) (λ (j : ℕ). and_then (place_asked mode a n used g.sector_size) last) p number.2 in
     let place = and_then_ok (place_asked mode a n used g.sector_size) last p use_of.2 in
     let end = else_ok (is_unused e) (NoType n) (record { number = n; entry = e; place = place.0 }) p place.2 in
@@ -103,7 +103,7 @@ is_first g mode a random i p number_is is =
     subst (IsFirst a i) end.1 (record { number = same; x = entry_there used random; used = end.0; entry = refl })
 
 -- Requested again, it is the entry that is in the table.
-own_again : (g t next : GPT) (mode : Mode) (a : Asked) (random other : List ℕ) (i : ℕ) (p q : Partition) → a.number ≡ Some i → resolved g mode a random ≡ Ok p → IsThere p t next
+own_again : (g t next : GPT) (mode : Mode) (a : Asked) (random other : List ℕ) (i : ℕ) (p q : ResolvedPartition) → a.number ≡ Some i → resolved g mode a random ≡ Ok p → IsThere p t next
     → resolved next (Become false) a other ≡ Ok q → IsOwn next q
 own_again g t next mode a random other i p q number_is is there again =
     let first = is_first g mode a random i p number_is is in
@@ -129,7 +129,7 @@ own_again g t next mode a random other i p q number_is is there again =
 
 -- ---- all entries
 
-pub all_again : (g t next : GPT) (mode : Mode) (asked : List Asked) (randoms others : List (List ℕ)) (ps qs : List Partition) → AreNumbered asked
+pub all_again : (g t next : GPT) (mode : Mode) (asked : List Asked) (randoms others : List (List ℕ)) (ps qs : List ResolvedPartition) → AreNumbered asked
     → length asked ≤ length randoms → length asked ≤ length others → resolved_all g mode asked randoms ≡ Ok ps → AreThere ps t next
     → resolved_all next (Become false) asked others ≡ Ok qs → OwnedBy next qs
 all_again g t next mode [] randoms others ps qs numbered long more all there again = let none : [] ≡ qs = cc in subst (OwnedBy next) none tt
@@ -139,7 +139,7 @@ all_again g t next mode (a ∷ asked) (random ∷ randoms) (other ∷ others) ps
     let p = and_then_ok (resolved g mode a random) _ ps all in
     let rest = and_then_ok (resolved_all g mode asked randoms) _ ps p.2 in
     let whole : p.0 ∷ rest.0 ≡ ps = cc in
-    let both : AreThere (p.0 ∷ rest.0) t next = subst (λ (xs : List Partition). AreThere xs t next) (sym whole) there in
+    let both : AreThere (p.0 ∷ rest.0) t next = subst (λ (xs : List ResolvedPartition). AreThere xs t next) (sym whole) there in
     let q = and_then_ok (resolved next (Become false) a other) _ qs again in
     let last = and_then_ok (resolved_all next (Become false) asked others) _ qs q.2 in
     let same : q.0 ∷ last.0 ≡ qs = cc in
@@ -150,68 +150,68 @@ all_again g t next mode (a ∷ asked) (random ∷ randoms) (other ∷ others) ps
 
 -- ---- the entries of the resulting table
 
-pub unnamed_more : (j : ℕ) (p : Partition) (ps : List Partition) → p.number ≢ j → IsUnnamed j ps → IsUnnamed j (p ∷ ps)
+pub unnamed_more : (j : ℕ) (p : ResolvedPartition) (ps : List ResolvedPartition) → p.number ≢ j → IsUnnamed j ps → IsUnnamed j (p ∷ ps)
 unnamed_more j p ps differ rest zero q below = differ
 unnamed_more j p ps differ rest (suc k) q below = rest k q (omega (arith, below))
 
-named_by : (j : ℕ) (p : Partition) (ps : List Partition) (b : Bool) → nat_eq p.number j ≡ b → (HasNumber j ps ⊎ IsUnnamed j ps) → HasNumber j (p ∷ ps) ⊎ IsUnnamed j (p ∷ ps)
+named_by : (j : ℕ) (p : ResolvedPartition) (ps : List ResolvedPartition) (b : Bool) → nat_eq p.number j ≡ b → (HasNumber j ps ⊎ IsUnnamed j ps) → HasNumber j (p ∷ ps) ⊎ IsUnnamed j (p ∷ ps)
 named_by j p ps true is rest = inl (inl (eqb-true p.number j is))
 named_by j p ps false is (inl has) = inl (inr has)
 named_by j p ps false is (inr unnamed) = inr (unnamed_more j p ps (eqb-false p.number j is) unnamed)
 
-pub named_or : (j : ℕ) (ps : List Partition) → HasNumber j ps ⊎ IsUnnamed j ps
+pub named_or : (j : ℕ) (ps : List ResolvedPartition) → HasNumber j ps ⊎ IsUnnamed j ps
 named_or j [] = inr (λ k d below. absurd (omega (arith, below)))
 named_or j (p ∷ ps) = named_by j p ps (nat_eq p.number j) refl (named_or j ps)
 
 -- ---- the whole table
 
-module _ (g next after : GPT) (layout again : Layout) (randoms others : List (List ℕ)) (numbered : AreNumbered layout.asked.items) (is_again : IsAgain layout again)
+module _ (g next after : GPT) (layout again : RequestedLayout) (randoms others : List (List ℕ)) (numbered : AreNumbered layout.asked.items) (is_again : IsAgain layout again)
     (long : length layout.asked.items ≤ length randoms) (more : length layout.asked.items ≤ length others)
-    (laid : IsLaid layout randoms g next) (laid_again : IsLaid again others next after) where
-  second : resolved_all next (Become false) layout.asked.items others ≡ Ok laid_again.partitions
+    (applied : IsApplied layout randoms g next) (applied_again : IsApplied again others next after) where
+  second : resolved_all next (Become false) layout.asked.items others ≡ Ok applied_again.partitions
   second =
-      subst (λ (m : Mode). resolved_all next m layout.asked.items others ≡ Ok laid_again.partitions) is_again.mode
-      (subst (λ (items : List Asked). resolved_all next again.mode items others ≡ Ok laid_again.partitions) is_again.asked laid_again.asked)
+      subst (λ (m : Mode). resolved_all next m layout.asked.items others ≡ Ok applied_again.partitions) is_again.mode
+      (subst (λ (items : List Asked). resolved_all next again.mode items others ≡ Ok applied_again.partitions) is_again.asked applied_again.asked)
 
-  owned : OwnedBy next laid_again.partitions
-  owned = all_again g laid.free next layout.mode layout.asked.items randoms others laid.partitions laid_again.partitions numbered long more laid.asked
-      (change_named layout randoms g next laid).named second
+  owned : OwnedBy next applied_again.partitions
+  owned = all_again g applied.free next layout.mode layout.asked.items randoms others applied.partitions applied_again.partitions numbered long more applied.asked
+      (change_named layout randoms g next applied).named second
 
-  each_by : (m : ℕ) → (HasNumber (suc m) laid_again.partitions ⊎ IsUnnamed (suc m) laid_again.partitions) → entry_at after (suc m) ≡ entry_at next (suc m)
-  each_by m (inl has) = own_there next laid_again.free after (suc m) laid_again.partitions owned (change_named again others next after laid_again).named has
+  each_by : (m : ℕ) → (HasNumber (suc m) applied_again.partitions ⊎ IsUnnamed (suc m) applied_again.partitions) → entry_at after (suc m) ≡ entry_at next (suc m)
+  each_by m (inl has) = own_there next applied_again.free after (suc m) applied_again.partitions owned (change_named again others next after applied_again).named has
   each_by m (inr unnamed) =
       let kept : All (λ (j : ℕ). j ≢ suc m) again.removed.items = subst (λ (js : List ℕ). All (λ (j : ℕ). j ≢ suc m) js) (sym is_again.removed) (λ k d below. absurd (omega (arith, below))) in
-      let stays = (change_named again others next after laid_again).others (suc m) (omega arith) unnamed kept in
+      let stays = (change_named again others next after applied_again).others (suc m) (omega arith) unnamed kept in
       (subst (λ (mo : Mode). StaysAs mo (entry_at next (suc m)) (entry_at after (suc m))) is_again.mode stays).0
 
   same_entries : entries_in after ≡ entries_in next
-  same_entries = equal_entries next after (done_keeps (Lay again) others next after laid_again).long (λ m. each_by m (named_or (suc m) laid_again.partitions))
+  same_entries = equal_entries next after (done_keeps (Apply again) others next after applied_again).long (λ m. each_by m (named_or (suc m) applied_again.partitions))
 
-  last_header : laid_again.last.header ≡ next.header
+  last_header : applied_again.last.header ≡ next.header
   last_header =
-      put_same (λ (m : GPT). m.header) (λ m i e. refl) laid_again.partitions laid_again.free laid_again.last laid_again.put
-      ∙ (cleared_same (λ (m : GPT). m.header) (λ m i e. refl) laid_again.partitions laid_again.rest laid_again.free laid_again.clear
-      ∙ removed_same (λ (m : GPT). m.header) (λ m i e. refl) again.removed.items (record next { align = laid_again.align }) laid_again.rest laid_again.removed)
+      put_same (λ (m : GPT). m.header) (λ m i e. refl) applied_again.partitions applied_again.free applied_again.last applied_again.put
+      ∙ (cleared_same (λ (m : GPT). m.header) (λ m i e. refl) applied_again.partitions applied_again.rest applied_again.free applied_again.clear
+      ∙ removed_same (λ (m : GPT). m.header) (λ m i e. refl) again.removed.items (record next { align = applied_again.align }) applied_again.rest applied_again.removed)
 
   same_guid : after.header.disk_guid ≡ next.header.disk_guid
   same_guid =
-      let first : next.header.disk_guid ≡ unwrap_or layout.disk_guid laid.last.header.disk_guid = ap (λ (m : GPT). m.header.disk_guid) laid.next_is in
-      ap (λ (m : GPT). m.header.disk_guid) laid_again.next_is
-      ∙ (ap (λ (o : Option (List ℕ)). unwrap_or o laid_again.last.header.disk_guid) is_again.disk_guid
-      ∙ (ap (unwrap_or layout.disk_guid) (ap (λ (h : GPTHeader). h.disk_guid) last_header ∙ first) ∙ (twice layout.disk_guid laid.last.header.disk_guid ∙ sym first)))
+      let first : next.header.disk_guid ≡ unwrap_or layout.disk_guid applied.last.header.disk_guid = ap (λ (m : GPT). m.header.disk_guid) applied.next_is in
+      ap (λ (m : GPT). m.header.disk_guid) applied_again.next_is
+      ∙ (ap (λ (o : Option (List ℕ)). unwrap_or o applied_again.last.header.disk_guid) is_again.disk_guid
+      ∙ (ap (unwrap_or layout.disk_guid) (ap (λ (h : GPTHeader). h.disk_guid) last_header ∙ first) ∙ (twice layout.disk_guid applied.last.header.disk_guid ∙ sym first)))
 
   same_header : after.header ≡ next.header
   same_header =
-      let is : after.header ≡ record laid_again.last.header { disk_guid = after.header.disk_guid } =
-      ap (λ (m : GPT). m.header) laid_again.next_is ∙ ap (λ (guid : List ℕ). record laid_again.last.header { disk_guid = guid }) (sym (ap (λ (m : GPT). m.header.disk_guid) laid_again.next_is)) in
+      let is : after.header ≡ record applied_again.last.header { disk_guid = after.header.disk_guid } =
+      ap (λ (m : GPT). m.header) applied_again.next_is ∙ ap (λ (guid : List ℕ). record applied_again.last.header { disk_guid = guid }) (sym (ap (λ (m : GPT). m.header.disk_guid) applied_again.next_is)) in
       is ∙ (λ i. record (last_header i) { disk_guid = same_guid i })
 
   same_value : after ≡ next
   same_value =
-      let sector : after.sector_size ≡ next.sector_size = (done_keeps (Lay again) others next after laid_again).sector in
-      let align : after.align ≡ next.align = ap (λ (m : GPT). m.align) laid_again.next_is in
+      let sector : after.sector_size ≡ next.sector_size = (done_keeps (Apply again) others next after applied_again).sector in
+      let align : after.align ≡ next.align = ap (λ (m : GPT). m.align) applied_again.next_is in
       λ i. record { sector_size = sector i; header = same_header i; partitions = same_entries i; align = align i }
 
 pub layouts_stay : LayoutsStay
-layouts_stay g next after layout again randoms others numbered is_again long more laid laid_again =
-    same_value g next after layout again randoms others numbered is_again long more laid laid_again
+layouts_stay g next after layout again randoms others numbered is_again long more applied applied_again =
+    same_value g next after layout again randoms others numbered is_again long more applied applied_again

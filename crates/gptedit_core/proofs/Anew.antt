@@ -1,7 +1,7 @@
 -- A new table is made without reading an old one.
 use Rattle.std.proofs.Common.{◌≡◌, ◌⊎◌, inl, inr, sym, ap, ◌∙◌, subst, ℕ, ◌<◌, false, [], ◌∷◌}
 use Rattle.std.specs.Prelude.{Option, Some, None}
-use Rattle.gptman.specs.Crash.{AreReadAlone, StartsFromOne, StartsLaidOut}
+use Rattle.gptman.specs.Crash.{AreReadFromEachCopy, StartsFromOne, StartsLaidOut}
 use Rattle.gptman.specs.Disk.{DiskState, Keeps, OnlyRead, Wrote}
 use Rattle.gptman.specs.Fault.{Fault, io}
 use Rattle.gptman.specs.Layout.{HasLayout}
@@ -11,8 +11,8 @@ use Rattle.gptman.specs.TableWrites.{table_ranges, IsFailureOrMemory}
 use Rattle.gptman.specs.declared.table.GPT.{GPT}
 use Rattle.gptman.proofs.Readers.{reads_then}
 use Rattle.gptman.proofs.Runs.{rose_since}
-use Rattle.gptman_change.proofs.Left.{either, laid_since, leaves_since, wrote_since}
-use Rattle.gptedit_core.specs.Laying.{IsStopOf}
+use Rattle.gptman_change.proofs.Left.{either, laid_out_since, leaves_since, wrote_since}
+use Rattle.gptedit_core.specs.Applying.{IsStopOf}
 use Rattle.gptedit_core.specs.Making.{empty_of, HasRoomOf, IsEmpty, IsFitted, IsNew, IsOnDisk, IsPlannedNew, KeepsLaidOut, LeavesMaking, MayBeReplaced, RefusesMaking, RefusesNew, RefusesRemaking}
 use Rattle.gptedit_core.specs.Making.LeavesMaking.{written}
 use Rattle.gptedit_core.specs.Making.RefusesMaking.{failed_then, no_memory}
@@ -56,10 +56,10 @@ new_above creation ss len next is some = subst (λ (n : ℕ). 0 < n) (sym (new_s
 module _ (creation : Creation) (ss : ℕ) (next : GPT) (old mid new : DiskState) (read : OnlyRead old mid) (keeps : Keeps old mid) (is : IsNew creation ss old.size next)
     (wrote : Wrote (table_ranges next) mid new) where
   starts : StartsLaidOut mid next
-  starts = laid_since next old mid read keeps (new_layout creation ss old.size next is)
+  starts = laid_out_since next old mid read keeps (new_layout creation ss old.size next is)
 
-  pub on_disk : (StartsLaidOut mid next → IsStored new next.sector_size (table_in next)) → (StartsLaidOut mid next → AreReadAlone new.view next) → IsOnDisk next old new
-  on_disk stored alone = record { wrote = wrote_since next old mid new read wrote; stored = stored starts; alone = alone starts }
+  pub on_disk : (StartsLaidOut mid next → IsStored new next.sector_size (table_in next)) → (StartsLaidOut mid next → AreReadFromEachCopy new.view next) → IsOnDisk next old new
+  on_disk stored alone = record { wrote = wrote_since next old mid new read wrote; stored = stored starts; each_copy = alone starts }
 
   pub made_leaves : ((was : Table) → StartsFromOne mid next was → StopsHold mid new next.sector_size (was ∷ table_in next ∷ [])) → LeavesMaking creation ss old new
   made_leaves one_good =

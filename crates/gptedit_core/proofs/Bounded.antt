@@ -17,13 +17,13 @@ use Rattle.gptman.specs.TableWrites.{MayBeWritten}
 use Rattle.gptman.specs.Write.{has_other_header}
 use Rattle.gptman.specs.declared.table.GPT.{GPT}
 use Rattle.gptman.proofs.Commits.{coherent_still, form_still, layout_still, KeepsRanges}
-use Rattle.gptedit_core.specs.Laying.{IsStopOf}
-use Rattle.gptedit_core.specs.Making.{bounded, empty_of, first_asked, last_asked, with_bounds, AreBounds, HasBounds, HasRoomOf, IsLaidIf, IsNew, RefusesLaidIf, RefusesNew}
-use Rattle.gptedit_core.specs.Making.RefusesNew.{not_laid, not_valid, out_of_bounds}
+use Rattle.gptedit_core.specs.Applying.{IsStopOf}
+use Rattle.gptedit_core.specs.Making.{bounded, empty_of, first_asked, last_asked, with_bounds, AreBounds, HasBounds, HasRoomOf, IsAppliedIf, IsNew, RefusesAskedIf, RefusesNew}
+use Rattle.gptedit_core.specs.Making.RefusesNew.{not_applied, not_valid, out_of_bounds}
 use Rattle.gptedit_core.specs.Planning.{RefusesCheck}
-use Rattle.gptedit_core.specs.declared.asked.Layout.{Layout}
+use Rattle.gptedit_core.specs.declared.asked.RequestedLayout.{RequestedLayout}
 use Rattle.gptedit_core.specs.declared.making.Creation.{Creation}
-use Rattle.gptedit_core.specs.declared.plan.Job.TheVariants.{Lay}
+use Rattle.gptedit_core.specs.declared.plan.Job.TheVariants.{Apply}
 use Rattle.gptedit_core.specs.declared.refusal.Refusal.{Refusal}
 use Rattle.gptedit_core.specs.declared.refusal.Refusal.TheVariants.{OutOfBounds}
 use Rattle.gptedit_core.specs.declared.refusal.Stop.{Stop}
@@ -150,16 +150,16 @@ module _ (creation : Creation) (ss len : ℕ) (room : HasRoomOf creation ss len)
 no_change : (g next : GPT) → next ≡ g → KeepsRanges g next
 no_change g next same = subst (KeepsRanges g) (sym same) (record { sector = refl; header = refl; long = refl })
 
-laid_keeps : (layout : Option Layout) (randoms : List (List ℕ)) (g next : GPT) → IsLaidIf layout randoms g next → KeepsRanges g next
-laid_keeps None randoms g next is = no_change g next is
-laid_keeps (Some layout) randoms g next is = done_keeps (Lay layout) randoms g next is
+applied_keeps : (layout : Option RequestedLayout) (randoms : List (List ℕ)) (g next : GPT) → IsAppliedIf layout randoms g next → KeepsRanges g next
+applied_keeps None randoms g next is = no_change g next is
+applied_keeps (Some layout) randoms g next is = done_keeps (Apply layout) randoms g next is
 
 -- The new table has the stated layout,
-pub laid_layout : (creation : Creation) (ss len : ℕ) (next : GPT) → HasRoomOf creation ss len → HasBounds creation (empty_of creation ss len)
-    → IsLaidIf creation.layout creation.random.items (bounded creation (empty_of creation ss len)) next → HasLayout next len
-laid_layout creation ss len next room bounds laid =
+pub applied_layout : (creation : Creation) (ss len : ℕ) (next : GPT) → HasRoomOf creation ss len → HasBounds creation (empty_of creation ss len)
+    → IsAppliedIf creation.layout creation.random.items (bounded creation (empty_of creation ss len)) next → HasLayout next len
+applied_layout creation ss len next room bounds applied =
     let g = empty_of creation ss len in
-    layout_still (bounded creation g) next (laid_keeps creation.layout creation.random.items (bounded creation g) next laid) len
+    layout_still (bounded creation g) next (applied_keeps creation.layout creation.random.items (bounded creation g) next applied) len
     (bounded_layout creation ss len room (first_asked creation g) (last_asked creation g) bounds)
 
 module _ (creation : Creation) (ss len : ℕ) (next : GPT) (is : IsNew creation ss len next) where
@@ -167,10 +167,10 @@ module _ (creation : Creation) (ss len : ℕ) (next : GPT) (is : IsNew creation 
   start = bounded creation (empty_of creation ss len)
 
   keeps : KeepsRanges start next
-  keeps = laid_keeps creation.layout creation.random.items start next is.filled.laid
+  keeps = applied_keeps creation.layout creation.random.items start next is.filled.applied
 
   pub new_layout : HasLayout next len
-  new_layout = laid_layout creation ss len next is.room is.filled.bounds is.filled.laid
+  new_layout = applied_layout creation ss len next is.room is.filled.bounds is.filled.applied
 
   -- the same sector size,
   pub new_sector : next.sector_size ≡ ss
@@ -198,31 +198,31 @@ layout_other g len layout =
 -- ---- from the empty table to the new one
 
 module _ (creation : Creation) (len : ℕ) (empty mid next : GPT) (is : empty ≡ empty_of creation empty.sector_size len) (room : HasRoomOf creation empty.sector_size len)
-    (bounds : HasBounds creation empty) (value : mid ≡ bounded creation empty) (laid : IsLaidIf creation.layout creation.random.items mid next) where
+    (bounds : HasBounds creation empty) (value : mid ≡ bounded creation empty) (applied : IsAppliedIf creation.layout creation.random.items mid next) where
   bounds_there : HasBounds creation (empty_of creation empty.sector_size len)
   bounds_there = subst (HasBounds creation) is bounds
 
-  laid_there : IsLaidIf creation.layout creation.random.items (bounded creation (empty_of creation empty.sector_size len)) next
-  laid_there = subst (λ (m : GPT). IsLaidIf creation.layout creation.random.items m next) (value ∙ ap (bounded creation) is) laid
+  applied_there : IsAppliedIf creation.layout creation.random.items (bounded creation (empty_of creation empty.sector_size len)) next
+  applied_there = subst (λ (m : GPT). IsAppliedIf creation.layout creation.random.items m next) (value ∙ ap (bounded creation) is) applied
 
   pub filled_layout : HasLayout next len
-  filled_layout = laid_layout creation empty.sector_size len next room bounds_there laid_there
+  filled_layout = applied_layout creation empty.sector_size len next room bounds_there applied_there
 
   pub filled_new : MayBeWritten next len → IsNew creation empty.sector_size len next
-  filled_new may = record { room = room; filled = record { bounds = bounds_there; laid = laid_there; may = may } }
+  filled_new may = record { room = room; filled = record { bounds = bounds_there; applied = applied_there; may = may } }
 
   pub filled_refused : (s : Stop) → IsStopOf (RefusesCheck next) s → IsStopOf (RefusesNew creation empty.sector_size len) s
-  filled_refused (Refused r) refused = not_valid next room bounds_there laid_there refused
+  filled_refused (Refused r) refused = not_valid next room bounds_there applied_there refused
   filled_refused (Failed e) refused = refused
 
 -- A refusal for the empty table is a refusal of the new one.
-pub laying_refused : (creation : Creation) (len : ℕ) (empty mid : GPT) → empty ≡ empty_of creation empty.sector_size len → HasRoomOf creation empty.sector_size len
-    → HasBounds creation empty → mid ≡ bounded creation empty → (s : Stop) → IsStopOf (RefusesLaidIf creation.layout creation.random.items mid) s
+pub applying_refused : (creation : Creation) (len : ℕ) (empty mid : GPT) → empty ≡ empty_of creation empty.sector_size len → HasRoomOf creation empty.sector_size len
+    → HasBounds creation empty → mid ≡ bounded creation empty → (s : Stop) → IsStopOf (RefusesAskedIf creation.layout creation.random.items mid) s
     → IsStopOf (RefusesNew creation empty.sector_size len) s
-laying_refused creation len empty mid is room bounds value (Refused r) refused =
-    not_laid room (subst (HasBounds creation) is bounds)
-    (subst (λ (m : GPT). RefusesLaidIf creation.layout creation.random.items m r) (value ∙ ap (bounded creation) is) refused)
-laying_refused creation len empty mid is room bounds value (Failed e) refused = refused
+applying_refused creation len empty mid is room bounds value (Refused r) refused =
+    not_applied room (subst (HasBounds creation) is bounds)
+    (subst (λ (m : GPT). RefusesAskedIf creation.layout creation.random.items m r) (value ∙ ap (bounded creation) is) refused)
+applying_refused creation len empty mid is room bounds value (Failed e) refused = refused
 
 pub bounds_refused : (creation : Creation) (len : ℕ) (empty : GPT) → empty ≡ empty_of creation empty.sector_size len → HasRoomOf creation empty.sector_size len
     → (r : Refusal) → (¬ HasBounds creation empty) × (r ≡ OutOfBounds empty.header.first_usable_lba empty.header.last_usable_lba)

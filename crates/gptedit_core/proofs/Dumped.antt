@@ -13,22 +13,22 @@ use Rattle.gptman.specs.declared.codec.entry.GPTPartitionEntry.{GPTPartitionEntr
 use Rattle.gptman.specs.declared.codec.header.GPTHeader.{GPTHeader}
 use Rattle.gptman.specs.declared.table.GPT.{GPT}
 use Rattle.gptedit_core.specs.Dumping.{asked_of, asked_of_all, IsLayoutOf}
-use Rattle.gptedit_core.specs.Laying.{IsLaid}
+use Rattle.gptedit_core.specs.Applying.{IsApplied}
 use Rattle.gptedit_core.specs.Named.{AreThere, IsUnnamed, LayoutsGiveTable, StaysAs}
 use Rattle.gptedit_core.specs.Placing.{IsSpan}
 use Rattle.gptedit_core.specs.Resolving.{and_then, entry_asked, number_asked, partition_at, place_asked, place_of, resolved, resolved_all, room_asked, start_asked, stay_fault, there_of, unless, use_fault, used_at}
 use Rattle.gptedit_core.specs.declared.asked.Asked.{Asked}
-use Rattle.gptedit_core.specs.declared.asked.Layout.{Layout}
+use Rattle.gptedit_core.specs.declared.asked.RequestedLayout.{RequestedLayout}
 use Rattle.gptedit_core.specs.declared.asked.Mode.{Mode}
 use Rattle.gptedit_core.specs.declared.asked.Mode.TheVariants.{Become}
 use Rattle.gptedit_core.specs.declared.place.Place.{Place}
 use Rattle.gptedit_core.specs.declared.place.Place.TheVariants.{At, From, Longer, Free, Longest}
 use Rattle.gptedit_core.specs.declared.refusal.Refusal.{Refusal}
 use Rattle.gptedit_core.specs.declared.refusal.Refusal.TheVariants.{NoEntry, NoType, WouldMove}
-use Rattle.gptedit_core.specs.declared.resolve.Partition.{Partition}
-use Rattle.gptedit_core.specs.declared.plan.Job.TheVariants.{Lay}
+use Rattle.gptedit_core.specs.declared.resolve.ResolvedPartition.{ResolvedPartition}
+use Rattle.gptedit_core.specs.declared.plan.Job.TheVariants.{Apply}
 use Rattle.gptedit_core.proofs.Kept.{done_keeps}
-use Rattle.gptedit_core.proofs.Laid.{change_named}
+use Rattle.gptedit_core.proofs.Applied.{change_named}
 use Rattle.gptedit_core.proofs.Steps.{and_then_ok, else_ok}
 
 -- ---- one entry that is requested unchanged
@@ -63,7 +63,7 @@ place_stays a i ss e place is =
     sym stay.1 ∙ stays_at i (e.starting_lba, e.ending_lba) at.0 stay.0
 
 -- The partition is the used entry of its number, at its place.
-pub record IsOwn (g : GPT) (p : Partition) : Type 0 where
+pub record IsOwn (g : GPT) (p : ResolvedPartition) : Type 0 where
   pub low : 1 ≤ p.number
   pub e : GPTPartitionEntry
   pub at : entry_at g p.number ≡ e
@@ -71,7 +71,7 @@ pub record IsOwn (g : GPT) (p : Partition) : Type 0 where
   pub entry : p.entry ≡ e
   pub place : p.place ≡ At e.starting_lba e.ending_lba
 
-abbrev pub with_used : GPT → Asked → List ℕ → ℕ → Option GPTPartitionEntry → Result Partition Refusal
+abbrev pub with_used : GPT → Asked → List ℕ → ℕ → Option GPTPartitionEntry → Result ResolvedPartition Refusal
 with_used g a random i used =
     let e = entry_asked a used random in
     and_then (unless (use_fault (Become false) i used) i) (λ _.
@@ -79,14 +79,14 @@ with_used g a random i used =
     if is_unused e then Err (NoType i) else Ok (record { number = i; entry = e; place = place })))
 
 -- A request that makes a used entry what it is.
-pub own_part : (g : GPT) (a : Asked) (i : ℕ) (e : GPTPartitionEntry) (random : List ℕ) (p : Partition) → 1 ≤ i → entry_at g i ≡ e → IsTrue (is_used e)
+pub own_part : (g : GPT) (a : Asked) (i : ℕ) (e : GPTPartitionEntry) (random : List ℕ) (p : ResolvedPartition) → 1 ≤ i → entry_at g i ≡ e → IsTrue (is_used e)
     → entry_asked a (Some e) random ≡ e → with_used g a random i (Some e) ≡ Ok p → (p.number ≡ i) × IsOwn g p
 own_part g a i e random p low at used same is =
     let asked : GPTPartitionEntry = entry_asked a (Some e) random in
     let place = and_then_ok (place_asked (Become false) a i (Some e) g.sector_size) _ p is in
-    let whole : Partition = record { number = i; entry = asked; place = place.0 } in
+    let whole : ResolvedPartition = record { number = i; entry = asked; place = place.0 } in
     let end = else_ok (is_unused asked) (NoType i) whole p place.2 in (
-      sym (ap (λ (q : Partition). q.number) end.1),
+      sym (ap (λ (q : ResolvedPartition). q.number) end.1),
       subst (IsOwn g) end.1 (record { low = low; e = e; at = at; used = used; entry = same; place = place_stays a i g.sector_size e place.0 place.1 }),
     )
 
@@ -95,7 +95,7 @@ used_is g i e found used =
     subst (λ (o : Option GPTPartitionEntry). ◌≡◌ {A = Option GPTPartitionEntry} (elim o [ None ↦ None | Some x ↦ if is_used x then Some x else None ]) (Some e)) (sym found)
     (subst (λ (b : Bool). ◌≡◌ {A = Option GPTPartitionEntry} (if b then Some e else None) (Some e)) (sym used) refl)
 
-own_one : (g : GPT) (i : ℕ) (e : GPTPartitionEntry) (random : List ℕ) (p : Partition) → 1 ≤ i → entry_of_number g i ≡ Some e → entry_at g i ≡ e → IsTrue (is_used e)
+own_one : (g : GPT) (i : ℕ) (e : GPTPartitionEntry) (random : List ℕ) (p : ResolvedPartition) → 1 ≤ i → entry_of_number g i ≡ Some e → entry_at g i ≡ e → IsTrue (is_used e)
     → resolved g (Become false) (asked_of i e) random ≡ Ok p → (p.number ≡ i) × IsOwn g p
 own_one g i e random p low found at used is =
     let a : Asked = asked_of i e in
@@ -109,11 +109,11 @@ own_one g i e random p low found at used is =
 
 -- ---- all entries
 
-abbrev pub OwnedBy : GPT → List Partition → Type 0
+abbrev pub OwnedBy : GPT → List ResolvedPartition → Type 0
 OwnedBy g [] = Unit {0}
 OwnedBy g (p ∷ ps) = IsOwn g p × OwnedBy g ps
 
-abbrev pub HasNumber : ℕ → List Partition → Type 0
+abbrev pub HasNumber : ℕ → List ResolvedPartition → Type 0
 HasNumber i [] = ⊥
 HasNumber i (p ∷ ps) = (p.number ≡ i) ⊎ HasNumber i ps
 
@@ -123,22 +123,22 @@ HasFrom g k [] = Unit {0}
 HasFrom g k (e ∷ es) = (entry_of_number g k ≡ Some e) × (entry_at g k ≡ e) × HasFrom g (k + 1) es
 
 -- Each used one of them is requested.
-abbrev pub CoversFrom : List Partition → ℕ → List GPTPartitionEntry → Type 0
+abbrev pub CoversFrom : List ResolvedPartition → ℕ → List GPTPartitionEntry → Type 0
 CoversFrom ps k [] = Unit {0}
 CoversFrom ps k (e ∷ es) = (IsTrue (is_used e) → HasNumber k ps) × CoversFrom ps (k + 1) es
 
-covers_more : (p : Partition) (ps : List Partition) (k : ℕ) (es : List GPTPartitionEntry) → CoversFrom ps k es → CoversFrom (p ∷ ps) k es
+covers_more : (p : ResolvedPartition) (ps : List ResolvedPartition) (k : ℕ) (es : List GPTPartitionEntry) → CoversFrom ps k es → CoversFrom (p ∷ ps) k es
 covers_more p ps k [] is = tt
 covers_more p ps k (e ∷ es) is = (λ used. inr (is.0 used), covers_more p ps (k + 1) es is.1)
 
 abbrev pub if_used : Bool → ℕ → GPTPartitionEntry → List Asked → List Asked
 if_used b k e asked = if b then asked_of k e ∷ asked else asked
 
-own_more : (g : GPT) (b : Bool) (k : ℕ) (e : GPTPartitionEntry) (es : List GPTPartitionEntry) (randoms : List (List ℕ)) (ps : List Partition) → 1 ≤ k → is_used e ≡ b
+own_more : (g : GPT) (b : Bool) (k : ℕ) (e : GPTPartitionEntry) (es : List GPTPartitionEntry) (randoms : List (List ℕ)) (ps : List ResolvedPartition) → 1 ≤ k → is_used e ≡ b
     → entry_of_number g k ≡ Some e → entry_at g k ≡ e
     → length (if_used b k e (asked_of_all (enumerate_from (k + 1) es))) ≤ length randoms
     → resolved_all g (Become false) (if_used b k e (asked_of_all (enumerate_from (k + 1) es))) randoms ≡ Ok ps
-    → ((rs : List (List ℕ)) (qs : List Partition) → length (asked_of_all (enumerate_from (k + 1) es)) ≤ length rs
+    → ((rs : List (List ℕ)) (qs : List ResolvedPartition) → length (asked_of_all (enumerate_from (k + 1) es)) ≤ length rs
     → resolved_all g (Become false) (asked_of_all (enumerate_from (k + 1) es)) rs ≡ Ok qs → OwnedBy g qs × CoversFrom qs (k + 1) es)
     → OwnedBy g ps × CoversFrom ps k (e ∷ es)
 own_more g false k e es randoms ps low is found at enough all rest =
@@ -152,13 +152,13 @@ own_more g true k e es (random ∷ randoms) ps low is found at enough all rest =
     let same : first.0 ∷ others.0 ≡ ps = cc in
     let own = own_one g k e random first.0 low found at is first.1 in
     let next = rest randoms others.0 (omega (arith, enough)) others.1 in
-    subst (λ (qs : List Partition). OwnedBy g qs × CoversFrom qs k (e ∷ es)) same
+    subst (λ (qs : List ResolvedPartition). OwnedBy g qs × CoversFrom qs k (e ∷ es)) same
     ((own.1, next.0), (λ used. inl own.0, covers_more first.0 others.0 (k + 1) es next.1))
 
-pub all_own : (g : GPT) (k : ℕ) (es : List GPTPartitionEntry) (randoms : List (List ℕ)) (ps : List Partition) → 1 ≤ k → HasFrom g k es
+pub all_own : (g : GPT) (k : ℕ) (es : List GPTPartitionEntry) (randoms : List (List ℕ)) (ps : List ResolvedPartition) → 1 ≤ k → HasFrom g k es
     → length (asked_of_all (enumerate_from k es)) ≤ length randoms → resolved_all g (Become false) (asked_of_all (enumerate_from k es)) randoms ≡ Ok ps
     → OwnedBy g ps × CoversFrom ps k es
-all_own g k [] randoms ps low has enough all = let none : [] ≡ ps = cc in subst (λ (qs : List Partition). OwnedBy g qs × CoversFrom qs k []) none (tt, tt)
+all_own g k [] randoms ps low has enough all = let none : [] ≡ ps = cc in subst (λ (qs : List ResolvedPartition). OwnedBy g qs × CoversFrom qs k []) none (tt, tt)
 all_own g k (e ∷ es) randoms ps low has enough all =
     own_more g (is_used e) k e es randoms ps low refl has.0 has.1 enough all
     (λ rs qs long is. all_own g (k + 1) es rs qs (omega (arith, low)) has.2 long is)
@@ -166,7 +166,7 @@ all_own g k (e ∷ es) randoms ps low has enough all =
 -- ---- the entries of the resulting table
 
 -- The entry of a partition that was the table's own is unchanged.
-pub own_there : (g t next : GPT) (j : ℕ) (ps : List Partition) → OwnedBy g ps → AreThere ps t next → HasNumber j ps → entry_at next j ≡ entry_at g j
+pub own_there : (g t next : GPT) (j : ℕ) (ps : List ResolvedPartition) → OwnedBy g ps → AreThere ps t next → HasNumber j ps → entry_at next j ≡ entry_at g j
 own_there g t next j [] own there has = absurd has
 own_there g t next j (p ∷ ps) own there (inr has) = own_there g (with_entry t p.number (entry_at next p.number)) next j ps own.1 there.1 has
 own_there g t next j (p ∷ ps) own there (inl same) =
@@ -180,7 +180,7 @@ own_there g t next j (p ∷ ps) own there (inl same) =
     subst (λ (n : ℕ). entry_at next n ≡ entry_at g n) same (there ∙ sym own.at)
 
 -- An unused entry is not named.
-pub own_unnamed : (g : GPT) (j : ℕ) (ps : List Partition) → OwnedBy g ps → is_used (entry_at g j) ≡ false → IsUnnamed j ps
+pub own_unnamed : (g : GPT) (j : ℕ) (ps : List ResolvedPartition) → OwnedBy g ps → is_used (entry_at g j) ≡ false → IsUnnamed j ps
 own_unnamed g j [] own unused k p below = absurd (omega (arith, below))
 own_unnamed g j (p ∷ ps) own unused zero q below = λ same.
     let used : is_used (entry_at g j) ≡ true = ap (λ (n : ℕ). is_used (entry_at g n)) (sym same) ∙ (ap is_used own.0.at ∙ own.0.used) in
@@ -216,7 +216,7 @@ of_number g m n is below =
 pub has_all : (g : GPT) → HasFrom g 1 (entries_in g)
 has_all g = has_from g 1 (entries_in g) (λ m below. (of_number g m (1 + m) (omega arith) below, at_number g m (1 + m) (omega arith)))
 
-covers_at : (ps : List Partition) (k : ℕ) (es : List GPTPartitionEntry) (m : ℕ) → CoversFrom ps k es → m < length es → IsTrue (is_used (get_or es m empty_entry)) → HasNumber (k + m) ps
+covers_at : (ps : List ResolvedPartition) (k : ℕ) (es : List GPTPartitionEntry) (m : ℕ) → CoversFrom ps k es → m < length es → IsTrue (is_used (get_or es m empty_entry)) → HasNumber (k + m) ps
 covers_at ps k [] m is below used = absurd (omega (arith, below))
 covers_at ps k (e ∷ es) zero is below used = let start : k ≡ k + 0 = omega arith in subst (λ (n : ℕ). HasNumber n ps) start (is.0 used)
 covers_at ps k (e ∷ es) (suc m) is below used =
@@ -230,7 +230,7 @@ used_below (e ∷ es) zero used = omega arith
 used_below (e ∷ es) (suc m) used = let less = used_below es m used in omega (arith, less)
 
 -- If each used entry is requested, its number is named.
-pub used_named : (g : GPT) (ps : List Partition) (m : ℕ) → CoversFrom ps 1 (entries_in g) → is_used (entry_at g (suc m)) ≡ true → HasNumber (suc m) ps
+pub used_named : (g : GPT) (ps : List ResolvedPartition) (m : ℕ) → CoversFrom ps 1 (entries_in g) → is_used (entry_at g (suc m)) ≡ true → HasNumber (suc m) ps
 used_named g ps m is used =
     let at : entry_at g (suc m) ≡ get_or (entries_in g) m empty_entry = at_number g m (suc m) (omega arith) in
     let here : IsTrue (is_used (get_or (entries_in g) m empty_entry)) = subst (λ (e : GPTPartitionEntry). IsTrue (is_used e)) at used in
@@ -247,25 +247,25 @@ equal_entries g next long each =
 
 -- ---- the whole table
 
-module _ (g next : GPT) (layout : Layout) (randoms : List (List ℕ)) (is : IsLayoutOf g layout) (enough : length layout.asked.items ≤ length randoms)
-    (laid : IsLaid layout randoms g next) where
-  own_asked : resolved_all g (Become false) (asked_of_all (enumerate_from 1 (entries_in g))) randoms ≡ Ok laid.partitions
+module _ (g next : GPT) (layout : RequestedLayout) (randoms : List (List ℕ)) (is : IsLayoutOf g layout) (enough : length layout.asked.items ≤ length randoms)
+    (applied : IsApplied layout randoms g next) where
+  own_asked : resolved_all g (Become false) (asked_of_all (enumerate_from 1 (entries_in g))) randoms ≡ Ok applied.partitions
   own_asked =
-      subst (λ (mode : Mode). resolved_all g mode (asked_of_all (enumerate_from 1 (entries_in g))) randoms ≡ Ok laid.partitions) is.mode
-      (subst (λ (asked : List Asked). resolved_all g layout.mode asked randoms ≡ Ok laid.partitions) is.asked laid.asked)
+      subst (λ (mode : Mode). resolved_all g mode (asked_of_all (enumerate_from 1 (entries_in g))) randoms ≡ Ok applied.partitions) is.mode
+      (subst (λ (asked : List Asked). resolved_all g layout.mode asked randoms ≡ Ok applied.partitions) is.asked applied.asked)
 
-  owned : OwnedBy g laid.partitions × CoversFrom laid.partitions 1 (entries_in g)
-  owned = all_own g 1 (entries_in g) randoms laid.partitions (omega arith) (has_all g)
+  owned : OwnedBy g applied.partitions × CoversFrom applied.partitions 1 (entries_in g)
+  owned = all_own g 1 (entries_in g) randoms applied.partitions (omega arith) (has_all g)
       (subst (λ (asked : List Asked). length asked ≤ length randoms) is.asked enough) own_asked
 
   each_used : (m : ℕ) → is_used (entry_at g (suc m)) ≡ true → entry_at next (suc m) ≡ entry_at g (suc m)
   each_used m used =
-      own_there g laid.free next (suc m) laid.partitions owned.0 (change_named layout randoms g next laid).named (used_named g laid.partitions m owned.1 used)
+      own_there g applied.free next (suc m) applied.partitions owned.0 (change_named layout randoms g next applied).named (used_named g applied.partitions m owned.1 used)
 
   each_unused : (m : ℕ) → is_used (entry_at g (suc m)) ≡ false → entry_at next (suc m) ≡ entry_at g (suc m)
   each_unused m unused =
       let kept : All (λ (j : ℕ). j ≢ suc m) layout.removed.items = subst (λ (js : List ℕ). All (λ (j : ℕ). j ≢ suc m) js) (sym is.removed) (λ k d below. absurd (omega (arith, below))) in
-      let stays = (change_named layout randoms g next laid).others (suc m) (omega arith) (own_unnamed g (suc m) laid.partitions owned.0 unused) kept in
+      let stays = (change_named layout randoms g next applied).others (suc m) (omega arith) (own_unnamed g (suc m) applied.partitions owned.0 unused) kept in
       (subst (λ (mode : Mode). StaysAs mode (entry_at g (suc m)) (entry_at next (suc m))) is.mode stays).0
 
   each_by : (m : ℕ) (b : Bool) → is_used (entry_at g (suc m)) ≡ b → entry_at next (suc m) ≡ entry_at g (suc m)
@@ -273,16 +273,16 @@ module _ (g next : GPT) (layout : Layout) (randoms : List (List ℕ)) (is : IsLa
   each_by m false unused = each_unused m unused
 
   pub same_entries : entries_in next ≡ entries_in g
-  same_entries = equal_entries g next (done_keeps (Lay layout) randoms g next laid).long (λ k. each_by k (is_used (entry_at g (suc k))) refl)
+  same_entries = equal_entries g next (done_keeps (Apply layout) randoms g next applied).long (λ k. each_by k (is_used (entry_at g (suc k))) refl)
 
   same_guid : next.header.disk_guid ≡ g.header.disk_guid
   same_guid =
-      ap (λ (m : GPT). m.header.disk_guid) laid.next_is ∙ ap (λ (guid : Option (List ℕ)). unwrap_or guid laid.last.header.disk_guid) is.disk_guid
+      ap (λ (m : GPT). m.header.disk_guid) applied.next_is ∙ ap (λ (guid : Option (List ℕ)). unwrap_or guid applied.last.header.disk_guid) is.disk_guid
 
   same_table : table_in next ≡ table_in g
   same_table =
-      ap (λ (h : GPTHeader). table_of h (entries_in next)) (done_keeps (Lay layout) randoms g next laid).header
+      ap (λ (h : GPTHeader). table_of h (entries_in next)) (done_keeps (Apply layout) randoms g next applied).header
       ∙ (λ i. table_of (record g.header { disk_guid = same_guid i }) (same_entries i))
 
 pub give_table : LayoutsGiveTable
-give_table g next layout randoms is enough laid = same_table g next layout randoms is enough laid
+give_table g next layout randoms is enough applied = same_table g next layout randoms is enough applied

@@ -8,7 +8,7 @@ use Rattle.gptman.specs.declared.table.GPT.{GPT}
 use Rattle.gptedit_core.specs.Growing.{IsFitted, IsGrown, RefusesGrown, RefusesGrowth}
 use Rattle.gptedit_core.specs.Growing.IsFitted.{follows, is_usual, stays}
 use Rattle.gptedit_core.specs.Growing.RefusesGrowth.{not_grown}
-use Rattle.gptedit_core.specs.Laying.{IsStopOf}
+use Rattle.gptedit_core.specs.Applying.{IsStopOf}
 use Rattle.gptedit_core.specs.declared.growth.Bounds.{Bounds}
 use Rattle.gptedit_core.specs.declared.refusal.Stop.{Stop}
 use Rattle.gptedit_core.specs.declared.refusal.Stop.TheVariants.{Refused, Failed}

@@ -12,13 +12,13 @@ use Rattle.gptman.specs.declared.table.GPT.{GPT}
 use Rattle.gptman.proofs.Commits.{coherent_still, edited_keeps, keeps_both, layout_still, KeepsRanges}
 use Rattle.gptman.proofs.ReadKept.{has_places}
 use Rattle.gptman_change.specs.Planning.{KeepsPlaces}
-use Rattle.gptedit_core.specs.Laying.{cleared, removed_all, removed_one, without_entry, is_blank, ArePut}
+use Rattle.gptedit_core.specs.Applying.{cleared, removed_all, removed_one, without_entry, is_blank, ArePut}
 use Rattle.gptedit_core.specs.Planning.{IsDone}
 use Rattle.gptedit_core.specs.declared.plan.Job.{Job}
-use Rattle.gptedit_core.specs.declared.plan.Job.TheVariants.{Lay, Sort, Rewrite}
+use Rattle.gptedit_core.specs.declared.plan.Job.TheVariants.{Apply, Sort, Rewrite}
 use Rattle.gptedit_core.specs.declared.refusal.Refusal.{Refusal}
 use Rattle.gptedit_core.specs.declared.refusal.Refusal.TheVariants.{IsUnused, NoEntry}
-use Rattle.gptedit_core.specs.declared.resolve.Partition.{Partition}
+use Rattle.gptedit_core.specs.declared.resolve.ResolvedPartition.{ResolvedPartition}
 use Rattle.gptedit_core.proofs.Steps.{and_then_ok, else_ok}
 
 -- An entry is put,
@@ -50,13 +50,13 @@ cleared_keeps i g h next (Some e) is rest =
     let mid = with_entry g i empty_entry in
     keeps_both g mid h (put_keeps g i empty_entry) (rest mid is)
 
-pub all_cleared_keep : (ps : List Partition) (g h : GPT) → cleared ps g ≡ Ok h → KeepsRanges g h
+pub all_cleared_keep : (ps : List ResolvedPartition) (g h : GPT) → cleared ps g ≡ Ok h → KeepsRanges g h
 all_cleared_keep [] g h done = let same : g ≡ h = cc in subst (KeepsRanges g) same (record { sector = refl; header = refl; long = refl })
 all_cleared_keep (p ∷ ps) g h done =
     cleared_keeps p.number g h (cleared ps) (entry_of_number g p.number) done (λ m is. all_cleared_keep ps m h is)
 
 -- partitions are put,
-all_put_keep : (ps : List Partition) (g h : GPT) → ArePut ps g h → KeepsRanges g h
+all_put_keep : (ps : List ResolvedPartition) (g h : GPT) → ArePut ps g h → KeepsRanges g h
 all_put_keep [] g h is = subst (KeepsRanges g) (sym is) (record { sector = refl; header = refl; long = refl })
 all_put_keep (p ∷ ps) g h is =
     let put = is.1 in
@@ -67,10 +67,10 @@ all_put_keep (p ∷ ps) g h is =
 guid_keeps : (g : GPT) (align : ℕ) (guid : List ℕ) → KeepsRanges g (record g { align = align; header = record g.header { disk_guid = guid } })
 guid_keeps g align guid = record { sector = refl; header = refl; long = refl }
 
-laid_keeps : (g next : GPT) (guid : Option (List ℕ)) (align : ℕ) (ps : List Partition) (is : List ℕ) (rest free last : GPT) → removed_all is (record g { align = align }) ≡ Ok rest
+applied_keeps : (g next : GPT) (guid : Option (List ℕ)) (align : ℕ) (ps : List ResolvedPartition) (is : List ℕ) (rest free last : GPT) → removed_all is (record g { align = align }) ≡ Ok rest
     → cleared ps rest ≡ Ok free → ArePut ps free last
     → next ≡ record last { align = g.align; header = record last.header { disk_guid = unwrap_or guid last.header.disk_guid } } → KeepsRanges g next
-laid_keeps g next guid align ps is rest free last removed clear put next_is =
+applied_keeps g next guid align ps is rest free last removed clear put next_is =
     let h : GPT = record g { align = align } in
     let to_rest = keeps_both g h rest (align_keeps g align) (all_removed_keep is h rest removed) in
     let to_free = keeps_both g rest free to_rest (all_cleared_keep ps rest free clear) in
@@ -80,8 +80,8 @@ laid_keeps g next guid align ps is rest free last removed clear put next_is =
 
 -- So each job keeps them.
 pub done_keeps : (job : Job) (randoms : List (List ℕ)) (g next : GPT) → IsDone job randoms g next → KeepsRanges g next
-done_keeps (Lay layout) randoms g next is =
-    laid_keeps g next layout.disk_guid is.align is.partitions layout.removed.items is.rest is.free is.last is.removed is.clear is.put is.next_is
+done_keeps (Apply layout) randoms g next is =
+    applied_keeps g next layout.disk_guid is.align is.partitions layout.removed.items is.rest is.free is.last is.removed is.clear is.put is.next_is
 done_keeps Sort randoms g next is = subst (KeepsRanges g) (sym is) (edited_keeps g SortEntries)
 done_keeps Rewrite randoms g next is = subst (KeepsRanges g) (sym is) (record { sector = refl; header = refl; long = refl })
 

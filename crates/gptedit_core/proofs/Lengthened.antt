@@ -12,12 +12,12 @@ use Rattle.gptman.specs.Table.{entries_in}
 use Rattle.gptman.specs.declared.codec.entry.GPTPartitionEntry.{GPTPartitionEntry}
 use Rattle.gptman.specs.declared.codec.header.GPTHeader.{GPTHeader}
 use Rattle.gptman.specs.declared.table.GPT.{GPT}
-use Rattle.gptedit_core.specs.Laying.{ArePut, IsLaid, IsPut}
+use Rattle.gptedit_core.specs.Applying.{ArePut, IsApplied, IsPut}
 use Rattle.gptedit_core.specs.Named.{BeginsThere, IsLengthened, LayoutsOnlyLengthen}
 use Rattle.gptedit_core.specs.Placing.{AreFreeBehind, IsBlocked, IsFurthestEnd, IsSpan}
 use Rattle.gptedit_core.specs.Resolving.{and_then, entry_asked, number_asked, partition_at, place_asked, resolved, resolved_all, room_asked, start_asked, unless, use_fault, used_at}
 use Rattle.gptedit_core.specs.declared.asked.Asked.{Asked}
-use Rattle.gptedit_core.specs.declared.asked.Layout.{Layout}
+use Rattle.gptedit_core.specs.declared.asked.RequestedLayout.{RequestedLayout}
 use Rattle.gptedit_core.specs.declared.asked.Mode.{Mode}
 use Rattle.gptedit_core.specs.declared.asked.Mode.TheVariants.{Change}
 use Rattle.gptedit_core.specs.declared.asked.Size.{Size}
@@ -27,11 +27,11 @@ use Rattle.gptedit_core.specs.declared.place.Place.{Place}
 use Rattle.gptedit_core.specs.declared.place.Place.TheVariants.{Longer}
 use Rattle.gptedit_core.specs.declared.refusal.Refusal.{Refusal}
 use Rattle.gptedit_core.specs.declared.refusal.Refusal.TheVariants.{NoType}
-use Rattle.gptedit_core.specs.declared.resolve.Partition.{Partition}
+use Rattle.gptedit_core.specs.declared.resolve.ResolvedPartition.{ResolvedPartition}
 use Rattle.gptedit_core.specs.declared.resolve.Room.TheVariants.{Rest as RoomRest}
 use Rattle.gptedit_core.proofs.Again.{given, of_by}
 use Rattle.gptedit_core.proofs.Dumped.{at_number}
-use Rattle.gptedit_core.proofs.Laid.{other_entry, stay, this_entry}
+use Rattle.gptedit_core.proofs.Applied.{other_entry, stay, this_entry}
 use Rattle.gptedit_core.proofs.Resolved.{resolved_used}
 use Rattle.gptedit_core.proofs.Same.{cleared_same, put_same, removed_same}
 use Rattle.gptedit_core.proofs.Steps.{and_then_ok, else_ok}
@@ -62,12 +62,12 @@ place_longer a i ss e size (inr begins) =
     let same : nat_eq e.starting_lba e.starting_lba ≡ true = eq-eqb e.starting_lba e.starting_lba refl in
     rw (begins, room, same) refl
 
-record IsAskedLonger (g : GPT) (i : ℕ) (p : Partition) : Type 0 where
+record IsAskedLonger (g : GPT) (i : ℕ) (p : ResolvedPartition) : Type 0 where
   number : p.number ≡ i
   low : 1 ≤ i
   place : p.place ≡ Longer (entry_at g i).starting_lba (entry_at g i).ending_lba
 
-asked_longer : (g : GPT) (a : Asked) (random : List ℕ) (i : ℕ) (p : Partition) → a.number ≡ Some i → a.size ≡ Some Rest → BeginsThere a g.sector_size (entry_at g i)
+asked_longer : (g : GPT) (a : Asked) (random : List ℕ) (i : ℕ) (p : ResolvedPartition) → a.number ≡ Some i → a.size ≡ Some Rest → BeginsThere a g.sector_size (entry_at g i)
     → resolved g Change a random ≡ Ok p → IsAskedLonger g i p
 asked_longer g a random i p number_is size begins is =
     let number = and_then_ok (number_asked g a) (partition_at g Change a random) p is in
@@ -75,7 +75,7 @@ asked_longer g a random i p number_is size begins is =
     let part : partition_at g Change a random i ≡ Ok p = subst (λ (n : ℕ). partition_at g Change a random n ≡ Ok p) (sym here.0) number.2 in
     let used = used_at g i in
     let e : GPTPartitionEntry = entry_asked a used random in
-    let last : Place → Result Partition Refusal = λ place. if is_unused e then Err (NoType i) else Ok (record { number = i; entry = e; place = place }) in
+    let last : Place → Result ResolvedPartition Refusal = λ place. if is_unused e then Err (NoType i) else Ok (record { number = i; entry = e; place = place }) in
     let use_of = and_then_ok (unless (use_fault Change i used) i) (λ (j : ℕ). and_then (place_asked Change a i used g.sector_size) last) p part in
     let place = and_then_ok (place_asked Change a i used g.sector_size) last p use_of.2 in
     let end = else_ok (is_unused e) (NoType i) (record { number = i; entry = e; place = place.0 }) p place.2 in
@@ -87,26 +87,26 @@ asked_longer g a random i p number_is size begins is =
     let both : Ok place.0 ≡ Ok (Longer (entry_at g i).starting_lba (entry_at g i).ending_lba) = sym is_place ∙ place_longer a i g.sector_size (entry_at g i) size begins in
     let same : place.0 ≡ Longer (entry_at g i).starting_lba (entry_at g i).ending_lba = cc in
     record {
-      number = sym (ap (λ (q : Partition). q.number) end.1);
+      number = sym (ap (λ (q : ResolvedPartition). q.number) end.1);
       low = at.0;
-      place = sym (ap (λ (q : Partition). q.place) end.1) ∙ same;
+      place = sym (ap (λ (q : ResolvedPartition). q.place) end.1) ∙ same;
     }
 
 -- ---- the step that puts the entry
 
 record IsStep (g : GPT) (mode : Mode) (a : Asked) (free last : GPT) : Type 0 where
   random : List ℕ
-  p : Partition
+  p : ResolvedPartition
   asked : resolved g mode a random ≡ Ok p
-  first : List Partition
+  first : List ResolvedPartition
   before : GPT
   earlier : ArePut first free before
   mid : GPT
   put : IsPut p before mid
-  rest : List Partition
+  rest : List ResolvedPartition
   later : ArePut rest mid last
 
-find_step : (g : GPT) (mode : Mode) (asked : List Asked) (randoms : List (List ℕ)) (ps : List Partition) (free last : GPT) (k : ℕ) (a : Asked)
+find_step : (g : GPT) (mode : Mode) (asked : List Asked) (randoms : List (List ℕ)) (ps : List ResolvedPartition) (free last : GPT) (k : ℕ) (a : Asked)
     → k < length asked → get_or asked k a ≡ a → length asked ≤ length randoms → resolved_all g mode asked randoms ≡ Ok ps → ArePut ps free last → IsStep g mode a free last
 find_step g mode [] randoms ps free last k a below is long all put = absurd (omega (arith, below))
 find_step g mode (b ∷ asked) [] ps free last k a below is long all put = absurd (omega (arith, long))
@@ -114,7 +114,7 @@ find_step g mode (b ∷ asked) (random ∷ randoms) ps free last zero a below is
     let p = and_then_ok (resolved g mode b random) _ ps all in
     let rest = and_then_ok (resolved_all g mode asked randoms) _ ps p.2 in
     let whole : p.0 ∷ rest.0 ≡ ps = cc in
-    let puts : ArePut (p.0 ∷ rest.0) free last = subst (λ (xs : List Partition). ArePut xs free last) (sym whole) put in
+    let puts : ArePut (p.0 ∷ rest.0) free last = subst (λ (xs : List ResolvedPartition). ArePut xs free last) (sym whole) put in
     subst (λ (c : Asked). IsStep g mode c free last) is (record {
       random = random;
       p = p.0;
@@ -131,7 +131,7 @@ find_step g mode (b ∷ asked) (random ∷ randoms) ps free last (suc k) a below
     let p = and_then_ok (resolved g mode b random) _ ps all in
     let rest = and_then_ok (resolved_all g mode asked randoms) _ ps p.2 in
     let whole : p.0 ∷ rest.0 ≡ ps = cc in
-    let puts : ArePut (p.0 ∷ rest.0) free last = subst (λ (xs : List Partition). ArePut xs free last) (sym whole) put in
+    let puts : ArePut (p.0 ∷ rest.0) free last = subst (λ (xs : List ResolvedPartition). ArePut xs free last) (sym whole) put in
     let step = find_step g mode asked randoms rest.0 puts.0 last k a (omega (arith, below)) is (omega (arith, long)) rest.1 puts.2 in
     record {
       random = step.random;
@@ -153,7 +153,7 @@ used_of_covers x e false is covered = refl
 used_of_covers x e true is covered = absurd (cc)
 
 -- A sector that is free without the entry was free before it was put.
-module _ (p : Partition) (before mid last next : GPT) (rest : List Partition) (put : IsPut p before mid) (later : ArePut rest mid last)
+module _ (p : ResolvedPartition) (before mid last next : GPT) (rest : List ResolvedPartition) (put : IsPut p before mid) (later : ArePut rest mid last)
     (entries : entries_in next ≡ entries_in last) (low : next.header.first_usable_lba ≡ before.header.first_usable_lba)
     (high : next.header.last_usable_lba ≡ before.header.last_usable_lba) where
   long_last : length (entries_in last) ≡ length (entries_in before)
@@ -184,7 +184,7 @@ module _ (p : Partition) (before mid last next : GPT) (rest : List Partition) (p
   }
 
 -- A free sector was free before partitions were put.
-free_earlier : (ps : List Partition) (g last : GPT) → ArePut ps g last → (x : ℕ) → IsFreeIn last x → IsFreeIn g x
+free_earlier : (ps : List ResolvedPartition) (g last : GPT) → ArePut ps g last → (x : ℕ) → IsFreeIn last x → IsFreeIn g x
 free_earlier ps g last put x free =
     let header : last.header ≡ g.header = put_same (λ (m : GPT). m.header) (λ m j e. refl) ps g last put in
     let long : length (entries_in last) ≡ length (entries_in g) = put_same (λ (m : GPT). length (entries_in m)) (λ m j e. length-set (entries_in m) (j - 1) e) ps g last put in
@@ -200,9 +200,9 @@ free_earlier ps g last put x free =
 
 -- ---- the law
 
-module _ (layout : Layout) (randoms : List (List ℕ)) (g next : GPT) (a : Asked) (i : ℕ) (mode : layout.mode ≡ Change) (long : length layout.asked.items ≤ length randoms)
+module _ (layout : RequestedLayout) (randoms : List (List ℕ)) (g next : GPT) (a : Asked) (i : ℕ) (mode : layout.mode ≡ Change) (long : length layout.asked.items ≤ length randoms)
     (has : Contains layout.asked.items a) (number : a.number ≡ Some i) (size : a.size ≡ Some Rest) (begins : BeginsThere a g.sector_size (entry_at g i))
-    (is : IsLaid layout randoms g next) where
+    (is : IsApplied layout randoms g next) where
   step : IsStep g layout.mode a is.free is.last
   step = find_step g layout.mode layout.asked.items randoms is.partitions is.free is.last has.0 a has.1 has.2 long is.asked is.put
 

@@ -7,7 +7,7 @@ pub mod Dumped
 pub mod Ends
 pub mod Growing
 pub mod Kept
-pub mod Laid
+pub mod Applied
 pub mod Lengthened
 pub mod Offered
 pub mod Ordered

@@ -10,12 +10,12 @@ use Rattle.gptman.specs.Error.{Error}
 use Rattle.gptman_change.specs.Planning.{AlwaysKeepsPlaces, IsPlannedAs}
 use Rattle.gptman_change.specs.declared.Planned.{Planned}
 use Rattle.gptman_change.specs.declared.Planned.TheVariants.{Write, Leave}
-use Rattle.gptedit_core.specs.Laying.{IsStopOf}
-use Rattle.gptedit_core.specs.Planning.{Differs, IsDone, IsLeftAs, IsWritten, IsWrittenAs, RefusesCheck, RefusesRequest, TellsOf}
+use Rattle.gptedit_core.specs.Applying.{IsStopOf}
+use Rattle.gptedit_core.specs.Planning.{Differs, IsDecided, IsDone, IsLeftAs, IsWritten, IsWrittenAs, RefusesCheck, RefusesRequest}
 use Rattle.gptedit_core.specs.Planning.IsLeftAs.{is_dry, is_refused, is_unchanged}
 use Rattle.gptedit_core.specs.Planning.RefusesRequest.{not_written}
 use Rattle.gptedit_core.specs.declared.plan.Outcome.{Outcome}
-use Rattle.gptedit_core.specs.declared.plan.Outcome.TheVariants.{Refused as Told}
+use Rattle.gptedit_core.specs.declared.plan.Outcome.TheVariants.{Refused as RefusedOutcome}
 use Rattle.gptedit_core.specs.declared.plan.Request.{Request}
 use Rattle.gptedit_core.specs.declared.refusal.Refusal.{Refusal}
 use Rattle.gptedit_core.specs.declared.refusal.Stop.{Stop}
@@ -38,20 +38,20 @@ module _ (P N : GPT → GPT → Type 0) (R : GPT → Refusal → Type 0) (dry ne
   is_needed : needed ≡ true → N g next
   is_needed same = need.1 same
 
-  told_as : (answer : Planned Outcome) → TellsOf needed dry g next new answer → IsPlannedAs (IsWrittenAs P N dry) (IsLeftAs P N R dry) g new answer
-  told_as (Write answer) is =
-      subst (λ (m : GPT). IsWrittenAs P N dry g m answer) (sym is.0) (record { planned = planned; needed = is_needed is.2; wet = is.1; told = is.3 })
-  told_as (Leave answer) (same, inl unchanged) = is_unchanged next planned (λ yes. let true_now : needed ≡ true = need.0 yes in absurd (cc (true_now, unchanged.0))) unchanged.1
-  told_as (Leave answer) (same, inr only) = is_dry next planned (is_needed only.1) only.0 only.2
+  decided_as : (answer : Planned Outcome) → IsDecided needed dry g next new answer → IsPlannedAs (IsWrittenAs P N dry) (IsLeftAs P N R dry) g new answer
+  decided_as (Write answer) is =
+      subst (λ (m : GPT). IsWrittenAs P N dry g m answer) (sym is.0) (record { planned = planned; needed = is_needed is.2; wet = is.1; outcome = is.3 })
+  decided_as (Leave answer) (same, inl unchanged) = is_unchanged next planned (λ yes. let true_now : needed ≡ true = need.0 yes in absurd (cc (true_now, unchanged.0))) unchanged.1
+  decided_as (Leave answer) (same, inr only) = is_dry next planned (is_needed only.1) only.0 only.2
 
-  pub all_told : (r : Result (Planned Outcome) Error) → IfOk r (TellsOf needed dry g next new)
+  pub all_decided : (r : Result (Planned Outcome) Error) → IfOk r (IsDecided needed dry g next new)
       → IfOk r (IsPlannedAs (IsWrittenAs P N dry) (IsLeftAs P N R dry) g new)
-  all_told (Ok answer) is = told_as answer is
-  all_told (Err e) is = tt
+  all_decided (Ok answer) is = decided_as answer is
+  all_decided (Err e) is = tt
 
 -- The outcome of a refusal.
 pub all_refused : (P N : GPT → GPT → Type 0) (R : GPT → Refusal → Type 0) (dry : Bool) (g : GPT) (refusal : Refusal) → R g refusal → (r : Result (Planned Outcome) Error)
-    → IfOk r (λ planned. planned ≡ Leave (Told g refusal)) → IfOk r (IsPlannedAs (IsWrittenAs P N dry) (IsLeftAs P N R dry) g g)
+    → IfOk r (λ planned. planned ≡ Leave (RefusedOutcome g refusal)) → IfOk r (IsPlannedAs (IsWrittenAs P N dry) (IsLeftAs P N R dry) g g)
 all_refused P N R dry g refusal is (Ok planned) told = subst (IsPlannedAs (IsWrittenAs P N dry) (IsLeftAs P N R dry) g g) (sym told) (is_refused refusal is refl)
 all_refused P N R dry g refusal is (Err e) told = tt
 
@@ -67,11 +67,11 @@ differs false g next is = (λ no. refl, λ yes same. absurd (cc (is.1 same)))
 
 -- The resulting table has each property that both tables have.
 module _ (Q : GPT → Type 0) (dry needed : Bool) (g next new : GPT) (has : Q g) (next_has : Q next) where
-  new_has : (answer : Planned Outcome) → TellsOf needed dry g next new answer → Q new
+  new_has : (answer : Planned Outcome) → IsDecided needed dry g next new answer → Q new
   new_has (Write answer) is = subst Q (sym is.0) next_has
   new_has (Leave answer) is = subst Q (sym is.0) has
 
-  pub all_have : (r : Result (Planned Outcome) Error) → IfOk r (TellsOf needed dry g next new) → OnOk r (Q new)
+  pub all_have : (r : Result (Planned Outcome) Error) → IfOk r (IsDecided needed dry g next new) → OnOk r (Q new)
   all_have (Ok answer) is = new_has answer is
   all_have (Err e) is = tt
 

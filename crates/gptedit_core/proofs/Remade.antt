@@ -2,18 +2,18 @@
 use Rattle.std.proofs.Common.{◌≡◌, ◌≢◌, ◌⊎◌, ◌↔◌, IsTrue, inl, inr, refl, sym, ap, ◌∙◌, subst, ℕ, ◌+◌, ◌-◌, ◌*◌, ◌/◌, ◌≤◌, Bool, true, false, List, [], Ok, Option, min, max, arith}
 use Rattle.std.proofs.Math.Nat.{one-mul}
 use Rattle.gptman.specs.Copy.{IsCoherent}
-use Rattle.gptman.specs.Crash.{other_side, IsKeptFor, IsReadInForm}
+use Rattle.gptman.specs.Crash.{other_place, IsKeptFor, IsReadInForm}
 use Rattle.gptman.specs.Disk.{DiskState}
 use Rattle.gptman.specs.Layout.{HasLayout, Holds, copy_ranges_at}
 use Rattle.gptman.specs.Ranges.{AreClear}
-use Rattle.gptman.specs.Reading.{Side, primary, backup, copy_in}
+use Rattle.gptman.specs.Reading.{CopyPlace, primary, backup, copy_in}
 use Rattle.gptman.specs.Table.{Table, entries_in, table_in, IsHeaderForm}
 use Rattle.gptman.specs.TableReads.{copy_of, MayBeRead}
 use Rattle.gptman.specs.declared.table.GPT.{GPT}
 use Rattle.gptman_change.specs.Changes.{begun, unwritten, written, IsSafe, LeavesChange, StartsGood, StartsGoodFor, StopsLeaveEither}
 use Rattle.gptman_change.specs.Reads.{size_for}
 use Rattle.gptman_change.proofs.Safe.{unwritten_safe}
-use Rattle.gptedit_core.specs.Making.{put_at, side_of, HasOrder, IsRemade, IsSafeOrder, IsWrittenAnew, SafeOrdersKeepACopy}
+use Rattle.gptedit_core.specs.Making.{put_at, copy_place_of, HasOrder, IsRemade, IsSafeOrder, IsWrittenAnew, SafeOrdersKeepACopy}
 use Rattle.gptedit_core.specs.declared.making.Creation.{Creation}
 use Rattle.gptedit_core.proofs.Bounded.{new_coherent, new_sector}
 use Rattle.gptedit_core.proofs.Ordered.{side_first, side_second}
@@ -39,21 +39,21 @@ not_both g len layout second first =
     never_apart g.sector_size ((len / g.sector_size - 1) * g.sector_size) same t.apart.0.1.0
 
 -- In the stated layout the form of a header is that of its place.
-form_there : (side : Side) (g : GPT) (len : ℕ) → HasLayout g len → IsHeaderForm side g.header → side_of g.header ≡ side
+form_there : (side : CopyPlace) (g : GPT) (len : ℕ) → HasLayout g len → IsHeaderForm side g.header → copy_place_of g.header ≡ side
 form_there primary g len layout form = side_first g.header form.0
 form_there backup g len layout form = side_second g.header (not_both g len layout form.0)
 
-pub form_at : (g : GPT) (len : ℕ) → HasLayout g len → IsHeaderForm (side_of g.header) g.header
-form_at g len layout = subst (λ (side : Side). IsHeaderForm side g.header) (sym (form_there layout.side g len layout layout.form)) layout.form
+pub form_at : (g : GPT) (len : ℕ) → HasLayout g len → IsHeaderForm (copy_place_of g.header) g.header
+form_at g len layout = subst (λ (side : CopyPlace). IsHeaderForm side g.header) (sym (form_there layout.side g len layout layout.form)) layout.form
 
 -- ---- consequences of a safe order
 
 module _ (disk : DiskState) (g next : GPT) (synced : disk.pending ≡ []) (read : IsReadInForm disk.view g) (order : IsSafeOrder g next disk.size) where
-  there : side_of g.header ≡ read.side
+  there : copy_place_of g.header ≡ read.side
   there = form_there read.side g disk.size order.layout read.form
 
-  next_form : IsHeaderForm (side_of g.header) next.header
-  next_form = subst (λ (side : Side). IsHeaderForm side next.header) order.place.side (form_at next disk.size order.next_layout)
+  next_form : IsHeaderForm (copy_place_of g.header) next.header
+  next_form = subst (λ (side : CopyPlace). IsHeaderForm side next.header) order.place.side (form_at next disk.size order.next_layout)
 
   held : Holds disk.view g.sector_size read.side (table_in g)
   held = record { copy = copy_of g; accepted = read.accepted; form = record { table = refl; form = read.form } }
@@ -61,11 +61,11 @@ module _ (disk : DiskState) (g next : GPT) (synced : disk.pending ≡ []) (read 
   kept : IsKeptFor disk next (table_in g)
   kept = record {
     synced = synced;
-    side = side_of g.header;
+    side = copy_place_of g.header;
     form = next_form;
-    held = subst (λ (n : ℕ). Holds disk.view n (side_of g.header) (table_in g)) (sym order.place.sector)
-        (subst (λ (side : Side). Holds disk.view g.sector_size side (table_in g)) (sym there) held);
-    clear = subst (λ (n : ℕ). AreClear (copy_ranges_at (side_of g.header) (table_in g) n disk.size) (copy_ranges_at (other_side (side_of g.header)) (table_in next) next.sector_size disk.size))
+    held = subst (λ (n : ℕ). Holds disk.view n (copy_place_of g.header) (table_in g)) (sym order.place.sector)
+        (subst (λ (side : CopyPlace). Holds disk.view g.sector_size side (table_in g)) (sym there) held);
+    clear = subst (λ (n : ℕ). AreClear (copy_ranges_at (copy_place_of g.header) (table_in g) n disk.size) (copy_ranges_at (other_place (copy_place_of g.header)) (table_in next) next.sector_size disk.size))
         (sym order.place.sector) order.clear;
   }
 
@@ -79,7 +79,7 @@ record IsOfTable (view : List ℕ) (g : GPT) (was : Table) : Type 0 where
   same : table_in g ≡ was
   read : IsReadInForm view g
 
-of_place : (disk : DiskState) (ss : ℕ) (g : GPT) (was : Table) (place : Side) → StartsGood disk ss was → g.sector_size ≡ ss → copy_in place disk.view g.sector_size ≡ Ok (copy_of g)
+of_place : (disk : DiskState) (ss : ℕ) (g : GPT) (was : Table) (place : CopyPlace) → StartsGood disk ss was → g.sector_size ≡ ss → copy_in place disk.view g.sector_size ≡ Ok (copy_of g)
     → IsOfTable disk.view g was
 of_place disk ss g was place good sector accepted =
     let form = good.only place (copy_of g) (subst (λ (n : ℕ). copy_in place disk.view n ≡ Ok (copy_of g)) sector accepted) in
@@ -113,18 +113,18 @@ safe_anew creation size was old new keeps good (written table next answer read m
 
 -- ---- the new table in the form of the old one
 
-put_sector : (side : Side) (g : GPT) → (put_at side g).sector_size ≡ g.sector_size
+put_sector : (side : CopyPlace) (g : GPT) → (put_at side g).sector_size ≡ g.sector_size
 put_sector primary g = refl
 put_sector backup g = refl
 
-put_coherent : (side : Side) (g : GPT) → IsCoherent g.header (entries_in g) → IsCoherent (put_at side g).header (entries_in (put_at side g))
+put_coherent : (side : CopyPlace) (g : GPT) → IsCoherent g.header (entries_in g) → IsCoherent (put_at side g).header (entries_in (put_at side g))
 put_coherent primary g is = is
 put_coherent backup g is = record { header_size = is.header_size; count = is.count; entry_size = is.entry_size }
 
 pub remade_sector : (creation : Creation) (len : ℕ) (g next : GPT) → IsRemade creation len g next → next.sector_size ≡ g.sector_size
 remade_sector creation len g next is =
-    ap (λ (m : GPT). m.sector_size) is.next_is ∙ put_sector (side_of g.header) is.made ∙ new_sector creation g.sector_size len is.made is.is_new
+    ap (λ (m : GPT). m.sector_size) is.next_is ∙ put_sector (copy_place_of g.header) is.made ∙ new_sector creation g.sector_size len is.made is.is_new
 
 pub remade_coherent : (creation : Creation) (len : ℕ) (g next : GPT) → IsRemade creation len g next → IsCoherent next.header (entries_in next)
 remade_coherent creation len g next is =
-    subst (λ (m : GPT). IsCoherent m.header (entries_in m)) (sym is.next_is) (put_coherent (side_of g.header) is.made (new_coherent creation g.sector_size len is.made is.is_new))
+    subst (λ (m : GPT). IsCoherent m.header (entries_in m)) (sym is.next_is) (put_coherent (copy_place_of g.header) is.made (new_coherent creation g.sector_size len is.made is.is_new))

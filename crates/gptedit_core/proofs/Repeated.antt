@@ -11,7 +11,7 @@ use Rattle.gptman.specs.Table.{entries_in}
 use Rattle.gptman.specs.TableWrites.{MayBeWritten}
 use Rattle.gptman.specs.declared.codec.entry.GPTPartitionEntry.{GPTPartitionEntry}
 use Rattle.gptman.specs.declared.table.GPT.{GPT}
-use Rattle.gptedit_core.specs.Laying.{align_asked, lowest_used, others_fault, removed_all, removed_one, without_entry, is_blank, ArePut, IsLaid, RefusesAsked}
+use Rattle.gptedit_core.specs.Applying.{align_asked, lowest_used, others_fault, removed_all, removed_one, without_entry, is_blank, ArePut, IsApplied, RefusesAsked}
 use Rattle.gptedit_core.specs.Named.{AreNumbered, AreThere, Asks, IsAgain, IsThere, IsUnnamed, IsWhole, LayoutsAreTakenAgain}
 use Rattle.gptedit_core.specs.Placing.{IsSpan}
 use Rattle.gptedit_core.specs.Planning.{asks_random, IsDone, RefusesCheck, RefusesJob}
@@ -21,22 +21,22 @@ use Rattle.gptedit_core.specs.Resolving.{and_then, entry_asked, lowest_unused, n
 use Rattle.gptedit_core.specs.declared.amount.Amount.{Amount}
 use Rattle.gptedit_core.specs.declared.asked.Asked.{Asked}
 use Rattle.gptedit_core.specs.declared.asked.Choice.{Choice}
-use Rattle.gptedit_core.specs.declared.asked.Layout.{Layout}
+use Rattle.gptedit_core.specs.declared.asked.RequestedLayout.{RequestedLayout}
 use Rattle.gptedit_core.specs.declared.asked.Mode.{Mode}
 use Rattle.gptedit_core.specs.declared.asked.Mode.TheVariants.{Add, Change, Become}
 use Rattle.gptedit_core.specs.declared.place.Place.{Place}
 use Rattle.gptedit_core.specs.declared.place.Place.TheVariants.{At, From, Free}
 use Rattle.gptedit_core.specs.declared.plan.Job.{Job}
-use Rattle.gptedit_core.specs.declared.plan.Job.TheVariants.{Lay}
+use Rattle.gptedit_core.specs.declared.plan.Job.TheVariants.{Apply}
 use Rattle.gptedit_core.specs.declared.refusal.Refusal.{Refusal}
 use Rattle.gptedit_core.specs.declared.refusal.Refusal.TheVariants.{IsUnused, NoEntry, NoSize, NoType, TooLarge}
-use Rattle.gptedit_core.specs.declared.resolve.Partition.{Partition}
+use Rattle.gptedit_core.specs.declared.resolve.ResolvedPartition.{ResolvedPartition}
 use Rattle.gptedit_core.specs.declared.resolve.Room.{Room}
 use Rattle.gptedit_core.specs.declared.resolve.Room.TheVariants.{Sectors as RoomSectors, Rest as RoomRest}
 use Rattle.gptedit_core.proofs.Again.{all_again, asked_again, is_first, layouts_stay, named_or, unnamed_more, used_of}
 use Rattle.gptedit_core.proofs.Dumped.{at_number, of_number, unless_ok, used_is, with_used, CoversFrom, HasNumber, OwnedBy}
 use Rattle.gptedit_core.proofs.Kept.{done_keeps, done_layout}
-use Rattle.gptedit_core.proofs.Laid.{change_named, cleared_keep, keep, other_entry, others_unused, put_stays, this_entry}
+use Rattle.gptedit_core.proofs.Applied.{change_named, cleared_keep, keep, other_entry, others_unused, put_stays, this_entry}
 use Rattle.gptedit_core.proofs.Resolved.{resolved_more, used_all, AreUsed}
 use Rattle.gptedit_core.proofs.Same.{put_same}
 use Rattle.gptedit_core.proofs.Steps.{and_then_ok, else_ok}
@@ -138,21 +138,21 @@ module _ (i first last : ℕ) (choice : Choice) (g : GPT) (ordered : first ≤ l
 -- ---- one entry that is requested again
 
 -- Its first requested place.
-first_place : (g : GPT) (mode : Mode) (a : Asked) (random : List ℕ) (p : Partition) → resolved g mode a random ≡ Ok p
+first_place : (g : GPT) (mode : Mode) (a : Asked) (random : List ℕ) (p : ResolvedPartition) → resolved g mode a random ≡ Ok p
     → (used : Option GPTPartitionEntry) × (place_asked mode a p.number used g.sector_size ≡ Ok p.place)
 first_place g mode a random p is =
     let number = and_then_ok (number_asked g a) (partition_at g mode a random) p is in
     let i : ℕ = number.0 in
     let used = used_at g i in
     let e : GPTPartitionEntry = entry_asked a used random in
-    let last : Place → Result Partition Refusal = λ place. if is_unused e then Err (NoType i) else Ok (record { number = i; entry = e; place = place }) in
+    let last : Place → Result ResolvedPartition Refusal = λ place. if is_unused e then Err (NoType i) else Ok (record { number = i; entry = e; place = place }) in
     let use_of = and_then_ok (unless (use_fault mode i used) i) (λ (j : ℕ). and_then (place_asked mode a i used g.sector_size) last) p number.2 in
     let place = and_then_ok (place_asked mode a i used g.sector_size) last p use_of.2 in
     let end = else_ok (is_unused e) (NoType i) (record { number = i; entry = e; place = place.0 }) p place.2 in
-    (used, subst (λ (q : Partition). place_asked mode a q.number used g.sector_size ≡ Ok q.place) end.1 place.1)
+    (used, subst (λ (q : ResolvedPartition). place_asked mode a q.number used g.sector_size ≡ Ok q.place) end.1 place.1)
 
 -- Requested again, an entry that was put is that entry.
-resolved_again : (g t next : GPT) (mode : Mode) (a : Asked) (random other : List ℕ) (i : ℕ) (p : Partition) → a.number ≡ Some i → resolved g mode a random ≡ Ok p
+resolved_again : (g t next : GPT) (mode : Mode) (a : Asked) (random other : List ℕ) (i : ℕ) (p : ResolvedPartition) → a.number ≡ Some i → resolved g mode a random ≡ Ok p
     → next.sector_size ≡ g.sector_size → entry_of_number next p.number ≡ Some (entry_at next p.number) → IsPlaced (entry_at next p.number) → IsThere p t next
     → resolved next (Become false) a other ≡ Ok (own_partition p.number (entry_at next p.number))
 resolved_again g t next mode a random other i p number_is is sector found placed there =
@@ -176,7 +176,7 @@ resolved_again g t next mode a random other i p number_is is sector found placed
     asked_place n there.first there.last a.choice t fits.0 fits.1 mode a asked.0 g.sector_size p.place y refl refl refl asked.1 there.span in
     let here : place_asked (Become false) a n (Some y) next.sector_size ≡ Ok (At there.first there.last) =
     subst (λ (ss : ℕ). place_asked (Become false) a n (Some y) ss ≡ Ok (At there.first there.last)) (sym sector) place in
-    let whole_of : GPTPartitionEntry → Place → Result Partition Refusal = λ e place. if is_unused e then Err (NoType n) else Ok (record { number = n; entry = e; place = place }) in
+    let whole_of : GPTPartitionEntry → Place → Result ResolvedPartition Refusal = λ e place. if is_unused e then Err (NoType n) else Ok (record { number = n; entry = e; place = place }) in
     let same : y ≡ entry_asked a (Some y) other = sym (asked_again a first.x other there.first there.last) in
     let plain : and_then (place_asked (Become false) a n (Some y) next.sector_size) (whole_of y) ≡ Ok (own_partition n y) =
     ap (λ (r : Result Place Refusal). and_then r (whole_of y)) here ∙ has_type (is_unused y) n (own_partition n y) used in
@@ -187,43 +187,43 @@ resolved_again g t next mode a random other i p number_is is sector found placed
     let number : number_asked next a ≡ Ok n =
     subst (λ (o : Option ℕ). number_asked_or next o (lowest_unused next) ≡ Ok n) (ap Some (sym first.number) ∙ sym number_is)
     (subst (λ (o : Option GPTPartitionEntry). ◌≡◌ {A = Result ℕ Refusal} (elim o [ None ↦ Err (NoEntry n) | Some x ↦ Ok n ]) (Ok n)) (sym is_found) refl) in
-    let end : ◌≡◌ {A = Result Partition Refusal} (Ok (own_partition n y)) (Ok (own_partition n (entry_at next n))) = ap (λ (e : GPTPartitionEntry). Ok (own_partition n e)) (sym put) in
+    let end : ◌≡◌ {A = Result ResolvedPartition Refusal} (Ok (own_partition n y)) (Ok (own_partition n (entry_at next n))) = ap (λ (e : GPTPartitionEntry). Ok (own_partition n e)) (sym put) in
     ap (λ (r : Result ℕ Refusal). and_then r (partition_at next (Become false) a other)) number ∙ (ap (with_used next a other n) at ∙ (part ∙ end))
 
 -- ---- all entries
 -- The entries under the numbers of the partitions, as partitions.
-abbrev those_there : GPT → List Partition → List Partition
+abbrev those_there : GPT → List ResolvedPartition → List ResolvedPartition
 those_there next [] = []
 those_there next (p ∷ ps) = own_partition p.number (entry_at next p.number) ∷ those_there next ps
 
 -- Each of them has a number.
-abbrev AllFound : GPT → List Partition → Type 0
+abbrev AllFound : GPT → List ResolvedPartition → Type 0
 AllFound next [] = Unit {0}
 AllFound next (p ∷ ps) = ((entry_of_number next p.number ≡ Some (entry_at next p.number)) × IsPlaced (entry_at next p.number)) × AllFound next ps
 
-all_resolved_again : (g t next : GPT) (mode : Mode) (asked : List Asked) (randoms others : List (List ℕ)) (ps : List Partition) → AreNumbered asked
+all_resolved_again : (g t next : GPT) (mode : Mode) (asked : List Asked) (randoms others : List (List ℕ)) (ps : List ResolvedPartition) → AreNumbered asked
     → length asked ≤ length randoms → length asked ≤ length others → next.sector_size ≡ g.sector_size → AllFound next ps
     → resolved_all g mode asked randoms ≡ Ok ps → AreThere ps t next → resolved_all next (Become false) asked others ≡ Ok (those_there next ps)
 all_resolved_again g t next mode [] randoms others ps numbered long more sector found all there =
-    let none : [] ≡ ps = cc in ap (λ (qs : List Partition). Ok (those_there next qs)) none
+    let none : [] ≡ ps = cc in ap (λ (qs : List ResolvedPartition). Ok (those_there next qs)) none
 all_resolved_again g t next mode (a ∷ asked) [] others ps numbered long more sector found all there = absurd (omega (arith, long))
 all_resolved_again g t next mode (a ∷ asked) (random ∷ randoms) [] ps numbered long more sector found all there = absurd (omega (arith, more))
 all_resolved_again g t next mode (a ∷ asked) (random ∷ randoms) (other ∷ others) ps numbered long more sector found all there =
     let p = and_then_ok (resolved g mode a random) _ ps all in
     let rest = and_then_ok (resolved_all g mode asked randoms) _ ps p.2 in
     let whole : p.0 ∷ rest.0 ≡ ps = cc in
-    let both : AreThere (p.0 ∷ rest.0) t next = subst (λ (xs : List Partition). AreThere xs t next) (sym whole) there in
+    let both : AreThere (p.0 ∷ rest.0) t next = subst (λ (xs : List ResolvedPartition). AreThere xs t next) (sym whole) there in
     let have : AllFound next (p.0 ∷ rest.0) = subst (AllFound next) (sym whole) found in
     let one = resolved_again g t next mode a random other numbered.0.0 p.0 numbered.0.1 p.1 sector have.0.0 have.0.1 both.0 in
     let others_again = all_resolved_again g (with_entry t p.0.number (entry_at next p.0.number)) next mode asked randoms others rest.0 numbered.1 (omega (arith, long)) (omega (arith, more)) sector have.1 rest.1 both.1 in
-    let end : ◌≡◌ {A = Result (List Partition) Refusal} (Ok (those_there next (p.0 ∷ rest.0))) (Ok (those_there next ps)) = ap (λ (qs : List Partition). Ok (those_there next qs)) whole in
+    let end : ◌≡◌ {A = Result (List ResolvedPartition) Refusal} (Ok (those_there next (p.0 ∷ rest.0))) (Ok (those_there next ps)) = ap (λ (qs : List ResolvedPartition). Ok (those_there next qs)) whole in
     resolved_more next (Become false) a other asked others (own_partition p.0.number (entry_at next p.0.number)) (those_there next rest.0) one others_again
     ∙ end
 
 -- ---- their numbers
 
 -- Each partition that was put has a number of the table,
-numbers_found : (g next : GPT) (ps : List Partition) (last : GPT) → ArePut ps g last → length (entries_in next) ≡ length (entries_in g) → All IsPlaced (entries_in next) → AllFound next ps
+numbers_found : (g next : GPT) (ps : List ResolvedPartition) (last : GPT) → ArePut ps g last → length (entries_in next) ≡ length (entries_in g) → All IsPlaced (entries_in next) → AllFound next ps
 numbers_found g next [] last put long placed = tt
 numbers_found g next (p ∷ ps) last put long placed =
     let number = put.1.number in
@@ -236,37 +236,37 @@ numbers_found g next (p ∷ ps) last put long placed =
     ((found, is_placed), numbers_found put.0 next ps last put.2 (long ∙ sym mid) placed)
 
 -- and no partition has the number of a used entry.
-unnamed_where : (ps : List Partition) (g last : GPT) (j : ℕ) → ArePut ps g last → 1 ≤ j → (¬ IsTrue (is_unused (entry_at g j))) → IsUnnamed j ps
+unnamed_where : (ps : List ResolvedPartition) (g last : GPT) (j : ℕ) → ArePut ps g last → 1 ≤ j → (¬ IsTrue (is_unused (entry_at g j))) → IsUnnamed j ps
 unnamed_where [] g last j put low used = λ k d below. absurd (omega (arith, below))
 unnamed_where (p ∷ ps) g last j put low used =
     let kept = put_stays p g put.0 j put.1 low used in
     unnamed_more j p ps (λ same. used (subst (λ (n : ℕ). IsTrue (is_unused (entry_at g n))) same put.1.unused))
     (unnamed_where ps put.0 last j put.2 low (λ unused. used (subst (λ (e : GPTPartitionEntry). IsTrue (is_unused e)) kept unused)))
 
-differ_put : (ps : List Partition) (g last : GPT) → ArePut ps g last → AreUsed ps → DifferInNumber ps
+differ_put : (ps : List ResolvedPartition) (g last : GPT) → ArePut ps g last → AreUsed ps → DifferInNumber ps
 differ_put [] g last put used = tt
 differ_put (p ∷ ps) g last put used =
     let entry : GPTPartitionEntry = record p.entry { starting_lba = put.1.first; ending_lba = put.1.last } in
     let here : entry_at put.0 p.number ≡ entry = subst (λ (m : GPT). entry_at m p.number ≡ entry) (sym put.1.next_is) (this_entry g p.number entry put.1.number) in
     (unnamed_where ps put.0 last p.number put.2 put.1.number.0 (λ unused. used.0 (subst (λ (e : GPTPartitionEntry). IsTrue (is_unused e)) here unused)), differ_put ps put.0 last put.2 used.1)
 
-unnamed_there : (next : GPT) (j : ℕ) (ps : List Partition) → IsUnnamed j ps → IsUnnamed j (those_there next ps)
+unnamed_there : (next : GPT) (j : ℕ) (ps : List ResolvedPartition) → IsUnnamed j ps → IsUnnamed j (those_there next ps)
 unnamed_there next j [] unnamed = λ k d below. absurd (omega (arith, below))
 unnamed_there next j (p ∷ ps) unnamed =
     unnamed_more j (own_partition p.number (entry_at next p.number)) (those_there next ps) (unnamed 0 p (omega arith))
     (unnamed_there next j ps (λ k d below. unnamed (suc k) d (omega (arith, below))))
 
-differ_there : (next : GPT) (ps : List Partition) → DifferInNumber ps → DifferInNumber (those_there next ps)
+differ_there : (next : GPT) (ps : List ResolvedPartition) → DifferInNumber ps → DifferInNumber (those_there next ps)
 differ_there next [] once = tt
 differ_there next (p ∷ ps) once = (unnamed_there next p.number ps once.0, differ_there next ps once.1)
 
-has_there : (next : GPT) (j : ℕ) (ps : List Partition) → HasNumber j ps → HasNumber j (those_there next ps)
+has_there : (next : GPT) (j : ℕ) (ps : List ResolvedPartition) → HasNumber j ps → HasNumber j (those_there next ps)
 has_there next j [] has = absurd has
 has_there next j (p ∷ ps) (inl same) = inl same
 has_there next j (p ∷ ps) (inr has) = inr (has_there next j ps has)
 
 -- A requested number is one of theirs.
-asks_has : (g : GPT) (mode : Mode) (asked : List Asked) (randoms : List (List ℕ)) (ps : List Partition) (j : ℕ) → length asked ≤ length randoms
+asks_has : (g : GPT) (mode : Mode) (asked : List Asked) (randoms : List (List ℕ)) (ps : List ResolvedPartition) (j : ℕ) → length asked ≤ length randoms
     → resolved_all g mode asked randoms ≡ Ok ps → Asks j asked → HasNumber j ps
 asks_has g mode [] randoms ps j long all asks = absurd asks
 asks_has g mode (a ∷ asked) [] ps j long all asks = absurd (omega (arith, long))
@@ -333,12 +333,12 @@ not_both : (b : Bool) → IsTrue b → ¬ IsTrue (not b)
 not_both true is other = absurd (cc)
 not_both false is other = absurd (cc)
 
-has_unnamed : (j : ℕ) (ps : List Partition) → HasNumber j ps → ¬ IsUnnamed j ps
+has_unnamed : (j : ℕ) (ps : List ResolvedPartition) → HasNumber j ps → ¬ IsUnnamed j ps
 has_unnamed j [] has unnamed = has
 has_unnamed j (p ∷ ps) (inl same) unnamed = unnamed 0 p (omega arith) same
 has_unnamed j (p ∷ ps) (inr has) unnamed = has_unnamed j ps has (λ k d below. unnamed (suc k) d (omega (arith, below)))
 
-covers_from : (ps : List Partition) (k : ℕ) (es : List GPTPartitionEntry)
+covers_from : (ps : List ResolvedPartition) (k : ℕ) (es : List GPTPartitionEntry)
     → ((m : ℕ) → m < length es → IsTrue (is_used (get_or es m empty_entry)) → HasNumber (k + m) ps) → CoversFrom ps k es
 covers_from ps k [] each = tt
 covers_from ps k (e ∷ es) each = (
@@ -350,63 +350,63 @@ covers_from ps k (e ∷ es) each = (
       subst (λ (n : ℕ). HasNumber n ps) shift (each (suc m) (omega (arith, below)) used)),
 )
 
-module _ (layout : Layout) (randoms : List (List ℕ)) (g next : GPT) (laid : IsLaid layout randoms g next) (long : length layout.asked.items ≤ length randoms) (whole : IsWhole layout g) where
-  kept : (j : ℕ) → 1 ≤ j → IsUnnamed j laid.partitions → entry_at next j ≡ entry_at laid.free j
-  kept j low unnamed = ap (λ (m : GPT). entry_at m j) laid.next_is ∙ keep laid.partitions laid.free laid.last j laid.put low unnamed
+module _ (layout : RequestedLayout) (randoms : List (List ℕ)) (g next : GPT) (applied : IsApplied layout randoms g next) (long : length layout.asked.items ≤ length randoms) (whole : IsWhole layout g) where
+  kept : (j : ℕ) → 1 ≤ j → IsUnnamed j applied.partitions → entry_at next j ≡ entry_at applied.free j
+  kept j low unnamed = ap (λ (m : GPT). entry_at m j) applied.next_is ∙ keep applied.partitions applied.free applied.last j applied.put low unnamed
 
-  left_by : (j : ℕ) (b : Bool) → is_unused (entry_at laid.rest j) ≡ b → 1 ≤ j → IsUnnamed j laid.partitions
-      → ((i : ℕ) → 1 ≤ i → IsTrue (is_used (entry_at g i)) → Asks i layout.asked.items ⊎ Contains layout.removed.items i) → IsTrue (is_unused (entry_at laid.rest j))
+  left_by : (j : ℕ) (b : Bool) → is_unused (entry_at applied.rest j) ≡ b → 1 ≤ j → IsUnnamed j applied.partitions
+      → ((i : ℕ) → 1 ≤ i → IsTrue (is_used (entry_at g i)) → Asks i layout.asked.items ⊎ Contains layout.removed.items i) → IsTrue (is_unused (entry_at applied.rest j))
   left_by j true is low unnamed named = is
   left_by j false is low unnamed named =
       let still : ¬ IsTrue (is_unused (entry_at g j)) = λ unused.
-      let no = removed_unused layout.removed.items (record g { align = laid.align }) laid.rest j laid.removed low unused in absurd (cc) in
+      let no = removed_unused layout.removed.items (record g { align = applied.align }) applied.rest j applied.removed low unused in absurd (cc) in
       elim (named j low (used_of (is_unused (entry_at g j)) still)) [
-        | inl asks ↦ absurd (has_unnamed j laid.partitions (asks_has g layout.mode layout.asked.items randoms laid.partitions j long laid.asked asks) unnamed)
-        | inr removed ↦ removed_gone layout.removed.items (record g { align = laid.align }) laid.rest j removed.0 laid.removed low removed.1 removed.2
+        | inl asks ↦ absurd (has_unnamed j applied.partitions (asks_has g layout.mode layout.asked.items randoms applied.partitions j long applied.asked asks) unnamed)
+        | inr removed ↦ removed_gone layout.removed.items (record g { align = applied.align }) applied.rest j removed.0 applied.removed low removed.1 removed.2
       ]
 
-  left : (j : ℕ) → 1 ≤ j → IsUnnamed j laid.partitions → IsWhole layout g → IsTrue (is_unused (entry_at next j))
+  left : (j : ℕ) → 1 ≤ j → IsUnnamed j applied.partitions → IsWhole layout g → IsTrue (is_unused (entry_at next j))
   left j low unnamed (inl mode) =
-      let others = subst (λ (m : Mode). others_fault m laid.free ≡ None) mode laid.others in
-      subst (λ (e : GPTPartitionEntry). IsTrue (is_unused e)) (sym (kept j low unnamed)) (others_unused laid.free j (lowest_used laid.free) refl others)
+      let others = subst (λ (m : Mode). others_fault m applied.free ≡ None) mode applied.others in
+      subst (λ (e : GPTPartitionEntry). IsTrue (is_unused e)) (sym (kept j low unnamed)) (others_unused applied.free j (lowest_used applied.free) refl others)
   left j low unnamed (inr named) =
-      let before = cleared_keep laid.partitions laid.rest laid.free j laid.clear low unnamed in
-      subst (λ (e : GPTPartitionEntry). IsTrue (is_unused e)) (sym (kept j low unnamed ∙ before)) (left_by j (is_unused (entry_at laid.rest j)) refl low unnamed named)
+      let before = cleared_keep applied.partitions applied.rest applied.free j applied.clear low unnamed in
+      subst (λ (e : GPTPartitionEntry). IsTrue (is_unused e)) (sym (kept j low unnamed ∙ before)) (left_by j (is_unused (entry_at applied.rest j)) refl low unnamed named)
 
-  covered_by : (m : ℕ) → IsTrue (is_used (get_or (entries_in next) m empty_entry)) → (HasNumber (suc m) laid.partitions ⊎ IsUnnamed (suc m) laid.partitions)
-      → HasNumber (suc m) (those_there next laid.partitions)
-  covered_by m used (inl has) = has_there next (suc m) laid.partitions has
+  covered_by : (m : ℕ) → IsTrue (is_used (get_or (entries_in next) m empty_entry)) → (HasNumber (suc m) applied.partitions ⊎ IsUnnamed (suc m) applied.partitions)
+      → HasNumber (suc m) (those_there next applied.partitions)
+  covered_by m used (inl has) = has_there next (suc m) applied.partitions has
   covered_by m used (inr unnamed) =
       let unused = left (suc m) (omega arith) unnamed whole in
       let here : IsTrue (is_unused (get_or (entries_in next) m empty_entry)) = subst (λ (e : GPTPartitionEntry). IsTrue (is_unused e)) (at_number next m (suc m) (omega arith)) unused in
       absurd (not_both (is_unused (get_or (entries_in next) m empty_entry)) here used)
 
-  covers_next : CoversFrom (those_there next laid.partitions) 1 (entries_in next)
-  covers_next = covers_from (those_there next laid.partitions) 1 (entries_in next) (λ m below used.
+  covers_next : CoversFrom (those_there next applied.partitions) 1 (entries_in next)
+  covers_next = covers_from (those_there next applied.partitions) 1 (entries_in next) (λ m below used.
       let shift : suc m ≡ 1 + m = omega arith in
-      subst (λ (n : ℕ). HasNumber n (those_there next laid.partitions)) shift (covered_by m used (named_or (suc m) laid.partitions)))
+      subst (λ (n : ℕ). HasNumber n (those_there next applied.partitions)) shift (covered_by m used (named_or (suc m) applied.partitions)))
 
 -- ---- the whole layout
 
-module _ (g next : GPT) (layout again : Layout) (randoms others : List (List ℕ)) (numbered : AreNumbered layout.asked.items) (is_again : IsAgain layout again) (whole : IsWhole layout g)
-    (long : length layout.asked.items ≤ length randoms) (more : length layout.asked.items ≤ length others) (laid : IsLaid layout randoms g next) (placed : All IsPlaced (entries_in next)) where
-  abbrev own : List Partition
-  own = those_there next laid.partitions
+module _ (g next : GPT) (layout again : RequestedLayout) (randoms others : List (List ℕ)) (numbered : AreNumbered layout.asked.items) (is_again : IsAgain layout again) (whole : IsWhole layout g)
+    (long : length layout.asked.items ≤ length randoms) (more : length layout.asked.items ≤ length others) (applied : IsApplied layout randoms g next) (placed : All IsPlaced (entries_in next)) where
+  abbrev own : List ResolvedPartition
+  own = those_there next applied.partitions
 
   sector : next.sector_size ≡ g.sector_size
-  sector = (done_keeps (Lay layout) randoms g next laid).sector
+  sector = (done_keeps (Apply layout) randoms g next applied).sector
 
-  found : AllFound next laid.partitions
+  found : AllFound next applied.partitions
   found =
-      let put : length (entries_in laid.last) ≡ length (entries_in laid.free) =
-      put_same (λ (m : GPT). length (entries_in m)) (λ m i e. length-set (entries_in m) (i - 1) e) laid.partitions laid.free laid.last laid.put in
-      numbers_found laid.free next laid.partitions laid.last laid.put (ap (λ (m : GPT). length (entries_in m)) laid.next_is ∙ put) placed
+      let put : length (entries_in applied.last) ≡ length (entries_in applied.free) =
+      put_same (λ (m : GPT). length (entries_in m)) (λ m i e. length-set (entries_in m) (i - 1) e) applied.partitions applied.free applied.last applied.put in
+      numbers_found applied.free next applied.partitions applied.last applied.put (ap (λ (m : GPT). length (entries_in m)) applied.next_is ∙ put) placed
 
-  there_now : AreThere laid.partitions laid.free next
-  there_now = (change_named layout randoms g next laid).named
+  there_now : AreThere applied.partitions applied.free next
+  there_now = (change_named layout randoms g next applied).named
 
   resolves : resolved_all next (Become false) layout.asked.items others ≡ Ok own
-  resolves = all_resolved_again g laid.free next layout.mode layout.asked.items randoms others laid.partitions numbered long more sector found laid.asked there_now
+  resolves = all_resolved_again g applied.free next layout.mode layout.asked.items randoms others applied.partitions numbered long more sector found applied.asked there_now
 
   resolves_again : resolved_all next again.mode again.asked.items others ≡ Ok own
   resolves_again =
@@ -414,16 +414,16 @@ module _ (g next : GPT) (layout again : Layout) (randoms others : List (List ℕ
       (subst (λ (items : List Asked). resolved_all next (Become false) items others ≡ Ok own) (sym is_again.asked) resolves)
 
   owned : OwnedBy next own
-  owned = all_again g laid.free next layout.mode layout.asked.items randoms others laid.partitions own numbered long more laid.asked there_now resolves
+  owned = all_again g applied.free next layout.mode layout.asked.items randoms others applied.partitions own numbered long more applied.asked there_now resolves
 
   once : DifferInNumber own
-  once = differ_there next laid.partitions (differ_put laid.partitions laid.free laid.last laid.put (used_all g layout.mode layout.asked.items randoms laid.partitions laid.asked))
+  once = differ_there next applied.partitions (differ_put applied.partitions applied.free applied.last applied.put (used_all g layout.mode layout.asked.items randoms applied.partitions applied.asked))
 
-  align_is : align_asked again.align next.sector_size ≡ Ok laid.align
-  align_is = ap (λ (amount : Amount). align_asked amount next.sector_size) is_again.align ∙ (ap (align_asked layout.align) sector ∙ laid.is_align)
+  align_is : align_asked again.align next.sector_size ≡ Ok applied.align
+  align_is = ap (λ (amount : Amount). align_asked amount next.sector_size) is_again.align ∙ (ap (align_asked layout.align) sector ∙ applied.is_align)
 
   taken_again : (r : Refusal) → ¬ RefusesAsked again others next r
-  taken_again = not_refused_where next again others own laid.align resolves_again owned (covers_next layout randoms g next laid long whole) once is_again.mode is_again.removed align_is
+  taken_again = not_refused_where next again others own applied.align resolves_again owned (covers_next layout randoms g next applied long whole) once is_again.mode is_again.removed align_is
 
 not_written_again : (g : GPT) (len : ℕ) (r : Refusal) → MayBeWritten g len → ¬ RefusesCheck g r
 not_written_again g len r may (shared clash told) = clash may.valid.own_guids
@@ -431,19 +431,19 @@ not_written_again g len r may (boundaries differ bad told) = bad may.valid.bound
 
 pub taken_twice : LayoutsAreTakenAgain
 taken_twice g next len layout again request other r job job_again numbered is_again whole long more planned refused =
-    let laid : IsLaid layout request.random.items g next = subst (λ (j : Job). IsDone j request.random.items g next) job planned.done in
+    let applied : IsApplied layout request.random.items g next = subst (λ (j : Job). IsDone j request.random.items g next) job planned.done in
     let enough : length layout.asked.items ≤ length request.random.items = subst (λ (j : Job). asks_random j (length request.random.items)) job long in
     let enough_again : length again.asked.items ≤ length other.random.items = subst (λ (j : Job). asks_random j (length other.random.items)) job_again more in
     let enough_other : length layout.asked.items ≤ length other.random.items = subst (λ (items : List Asked). length items ≤ length other.random.items) is_again.asked enough_again in
-    let has = done_layout (Lay layout) request.random.items g next len laid planned.layout in
+    let has = done_layout (Apply layout) request.random.items g next len applied planned.layout in
     let placed = all_placed next len has planned.may.valid in
     elim refused [
       | not_laid_out lacks told ↦ lacks has
       | not_done laid_out stop ↦
-          taken_again g next layout again request.random.items other.random.items numbered is_again whole enough enough_other laid placed r
+          taken_again g next layout again request.random.items other.random.items numbered is_again whole enough enough_other applied placed r
           (subst (λ (j : Job). RefusesJob j other.random.items next r) job_again stop)
       | not_written after laid_out done stop ↦
-          let twice : IsLaid again other.random.items next after = subst (λ (j : Job). IsDone j other.random.items next after) job_again done in
-          let same : after ≡ next = layouts_stay g next after layout again request.random.items other.random.items numbered is_again enough enough_other laid twice in
+          let twice : IsApplied again other.random.items next after = subst (λ (j : Job). IsDone j other.random.items next after) job_again done in
+          let same : after ≡ next = layouts_stay g next after layout again request.random.items other.random.items numbered is_again enough enough_other applied twice in
           not_written_again next len r planned.may (subst (λ (m : GPT). RefusesCheck m r) same stop)
     ]

@@ -54,7 +54,7 @@ read_primary : (old new : DiskState) (ss : ℕ) (was : Table) (g : GPT) → Star
 read_primary old new ss was g good (inl first) =
     let same : good.held.copy ≡ copy_of g = cc (good.held.accepted, first) in
     subst (IsForm primary was) same good.held.form
-read_primary old new ss was g good (inr second) = absurd (good.alone (copy_of g) second.0)
+read_primary old new ss was g good (inr second) = absurd (good.no_backup (copy_of g) second.0)
 
 -- If nothing is written, a crash leaves it.
 still_held : (old new : DiskState) (ss : ℕ) (was : Table) → StartsPrimary old ss was → OnlyRead old new → (b : List ℕ) → AgreesOutside [] old.view b → HoldsOneOf b ss (was ∷ [])

@@ -5,10 +5,10 @@ use Rattle.gptman.specs.Coding.{empty_entry}
 use Rattle.gptman.specs.Number.{entry_of_number, with_entry}
 use Rattle.gptman.specs.declared.codec.entry.GPTPartitionEntry.{GPTPartitionEntry}
 use Rattle.gptman.specs.declared.table.GPT.{GPT}
-use Rattle.gptedit_core.specs.Laying.{cleared, removed_all, removed_one, without_entry, is_blank, ArePut}
+use Rattle.gptedit_core.specs.Applying.{cleared, removed_all, removed_one, without_entry, is_blank, ArePut}
 use Rattle.gptedit_core.specs.declared.refusal.Refusal.{Refusal}
 use Rattle.gptedit_core.specs.declared.refusal.Refusal.TheVariants.{IsUnused, NoEntry}
-use Rattle.gptedit_core.specs.declared.resolve.Partition.{Partition}
+use Rattle.gptedit_core.specs.declared.resolve.ResolvedPartition.{ResolvedPartition}
 use Rattle.gptedit_core.proofs.Steps.{and_then_ok, else_ok}
 
 module _ {X : Type 0} (f : GPT → X) (stays : (g : GPT) (i : ℕ) (e : GPTPartitionEntry) → f (with_entry g i e) ≡ f g) where
@@ -28,11 +28,11 @@ module _ {X : Type 0} (f : GPT → X) (stays : (g : GPT) (i : ℕ) (e : GPTParti
   one_cleared i g h next None is rest = absurd (cc)
   one_cleared i g h next (Some e) is rest = rest (with_entry g i empty_entry) is ∙ stays g i empty_entry
 
-  pub cleared_same : (ps : List Partition) (g h : GPT) → cleared ps g ≡ Ok h → f h ≡ f g
+  pub cleared_same : (ps : List ResolvedPartition) (g h : GPT) → cleared ps g ≡ Ok h → f h ≡ f g
   cleared_same [] g h done = let same : g ≡ h = cc in ap f (sym same)
   cleared_same (p ∷ ps) g h done = one_cleared p.number g h (cleared ps) (entry_of_number g p.number) done (λ m is. cleared_same ps m h is)
 
-  pub put_same : (ps : List Partition) (g h : GPT) → ArePut ps g h → f h ≡ f g
+  pub put_same : (ps : List ResolvedPartition) (g h : GPT) → ArePut ps g h → f h ≡ f g
   put_same [] g h is = ap f is
   put_same (p ∷ ps) g h is =
       let put = is.1 in

@@ -8,7 +8,7 @@ use Rattle.gptman.specs.declared.table.GPT.{GPT}
 use Rattle.gptedit_core.specs.declared.amount.Amount.TheVariants.{Sectors}
 use Rattle.gptedit_core.specs.declared.asked.Asked.{Asked}
 use Rattle.gptedit_core.specs.declared.asked.Choice.TheVariants.{First}
-use Rattle.gptedit_core.specs.declared.asked.Layout.{Layout}
+use Rattle.gptedit_core.specs.declared.asked.RequestedLayout.{RequestedLayout}
 use Rattle.gptedit_core.specs.declared.asked.Mode.TheVariants.{Become}
 use Rattle.gptedit_core.specs.declared.asked.Size.TheVariants.{Exactly}
 
@@ -35,7 +35,7 @@ asked_of_all [] = []
 asked_of_all (e ∷ es) = if is_used e.1 then asked_of e.0 e.1 ∷ asked_of_all es else asked_of_all es
 
 -- The layout has the GUID of the disk and requests each used entry unchanged. It replaces and removes nothing.
-pub record IsLayoutOf (g : GPT) (layout : Layout) : Type 0 where
+pub record IsLayoutOf (g : GPT) (layout : RequestedLayout) : Type 0 where
   pub mode : layout.mode ≡ Become false
   pub disk_guid : layout.disk_guid ≡ Some g.header.disk_guid
   pub align : layout.align ≡ Sectors g.align

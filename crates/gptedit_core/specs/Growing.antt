@@ -129,7 +129,7 @@ pub record StartsPrimary (disk : DiskState) (ss : ℕ) (was : Table) : Type 0 wh
   pub honest : IsHonest disk
   pub synced : disk.pending ≡ []
   pub held : Holds disk.view ss primary was
-  pub alone : (copy : Copy) → ¬ (copy_in backup disk.view ss ≡ Ok copy)
+  pub no_backup : (copy : Copy) → ¬ (copy_in backup disk.view ss ≡ Ok copy)
 
 -- StartsPrimary with sectors of a size that is given or found.
 abbrev pub StartsPrimaryFor : DiskState → Option ℕ → Table → Type 0

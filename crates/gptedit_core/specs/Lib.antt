@@ -1,6 +1,6 @@
 pub mod Dumping
 pub mod Growing
-pub mod Laying
+pub mod Applying
 pub mod Making
 pub mod Named
 pub mod Placing

@@ -1,13 +1,13 @@
 -- A new table, and the order of writes when it replaces an old one.
 use Rattle.std.specs.Prelude.{◌≡◌, ◌≤◌, ◌⊎◌, ◌+◌, ℕ, true, false, List, [], ◌∷◌, length, Option, Some, None, unwrap_or, nat_eq, if◌then◌else◌}
 use Rattle.gptman.specs.Answers.{IsFailure}
-use Rattle.gptman.specs.Crash.{other_side, AreReadAlone, IsKeptFor, IsReadInForm}
+use Rattle.gptman.specs.Crash.{other_place, AreReadFromEachCopy, IsKeptFor, IsReadInForm}
 use Rattle.gptman.specs.Disk.{DiskState, OnlyRead, Wrote}
 use Rattle.gptman.specs.Fault.{Fault, out_of_memory, overflow}
 use Rattle.gptman.specs.Fit.{fit_fault, new_header_of}
 use Rattle.gptman.specs.Layout.{HasLayout, copy_ranges_at}
 use Rattle.gptman.specs.Ranges.{AreClear}
-use Rattle.gptman.specs.Reading.{Side, primary, backup}
+use Rattle.gptman.specs.Reading.{CopyPlace, primary, backup}
 use Rattle.gptman.specs.Stop.{IsStored}
 use Rattle.gptman.specs.Table.{Table, new_table_of, table_in}
 use Rattle.gptman.specs.TableWrites.{table_ranges, MayBeWritten}
@@ -15,9 +15,9 @@ use Rattle.gptman.specs.Write.{other_header}
 use Rattle.gptman.specs.declared.table.GPT.{GPT}
 use Rattle.gptman.specs.declared.codec.header.GPTHeader.{GPTHeader}
 use Rattle.gptman_change.specs.Changes.{StopsLeaveEither}
-use Rattle.gptedit_core.specs.Laying.{IsLaid, RefusesAsked}
+use Rattle.gptedit_core.specs.Applying.{IsApplied, RefusesAsked}
 use Rattle.gptedit_core.specs.Planning.{IsLeftAs, IsWrittenAs, RefusesCheck}
-use Rattle.gptedit_core.specs.declared.asked.Layout.{Layout}
+use Rattle.gptedit_core.specs.declared.asked.RequestedLayout.{RequestedLayout}
 use Rattle.gptedit_core.specs.declared.making.Creation.{Creation}
 use Rattle.gptedit_core.specs.declared.making.Made.{Made}
 use Rattle.gptedit_core.specs.declared.making.Made.TheVariants.{New, Refused}
@@ -27,7 +27,7 @@ use Rattle.gptedit_core.specs.declared.refusal.Refusal.{Refusal}
 use Rattle.gptedit_core.specs.declared.refusal.Refusal.TheVariants.{NoSafeOrder, NotLaidOut, OutOfBounds, TooSmallFor}
 
 -- There are enough random GUIDs for the layout.
-abbrev pub has_random_for : Option Layout → ℕ → Type 0
+abbrev pub has_random_for : Option RequestedLayout → ℕ → Type 0
 has_random_for None n = Unit {0}
 has_random_for (Some layout) n = length layout.asked.items ≤ n
 
@@ -64,13 +64,13 @@ abbrev pub bounded : Creation → GPT → GPT
 bounded creation g = with_bounds g (first_asked creation g) (last_asked creation g)
 
 -- The layout, if there is one, was applied.
-abbrev pub IsLaidIf : Option Layout → List (List ℕ) → GPT → GPT → Type 0
-IsLaidIf None randoms g next = next ≡ g
-IsLaidIf (Some layout) randoms g next = IsLaid layout randoms g next
+abbrev pub IsAppliedIf : Option RequestedLayout → List (List ℕ) → GPT → GPT → Type 0
+IsAppliedIf None randoms g next = next ≡ g
+IsAppliedIf (Some layout) randoms g next = IsApplied layout randoms g next
 
-abbrev pub RefusesLaidIf : Option Layout → List (List ℕ) → GPT → Refusal → Type 0
-RefusesLaidIf None randoms g r = ⊥
-RefusesLaidIf (Some layout) randoms g r = RefusesAsked layout randoms g r
+abbrev pub RefusesAskedIf : Option RequestedLayout → List (List ℕ) → GPT → Refusal → Type 0
+RefusesAskedIf None randoms g r = ⊥
+RefusesAskedIf (Some layout) randoms g r = RefusesAsked layout randoms g r
 
 -- The table without partitions on a disk of len bytes.
 abbrev pub empty_of : Creation → ℕ → ℕ → GPT
@@ -99,7 +99,7 @@ IsEmpty creation ss len (Some g) = HasRoomOf creation ss len × (g ≡ empty_of 
 -- and the result may be written.
 pub record IsFilled (creation : Creation) (len : ℕ) (empty next : GPT) : Type 0 where
   pub bounds : HasBounds creation empty
-  pub laid : IsLaidIf creation.layout creation.random.items (bounded creation empty) next
+  pub applied : IsAppliedIf creation.layout creation.random.items (bounded creation empty) next
   pub may : MayBeWritten next len
 
 -- The new table, in primary form, on a disk of len bytes with sectors of ss bytes.
@@ -112,10 +112,10 @@ pub data RefusesNew (creation : Creation) (ss len : ℕ) (r : Refusal) : Type 0 
   too_small : ¬ HasRoomOf creation ss len → r ≡ TooSmallFor creation.entries → RefusesNew creation ss len r
   out_of_bounds : HasRoomOf creation ss len → ¬ HasBounds creation (empty_of creation ss len)
       → r ≡ OutOfBounds (empty_of creation ss len).header.first_usable_lba (empty_of creation ss len).header.last_usable_lba → RefusesNew creation ss len r
-  not_laid : HasRoomOf creation ss len → HasBounds creation (empty_of creation ss len)
-      → RefusesLaidIf creation.layout creation.random.items (bounded creation (empty_of creation ss len)) r → RefusesNew creation ss len r
+  not_applied : HasRoomOf creation ss len → HasBounds creation (empty_of creation ss len)
+      → RefusesAskedIf creation.layout creation.random.items (bounded creation (empty_of creation ss len)) r → RefusesNew creation ss len r
   not_valid : (next : GPT) → HasRoomOf creation ss len → HasBounds creation (empty_of creation ss len)
-      → IsLaidIf creation.layout creation.random.items (bounded creation (empty_of creation ss len)) next → RefusesCheck next r → RefusesNew creation ss len r
+      → IsAppliedIf creation.layout creation.random.items (bounded creation (empty_of creation ss len)) next → RefusesCheck next r → RefusesNew creation ss len r
 
 -- The new table, or why there is none.
 abbrev pub IsPlannedNew : Creation → ℕ → ℕ → Made → Type 0
@@ -125,11 +125,11 @@ IsPlannedNew creation ss len (Refused r) = RefusesNew creation ss len r
 -- ---- over an old table
 
 -- The place of the copy that a header describes.
-abbrev pub side_of : GPTHeader → Side
-side_of h = if nat_eq h.primary_lba 1 then primary else backup
+abbrev pub copy_place_of : GPTHeader → CopyPlace
+copy_place_of h = if nat_eq h.primary_lba 1 then primary else backup
 
--- A table in primary form, put into the form of a side.
-abbrev pub put_at : Side → GPT → GPT
+-- A table in primary form, put into the form of a place.
+abbrev pub put_at : CopyPlace → GPT → GPT
 put_at primary g = g
 put_at backup g = record g { header = other_header g.header }
 
@@ -137,18 +137,18 @@ put_at backup g = record g { header = other_header g.header }
 abbrev pub ranges_of : Copy → List (ℕ × ℕ)
 ranges_of copy = (copy.header.start, copy.header.length) ∷ (copy.entries.start, copy.entries.length) ∷ []
 
--- The two values have sectors of one size, and are in the form of the same side.
+-- The two values have sectors of one size, and are in the form of the same place.
 pub record AreOfOnePlace (g next : GPT) : Type 0 where
   pub sector : next.sector_size ≡ g.sector_size
-  pub side : side_of next.header ≡ side_of g.header
+  pub side : copy_place_of next.header ≡ copy_place_of g.header
 
--- On a disk of len bytes both values have the stated layout and are in the form of the same side, and the other copy
+-- On a disk of len bytes both values have the stated layout and are in the form of the same place, and the other copy
 -- of the new one, which is written first, does not overlap the copy of the old one that was read.
 pub record IsSafeOrder (g next : GPT) (len : ℕ) : Type 0 where
   pub place : AreOfOnePlace g next
   pub layout : HasLayout g len
   pub next_layout : HasLayout next len
-  pub clear : AreClear (copy_ranges_at (side_of g.header) (table_in g) g.sector_size len) (copy_ranges_at (other_side (side_of g.header)) (table_in next) next.sector_size len)
+  pub clear : AreClear (copy_ranges_at (copy_place_of g.header) (table_in g) g.sector_size len) (copy_ranges_at (other_place (copy_place_of g.header)) (table_in next) next.sector_size len)
 
 -- The old table has the stated layout, or the write may lose both.
 abbrev pub MayBeReplaced : Creation → GPT → ℕ → Type 0
@@ -163,7 +163,7 @@ HasOrder creation g next len = (creation.may_lose ≡ true) ⊎ IsSafeOrder g ne
 pub record IsRemade (creation : Creation) (len : ℕ) (g next : GPT) : Type 0 where
   pub made : GPT
   pub is_new : IsNew creation g.sector_size len made
-  pub next_is : next ≡ put_at (side_of g.header) made
+  pub next_is : next ≡ put_at (copy_place_of g.header) made
   pub order : HasOrder creation g next len
 
 -- No new table is made from the old one, for the first of these reasons that applies.
@@ -171,7 +171,7 @@ pub data RefusesRemaking (creation : Creation) (len : ℕ) (g : GPT) (r : Refusa
   not_laid_out : ¬ MayBeReplaced creation g len → r ≡ NotLaidOut → RefusesRemaking creation len g r
   not_new : MayBeReplaced creation g len → RefusesNew creation g.sector_size len r → RefusesRemaking creation len g r
   no_order : (made : GPT) → MayBeReplaced creation g len → IsNew creation g.sector_size len made
-      → ¬ HasOrder creation g (put_at (side_of g.header) made) len → r ≡ NoSafeOrder → RefusesRemaking creation len g r
+      → ¬ HasOrder creation g (put_at (copy_place_of g.header) made) len → r ≡ NoSafeOrder → RefusesRemaking creation len g r
 
 -- A new table is always written, even if it equals the old one.
 abbrev pub IsAlways : GPT → GPT → Type 0
@@ -190,12 +190,12 @@ IsLeftAnew creation len = IsLeftAs (IsRemade creation len) IsAlways (RefusesRema
 pub record IsOnDisk (next : GPT) (old new : DiskState) : Type 0 where
   pub wrote : Wrote (table_ranges next) old new
   pub stored : IsStored new next.sector_size (table_in next)
-  pub alone : AreReadAlone new.view next
+  pub each_copy : AreReadFromEachCopy new.view next
 
 -- After Ok the new table was written; or it was a dry run, or the table is refused, and the disk was only read.
 pub data AnswersMaking (creation : Creation) (ss : ℕ) (made : Made) (old new : DiskState) : Type 0 where
   is_made : (next : GPT) → IsNew creation ss old.size next → creation.is_dry ≡ false → IsOnDisk next old new → made ≡ New next → AnswersMaking creation ss made old new
-  is_told : (next : GPT) → IsNew creation ss old.size next → creation.is_dry ≡ true → OnlyRead old new → made ≡ New next → AnswersMaking creation ss made old new
+  is_dry_run : (next : GPT) → IsNew creation ss old.size next → creation.is_dry ≡ true → OnlyRead old new → made ≡ New next → AnswersMaking creation ss made old new
   is_refused : (r : Refusal) → RefusesNew creation ss old.size r → OnlyRead old new → made ≡ Refused r → AnswersMaking creation ss made old new
 
 -- An error has one of these reasons: an allocation failed, or the disk failed before the first write, and the disk

@@ -11,22 +11,22 @@ use Rattle.gptman.specs.Valid.{IsValid}
 use Rattle.gptman.specs.declared.codec.entry.GPTPartitionEntry.{GPTPartitionEntry}
 use Rattle.gptman.specs.declared.table.GPT.{GPT}
 use Rattle.gptedit_core.specs.Dumping.{IsLayoutOf}
-use Rattle.gptedit_core.specs.Laying.{IsLaid}
+use Rattle.gptedit_core.specs.Applying.{IsApplied}
 use Rattle.gptedit_core.specs.Placing.{AreFreeBehind, IsBlocked, IsSpan}
 use Rattle.gptedit_core.specs.Planning.{has_random, IsPlanned, RefusesRequest}
 use Rattle.gptedit_core.specs.Resolving.{start_asked}
 use Rattle.gptedit_core.specs.declared.asked.Asked.{Asked}
-use Rattle.gptedit_core.specs.declared.asked.Layout.{Layout}
+use Rattle.gptedit_core.specs.declared.asked.RequestedLayout.{RequestedLayout}
 use Rattle.gptedit_core.specs.declared.asked.Mode.{Mode}
 use Rattle.gptedit_core.specs.declared.asked.Mode.TheVariants.{Become, Change}
 use Rattle.gptedit_core.specs.declared.asked.Size.TheVariants.{Rest}
-use Rattle.gptedit_core.specs.declared.plan.Job.TheVariants.{Lay}
+use Rattle.gptedit_core.specs.declared.plan.Job.TheVariants.{Apply}
 use Rattle.gptedit_core.specs.declared.plan.Request.{Request}
 use Rattle.gptedit_core.specs.declared.refusal.Refusal.{Refusal}
-use Rattle.gptedit_core.specs.declared.resolve.Partition.{Partition}
+use Rattle.gptedit_core.specs.declared.resolve.ResolvedPartition.{ResolvedPartition}
 
 -- No partition has the number.
-abbrev pub IsUnnamed : ℕ → List Partition → Type 0
+abbrev pub IsUnnamed : ℕ → List ResolvedPartition → Type 0
 IsUnnamed i ps = All (λ p. p.number ≢ i) ps
 
 -- An entry that is not named is unchanged. If the table may only become the layout, it is unused.
@@ -35,7 +35,7 @@ StaysAs (Become false) e after = (after ≡ e) × IsTrue (is_unused e)
 StaysAs mode e after = after ≡ e
 
 -- The partition is in the table next under its number, at the place that it had in g.
-pub record IsThere (p : Partition) (g next : GPT) : Type 0 where
+pub record IsThere (p : ResolvedPartition) (g next : GPT) : Type 0 where
   pub first : ℕ
   pub last : ℕ
   pub span : IsSpan p.place g (first, last)
@@ -43,29 +43,29 @@ pub record IsThere (p : Partition) (g next : GPT) : Type 0 where
 
 -- All partitions are in the table next. The first had its place in g, and each other one in the table with those
 -- before it.
-abbrev pub AreThere : List Partition → GPT → GPT → Type 0
+abbrev pub AreThere : List ResolvedPartition → GPT → GPT → Type 0
 AreThere [] g next = Unit {0}
 AreThere (p ∷ ps) g next = IsThere p g next × AreThere ps (with_entry g p.number (entry_at next p.number)) next
 
 -- Entries that a layout neither names nor removes are unchanged. Those that it names are there, put into the table
 -- without the named and removed ones.
-pub record ChangesNamed (layout : Layout) (randoms : List (List ℕ)) (g next : GPT) (is : IsLaid layout randoms g next) : Type 0 where
+pub record ChangesNamed (layout : RequestedLayout) (randoms : List (List ℕ)) (g next : GPT) (is : IsApplied layout randoms g next) : Type 0 where
   pub others : (i : ℕ) → 1 ≤ i → IsUnnamed i is.partitions → All (λ j. j ≢ i) layout.removed.items → StaysAs layout.mode (entry_at g i) (entry_at next i)
   pub named : AreThere is.partitions is.free next
 
 -- Each layout changes only the entries that it names or removes.
 abbrev pub LayoutsChangeNamed : Type 0
-LayoutsChangeNamed = (layout : Layout) (randoms : List (List ℕ)) (g next : GPT) (is : IsLaid layout randoms g next) → ChangesNamed layout randoms g next is
+LayoutsChangeNamed = (layout : RequestedLayout) (randoms : List (List ℕ)) (g next : GPT) (is : IsApplied layout randoms g next) → ChangesNamed layout randoms g next is
 
 -- Applying the layout of a table to that table results in an equal table.
 abbrev pub LayoutsGiveTable : Type 0
-LayoutsGiveTable = (g next : GPT) (layout : Layout) (randoms : List (List ℕ)) → IsLayoutOf g layout → length layout.asked.items ≤ length randoms → IsLaid layout randoms g next
+LayoutsGiveTable = (g next : GPT) (layout : RequestedLayout) (randoms : List (List ℕ)) → IsLayoutOf g layout → length layout.asked.items ≤ length randoms → IsApplied layout randoms g next
     → table_in next ≡ table_in g
 
 -- A request that applies the layout of a table to it is not refused, if the table has the stated layout and is valid,
 -- its alignment is above 0, and there are enough random GUIDs.
 abbrev pub LayoutsAreTaken : Type 0
-LayoutsAreTaken = (g : GPT) (len : ℕ) (layout : Layout) (request : Request) (r : Refusal) → IsLayoutOf g layout → request.job ≡ Lay layout
+LayoutsAreTaken = (g : GPT) (len : ℕ) (layout : RequestedLayout) (request : Request) (r : Refusal) → IsLayoutOf g layout → request.job ≡ Apply layout
     → length layout.asked.items ≤ length request.random.items → 0 < g.align → HasLayout g len → IsValid g.header (entries_in g) → ¬ RefusesRequest request len g r
 
 -- Each request has a number.
@@ -74,7 +74,7 @@ AreNumbered [] = Unit {0}
 AreNumbered (a ∷ asked) = ((i : ℕ) × (a.number ≡ Some i)) × AreNumbered asked
 
 -- The second layout requests the same, and the table may only become it.
-pub record IsAgain (layout again : Layout) : Type 0 where
+pub record IsAgain (layout again : RequestedLayout) : Type 0 where
   pub asked : again.asked.items ≡ layout.asked.items
   pub disk_guid : again.disk_guid ≡ layout.disk_guid
   pub align : again.align ≡ layout.align
@@ -84,9 +84,9 @@ pub record IsAgain (layout again : Layout) : Type 0 where
 -- A layout that numbers each entry and was applied, in any mode, changes nothing if it is applied again and the table
 -- may only become it.
 abbrev pub LayoutsStay : Type 0
-LayoutsStay = (g next after : GPT) (layout again : Layout) (randoms others : List (List ℕ)) → AreNumbered layout.asked.items → IsAgain layout again
+LayoutsStay = (g next after : GPT) (layout again : RequestedLayout) (randoms others : List (List ℕ)) → AreNumbered layout.asked.items → IsAgain layout again
     → length layout.asked.items ≤ length randoms → length layout.asked.items ≤ length others
-    → IsLaid layout randoms g next → IsLaid again others next after → after ≡ next
+    → IsApplied layout randoms g next → IsApplied again others next after → after ≡ next
 
 -- The number is requested.
 abbrev pub Asks : ℕ → List Asked → Type 0
@@ -94,13 +94,13 @@ Asks i [] = ⊥
 Asks i (a ∷ asked) = (a.number ≡ Some i) ⊎ Asks i asked
 
 -- The table has no other used entries: it may only become the layout, or each used entry is requested or removed.
-abbrev pub IsWhole : Layout → GPT → Type 0
+abbrev pub IsWhole : RequestedLayout → GPT → Type 0
 IsWhole layout g = (layout.mode ≡ Become false) ⊎ ((i : ℕ) → 1 ≤ i → IsTrue (is_used (entry_at g i)) → Asks i layout.asked.items ⊎ Contains layout.removed.items i)
 
 -- A request with a whole layout that numbers each entry is not refused a second time, if the table may only become
 -- the layout.
 abbrev pub LayoutsAreTakenAgain : Type 0
-LayoutsAreTakenAgain = (g next : GPT) (len : ℕ) (layout again : Layout) (request other : Request) (r : Refusal) → request.job ≡ Lay layout → other.job ≡ Lay again
+LayoutsAreTakenAgain = (g next : GPT) (len : ℕ) (layout again : RequestedLayout) (request other : Request) (r : Refusal) → request.job ≡ Apply layout → other.job ≡ Apply again
     → AreNumbered layout.asked.items → IsAgain layout again → IsWhole layout g → has_random request → has_random other
     → IsPlanned request len g next → ¬ RefusesRequest other len next r
 
@@ -121,6 +121,6 @@ pub record IsLengthened (align : ℕ) (before after : GPTPartitionEntry) (free l
 -- A change to the rest, from where the entry starts, only lengthens it: over sectors that are free in the table
 -- without the named and removed entries, and as far as the resulting table has room without the entry.
 abbrev pub LayoutsOnlyLengthen : Type 0
-LayoutsOnlyLengthen = (layout : Layout) (randoms : List (List ℕ)) (g next : GPT) (a : Asked) (i : ℕ) → layout.mode ≡ Change → length layout.asked.items ≤ length randoms
+LayoutsOnlyLengthen = (layout : RequestedLayout) (randoms : List (List ℕ)) (g next : GPT) (a : Asked) (i : ℕ) → layout.mode ≡ Change → length layout.asked.items ≤ length randoms
     → Contains layout.asked.items a → a.number ≡ Some i → a.size ≡ Some Rest → BeginsThere a g.sector_size (entry_at g i)
-    → (is : IsLaid layout randoms g next) → IsLengthened is.align (entry_at g i) (entry_at next i) (IsFreeIn is.free) (IsFreeIn (with_entry next i empty_entry))
+    → (is : IsApplied layout randoms g next) → IsLengthened is.align (entry_at g i) (entry_at next i) (IsFreeIn is.free) (IsFreeIn (with_entry next i empty_entry))

@@ -10,9 +10,9 @@ use Rattle.gptman.specs.Valid.{HasGoodBoundaries, HasOwnGuids}
 use Rattle.gptman.specs.declared.table.GPT.{GPT}
 use Rattle.gptman_change.specs.declared.Planned.{Planned}
 use Rattle.gptman_change.specs.declared.Planned.TheVariants.{Write, Leave}
-use Rattle.gptedit_core.specs.Laying.{IsLaid, RefusesAsked}
+use Rattle.gptedit_core.specs.Applying.{IsApplied, RefusesAsked}
 use Rattle.gptedit_core.specs.declared.plan.Job.{Job}
-use Rattle.gptedit_core.specs.declared.plan.Job.TheVariants.{Lay, Sort, Rewrite}
+use Rattle.gptedit_core.specs.declared.plan.Job.TheVariants.{Apply, Sort, Rewrite}
 use Rattle.gptedit_core.specs.declared.plan.Outcome.{Outcome}
 use Rattle.gptedit_core.specs.declared.plan.Outcome.TheVariants.{Changed, Unchanged, Refused}
 use Rattle.gptedit_core.specs.declared.plan.Request.{Request}
@@ -21,7 +21,7 @@ use Rattle.gptedit_core.specs.declared.refusal.Refusal.TheVariants.{BadBoundarie
 
 -- n random GUIDs are enough for the job.
 abbrev pub asks_random : Job → ℕ → Type 0
-asks_random (Lay layout) n = length layout.asked.items ≤ n
+asks_random (Apply layout) n = length layout.asked.items ≤ n
 asks_random job n = Unit {0}
 
 abbrev pub has_random : Request → Type 0
@@ -29,13 +29,13 @@ has_random request = asks_random request.job (length request.random.items)
 
 -- The job makes next of g.
 abbrev pub IsDone : Job → List (List ℕ) → GPT → GPT → Type 0
-IsDone (Lay layout) randoms g next = IsLaid layout randoms g next
+IsDone (Apply layout) randoms g next = IsApplied layout randoms g next
 IsDone Sort randoms g next = next ≡ with_entries g (by_rank rank (entries_in g))
 IsDone Rewrite randoms g next = next ≡ g
 
 -- The job is refused.
 abbrev pub RefusesJob : Job → List (List ℕ) → GPT → Refusal → Type 0
-RefusesJob (Lay layout) randoms g r = RefusesAsked layout randoms g r
+RefusesJob (Apply layout) randoms g r = RefusesAsked layout randoms g r
 RefusesJob job randoms g r = ⊥
 
 -- A table with the stated layout may not be written: two entries have the same GUID, or partitions overlap or are
@@ -64,9 +64,9 @@ IsNeeded job g next = g ≢ next
 
 -- The outcome of a change from g to next, and the table new that is left in memory: next if it is to be written, else
 -- g.
-abbrev pub TellsOf : Bool → Bool → GPT → GPT → GPT → Planned Outcome → Type 0
-TellsOf needed dry g next new (Write answer) = (new ≡ next) × (dry ≡ false) × (needed ≡ true) × (answer ≡ Changed g next)
-TellsOf needed dry g next new (Leave answer) =
+abbrev pub IsDecided : Bool → Bool → GPT → GPT → GPT → Planned Outcome → Type 0
+IsDecided needed dry g next new (Write answer) = (new ≡ next) × (dry ≡ false) × (needed ≡ true) × (answer ≡ Changed g next)
+IsDecided needed dry g next new (Leave answer) =
     (new ≡ g) × (((needed ≡ false) × (answer ≡ Unchanged g)) ⊎ ((dry ≡ true) × (needed ≡ true) × (answer ≡ Changed g next)))
 
 -- The table that is written, and the outcome. The plan makes it, the write is needed, and it is not a dry run.
@@ -74,7 +74,7 @@ pub record IsWrittenAs (P N : GPT → GPT → Type 0) (dry : Bool) (g next : GPT
   pub planned : P g next
   pub needed : N g next
   pub wet : dry ≡ false
-  pub told : answer ≡ Changed g next
+  pub outcome : answer ≡ Changed g next
 
 -- The outcome if nothing is written: a refusal, no need to write, or a dry run.
 pub data IsLeftAs (P N : GPT → GPT → Type 0) (R : GPT → Refusal → Type 0) (dry : Bool) (g : GPT) (answer : Outcome) : Type 0 where

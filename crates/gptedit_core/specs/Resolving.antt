@@ -23,7 +23,7 @@ use Rattle.gptedit_core.specs.declared.refusal.Refusal.{Refusal}
 use Rattle.gptedit_core.specs.declared.refusal.Refusal.TheVariants.{NoUnusedEntry, NoEntry, IsUsed, IsUnused, NoType, NoSize, NotWhole, TooLarge, WouldMove}
 use Rattle.gptedit_core.specs.declared.refusal.Stop.{Stop}
 use Rattle.gptedit_core.specs.declared.refusal.Stop.TheVariants.{Refused, Failed}
-use Rattle.gptedit_core.specs.declared.resolve.Partition.{Partition}
+use Rattle.gptedit_core.specs.declared.resolve.ResolvedPartition.{ResolvedPartition}
 use Rattle.gptedit_core.specs.declared.resolve.Room.{Room}
 use Rattle.gptedit_core.specs.declared.resolve.Room.TheVariants.{Sectors as RoomSectors, Rest as RoomRest}
 
@@ -147,7 +147,7 @@ entry_asked a used random = let e = entry_there used random in record e {
 }
 
 -- The partition to be put into entry i.
-abbrev pub partition_at : GPT → Mode → Asked → List ℕ → ℕ → Result Partition Refusal
+abbrev pub partition_at : GPT → Mode → Asked → List ℕ → ℕ → Result ResolvedPartition Refusal
 partition_at g mode a random i =
     let used = used_at g i in
     let e = entry_asked a used random in
@@ -156,7 +156,7 @@ partition_at g mode a random i =
     if is_unused e then Err (NoType i) else Ok (record { number = i; entry = e; place = place })))
 
 -- The partition of one request.
-abbrev pub resolved : GPT → Mode → Asked → List ℕ → Result Partition Refusal
+abbrev pub resolved : GPT → Mode → Asked → List ℕ → Result ResolvedPartition Refusal
 resolved g mode a random = and_then (number_asked g a) (partition_at g mode a random)
 
 -- A plan ends with the refusal, or since an allocation failed.
@@ -170,7 +170,7 @@ refusal_in (Ok _) = None
 refusal_in (Err r) = Some r
 
 -- The partitions of all requests, each with a random GUID.
-abbrev pub resolved_all : GPT → Mode → List Asked → List (List ℕ) → Result (List Partition) Refusal
+abbrev pub resolved_all : GPT → Mode → List Asked → List (List ℕ) → Result (List ResolvedPartition) Refusal
 resolved_all g mode [] randoms = Ok []
 resolved_all g mode (a ∷ asked) [] = Ok []
 resolved_all g mode (a ∷ asked) (random ∷ randoms) =

@@ -82,7 +82,7 @@ pub enum Mode {
 
 /// A request for a table.
 #[derive(Drop, Debug)]
-pub struct Layout {
+pub struct RequestedLayout {
     /// The permitted changes of the named entries.
     pub mode: Mode,
     /// The GUID of the disk. `None` keeps it.

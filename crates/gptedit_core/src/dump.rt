@@ -7,7 +7,7 @@ ghost use Rattle.gptman.specs.Table.{entries_in};
 ghost use Rattle.gptedit_core.specs.Dumping.{asked_of, asked_of_all, more_sectors, IsLayoutOf};
 
 use crate::amount::Amount;
-use crate::asked::{Asked, Choice, Layout, Mode, Size};
+use crate::asked::{Asked, Choice, Mode, RequestedLayout, Size};
 use gptman::{GPT, GPTPartitionEntry, Result};
 use std::alloc::Global;
 
@@ -16,12 +16,12 @@ use std::alloc::Global;
 /// and may be written, its alignment is above 0, and there is a random GUID for each entry.
 ///
 /// Fails only with `OutOfMemory`.
-pub fn layout_of(alloc: Global, table: &GPT) -> Result<Layout>
+pub fn layout_of(alloc: Global, table: &GPT) -> Result<RequestedLayout>
     ensures value { IfOk result (IsLayoutOf table.now) }
     ensures refused { IfErr result (λ e. fault_of e ≡ out_of_memory) }
 {
     let asked = ask_for_all(alloc, table)?;
-    Ok(Layout {
+    Ok(RequestedLayout {
         mode: Mode::Become { replace: false },
         disk_guid: Some(table.header.disk_guid),
         align: Amount::Sectors(table.align),

@@ -10,14 +10,14 @@ ghost use Rattle.gptman.specs.Table.{grow_to};
 ghost use Rattle.gptman.specs.TableWrites.{MayBeWritten};
 ghost use Rattle.gptedit_core.specs.Growing.{with_first, EndsAt, IsFitted, IsGrown, IsKeptFirst};
 ghost use Rattle.gptedit_core.specs.Growing.{IsLeftGrown, IsWrittenGrown, RefusesGrowth, RefusesGrown};
-ghost use Rattle.gptedit_core.specs.Laying.{IsStopOf};
+ghost use Rattle.gptedit_core.specs.Applying.{IsStopOf};
 ghost use Rattle.gptedit_core.specs.Planning.{IsMemoryFault, MayAsk};
 ghost use Rattle.gptedit_core.specs.declared.growth.Bounds.TheVariants.{Usual};
 ghost use Rattle.gptedit_core.specs.declared.plan.Outcome.TheVariants.{Refused};
 ghost use Rattle.gptedit_core.specs.declared.refusal.Refusal.TheVariants.{NotLaidOut};
 ghost use Rattle.gptman_change.specs.declared.Planned.TheVariants.{Leave};
 
-use crate::plan::{Outcome, check, is_same, tell};
+use crate::plan::{Outcome, check, decide, is_same};
 use crate::refusal::{Refusal, Stop};
 use gptman::{Disk, Error, GPT};
 use gptman_change::{Plan, Planned};
@@ -71,7 +71,7 @@ impl Plan for Growth {
         match settle(self.bounds, table, size, &mut next) {
             Ok(()) => {
                 let is_needed = !is_same(table, &next);
-                tell(table, next, is_needed, self.is_dry)
+                decide(table, next, is_needed, self.is_dry)
             }
             Err(Stop::Refused(refusal)) => refuse(table, refusal),
             Err(Stop::Failed(error)) => Err(error),
@@ -162,7 +162,7 @@ fn check_grown(table: &GPT, size: u64) -> Result<(), Stop>
 }
 
 fn refuse(table: &GPT, refusal: Refusal) -> gptman::Result<Planned<Outcome>>
-    ensures told { IfOk result (λ planned. planned ≡ Leave (Refused table.now refusal)) }
+    ensures outcome { IfOk result (λ planned. planned ≡ Leave (Refused table.now refusal)) }
     ensures refused { IfErr result (λ e. fault_of e ≡ out_of_memory) }
 {
     Ok(Planned::Leave(Outcome::Refused {

@@ -5,13 +5,13 @@
 #![tactic(auto)]
 
 pub mod amount;
+pub mod applying;
 pub mod asked;
 pub mod dump;
 pub mod editing;
 pub mod growth;
 pub mod growth_laws;
 pub mod laws;
-pub mod laying;
 pub mod making;
 pub mod order;
 pub mod place;
@@ -21,7 +21,7 @@ pub mod resolve;
 mod slots;
 
 pub use amount::{Amount, DEFAULT_ALIGN};
-pub use asked::{Asked, Choice, Layout, Mode, Size};
+pub use asked::{Asked, Choice, Mode, RequestedLayout, Size};
 pub use dump::layout_of;
 pub use editing::{edit, grow};
 pub use growth::{Bounds, Growth};
@@ -30,4 +30,4 @@ pub use order::{has_safe_order, safe_orders_keep_a_copy};
 pub use place::Place;
 pub use plan::{Job, Outcome, Request};
 pub use refusal::{Refusal, Stop};
-pub use resolve::Partition;
+pub use resolve::ResolvedPartition;

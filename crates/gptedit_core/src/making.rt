@@ -9,19 +9,19 @@ ghost use Rattle.gptman.specs.Table.{Table};
 ghost use Rattle.gptman_change.specs.Changes.{AnswersChange, IsSafe, LeavesChange, RefusesChange};
 ghost use Rattle.gptman_change.specs.Changes.{StartsGoodFor};
 ghost use Rattle.gptman_change.specs.Reads.{size_for};
-ghost use Rattle.gptedit_core.specs.Laying.{IsStopOf};
-ghost use Rattle.gptedit_core.specs.Making.{bounded, empty_of, has_random_in, put_at, side_of};
+ghost use Rattle.gptedit_core.specs.Applying.{IsStopOf};
+ghost use Rattle.gptedit_core.specs.Making.{bounded, copy_place_of, empty_of, has_random_in, put_at};
 ghost use Rattle.gptedit_core.specs.Making.{AnswersMaking, HasBounds, HasRoomOf, IsEmpty, IsFitted, IsLeftAnew, IsNew};
 ghost use Rattle.gptedit_core.specs.Making.{IsRemade, IsWrittenAnew, LeavesMaking, RefusesMaking, RefusesNew};
-ghost use Rattle.gptedit_core.specs.Making.{HasOrder, IsLaidIf, IsPlannedNew, KeepsLaidOut, MayBeReplaced, RefusesLaidIf, RefusesRemaking};
+ghost use Rattle.gptedit_core.specs.Making.{HasOrder, IsAppliedIf, IsPlannedNew, KeepsLaidOut, MayBeReplaced, RefusesAskedIf, RefusesRemaking};
 ghost use Rattle.gptman.specs.Write.{has_other_header};
 ghost use Rattle.gptedit_core.specs.Planning.{IsMemoryFault, MayAsk};
 ghost use Rattle.gptedit_core.specs.declared.refusal.Refusal.TheVariants.{OutOfBounds};
 
-use crate::asked::Layout;
-use crate::laying::lay;
+use crate::applying::apply_layout;
+use crate::asked::RequestedLayout;
 use crate::order::has_safe_order;
-use crate::plan::{Outcome, check, tell};
+use crate::plan::{Outcome, check, decide};
 use crate::refusal::{Refusal, Stop};
 use gptman::{Disk, Error, GPT};
 use gptman_change::{Plan, Planned, change_table};
@@ -39,7 +39,7 @@ pub struct Creation {
     /// The last usable sector. `None` means the last one before the backup copy.
     pub last_usable: Option<u64>,
     /// The partitions of the new table, if any.
-    pub layout: Option<Layout>,
+    pub layout: Option<RequestedLayout>,
     /// Random GUIDs, at least one for each entry that the layout names.
     pub random: Vec<[u8; 16]>,
     /// If true, a crash during the write may leave neither the old table nor the new one.
@@ -185,7 +185,7 @@ impl Plan for Creation {
     ) -> gptman::Result<Planned<Outcome>> {
         let (size, empty) = make_empty(alloc, disk, table.sector_size, self)?;
         match replace(self, alloc, size, table, empty) {
-            Ok(next) => tell(table, next, true, self.is_dry),
+            Ok(next) => decide(table, next, true, self.is_dry),
             Err(Stop::Failed(error)) => Err(error),
             Err(Stop::Refused(refusal)) => Ok(Planned::Leave(Outcome::Refused {
                 table: table.clone()?,
@@ -354,13 +354,13 @@ fn bound(creation: &Creation, table: &mut GPT) -> Result<(), Refusal>
 fn put_layout(creation: &Creation, alloc: Global, table: &mut GPT) -> Result<(), Stop>
     requires random { has_random_in creation.now }
     requires sector { 0 < table.old.sector_size }
-    ensures laid { OnOk result
-        (IsLaidIf creation.now.layout creation.now.random.items table.old table.new) }
+    ensures applied { OnOk result
+        (IsAppliedIf creation.now.layout creation.now.random.items table.old table.new) }
     ensures refused { IfErr result
-        (IsStopOf (RefusesLaidIf creation.now.layout creation.now.random.items table.old)) }
+        (IsStopOf (RefusesAskedIf creation.now.layout creation.now.random.items table.old)) }
 {
     match &creation.layout {
-        Some(layout) => lay(alloc, table, layout, &creation.random),
+        Some(layout) => apply_layout(alloc, table, layout, &creation.random),
         None => Ok(()),
     }
 }
@@ -368,7 +368,7 @@ fn put_layout(creation: &Creation, alloc: Global, table: &mut GPT) -> Result<(),
 // Puts the new table, which is in primary form, into the form of the old one.
 fn put_in_form(was: &GPT, next: GPT) -> GPT
     requires { has_other_header next.header ≡ true }
-    ensures { result ≡ put_at (side_of was.now.header) next }
+    ensures { result ≡ put_at (copy_place_of was.now.header) next }
 {
     let mut next = next;
     if was.is_primary() {

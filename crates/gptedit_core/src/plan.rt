@@ -6,13 +6,13 @@ ghost use Rattle.gptman.specs.Fault.{fault_of, out_of_memory};
 ghost use Rattle.gptman.specs.Layout.{HasLayout};
 ghost use Rattle.gptman.specs.Table.{entries_in};
 ghost use Rattle.gptman.specs.TableWrites.{MayBeWritten};
-ghost use Rattle.gptedit_core.specs.Laying.{IsStopOf};
+ghost use Rattle.gptedit_core.specs.Applying.{IsStopOf};
 ghost use Rattle.gptedit_core.specs.Planning.{asks_random, has_random, IsDone, IsLeft, IsMemoryFault, IsNeeded};
 ghost use Rattle.gptedit_core.specs.Planning.{IsPlanned, IsWritten, MayAsk, RefusesCheck, RefusesJob};
-ghost use Rattle.gptedit_core.specs.Planning.{RefusesRequest, TellsOf};
+ghost use Rattle.gptedit_core.specs.Planning.{IsDecided, RefusesRequest};
 
-use crate::asked::Layout;
-use crate::laying::lay;
+use crate::applying::apply_layout;
+use crate::asked::RequestedLayout;
 use crate::refusal::{Refusal, Stop};
 use gptman::{Disk, Error, GPT};
 use gptman_change::{Plan, Planned};
@@ -22,7 +22,7 @@ use std::alloc::Global;
 #[derive(Drop, Debug)]
 pub enum Job {
     /// The layout is applied to it.
-    Lay(Layout),
+    Apply(RequestedLayout),
     /// Its entries are sorted by their first sectors.
     Sort,
     /// It is written unchanged.
@@ -77,7 +77,7 @@ impl Plan for Request {
         match make(self, alloc, size, &mut next) {
             Ok(()) => {
                 let is_needed = is_needed(&self.job, table, &next);
-                tell(table, next, is_needed, self.is_dry)
+                decide(table, next, is_needed, self.is_dry)
             }
             Err(Stop::Failed(error)) => Err(error),
             Err(Stop::Refused(refusal)) => Ok(Planned::Leave(Outcome::Refused {
@@ -110,7 +110,7 @@ fn do_job(alloc: Global, job: &Job, random: &[[u8; 16]], table: &mut GPT) -> Res
     ensures refused { IfErr result (IsStopOf (RefusesJob job.now random.now table.old)) }
 {
     match job {
-        Job::Lay(layout) => lay(alloc, table, layout, random),
+        Job::Apply(layout) => apply_layout(alloc, table, layout, random),
         Job::Sort => Ok(table.sort()?),
         Job::Rewrite => Ok(()),
     }
@@ -136,13 +136,13 @@ pub fn check(table: &GPT, size: u64) -> Result<(), Stop>
 /// not a dry run.
 ///
 /// Fails only with `OutOfMemory`.
-pub fn tell(
+pub fn decide(
     table: &mut GPT,
     next: GPT,
     is_needed: bool,
     is_dry: bool,
 ) -> gptman::Result<Planned<Outcome>>
-    ensures told { IfOk result (TellsOf is_needed is_dry table.old next table.new) }
+    ensures outcome { IfOk result (IsDecided is_needed is_dry table.old next table.new) }
     ensures refused { IfErr result (λ e. fault_of e ≡ out_of_memory) }
 {
     let was = table.clone()?;
@@ -162,7 +162,7 @@ fn is_needed(job: &Job, was: &GPT, next: &GPT) -> bool
 {
     match job {
         Job::Rewrite => true,
-        Job::Lay(_) => !is_same(was, next),
+        Job::Apply(_) => !is_same(was, next),
         Job::Sort => !is_same(was, next),
     }
 }

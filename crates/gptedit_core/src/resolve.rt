@@ -16,7 +16,7 @@ use std::alloc::Global;
 
 /// A partition to be put into a table.
 #[derive(Drop, Debug)]
-pub struct Partition {
+pub struct ResolvedPartition {
     /// The number of its entry.
     pub number: u32,
     /// The type, the GUID, the attributes and the name.
@@ -41,7 +41,7 @@ pub fn resolve(
     mode: Mode,
     asked: &Asked,
     random: [u8; 16],
-) -> Result<Partition, Stop>
+) -> Result<ResolvedPartition, Stop>
     requires sector { 0 < table.now.sector_size }
     ensures ok { IfOk result (λ p. resolved table.now mode asked.now random ≡ Ok p) }
     ensures refused { IfErr result (IsStopFor (resolved table.now mode asked.now random)) }
@@ -54,7 +54,7 @@ pub fn resolve(
     if entry.is_unused() {
         return Err(Stop::Refused(Refusal::NoType(number)));
     }
-    Ok(Partition {
+    Ok(ResolvedPartition {
         number,
         entry,
         place,

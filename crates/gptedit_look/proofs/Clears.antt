@@ -109,9 +109,9 @@ zeros_are (suc n) (suc m) zero = refl
 zeros_are (suc n) (suc m) (suc k) = zeros_are n m k
 
 -- zeros written over bytes
-pub zeros_laid : (old new bytes : List ℕ) (position at n : ℕ) → position ≡ at → length bytes ≡ n → at + n ≤ length old → ((k : ℕ) → get_or bytes k 0 ≡ 0)
+pub zeros_written : (old new bytes : List ℕ) (position at n : ℕ) → position ≡ at → length bytes ≡ n → at + n ≤ length old → ((k : ℕ) → get_or bytes k 0 ≡ 0)
     → new ≡ overlay old position bytes → AreZeros at n new
-zeros_laid old new bytes position at n is long fits zeros laid k here =
+zeros_written old new bytes position at n is long fits zeros laid k here =
     let room : position + length bytes ≤ length old = omega (arith, is, long, fits) in
     let low : position ≤ k = omega (arith, is, here.0) in
     let high : k < position + length bytes = omega (arith, is, long, here.1) in
@@ -217,8 +217,8 @@ adds_whole h ss a b c high one two =
     (adds_then (IsIn (h.primary_lba * ss) 92) (IsIn (h.partition_entry_lba * ss) (128 * h.number_of_partition_entries)) a b c one two)
 
 -- a header without usual entries
-pub adds_alone : (h : RawHeader) (ss : ℕ) (a b : List Zeroed) → ¬ HasUsualEntries h ss → Adds (IsIn h.at 92) a b → Adds (λ k. IsOfRaw ss k (Some h)) a b
-adds_alone h ss a b other adds = adds_as (IsIn h.at 92) (λ k. IsOfRaw ss k (Some h)) a b (λ k x. inl x) (λ k x. ⊎_elim (λ y. y) (λ y. absurd (other y.0)) x) adds
+pub adds_only : (h : RawHeader) (ss : ℕ) (a b : List Zeroed) → ¬ HasUsualEntries h ss → Adds (IsIn h.at 92) a b → Adds (λ k. IsOfRaw ss k (Some h)) a b
+adds_only h ss a b other adds = adds_as (IsIn h.at 92) (λ k. IsOfRaw ss k (Some h)) a b (λ k x. inl x) (λ k x. ⊎_elim (λ y. y) (λ y. absurd (other y.0)) x) adds
 
 -- a header with usual entries
 pub adds_seen : (h : RawHeader) (ss : ℕ) (a b c : List Zeroed) → HasUsualEntries h ss → Adds (IsIn h.at 92) a b

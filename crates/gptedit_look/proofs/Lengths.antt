@@ -21,48 +21,48 @@ below_four P a b c d (suc (suc (suc zero))) lt = d
 below_four P a b c d (suc (suc (suc (suc n)))) lt = absurd (omega (arith, lt))
 
 -- one entry is the only one
-pub alone_0 : (b : List ℕ) → type_of b 0 ≡ 0xEE → type_of b 1 ≡ 0 → type_of b 2 ≡ 0 → type_of b 3 ≡ 0 → IsOnlyProtective b 0
-alone_0 b own x y z = record {
+pub only_0 : (b : List ℕ) → type_of b 0 ≡ 0xEE → type_of b 1 ≡ 0 → type_of b 2 ≡ 0 → type_of b 3 ≡ 0 → IsOnlyProtective b 0
+only_0 b own x y z = record {
   place = omega arith;
   protects = own;
-  alone = below_four (λ j. j ≢ 0 → type_of b j ≡ 0) (λ no. absurd (no refl)) (λ no. x) (λ no. y) (λ no. z);
+  others_unused = below_four (λ j. j ≢ 0 → type_of b j ≡ 0) (λ no. absurd (no refl)) (λ no. x) (λ no. y) (λ no. z);
 }
 
-pub alone_1 : (b : List ℕ) → type_of b 1 ≡ 0xEE → type_of b 0 ≡ 0 → type_of b 2 ≡ 0 → type_of b 3 ≡ 0 → IsOnlyProtective b 1
-alone_1 b own x y z = record {
+pub only_1 : (b : List ℕ) → type_of b 1 ≡ 0xEE → type_of b 0 ≡ 0 → type_of b 2 ≡ 0 → type_of b 3 ≡ 0 → IsOnlyProtective b 1
+only_1 b own x y z = record {
   place = omega arith;
   protects = own;
-  alone = below_four (λ j. j ≢ 1 → type_of b j ≡ 0) (λ no. x) (λ no. absurd (no refl)) (λ no. y) (λ no. z);
+  others_unused = below_four (λ j. j ≢ 1 → type_of b j ≡ 0) (λ no. x) (λ no. absurd (no refl)) (λ no. y) (λ no. z);
 }
 
-pub alone_2 : (b : List ℕ) → type_of b 2 ≡ 0xEE → type_of b 0 ≡ 0 → type_of b 1 ≡ 0 → type_of b 3 ≡ 0 → IsOnlyProtective b 2
-alone_2 b own x y z = record {
+pub only_2 : (b : List ℕ) → type_of b 2 ≡ 0xEE → type_of b 0 ≡ 0 → type_of b 1 ≡ 0 → type_of b 3 ≡ 0 → IsOnlyProtective b 2
+only_2 b own x y z = record {
   place = omega arith;
   protects = own;
-  alone = below_four (λ j. j ≢ 2 → type_of b j ≡ 0) (λ no. x) (λ no. y) (λ no. absurd (no refl)) (λ no. z);
+  others_unused = below_four (λ j. j ≢ 2 → type_of b j ≡ 0) (λ no. x) (λ no. y) (λ no. absurd (no refl)) (λ no. z);
 }
 
-pub alone_3 : (b : List ℕ) → type_of b 3 ≡ 0xEE → type_of b 0 ≡ 0 → type_of b 1 ≡ 0 → type_of b 2 ≡ 0 → IsOnlyProtective b 3
-alone_3 b own x y z = record {
+pub only_3 : (b : List ℕ) → type_of b 3 ≡ 0xEE → type_of b 0 ≡ 0 → type_of b 1 ≡ 0 → type_of b 2 ≡ 0 → IsOnlyProtective b 3
+only_3 b own x y z = record {
   place = omega arith;
   protects = own;
-  alone = below_four (λ j. j ≢ 3 → type_of b j ≡ 0) (λ no. x) (λ no. y) (λ no. z) (λ no. absurd (no refl));
+  others_unused = below_four (λ j. j ≢ 3 → type_of b j ≡ 0) (λ no. x) (λ no. y) (λ no. z) (λ no. absurd (no refl));
 }
 
 -- no entry is the only one
-pub none_alone : (b : List ℕ)
+pub none_is_only : (b : List ℕ)
     → ¬ ((type_of b 0 ≡ 0xEE) × (type_of b 1 ≡ 0) × (type_of b 2 ≡ 0) × (type_of b 3 ≡ 0))
     → ¬ ((type_of b 1 ≡ 0xEE) × (type_of b 0 ≡ 0) × (type_of b 2 ≡ 0) × (type_of b 3 ≡ 0))
     → ¬ ((type_of b 2 ≡ 0xEE) × (type_of b 0 ≡ 0) × (type_of b 1 ≡ 0) × (type_of b 3 ≡ 0))
     → ¬ ((type_of b 3 ≡ 0xEE) × (type_of b 0 ≡ 0) × (type_of b 1 ≡ 0) × (type_of b 2 ≡ 0))
     → (i : ℕ) → ¬ IsOnlyProtective b i
-none_alone b n0 n1 n2 n3 i only =
+none_is_only b n0 n1 n2 n3 i only =
     let no : IsOnlyProtective b i → ⊥ =
     below_four (λ j. IsOnlyProtective b j → ⊥)
-    (λ o. n0 (o.protects, o.alone 1 (omega arith) (λ e. absurd (omega (arith, e))), o.alone 2 (omega arith) (λ e. absurd (omega (arith, e))), o.alone 3 (omega arith) (λ e. absurd (omega (arith, e)))))
-    (λ o. n1 (o.protects, o.alone 0 (omega arith) (λ e. absurd (omega (arith, e))), o.alone 2 (omega arith) (λ e. absurd (omega (arith, e))), o.alone 3 (omega arith) (λ e. absurd (omega (arith, e)))))
-    (λ o. n2 (o.protects, o.alone 0 (omega arith) (λ e. absurd (omega (arith, e))), o.alone 1 (omega arith) (λ e. absurd (omega (arith, e))), o.alone 3 (omega arith) (λ e. absurd (omega (arith, e)))))
-    (λ o. n3 (o.protects, o.alone 0 (omega arith) (λ e. absurd (omega (arith, e))), o.alone 1 (omega arith) (λ e. absurd (omega (arith, e))), o.alone 2 (omega arith) (λ e. absurd (omega (arith, e)))))
+    (λ o. n0 (o.protects, o.others_unused 1 (omega arith) (λ e. absurd (omega (arith, e))), o.others_unused 2 (omega arith) (λ e. absurd (omega (arith, e))), o.others_unused 3 (omega arith) (λ e. absurd (omega (arith, e)))))
+    (λ o. n1 (o.protects, o.others_unused 0 (omega arith) (λ e. absurd (omega (arith, e))), o.others_unused 2 (omega arith) (λ e. absurd (omega (arith, e))), o.others_unused 3 (omega arith) (λ e. absurd (omega (arith, e)))))
+    (λ o. n2 (o.protects, o.others_unused 0 (omega arith) (λ e. absurd (omega (arith, e))), o.others_unused 1 (omega arith) (λ e. absurd (omega (arith, e))), o.others_unused 3 (omega arith) (λ e. absurd (omega (arith, e)))))
+    (λ o. n3 (o.protects, o.others_unused 0 (omega arith) (λ e. absurd (omega (arith, e))), o.others_unused 1 (omega arith) (λ e. absurd (omega (arith, e))), o.others_unused 2 (omega arith) (λ e. absurd (omega (arith, e)))))
     i only.place in
     no only
 

@@ -22,7 +22,7 @@ length_of b i = number_at b (458 + 16 * i)
 pub record IsOnlyProtective (b : List ℕ) (i : ℕ) : Type 0 where
   pub place : i < 4
   pub protects : type_of b i ≡ 0xEE
-  pub alone : (j : ℕ) → j < 4 → j ≢ i → type_of b j ≡ 0
+  pub others_unused : (j : ℕ) → j < 4 → j ≢ i → type_of b j ≡ 0
 
 -- The length from the start of entry i to the end of a disk of `sectors` sectors, at most `0xFFFFFFFF`.
 abbrev pub right_length : List ℕ → ℕ → ℕ → ℕ

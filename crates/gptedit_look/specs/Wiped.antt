@@ -14,8 +14,8 @@ use Rattle.gptedit_look.specs.declared.first_sector.MbrKind.{MbrKind}
 use Rattle.gptedit_look.specs.declared.first_sector.MbrKind.TheVariants.{Protective}
 use Rattle.gptedit_look.specs.declared.raw.RawHeader.{RawHeader}
 use Rattle.gptedit_look.specs.declared.seen.Look.{Look}
-use Rattle.gptedit_look.specs.declared.signatures.Place.{Place}
-use Rattle.gptedit_look.specs.declared.signatures.Place.TheVariants.{Start, End}
+use Rattle.gptedit_look.specs.declared.signatures.HeaderPlace.{HeaderPlace}
+use Rattle.gptedit_look.specs.declared.signatures.HeaderPlace.TheVariants.{Start, End}
 use Rattle.gptedit_look.specs.declared.signatures.Signature.{Signature}
 use Rattle.gptedit_look.specs.declared.zeros.Zeroed.{Zeroed}
 
@@ -88,7 +88,7 @@ IsWiped look k = ((IsOfCopies look k ⊎ IsOfRaw look.sector_size k look.moved_h
     ⊎ IsOfMbr look.first_sector.kind k
 
 -- The first byte of the header at this place.
-abbrev pub byte_of : Place → ℕ → ℕ → ℕ
+abbrev pub byte_of : HeaderPlace → ℕ → ℕ → ℕ
 byte_of Start ss size = ss
 byte_of End ss size = (size / ss - 1) * ss
 
@@ -97,7 +97,7 @@ abbrev pub header_found : List ℕ → ℕ → Option GPTHeader
 header_found b at = result_ok (header_result b at)
 
 -- The valid header at this place, if there is one. A disk with fewer than 2 sectors has none.
-abbrev pub header_in : Place → ℕ → List ℕ → Option GPTHeader
+abbrev pub header_in : HeaderPlace → ℕ → List ℕ → Option GPTHeader
 header_in place ss b = if nat_lt 1 (length b / ss) then header_found b (byte_of place ss (length b)) else None
 
 -- The signature does not overlap this copy.

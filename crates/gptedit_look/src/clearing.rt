@@ -12,7 +12,7 @@ use crate::bytes::start_of;
 use crate::first_sector::MbrKind;
 use crate::raw::RawHeader;
 use crate::seen::Look;
-use crate::signatures::{Place, Signature, place_at};
+use crate::signatures::{HeaderPlace, Signature, place_at};
 use crate::zeros::{Zeroed, put_zeros};
 use gptman::copy::WholeCopy;
 use gptman::sizes::MAX_ENTRY_COUNT;
@@ -53,8 +53,8 @@ pub fn clear_signatures<D: Disk>(disk: &mut D, look: &Look, sector_size: u64) ->
     ensures cleared { IsHonest (D.state disk.old) → OnOk result (IsCleared
         (IsOfOld sector_size (D.state disk.old).view look.now.signatures.items) (D.state disk.new)) }
 {
-    let primary = read_header(disk, Place::Start, sector_size)?;
-    let backup = read_header(disk, Place::End, sector_size)?;
+    let primary = read_header(disk, HeaderPlace::Start, sector_size)?;
+    let backup = read_header(disk, HeaderPlace::End, sector_size)?;
     clear_beside(disk, &look.signatures, primary, backup, sector_size)
 }
 
@@ -117,7 +117,11 @@ fn is_beside(
 }
 
 // Reads the header at this place, if it is valid.
-fn read_header<D: Disk>(disk: &mut D, place: Place, sector_size: u64) -> Result<Option<GPTHeader>>
+fn read_header<D: Disk>(
+    disk: &mut D,
+    place: HeaderPlace,
+    sector_size: u64,
+) -> Result<Option<GPTHeader>>
     ensures reads { Reads (D.state disk.old) (D.state disk.new) }
     ensures failed { IfErr result (λ e. IsFailure (fault_of e) (D.state disk.old) (D.state disk.new)) }
     ensures found { IsHonest (D.state disk.old) → IfOk result (λ header. header

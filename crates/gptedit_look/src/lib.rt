@@ -32,5 +32,5 @@ pub use mending::{MbrChange, mend_mbr};
 pub use raw::RawHeader;
 pub use seeing::look;
 pub use seen::{Look, Looked, Obstacle, Purpose, What};
-pub use signatures::{Place, Signature};
+pub use signatures::{HeaderPlace, Signature};
 pub use uses::{How, Part, Use, Users, is_harmless};

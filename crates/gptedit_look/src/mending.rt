@@ -200,7 +200,7 @@ fn set_length<D: Disk>(disk: &mut D, misfit: Misfit, bytes: &[u8; 512]) -> Resul
 // Returns the bytes with the length and the end of this entry corrected.
 fn mended(bytes: &[u8; 512], misfit: Misfit) -> [u8; 512]
     requires { misfit.entry < 4 }
-    ensures laid { result ≡ overlay (overlay bytes.now (451 + 16 * misfit.entry) (0xFF ∷ 0xFF ∷ 0xFF ∷ []))
+    ensures contents { result ≡ overlay (overlay bytes.now (451 + 16 * misfit.entry) (0xFF ∷ 0xFF ∷ 0xFF ∷ []))
         (458 + 16 * misfit.entry) (little_bytes 4 misfit.length) }
     ensures in_range { misfit.length < 2 ^ 32 }
 {
@@ -218,7 +218,7 @@ fn write_mbr<D: Disk>(disk: &mut D, bytes: &[u8]) -> Result<()>
     ensures keeps { Keeps (D.state disk.old) (D.state disk.new) }
     ensures cause { HasCause result (D.state disk.old) (D.state disk.new) }
     ensures wrote { Writes (mbr_range ∷ []) (D.state disk.old) (D.state disk.new) }
-    ensures laid { IsHonest (D.state disk.old)
+    ensures contents { IsHonest (D.state disk.old)
         → OnOk result ((D.state disk.new).view ≡ overlay (D.state disk.old).view 446 bytes.now) }
     ensures synced { IsHonest (D.state disk.old) → OnOk result ((D.state disk.new).pending ≡ []) }
 {

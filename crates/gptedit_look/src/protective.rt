@@ -63,13 +63,13 @@ fn find_only(bytes: &[u8]) -> Option<usize>
 {
     let (a, b) = (type_of(bytes, 0), type_of(bytes, 1));
     let (c, d) = (type_of(bytes, 2), type_of(bytes, 3));
-    if is_alone(a, b, c, d) {
+    if is_only_protective(a, b, c, d) {
         Some(0)
-    } else if is_alone(b, a, c, d) {
+    } else if is_only_protective(b, a, c, d) {
         Some(1)
-    } else if is_alone(c, a, b, d) {
+    } else if is_only_protective(c, a, b, d) {
         Some(2)
-    } else if is_alone(d, a, b, c) {
+    } else if is_only_protective(d, a, b, c) {
         Some(3)
     } else {
         None
@@ -77,7 +77,7 @@ fn find_only(bytes: &[u8]) -> Option<usize>
 }
 
 // Reports whether the first type is protective and the others are 0.
-fn is_alone(one: u8, second: u8, third: u8, fourth: u8) -> bool
+fn is_only_protective(one: u8, second: u8, third: u8, fourth: u8) -> bool
     ensures { IsTrue result ↔ (one ≡ 0xEE) × (second ≡ 0) × (third ≡ 0) × (fourth ≡ 0) }
 {
     one == PROTECTIVE && second == 0 && third == 0 && fourth == 0

@@ -7,7 +7,7 @@ ghost use Rattle.gptman.specs.Bytes.{part as bytes_at};
 ghost use Rattle.gptman.specs.Coding.{header_of};
 ghost use Rattle.gptedit_look.specs.Seen.{header_at, raw_of, IsRawOf, IsSeenAt};
 
-use crate::signatures::{Place, SIGNATURE, place_at};
+use crate::signatures::{HeaderPlace, SIGNATURE, place_at};
 use gptman::{Disk, GPTHeader, Result};
 
 // The size of a header in bytes.
@@ -68,7 +68,7 @@ impl RawHeader {
 pub fn read_raw_header<D: Disk>(
     disk: &mut D,
     sector_size: u64,
-    place: Place,
+    place: HeaderPlace,
 ) -> Result<Option<RawHeader>>
     ensures reads { Reads (D.state disk.old) (D.state disk.new) }
     ensures cause { HasCause result (D.state disk.old) (D.state disk.new) }

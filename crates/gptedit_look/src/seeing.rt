@@ -8,7 +8,7 @@ use crate::first_sector::{FirstSector, read_first_sector};
 use crate::marks::{Content, find_contents, find_footer};
 use crate::raw::{RawHeader, read_raw_header, read_raw_header_at};
 use crate::seen::{Look, Looked};
-use crate::signatures::{Place, Signature, find_signatures};
+use crate::signatures::{HeaderPlace, Signature, find_signatures};
 use gptman::sizes::MAX_ENTRY_COUNT;
 use gptman::{BothCopies, Disk, Error, GPT, Result, check};
 use gptman_change::read_table;
@@ -65,8 +65,8 @@ fn find_too_many_in<D: Disk>(disk: &mut D, sector_size: u64) -> Result<Option<u3
     ensures reads { Reads (D.state disk.old) (D.state disk.new) }
     ensures cause { HasCause result (D.state disk.old) (D.state disk.new) }
 {
-    let primary = read_raw_header(disk, sector_size, Place::Start)?;
-    let backup = read_raw_header(disk, sector_size, Place::End)?;
+    let primary = read_raw_header(disk, sector_size, HeaderPlace::Start)?;
+    let backup = read_raw_header(disk, sector_size, HeaderPlace::End)?;
     Ok(too_many_of(primary).or(too_many_of(backup)))
 }
 
@@ -179,8 +179,8 @@ fn read_headers<D: Disk>(
     ensures reads { Reads (D.state disk.old) (D.state disk.new) }
     ensures cause { HasCause result (D.state disk.old) (D.state disk.new) }
 {
-    let primary = read_raw_header(disk, sector_size, Place::Start)?;
-    let backup = read_raw_header(disk, sector_size, Place::End)?;
+    let primary = read_raw_header(disk, sector_size, HeaderPlace::Start)?;
+    let backup = read_raw_header(disk, sector_size, HeaderPlace::End)?;
     Ok(Headers {
         primary,
         backup,

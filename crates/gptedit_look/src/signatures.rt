@@ -15,7 +15,7 @@ pub const SIGNATURE: [u8; 8] = *b"EFI PART";
 
 /// One of the two places of a header.
 #[derive(Debug, Clone, Copy, PartialEq, Eq)]
-pub enum Place {
+pub enum HeaderPlace {
     /// Sector 1.
     Start,
     /// The last whole sector.
@@ -28,19 +28,19 @@ pub struct Signature {
     /// The sector size in bytes for which this is such a place.
     pub sector_size: u64,
     /// The place.
-    pub place: Place,
+    pub place: HeaderPlace,
     /// Its first byte.
     pub at: u64,
 }
 
 /// Returns the first byte of the header at this place. A disk of `size` bytes with fewer than 2 sectors has none.
-pub fn place_at(place: Place, sector_size: u64, size: u64) -> Option<u64>
+pub fn place_at(place: HeaderPlace, sector_size: u64, size: u64) -> Option<u64>
     ensures { SomeIff result (1 < size / sector_size) (byte_of place sector_size size) }
 {
     let sectors = size.checked_div(sector_size)?;
     match place {
-        Place::Start if sectors > 1 => Some(sector_size),
-        Place::End if sectors > 1 => (sectors - 1).checked_mul(sector_size),
+        HeaderPlace::Start if sectors > 1 => Some(sector_size),
+        HeaderPlace::End if sectors > 1 => (sectors - 1).checked_mul(sector_size),
         _ => None,
     }
 }
@@ -56,8 +56,14 @@ pub fn find_signatures<D: Disk>(alloc: Global, disk: &mut D) -> Result<Vec<Signa
 {
     let mut signatures = Vec::new(alloc);
     for sector_size in SECTOR_SIZES {
-        push_signature(alloc, disk, &mut signatures, sector_size, Place::Start)?;
-        push_signature(alloc, disk, &mut signatures, sector_size, Place::End)?;
+        push_signature(
+            alloc,
+            disk,
+            &mut signatures,
+            sector_size,
+            HeaderPlace::Start,
+        )?;
+        push_signature(alloc, disk, &mut signatures, sector_size, HeaderPlace::End)?;
     }
     Ok(signatures)
 }
@@ -68,7 +74,7 @@ fn push_signature<D: Disk>(
     disk: &mut D,
     signatures: &mut Vec<Signature>,
     sector_size: u64,
-    place: Place,
+    place: HeaderPlace,
 ) -> Result<()>
     ensures reads { Reads (D.state disk.old) (D.state disk.new) }
     ensures cause { HasCause result (D.state disk.old) (D.state disk.new) }
@@ -84,7 +90,7 @@ fn find_signature<D: Disk>(
     alloc: Global,
     disk: &mut D,
     sector_size: u64,
-    place: Place,
+    place: HeaderPlace,
 ) -> Result<Option<Signature>>
     ensures reads { Reads (D.state disk.old) (D.state disk.new) }
     ensures cause { HasCause result (D.state disk.old) (D.state disk.new) }

@@ -1,6 +1,6 @@
 //! Prints the changes of a table.
 
-use crate::compare::{Change, compare};
+use crate::compare::{EntryChange, compare};
 use crate::texts::{EntryText, GuidText, QuotedName, SectorsText, TypeText};
 use gptedit_text::values::AttributeNames;
 use gptman::{GPT, GPTHeader, GPTPartitionEntry};
@@ -91,15 +91,15 @@ fn write_bounds<W: fmt::Write>(
 struct ChangeText<'a> {
     was: &'a GPT,
     next: &'a GPT,
-    change: Change,
+    change: EntryChange,
 }
 
 impl fmt::Display for ChangeText<'_> {
     fn fmt<W: fmt::Write>(&self, f: &mut fmt::Formatter<W>) -> fmt::Result {
         match self.change {
-            Change::Removed { number } => write_whole(f, "-", self.was, number),
-            Change::Added { number } => write_whole(f, "+", self.next, number),
-            Change::Kept { from, to } => {
+            EntryChange::Removed { number } => write_whole(f, "-", self.was, number),
+            EntryChange::Added { number } => write_whole(f, "+", self.next, number),
+            EntryChange::Kept { from, to } => {
                 if from == to {
                     write!(f, "~ {to}")?;
                 } else {

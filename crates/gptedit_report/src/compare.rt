@@ -6,7 +6,7 @@ use std::collections::BTreeMap;
 
 /// A change of a used entry.
 #[derive(Clone, Copy)]
-pub(crate) enum Change {
+pub(crate) enum EntryChange {
     /// The entry is unused afterwards.
     Removed { number: u32 },
     /// The entry was unused before.
@@ -15,26 +15,30 @@ pub(crate) enum Change {
     Kept { from: u32, to: u32 },
 }
 
-impl Change {
+impl EntryChange {
     // Orders changes by the number afterwards, and a removal before an entry that replaces it.
     fn rank(self) -> (u32, u8) {
         match self {
-            Change::Removed { number } => (number, 0),
-            Change::Added { number } => (number, 1),
-            Change::Kept { to, .. } => (to, 1),
+            EntryChange::Removed { number } => (number, 0),
+            EntryChange::Added { number } => (number, 1),
+            EntryChange::Kept { to, .. } => (to, 1),
         }
     }
 }
 
 /// Returns the entries that differ, in the order of their numbers. Entries match if they have the same GUID, and under
 /// the same number also if they have the same sectors. Takes O(n log n) time for n entries.
-pub(crate) fn compare(alloc: Global, was: &GPT, next: &GPT) -> Result<Vec<Change>, AllocError> {
+pub(crate) fn compare(
+    alloc: Global,
+    was: &GPT,
+    next: &GPT,
+) -> Result<Vec<EntryChange>, AllocError> {
     let mut changes = Vec::new(alloc);
     let mut gone = find_gone(alloc, was, next, &mut changes)?;
     let added = find_added(alloc, was, next, &mut gone, &mut changes)?;
     add_renamed(was, next, &added, &mut gone, &mut changes)?;
     for number in gone.values() {
-        changes.push(Change::Removed { number: *number })?;
+        changes.push(EntryChange::Removed { number: *number })?;
     }
     changes.sort_by_key(|change| change.rank())?;
     Ok(changes)
@@ -46,13 +50,13 @@ fn find_gone(
     alloc: Global,
     was: &GPT,
     next: &GPT,
-    changes: &mut Vec<Change>,
+    changes: &mut Vec<EntryChange>,
 ) -> Result<BTreeMap<[u8; 16], u32>, AllocError> {
     let mut gone = BTreeMap::new(alloc);
     for (number, entry) in was.iter() {
         if entry.is_used() && !has_guid(next, number, &entry.unique_partition_guid) {
             if let Some(number) = gone.insert(entry.unique_partition_guid, number)? {
-                changes.push(Change::Removed { number })?;
+                changes.push(EntryChange::Removed { number })?;
             }
         }
     }
@@ -79,7 +83,7 @@ fn find_added(
     was: &GPT,
     next: &GPT,
     gone: &mut BTreeMap<[u8; 16], u32>,
-    changes: &mut Vec<Change>,
+    changes: &mut Vec<EntryChange>,
 ) -> Result<Vec<u32>, AllocError> {
     let mut added = Vec::new(alloc);
     for (to, entry) in next.iter() {
@@ -88,10 +92,10 @@ fn find_added(
         }
         if has_guid(was, to, &entry.unique_partition_guid) {
             if was.get(to) != Some(entry) {
-                changes.push(Change::Kept { from: to, to })?;
+                changes.push(EntryChange::Kept { from: to, to })?;
             }
         } else if let Some(from) = gone.remove(&entry.unique_partition_guid) {
-            changes.push(Change::Kept { from, to })?;
+            changes.push(EntryChange::Kept { from, to })?;
         } else {
             added.push(to)?;
         }
@@ -105,19 +109,19 @@ fn add_renamed(
     next: &GPT,
     added: &[u32],
     gone: &mut BTreeMap<[u8; 16], u32>,
-    changes: &mut Vec<Change>,
+    changes: &mut Vec<EntryChange>,
 ) -> Result<(), AllocError> {
     for number in added {
         let number = *number;
         let change = match same_place(was, next, number) {
             Some(before) if gone.get(&before) == Some(&number) => {
                 gone.remove(&before);
-                Change::Kept {
+                EntryChange::Kept {
                     from: number,
                     to: number,
                 }
             }
-            _ => Change::Added { number },
+            _ => EntryChange::Added { number },
         };
         changes.push(change)?;
     }

@@ -1,7 +1,7 @@
 //! The refusal of partitions that do not fit on a shortened disk.
 
 use crate::bounds::Edges;
-use crate::layout::{Standing, length_to};
+use crate::layout::{LayoutState, length_to};
 use crate::way::{Truncate, write_longer_disk};
 use gptedit_text::values::Escaped;
 use gptman::GPT;
@@ -24,7 +24,7 @@ impl<'a> CutText<'a> {
     /// Returns the message for a disk of `size` bytes, if it is shorter than its table and a partition does not fit.
     /// `is_device` says whether it is a block device, not an image file.
     pub fn of(table: &'a GPT, size: u64, is_device: bool, image: &'a str) -> Option<CutText<'a>> {
-        let Standing::Cut(last) = Standing::of(table, size) else {
+        let LayoutState::Cut(last) = LayoutState::of(table, size) else {
             return None;
         };
         let text = CutText {

@@ -4,9 +4,9 @@ use crate::bounds::Edges;
 use crate::copies::CopiesState;
 use crate::entries::{EntryFault, Removal, find_entry_faults};
 use crate::fault::Meaning;
-use crate::layout::{Standing, length_to};
+use crate::layout::{LayoutState, length_to};
 use crate::way::{Otherwise, Way};
-use gptedit_look::{Look, MbrKind, Place, Signature};
+use gptedit_look::{HeaderPlace, Look, MbrKind, Signature};
 use gptman::{Error, GPT};
 use std::alloc::{AllocError, Global};
 use std::fmt;
@@ -79,7 +79,7 @@ pub fn find_all<'a>(
 ) -> Result<Vec<Finding<'a>>, AllocError> {
     let mut findings = Findings::new(alloc, look, is_device)?;
     findings.add_copies()?;
-    findings.add_standing()?;
+    findings.add_layout_state()?;
     findings.add_bounds()?;
     findings.add_entries()?;
     findings.add_mbr()?;
@@ -94,7 +94,7 @@ struct Findings<'a> {
     alloc: Global,
     look: &'a Look,
     is_device: bool,
-    standing: Option<Standing>,
+    layout_state: Option<LayoutState>,
     faults: Vec<EntryFault>,
     removal: Removal,
     list: Vec<Finding<'a>>,
@@ -106,15 +106,15 @@ impl<'a> Findings<'a> {
             Some(table) => find_entry_faults(alloc, table)?,
             None => Vec::new(alloc),
         };
-        let standing = look
+        let layout_state = look
             .table
             .as_ref()
-            .map(|table| Standing::of(table, look.size));
+            .map(|table| LayoutState::of(table, look.size));
         Ok(Findings {
             alloc,
             look,
             is_device,
-            standing,
+            layout_state,
             removal: Removal::of(alloc, &faults)?,
             faults,
             list: Vec::new(alloc),
@@ -124,12 +124,12 @@ impl<'a> Findings<'a> {
     // Adds a finding that commands for the whole table may correct.
     fn add(&mut self, wrong: Wrong<'a>) -> Result<(), AllocError> {
         let mut ways = Vec::new(self.alloc);
-        match self.standing {
+        match self.layout_state {
             None => (),
-            Some(Standing::Right) => ways.push(Way::Repair)?,
-            Some(Standing::Grown(_)) | Some(Standing::Cut(_)) => ways.push(Way::Grow)?,
-            Some(Standing::Other) if self.are_bounds_over() => ways.push(Way::RepairBounds)?,
-            Some(Standing::Other) => (),
+            Some(LayoutState::Right) => ways.push(Way::Repair)?,
+            Some(LayoutState::Grown(_)) | Some(LayoutState::Cut(_)) => ways.push(Way::Grow)?,
+            Some(LayoutState::Other) if self.are_bounds_over() => ways.push(Way::RepairBounds)?,
+            Some(LayoutState::Other) => (),
         }
         if let Some(way) = self.removal.way(self.alloc)? {
             ways.push(way)?;
@@ -139,9 +139,9 @@ impl<'a> Findings<'a> {
 
     // Returns the advice if no command corrects a fault of the table.
     fn otherwise(&self) -> Otherwise {
-        match self.standing {
+        match self.layout_state {
             None => Otherwise::Save,
-            Some(Standing::Cut(last)) => {
+            Some(LayoutState::Cut(last)) => {
                 let size = length_to(last, self.look.sector_size);
                 if self.is_device {
                     Otherwise::LongerDisk(size)
@@ -199,12 +199,12 @@ impl<'a> Findings<'a> {
     }
 
     // Adds a fault of the layout.
-    fn add_standing(&mut self) -> Result<(), AllocError> {
-        match self.standing {
-            None | Some(Standing::Right) => Ok(()),
-            Some(Standing::Grown(last)) => self.add(Wrong::Grown(last)),
-            Some(Standing::Cut(last)) => self.add(Wrong::Cut(last)),
-            Some(Standing::Other) => self.add(Wrong::NoLayout),
+    fn add_layout_state(&mut self) -> Result<(), AllocError> {
+        match self.layout_state {
+            None | Some(LayoutState::Right) => Ok(()),
+            Some(LayoutState::Grown(last)) => self.add(Wrong::Grown(last)),
+            Some(LayoutState::Cut(last)) => self.add(Wrong::Cut(last)),
+            Some(LayoutState::Other) => self.add(Wrong::NoLayout),
         }
     }
 
@@ -220,8 +220,8 @@ impl<'a> Findings<'a> {
         if !edges.are_over() && !is_low {
             return Ok(());
         }
-        let way = match self.standing {
-            Some(Standing::Grown(_)) | Some(Standing::Cut(_)) => Way::Grow,
+        let way = match self.layout_state {
+            Some(LayoutState::Grown(_)) | Some(LayoutState::Cut(_)) => Way::Grow,
             _ => Way::RepairBounds,
         };
         let mut ways = vec![in self.alloc; way]?;
@@ -331,8 +331,8 @@ fn write_signature<W: fmt::Write>(f: &mut fmt::Formatter<W>, signature: &Signatu
         at,
     } = *signature;
     let place = match place {
-        Place::Start => "start",
-        Place::End => "end",
+        HeaderPlace::Start => "start",
+        HeaderPlace::End => "end",
     };
     write!(
         f,

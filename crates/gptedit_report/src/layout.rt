@@ -4,7 +4,7 @@ use gptman::GPT;
 
 /// The layout of a table on its disk.
 #[derive(Clone, Copy)]
-pub(crate) enum Standing {
+pub(crate) enum LayoutState {
     /// The stated layout.
     Right,
     /// The stated layout of a shorter disk, which ends at this sector.
@@ -15,23 +15,23 @@ pub(crate) enum Standing {
     Other,
 }
 
-impl Standing {
+impl LayoutState {
     /// Returns the layout of a table on a disk of `size` bytes.
-    pub(crate) fn of(table: &GPT, size: u64) -> Standing {
+    pub(crate) fn of(table: &GPT, size: u64) -> LayoutState {
         if table.has_layout(size) {
-            return Standing::Right;
+            return LayoutState::Right;
         }
         let last = table.header.primary_lba.max(table.header.backup_lba);
         let Some(sectors) = size.checked_div(table.sector_size) else {
-            return Standing::Other;
+            return LayoutState::Other;
         };
         if sectors <= last {
-            return Standing::Cut(last);
+            return LayoutState::Cut(last);
         }
         if has_layout_to(table, last) {
-            return Standing::Grown(last);
+            return LayoutState::Grown(last);
         }
-        Standing::Other
+        LayoutState::Other
     }
 }
 

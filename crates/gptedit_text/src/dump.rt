@@ -2,7 +2,7 @@
 
 use crate::table_header::Header;
 use crate::values::{AmountText, AttributeName, SizeText, TomlText, UnitsText};
-use gptedit_core::{Asked, Layout};
+use gptedit_core::{Asked, RequestedLayout};
 use gptman::PartitionName;
 use std::alloc::{AllocError, Global};
 use std::fmt;
@@ -12,13 +12,17 @@ use std::fmt;
 ///
 /// A name is written as its UTF-16 units if its text does not encode to the same 36 units, as with half a surrogate
 /// pair or units after a zero. Hidden characters of a name are escaped.
-pub fn write_layout(alloc: Global, layout: &Layout, header: &Header) -> Result<String, AllocError> {
+pub fn write_layout(
+    alloc: Global,
+    layout: &RequestedLayout,
+    header: &Header,
+) -> Result<String, AllocError> {
     format!(in alloc; "{}", LayoutText { layout, header })
 }
 
 #[derive(Clone, Copy)]
 struct LayoutText<'a> {
-    layout: &'a Layout,
+    layout: &'a RequestedLayout,
     header: &'a Header,
 }
 

@@ -1,8 +1,8 @@
 //! The requests for entries, collected while a text is read.
 
-use crate::error::{Fault, LayoutError, Place};
+use crate::error::{Fault, LayoutError, TextPlace};
 use crate::values::is_long_name;
-use gptedit_core::{Amount, Asked, Layout, Mode, Size};
+use gptedit_core::{Amount, Asked, Mode, RequestedLayout, Size};
 use gptman::PartitionName;
 use std::alloc::Global;
 use std::collections::BTreeSet;
@@ -46,7 +46,7 @@ impl Entries {
 
     /// Adds the request for the entry with this number, from this place in the text. Fails with `Taken` if another
     /// request has the number.
-    pub fn add(&mut self, place: Place, number: u32, asked: Asked) -> Result<(), LayoutError> {
+    pub fn add(&mut self, place: TextPlace, number: u32, asked: Asked) -> Result<(), LayoutError> {
         if !self.numbers.insert(number)? {
             return Err(place.fault("number", Fault::Taken(number)));
         }
@@ -57,7 +57,7 @@ impl Entries {
     }
 
     /// Fails with `SecondRest` if this request has the size `rest` and an earlier one has it too.
-    pub fn check_rest(&mut self, place: Place, asked: &Asked) -> Result<(), LayoutError> {
+    pub fn check_rest(&mut self, place: TextPlace, asked: &Asked) -> Result<(), LayoutError> {
         if asked.size != Some(Size::Rest) {
             return Ok(());
         }
@@ -78,8 +78,13 @@ impl Entries {
     }
 
     /// Returns the layout. A table becomes it, and no entry may be moved or left out.
-    pub fn into_layout(self, alloc: Global, disk_guid: Option<[u8; 16]>, align: Amount) -> Layout {
-        Layout {
+    pub fn into_layout(
+        self,
+        alloc: Global,
+        disk_guid: Option<[u8; 16]>,
+        align: Amount,
+    ) -> RequestedLayout {
+        RequestedLayout {
             mode: Mode::Become { replace: false },
             disk_guid,
             align,
@@ -91,7 +96,11 @@ impl Entries {
 
 /// Reads the name of a partition from this place in the text. Fails with `LongName` if it has more than 36 UTF-16
 /// units, and with `ZeroInName` if it contains a zero character, which would end it.
-pub fn read_name(alloc: Global, place: Place, text: &str) -> Result<PartitionName, LayoutError> {
+pub fn read_name(
+    alloc: Global,
+    place: TextPlace,
+    text: &str,
+) -> Result<PartitionName, LayoutError> {
     if text.contains('\0') {
         return Err(place.fault("name", Fault::ZeroInName));
     }

@@ -22,12 +22,12 @@ pub enum LayoutError {
     Empty,
     /// The key is unknown.
     Unknown {
-        place: Place,
+        place: TextPlace,
         key: String,
     },
     /// The value under the key is wrong.
     Fault {
-        place: Place,
+        place: TextPlace,
         key: &'static str,
         fault: Fault,
     },
@@ -37,7 +37,7 @@ pub enum LayoutError {
 
 /// A place in a text.
 #[derive(Clone, Copy, PartialEq, Eq, Debug)]
-pub struct Place {
+pub struct TextPlace {
     /// The line, from 1, if it is known.
     pub line: Option<usize>,
     /// The section.
@@ -71,14 +71,18 @@ impl fmt::Display for LayoutError {
     }
 }
 
-fn write_line<W: fmt::Write>(f: &mut fmt::Formatter<W>, place: Place) -> fmt::Result {
+fn write_line<W: fmt::Write>(f: &mut fmt::Formatter<W>, place: TextPlace) -> fmt::Result {
     match place.line {
         Some(line) => write!(f, "line {line}: "),
         None => Ok(()),
     }
 }
 
-fn write_unknown<W: fmt::Write>(f: &mut fmt::Formatter<W>, place: Place, key: &str) -> fmt::Result {
+fn write_unknown<W: fmt::Write>(
+    f: &mut fmt::Formatter<W>,
+    place: TextPlace,
+    key: &str,
+) -> fmt::Result {
     write_line(f, place)?;
     let section = place.section;
     write!(
@@ -108,7 +112,7 @@ impl<T: Drop> From<AllocFailed<T>> for LayoutError {
     }
 }
 
-impl Place {
+impl TextPlace {
     /// Returns the error for a wrong value under this key.
     pub(crate) fn fault(self, key: &'static str, fault: Fault) -> LayoutError {
         LayoutError::Fault {

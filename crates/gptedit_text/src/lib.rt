@@ -16,7 +16,7 @@ pub mod values;
 
 pub use dump::write_layout;
 pub use error::LayoutError;
-use gptedit_core::Layout;
+use gptedit_core::RequestedLayout;
 pub use layout::read_layout;
 pub use script::{is_script, read_script};
 pub use table_header::{Form, Header, OtherValue};
@@ -28,7 +28,7 @@ pub const MAX_LAYOUT_BYTES: u64 = 64 << 20;
 #[derive(Drop, Debug)]
 pub struct Parsed {
     /// The layout.
-    pub layout: Layout,
+    pub layout: RequestedLayout,
     /// The values for the header of the table.
     pub header: Header,
     /// The form of the text.

@@ -1,6 +1,6 @@
 //! Finds the line of an error in a TOML text.
 
-use crate::error::{LayoutError, Place, Section};
+use crate::error::{LayoutError, Section, TextPlace};
 use std::str::Lines;
 
 /// Returns the error with the line of its key, if the line is found.
@@ -35,12 +35,12 @@ pub fn position_of(text: &str, at: usize) -> (usize, usize) {
 }
 
 // Returns the line of the key, or else that of the header of its section.
-fn find_place(text: &str, section: Section, key: &str) -> Place {
+fn find_place(text: &str, section: Section, key: &str) -> TextPlace {
     let line = match find_key(text, section, key) {
         Some(line) => Some(line),
         None => find_header(text, section),
     };
-    Place { line, section }
+    TextPlace { line, section }
 }
 
 // The headers before a line: its section, and the number of partitions so far.

@@ -8,7 +8,7 @@ mod words;
 
 use crate::Parsed;
 use crate::entries::Entries;
-use crate::error::{LayoutError, Place, Section};
+use crate::error::{LayoutError, Section, TextPlace};
 use crate::script::fields::read_line;
 use crate::script::header_lines::{HeaderLines, header_of};
 use crate::table_header::Form;
@@ -61,6 +61,6 @@ fn is_said(line: &str) -> bool {
     !line.is_empty() && !line.starts_with('#')
 }
 
-fn place_in(section: Section, line: Option<usize>) -> Place {
-    Place { line, section }
+fn place_in(section: Section, line: Option<usize>) -> TextPlace {
+    TextPlace { line, section }
 }

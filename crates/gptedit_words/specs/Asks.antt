@@ -9,14 +9,14 @@ use Rattle.gptedit_core.specs.declared.amount.Amount.TheVariants.{Bytes}
 use Rattle.gptedit_core.specs.declared.asked.Asked.{Asked}
 use Rattle.gptedit_core.specs.declared.asked.Choice.{Choice}
 use Rattle.gptedit_core.specs.declared.asked.Choice.TheVariants.{First}
-use Rattle.gptedit_core.specs.declared.asked.Layout.{Layout}
+use Rattle.gptedit_core.specs.declared.asked.RequestedLayout.{RequestedLayout}
 use Rattle.gptedit_core.specs.declared.asked.Mode.{Mode}
 use Rattle.gptedit_core.specs.declared.asked.Mode.TheVariants.{Add as Adding, Change as Changing}
 use Rattle.gptedit_core.specs.declared.asked.Size.{Size}
 use Rattle.gptedit_core.specs.declared.asked.Size.TheVariants.{Exactly, Rest}
 use Rattle.gptedit_text.specs.Words.{choice_said, guid_said, type_said, FitsAmount, FitsSize, SaysAmount, SaysAttributes, SaysSize}
 use Rattle.gptedit_words.specs.declared.request.Change.{Change}
-use Rattle.gptedit_words.specs.declared.request.Change.TheVariants.{New, Lay, Sort, Grow, Repair, Randomize, Apply, Wipe}
+use Rattle.gptedit_words.specs.declared.request.Change.TheVariants.{New, Edit, Sort, Grow, Repair, Randomize, Apply, Wipe}
 use Rattle.gptedit_words.specs.declared.request.Command.{Command}
 use Rattle.gptedit_words.specs.declared.request.Command.TheVariants.{Show, Check, Free, Dump, Salvage, Write}
 use Rattle.gptedit_words.specs.declared.request.ImageRequest.{ImageRequest}
@@ -24,8 +24,8 @@ use Rattle.gptedit_words.specs.declared.request.Lock.{Lock}
 use Rattle.gptedit_words.specs.declared.request.Lock.TheVariants.{Wait, Fail, None as Unlocked}
 use Rattle.gptedit_words.specs.declared.request.NewTable.{NewTable}
 use Rattle.gptedit_words.specs.declared.request.Options.{Options}
-use Rattle.gptedit_words.specs.declared.request.Request.{Request}
-use Rattle.gptedit_words.specs.declared.request.Request.TheVariants.{Types, Image}
+use Rattle.gptedit_words.specs.declared.request.CommandLine.{CommandLine}
+use Rattle.gptedit_words.specs.declared.request.CommandLine.TheVariants.{Types, Image}
 
 -- The value is the meaning of the text, or None if there is no text.
 abbrev pub Gives : {A : Type 0} → (List ℕ → A → Type 0) → Option (List ℕ) → Option A → Type 0
@@ -160,7 +160,7 @@ IsOne asks (asked ∷ []) = asks asked
 IsOne asks entries = ⊥
 
 -- The layout has this mode, asks this of one entry, removes none, and keeps the disk GUID.
-pub record AsksOne (mode : Mode) (asks : Asked → Type 0) (layout : Layout) : Type 0 where
+pub record AsksOne (mode : Mode) (asks : Asked → Type 0) (layout : RequestedLayout) : Type 0 where
   pub mode_is : layout.mode ≡ mode
   pub guid_stays : layout.disk_guid ≡ None
   pub removes_none : layout.removed.items ≡ []
@@ -174,7 +174,7 @@ pub record AsksSize (found : Found) (asked : Asked) : Type 0 where
   pub fields_stay : KeepsFields asked
 
 abbrev pub IsResize : Found → Change → Type 0
-IsResize found (Lay layout) = AsksOne Changing (AsksSize found) layout × (layout.align ≡ usual_align)
+IsResize found (Edit layout) = AsksOne Changing (AsksSize found) layout × (layout.align ≡ usual_align)
 IsResize found change = ⊥
 
 -- `set IMAGE N` changes only the given fields of entry N.
@@ -184,7 +184,7 @@ pub record AsksSet (found : Found) (asked : Asked) : Type 0 where
   pub place_stays : KeepsPlace asked
 
 abbrev pub IsSetting : Found → Change → Type 0
-IsSetting found (Lay layout) = AsksOne Changing (AsksSet found) layout
+IsSetting found (Edit layout) = AsksOne Changing (AsksSet found) layout
 IsSetting found change = ⊥
 
 -- `add IMAGE` adds an entry with these values.
@@ -196,7 +196,7 @@ pub record AsksAddition (found : Found) (asked : Asked) : Type 0 where
   pub place : GivesOr SaysChoice First (first_value found (codes "--place")) asked.choice
 
 abbrev pub IsAddition : Found → Change → Type 0
-IsAddition found (Lay layout) = AsksOne Adding (AsksAddition found) layout
+IsAddition found (Edit layout) = AsksOne Adding (AsksAddition found) layout
     × GivesOr SaysAmount usual_align (first_value found (codes "--align")) layout.align
 IsAddition found change = ⊥
 
@@ -210,14 +210,14 @@ HasNumbers (Some texts) numbers = AreNumbers texts numbers
 HasNumbers None numbers = ⊥
 
 -- `remove IMAGE N..` only removes these numbers, in their order.
-pub record AsksRemoval (found : Found) (layout : Layout) : Type 0 where
+pub record AsksRemoval (found : Found) (layout : RequestedLayout) : Type 0 where
   pub mode_is : layout.mode ≡ Changing
   pub guid_stays : layout.disk_guid ≡ None
   pub removes : HasNumbers (texts_of_place found (codes "N")) layout.removed.items
   pub asks_none : layout.asked.items ≡ []
 
 abbrev pub IsRemoval : Found → Change → Type 0
-IsRemoval found (Lay layout) = AsksRemoval found layout
+IsRemoval found (Edit layout) = AsksRemoval found layout
 IsRemoval found change = ⊥
 
 -- `new IMAGE` makes a table with these values.
@@ -234,10 +234,10 @@ pub record AsksApply (found : Found) (file : List ℕ) (is_replacing is_creating
 -- The command of this name makes this change, with these arguments.
 abbrev pub IsChange : List ℕ → Found → Change → Type 0
 IsChange name found (New new) = (name ≡ codes "new") × AsksNew found new
-IsChange name found (Lay layout) = ((name ≡ codes "add") × IsAddition found (Lay layout))
-    ⊎ (((name ≡ codes "set") × IsSetting found (Lay layout))
-    ⊎ (((name ≡ codes "resize") × IsResize found (Lay layout))
-    ⊎ ((name ≡ codes "remove") × IsRemoval found (Lay layout))))
+IsChange name found (Edit layout) = ((name ≡ codes "add") × IsAddition found (Edit layout))
+    ⊎ (((name ≡ codes "set") × IsSetting found (Edit layout))
+    ⊎ (((name ≡ codes "resize") × IsResize found (Edit layout))
+    ⊎ ((name ≡ codes "remove") × IsRemoval found (Edit layout))))
 IsChange name found Sort = name ≡ codes "sort"
 IsChange name found Grow = name ≡ codes "grow"
 IsChange name found (Repair has_usual_bounds) = (name ≡ codes "repair") × IsFlag found (codes "--bounds") has_usual_bounds
@@ -290,6 +290,6 @@ pub record AsksImage (name : List ℕ) (found : Found) (request : ImageRequest) 
   pub command_is : IsCommand name found request.command
 
 -- The command of this name is this request, with these arguments.
-abbrev pub IsRequest : List ℕ → Found → Request → Type 0
-IsRequest name found (Types is_json) = (name ≡ codes "types") × IsFlag found (codes "--json") is_json
-IsRequest name found (Image request) = AsksImage name found request
+abbrev pub IsCommandLine : List ℕ → Found → CommandLine → Type 0
+IsCommandLine name found (Types is_json) = (name ≡ codes "types") × IsFlag found (codes "--json") is_json
+IsCommandLine name found (Image request) = AsksImage name found request

@@ -4,12 +4,12 @@ use Rattle.clap.specs.Words.{fault_of, kind_of, rows_of, subcommand_of, IsAmong}
 use Rattle.clap.specs.declared.error.Error.{Error}
 use Rattle.clap.specs.declared.error.kind.ErrorKind.TheVariants as kind
 use Rattle.clap.specs.declared.parser.matches.Found.{Found}
-use Rattle.gptedit_words.specs.Asks.{IsRequest}
+use Rattle.gptedit_words.specs.Asks.{IsCommandLine}
 use Rattle.gptedit_words.specs.Line.{line}
 use Rattle.gptedit_words.specs.Refusals.{CanAsk, RefusedOnlyFor}
 use Rattle.gptedit_words.specs.declared.error.WordsError.{WordsError}
 use Rattle.gptedit_words.specs.declared.error.WordsError.TheVariants.{LongName, MapAsJson, Missing, NothingToSet, OutOfMemory, Sector, Usage, Value}
-use Rattle.gptedit_words.specs.declared.request.Request.{Request}
+use Rattle.gptedit_words.specs.declared.request.CommandLine.{CommandLine}
 
 -- The bytes of each argument.
 abbrev pub texts_of : {A : Type 0} → List (String A) → List (List ℕ)
@@ -21,18 +21,18 @@ pub record Names (words : List (List ℕ)) (name : List ℕ) (found : Found) : T
   pub command : subcommand_of line words ≡ Some (name, rows_of found)
 
 -- The command line is this request.
-pub record IsSpelled (words : List (List ℕ)) (request : Request) : Type 0 where
+pub record IsSpelled (words : List (List ℕ)) (request : CommandLine) : Type 0 where
   pub name : List ℕ
   pub found : Found
   pub named : Names words name found
-  pub asks : IsRequest name found request
+  pub asks : IsCommandLine name found request
 
 -- The command's own arguments are refused for this reason.
 pub record IsWrongOf (words : List (List ℕ)) (error : WordsError) : Type 0 where
   pub name : List ℕ
   pub found : Found
   pub named : Names words name found
-  pub reason : RefusedOnlyFor {A = Request} found ((name ≢ codes "types") × ¬ (CanAsk name found)) (Err error)
+  pub reason : RefusedOnlyFor {A = CommandLine} found ((name ≢ codes "types") × ¬ (CanAsk name found)) (Err error)
 
 -- The command line is refused for this reason.
 abbrev pub IsRefused : List (List ℕ) → WordsError → Type 0

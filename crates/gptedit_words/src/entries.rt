@@ -14,7 +14,7 @@ use crate::values::{
     amount, attributes, choice, guid, kind, name, new_size, number, number_if_given, numbers, size,
 };
 use clap::ArgMatches;
-use gptedit_core::{Amount, Asked, Choice, DEFAULT_ALIGN, Layout, Mode};
+use gptedit_core::{Amount, Asked, Choice, DEFAULT_ALIGN, Mode, RequestedLayout};
 use std::alloc::{AllocError, Global};
 
 /// The alignment of commands that choose no place.
@@ -30,7 +30,7 @@ pub(crate) fn read_add<'a>(
 {
     let asked = read_new_entry(alloc, words)?;
     let align = amount(words, "--align")?.unwrap_or(DEFAULT_ALIGN);
-    Ok(Change::Lay(Layout {
+    Ok(Change::Edit(RequestedLayout {
         mode: Mode::Add,
         ..layout_of(alloc, align, asked)?
     }))
@@ -64,7 +64,7 @@ pub(crate) fn read_set<'a>(
         number: Some(number(words, "N")?),
         ..read_fields(alloc, words)?
     };
-    Ok(Change::Lay(layout_of(alloc, ANY, asked)?))
+    Ok(Change::Edit(layout_of(alloc, ANY, asked)?))
 }
 
 // Reports whether a field of the entry is given.
@@ -91,7 +91,7 @@ pub(crate) fn read_resize<'a>(
         size: new_size(words, "SIZE|max")?,
         ..Asked::nothing(None)
     };
-    Ok(Change::Lay(layout_of(alloc, DEFAULT_ALIGN, asked)?))
+    Ok(Change::Edit(layout_of(alloc, DEFAULT_ALIGN, asked)?))
 }
 
 /// Reads the arguments of `remove`.
@@ -102,7 +102,7 @@ pub(crate) fn read_remove<'a>(
     ensures said { IfOk result (IsRemoval (found_of words.now)) }
     ensures refused { RefusedOnlyFor (found_of words.now) (¬ (CanRemove (texts_of_place (found_of words.now) (codes "N")))) result }
 {
-    Ok(Change::Lay(Layout {
+    Ok(Change::Edit(RequestedLayout {
         mode: Mode::Change,
         disk_guid: None,
         align: ANY,
@@ -112,14 +112,14 @@ pub(crate) fn read_remove<'a>(
 }
 
 // Returns the layout that changes one entry.
-fn layout_of(alloc: Global, align: Amount, asked: Asked) -> Result<Layout, AllocError>
+fn layout_of(alloc: Global, align: Amount, asked: Asked) -> Result<RequestedLayout, AllocError>
     ensures mode { IfOk result (λ layout. layout.mode ≡ Changing) }
     ensures guid { IfOk result (λ layout. layout.disk_guid ≡ None) }
     ensures align { IfOk result (λ layout. layout.align ≡ align) }
     ensures removed { IfOk result (λ layout. layout.removed.items ≡ []) }
     ensures asked { IfOk result (λ layout. layout.asked.items ≡ asked ∷ []) }
 {
-    Ok(Layout {
+    Ok(RequestedLayout {
         mode: Mode::Change,
         disk_guid: None,
         align,

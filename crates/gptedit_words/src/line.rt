@@ -2,14 +2,14 @@
 
 ghost use Rattle.std.specs.Prelude.{◌≡◌, ◌≢◌, codes, IfErr, IfOk, None};
 ghost use Rattle.clap.specs.Words.{first_value, found_of};
-ghost use Rattle.gptedit_words.specs.Asks.{AsksOptions, IsChange, IsCommand, IsRequest, IsWrong, SaysNoLock};
+ghost use Rattle.gptedit_words.specs.Asks.{AsksOptions, IsChange, IsCommand, IsCommandLine, IsWrong, SaysNoLock};
 ghost use Rattle.gptedit_words.specs.Refusals.{CanAsk, CanChange, CanMake, CanRun, CanShow, RefusedOnlyFor};
 ghost use Rattle.gptedit_words.specs.Spelled.{texts_of, IsRefused, IsSpelled};
 
 use crate::definition::command;
 use crate::entries;
 use crate::error::WordsError;
-use crate::request::{Change, Command, ImageRequest, Lock, NewTable, Options, Request};
+use crate::request::{Change, Command, CommandLine, ImageRequest, Lock, NewTable, Options};
 use crate::values::{amount, guid, lock, needed, number_if_given, sector_size};
 use clap::ArgMatches;
 use std::alloc::Global;
@@ -19,7 +19,7 @@ use std::alloc::Global;
 /// # Errors
 /// `Usage` if they do not fit the command line; `Missing`, `Value`, `Sector`, `LongName`, `NothingToSet` or `MapAsJson`
 /// if the arguments of a command are wrong; `OutOfMemory` if an allocation fails.
-pub fn read_words<'a>(alloc: Global, words: &'a [String]) -> Result<Request<'a>, WordsError<'a>>
+pub fn read_words<'a>(alloc: Global, words: &'a [String]) -> Result<CommandLine<'a>, WordsError<'a>>
     ensures said { IfOk result (IsSpelled (texts_of words.entry.now)) }
     ensures refused { IfErr result (IsRefused (texts_of words.entry.now)) }
 {
@@ -34,16 +34,16 @@ fn read_request<'a>(
     alloc: Global,
     name: &str,
     words: &ArgMatches<'a>,
-) -> Result<Request<'a>, WordsError<'a>>
-    ensures said { IfOk result (IsRequest name.now (found_of words.now)) }
+) -> Result<CommandLine<'a>, WordsError<'a>>
+    ensures said { IfOk result (IsCommandLine name.now (found_of words.now)) }
     ensures refused { RefusedOnlyFor (found_of words.now) ((name.now ≢ codes "types") × ¬ (CanAsk name.now (found_of words.now))) result }
 {
     if name == "types" {
-        return Ok(Request::Types {
+        return Ok(CommandLine::Types {
             is_json: words.get_flag("--json"),
         });
     }
-    Ok(Request::Image(ImageRequest {
+    Ok(CommandLine::Image(ImageRequest {
         image: needed(words, "IMAGE")?,
         sector_size: sector_size(words)?,
         is_json: words.get_flag("--json"),

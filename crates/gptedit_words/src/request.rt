@@ -1,10 +1,10 @@
 //! The requests of a command line.
 
-use gptedit_core::{Amount, Layout};
+use gptedit_core::{Amount, RequestedLayout};
 
 /// The request of a command line.
 #[derive(Drop, Debug)]
-pub enum Request<'a> {
+pub enum CommandLine<'a> {
     /// Lists the types that have names.
     Types {
         /// Whether to print JSON.
@@ -96,7 +96,7 @@ pub enum Change<'a> {
     /// Writes a new table and a protective MBR.
     New(NewTable),
     /// Changes entries as this layout says.
-    Lay(Layout),
+    Edit(RequestedLayout),
     /// Numbers the partitions in the order of their starts.
     Sort,
     /// Fits the table to the length of the image.

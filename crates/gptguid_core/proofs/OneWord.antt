@@ -8,11 +8,11 @@ use Rattle.gptguid_core.specs.Forms.{guid_of_digits}
 use Rattle.gptguid_core.specs.Lines.{answer_to, texts_of, type_lines, word_answer}
 use Rattle.gptguid_core.specs.Types.{types}
 
-pub alone : {A : Type 0} (words : List (String A)) (word : String A) (text : List ℕ) → 1 ≤ length words → length words < 2
+pub only_word : {A : Type 0} (words : List (String A)) (word : String A) (text : List ℕ) → 1 ≤ length words → length words < 2
     → word ≡ slice_index_or words 0 word → text ≡ string_bytes word → texts_of words ≡ text ∷ []
-alone [] word text some few is bytes = absurd (omega (arith, some))
-alone (w ∷ []) word text some few is bytes = ap (λ t. t ∷ []) (sym (bytes ∙ ap string_bytes is))
-alone (w ∷ v ∷ rest) word text some few is bytes = absurd (omega (arith, few))
+only_word [] word text some few is bytes = absurd (omega (arith, some))
+only_word (w ∷ []) word text some few is bytes = ap (λ t. t ∷ []) (sym (bytes ∙ ap string_bytes is))
+only_word (w ∷ v ∷ rest) word text some few is bytes = absurd (omega (arith, few))
 
 unlisted : (b : Bool) (P : Type 0) (l w : ℕ × List ℕ) → Decides b P → (P → ⊥) → (if b then l else w) ≡ w
 unlisted true P l w decides not = absurd (not (decides.0 refl))

@@ -17,7 +17,7 @@ use Rattle.hex.specs.Hex.{decode_pairs, decode_sized, digit_or_error, encode_low
 use Rattle.hex.specs.declared.error.FromHexError.{FromHexError}
 use Rattle.gptimg_core.specs.Asks.{writes, AskFor, AskToWrite}
 use Rattle.gptimg_core.specs.Spelling.{choice_word, kind_word, sector_word, spell, spell_change, AreDigitPairs, IsAllowed, IsAllowedAddition, IsAllowedChange, IsDigits, IsEntryNumber, IsGuid, IsNumeral, IsSectorSize, IsSize, IsSpelled, IsSpelledAddition, IsSpelledChange}
-use Rattle.gptimg_core.specs.Words.{addition_in, addition_of, alone, change_in, check_in, choice_in, command_in, entry_number_in, free_in, guid_in, kind_in, mbr_in, named_change_in, named_command_in, new_in, number_in, remove_in, sector_size_in, show_in, size_in, type_in}
+use Rattle.gptimg_core.specs.Words.{addition_in, addition_of, change_in, check_in, choice_in, command_in, entry_number_in, free_in, guid_in, kind_in, mbr_in, named_change_in, named_command_in, new_in, number_in, remove_in, sector_size_in, show_in, size_in, type_in, without_words}
 use Rattle.gptimg_core.specs.declared.words.Addition.{Addition}
 use Rattle.gptimg_core.specs.declared.words.Change.{Change}
 use Rattle.gptimg_core.specs.declared.words.Change.TheVariants.{Add, Remove, Sort, Grow}
@@ -370,20 +370,20 @@ remove_spelled name (number ∷ []) change is h =
 remove_spelled name (number ∷ other ∷ words) change is h = cc h
 
 -- a change that takes no words
-alone_spelled : (one : Change) (name : List ℕ) (words : List (List ℕ)) (change : Change) → Means (name ∷ []) one → alone one words ≡ Some change → Means (name ∷ words) change
-alone_spelled one name [] change means h = subst (Means (name ∷ [])) (some_same one change h) means
-alone_spelled one name (other ∷ words) change means h = cc h
+without_words_spelled : (one : Change) (name : List ℕ) (words : List (List ℕ)) (change : Change) → Means (name ∷ []) one → without_words one words ≡ Some change → Means (name ∷ words) change
+without_words_spelled one name [] change means h = subst (Means (name ∷ [])) (some_same one change h) means
+without_words_spelled one name (other ∷ words) change means h = cc h
 
 change_spelled : (name : List ℕ) (words : List (List ℕ)) (change : Change) → named_change_in name words ≡ Some change → Means (name ∷ words) change
 change_spelled name words change h =
     picked (Means (name ∷ words)) name (
     (codes "add", option_map (λ a. Add a) (addition_in words)) ∷ (codes "remove", remove_in words)
-    ∷ (codes "sort", alone Sort words) ∷ (codes "grow", alone Grow words) ∷ []
+    ∷ (codes "sort", without_words Sort words) ∷ (codes "grow", without_words Grow words) ∷ []
     ) None change (
       add_spelled name words,
       (
         remove_spelled name words,
-        (λ change is. alone_spelled Sort name words change (is, tt), (λ change is. alone_spelled Grow name words change (is, tt), tt)),
+        (λ change is. without_words_spelled Sort name words change (is, tt), (λ change is. without_words_spelled Grow name words change (is, tt), tt)),
       ),
     ) (λ none. cc none) h
 

@@ -6,12 +6,12 @@ use Rattle.gptimg_core.specs.declared.commands.Report.{Report}
 use Rattle.gptimg_core.specs.declared.commands.Report.TheVariants.{Done, Table, Slots, Added, Copies}
 
 -- the report has the result of the check of both copies
-abbrev pub TellsCopies : ℕ → DiskState → DiskState → Report → Type 0
-TellsCopies ss old new Done = ⊥
-TellsCopies ss old new (Table table) = ⊥
-TellsCopies ss old new (Slots slots) = ⊥
-TellsCopies ss old new (Added number first last) = ⊥
-TellsCopies ss old new (Copies copies) = IsChecked ss old new copies
+abbrev pub ReportsCopies : ℕ → DiskState → DiskState → Report → Type 0
+ReportsCopies ss old new Done = ⊥
+ReportsCopies ss old new (Table table) = ⊥
+ReportsCopies ss old new (Slots slots) = ⊥
+ReportsCopies ss old new (Added number first last) = ⊥
+ReportsCopies ss old new (Copies copies) = IsChecked ss old new copies
 
 -- whether the status is 0: false only for copies that are not one table
 abbrev pub is_good : Report → Bool

@@ -12,8 +12,8 @@ use Rattle.gptman.specs.Error.{Error}
 use Rattle.gptman_change.specs.Changes.{LeavesChange, MakesChange, RefusesChange}
 use Rattle.gptman_change.specs.Reads.{RefusesReading}
 use Rattle.gptimg_core.specs.Changes.{IsMade, ReplacesTable}
-use Rattle.gptimg_core.specs.Checks.{is_good, TellsCopies}
-use Rattle.gptimg_core.specs.Reads.{AreSlotsIn, TellsOfTable}
+use Rattle.gptimg_core.specs.Checks.{is_good, ReportsCopies}
+use Rattle.gptimg_core.specs.Reads.{AreSlotsIn, ReportsTable}
 use Rattle.gptimg_core.specs.Refusals.{AsksDisk, RefusesMaking, RefusesMbr, RefusesNew}
 use Rattle.gptimg_core.specs.declared.commands.Report.{Report}
 use Rattle.gptimg_core.specs.declared.commands.Report.TheVariants.{Done, Table}
@@ -22,65 +22,65 @@ use Rattle.gptimg_core.specs.declared.words.Command.{Command}
 use Rattle.gptimg_core.specs.declared.words.Command.TheVariants.{New, Mbr, Check, Show, Free, Change as Changing}
 
 -- the result of a command: a report, or an error
-abbrev pub Told : Type 0
-Told = Result Report Error
+abbrev pub Outcome : Type 0
+Outcome = Result Report Error
 
 -- A new table with this disk GUID is written to both places. If the old table has one good copy where the new one is
 -- not written first, a crash at any moment leaves the old table or the new one.
-pub record DoesNew (ss : ℕ) (guid : List ℕ) (told : Told) (old new : DiskState) : Type 0 where
-  pub refused : IfErr told (λ e. RefusesNew guid ss (fault_of e) old new)
-  pub counts : CountsFailure told old new
+pub record DoesNew (ss : ℕ) (guid : List ℕ) (outcome : Outcome) (old new : DiskState) : Type 0 where
+  pub refused : IfErr outcome (λ e. RefusesNew guid ss (fault_of e) old new)
+  pub counts : CountsFailure outcome old new
   pub wrote : Writes (table_ranges (new_table guid ss old.size)) old new
-  pub made : IfOk told (λ report. report ≡ Done)
-  pub stored : StartsLaidOut old (new_table guid ss old.size) → OnOk told (IsStored new ss (table_in (new_table guid ss old.size)))
+  pub made : IfOk outcome (λ report. report ≡ Done)
+  pub stored : StartsLaidOut old (new_table guid ss old.size) → OnOk outcome (IsStored new ss (table_in (new_table guid ss old.size)))
   pub replaces : ReplacesTable (new_table guid ss old.size) old new
 
 -- A protective MBR is written and synced.
-pub record DoesMbr (ss : ℕ) (bootable : Bool) (told : Told) (old new : DiskState) : Type 0 where
-  pub refused : IfErr told (λ e. RefusesMbr ss (fault_of e) old new)
-  pub counts : CountsFailure told old new
+pub record DoesMbr (ss : ℕ) (bootable : Bool) (outcome : Outcome) (old new : DiskState) : Type 0 where
+  pub refused : IfErr outcome (λ e. RefusesMbr ss (fault_of e) old new)
+  pub counts : CountsFailure outcome old new
   pub wrote : Writes (mbr_range ∷ []) old new
-  pub made : IfOk told (λ report. report ≡ Done)
-  pub stored : IsHonest old → OnOk told (IsMbrStored bootable ss old new)
+  pub made : IfOk outcome (λ report. report ≡ Done)
+  pub stored : IsHonest old → OnOk outcome (IsMbrStored bootable ss old new)
 
 -- Each copy is checked by itself.
-pub record DoesCheck (ss : ℕ) (told : Told) (old new : DiskState) : Type 0 where
+pub record DoesCheck (ss : ℕ) (outcome : Outcome) (old new : DiskState) : Type 0 where
   pub only : IsHonest old → OnlyRead old new
-  pub refused : IfErr told (λ e. (fault_of e ≡ out_of_memory) ⊎ IsFailure (fault_of e) old new)
-  pub copies : IsHonest old → IfOk told (TellsCopies ss old new)
+  pub refused : IfErr outcome (λ e. (fault_of e ≡ out_of_memory) ⊎ IsFailure (fault_of e) old new)
+  pub copies : IsHonest old → IfOk outcome (ReportsCopies ss old new)
 
 -- The table on the disk is read.
-pub record DoesShow (size : Option ℕ) (told : Told) (old new : DiskState) : Type 0 where
+pub record DoesShow (size : Option ℕ) (outcome : Outcome) (old new : DiskState) : Type 0 where
   pub only : IsHonest old → OnlyRead old new
-  pub refused : IsHonest old → IfErr told (λ e. RefusesReading size (fault_of e) old new)
-  pub shown : IsHonest old → IfOk told (λ report. TellsOfTable (λ g. report ≡ Table g) size old new)
+  pub refused : IsHonest old → IfErr outcome (λ e. RefusesReading size (fault_of e) old new)
+  pub shown : IsHonest old → IfOk outcome (λ report. ReportsTable (λ g. report ≡ Table g) size old new)
 
 -- The free ranges are listed, each from its first multiple of align.
-pub record DoesFree (size : Option ℕ) (align : ℕ) (told : Told) (old new : DiskState) : Type 0 where
+pub record DoesFree (size : Option ℕ) (align : ℕ) (outcome : Outcome) (old new : DiskState) : Type 0 where
   pub only : IsHonest old → OnlyRead old new
-  pub refused : IsHonest old → IfErr told (λ e. RefusesReading size (fault_of e) old new)
-  pub slots : IsHonest old → IfOk told (λ report. TellsOfTable (λ g. AreSlotsIn g align report) size old new)
+  pub refused : IsHonest old → IfErr outcome (λ e. RefusesReading size (fault_of e) old new)
+  pub slots : IsHonest old → IfOk outcome (λ report. ReportsTable (λ g. AreSlotsIn g align report) size old new)
 
 -- The table on the disk is read, changed and written to both places.
-pub record DoesChange (size : Option ℕ) (change : Change) (told : Told) (old new : DiskState) : Type 0 where
+pub record DoesChange (size : Option ℕ) (change : Change) (outcome : Outcome) (old new : DiskState) : Type 0 where
   pub refused : IsHonest old
-      → IfErr told (λ e. RefusesChange (IsMade change old.size) (RefusesMaking change old.size) (AsksDisk change) size (fault_of e) old new)
-  pub changed : IsHonest old → IfOk told (λ report. MakesChange (IsMade change old.size) size report old new)
+      → IfErr outcome (λ e. RefusesChange (IsMade change old.size) (RefusesMaking change old.size) (AsksDisk change) size (fault_of e) old new)
+  pub changed : IsHonest old → IfOk outcome (λ report. MakesChange (IsMade change old.size) size report old new)
   pub leaves : IsHonest old → LeavesChange (IsMade change old.size) size old new
 
 -- the effect, by command
-abbrev pub DoesCommand : Command → Told → DiskState → DiskState → Type 0
-DoesCommand (New ss guid) told old new = DoesNew ss guid told old new
-DoesCommand (Mbr ss bootable) told old new = DoesMbr ss bootable told old new
-DoesCommand (Check ss) told old new = DoesCheck ss told old new
-DoesCommand (Show size) told old new = DoesShow size told old new
-DoesCommand (Free size align) told old new = DoesFree size align told old new
-DoesCommand (Changing size change) told old new = DoesChange size change told old new
+abbrev pub DoesCommand : Command → Outcome → DiskState → DiskState → Type 0
+DoesCommand (New ss guid) outcome old new = DoesNew ss guid outcome old new
+DoesCommand (Mbr ss bootable) outcome old new = DoesMbr ss bootable outcome old new
+DoesCommand (Check ss) outcome old new = DoesCheck ss outcome old new
+DoesCommand (Show size) outcome old new = DoesShow size outcome old new
+DoesCommand (Free size align) outcome old new = DoesFree size align outcome old new
+DoesCommand (Changing size change) outcome old new = DoesChange size change outcome old new
 
 -- A command succeeds or fails, and only the report of `check` can be bad. Unless the disk failed, a failed command
 -- leaves the disk unchanged. `Io` occurs only if the disk failed.
-pub record Does (command : Command) (told : Told) (old new : DiskState) : Type 0 where
-  pub does : DoesCommand command told old new
-  pub good : IfOk told (λ report. IsTrue (is_good report) ⊎ ((ss : ℕ) × (command ≡ Check ss)))
-  pub cause : HasCause told old new
-  pub kept : IsHonest old → OnErr told (FailedOrUntouched old new)
+pub record Does (command : Command) (outcome : Outcome) (old new : DiskState) : Type 0 where
+  pub does : DoesCommand command outcome old new
+  pub good : IfOk outcome (λ report. IsTrue (is_good report) ⊎ ((ss : ℕ) × (command ≡ Check ss)))
+  pub cause : HasCause outcome old new
+  pub kept : IsHonest old → OnErr outcome (FailedOrUntouched old new)

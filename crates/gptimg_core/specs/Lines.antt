@@ -61,7 +61,7 @@ slot_lines slots = flat_map slot_line slots
 abbrev pub added_line : ℕ → ℕ → ℕ → List ℕ
 added_line number first last = decimal number ++ codes " " ++ decimal first ++ codes ".." ++ decimal last ++ codes "\n"
 
--- the line of the copy at the side with this name
+-- the line of the copy at the place with this name
 abbrev pub copy_line : List ℕ → Result Copy Fault → List ℕ
 copy_line side (Ok copy) = side ++ codes " ok\n"
 copy_line side (Err fault) = side ++ codes " fault " ++ fault_name fault ++ codes "\n"

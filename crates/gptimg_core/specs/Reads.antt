@@ -8,10 +8,10 @@ use Rattle.gptimg_core.specs.declared.commands.Report.{Report}
 use Rattle.gptimg_core.specs.declared.commands.Report.TheVariants.{Done, Table, Slots, Added, Copies}
 
 -- A table was read from the disk, and the report has this relation to it.
-pub record TellsOfTable (Told : GPT → Type 0) (size : Option ℕ) (old new : DiskState) : Type 0 where
+pub record ReportsTable (Reports : GPT → Type 0) (size : Option ℕ) (old new : DiskState) : Type 0 where
   pub table : GPT
   pub read : IsReadFrom size old new table
-  pub told : Told table
+  pub outcome : Reports table
 
 -- the report has the free ranges of the table, each from its first multiple of align
 abbrev pub AreSlotsIn : GPT → ℕ → Report → Type 0

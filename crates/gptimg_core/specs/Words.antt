@@ -108,17 +108,17 @@ remove_in (number ∷ []) = option_map (λ n. Remove n) (entry_number_in number)
 remove_in _ = None
 
 -- a change that takes no words
-abbrev pub alone : Change → List (List ℕ) → Option Change
-alone change [] = Some change
-alone change _ = None
+abbrev pub without_words : Change → List (List ℕ) → Option Change
+without_words change [] = Some change
+without_words change _ = None
 
 -- the change with this name and these words
 abbrev pub named_change_in : List ℕ → List (List ℕ) → Option Change
 named_change_in name words =
     if bytes_eq name (codes "add") then option_map (λ addition. Add addition) (addition_in words)
     else if bytes_eq name (codes "remove") then remove_in words
-    else if bytes_eq name (codes "sort") then alone Sort words
-    else if bytes_eq name (codes "grow") then alone Grow words
+    else if bytes_eq name (codes "sort") then without_words Sort words
+    else if bytes_eq name (codes "grow") then without_words Grow words
     else None
 
 -- a command that changes the table, with the word for the sector size

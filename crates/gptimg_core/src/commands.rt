@@ -6,16 +6,16 @@ ghost use Rattle.gptman.specs.Crash.{StartsLaidOut};
 ghost use Rattle.gptman.specs.Disk.{FailedOrUntouched, HasFailedOnceAtMost, IsHonest, Keeps, OnlyRead};
 ghost use Rattle.gptman.specs.Disk.{Reads, Writes};
 ghost use Rattle.gptman.specs.Fault.{fault_of, out_of_memory};
-ghost use Rattle.gptman.specs.Mbr.{mbr_range, IsMbrStored, LaysMbr};
+ghost use Rattle.gptman.specs.Mbr.{mbr_range, IsMbrStored, WritesMbr};
 ghost use Rattle.gptman.specs.Stop.{IsStored};
 ghost use Rattle.gptman.specs.Table.{new_table, table_in};
 ghost use Rattle.gptman.specs.TableWrites.{table_ranges};
 ghost use Rattle.gptman_change.specs.Reads.{RefusesReading};
 ghost use Rattle.gptimg_core.specs.Asks.{writes};
 ghost use Rattle.gptimg_core.specs.Changes.{ReplacesTable};
-ghost use Rattle.gptimg_core.specs.Checks.{is_good, TellsCopies};
+ghost use Rattle.gptimg_core.specs.Checks.{is_good, ReportsCopies};
 ghost use Rattle.gptimg_core.specs.Does.{Does};
-ghost use Rattle.gptimg_core.specs.Reads.{AreSlotsIn, TellsOfTable};
+ghost use Rattle.gptimg_core.specs.Reads.{AreSlotsIn, ReportsTable};
 ghost use Rattle.gptimg_core.specs.Refusals.{RefusesMbr, RefusesNew};
 ghost use Rattle.gptimg_core.specs.Words.{IsSized};
 ghost use Rattle.gptimg_core.specs.declared.commands.Report.TheVariants.{Done, Table};
@@ -77,7 +77,7 @@ fn look_at_copies<D: Disk>(alloc: Global, disk: &mut D, sector_size: u64) -> Res
     ensures refused { IfErr result (λ e. (fault_of e ≡ out_of_memory)
         ⊎ IsFailure (fault_of e) (D.state disk.old) (D.state disk.new)) }
     ensures copies { IsHonest (D.state disk.old)
-        → IfOk result (TellsCopies sector_size (D.state disk.old) (D.state disk.new)) }
+        → IfOk result (ReportsCopies sector_size (D.state disk.old) (D.state disk.new)) }
 {
     Ok(Report::Copies(check(alloc, disk, sector_size)?))
 }
@@ -91,7 +91,7 @@ fn show_table<D: Disk>(alloc: Global, disk: &mut D, sector_size: Option<u64>) ->
     ensures cause { HasCause result (D.state disk.old) (D.state disk.new) }
     ensures good { IfOk result (λ report. IsTrue (is_good report)) }
     ensures shown { IsHonest (D.state disk.old)
-        → IfOk result (λ report. TellsOfTable (λ g. report ≡ Table g) sector_size
+        → IfOk result (λ report. ReportsTable (λ g. report ≡ Table g) sector_size
         (D.state disk.old) (D.state disk.new)) }
 {
     Ok(Report::Table(read_table(alloc, disk, sector_size)?))
@@ -112,7 +112,7 @@ fn list_free<D: Disk>(
     ensures cause { HasCause result (D.state disk.old) (D.state disk.new) }
     ensures good { IfOk result (λ report. IsTrue (is_good report)) }
     ensures slots { IsHonest (D.state disk.old)
-        → IfOk result (λ report. TellsOfTable (λ g. AreSlotsIn g align report) sector_size
+        → IfOk result (λ report. ReportsTable (λ g. AreSlotsIn g align report) sector_size
         (D.state disk.old) (D.state disk.new)) }
 {
     let mut table = read_table(alloc, disk, sector_size)?;
@@ -166,13 +166,13 @@ fn write_mbr<D: Disk>(disk: &mut D, sector_size: u64, bootable: bool) -> Result<
     ensures stored { IsHonest (D.state disk.old)
         → OnOk result (IsMbrStored bootable sector_size (D.state disk.old) (D.state disk.new)) }
 {
-    lay_mbr(disk, sector_size, bootable)?;
+    write_unsynced_mbr(disk, sector_size, bootable)?;
     disk.sync()?;
     Ok(Report::Done)
 }
 
 // Writes a protective MBR, without a sync.
-fn lay_mbr<D: Disk>(disk: &mut D, sector_size: u64, bootable: bool) -> Result<()>
+fn write_unsynced_mbr<D: Disk>(disk: &mut D, sector_size: u64, bootable: bool) -> Result<()>
     requires { 0 < sector_size }
     ensures keeps { Keeps (D.state disk.old) (D.state disk.new) }
     ensures counts { CountsFailure result (D.state disk.old) (D.state disk.new) }
@@ -183,7 +183,7 @@ fn lay_mbr<D: Disk>(disk: &mut D, sector_size: u64, bootable: bool) -> Result<()
     ensures kept { IsHonest (D.state disk.old) → OnErr result
         (FailedOrUntouched (D.state disk.old) (D.state disk.new)) }
     ensures wrote { Writes (mbr_range ∷ []) (D.state disk.old) (D.state disk.new) }
-    ensures laid { LaysMbr bootable sector_size result (D.state disk.old) (D.state disk.new) }
+    ensures contents { WritesMbr bootable sector_size result (D.state disk.old) (D.state disk.new) }
 {
     if bootable {
         GPT::write_bootable_protective_mbr_into(disk, sector_size)

@@ -8,7 +8,7 @@ ghost use Rattle.std.specs.Io.KnownBytes.{Appends};
 ghost use Rattle.gptman.specs.Disk.{IsHonest, Keeps, OnlyRead};
 ghost use Rattle.gptman.specs.Fault.{fault_of, io as io_fault};
 ghost use Rattle.gptimg_core.specs.Asks.{AskFor, AskForAny, AskToWrite};
-ghost use Rattle.gptimg_core.specs.Prints.{told_status, Runs};
+ghost use Rattle.gptimg_core.specs.Prints.{outcome_status, Runs};
 ghost use Rattle.gptimg_core.specs.Spelling.{spell, IsAllowed, IsSpelled};
 ghost use Rattle.gptimg_core.specs.declared.words.Command.{Command};
 
@@ -88,9 +88,9 @@ pub fn run<D: Disk, W: Write>(
         out.write_all(USAGE.as_bytes())?;
         return Ok(NO_COMMAND);
     };
-    let told = commands::perform(alloc, &command, disk);
-    lines::print_told(out, &told)?;
-    Ok(status_of(&told))
+    let outcome = commands::perform(alloc, &command, disk);
+    lines::print_outcome(out, &outcome)?;
+    Ok(status_of(&outcome))
 }
 
 /// Reports whether the words `SECTOR COMMAND ..` are a command that writes to the disk. Otherwise `run` at most reads
@@ -117,10 +117,10 @@ pub fn words_spell_one()
 {}
 
 // Returns the exit status for a result.
-fn status_of(told: &Result<Report>) -> u8
-    ensures { result ≡ told_status told.now }
+fn status_of(outcome: &Result<Report>) -> u8
+    ensures { result ≡ outcome_status outcome.now }
 {
-    match told {
+    match outcome {
         Ok(Report::Copies(copies)) if !copies.are_same => FAULT,
         Ok(_) => DONE,
         Err(_) => FAULT,

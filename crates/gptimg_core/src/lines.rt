@@ -7,7 +7,7 @@ ghost use Rattle.std.specs.Int.{to_be_bytes, w64};
 ghost use Rattle.std.specs.List.{enumerate_from};
 ghost use Rattle.gptman.specs.Fault.{fault_of};
 ghost use Rattle.gptman.specs.Table.{entries_in};
-ghost use Rattle.gptimg_core.specs.Prints.{told_lines};
+ghost use Rattle.gptimg_core.specs.Prints.{outcome_lines};
 ghost use Rattle.gptimg_core.specs.Names.{fault_line, fault_name};
 ghost use Rattle.gptimg_core.specs.Lines.{check_lines, copy_line, entry_line, entry_lines};
 ghost use Rattle.gptimg_core.specs.Lines.{form_name as form_name_of, report_lines, shown_byte, shown_text};
@@ -26,10 +26,10 @@ use std::io::Write;
 /// # Errors
 ///
 /// Only if `out` failed.
-pub fn print_told<W: Write>(out: &mut W, told: &Result<Report>) -> io::Result<()>
-    ensures { OnOk result (Appends (W.contents out.old) (W.contents out.new) (told_lines told.now)) }
+pub fn print_outcome<W: Write>(out: &mut W, outcome: &Result<Report>) -> io::Result<()>
+    ensures { OnOk result (Appends (W.contents out.old) (W.contents out.new) (outcome_lines outcome.now)) }
 {
-    match told {
+    match outcome {
         Ok(report) => print_report(out, report),
         Err(fault) => print_fault(out, fault),
     }

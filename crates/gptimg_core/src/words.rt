@@ -5,7 +5,7 @@
 ghost use Rattle.std.specs.Prelude.{◌≡◌, IfSome, Some};
 ghost use Rattle.gptimg_core.specs.Asks.{writes, AskFor};
 ghost use Rattle.gptimg_core.specs.Spelling.{spell, texts_of, IsAllowed};
-ghost use Rattle.gptimg_core.specs.Words.{addition_in, alone, change_in, named_change_in, named_command_in};
+ghost use Rattle.gptimg_core.specs.Words.{addition_in, change_in, named_change_in, named_command_in, without_words};
 ghost use Rattle.gptimg_core.specs.Words.{check_in, free_in, mbr_in, new_in, remove_in, show_in};
 ghost use Rattle.gptimg_core.specs.Words.{IsSized, IsSizedAddition, IsSizedChange};
 ghost use Rattle.gptimg_core.specs.declared.words.Command.{Command};
@@ -243,17 +243,17 @@ fn parse_named_change<'a>(name: &str, arguments: &'a [String]) -> Option<Change<
     match name {
         "add" => Some(Change::Add(parse_addition(arguments)?)),
         "remove" => parse_remove(arguments),
-        "sort" => parse_alone(Change::Sort, arguments),
-        "grow" => parse_alone(Change::Grow, arguments),
+        "sort" => parse_without_words(Change::Sort, arguments),
+        "grow" => parse_without_words(Change::Grow, arguments),
         _ => None,
     }
 }
 
 // Parses a change that takes no words.
-fn parse_alone<'a>(change: Change<'a>, arguments: &'a [String]) -> Option<Change<'a>>
+fn parse_without_words<'a>(change: Change<'a>, arguments: &'a [String]) -> Option<Change<'a>>
     requires sized { IsSizedChange change }
     ensures sized { IfSome result IsSizedChange }
-    ensures value { result ≡ alone change.entry (texts_of arguments.now) }
+    ensures value { result ≡ without_words change.entry (texts_of arguments.now) }
 {
     if arguments.is_empty() {
         Some(change)

@@ -8,11 +8,11 @@ use Rattle.std.proofs.lemmas.List.Folds.{list_all-append}
 use Rattle.gptman.specs.TableWrites.{table_write_fault, HasRoomOn, IsFailureOrMemory, RefusesAtOnce, RefusesWrite}
 use Rattle.gptman.specs.Answers.{HasCause, IsFailure, Settles}
 use Rattle.gptman.specs.TableWrites.RefusesWrite.{no_memory, not_valid, no_room, disk_failed}
-use Rattle.gptman.specs.Crash.{other_side}
+use Rattle.gptman.specs.Crash.{other_place}
 use Rattle.gptman_disk.specs.Disk.{DiskState}
 use Rattle.gptman_disk.specs.Fault.{Fault, fault_of, overflow, no_space_left}
 use Rattle.gptman.specs.Layout.{HasLayout, IsLaidOut}
-use Rattle.gptman.specs.Reading.{Side}
+use Rattle.gptman.specs.Reading.{CopyPlace}
 use Rattle.gptman.specs.Table.{entries_in, table_of, IsHeaderForm}
 use Rattle.gptman.specs.Valid.{IsValid, IsValidity}
 use Rattle.gptman.specs.Valid.IsValidity.{shared_guid, bad_boundaries, valid}
@@ -22,7 +22,7 @@ use Rattle.gptman.specs.declared.codec.header.GPTHeader.{GPTHeader}
 use Rattle.gptman_disk.specs.declared.error.Error.{Error}
 use Rattle.gptman.specs.declared.table.GPT.{GPT}
 use Rattle.gptman.proofs.FirstFailing.{none_from_tests}
-use Rattle.gptman.proofs.FourRanges.{other_laid}
+use Rattle.gptman.proofs.FourRanges.{other_laid_out}
 use Rattle.gptman.proofs.OtherHeader.{other_form}
 use Rattle.gptman.proofs.WrittenCopy.{array_inside, array_start, header_inside, written_array, written_start}
 
@@ -39,7 +39,7 @@ ranges_pass p h ss header array =
     ])
 
 -- A test that ranges within the disk pass is passed by those of a copy in the layout.
-copy_passes : (p : ℕ × ℕ → Bool) (side : Side) (h : GPTHeader) (es : List GPTPartitionEntry) (ss len : ℕ) → ((at n : ℕ) → at + n ≤ len → p (at, n) ≡ true)
+copy_passes : (p : ℕ × ℕ → Bool) (side : CopyPlace) (h : GPTHeader) (es : List GPTPartitionEntry) (ss len : ℕ) → ((at n : ℕ) → at + n ≤ len → p (at, n) ≡ true)
     → IsHeaderForm side h → IsLaidOut (table_of h es) ss len → list_all p (copy_ranges h ss) ≡ true
 copy_passes p side h es ss len within form laid =
     let n : ℕ = h.number_of_partition_entries in
@@ -51,13 +51,13 @@ copy_passes p side h es ss len within form laid =
       | inr inside ↦ within (h.partition_entry_lba * ss) (128 * n) (omega (arith, inside, start))
     ])
 
-both_pass : (p : ℕ × ℕ → Bool) (side : Side) (h : GPTHeader) (es : List GPTPartitionEntry) (ss len : ℕ) → ((at n : ℕ) → at + n ≤ len → p (at, n) ≡ true)
+both_pass : (p : ℕ × ℕ → Bool) (side : CopyPlace) (h : GPTHeader) (es : List GPTPartitionEntry) (ss len : ℕ) → ((at n : ℕ) → at + n ≤ len → p (at, n) ≡ true)
     → IsHeaderForm side h → IsLaidOut (table_of h es) ss len → list_all p (four_ranges h ss) ≡ true
 both_pass p side h es ss len within form laid =
     list_all-append p (copy_ranges h ss) (copy_ranges (other_header h) ss)
     ∙ and_from (list_all p (copy_ranges h ss)) (list_all p (copy_ranges (other_header h) ss))
     (copy_passes p side h es ss len within form laid)
-    (copy_passes p (other_side side) (other_header h) es ss len within (other_form side h form) (other_laid side h es ss len form laid))
+    (copy_passes p (other_place side) (other_header h) es ss len within (other_form side h form) (other_laid_out side h es ss len form laid))
 
 or_second : (s t : Bool) → t ≡ true → (s || t) ≡ true
 or_second true t h = refl

@@ -10,11 +10,11 @@ use Rattle.gptman.proofs.Runs.{leaves_then, wrote_wider}
 use Rattle.gptman.proofs.Apart.{agrees_in, inside_clear}
 
 -- The bytes in these ranges decide the predicate. The argument needs nothing more of an accepted copy.
-abbrev pub IsToldBy : (List ℕ → Type 0) → Ranges → Type 0
-IsToldBy P place = (b c : List ℕ) → P b → AgreesInside place b c → P c
+abbrev pub IsDecidedBy : (List ℕ → Type 0) → Ranges → Type 0
+IsDecidedBy P place = (b c : List ℕ) → P b → AgreesInside place b c → P c
 
 -- A predicate that some ranges decide stays true if only others are written.
-pub stays : (P : List ℕ → Type 0) (place there : Ranges) (b c : List ℕ) → IsToldBy P place → AreClear place there → P b → AgreesOutside there b c → P c
+pub stays : (P : List ℕ → Type 0) (place there : Ranges) (b c : List ℕ) → IsDecidedBy P place → AreClear place there → P b → AgreesOutside there b c → P c
 stays P place there b c told clear held agrees = told b c held (agrees_in place there b c clear agrees)
 
 -- A crash changes only the written ranges, if nothing was pending at the start.
@@ -28,7 +28,7 @@ pending_within there a b run synced = subst (Within b.pending) (ap (λ (ps : Ran
 
 -- Step 3. A disk with nothing pending keeps a table that it holds, at any moment, while only ranges that do not overlap
 -- it are written.
-pub held_while : (P : List ℕ → Type 0) (place there : Ranges) (a b : DiskState) → IsToldBy P place → AreClear place there → a.pending ≡ [] → P a.view → Wrote there a b
+pub held_while : (P : List ℕ → Type 0) (place there : Ranges) (a b : DiskState) → IsDecidedBy P place → AreClear place there → a.pending ≡ [] → P a.view → Wrote there a b
     → LeavesOnly a b P
 held_while P place there a b told clear synced held run = λ x left.
     stays P place there a.view x told clear held (leaves_ranges there a b run synced x left)
@@ -47,7 +47,7 @@ module _ (own other : Ranges) (own_header other_header : ℕ × ℕ) (at_own at_
   Comes = Came own other own_header other_header at_own at_other a c
 
   -- Step 4. At any moment only the other place's ranges have changed, or the new table is held there.
-  pub at_any_moment : IsToldBy at_other other → AreClear other own → a.pending ≡ [] → Comes → LeavesOnly a c (λ x. AgreesOutside other a.view x ⊎ at_other x)
+  pub at_any_moment : IsDecidedBy at_other other → AreClear other own → a.pending ≡ [] → Comes → LeavesOnly a c (λ x. AgreesOutside other a.view x ⊎ at_other x)
   at_any_moment told apart synced (only_read read) = λ x left. inl (leaves_ranges other a c (wrote_wider within_none read.wrote) synced x left)
   at_any_moment told apart synced (other_begun run begun) = λ x left. inl (leaves_ranges other a c run synced x left)
   at_any_moment told apart synced (own_begun b first stored new second begun) =
@@ -76,13 +76,13 @@ clear_ranges place there a b clear synced run = record {
 }
 
 -- A table that a synced disk holds is still held, whatever a crash leaves, after other ranges were written.
-pub held_in_any_image : (P : List ℕ → Type 0) (place there : Ranges) (b c : DiskState) → IsToldBy P place → AreClear place there → b.pending ≡ [] → P b.view → Wrote there b c
+pub held_in_any_image : (P : List ℕ → Type 0) (place there : Ranges) (b c : DiskState) → IsDecidedBy P place → AreClear place there → b.pending ≡ [] → P b.view → Wrote there b c
     → (x : List ℕ) → Image c x → P x
 held_in_any_image P place there b c told clear synced held run x image =
     stays P place there b.view x told clear held (agrees_then run.view (agrees_wider (pending_within there b c run synced) image))
 
 -- So is a table that a disk with nothing pending holds.
-pub held_stored : (P : List ℕ → Type 0) (place : Ranges) (c : DiskState) → IsToldBy P place → c.pending ≡ [] → P c.view → (x : List ℕ) → Image c x → P x
+pub held_stored : (P : List ℕ → Type 0) (place : Ranges) (c : DiskState) → IsDecidedBy P place → c.pending ≡ [] → P c.view → (x : List ℕ) → Image c x → P x
 held_stored P place c told synced held x image =
     let agrees : AgreesOutside [] c.view x = subst (λ (ps : Ranges). AgreesOutside ps c.view x) synced image in
     told c.view x held (record { long = agrees.long; same = λ k inside. agrees.same k tt })

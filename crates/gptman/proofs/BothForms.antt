@@ -16,8 +16,8 @@ both_forms first second at_primary at_backup is = record {
 }
 
 -- The converse.
-pub forms_turned : (first second : GPTHeader) → AreBothForms first second → second ≡ with_sectors_exchanged first second
-forms_turned first second are =
+pub forms_exchanged : (first second : GPTHeader) → AreBothForms first second → second ≡ with_sectors_exchanged first second
+forms_exchanged first second are =
     let tables : table_of second [] ≡ table_of first [] = are.same [] in
     let low : min second.primary_lba second.backup_lba ≡ min first.primary_lba first.backup_lba = ap (λ (t : Table). t.low_sector) tables in
     let high : max second.primary_lba second.backup_lba ≡ max first.primary_lba first.backup_lba = ap (λ (t : Table). t.high_sector) tables in

@@ -8,13 +8,13 @@ use Rattle.std.proofs.lemmas.List.Sums.{fold-append}
 use Rattle.gptman.specs.TableWrites.{other_with_checksums, table_ranges, value_with_checksums, HasBothCopies, IsButSums}
 use Rattle.gptman_disk.specs.Disk.{AgreesOutside, OnlyRead, DiskState, Image, IsSound, Keeps, LeavesOnly, Rose, Wrote}
 use Rattle.gptman.specs.Coding.{array_bytes}
-use Rattle.gptman.specs.Commit.{is_io, tables_to, value_after, HoldsLast, IsAllowed, IsLaidAfter, IsAllowedAt, IsRefusedAt, RefusesEdit, Stands}
+use Rattle.gptman.specs.Commit.{is_io, tables_to, value_after, HoldsLast, IsAllowed, HasContentsAfter, IsAllowedAt, IsRefusedAt, RefusesEdit, IsStoredAfter}
 use Rattle.gptman.specs.Crash.{IsKeptFor}
 use Rattle.gptman.specs.Crc.{crc_of}
 use Rattle.gptman.specs.Edit.{after_edit, edit_fault, table_after}
 use Rattle.gptman_disk.specs.Fault.{Fault, io, no_space_left, overflow}
 use Rattle.gptman.specs.Layout.{HasLayout, Holds}
-use Rattle.gptman.specs.Reading.{Side, primary, backup}
+use Rattle.gptman.specs.Reading.{CopyPlace, primary, backup}
 use Rattle.gptman.specs.Stop.{HoldsOneOf, IsStored}
 use Rattle.gptman.specs.Table.{Table, entries_in, table_in}
 use Rattle.gptman.specs.Copy.{with_checksums, IsCoherent}
@@ -154,7 +154,7 @@ after_all g made = ap (fold after_edit g) (take_all (length made) made (omega ar
 pub record HoldsSome (g : GPT) (made : List Edit) (b : List ℕ) : Type 0 where
   pub k : ℕ
   pub within : k ≤ length made
-  pub side : Side
+  pub side : CopyPlace
   pub holds : Holds b g.sector_size side (table_in (table_after g made k))
 
 pub some_more : (g : GPT) (made more : List Edit) (b : List ℕ) → HoldsSome g made b → HoldsSome g (made ++ more) b
@@ -209,8 +209,8 @@ pub record AreMade (g : GPT) (made : List Edit) (now : GPT) (a b : DiskState) : 
   pub keeps : Keeps a b
   pub wrote : a.is_honest ≡ true → Wrote (four_ranges g.header g.sector_size) a b
   pub untouched : a.is_honest ≡ true → length made ≡ 0 → OnlyRead a b
-  pub stands : a.is_honest ≡ true → HasLayout g a.size → ((length made ≡ 0) × OnlyRead a b) ⊎ IsStored b g.sector_size (table_in now)
-  pub laid : a.is_honest ≡ true → 0 < length made → IsLaidAfter b g made (length made)
+  pub stored_or_read : a.is_honest ≡ true → HasLayout g a.size → ((length made ≡ 0) × OnlyRead a b) ⊎ IsStored b g.sector_size (table_in now)
+  pub contents : a.is_honest ≡ true → 0 < length made → HasContentsAfter b g made (length made)
   pub kept : a.is_honest ≡ true → HasLayout g a.size → IsKeptFor a g (table_in g) → IsKeptFor b now (table_in now)
   pub leaves : a.is_honest ≡ true → HasLayout g a.size → IsKeptFor a g (table_in g) → LeavesOnly a b (HoldsSome g made)
 
@@ -223,7 +223,7 @@ pub record IsMade (g : GPT) (edit : Edit) (new : GPT) (a b : DiskState) : Type 0
   pub keeps : Keeps a b
   pub wrote : a.is_honest ≡ true → Wrote (four_ranges g.header g.sector_size) a b
   pub synced : a.is_honest ≡ true → b.pending ≡ []
-  pub laid : a.is_honest ≡ true → AreApart (table_ranges g) → HasBothCopies b.view new (other_with_checksums (after_edit g edit))
+  pub contents : a.is_honest ≡ true → AreApart (table_ranges g) → HasBothCopies b.view new (other_with_checksums (after_edit g edit))
   pub stored : a.is_honest ≡ true → HasLayout g a.size → IsStored b g.sector_size (table_in (after_edit g edit))
   pub good : a.is_honest ≡ true → HasLayout g a.size → IsKeptFor a g (table_in g)
       → LeavesOnly a b (λ x. HoldsOneOf x g.sector_size (table_in g ∷ table_in (after_edit g edit) ∷ []))
@@ -344,7 +344,7 @@ module _ (g : GPT) (made : List Edit) (now : GPT) (a b : DiskState) (are : AreMa
       (subst (IsStored c now.sector_size) (sym (table_sums (after_edit now edit) new sums)) (is.stored (still honest) (now_layout layout))) in
       let exact : new ≡ value_after g (made ++ edit ∷ []) (length (made ++ edit ∷ [])) = is.value ∙ exact_next edit long_s long_r in
       let both : b.is_honest ≡ true → AreApart (table_ranges g) → HasBothCopies c.view new (other_with_checksums (after_edit now edit)) = λ here apart.
-      is.laid here (subst (λ (rs : Ranges). AreApart rs) (sym (ranges_still g now are.sides)) apart) in
+      is.contents here (subst (λ (rs : Ranges). AreApart rs) (sym (ranges_still g now are.sides)) apart) in
       record {
         coherent = is.coherent;
         sides = sides;
@@ -355,8 +355,8 @@ module _ (g : GPT) (made : List Edit) (now : GPT) (a b : DiskState) (are : AreMa
         keeps = keeps;
         wrote = λ honest. wrote_next c honest is.wrote;
         untouched = λ honest none. absurd (omega (arith, none, length-append made (edit ∷ [])));
-        stands = λ honest layout. inr (stored honest layout);
-        laid = λ honest some. record {
+        stored_or_read = λ honest layout. inr (stored honest layout);
+        contents = λ honest some. record {
           synced = is.synced (still honest);
           copies = λ apart. subst (λ (x : GPT). HasBothCopies c.view x (other_with_checksums (table_after g (made ++ edit ∷ []) (length (made ++ edit ∷ []))))) exact
               (subst (λ (h : GPTHeader). HasBothCopies c.view new h) (other_next edit long_s long_r) (both (still honest) apart));
@@ -379,8 +379,8 @@ made_none g a coherent sound = record {
   keeps = record { size = refl; honest = refl; failures = omega arith };
   wrote = λ honest. wrote_not (four_ranges g.header g.sector_size) a honest (sound honest);
   untouched = λ honest none. still honest;
-  stands = λ honest layout. inl (refl, still honest);
-  laid = λ honest some. absurd (omega (arith, some));
+  stored_or_read = λ honest layout. inl (refl, still honest);
+  contents = λ honest some. absurd (omega (arith, some));
   kept = λ honest layout kept. kept;
   leaves = λ honest layout kept x left. none_some x (leaves_kept g a (table_in g) [] (sound honest) kept x left);
 }
@@ -421,8 +421,8 @@ stored_read b c ss t read stored = record {
   at_backup = subst (λ (v : List ℕ). Holds v ss backup t) (sym read.view) stored.at_backup;
 }
 
-laid_read : (b c : DiskState) (g : GPT) (edits : List Edit) (k : ℕ) → OnlyRead b c → IsLaidAfter b g edits k → IsLaidAfter c g edits k
-laid_read b c g edits k read laid = record {
+contents_read : (b c : DiskState) (g : GPT) (edits : List Edit) (k : ℕ) → OnlyRead b c → HasContentsAfter b g edits k → HasContentsAfter c g edits k
+contents_read b c g edits k read laid = record {
   synced = read.pending ∙ laid.synced;
   copies = λ apart. subst (λ (v : List ℕ). HasBothCopies v (value_after g edits k) (other_with_checksums (table_after g edits k))) (sym read.view) (laid.copies apart);
 }
@@ -437,9 +437,9 @@ module _ (g : GPT) (made : List Edit) (now : GPT) (a b : DiskState) (are : AreMa
   pub done_value : now ≡ value_after g edits done
   done_value = are.exact ∙ sym made_value
 
-  pub done_laid : a.is_honest ≡ true → 0 < done → IsLaidAfter b g edits done
-  done_laid honest some =
-      let laid = are.laid honest (omega (arith, some, count)) in
+  pub done_contents : a.is_honest ≡ true → 0 < done → HasContentsAfter b g edits done
+  done_contents honest some =
+      let laid = are.contents honest (omega (arith, some, count)) in
       let table : table_after g edits done ≡ table_after g made (length made) = (λ i. table_after g (is i) (count i)) ∙ after_append g made more (length made) (omega arith) in
       record {
         synced = laid.synced;
@@ -447,10 +447,10 @@ module _ (g : GPT) (made : List Edit) (now : GPT) (a b : DiskState) (are : AreMa
             (subst (λ (t : GPT). HasBothCopies b.view (value_after g made (length made)) (other_with_checksums t)) (sym table) (laid.copies apart));
       }
 
-  pub done_stands : a.is_honest ≡ true → HasLayout g a.size → Stands g edits done a b
-  done_stands honest layout =
+  pub done_stored : a.is_honest ≡ true → HasLayout g a.size → IsStoredAfter g edits done a b
+  done_stored honest layout =
       let same : table_in now ≡ table_in (table_after g edits done) = table_sums (fold after_edit g made) now are.value ∙ ap table_in (sym after_done) in
-      ⊎_elim (λ none. inl (count ∙ none.0, none.1)) (λ stored. inr (subst (IsStored b g.sector_size) same stored)) (are.stands honest layout)
+      ⊎_elim (λ none. inl (count ∙ none.0, none.1)) (λ stored. inr (subst (IsStored b g.sector_size) same stored)) (are.stored_or_read honest layout)
 
   pub done_leaves : a.is_honest ≡ true → HasLayout g a.size → IsKeptFor a g (table_in g)
       → LeavesOnly a b (λ x. HoldsOneOf x g.sector_size (tables_to g edits done))
@@ -481,18 +481,18 @@ module _ (g : GPT) (made : List Edit) (now : GPT) (a b c : DiskState) (are : Are
   failed_untouched fault honest none untouched =
       ⊎_elim (λ failed. inl (ap is_io failed)) (λ read. inr (only_read_then a b c (are.untouched honest (sym count ∙ none)) read)) (untouched (are.wrote honest).honest)
 
-  pub failed_laid : (fault : Fault) → a.is_honest ≡ true → 0 < done → (b.is_honest ≡ true → (fault ≡ io) ⊎ OnlyRead b c) → IsTrue (is_io fault) ⊎ IsLaidAfter c g edits done
-  failed_laid fault honest some untouched =
+  pub failed_contents : (fault : Fault) → a.is_honest ≡ true → 0 < done → (b.is_honest ≡ true → (fault ≡ io) ⊎ OnlyRead b c) → IsTrue (is_io fault) ⊎ HasContentsAfter c g edits done
+  failed_contents fault honest some untouched =
       ⊎_elim (λ failed. inl (ap is_io failed))
-      (λ read. inr (laid_read b c g edits done read (done_laid g made now a b are edits (edit ∷ more) done is count honest some)))
+      (λ read. inr (contents_read b c g edits done read (done_contents g made now a b are edits (edit ∷ more) done is count honest some)))
       (untouched (are.wrote honest).honest)
 
-  pub failed_stands : (fault : Fault) → a.is_honest ≡ true → HasLayout g a.size → (b.is_honest ≡ true → (fault ≡ io) ⊎ OnlyRead b c)
-      → IsTrue (is_io fault) ⊎ Stands g edits done a c
-  failed_stands fault honest layout untouched =
+  pub failed_stored : (fault : Fault) → a.is_honest ≡ true → HasLayout g a.size → (b.is_honest ≡ true → (fault ≡ io) ⊎ OnlyRead b c)
+      → IsTrue (is_io fault) ⊎ IsStoredAfter g edits done a c
+  failed_stored fault honest layout untouched =
       ⊎_elim (λ failed. inl (ap is_io failed))
       (λ read. inr (⊎_elim (λ none. inl (none.0, only_read_then a b c none.1 read)) (λ stored. inr (stored_read b c g.sector_size _ read stored))
-      (done_stands g made now a b are edits (edit ∷ more) done is count honest layout)))
+      (done_stored g made now a b are edits (edit ∷ more) done is count honest layout)))
       (untouched (are.wrote honest).honest)
 
   split : edits ≡ (made ++ edit ∷ []) ++ more

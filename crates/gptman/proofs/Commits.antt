@@ -7,7 +7,7 @@ use Rattle.gptman.specs.TableWrites.{table_write_fault, IsButSums, IsNotForRoom,
 use Rattle.gptman.specs.TableWrites.RefusesWrite.{no_memory, not_valid, no_room, disk_failed}
 use Rattle.gptman.specs.Commit.{RefusesEdit}
 use Rattle.gptman.specs.Commit.RefusesEdit.{not_applied, not_written}
-use Rattle.gptman.specs.Crash.{HasRangesOf, IsKeptFor, other_side, StartsFromOne}
+use Rattle.gptman.specs.Crash.{HasRangesOf, IsKeptFor, other_place, StartsFromOne}
 use Rattle.gptman_disk.specs.Disk.{DiskState, IsSound, Keeps, LeavesOnly}
 use Rattle.gptman.specs.Edit.{after_edit, edit_fault, edited_all}
 use Rattle.gptman_disk.specs.Fault.{Fault, io, invalid_partition_number}
@@ -15,7 +15,7 @@ use Rattle.gptman_disk.specs.Ranges.{AreClear}
 use Rattle.gptman.specs.Layout.{HasLayout, Holds, IsLaidOut, copy_ranges_at}
 use Rattle.gptman.specs.Number.{has_number}
 use Rattle.gptman.specs.Order.{by_rank, put_in, rank}
-use Rattle.gptman.specs.Reading.{Side, primary, backup}
+use Rattle.gptman.specs.Reading.{CopyPlace, primary, backup}
 use Rattle.gptman.specs.Stop.{HoldsOneOf, IsStored, StopsHold}
 use Rattle.gptman.specs.Table.{Table, table_of, entries_in, table_in, IsHeaderForm}
 use Rattle.gptman.specs.Copy.{IsCoherent}
@@ -105,8 +105,8 @@ module _ (g new : GPT) (keeps : KeepsRanges g new) where
     entry_size = is.entry_size;
   })
 
-  like_laid : (ss len : ℕ) → IsLaidOut (table_in g) ss len → IsLaidOut (table_of like (entries_in new)) ss len
-  like_laid ss len laid = record {
+  like_laid_out : (ss len : ℕ) → IsLaidOut (table_in g) ss len → IsLaidOut (table_of like (entries_in new)) ss len
+  like_laid_out ss len laid = record {
     sector = laid.sector;
     signature = laid.signature;
     revision = laid.revision;
@@ -120,14 +120,14 @@ module _ (g new : GPT) (keeps : KeepsRanges g new) where
     fits = laid.fits;
   }
 
-  form_like : (side : Side) → IsHeaderForm side g.header → IsHeaderForm side like
+  form_like : (side : CopyPlace) → IsHeaderForm side g.header → IsHeaderForm side like
   form_like primary form = form
   form_like backup form = form
 
   pub layout_still : (len : ℕ) → HasLayout g len → HasLayout new len
   layout_still len layout =
       let P : GPTHeader → ℕ → Type 0 = λ h ss. HasLayout (record new { header = h; sector_size = ss }) len in
-      let here : P like g.sector_size = record { table = like_laid g.sector_size len layout.table; side = layout.side; form = form_like layout.side layout.form } in
+      let here : P like g.sector_size = record { table = like_laid_out g.sector_size len layout.table; side = layout.side; form = form_like layout.side layout.form } in
       subst (λ (ss : ℕ). P new.header ss) (sym keeps.sector) (subst (λ (h : GPTHeader). P h g.sector_size) (sym keeps.header) here)
 
   pub same_ranges_too : HasRangesOf (table_in g) (table_in new)
@@ -136,21 +136,21 @@ module _ (g new : GPT) (keeps : KeepsRanges g new) where
     last = ap (λ (h : GPTHeader). h.last_usable_lba) keeps.header;
   }
 
-  pub form_still : (side : Side) → IsHeaderForm side g.header → IsHeaderForm side new.header
+  pub form_still : (side : CopyPlace) → IsHeaderForm side g.header → IsHeaderForm side new.header
   form_still side form = subst (IsHeaderForm side) (sym keeps.header) (form_like side form)
 
   pub kept_still : (disk : DiskState) (was : Table) → IsKeptFor disk g was → IsKeptFor disk new was
   kept_still disk was kept =
-      let side : Side = kept.side in
+      let side : CopyPlace = kept.side in
       let ss : ℕ = g.sector_size in
-      let clear : AreClear (copy_ranges_at side was ss disk.size) (copy_ranges_at (other_side side) (table_in new) ss disk.size) =
-      subst (λ (rs : List (ℕ × ℕ)). AreClear (copy_ranges_at side was ss disk.size) rs) (same_ranges (other_side side) (table_in g) (table_in new) ss disk.size same_ranges_too) kept.clear in
+      let clear : AreClear (copy_ranges_at side was ss disk.size) (copy_ranges_at (other_place side) (table_in new) ss disk.size) =
+      subst (λ (rs : List (ℕ × ℕ)). AreClear (copy_ranges_at side was ss disk.size) rs) (same_ranges (other_place side) (table_in g) (table_in new) ss disk.size same_ranges_too) kept.clear in
       record {
         synced = kept.synced;
         side = side;
         form = form_still side kept.form;
         held = subst (λ (n : ℕ). Holds disk.view n side was) (sym keeps.sector) kept.held;
-        clear = subst (λ (n : ℕ). AreClear (copy_ranges_at side was n disk.size) (copy_ranges_at (other_side side) (table_in new) n disk.size)) (sym keeps.sector) clear;
+        clear = subst (λ (n : ℕ). AreClear (copy_ranges_at side was n disk.size) (copy_ranges_at (other_place side) (table_in new) n disk.size)) (sym keeps.sector) clear;
       }
 
   -- So is the error for lack of room.

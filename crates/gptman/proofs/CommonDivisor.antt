@@ -38,7 +38,7 @@ starts_unused es i d h unused =
 pub alignment_zero : (first : ℕ) (starts : List ℕ) (g : ℕ) → IsGreatestCommonDivisor starts g → g ≡ 0 → length starts ≢ 0 → IsAlignmentOf first starts 1
 alignment_zero first starts g c e some = record {
   none = λ empty. absurd (some (ap length empty));
-  alone = λ one. refl;
+  of_one = λ one. refl;
   zero = λ some all. refl;
   other = λ some more nonzero. absurd (nonzero (All-weaker (λ s. g ∣ s) (λ s. s ≡ 0) (λ s d. eq-zero_of_zero-dvd (subst (λ (g : ℕ). g ∣ s) e d)) starts c.divides));
 }
@@ -52,10 +52,10 @@ one_start first [] g c l e = absurd (omega arith)
 one_start first (s ∷ []) g c l e = ap (λ (x : ℕ). x ∷ []) (sym (common_one s g c) ∙ e)
 one_start first (s ∷ t ∷ starts) g c l e = absurd (omega arith)
 
-pub alignment_alone : (first : ℕ) (starts : List ℕ) (g : ℕ) → IsGreatestCommonDivisor starts g → length starts ≡ 1 → g ≡ first → IsAlignmentOf first starts 1
-alignment_alone first starts g c l e = record {
+pub alignment_of_one : (first : ℕ) (starts : List ℕ) (g : ℕ) → IsGreatestCommonDivisor starts g → length starts ≡ 1 → g ≡ first → IsAlignmentOf first starts 1
+alignment_of_one first starts g c l e = record {
   none = λ empty. let l2 = ap length empty in absurd (omega arith);
-  alone = λ one. refl;
+  of_one = λ one. refl;
   zero = λ some all. refl;
   other = λ some more nonzero. absurd (more (one_start first starts g c l e));
 }
@@ -63,7 +63,7 @@ alignment_alone first starts g c l e = record {
 pub alignment_other : (first : ℕ) (starts : List ℕ) (g a : ℕ) → IsGreatestCommonDivisor starts g → length starts ≢ 0 → g ≢ 0 → (length starts ≡ 1 → g ≢ first) → IsGreatestUpTo g a → IsAlignmentOf first starts a
 alignment_other first starts g a c some nonzero others up = record {
   none = λ empty. absurd (some (ap length empty));
-  alone = λ one. absurd (others (ap length one) (common_one first g (subst (λ (l : List ℕ). IsGreatestCommonDivisor l g) one c)));
+  of_one = λ one. absurd (others (ap length one) (common_one first g (subst (λ (l : List ℕ). IsGreatestCommonDivisor l g) one c)));
   zero = λ _ all. absurd (nonzero (eq-zero_of_zero-dvd (c.greatest 0 (All-weaker (λ s. s ≡ 0) (λ s. 0 ∣ s) (λ s e. subst (λ (x : ℕ). 0 ∣ x) (sym e) (dvd-zero 0)) starts all))));
   other = λ _ _ _. record {
     low = up.low;

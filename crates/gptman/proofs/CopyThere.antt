@@ -17,7 +17,7 @@ use Rattle.gptman.proofs.HeaderBytes.{header_is}
 use Rattle.gptman_disk.proofs.Overlays.{part-part}
 use Rattle.gptman.proofs.CopyParts.{copy_tests, copy_fault, copy_there, entries_part}
 use Rattle.gptman.proofs.CopyTests.{entries_start, entries_length}
-use Rattle.gptman.specs.Stop.{AcceptsWhatStands}
+use Rattle.gptman.specs.Stop.{AcceptsRightCopies}
 
 -- Entries on the disk begin before its end.
 start_below : (n start size len : ℕ) → size ≡ 128 * n → (n ≡ 0) ⊎ (start + size ≤ len) → (n ≡ 0) ⊎ (start < len)
@@ -175,5 +175,5 @@ there_copy_is b p ss copy ok =
     let both = accepted (copy_fault b p ss) (copy_there b p ss) copy ok in
     subst (λ (c : Copy). CopyAt b p ss c.header c.entries) both.1 (stands b p ss both.0)
 
-pub accepts_what_stands : AcceptsWhatStands
-accepts_what_stands b p ss h es short = (there_copy_is b p ss (record { header = h; entries = es }), copy_there_is b p ss h es (omega (arith, short)))
+pub accepts_right_copies : AcceptsRightCopies
+accepts_right_copies b p ss h es short = (there_copy_is b p ss (record { header = h; entries = es }), copy_there_is b p ss h es (omega (arith, short)))

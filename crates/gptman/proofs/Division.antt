@@ -25,11 +25,11 @@ xor_lowest a b =
       | inr x ↦ elim (parity b) [ inl y ↦ rw (x, y) refl | inr y ↦ rw (x, y) refl ]
     ]
 
-xor_in_turn : (p q b : Bool) → xor p (xor q b) ≡ xor (xor p q) b
-xor_in_turn true true true = refl
-xor_in_turn true true false = refl
-xor_in_turn true false b = refl
-xor_in_turn false q b = refl
+xor_one_by_one : (p q b : Bool) → xor p (xor q b) ≡ xor (xor p q) b
+xor_one_by_one true true true = refl
+xor_one_by_one true true false = refl
+xor_one_by_one true false b = refl
+xor_one_by_one false q b = refl
 
 xor_false : (b : Bool) → xor b false ≡ b
 xor_false true = refl
@@ -44,7 +44,7 @@ minus_twice : (n a b : ℕ) (xs : List Bool) → minus (low_bits n a) (minus (lo
 minus_twice zero a b xs = refl
 minus_twice (suc n) a b [] = refl
 minus_twice (suc n) a b (x ∷ xs) =
-    cons_same (xor_in_turn _ _ x ∙ ap (λ (q : Bool). xor q x) (sym (xor_lowest a b)))
+    cons_same (xor_one_by_one _ _ x ∙ ap (λ (q : Bool). xor q x) (sym (xor_lowest a b)))
     (minus_twice n (a / 2) (b / 2) xs ∙ ap (λ (c : ℕ). minus (low_bits n c) xs) (sym (xor_shr a b 1)))
 
 minus_zero : (n : ℕ) (xs : List Bool) → minus (low_bits n 0) xs ≡ xs

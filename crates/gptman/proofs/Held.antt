@@ -7,7 +7,7 @@ use Rattle.gptman.specs.Copy.{Copy, copy_at, entries_of}
 use Rattle.gptman_disk.specs.Fault.{Fault, first_failing, invalid_signature}
 use Rattle.gptman.specs.Layout.{Holds, copy_ranges_at}
 use Rattle.gptman_disk.specs.Ranges.{AgreesInside}
-use Rattle.gptman.specs.Reading.{Side, primary, backup, copy_start, copy_in}
+use Rattle.gptman.specs.Reading.{CopyPlace, primary, backup, copy_start, copy_in}
 use Rattle.gptman.specs.Table.{Table, IsForm}
 use Rattle.gptman.specs.declared.codec.header.GPTHeader.{GPTHeader}
 use Rattle.gptman_disk.proofs.Overlays.{part_in}
@@ -50,7 +50,7 @@ accepted_header b p ss copy ok = ap (λ (c : Copy). c.header) (accepted_is b p s
 
 -- ---- what two lists agree in
 
-at_side : (side : Side) (b c : List ℕ) (ss : ℕ) (t : Table) (copy : Copy) → copy_at b (copy_start side (length b) ss) ss ≡ Ok copy → IsForm side t copy
+at_side : (side : CopyPlace) (b c : List ℕ) (ss : ℕ) (t : Table) (copy : Copy) → copy_at b (copy_start side (length b) ss) ss ≡ Ok copy → IsForm side t copy
     → AgreesInside (copy_ranges_at side t ss (length b)) b c → copy_at c (copy_start side (length b) ss) ss ≡ Ok copy
 at_side side b c ss t copy ok form agrees =
     let p : ℕ = copy_start side (length b) ss in
@@ -66,7 +66,7 @@ at_side side b c ss t copy ok form agrees =
     copy_at-local b c p ss agrees.long header (ap (λ (x : List ℕ). part c (entries_start (header_of x) ss) (entries_length (header_of x))) header ∙ entries) ∙ ok
 
 -- A list that agrees with another in the two ranges of a table at a place holds it there too.
-pub holds_local : (b c : List ℕ) (ss : ℕ) (side : Side) (t : Table) → Holds b ss side t → AgreesInside (copy_ranges_at side t ss (length b)) b c → Holds c ss side t
+pub holds_local : (b c : List ℕ) (ss : ℕ) (side : CopyPlace) (t : Table) → Holds b ss side t → AgreesInside (copy_ranges_at side t ss (length b)) b c → Holds c ss side t
 unfolding copy_in
 holds_local b c ss primary t holds agrees = record {
   copy = holds.copy;

@@ -2,14 +2,14 @@
 use Rattle.std.proofs.Common.{◌≡◌, inl, inr, ◌∙◌, refl, ℕ, ◌+◌, ◌-◌, ◌*◌, ◌/◌, [], ◌∷◌, ◌++◌, arith}
 use Rattle.std.proofs.lemmas.List.{length-map}
 use Rattle.gptman.specs.Layout.{copy_ranges_at, AreInPlace, HasLayout, HasRightMarks, HasRightSectors, HasRightSizes}
-use Rattle.gptman.specs.Reading.{Side, primary, backup}
+use Rattle.gptman.specs.Reading.{CopyPlace, primary, backup}
 use Rattle.gptman.specs.Table.{Table, entries_in, table_in, IsHeaderForm, IsInForm}
 use Rattle.gptman.specs.declared.codec.header.GPTHeader.{GPTHeader}
 use Rattle.gptman.specs.declared.table.GPT.{GPT}
 
 -- The place of a header that is in a form.
 record HasForm (h : GPTHeader) : Type 0 where
-  side : Side
+  side : CopyPlace
   form : IsHeaderForm side h
 
 has_form : (h : GPTHeader) → IsInForm h → HasForm h

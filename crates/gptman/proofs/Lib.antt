@@ -35,7 +35,7 @@ pub mod FreeSectors
 pub mod Guids
 pub mod HeaderBytes
 pub mod Held
-pub mod LaidCopies
+pub mod CopiesInPlace
 pub mod Layouts
 pub mod Mapping
 pub mod Multiples
@@ -50,7 +50,7 @@ pub mod Pairs
 pub mod Pieces
 pub mod Places
 pub mod Placing
-pub mod ReadAlone
+pub mod EachCopy
 pub mod ReadBack
 pub mod ReadEntry
 pub mod ReadKept
@@ -63,7 +63,7 @@ pub mod Sorting
 pub mod Sweeping
 pub mod Taken
 pub mod TwoCopies
-pub mod TwoSides
+pub mod TwoPlaces
 pub mod WriteRanges
 pub mod WrittenCopy
 pub mod WrittenOver

@@ -1,10 +1,10 @@
 -- One good copy of a table, and two.
 use Rattle.std.proofs.Common.{◌≡◌, List, sym, subst}
-use Rattle.gptman.specs.Crash.{HasRangesOf, IsKeptFor, other_side, StartsFromOne, StartsStored, StartsSynced}
+use Rattle.gptman.specs.Crash.{HasRangesOf, IsKeptFor, other_place, StartsFromOne, StartsStored, StartsSynced}
 use Rattle.gptman_disk.specs.Disk.{AgreesOutside, DiskState, IsSound, LeavesOnly, Wrote}
 use Rattle.gptman_disk.specs.Ranges.{AreClear}
 use Rattle.gptman.specs.Layout.{HasLayout, Holds, copy_ranges_at}
-use Rattle.gptman.specs.Reading.{Side, primary, backup}
+use Rattle.gptman.specs.Reading.{CopyPlace, primary, backup}
 use Rattle.gptman.specs.Stop.{IsStored}
 use Rattle.gptman.specs.Table.{Table, entries_in, table_in, IsHeaderForm}
 use Rattle.gptman.specs.Write.{four_ranges}
@@ -27,15 +27,15 @@ leaves_still a P sound synced here x left = here x (subst (λ (ps : Ranges). Agr
 
 -- ---- two good copies
 
-pub stored_at : (side : Side) (disk : DiskState) (ss : ℕ) (t : Table) → IsStored disk ss t → Holds disk.view ss side t
+pub stored_at : (side : CopyPlace) (disk : DiskState) (ss : ℕ) (t : Table) → IsStored disk ss t → Holds disk.view ss side t
 stored_at primary disk ss t stored = stored.at_primary
 stored_at backup disk ss t stored = stored.at_backup
 
 -- A table with the same ranges that the place of the value's form holds is one good copy for the value.
-pub held_is_kept : (side : Side) (disk : DiskState) (g : GPT) (old : Table) → disk.pending ≡ [] → IsHeaderForm side g.header → Holds disk.view g.sector_size side old → HasLayout g disk.size
+pub held_is_kept : (side : CopyPlace) (disk : DiskState) (g : GPT) (old : Table) → disk.pending ≡ [] → IsHeaderForm side g.header → Holds disk.view g.sector_size side old → HasLayout g disk.size
     → HasRangesOf old (table_in g) → IsKeptFor disk g old
 held_is_kept side disk g old synced form held layout same =
-    let other : Ranges = copy_ranges_at (other_side side) (table_in g) g.sector_size disk.size in
+    let other : Ranges = copy_ranges_at (other_place side) (table_in g) g.sector_size disk.size in
     record {
       synced = synced;
       side = side;

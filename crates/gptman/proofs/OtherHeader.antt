@@ -2,8 +2,8 @@
 use Rattle.std.proofs.Common.{◌≡◌, ◌+◌, ℕ, List, min, max, Bool, sym, ap, ◌∙◌, inl, inr, arith}
 use Rattle.std.proofs.lemmas.Bool.Decides.{eqb_tells}
 use Rattle.std.specs.Prelude.{if◌then◌else◌, nat_eq}
-use Rattle.gptman.specs.Crash.{other_side}
-use Rattle.gptman.specs.Reading.{Side, primary, backup}
+use Rattle.gptman.specs.Crash.{other_place}
+use Rattle.gptman.specs.Reading.{CopyPlace, primary, backup}
 use Rattle.gptman.specs.Table.{table_of, IsHeaderForm}
 use Rattle.gptman.specs.Write.{other_header}
 use Rattle.gptman.specs.declared.codec.header.GPTHeader.{GPTHeader}
@@ -27,6 +27,6 @@ other_at_last n last e = elim (eqb_tells n 2) as (λ _. (if nat_eq n 2 then last
 ]
 
 -- It is in the other form.
-pub other_form : (side : Side) (h : GPTHeader) → IsHeaderForm side h → IsHeaderForm (other_side side) (other_header h)
+pub other_form : (side : CopyPlace) (h : GPTHeader) → IsHeaderForm side h → IsHeaderForm (other_place side) (other_header h)
 other_form primary h form = (form.0, other_at_2 h.partition_entry_lba h.last_usable_lba form.1)
 other_form backup h form = (form.0, other_at_last h.partition_entry_lba h.last_usable_lba form.1)

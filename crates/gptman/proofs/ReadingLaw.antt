@@ -5,14 +5,14 @@ use Rattle.std.specs.List.{Contains}
 use Rattle.gptman_disk.specs.Fault.{Fault}
 use Rattle.gptman.specs.Copy.{Copy}
 use Rattle.gptman.specs.Layout.{Holds}
-use Rattle.gptman.specs.Reading.{Side, primary, backup, copy_in, fallback, reading_of, taken_from}
+use Rattle.gptman.specs.Reading.{CopyPlace, primary, backup, copy_in, fallback, reading_of, taken_from}
 use Rattle.gptman.specs.Stop.{HoldsOneOf, HoldsWhatIsRead, ReadsForeign, ReadsOneOf}
 use Rattle.gptman.specs.Table.{Table, IsForm}
 use Rattle.gptman.proofs.Fallback.{backup_room, fallback_long, fallback_short, refused_first, taken_first}
 use Rattle.gptman.proofs.SameTable.{one_of_decided}
 use Rattle.gptman.proofs.Fallback.{second_copy}
 
-abbrev from : Result Copy Fault → Side
+abbrev from : Result Copy Fault → CopyPlace
 from r = elim r [ Ok copy ↦ primary | Err fault ↦ backup ]
 
 pub from_first : (b : List ℕ) (ss : ℕ) (copy : Copy) → copy_in primary b ss ≡ Ok copy → taken_from b ss ≡ primary
@@ -28,7 +28,7 @@ pub taken_second : (b : List ℕ) (ss : ℕ) (fault : Fault) (copy : Copy) → c
 taken_second b ss fault copy refused at =
     refused_first b ss fault refused ∙ fallback_long b ss fault (backup_room b ss copy at) ∙ ap (second_copy fault) at
 
-reads_cases : (b : List ℕ) (ss : ℕ) (tables : List Table) (r : Result Copy Fault) → copy_in primary b ss ≡ r → (side : Side) (t : Table) → Contains tables t → Holds b ss side t
+reads_cases : (b : List ℕ) (ss : ℕ) (tables : List Table) (r : Result Copy Fault) → copy_in primary b ss ≡ r → (side : CopyPlace) (t : Table) → Contains tables t → Holds b ss side t
     → ¬ ReadsForeign b ss tables → ReadsOneOf b ss tables
 reads_cases b ss tables (Ok copy) is side t listed holds known =
     let taken = taken_first b ss copy is in
@@ -42,7 +42,7 @@ reads_cases b ss tables (Err fault) is backup t listed holds known = record {
   taken = taken_second b ss fault holds.copy is holds.accepted;
   table = t;
   listed = listed;
-  form = subst (λ (p : Side). IsForm p t holds.copy) (sym (from_second b ss fault is)) holds.form;
+  form = subst (λ (p : CopyPlace). IsForm p t holds.copy) (sym (from_second b ss fault is)) holds.form;
 }
 
 pub reads_one_of : (b : List ℕ) (ss : ℕ) (tables : List Table) → HoldsOneOf b ss tables → ¬ ReadsForeign b ss tables → ReadsOneOf b ss tables
@@ -60,9 +60,9 @@ given_by_fallback b ss fault copy true is ok = let e = sym (fallback_short b ss 
 given_by_fallback b ss fault copy false is ok = second_given b ss fault copy (copy_in backup b ss) refl (sym (fallback_long b ss fault (grind arith)) ∙ ok)
 
 pub taken_cases : (b : List ℕ) (ss : ℕ) (copy : Copy) (r : Result Copy Fault) → copy_in primary b ss ≡ r → reading_of b ss ≡ Ok copy → copy_in (taken_from b ss) b ss ≡ Ok copy
-taken_cases b ss copy (Ok first) is ok = ap (λ (p : Side). copy_in p b ss) (from_first b ss first is) ∙ is ∙ sym (taken_first b ss first is) ∙ ok
+taken_cases b ss copy (Ok first) is ok = ap (λ (p : CopyPlace). copy_in p b ss) (from_first b ss first is) ∙ is ∙ sym (taken_first b ss first is) ∙ ok
 taken_cases b ss copy (Err fault) is ok =
-    ap (λ (p : Side). copy_in p b ss) (from_second b ss fault is)
+    ap (λ (p : CopyPlace). copy_in p b ss) (from_second b ss fault is)
     ∙ given_by_fallback b ss fault copy (ltb (length b) ss) refl (sym (refused_first b ss fault is) ∙ ok)
 
 -- A copy that a read returns is accepted at its place. In the form of that place it is held there.

@@ -6,7 +6,7 @@ use Rattle.std.specs.List.{Contains}
 use Rattle.std.proofs.lemmas.Bool.Decides.{Decides-and, Decides-eqb, Decides-like, not_from_Decides}
 use lib.Pointwise.{pointwise, pointwise_decides, bytes_decides}
 use Rattle.gptman.specs.Copy.{Copy}
-use Rattle.gptman.specs.Reading.{Side, primary, backup}
+use Rattle.gptman.specs.Reading.{CopyPlace, primary, backup}
 use Rattle.gptman.specs.Table.{Table, TableEntry, table_of, IsForm, IsHeaderForm}
 use Rattle.gptman.specs.declared.codec.header.GPTHeader.{GPTHeader}
 use Rattle.gptman_disk.proofs.Ranges.{contains_first, contains_later}
@@ -73,12 +73,12 @@ table_decided t u =
 both_decided : (a b c d : ℕ) → ((a ≡ b) × (c ≡ d)) ⊎ (¬ ((a ≡ b) × (c ≡ d)))
 both_decided a b c d = decided _ (Decides-and (eqb a b) (eqb c d) (Decides-eqb a b) (Decides-eqb c d))
 
-header_form_decided : (side : Side) (h : GPTHeader) → IsHeaderForm side h ⊎ (¬ IsHeaderForm side h)
+header_form_decided : (side : CopyPlace) (h : GPTHeader) → IsHeaderForm side h ⊎ (¬ IsHeaderForm side h)
 header_form_decided primary h = both_decided h.primary_lba 1 h.partition_entry_lba 2
 header_form_decided backup h = both_decided h.backup_lba 1 h.partition_entry_lba (h.last_usable_lba + 1)
 
 -- A copy is a table in the form of a place, or it is not.
-form_decided : (side : Side) (t : Table) (copy : Copy) → IsForm side t copy ⊎ (¬ IsForm side t copy)
+form_decided : (side : CopyPlace) (t : Table) (copy : Copy) → IsForm side t copy ⊎ (¬ IsForm side t copy)
 form_decided side t copy = elim (table_decided (table_of copy.header copy.entries) t) as (λ _. IsForm side t copy ⊎ (¬ IsForm side t copy)) [
   | inl table ↦ elim (header_form_decided side copy.header) as (λ _. IsForm side t copy ⊎ (¬ IsForm side t copy)) [
     | inl form ↦ inl (record { table = table; form = form })
@@ -96,12 +96,12 @@ pub contains_cases : {X : Type 0} (x y : X) (xs : List X) → Contains (x ∷ xs
 contains_cases x y xs has = contains_at x y xs has.0 has.1 has.2
 
 -- The copy is one of the tables in the form of the place, or none of them.
-pub record IsOneOf (side : Side) (copy : Copy) (tables : List Table) : Type 0 where
+pub record IsOneOf (side : CopyPlace) (copy : Copy) (tables : List Table) : Type 0 where
   pub table : Table
   pub listed : Contains tables table
   pub form : IsForm side table copy
 
-pub one_of_decided : (side : Side) (copy : Copy) (tables : List Table) → IsOneOf side copy tables ⊎ ((t : Table) → Contains tables t → ¬ IsForm side t copy)
+pub one_of_decided : (side : CopyPlace) (copy : Copy) (tables : List Table) → IsOneOf side copy tables ⊎ ((t : Table) → Contains tables t → ¬ IsForm side t copy)
 one_of_decided side copy [] = inr (λ t has form. absurd (omega (arith, has.1)))
 one_of_decided side copy (u ∷ tables) = elim (form_decided side u copy) as (λ _. IsOneOf side copy (u ∷ tables) ⊎ ((t : Table) → Contains (u ∷ tables) t → ¬ IsForm side t copy)) [
   | inl form ↦ inl (record { table = u; listed = contains_first u tables; form = form })

@@ -4,7 +4,7 @@ use Rattle.std.specs.List.{range_with_len}
 use Rattle.gptman.specs.Coding.{header_bytes, array_bytes}
 use Rattle.gptman.specs.Crc.{crc_of}
 use Rattle.gptman.specs.Copy.{header_crc, with_checksums}
-use Rattle.gptman.specs.Reading.{Side, primary, backup}
+use Rattle.gptman.specs.Reading.{CopyPlace, primary, backup}
 use Rattle.gptman.specs.Table.{table_of, IsHeaderForm}
 use Rattle.gptman.specs.Write.{copy_ranges}
 use Rattle.gptman.specs.declared.codec.header.GPTHeader.{GPTHeader}
@@ -56,7 +56,7 @@ unfolding with_checksums
 sealed_table h es = refl
 
 -- in the same form,
-pub sealed_form : (side : Side) (h : GPTHeader) (es : List GPTPartitionEntry) → IsHeaderForm side h → IsHeaderForm side (with_checksums h es)
+pub sealed_form : (side : CopyPlace) (h : GPTHeader) (es : List GPTPartitionEntry) → IsHeaderForm side h → IsHeaderForm side (with_checksums h es)
 unfolding with_checksums
 sealed_form primary h es form = form
 sealed_form backup h es form = form

@@ -11,9 +11,9 @@ use Rattle.gptman.specs.Write.{other_header, copy_ranges, four_ranges, copy_writ
 use Rattle.gptman.specs.declared.codec.header.GPTHeader.{GPTHeader}
 use Rattle.gptman.specs.declared.codec.entry.GPTPartitionEntry.{GPTPartitionEntry}
 use Rattle.gptman.proofs.Apart.{apart_exchanged}
-use Rattle.gptman.proofs.LaidCopies.{laid_both}
+use Rattle.gptman.proofs.CopiesInPlace.{written_both}
 use Rattle.gptman.proofs.Sealing.{sealed_count, sealed_ranges}
-use Rattle.gptman.proofs.TwoSides.{IsCopied}
+use Rattle.gptman.proofs.TwoPlaces.{IsCopied}
 use Rattle.gptman.proofs.FirstFailing.{tests_pass}
 use Rattle.gptman_disk.proofs.Ranges.{Ranges, within_left, within_right}
 use Rattle.gptman.proofs.Runs.{wrote_then, wrote_wider}
@@ -56,10 +56,10 @@ pub room_inside : (h : GPTHeader) (ss : ℕ) (disk : DiskState) → length disk.
 room_inside h ss disk long room = (both_allowed h ss (length disk.view) (ap (write_fault h ss) long ∙ room)).inside
 
 -- Both copies are there after both were written, in any layout, if their ranges are disjoint and nothing was refused.
-pub copied_stand : (h : GPTHeader) (es : List GPTPartitionEntry) (ss : ℕ) (a b c : DiskState) → AreApart (four_ranges h ss) → list_all (is_inside (length a.view)) (four_ranges h ss) ≡ true
+pub copied_are_there : (h : GPTHeader) (es : List GPTPartitionEntry) (ss : ℕ) (a b c : DiskState) → AreApart (four_ranges h ss) → list_all (is_inside (length a.view)) (four_ranges h ss) ≡ true
     → length es ≡ h.number_of_partition_entries → IsCopied (other_header h) es ss a b → Wrote (copy_ranges h ss) b c → IsCopied h es ss b c
     → HasBytes c.view (with_checksums h es) es ss × HasBytes c.view (with_checksums (other_header h) es) es ss
-copied_stand h es ss a b c apart lies count first second own =
+copied_are_there h es ss a b c apart lies count first second own =
     let mine : Ranges = copy_ranges h ss in
     let theirs : Ranges = copy_ranges (other_header h) ss in
     let mine_is = sealed_ranges h es ss in
@@ -67,8 +67,8 @@ copied_stand h es ss a b c apart lies count first second own =
     let inside = and_parts (list_all (is_inside (length a.view)) mine) (list_all (is_inside (length a.view)) theirs) (sym (list_all-append (is_inside (length a.view)) mine theirs) ∙ lies) in
     let P : Ranges → Type 0 = λ rs. list_all (is_inside (length a.view)) rs ≡ true in
     let ranges : theirs ++ mine ≡ copy_ranges (with_checksums (other_header h) es) ss ++ copy_ranges (with_checksums h es) ss = λ i. sym theirs_is i ++ sym mine_is i in
-    let both = laid_both a.view b.view c.view (with_checksums (other_header h) es) (with_checksums h es) es ss (subst AreApart ranges (apart_exchanged mine theirs apart))
+    let both = written_both a.view b.view c.view (with_checksums (other_header h) es) (with_checksums h es) es ss (subst AreApart ranges (apart_exchanged mine theirs apart))
     (subst P (sym theirs_is) inside.1) (subst P (sym mine_is) inside.0) first.fits.0 own.fits.0 first.fits.1
-    (count ∙ sym (sealed_count (other_header h) es)) (count ∙ sym (sealed_count h es)) first.laid own.laid
+    (count ∙ sym (sealed_count (other_header h) es)) (count ∙ sym (sealed_count h es)) first.contents own.contents
     (subst (λ (rs : Ranges). AgreesOutside rs b.view c.view) (sym mine_is) second.view) in
     (both.1, both.0)

@@ -11,7 +11,7 @@ use Rattle.gptman.specs.Coding.{IsHeaderCoding, IsEntryCoding, HasReadName, Fits
 use Rattle.gptman.specs.Crc.{crc_of}
 use Rattle.gptman_disk.specs.Fault.{Fault, invalid_signature}
 use Rattle.gptman.specs.Copy.{Copy, CopyAt, copy_at, header_crc, right_signature, right_revision}
-use Rattle.gptman.specs.Reading.{Side, primary, backup, copy_start, copy_in}
+use Rattle.gptman.specs.Reading.{CopyPlace, primary, backup, copy_start, copy_in}
 use Rattle.gptman.specs.Table.{Table, TableEntry, IsHeaderForm, table_of}
 use Rattle.gptman.specs.Layout.{Holds, IsLaidOut}
 use Rattle.gptman.specs.Write.{HasBytes}
@@ -93,18 +93,18 @@ pub read_table : (h : GPTHeader) (es : List GPTPartitionEntry) → table_of h (m
 read_table h es = ap (λ (xs : List TableEntry). record (table_of h es) { entries = xs }) (read_content es)
 
 -- A header in the layout is written at the start of its place.
-pub written_start : (side : Side) (h : GPTHeader) (es : List GPTPartitionEntry) (ss len : ℕ) → IsHeaderForm side h → IsLaidOut (table_of h es) ss len → h.primary_lba * ss ≡ copy_start side len ss
+pub written_start : (side : CopyPlace) (h : GPTHeader) (es : List GPTPartitionEntry) (ss len : ℕ) → IsHeaderForm side h → IsLaidOut (table_of h es) ss len → h.primary_lba * ss ≡ copy_start side len ss
 written_start primary h es ss len form laid = ap (λ (n : ℕ). n * ss) form.0 ∙ (let e : 1 * ss ≡ ss = omega arith in e)
 written_start backup h es ss len form laid =
     let sector : h.primary_lba ≡ len / ss - 1 = omega (arith, laid.low_sector, laid.high_sector, form.0) in
     ap (λ (n : ℕ). n * ss) sector
 
 -- The start of the entries of a table in the form of a place.
-abbrev pub array_start : Side → Table → ℕ → ℕ
+abbrev pub array_start : CopyPlace → Table → ℕ → ℕ
 array_start side t ss = elim side [ primary ↦ 2 * ss | backup ↦ (t.last_usable_lba + 1) * ss ]
 
 -- Its entries are written at their start.
-pub written_array : (side : Side) (h : GPTHeader) (es : List GPTPartitionEntry) (ss : ℕ) → IsHeaderForm side h → h.partition_entry_lba * ss ≡ array_start side (table_of h es) ss
+pub written_array : (side : CopyPlace) (h : GPTHeader) (es : List GPTPartitionEntry) (ss : ℕ) → IsHeaderForm side h → h.partition_entry_lba * ss ≡ array_start side (table_of h es) ss
 written_array primary h es ss form = ap (λ (n : ℕ). n * ss) form.1
 written_array backup h es ss form = ap (λ (n : ℕ). n * ss) form.1
 
@@ -113,17 +113,17 @@ on_disk at len (inl e) = absurd (omega arith)
 on_disk at len (inr h) = h
 
 -- A table's header at a place is on the disk,
-pub header_inside : (side : Side) (t : Table) (ss len : ℕ) → IsLaidOut t ss len → copy_start side len ss + 92 ≤ len
+pub header_inside : (side : CopyPlace) (t : Table) (ss len : ℕ) → IsLaidOut t ss len → copy_start side len ss + 92 ≤ len
 header_inside primary t ss len laid = on_disk ss len laid.inside.0
 header_inside backup t ss len laid = on_disk (copy_start backup len ss) len laid.inside.1.1.0
 
 -- and so are its entries.
-pub array_inside : (side : Side) (t : Table) (ss len : ℕ) → IsLaidOut t ss len → (128 * t.count ≡ 0) ⊎ (array_start side t ss + 128 * t.count ≤ len)
+pub array_inside : (side : CopyPlace) (t : Table) (ss len : ℕ) → IsLaidOut t ss len → (128 * t.count ≡ 0) ⊎ (array_start side t ss + 128 * t.count ≤ len)
 array_inside primary t ss len laid = laid.inside.1.0
 array_inside backup t ss len laid = laid.inside.1.1.1.0
 
 -- The copy at a place of a disk of at least one sector.
-pub copy_in-at : (side : Side) (b : List ℕ) (ss : ℕ) → ss ≤ length b → (short : Bool) → ltb (length b) ss ≡ short → copy_in side b ss ≡ copy_at b (copy_start side (length b) ss) ss
+pub copy_in-at : (side : CopyPlace) (b : List ℕ) (ss : ℕ) → ss ≤ length b → (short : Bool) → ltb (length b) ss ≡ short → copy_in side b ss ≡ copy_at b (copy_start side (length b) ss) ss
 unfolding copy_in
 copy_in-at primary b ss long short is = refl
 copy_in-at backup b ss long true is = absurd (omega (arith, ltb-true (length b) ss is))
@@ -132,7 +132,7 @@ copy_in-at backup b ss long false is =
     ap choose is
 
 -- A table in the layout whose bytes are on the disk is held at its place.
-pub written_holds : (b : List ℕ) (ss : ℕ) (side : Side) (h : GPTHeader) (es : List GPTPartitionEntry) → length b ≤ 2 ^ 64 → IsLaidOut (table_of h es) ss (length b) → IsHeaderForm side h
+pub written_holds : (b : List ℕ) (ss : ℕ) (side : CopyPlace) (h : GPTHeader) (es : List GPTPartitionEntry) → length b ≤ 2 ^ 64 → IsLaidOut (table_of h es) ss (length b) → IsHeaderForm side h
     → FitsHeader h → All FitsEntry es → IsSealed h es → HasBytes b h es ss → Holds b ss side (table_of h es)
 written_holds b ss side h es small laid form header_fits fits sums has =
     let p : ℕ = copy_start side (length b) ss in

@@ -23,7 +23,7 @@ AreZero starts = All (λ s. s ≡ 0) starts
 -- else the largest divisor.
 pub record IsAlignmentOf (first : ℕ) (starts : List ℕ) (a : ℕ) : Type 0 where
   pub none : starts ≡ [] → a ≡ 2048
-  pub alone : starts ≡ first ∷ [] → a ≡ 1
+  pub of_one : starts ≡ first ∷ [] → a ≡ 1
   pub zero : starts ≢ [] → AreZero starts → a ≡ 1
   pub other : starts ≢ [] → starts ≢ first ∷ [] → ¬ AreZero starts → IsGreatestDivisor starts a
 

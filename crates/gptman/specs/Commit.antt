@@ -8,7 +8,7 @@ use Rattle.gptman.specs.Crash.{IsLeftAlone}
 use Rattle.gptman.specs.Edit.{after_edit, edit_fault, table_after}
 use Rattle.gptman_disk.specs.Fault.{Fault, fault_of, io, out_of_memory}
 use Rattle.gptman.specs.Layout.{Holds, copy_ranges_at}
-use Rattle.gptman.specs.Reading.{Side, primary, backup, copy_start}
+use Rattle.gptman.specs.Reading.{CopyPlace, primary, backup, copy_start}
 use Rattle.gptman.specs.Stop.{HoldsOneOf, IsStored}
 use Rattle.gptman.specs.Table.{Table, entries_in, table_in}
 use Rattle.gptman.specs.Valid.{IsValid}
@@ -66,8 +66,8 @@ abbrev pub reached : ℕ → Option Error → ℕ
 reached done fault = if is_failure fault then done + 1 else done
 
 -- Both places hold the table after k edits; or k is 0, and the disk was only read.
-abbrev pub Stands : GPT → List Edit → ℕ → DiskState → DiskState → Type 0
-Stands g edits k old new = ((k ≡ 0) × OnlyRead old new) ⊎ IsStored new g.sector_size (table_in (table_after g edits k))
+abbrev pub IsStoredAfter : GPT → List Edit → ℕ → DiskState → DiskState → Type 0
+IsStoredAfter g edits k old new = ((k ≡ 0) × OnlyRead old new) ⊎ IsStored new g.sector_size (table_in (table_after g edits k))
 
 -- Whatever a crash leaves, one place at least holds the table after k edits or, if the disk failed in the next write,
 -- the table after k + 1 edits.
@@ -76,23 +76,23 @@ HoldsLast disk g edits k failed = (b : List ℕ) → Image disk b
     → HoldsOneOf b g.sector_size (table_in (table_after g edits k) ∷ (if failed then table_in (table_after g edits (k + 1)) ∷ [] else []))
 
 -- Nothing is unsynced. If the ranges of both copies do not overlap, they have the bytes of the value after k edits.
-pub record IsLaidAfter (disk : DiskState) (g : GPT) (edits : List Edit) (k : ℕ) : Type 0 where
+pub record HasContentsAfter (disk : DiskState) (g : GPT) (edits : List Edit) (k : ℕ) : Type 0 where
   pub synced : disk.pending ≡ []
   pub copies : AreApart (table_ranges g) → HasBothCopies disk.view (value_after g edits k) (other_with_checksums (table_after g edits k))
 
 -- The place holds the table, whatever a crash leaves.
-abbrev pub HoldsInAnyImage : DiskState → ℕ → Side → Table → Type 0
+abbrev pub HoldsInAnyImage : DiskState → ℕ → CopyPlace → Table → Type 0
 HoldsInAnyImage disk ss side t = (b : List ℕ) → Image disk b → Holds b ss side t
 
 -- A place after k edits were written and the next one failed: unchanged, if k is 0; or holding the table after k or
 -- k + 1 edits, whatever a crash leaves; or with an unsynced header.
-pub data SideAfterEdits (side : Side) (g : GPT) (edits : List Edit) (k : ℕ) (old new : DiskState) : Type 0 where
-  as_it_was : k ≡ 0 → IsLeftAlone (copy_ranges_at side (table_in g) g.sector_size old.size) old new → SideAfterEdits side g edits k old new
-  holds_last : 0 < k → HoldsInAnyImage new g.sector_size side (table_in (table_after g edits k)) → SideAfterEdits side g edits k old new
-  holds_next : HoldsInAnyImage new g.sector_size side (table_in (table_after g edits (k + 1))) → SideAfterEdits side g edits k old new
-  header_pending : IsPending (copy_start side old.size g.sector_size, 92) new → SideAfterEdits side g edits k old new
+pub data PlaceAfterEdits (side : CopyPlace) (g : GPT) (edits : List Edit) (k : ℕ) (old new : DiskState) : Type 0 where
+  as_it_was : k ≡ 0 → IsLeftAlone (copy_ranges_at side (table_in g) g.sector_size old.size) old new → PlaceAfterEdits side g edits k old new
+  holds_last : 0 < k → HoldsInAnyImage new g.sector_size side (table_in (table_after g edits k)) → PlaceAfterEdits side g edits k old new
+  holds_next : HoldsInAnyImage new g.sector_size side (table_in (table_after g edits (k + 1))) → PlaceAfterEdits side g edits k old new
+  header_pending : IsPending (copy_start side old.size g.sector_size, 92) new → PlaceAfterEdits side g edits k old new
 
 -- Each place is unchanged, if k is 0; or holds the table after k or k + 1 edits, whatever a crash leaves; or has an
 -- unsynced header.
-abbrev pub BothSidesAfterEdits : GPT → List Edit → ℕ → DiskState → DiskState → Type 0
-BothSidesAfterEdits g edits k old new = SideAfterEdits primary g edits k old new × SideAfterEdits backup g edits k old new
+abbrev pub BothPlacesAfterEdits : GPT → List Edit → ℕ → DiskState → DiskState → Type 0
+BothPlacesAfterEdits g edits k old new = PlaceAfterEdits primary g edits k old new × PlaceAfterEdits backup g edits k old new

@@ -6,7 +6,7 @@ use Rattle.gptman.specs.Fit.{fit_header}
 use Rattle.gptman_disk.specs.Ranges.{AgreesInside, AreClear, Inside}
 use Rattle.gptman.specs.Edit.{after_edit, edited_all}
 use Rattle.gptman.specs.Layout.{HasLayout, Holds, copy_ranges_at}
-use Rattle.gptman.specs.Reading.{Side, primary, backup, copy_start, copy_in, reading_of, taken_from}
+use Rattle.gptman.specs.Reading.{CopyPlace, primary, backup, copy_start, copy_in, reading_of, taken_from}
 use Rattle.gptman.specs.Stop.{IsStored, ReadsTable}
 use Rattle.gptman.specs.Table.{Table, entries_in, table_in, IsHeaderForm}
 use Rattle.gptman.specs.TableReads.{copy_of}
@@ -15,18 +15,18 @@ use Rattle.gptman.specs.declared.edit.Edit.{Edit}
 use Rattle.gptman.specs.declared.table.GPT.{GPT}
 
 -- The other place.
-abbrev pub other_side : Side → Side
-other_side primary = backup
-other_side backup = primary
+abbrev pub other_place : CopyPlace → CopyPlace
+other_place primary = backup
+other_place backup = primary
 
 -- One good copy: nothing is unsynced, the place of the value's form holds the old table, and the old table's ranges
 -- there do not overlap those of the value's other copy.
 pub record IsKeptFor (disk : DiskState) (g : GPT) (old : Table) : Type 0 where
   pub synced : disk.pending ≡ []
-  pub side : Side
+  pub side : CopyPlace
   pub form : IsHeaderForm side g.header
   pub held : Holds disk.view g.sector_size side old
-  pub clear : AreClear (copy_ranges_at side old g.sector_size disk.size) (copy_ranges_at (other_side side) (table_in g) g.sector_size disk.size)
+  pub clear : AreClear (copy_ranges_at side old g.sector_size disk.size) (copy_ranges_at (other_place side) (table_in g) g.sector_size disk.size)
 
 -- The two tables have the same four ranges, on a disk where both have the stated layout.
 pub record HasRangesOf (old new : Table) : Type 0 where
@@ -63,9 +63,9 @@ StopsKeepOthers old new g = LeavesOnly old new (AgreesOutside (copy_ranges_at pr
 
 -- A crash at any moment since old leaves all bytes outside the value's other copy unchanged, or that copy complete: its
 -- place holds the value's table.
-abbrev pub StopsComeInTurns : DiskState → DiskState → GPT → Type 0
-StopsComeInTurns old new g = (side : Side) → IsHeaderForm side g.header
-    → LeavesOnly old new (λ b. AgreesOutside (copy_ranges_at (other_side side) (table_in g) g.sector_size old.size) old.view b ⊎ Holds b g.sector_size (other_side side) (table_in g))
+abbrev pub StopsComeInOrder : DiskState → DiskState → GPT → Type 0
+StopsComeInOrder old new g = (side : CopyPlace) → IsHeaderForm side g.header
+    → LeavesOnly old new (λ b. AgreesOutside (copy_ranges_at (other_place side) (table_in g) g.sector_size old.size) old.view b ⊎ Holds b g.sector_size (other_place side) (table_in g))
 
 -- No byte of the ranges is unsynced, and all are unchanged.
 pub record IsLeftAlone (ranges : List (ℕ × ℕ)) (old new : DiskState) : Type 0 where
@@ -74,24 +74,24 @@ pub record IsLeftAlone (ranges : List (ℕ × ℕ)) (old new : DiskState) : Type
 
 -- A place after a failed write: unchanged; or holding the new table, whatever a crash leaves; or with an unsynced
 -- header.
-pub data SideAfter (side : Side) (t : Table) (ss : ℕ) (old new : DiskState) : Type 0 where
-  left_alone : IsLeftAlone (copy_ranges_at side t ss old.size) old new → SideAfter side t ss old new
-  written : ((b : List ℕ) → Image new b → Holds b ss side t) → SideAfter side t ss old new
-  torn : IsPending (copy_start side old.size ss, 92) new → SideAfter side t ss old new
+pub data PlaceAfter (side : CopyPlace) (t : Table) (ss : ℕ) (old new : DiskState) : Type 0 where
+  left_alone : IsLeftAlone (copy_ranges_at side t ss old.size) old new → PlaceAfter side t ss old new
+  written : ((b : List ℕ) → Image new b → Holds b ss side t) → PlaceAfter side t ss old new
+  torn : IsPending (copy_start side old.size ss, 92) new → PlaceAfter side t ss old new
 
 -- Each place is unchanged, or holds the new table whatever a crash leaves, or has an unsynced header.
-abbrev pub BothSidesAfter : GPT → DiskState → DiskState → Type 0
-BothSidesAfter g old new = SideAfter primary (table_in g) g.sector_size old new × SideAfter backup (table_in g) g.sector_size old new
+abbrev pub BothPlacesAfter : GPT → DiskState → DiskState → Type 0
+BothPlacesAfter g old new = PlaceAfter primary (table_in g) g.sector_size old new × PlaceAfter backup (table_in g) g.sector_size old new
 
 -- A disk that agrees with the view in the two ranges of a place is read as the table, from the backup place if the
 -- primary copy is not accepted.
-pub record IsReadAlone (view : List ℕ) (ss : ℕ) (t : Table) (b : List ℕ) : Type 0 where
+pub record IsReadFromEachCopy (view : List ℕ) (ss : ℕ) (t : Table) (b : List ℕ) : Type 0 where
   pub from_primary : AgreesInside (copy_ranges_at primary t ss (length view)) view b → ReadsTable b ss primary t
   pub from_backup : AgreesInside (copy_ranges_at backup t ss (length view)) view b → IsErr (copy_in primary b ss) → ReadsTable b ss backup t
 
 -- Each copy of the value's table is read as the table without the other.
-abbrev pub AreReadAlone : List ℕ → GPT → Type 0
-AreReadAlone view g = (b : List ℕ) → IsReadAlone view g.sector_size (table_in g) b
+abbrev pub AreReadFromEachCopy : List ℕ → GPT → Type 0
+AreReadFromEachCopy view g = (b : List ℕ) → IsReadFromEachCopy view g.sector_size (table_in g) b
 
 -- A table that the primary place holds is one good copy for a value in the stated layout whose header was fitted to
 -- this disk, from one in primary form with as many entries. Its last usable sector and backup sector may have been
@@ -105,7 +105,7 @@ GrowingIsSafe disk = (was : Table) (h : GPTHeader) (g : GPT) → disk.pending �
 
 -- The value is a copy that is accepted at a place, in the form of that place.
 pub record IsReadInForm (view : List ℕ) (g : GPT) : Type 0 where
-  pub side : Side
+  pub side : CopyPlace
   pub accepted : copy_in side view g.sector_size ≡ Ok (copy_of g)
   pub form : IsHeaderForm side g.header
 
@@ -116,7 +116,7 @@ TakesInForm view = (g : GPT) → reading_of view g.sector_size ≡ Ok (copy_of g
 -- The other value has the sector size of this one, the form of its header, and the same four ranges.
 pub record HasPlacesOf (g next : GPT) : Type 0 where
   pub sector : next.sector_size ≡ g.sector_size
-  pub form : (side : Side) → IsHeaderForm side g.header → IsHeaderForm side next.header
+  pub form : (side : CopyPlace) → IsHeaderForm side g.header → IsHeaderForm side next.header
   pub ranges : HasRangesOf (table_in g) (table_in next)
 
 -- A value that was read in the form of its place is one good copy for a write of any value with its places, so also of

@@ -1,7 +1,7 @@
 -- The stated layout of a disk, and where a table is in it.
 use Rattle.std.specs.Prelude.{◌≡◌, ◌≤◌, ◌<◌, ◌+◌, ◌-◌, ◌*◌, ◌/◌, ◌^◌, ℕ, List, [], ◌∷◌, ◌++◌, length, min, max, Ok}
 use Rattle.gptman.specs.Copy.{Copy, right_signature, right_revision}
-use Rattle.gptman.specs.Reading.{Side, primary, backup, copy_start, copy_in}
+use Rattle.gptman.specs.Reading.{CopyPlace, primary, backup, copy_start, copy_in}
 use Rattle.gptman.specs.Table.{Table, table_in, IsForm, IsHeaderForm}
 use Rattle.gptman.specs.declared.codec.entry.GPTPartitionEntry.{GPTPartitionEntry}
 use Rattle.gptman.specs.declared.codec.header.GPTHeader.{GPTHeader}
@@ -10,7 +10,7 @@ use Rattle.gptman_disk.specs.Ranges.{AreApart, AreInside}
 
 -- The two ranges of a table at a place of a disk of len bytes, as (start, length): its header, and its entries from
 -- sector 2 on or after the last usable sector.
-abbrev pub copy_ranges_at : Side → Table → ℕ → ℕ → List (ℕ × ℕ)
+abbrev pub copy_ranges_at : CopyPlace → Table → ℕ → ℕ → List (ℕ × ℕ)
 copy_ranges_at side t ss len =
     (copy_start side len ss, 92) ∷ (elim side [ primary ↦ 2 * ss | backup ↦ (t.last_usable_lba + 1) * ss ], 128 * t.count) ∷ []
 
@@ -54,11 +54,11 @@ pub record AreInPlace (t : Table) (ss len : ℕ) : Type 0 where
 -- The value has the stated layout on a disk of len bytes: its table has it, and its header is in one of the two forms.
 pub record HasLayout (g : GPT) (len : ℕ) : Type 0 where
   pub table : IsLaidOut (table_in g) g.sector_size len
-  pub side : Side
+  pub side : CopyPlace
   pub form : IsHeaderForm side g.header
 
 -- The copy at the place is accepted, and is the table in the form of that place.
-pub record Holds (b : List ℕ) (ss : ℕ) (side : Side) (t : Table) : Type 0 where
+pub record Holds (b : List ℕ) (ss : ℕ) (side : CopyPlace) (t : Table) : Type 0 where
   pub copy : Copy
   pub accepted : copy_in side b ss ≡ Ok copy
   pub form : IsForm side t copy

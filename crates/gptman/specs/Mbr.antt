@@ -21,7 +21,7 @@ abbrev pub mbr_range : ℕ × ℕ
 mbr_range = (446, 66)
 
 -- The MBR is written, and unsynced.
-pub record IsMbrLaid (bootable : Bool) (ss : ℕ) (old new : DiskState) : Type 0 where
+pub record IsMbrWritten (bootable : Bool) (ss : ℕ) (old new : DiskState) : Type 0 where
   pub view : new.view ≡ overlay old.view 446 (mbr_bytes bootable ss old.size)
   pub pending : GrowsBy mbr_range old new
 
@@ -30,8 +30,8 @@ abbrev pub AnswersMbr : {T : Type 0} → ℕ → Result T Error → DiskState �
 AnswersMbr ss result old new = Settles (mbr_fault ss old.size) result old new
 
 -- On an honest disk, after `Ok` the MBR is written, and unsynced.
-abbrev pub LaysMbr : {T E : Type 0} → Bool → ℕ → Result T E → DiskState → DiskState → Type 0
-LaysMbr bootable ss result old new = IsHonest old → OnOk result (IsMbrLaid bootable ss old new)
+abbrev pub WritesMbr : {T E : Type 0} → Bool → ℕ → Result T E → DiskState → DiskState → Type 0
+WritesMbr bootable ss result old new = IsHonest old → OnOk result (IsMbrWritten bootable ss old new)
 
 -- The MBR is written, and nothing is unsynced.
 pub record IsMbrStored (bootable : Bool) (ss : ℕ) (old new : DiskState) : Type 0 where

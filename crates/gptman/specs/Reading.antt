@@ -3,17 +3,17 @@ use Rattle.std.specs.Prelude.{ℕ, ◌-◌, ◌*◌, ◌/◌, ◌&&◌, true, fa
 use Rattle.gptman_disk.specs.Fault.{Fault, invalid_signature, read_error, is_signature_fault}
 use Rattle.gptman.specs.Copy.{Copy, copy_at}
 
-pub data Side : Type 0 where
-  primary : Side
-  backup : Side
+pub data CopyPlace : Type 0 where
+  primary : CopyPlace
+  backup : CopyPlace
 
 -- The first byte of a place on a disk of len bytes: that of sector 1, or of the last whole sector.
-abbrev pub copy_start : Side → ℕ → ℕ → ℕ
+abbrev pub copy_start : CopyPlace → ℕ → ℕ → ℕ
 copy_start primary len ss = ss
 copy_start backup len ss = (len / ss - 1) * ss
 
 -- The copy at a place, or its fault. A disk shorter than a sector has no backup place.
-unfoldable pub copy_in : Side → List ℕ → ℕ → Result Copy Fault
+unfoldable pub copy_in : CopyPlace → List ℕ → ℕ → Result Copy Fault
 copy_in primary b ss = copy_at b (copy_start primary (length b) ss) ss
 copy_in backup b ss = elim (nat_lt (length b) ss) [ true ↦ Err invalid_signature | false ↦ copy_at b (copy_start backup (length b) ss) ss ]
 
@@ -33,7 +33,7 @@ unfoldable pub reading_of : List ℕ → ℕ → Result Copy Fault
 reading_of b ss = elim (copy_in primary b ss) [ Ok copy ↦ Ok copy | Err first ↦ fallback b ss first ]
 
 -- The place from which the read returns its copy.
-unfoldable pub taken_from : List ℕ → ℕ → Side
+unfoldable pub taken_from : List ℕ → ℕ → CopyPlace
 taken_from b ss = elim (copy_in primary b ss) [ Ok copy ↦ primary | Err fault ↦ backup ]
 
 -- The sector size that is found: 4096 only if a read with 512 finds no signature.

@@ -4,7 +4,7 @@ use Rattle.gptman_disk.specs.Disk.{DiskState, LeavesOnly}
 use Rattle.gptman.specs.Copy.{Copy, CopyAt, copy_at}
 use Rattle.gptman.specs.declared.codec.header.GPTHeader.{GPTHeader}
 use Rattle.gptman.specs.declared.codec.entry.GPTPartitionEntry.{GPTPartitionEntry}
-use Rattle.gptman.specs.Reading.{Side, primary, backup, reading_of, taken_from}
+use Rattle.gptman.specs.Reading.{CopyPlace, primary, backup, reading_of, taken_from}
 use Rattle.gptman.specs.Table.{Table, table_of, IsForm, IsHeaderForm}
 use Rattle.gptman.specs.Layout.{Holds}
 
@@ -21,7 +21,7 @@ pub record ReadsForeign (b : List ℕ) (ss : ℕ) (tables : List Table) : Type 0
   pub foreign : (t : Table) → Contains tables t → ¬ IsForm (taken_from b ss) t copy
 
 -- The read returns the copy at this place, and it is the table in the form of that place.
-pub record ReadsTable (b : List ℕ) (ss : ℕ) (side : Side) (t : Table) : Type 0 where
+pub record ReadsTable (b : List ℕ) (ss : ℕ) (side : CopyPlace) (t : Table) : Type 0 where
   pub copy : Copy
   pub taken : reading_of b ss ≡ Ok copy
   pub from : taken_from b ss ≡ side
@@ -29,7 +29,7 @@ pub record ReadsTable (b : List ℕ) (ss : ℕ) (side : Side) (t : Table) : Type
 
 -- One place at least holds a listed table.
 pub record HoldsOneOf (b : List ℕ) (ss : ℕ) (tables : List Table) : Type 0 where
-  pub side : Side
+  pub side : CopyPlace
   pub table : Table
   pub listed : Contains tables table
   pub holds : Holds b ss side table
@@ -62,6 +62,6 @@ HoldsWhatIsRead = (b : List ℕ) (ss : ℕ) (copy : Copy) → reading_of b ss �
 
 -- On a disk of fewer than 2^64 bytes, a copy is accepted, with this header and these entries, exactly if they are
 -- there.
-abbrev pub AcceptsWhatStands : Type 0
-AcceptsWhatStands = (b : List ℕ) (p ss : ℕ) (h : GPTHeader) (es : List GPTPartitionEntry) → length b < 2 ^ 64
+abbrev pub AcceptsRightCopies : Type 0
+AcceptsRightCopies = (b : List ℕ) (p ss : ℕ) (h : GPTHeader) (es : List GPTPartitionEntry) → length b < 2 ^ 64
     → (copy_at b p ss ≡ Ok (record { header = h; entries = es })) ↔ CopyAt b p ss h es

@@ -3,7 +3,7 @@ use Rattle.std.specs.Prelude.{◌≡◌, ◌⊎◌, ◌+◌, ℕ, List, replicat
 use Rattle.gptman.specs.Coding.{empty_entry}
 use Rattle.gptman.specs.Fit.{new_header_of, fit_header}
 use Rattle.gptman.specs.Copy.{Copy}
-use Rattle.gptman.specs.Reading.{Side, primary, backup}
+use Rattle.gptman.specs.Reading.{CopyPlace, primary, backup}
 use Rattle.gptman.specs.declared.codec.header.GPTHeader.{GPTHeader}
 use Rattle.gptman.specs.declared.codec.entry.GPTPartitionEntry.{GPTPartitionEntry}
 use Rattle.gptman.specs.declared.table.GPT.{GPT}
@@ -67,7 +67,7 @@ table_in g = table_of g.header g.partitions
 
 -- The header is in this form: in sector 1 with its entries from sector 2, or in the other sector with its entries after
 -- the last usable one.
-abbrev pub IsHeaderForm : Side → GPTHeader → Type 0
+abbrev pub IsHeaderForm : CopyPlace → GPTHeader → Type 0
 IsHeaderForm primary h = (h.primary_lba ≡ 1) × (h.partition_entry_lba ≡ 2)
 IsHeaderForm backup h = (h.backup_lba ≡ 1) × (h.partition_entry_lba ≡ h.last_usable_lba + 1)
 
@@ -76,7 +76,7 @@ abbrev pub IsInForm : GPTHeader → Type 0
 IsInForm h = IsHeaderForm primary h ⊎ IsHeaderForm backup h
 
 -- The copy is the table, in the form of that place.
-pub record IsForm (side : Side) (t : Table) (copy : Copy) : Type 0 where
+pub record IsForm (side : CopyPlace) (t : Table) (copy : Copy) : Type 0 where
   pub table : table_of copy.header copy.entries ≡ t
   pub form : IsHeaderForm side copy.header
 

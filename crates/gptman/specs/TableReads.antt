@@ -5,7 +5,7 @@ use Rattle.gptman.specs.Copy.{Copy, IsCoherent}
 use Rattle.gptman.specs.Alignment.{IsAlignment}
 use Rattle.gptman_disk.specs.Disk.{DiskState, HasFailedAsOften, HasFailedOnceAtMost, IsHonest, Rose}
 use Rattle.gptman_disk.specs.Fault.{Fault, io, invalid_signature, read_error, out_of_memory}
-use Rattle.gptman.specs.Reading.{Side, primary, backup, copy_in, fallback, reading_of}
+use Rattle.gptman.specs.Reading.{CopyPlace, primary, backup, copy_in, fallback, reading_of}
 use Rattle.gptman.specs.Table.{entries_in}
 use Rattle.gptman_disk.specs.declared.error.Error.{Error}
 use Rattle.gptman.specs.declared.table.GPT.{GPT}
@@ -46,7 +46,7 @@ abbrev pub CountsReading : DiskState → DiskState → GPT → Type 0
 CountsReading old new g = HasFailedAsOften old new ⊎ (HasFailedOnceAtMost old new × (copy_in backup old.view g.sector_size ≡ Ok (copy_of g)))
 
 -- The fault of a copy, or `Io` because the disk failed.
-abbrev pub IsCopyFault : Side → List ℕ → ℕ → Fault → Type 0
+abbrev pub IsCopyFault : CopyPlace → List ℕ → ℕ → Fault → Type 0
 IsCopyFault side b ss fault = (fault ≡ io) ⊎ (copy_in side b ss ≡ Err fault)
 
 -- The faults of both copies.

@@ -64,16 +64,16 @@ abbrev pub SameButSums : GPTHeader → GPTHeader → Type 0
 SameButSums old new = new ≡ record old { crc32_checksum = new.crc32_checksum; partition_entry_array_crc32 = new.partition_entry_array_crc32 }
 
 -- new is old, overwritten with the header's bytes and then with those of the entries.
-abbrev pub IsCopyLaid : GPTHeader → List GPTPartitionEntry → ℕ → List ℕ → List ℕ → Type 0
-IsCopyLaid h es ss old new = new ≡ overlay (overlay old (h.primary_lba * ss) (header_bytes h)) (h.partition_entry_lba * ss) (array_bytes es)
+abbrev pub IsCopyWritten : GPTHeader → List GPTPartitionEntry → ℕ → List ℕ → List ℕ → Type 0
+IsCopyWritten h es ss old new = new ≡ overlay (overlay old (h.primary_lba * ss) (header_bytes h)) (h.partition_entry_lba * ss) (array_bytes es)
 
 -- Each field of the header and of the entries is a value of its type.
 abbrev pub FitsCopy : GPTHeader → List GPTPartitionEntry → Type 0
 FitsCopy h es = FitsHeader h × All FitsEntry es
 
 -- On an honest disk, after `Ok` the copy overwrites the previous bytes.
-abbrev pub LaysCopy : {T E : Type 0} → GPTHeader → List GPTPartitionEntry → ℕ → Result T E → DiskState → DiskState → Type 0
-LaysCopy h es ss result old new = IsHonest old → OnOk result (IsCopyLaid h es ss old.view new.view)
+abbrev pub WritesCopy : {T E : Type 0} → GPTHeader → List GPTPartitionEntry → ℕ → Result T E → DiskState → DiskState → Type 0
+WritesCopy h es ss result old new = IsHonest old → OnOk result (IsCopyWritten h es ss old.view new.view)
 
 -- The view has the bytes of a header and of its entries at their places.
 pub record HasBytes (b : List ℕ) (h : GPTHeader) (es : List GPTPartitionEntry) (ss : ℕ) : Type 0 where

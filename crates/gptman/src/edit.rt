@@ -9,10 +9,10 @@ ghost use Rattle.gptman_disk.specs.Disk.{Rose, Writes};
 ghost use Rattle.gptman_disk.specs.Fault.{fault_of, out_of_memory};
 ghost use Rattle.gptman_disk.specs.Ranges.{AreApart};
 ghost use Rattle.gptman.specs.Commit.{is_failure, is_io, reached, tables_to, value_after, HoldsLast};
-ghost use Rattle.gptman.specs.Commit.{BothSidesAfterEdits, IsLaidAfter};
-ghost use Rattle.gptman.specs.Commit.{IsAllowed, IsAllowedAt, IsRefusedAt, RefusesEdit, Stands};
+ghost use Rattle.gptman.specs.Commit.{BothPlacesAfterEdits, HasContentsAfter};
+ghost use Rattle.gptman.specs.Commit.{IsAllowed, IsAllowedAt, IsRefusedAt, IsStoredAfter, RefusesEdit};
 ghost use Rattle.gptman.specs.Crash.{StartsFromOne, StartsLaidOut, StartsStored, StartsSynced};
-ghost use Rattle.gptman.specs.Crash.{AreReadAlone, BothSidesAfter, StopsKeepOthers};
+ghost use Rattle.gptman.specs.Crash.{AreReadFromEachCopy, BothPlacesAfter, StopsKeepOthers};
 ghost use Rattle.gptman.specs.Edit.{after_edit, edit_fault, edited_all, edits_fault, table_after};
 ghost use Rattle.gptman.specs.Layout.{HasLayout};
 ghost use Rattle.gptman.specs.Stop.{IsStored, StopsAreReadAs, StopsHold};
@@ -159,13 +159,13 @@ impl GPT {
         ensures wrote { Writes (table_ranges self.old) (D.state disk.old) (D.state disk.new) }
         ensures untouched { IsHonest (D.state disk.old) → result.done ≡ 0
             → IsTrue (is_failure result.fault) ⊎ OnlyRead (D.state disk.old) (D.state disk.new) }
-        ensures laid { IsHonest (D.state disk.old) → 0 < result.done → IsTrue (is_failure result.fault)
-            ⊎ IsLaidAfter (D.state disk.new) self.old edits.items result.done }
-        ensures stands { StartsLaidOut (D.state disk.old) self.old → IsTrue (is_failure result.fault)
-            ⊎ Stands self.old edits.items result.done (D.state disk.old) (D.state disk.new) }
-        ensures alone { StartsLaidOut (D.state disk.old) self.old → 0 < result.done
+        ensures contents { IsHonest (D.state disk.old) → 0 < result.done → IsTrue (is_failure result.fault)
+            ⊎ HasContentsAfter (D.state disk.new) self.old edits.items result.done }
+        ensures stored { StartsLaidOut (D.state disk.old) self.old → IsTrue (is_failure result.fault)
+            ⊎ IsStoredAfter self.old edits.items result.done (D.state disk.old) (D.state disk.new) }
+        ensures each_copy { StartsLaidOut (D.state disk.old) self.old → 0 < result.done
             → IsTrue (is_failure result.fault)
-            ⊎ AreReadAlone (D.state disk.new).view (table_after self.old edits.items result.done) }
+            ⊎ AreReadFromEachCopy (D.state disk.new).view (table_after self.old edits.items result.done) }
 
         // From one good copy of the value's own table, a crash at any moment leaves the table after some of the
         // edits in at least one place.
@@ -184,7 +184,7 @@ impl GPT {
         // After an error each place is unchanged, if no edit was written; or holds the table after `done` edits
         // or after the next one, whatever a crash leaves; or has an unsynced header.
         ensures after { StartsSynced (D.state disk.old) self.old
-            → IfSome result.fault (λ e. BothSidesAfterEdits self.old edits.items result.done
+            → IfSome result.fault (λ e. BothPlacesAfterEdits self.old edits.items result.done
             (D.state disk.old) (D.state disk.new)) }
 
         // So from two good copies the disk is read as one of these tables, unless the read returns a foreign
@@ -230,7 +230,7 @@ impl GPT {
         // The disk: it has the edited table after `Ok`, and was only read after an error other than `Io`.
         ensures wrote { Writes (table_ranges self.old) (D.state disk.old) (D.state disk.new) }
         ensures synced { IsHonest (D.state disk.old) → OnOk result ((D.state disk.new).pending ≡ []) }
-        ensures laid { IsHonest (D.state disk.old) → AreApart (table_ranges self.old) → OnOk result
+        ensures contents { IsHonest (D.state disk.old) → AreApart (table_ranges self.old) → OnOk result
             (HasBothCopies (D.state disk.new).view self.new
             (other_with_checksums (after_edit self.old edit))) }
         ensures untouched { RefusesUnwritten result (D.state disk.old) (D.state disk.new) }
@@ -241,7 +241,7 @@ impl GPT {
             → StopsHold (D.state disk.old) (D.state disk.new) self.old.sector_size
             (table_in self.old ∷ table_in (after_edit self.old edit) ∷ []) }
         ensures after { StartsSynced (D.state disk.old) self.old → OnErr result
-            (BothSidesAfter (after_edit self.old edit) (D.state disk.old) (D.state disk.new)) }
+            (BothPlacesAfter (after_edit self.old edit) (D.state disk.old) (D.state disk.new)) }
     {
         self.apply(edit)?;
         self.write_into(disk)?;

@@ -8,7 +8,7 @@ use Rattle.gptman.specs.Copy.{Copy, CopyAt}
 use Rattle.gptman.specs.Fault.{Fault, out_of_memory}
 use Rattle.gptman.specs.Layout.{Holds}
 use Rattle.gptman.specs.Reading.{copy_in, reading_of, taken_from}
-use Rattle.gptman.specs.Stop.{AcceptsWhatStands, HoldsWhatIsRead}
+use Rattle.gptman.specs.Stop.{AcceptsRightCopies, HoldsWhatIsRead}
 use Rattle.gptman.specs.Table.{table_in, IsHeaderForm}
 use Rattle.gptman.specs.declared.codec.entry.GPTPartitionEntry.{GPTPartitionEntry}
 use Rattle.gptman.specs.declared.codec.header.GPTHeader.{GPTHeader}
@@ -26,9 +26,9 @@ held_read law ss (Ok g) a b only (inr (inr is)) =
     inr (λ form. subst (λ (view : List ℕ). Holds view ss (taken_from a.view ss) (table_in g)) (sym only.view) (law a.view ss (copy_of g) (sym is) form))
 
 -- a right copy in sector 1 is read
-pub standing_read : AcceptsWhatStands → (ss : ℕ) (r : Result GPT Error) (a b : DiskState) (h : GPTHeader) (es : List GPTPartitionEntry) → length a.view < 2 ^ 64 → CopyAt a.view ss ss h es
+pub right_copy_read : AcceptsRightCopies → (ss : ℕ) (r : Result GPT Error) (a b : DiskState) (h : GPTHeader) (es : List GPTPartitionEntry) → length a.view < 2 ^ 64 → CopyAt a.view ss ss h es
     → AnswersReading (reading_of a.view ss) r a b → AnswersReading (Ok (record { header = h; entries = es })) r a b
 unfolding copy_in
-standing_read law ss r a b h es small stands answers =
+right_copy_read law ss r a b h es small stands answers =
     let copy : Copy = record { header = h; entries = es } in
     subst (λ (taken : Result Copy Fault). AnswersReading taken r a b) (taken_first a.view ss copy ((law a.view ss ss h es small).1 stands)) answers

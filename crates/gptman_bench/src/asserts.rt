@@ -3,7 +3,7 @@
 use gptman::{GPT, Result};
 use std::fmt::Debug;
 use std::process::Abort;
-use test_fixtures::{calls, told};
+use test_fixtures::{calls, texts};
 
 /// The text of `InvalidPartitionBoundaries`.
 pub(crate) const BOUNDARIES: &str =
@@ -30,22 +30,26 @@ pub(crate) fn assert_text(rt: &impl Abort, text: &str, wanted: &str) {
 
 /// Asserts that the result of a call is "ok", or an error with this text.
 pub(crate) fn assert_said<T>(rt: &impl Host, outcome: &Result<T>, said: &str) {
-    assert_text(rt, got(rt, told::said(rt.alloc(), outcome)).as_str(), said);
+    assert_text(rt, got(rt, texts::said(rt.alloc(), outcome)).as_str(), said);
 }
 
 /// Asserts that the table has these used entries.
 pub(crate) fn assert_used(rt: &impl Host, table: &GPT, said: &str) {
-    assert_text(rt, got(rt, told::used(rt.alloc(), table)).as_str(), said);
+    assert_text(rt, got(rt, texts::used(rt.alloc(), table)).as_str(), said);
 }
 
 /// Asserts that the table has this text.
 pub(crate) fn assert_shown(rt: &impl Host, table: &GPT, said: &str) {
-    assert_text(rt, got(rt, told::shown(rt.alloc(), table)).as_str(), said);
+    assert_text(rt, got(rt, texts::shown(rt.alloc(), table)).as_str(), said);
 }
 
 /// Asserts that the result of a call is a table of this text, or an error with this text.
-pub(crate) fn assert_told(rt: &impl Host, outcome: &Result<GPT>, said: &str) {
-    assert_text(rt, got(rt, told::told(rt.alloc(), outcome)).as_str(), said);
+pub(crate) fn assert_result(rt: &impl Host, outcome: &Result<GPT>, said: &str) {
+    assert_text(
+        rt,
+        got(rt, texts::text_of_result(rt.alloc(), outcome)).as_str(),
+        said,
+    );
 }
 
 /// Asserts that two tables are equal.

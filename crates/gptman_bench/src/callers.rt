@@ -25,7 +25,7 @@ use crate::asserts::{Host, assert_same, assert_shown, assert_used, got};
 use crate::fixtures::{disk_1, holding, image_of_new, partition};
 use gptman::place::laws::{maximum_is_offered, placement_keeps_valid};
 use gptman::table::laws::{
-    growing_is_safe, what_is_held_is_read, what_is_read_is_held, what_stands_is_accepted,
+    growing_is_safe, right_copies_are_accepted, what_is_held_is_read, what_is_read_is_held,
 };
 use gptman::{Disk, Edit, GPT, GPTHeader, GPTPartitionEntry, MemoryDisk, Result};
 use std::alloc::{AllocError, Global};
@@ -160,14 +160,14 @@ fn read_held<D: Disk>(alloc: Global, disk: &mut D, sector_size: u64) -> Result<G
 }
 
 /// Reads the table. If sector 1 has a right header and right entries (`CopyAt`), these are the result.
-fn read_standing<D: Disk>(alloc: Global, disk: &mut D, sector_size: u64) -> Result<GPT>
+fn read_right_copy<D: Disk>(alloc: Global, disk: &mut D, sector_size: u64) -> Result<GPT>
     requires { 0 < sector_size }
     ensures { (h : GPTHeader) → (es : List GPTPartitionEntry)
         → CopyAt (D.state disk.old).view sector_size sector_size h es
         → AnswersReading (Ok (record { header = h; entries = es })) result
         (D.state disk.old) (D.state disk.new) }
 {
-    what_stands_is_accepted();
+    right_copies_are_accepted();
     GPT::read_from(alloc, disk, sector_size)
 }
 
@@ -282,7 +282,7 @@ fn held(rt: &impl Host, disk: &mut MemoryDisk) -> GPT {
 // Asserts that the disk holds this table, and that it has this text.
 fn assert_held(rt: &impl Host, disk: &mut MemoryDisk, table: &GPT, said: &str) {
     assert_same(rt, &held(rt, disk), table);
-    assert_same(rt, &got(rt, read_standing(rt.alloc(), disk, 512)), table);
+    assert_same(rt, &got(rt, read_right_copy(rt.alloc(), disk, 512)), table);
     assert_shown(rt, table, said);
 }
 

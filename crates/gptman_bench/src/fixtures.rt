@@ -1,6 +1,6 @@
 //! The tables, disks and images of `test_fixtures`. A failure to make one ends the test.
 
-use crate::asserts::{Host, assert_told, got};
+use crate::asserts::{Host, assert_result, got};
 use gptman::{Disk, GPT, GPTHeader, GPTPartitionEntry, MemoryDisk};
 use std::process::Abort;
 use test_fixtures::{calls, samples, tables};
@@ -108,7 +108,7 @@ pub(crate) fn reread(rt: &impl Host, table: &GPT) -> GPT {
 
 /// Asserts that reading these bytes returns a table or an error of this text.
 pub(crate) fn assert_reads(rt: &impl Host, bytes: &[u8], sector_size: u64, said: &str) {
-    assert_told(
+    assert_result(
         rt,
         &samples::read_image(rt.alloc(), bytes, sector_size),
         said,
@@ -117,7 +117,7 @@ pub(crate) fn assert_reads(rt: &impl Host, bytes: &[u8], sector_size: u64, said:
 
 /// Asserts that reading these bytes and detecting the sector size returns a table or an error of this text.
 pub(crate) fn assert_finds(rt: &impl Host, bytes: &[u8], said: &str) {
-    assert_told(rt, &samples::find_image(rt.alloc(), bytes), said);
+    assert_result(rt, &samples::find_image(rt.alloc(), bytes), said);
 }
 
 /// Overwrites bytes from `at` on.

@@ -4,7 +4,7 @@
 use crate::asserts::{Host, got};
 use gptman::{Error, GPT};
 use test_fixtures::samples::read_image;
-use test_fixtures::told as texts;
+use test_fixtures::texts;
 
 // Returns `len` bytes from `at` on, if there are as many.
 fn part(bytes: &[u8], at: u128, len: u128) -> Option<&[u8]> {
@@ -165,7 +165,7 @@ fn two_faults(rt: &impl Host, primary: &Error, backup: &Error) -> String {
 }
 
 // Returns the text of a table, as header and entries in hex.
-fn told(rt: &impl Host, table: &GPT) -> String {
+fn text_of_table(rt: &impl Host, table: &GPT) -> String {
     let mut entries = Vec::new(rt.alloc());
     for (_, entry) in table.iter() {
         got(rt, entries.extend_from_slice(&entry.encode()));
@@ -176,7 +176,7 @@ fn told(rt: &impl Host, table: &GPT) -> String {
 // Returns the text of the library's result.
 fn read(rt: &impl Host, bytes: &[u8], sector_size: u64) -> String {
     match read_image(rt.alloc(), bytes, sector_size) {
-        Ok(table) => told(rt, &table),
+        Ok(table) => text_of_table(rt, &table),
         Err(error) => text_of(rt, &error),
     }
 }

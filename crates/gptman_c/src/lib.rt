@@ -13,8 +13,8 @@ ghost use Rattle.gptman.specs.Mbr.{mbr_bytes, mbr_fault};
 ghost use Rattle.gptman.specs.Reading.{reading_of, taken_from};
 ghost use Rattle.gptman.specs.Table.{new_table_of};
 ghost use Rattle.gptman_plan.specs.Asking.{fit_ranges, plan_ranges, value_ranges};
-ghost use Rattle.gptman_plan.specs.Checking.{IsCheckTold};
-ghost use Rattle.gptman_plan.specs.Crossing.{HasCount, IsOffer, IsRefused, IsTold};
+ghost use Rattle.gptman_plan.specs.Checking.{IsCheckResult};
+ghost use Rattle.gptman_plan.specs.Crossing.{HasCount, IsOffer, IsRefused, IsReturned};
 ghost use Rattle.gptman_plan.specs.Dos.{IsDosDisk};
 ghost use Rattle.gptman_plan.specs.Ends.{HasEnds, HaveRange, IsKnown};
 ghost use Rattle.gptman_plan.specs.Faults.{answer_name};
@@ -41,13 +41,13 @@ use gptman_plan::faults::{
 };
 use gptman_plan::fitting::plan_fit;
 use gptman_plan::making::plan_new;
-use gptman_plan::naming::{lay_text, name_of, units_for};
+use gptman_plan::naming::{copy_text, name_of, units_for};
 use gptman_plan::offers::find_place;
-use gptman_plan::planning::{Refusal, plan};
+use gptman_plan::planning::{PlanError, plan};
 use gptman_plan::reading::{Reading, read};
 use gptman_plan::record::Record;
 pub use gptman_plan::records::{Check, Needed, Partition, Step, Table};
-use gptman_plan::tell::tell;
+use gptman_plan::storing::store_table;
 use std::alloc::Global;
 
 /// Reads the table of a disk.
@@ -78,7 +78,7 @@ pub extern "C" fn gptman_read(
     needed: &mut Needed,
 ) -> u32
     ensures read { result ≡ 0 → (b : List ℕ) → HasEnds b head.now tail.now disk_size
-        → IsTold (reading_of b sector_size) (taken_from b sector_size) table.new partitions.new }
+        → IsReturned (reading_of b sector_size) (taken_from b sector_size) table.new partitions.new }
     ensures refused { 0 < result → result ≤ 16 → result ≢ 15 → (b : List ℕ)
         → HasEnds b head.now tail.now disk_size → IsRefused (reading_of b sector_size) result }
     ensures faults { 0 < result → result ≤ 16 → (result ≡ 2) ⊎ ((result ≡ 7) ⊎ (result ≡ 15)) }
@@ -110,7 +110,7 @@ pub extern "C" fn gptman_read(
         Reading::Table {
             table: found,
             is_backup,
-        } => tell(&found, is_backup, table, partitions),
+        } => store_table(&found, is_backup, table, partitions),
         Reading::Fault(fault) => fault.number(),
         Reading::Lacks(lack) => {
             needed.from = lack.from;
@@ -143,7 +143,7 @@ pub extern "C" fn gptman_check(
     needed: &mut Needed,
 ) -> u32
     ensures check { result ≡ 0 → (b : List ℕ) → HasEnds b head.now tail.now disk_size
-        → IsCheckTold b sector_size check.new }
+        → IsCheckResult b sector_size check.new }
     ensures lacks { result ≡ 103
         → ¬ IsKnown (length head.now) (length tail.now) disk_size (needed.new.from, needed.new.length) }
     ensures within { result ≡ 103 → needed.new.from + needed.new.length ≤ disk_size }
@@ -165,7 +165,7 @@ pub extern "C" fn gptman_check(
         return BAD_ARGUMENT;
     };
     match look_at_both(alloc, &ends, sector_size) {
-        Ok(Look::Told(told)) => {
+        Ok(Look::Known(told)) => {
             *check = told;
             0
         }
@@ -467,20 +467,20 @@ fn refuse_dos(ends: &Ends, flags: u32, needed: &mut Needed) -> u32
 }
 
 // Returns the number of a refusal, and the range that it asks for.
-fn refuse(refusal: &Refusal, needed: &mut Needed) -> u32
+fn refuse(refusal: &PlanError, needed: &mut Needed) -> u32
     ensures answer { result ≡ refusal_number refusal.now }
     ensures needed { needed.new ≡ needed_after refusal.now needed.old }
 {
     match refusal {
-        Refusal::BadArgument => BAD_ARGUMENT,
-        Refusal::Refused(fault) => fault.number(),
-        Refusal::Lacks(lack) => {
+        PlanError::BadArgument => BAD_ARGUMENT,
+        PlanError::Refused(fault) => fault.number(),
+        PlanError::Lacks(lack) => {
             needed.from = lack.from;
             needed.length = lack.length;
             LACKS_BYTES
         }
-        Refusal::OtherLength => OTHER_LENGTH,
-        Refusal::OtherLayout => OTHER_LAYOUT,
+        PlanError::OtherLength => OTHER_LENGTH,
+        PlanError::OtherLayout => OTHER_LAYOUT,
     }
 }
 
@@ -644,7 +644,7 @@ pub extern "C" fn gptman_get_name(alloc: Global, partition: &Partition, text: &m
     let Ok(name) = name_of(alloc, partition) else {
         return OUT_OF_MEMORY;
     };
-    if lay_text(name.as_str().as_bytes(), text) {
+    if copy_text(name.as_str().as_bytes(), text) {
         0
     } else {
         LACKS_ROOM
@@ -706,7 +706,7 @@ pub extern "C" fn gptman_fault_name(answer: u32, text: &mut [u8]) -> u32
     ensures answers { (result ≡ 0) ⊎ (result ≡ 104) }
     ensures kept { result ≢ 0 → text.new ≡ text.old }
 {
-    if lay_text(faults::name_of(answer).as_bytes(), text) {
+    if copy_text(faults::name_of(answer).as_bytes(), text) {
         0
     } else {
         LACKS_ROOM

@@ -1,6 +1,6 @@
 -- The effect of a write that follows calls that only read.
 use Rattle.std.proofs.Common.{◌≡◌, sym, subst, ◌∙◌, ℕ, List, [], ◌∷◌, Option}
-use Rattle.gptman.specs.Crash.{IsKeptFor, other_side, StartsFromOne, StartsLaidOut}
+use Rattle.gptman.specs.Crash.{IsKeptFor, other_place, StartsFromOne, StartsLaidOut}
 use Rattle.gptman.specs.Disk.{OnlyRead, DiskState, AgreesOutside, IsHonest, Keeps, LeavesOnly, Reads, Writes, Wrote}
 use Rattle.gptman.specs.Layout.{HasLayout, Holds, copy_ranges_at}
 use Rattle.gptman.specs.Ranges.{AreClear}
@@ -31,7 +31,7 @@ module _ (next : GPT) (was : Table) (old mid : DiskState) (read : OnlyRead old m
     side = kept.side;
     form = kept.form;
     held = subst (λ (view : List ℕ). Holds view next.sector_size kept.side was) (sym read.view) kept.held;
-    clear = subst (λ (n : ℕ). AreClear (copy_ranges_at kept.side was next.sector_size n) (copy_ranges_at (other_side kept.side) (table_in next) next.sector_size n))
+    clear = subst (λ (n : ℕ). AreClear (copy_ranges_at kept.side was next.sector_size n) (copy_ranges_at (other_place kept.side) (table_in next) next.sector_size n))
         (sym keeps.size) kept.clear;
   }
 
@@ -61,16 +61,16 @@ pub wrote_since : (next : GPT) (old mid new : DiskState) → OnlyRead old mid �
 wrote_since next old mid new read wrote = wrote_then (within_self _) (wrote_wider within_none read.wrote) wrote
 
 -- the stated layout holds where the write begins
-pub laid_since : (next : GPT) (old mid : DiskState) → OnlyRead old mid → Keeps old mid → HasLayout next old.size → StartsLaidOut mid next
-laid_since next old mid read keeps layout = record {
+pub laid_out_since : (next : GPT) (old mid : DiskState) → OnlyRead old mid → Keeps old mid → HasLayout next old.size → StartsLaidOut mid next
+laid_out_since next old mid read keeps layout = record {
   honest = read.wrote.honest;
   layout = subst (λ (n : ℕ). HasLayout next n) (sym keeps.size) layout;
 }
 
 -- the written bytes are those of the value and the header with their checksums
-pub both_laid : (view : List ℕ) (next left : GPT) (other : GPTHeader) → left ≡ value_with_checksums next → other ≡ other_with_checksums next
+pub both_contents : (view : List ℕ) (next left : GPT) (other : GPTHeader) → left ≡ value_with_checksums next → other ≡ other_with_checksums next
     → HasBothCopies view left other → HasBothCopies view (value_with_checksums next) (other_with_checksums next)
-both_laid view next left other value header laid = subst (λ (g : GPT). HasBothCopies view g (other_with_checksums next)) value
+both_contents view next left other value header laid = subst (λ (g : GPT). HasBothCopies view g (other_with_checksums next)) value
     (subst (λ (h : GPTHeader). HasBothCopies view left h) header laid)
 
 -- A changed table was written, after calls that only read.

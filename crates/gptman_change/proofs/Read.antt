@@ -106,7 +106,7 @@ align_above h es a is = elim (eqb_tells a 0) as (λ _. 0 < a) [
       absurd (omega (
         arith,
         none,
-        (is.other (λ e. absurd (omega (arith, none, is.none e))) (λ e. absurd (omega (arith, none, is.alone e)))
+        (is.other (λ e. absurd (omega (arith, none, is.none e))) (λ e. absurd (omega (arith, none, is.of_one e)))
             (λ all. absurd (omega (arith, none, is.zero (λ e. absurd (omega (arith, none, is.none e))) all)))).low,
       ))
   | inr some ↦ omega (arith, some.1)

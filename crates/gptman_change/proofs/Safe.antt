@@ -3,7 +3,7 @@ use Rattle.std.proofs.Common.{◌≡◌, inl, inr, refl, sym, ◌∙◌, subst, 
 use Rattle.gptman.specs.Crash.{IsReadInForm, KeepsWhatIsRead, StartsFromOne}
 use Rattle.gptman.specs.Disk.{AgreesOutside, DiskState, Keeps, LeavesOnly, OnlyRead, Wrote}
 use Rattle.gptman.specs.Layout.{HasLayout, IsLaidOut}
-use Rattle.gptman.specs.Reading.{Side, primary, backup, copy_in}
+use Rattle.gptman.specs.Reading.{CopyPlace, primary, backup, copy_in}
 use Rattle.gptman.specs.Stop.{HoldsOneOf, StopsHold}
 use Rattle.gptman.specs.Table.{Table, table_in, IsHeaderForm}
 use Rattle.gptman.specs.TableReads.{copy_of, MayBeRead}
@@ -20,11 +20,11 @@ use Rattle.gptman_change.proofs.Left.{either}
 -- If each accepted copy is this table, the value that was read is it, in the form of its place.
 record IsOfTable (view : List ℕ) (ss : ℕ) (g : GPT) (was : Table) : Type 0 where
   same : table_in g ≡ was
-  side : Side
+  side : CopyPlace
   accepted : copy_in side view ss ≡ Ok (copy_of g)
   form : IsHeaderForm side g.header
 
-of_place : (disk : DiskState) (ss : ℕ) (g : GPT) (was : Table) (place : Side) → StartsGood disk ss was → copy_in place disk.view ss ≡ Ok (copy_of g) → IsOfTable disk.view ss g was
+of_place : (disk : DiskState) (ss : ℕ) (g : GPT) (was : Table) (place : CopyPlace) → StartsGood disk ss was → copy_in place disk.view ss ≡ Ok (copy_of g) → IsOfTable disk.view ss g was
 of_place disk ss g was place good accepted =
     let form = good.only place (copy_of g) accepted in
     record { same = form.table; side = place; accepted = accepted; form = form.form }

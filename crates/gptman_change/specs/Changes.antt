@@ -1,12 +1,12 @@
 -- A table that is read from a disk, changed by a plan, and written: the effect on the disk, and why it is refused.
 use Rattle.std.specs.Prelude.{◌≡◌, ℕ, [], ◌∷◌, Option, Ok}
 use Rattle.gptman.specs.Copy.{Copy}
-use Rattle.gptman.specs.Crash.{AreReadAlone, IsKeptFor}
+use Rattle.gptman.specs.Crash.{AreReadFromEachCopy, IsKeptFor}
 use Rattle.gptman.specs.Disk.{DiskState, IsHonest, OnlyRead, Wrote}
 use Rattle.gptman.specs.Fault.{Fault}
 use Rattle.gptman.specs.Layout.{HasLayout, Holds, IsLaidOut}
 use Rattle.gptman.specs.Ranges.{AreApart}
-use Rattle.gptman.specs.Reading.{Side, copy_in}
+use Rattle.gptman.specs.Reading.{CopyPlace, copy_in}
 use Rattle.gptman.specs.Stop.{IsStored, StopsAreReadAs, StopsHold}
 use Rattle.gptman.specs.Table.{Table, table_in, IsForm}
 use Rattle.gptman.specs.TableReads.{CountsReading}
@@ -27,9 +27,9 @@ pub record StartsGood (disk : DiskState) (ss : ℕ) (was : Table) : Type 0 where
   pub honest : IsHonest disk
   pub synced : disk.pending ≡ []
   pub layout : IsLaidOut was ss disk.size
-  pub side : Side
+  pub side : CopyPlace
   pub held : Holds disk.view ss side was
-  pub only : (place : Side) (copy : Copy) → copy_in place disk.view ss ≡ Ok copy → IsForm place was copy
+  pub only : (place : CopyPlace) (copy : Copy) → copy_in place disk.view ss ≡ Ok copy → IsForm place was copy
 
 -- the same, with a sector size that is given or found
 abbrev pub StartsGoodFor : DiskState → Option ℕ → Table → Type 0
@@ -47,9 +47,9 @@ pub record MakesChange {A : Type 0} (planned : Makes A) (size : Option ℕ) (ans
   pub made : planned table next answer
   pub wrote : Wrote (table_ranges next) old new
   pub synced : new.pending ≡ []
-  pub laid : AreApart (table_ranges next) → HasBothCopies new.view (value_with_checksums next) (other_with_checksums next)
+  pub contents : AreApart (table_ranges next) → HasBothCopies new.view (value_with_checksums next) (other_with_checksums next)
   pub stored : HasLayout next old.size → IsStored new next.sector_size (table_in next)
-  pub alone : HasLayout next old.size → AreReadAlone new.view next
+  pub each_copy : HasLayout next old.size → AreReadFromEachCopy new.view next
   pub good : (was : Table) → StartsGood old table.sector_size was → KeepsPlaces table next → (table_in table ≡ was) × HasLayout next old.size
 
 -- A table was read and the plan left it: nothing was written.

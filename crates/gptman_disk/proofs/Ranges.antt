@@ -2,7 +2,7 @@
 use Rattle.std.proofs.Common.{inl, inr, ⊎_elim, ◌≡◌, ◌⊎◌, ◌<◌, ◌≤◌, ℕ, suc, ◌+◌, List, [], ◌∷◌, ◌++◌, refl, sym, ◌∙◌, subst, arith}
 use Rattle.std.specs.List.{Contains}
 use Rattle.std.specs.Prelude.{Result, Ok, Err, OnOk, OnErr, length}
-use Rattle.gptman_disk.specs.Disk.{Outside, AgreesOutside, CoverTheSame, Within, DiskState, IsLaid, MayBeLaid, StaysPending}
+use Rattle.gptman_disk.specs.Disk.{Outside, AgreesOutside, CoverTheSame, Within, DiskState, HasOverwritten, MayHaveWritten, StaysPending}
 
 abbrev pub Ranges : Type 0
 Ranges = List (ℕ × ℕ)
@@ -79,7 +79,7 @@ pub grown_has : (p n at m : ℕ) {old new : Ranges} → p ≡ at → n ≡ m →
 grown_has p n at m at_is size grown = within_then (within_range (omega (arith, at_is)) (omega (arith, at_is, size))) grown.back
 
 -- what was pending is still pending after a write, also after a failed one
-pub still_pending : {T E : Type 0} (r : Result T E) (bytes : List ℕ) (a b : DiskState) → OnOk r (IsLaid bytes a b) → OnErr r (MayBeLaid (length bytes) a b) → StaysPending a b
+pub still_pending : {T E : Type 0} (r : Result T E) (bytes : List ℕ) (a b : DiskState) → OnOk r (HasOverwritten bytes a b) → OnErr r (MayHaveWritten (length bytes) a b) → StaysPending a b
 still_pending (Ok v) bytes a b laid failed = grown_keeps laid.pending
 still_pending (Err e) bytes a b laid failed =
     ⊎_elim (λ same. subst (λ ps. Within a.pending ps) (sym same.pending) (within_self a.pending)) (λ grown. grown_keeps grown) failed

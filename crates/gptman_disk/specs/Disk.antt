@@ -42,8 +42,8 @@ abbrev pub StaysAt : DiskState → DiskState → Type 0
 StaysAt old new = new.position ≡ old.position
 
 -- the position is at this byte, which is returned
-abbrev pub StandsAt : DiskState → ℕ → ℕ → Type 0
-StandsAt disk at answer = (answer ≡ at) × (disk.position ≡ at)
+abbrev pub IsPositionedAt : DiskState → ℕ → ℕ → Type 0
+IsPositionedAt disk at answer = (answer ≡ at) × (disk.position ≡ at)
 
 -- k is in none of the ranges, each a start and a length
 abbrev pub Outside : List (ℕ × ℕ) → ℕ → Type 0
@@ -180,13 +180,13 @@ abbrev pub GrowsBy : ℕ × ℕ → DiskState → DiskState → Type 0
 GrowsBy range old new = CoverTheSame new.pending (range ∷ old.pending)
 
 -- The next bytes were overwritten with these, and are not synced.
-pub record IsLaid (bytes : List ℕ) (old new : DiskState) : Type 0 where
+pub record HasOverwritten (bytes : List ℕ) (old new : DiskState) : Type 0 where
   pub view : Overlays bytes old new
   pub pending : GrowsBy (next_range old (length bytes)) old new
 
 -- nothing was written, or the next n bytes are not synced
-abbrev pub MayBeLaid : ℕ → DiskState → DiskState → Type 0
-MayBeLaid n old new = Untouched old new ⊎ GrowsBy (next_range old n) old new
+abbrev pub MayHaveWritten : ℕ → DiskState → DiskState → Type 0
+MayHaveWritten n old new = Untouched old new ⊎ GrowsBy (next_range old n) old new
 
 -- nothing was written, or this range is not synced
 abbrev pub LeavesPending : ℕ × ℕ → DiskState → DiskState → Type 0

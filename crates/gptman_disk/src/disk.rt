@@ -8,8 +8,8 @@ ghost use Rattle.std.specs.Prelude.{IsErr, IsTrue};
 ghost use Rattle.std.specs.IoError.{error_kind};
 ghost use Rattle.std.specs.declared.io.ErrorKind.TheVariants.{UnexpectedEof};
 ghost use Rattle.gptman_disk.specs.Disk.{next_bytes, next_range, CoverTheSame, DiskState, HasFailedAsOften};
-ghost use Rattle.gptman_disk.specs.Disk.{HasFailedOnce, HasNext, IsCountedOnce, IsHonest, IsLaid, IsSound};
-ghost use Rattle.gptman_disk.specs.Disk.{Keeps, MayBeLaid, Moves, PassesEnd, Reads, Rose, StandsAt, Writes};
+ghost use Rattle.gptman_disk.specs.Disk.{HasFailedOnce, HasNext, HasOverwritten, IsCountedOnce, IsHonest, IsSound};
+ghost use Rattle.gptman_disk.specs.Disk.{IsPositionedAt, Keeps, MayHaveWritten, Moves, PassesEnd, Reads, Rose, Writes};
 
 use std::io;
 
@@ -36,7 +36,7 @@ pub trait Disk {
     /// Only if the device failed.
     fn seek_start(&mut self, at: u64) -> io::Result<u64>
         ensures reads { Reads (state self.old) (state self.new) }
-        ensures answer { IfOk result (StandsAt (state self.new) at) }
+        ensures answer { IfOk result (IsPositionedAt (state self.new) at) }
         ensures cause { OnErr result (Rose (state self.old) (state self.new)) }
         ensures counts { OnOk result (HasFailedAsOften (state self.old) (state self.new)) }
         ensures once { OnErr result (HasFailedOnce (state self.old) (state self.new)) };
@@ -48,7 +48,7 @@ pub trait Disk {
     /// Only if the device failed.
     fn seek_end(&mut self) -> io::Result<u64>
         ensures reads { Reads (state self.old) (state self.new) }
-        ensures answer { IfOk result (StandsAt (state self.new) (state self.old).size) }
+        ensures answer { IfOk result (IsPositionedAt (state self.new) (state self.old).size) }
         ensures cause { OnErr result (Rose (state self.old) (state self.new)) }
         ensures counts { OnOk result (HasFailedAsOften (state self.old) (state self.new)) }
         ensures once { OnErr result (HasFailedOnce (state self.old) (state self.new)) };
@@ -89,10 +89,10 @@ pub trait Disk {
         ensures moves { OnOk result (Moves (state self.old) (state self.new) (length buf.now)) }
         ensures wrote { Writes (next_range (state self.old) (length buf.now) ∷ [])
             (state self.old) (state self.new) }
-        ensures laid { IsHonest (state self.old)
-            → OnOk result (IsLaid buf.now (state self.old) (state self.new)) }
+        ensures contents { IsHonest (state self.old)
+            → OnOk result (HasOverwritten buf.now (state self.old) (state self.new)) }
         ensures failed { IsHonest (state self.old)
-            → OnErr result (MayBeLaid (length buf.now) (state self.old) (state self.new)) };
+            → OnErr result (MayHaveWritten (length buf.now) (state self.old) (state self.new)) };
 
     /// Syncs all that was written. After it, a crash leaves what a read returns.
     ///

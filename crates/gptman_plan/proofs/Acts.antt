@@ -5,7 +5,7 @@ use Rattle.std.proofs.lemmas.List.Sums.{fold_push}
 use Rattle.std.proofs.lemmas.Bool.{cases_lt}
 use Rattle.gptman.specs.Disk.{AgreesOutside, Within, Elapses, Wrote}
 use Rattle.gptman_plan.specs.Plan.{Act, IsImage, IsLeftAt, bytes_with, pending_with, bytes_after, pending_after, left_now, plan_state}
-use Rattle.gptman_plan.specs.Plan.Act.{lay, store}
+use Rattle.gptman_plan.specs.Plan.Act.{put, store}
 use Rattle.gptman.proofs.Ranges.{Ranges, agrees_self, agrees_then, agrees_wider, within_self, within_left, within_right, within_none}
 use Rattle.gptman.proofs.Overlays.{agrees_overlay}
 
@@ -77,7 +77,7 @@ pub stored : (start : List ℕ) (acts after : List Act) → after ≡ acts ++ st
 stored start acts after = one_more start acts store [] (agrees_self [] (bytes_after start acts)) within_none after
 
 -- a write
-pub laid : (start : List ℕ) (acts after : List Act) (at : ℕ) (bytes : List ℕ) → at + length bytes ≤ length (bytes_after start acts) → after ≡ acts ++ lay at bytes ∷ []
+pub was_put : (start : List ℕ) (acts after : List Act) (at : ℕ) (bytes : List ℕ) → at + length bytes ≤ length (bytes_after start acts) → after ≡ acts ++ put at bytes ∷ []
     → Continues start ((at, length bytes) ∷ []) acts after
-laid start acts after at bytes fits = one_more start acts (lay at bytes) ((at, length bytes) ∷ []) (agrees_overlay (bytes_after start acts) at bytes fits)
+was_put start acts after at bytes fits = one_more start acts (put at bytes) ((at, length bytes) ∷ []) (agrees_overlay (bytes_after start acts) at bytes fits)
     (within_self ((at, length bytes) ∷ pending_after acts)) after

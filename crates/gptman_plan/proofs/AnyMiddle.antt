@@ -5,7 +5,7 @@ use Rattle.gptman.specs.Bytes.{part}
 use Rattle.gptman.specs.Disk.{Outside, AgreesOutside, overlay}
 use Rattle.gptman.specs.Layout.{Holds, copy_ranges_at}
 use Rattle.gptman.specs.Ranges.{AgreesInside}
-use Rattle.gptman.specs.Reading.{Side}
+use Rattle.gptman.specs.Reading.{CopyPlace}
 use Rattle.gptman.specs.Stop.{HoldsOneOf}
 use Rattle.gptman.specs.Table.{Table}
 use Rattle.gptman.proofs.Held.{holds_local}
@@ -15,8 +15,8 @@ use Rattle.gptman.proofs.Ranges.{Ranges, agrees_back}
 use Rattle.gptman.proofs.Overlays.{length-overlay, overlay_below, overlay_above, overlay_inside}
 use Rattle.gptman_plan.proofs.Middle.{AreKnown, middle_of, ends_zero, same_ends, agrees_known, length-view, view_both, known_take, cases_middle, still_middle, clear_pending}
 
--- disks that agree outside the middle hold the same table at a side whose ranges are known
-pub holds_known : (first last size : ℕ) (a b : List ℕ) (ss : ℕ) (side : Side) (t : Table) → length a ≡ size → AgreesOutside (middle_of first last size) a b
+-- disks that agree outside the middle hold the same table at a place whose ranges are known
+pub holds_known : (first last size : ℕ) (a b : List ℕ) (ss : ℕ) (side : CopyPlace) (t : Table) → length a ≡ size → AgreesOutside (middle_of first last size) a b
     → AreRangesKnown first last size (copy_ranges_at side t ss size) → Holds a ss side t → Holds b ss side t
 holds_known first last size a b ss side t long agrees places holds =
     holds_local a b ss side t holds (subst (λ (n : ℕ). AgreesInside (copy_ranges_at side t ss n) a b) (sym long) (agrees_known first last size (copy_ranges_at side t ss size) a b places agrees))
@@ -89,7 +89,7 @@ module _ (first last size : ℕ) (apart : first + last ≤ size) (b c : List ℕ
         (λ mid. left.image.same k (clear_pending first last size apart k mid.0 mid.1 made made_known) ∙ still_middle first last size apart k mid.0 mid.1 b made long_b made_known)
         (cases_middle first last size apart k)
 
-    held_there : (ss : ℕ) (side : Side) (table : Table) → AreRangesKnown first last size (copy_ranges_at side table ss size) → Holds (mirrored x) ss side table → Holds x ss side table
+    held_there : (ss : ℕ) (side : CopyPlace) (table : Table) → AreRangesKnown first last size (copy_ranges_at side table ss size) → Holds (mirrored x) ss side table → Holds x ss side table
     held_there ss side table places holds = holds_known first last size (mirrored x) x ss side table length-mirrored mirrored_same places holds
 
     held_then : (ss : ℕ) (tables : List Table) → ArePlacesKnown first last size ss tables → HoldsOneOf (mirrored x) ss tables → HoldsOneOf x ss tables
@@ -109,16 +109,16 @@ module _ (first last size : ℕ) (apart : first + last ≤ size) (b c : List ℕ
   stops_keep : (ranges : Ranges) → ((y : List ℕ) → LeftBy c acts y → AgreesOutside ranges c y) → (x : List ℕ) → LeftBy b acts x → AgreesOutside ranges b x
   stops_keep ranges stops x left = record { long = long x left ∙ sym long_b; same = outside_then x left ranges (stops (mirrored x) (left_mirrored x left)) }
 
-  -- If each crash leaves a table at a side there, or all bytes outside ranges unchanged, it does here.
-  stops_turn : (ranges : Ranges) (ss : ℕ) (side : Side) (t : Table) → AreRangesKnown first last size (copy_ranges_at side t ss size)
+  -- If each crash leaves a table at a place there, or all bytes outside ranges unchanged, it does here.
+  stops_in_order : (ranges : Ranges) (ss : ℕ) (side : CopyPlace) (t : Table) → AreRangesKnown first last size (copy_ranges_at side t ss size)
       → ((y : List ℕ) → LeftBy c acts y → AgreesOutside ranges c y ⊎ Holds y ss side t) → (x : List ℕ) → LeftBy b acts x → AgreesOutside ranges b x ⊎ Holds x ss side t
-  stops_turn ranges ss side t places stops x left = ⊎_elim
+  stops_in_order ranges ss side t places stops x left = ⊎_elim
       (λ kept. inl (record { long = long x left ∙ sym long_b; same = outside_then x left ranges kept }))
       (λ held. inr (held_there x left ss side t places held))
       (stops (mirrored x) (left_mirrored x left))
 
   -- a table that this disk holds after the acts is held there too
-  after_holds : (ss : ℕ) (side : Side) (t : Table) → AreRangesKnown first last size (copy_ranges_at side t ss size) → Holds (bytes_after b acts) ss side t → Holds (bytes_after c acts) ss side t
+  after_holds : (ss : ℕ) (side : CopyPlace) (t : Table) → AreRangesKnown first last size (copy_ranges_at side t ss size) → Holds (bytes_after b acts) ss side t → Holds (bytes_after c acts) ss side t
   after_holds ss side t places holds = holds_known first last size (bytes_after b acts) (bytes_after c acts) ss side t
       (length-view first last size apart b acts long_b known)
       (view_both first last size apart (middle_of first last size) b c acts long_b known agrees)
@@ -132,12 +132,12 @@ module _ (head tail b : List ℕ) (size : ℕ) (apart : length head + length tai
   from_zeros = same_ends (disk_bytes head tail size) b head tail size of_zeros ends
 
   -- a table that the disk with zeros holds is held by each disk with its ends
-  pub holds_any : (ss : ℕ) (side : Side) (t : Table) → AreRangesKnown (length head) (length tail) size (copy_ranges_at side t ss size) → Holds (disk_bytes head tail size) ss side t → Holds b ss side t
+  pub holds_any : (ss : ℕ) (side : CopyPlace) (t : Table) → AreRangesKnown (length head) (length tail) size (copy_ranges_at side t ss size) → Holds (disk_bytes head tail size) ss side t → Holds b ss side t
   holds_any ss side t places holds = holds_known (length head) (length tail) size (disk_bytes head tail size) b ss side t of_zeros.long from_zeros places holds
 
   module _ (acts : List Act) (known : AreKnown (length head) (length tail) size acts) where
     -- also after the same acts
-    pub after_any : (ss : ℕ) (side : Side) (t : Table) → AreRangesKnown (length head) (length tail) size (copy_ranges_at side t ss size)
+    pub after_any : (ss : ℕ) (side : CopyPlace) (t : Table) → AreRangesKnown (length head) (length tail) size (copy_ranges_at side t ss size)
         → Holds (bytes_after (disk_bytes head tail size) acts) ss side t → Holds (bytes_after b acts) ss side t
     after_any ss side t places holds =
         after_holds (length head) (length tail) size apart (disk_bytes head tail size) b of_zeros.long ends.long from_zeros acts known ss side t places holds
@@ -154,9 +154,9 @@ module _ (head tail b : List ℕ) (size : ℕ) (apart : length head + length tai
     others_any ranges stops x left =
         stops_keep (length head) (length tail) size apart b (disk_bytes head tail size) ends.long of_zeros.long (agrees_back from_zeros) acts known ranges stops x left
 
-    -- or it leaves at a side what it leaves there
-    pub turns_any : (ranges : Ranges) (ss : ℕ) (side : Side) (t : Table) → AreRangesKnown (length head) (length tail) size (copy_ranges_at side t ss size)
+    -- or it leaves at a place what it leaves there
+    pub order_any : (ranges : Ranges) (ss : ℕ) (side : CopyPlace) (t : Table) → AreRangesKnown (length head) (length tail) size (copy_ranges_at side t ss size)
         → ((y : List ℕ) → LeftBy (disk_bytes head tail size) acts y → AgreesOutside ranges (disk_bytes head tail size) y ⊎ Holds y ss side t)
         → (x : List ℕ) → LeftBy b acts x → AgreesOutside ranges b x ⊎ Holds x ss side t
-    turns_any ranges ss side t places stops x left =
-        stops_turn (length head) (length tail) size apart b (disk_bytes head tail size) ends.long of_zeros.long (agrees_back from_zeros) acts known ranges ss side t places stops x left
+    order_any ranges ss side t places stops x left =
+        stops_in_order (length head) (length tail) size apart b (disk_bytes head tail size) ends.long of_zeros.long (agrees_back from_zeros) acts known ranges ss side t places stops x left

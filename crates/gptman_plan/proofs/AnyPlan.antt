@@ -5,7 +5,7 @@ use Rattle.gptman.specs.Crash.{IsReadInForm}
 use Rattle.gptman.specs.Disk.{AgreesOutside}
 use Rattle.gptman.specs.Layout.{IsLaidOut, copy_ranges_at}
 use Rattle.gptman.specs.Ranges.{AreInside}
-use Rattle.gptman.specs.Reading.{Side, primary, backup, taken_from}
+use Rattle.gptman.specs.Reading.{CopyPlace, primary, backup, taken_from}
 use Rattle.gptman.specs.Table.{Table, table_in, IsHeaderForm}
 use Rattle.gptman.specs.TableReads.{copy_of}
 use Rattle.gptman.specs.declared.table.GPT.{GPT}
@@ -15,15 +15,15 @@ use Rattle.gptman_plan.specs.Crossing.{four_ranges, with_partitions}
 use Rattle.gptman_plan.specs.Ends.{ArePlacesKnown, AreRangesKnown, HaveRanges, IsDiskOf, length-zeroed, zeroed}
 use Rattle.gptman_plan.specs.Plan.{Act, LeftBy}
 use Rattle.gptman_plan.specs.Planning.{IsPlan, IsSafePlan}
-use Rattle.gptman_plan.specs.Reading.{IsTable, side_of}
+use Rattle.gptman_plan.specs.Reading.{IsTable, copy_place_of}
 use Rattle.gptman_plan.specs.declared.records.Partition.{Partition}
 use Rattle.gptman_plan.proofs.AnyMiddle.{after_any, others_any, stops_any}
 use Rattle.gptman_plan.proofs.KnownActs.{are_known}
 use Rattle.gptman_plan.proofs.Middle.{AreKnown, zero_ends}
 use Rattle.gptman_plan.specs.declared.ends.Ends.{Ends}
 
--- the two ranges at a side are known if all four are
-pub at_side : (first last size ss : ℕ) (t : Table) (side : Side) → AreRangesKnown first last size (four_ranges t ss size) → AreRangesKnown first last size (copy_ranges_at side t ss size)
+-- the two ranges at a place are known if all four are
+pub at_side : (first last size ss : ℕ) (t : Table) (side : CopyPlace) → AreRangesKnown first last size (four_ranges t ss size) → AreRangesKnown first last size (copy_ranges_at side t ss size)
 at_side first last size ss t primary known = (known.0, (known.1.0, tt))
 at_side first last size ss t backup known = (known.1.1.0, (known.1.1.1.0, tt))
 
@@ -46,8 +46,8 @@ module _ (e : Ends) (g : GPT) (is_backup : Bool) (partitions : List Partition) (
   next = with_partitions g partitions
 
   -- the table with other entries, as many as before, has the stated layout too
-  laid_too : length partitions ≡ (table_in g).count → IsLaidOut (table_in g) g.sector_size e.size → IsLaidOut next g.sector_size e.size
-  laid_too count laid = record {
+  laid_out_too : length partitions ≡ (table_in g).count → IsLaidOut (table_in g) g.sector_size e.size → IsLaidOut next g.sector_size e.size
+  laid_out_too count laid = record {
     sector = laid.sector;
     signature = laid.signature;
     revision = laid.revision;
@@ -61,12 +61,12 @@ module _ (e : Ends) (g : GPT) (is_backup : Bool) (partitions : List Partition) (
     fits = laid.fits;
   }
 
-  module _ (told : IsTable e g.sector_size g is_backup) (form : IsHeaderForm (side_of is_backup) g.header) (laid : IsLaidOut (table_in g) g.sector_size e.size)
+  module _ (told : IsTable e g.sector_size g is_backup) (form : IsHeaderForm (copy_place_of is_backup) g.header) (laid : IsLaidOut (table_in g) g.sector_size e.size)
       (count : length partitions ≡ (table_in g).count)
       (places : AreInside (four_ranges (table_in g) g.sector_size e.size) e.size → HaveRanges e (four_ranges (table_in g) g.sector_size e.size))
       (safe_zero : IsReadInForm zero g → IsLaidOut next g.sector_size e.size → IsSafePlan zero g.sector_size (table_in g) next acts) (b : List ℕ) (ends : IsDiskOf e b) where
     form_of : (x : List ℕ) → IsDiskOf e x → IsHeaderForm (taken_from x g.sector_size) g.header
-    form_of x of_x = subst (λ (side : Side). IsHeaderForm side g.header) (sym (told.from x of_x)) form
+    form_of x of_x = subst (λ (side : CopyPlace). IsHeaderForm side g.header) (sym (told.from x of_x)) form
 
     in_form : IsReadInForm zero g
     in_form = let of_zero = zero_ends e in takes_in_form zero g (told.reading zero of_zero) (form_of zero of_zero)
@@ -78,7 +78,7 @@ module _ (e : Ends) (g : GPT) (is_backup : Bool) (partitions : List Partition) (
     all = length-zeroed e
 
     plan : IsSafePlan zero g.sector_size (table_in g) next acts
-    plan = safe_zero in_form (laid_too count laid)
+    plan = safe_zero in_form (laid_out_too count laid)
 
     others : (y : List ℕ) → LeftBy zero acts y → AgreesOutside (four_ranges next g.sector_size e.size) zero y
     others y left = subst (λ (n : ℕ). AgreesOutside (four_ranges next g.sector_size n) zero y) all (plan.others y left)
@@ -103,6 +103,6 @@ module _ (e : Ends) (g : GPT) (is_backup : Bool) (partitions : List Partition) (
       copy = copy_of g;
       taken = told.reading b ends;
       form = form_of b ends;
-      laid = subst (λ (n : ℕ). IsLaidOut (table_in g) g.sector_size n) (sym ends.long) laid;
+      laid_out = subst (λ (n : ℕ). IsLaidOut (table_in g) g.sector_size n) (sym ends.long) laid;
       safe = safe;
     }

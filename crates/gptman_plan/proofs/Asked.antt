@@ -5,7 +5,7 @@ use Rattle.gptman.specs.Copy.{header_result}
 use Rattle.gptman.specs.Reading.{backup, copy_start}
 use Rattle.gptman.specs.declared.codec.header.GPTHeader.{GPTHeader}
 use Rattle.gptman_plan.specs.Ends.{HaveRange, IsDiskOf, zeroed}
-use Rattle.gptman_plan.specs.Reading.{IsHeaderTold, IsLack, IsLackOf, OfEvery}
+use Rattle.gptman_plan.specs.Reading.{IsHeaderKnown, IsLack, IsLackOf, OfEvery}
 use Rattle.gptman_plan.specs.Rounds.{IsAmong, copy_ranges, entries_range, reading_ranges}
 use Rattle.gptman_plan.specs.declared.reading.Lack.{Lack}
 use Rattle.gptman_plan.specs.declared.ends.Ends.{Ends}
@@ -37,11 +37,11 @@ module _ (e : Ends) where
       record { lacking = lacking; among = λ b ends. subst (λ (r : ℕ × ℕ). IsAmong r (places b)) same (among b ends) }
 
   -- the range is known, or it is missing
-  pub told_or_lack : (places : Places) (Q : Type 0) (from len : ℕ) (o : Option Lack) → OfEvery e (λ b. IsAmong (from, len) (places b))
+  pub known_or_lack : (places : Places) (Q : Type 0) (from len : ℕ) (o : Option Lack) → OfEvery e (λ b. IsAmong (from, len) (places b))
       → (HaveRange e (from, len) → Q) → MatchOption o (HaveRange e (from, len)) (IsLack e)
       → IfSome o (λ lack. (lack.from ≡ from) × (lack.length ≡ len)) → MatchOption o Q (IsLackOf places e)
-  told_or_lack places Q from len None among tells known asked = tells known
-  told_or_lack places Q from len (Some lack) among tells known asked = lack_at places from len lack asked.0 asked.1 among known
+  known_or_lack places Q from len None among tells known asked = tells known
+  known_or_lack places Q from len (Some lack) among tells known asked = lack_at places from len lack asked.0 asked.1 among known
 
   -- places among more places
   lack_as : (places more : Places) → ((b : List ℕ) → IsDiskOf e b → (range : ℕ × ℕ) → IsAmong range (places b) → IsAmong range (more b))
@@ -49,7 +49,7 @@ module _ (e : Ends) where
   lack_as places more wider lack is = record { lacking = is.lacking; among = λ b ends. wider b ends (lack.from, lack.length) (is.among b ends) }
 
   -- the entries of a known header are those of its copy
-  pub entries_lack : (p ss : ℕ) (h : GPTHeader) → header_result (zeroed e) p ≡ Ok h → IsHeaderTold e p
+  pub entries_lack : (p ss : ℕ) (h : GPTHeader) → header_result (zeroed e) p ≡ Ok h → IsHeaderKnown e p
       → (lack : Lack) → IsLackOf (λ _. entries_range ss (Ok h)) e lack → IsLackOf (λ b. copy_ranges b ss p) e lack
   entries_lack p ss h good told = lack_as (λ _. entries_range ss (Ok h)) (λ b. copy_ranges b ss p)
       (λ b ends range is. inr (subst (λ r. IsAmong range (entries_range ss r)) (sym (told b ends ∙ good)) is))

@@ -13,8 +13,8 @@ use Rattle.gptman_plan.specs.Ends.{IsDiskOf}
 use Rattle.gptman_plan.specs.Planning.{fitted, needed_after, refusal_number}
 use Rattle.gptman_plan.specs.Reading.{IsTable, OfEvery}
 use Rattle.gptman_plan.specs.Rounds.{IsAmong, first_sector, reading_ranges}
-use Rattle.gptman_plan.specs.declared.planning.Refusal.{Refusal}
-use Rattle.gptman_plan.specs.declared.planning.Refusal.TheVariants.{BadArgument, Refused, Lacks, OtherLength, OtherLayout}
+use Rattle.gptman_plan.specs.declared.planning.PlanError.{PlanError}
+use Rattle.gptman_plan.specs.declared.planning.PlanError.TheVariants.{BadArgument, Refused, Lacks, OtherLength, OtherLayout}
 use Rattle.gptman_plan.specs.declared.reading.Lack.{Lack}
 use Rattle.gptman_plan.specs.declared.records.Needed.{Needed}
 use Rattle.gptman_plan.proofs.Asked.{among_right}
@@ -48,7 +48,7 @@ module _ (e : Ends) where
 
   -- places among more places
   pub asks_as : (places more : Places) → ((b : List ℕ) → IsDiskOf e b → (range : ℕ × ℕ) → IsAmong range (places b) → IsAmong range (more b))
-      → (r : Refusal) → AsksAmong places e r → AsksAmong more e r
+      → (r : PlanError) → AsksAmong places e r → AsksAmong more e r
   asks_as places more wider BadArgument asks = tt
   asks_as places more wider (Refused error) asks = tt
   asks_as places more wider (Lacks lack) asks = λ b ends. wider b ends (lack.from, lack.length) (asks b ends)
@@ -56,14 +56,14 @@ module _ (e : Ends) where
   asks_as places more wider OtherLayout asks = tt
 
   -- a refusal that asks for nothing
-  pub asks_none : (places : Places) (r : Refusal) → AsksNothing r → AsksAmong places e r
+  pub asks_none : (places : Places) (r : PlanError) → AsksNothing r → AsksAmong places e r
   asks_none places BadArgument asks = tt
   asks_none places (Refused error) asks = tt
   asks_none places (Lacks lack) asks = absurd asks
   asks_none places OtherLength asks = tt
   asks_none places OtherLayout asks = tt
 
-  asked_of : (places : Places) (r : Refusal) (needed : Needed) → AsksAmong places e r → refusal_number r ≡ 103
+  asked_of : (places : Places) (r : PlanError) (needed : Needed) → AsksAmong places e r → refusal_number r ≡ 103
       → OfEvery e (λ b. IsAmong ((needed_after r needed).from, (needed_after r needed).length) (places b))
   asked_of places BadArgument needed asks seventeen = absurd (omega (arith, seventeen))
   asked_of places (Refused error) needed asks seventeen = absurd (omega (arith, (within_16 (fault_of error)).1, seventeen))
@@ -72,7 +72,7 @@ module _ (e : Ends) where
   asked_of places OtherLayout needed asks seventeen = absurd (omega (arith, seventeen))
 
   -- the range that the call returns
-  pub answer_asked : (places : Places) (r : Refusal) → AsksAmong places e r → (answer : ℕ) → answer ≡ refusal_number r → (old new : Needed) → new ≡ needed_after r old
+  pub answer_asked : (places : Places) (r : PlanError) → AsksAmong places e r → (answer : ℕ) → answer ≡ refusal_number r → (old new : Needed) → new ≡ needed_after r old
       → answer ≡ 103 → OfEvery e (λ b. IsAmong (new.from, new.length) (places b))
   answer_asked places r asks answer is old new told seventeen =
       subst (λ (n : Needed). OfEvery e (λ b. IsAmong (n.from, n.length) (places b))) (sym told) (asked_of places r old asks (sym is ∙ seventeen))

@@ -6,13 +6,13 @@ use Rattle.gptman.specs.Copy.{Copy, copy_of_whole}
 use Rattle.gptman.specs.Disk.{DiskState}
 use Rattle.gptman.specs.Fault.{Fault}
 use Rattle.gptman.specs.Layout.{Holds}
-use Rattle.gptman.specs.Reading.{Side, primary, backup, copy_in}
+use Rattle.gptman.specs.Reading.{CopyPlace, primary, backup, copy_in}
 use Rattle.gptman.specs.Table.{Table}
 use Rattle.gptman.specs.declared.copy.WholeCopy.{WholeCopy}
 use Rattle.gptman.specs.Error.{Error}
 use Rattle.gptman.specs.Copies.{HoldOneTable, IsChecked, IsSeenAs}
 use Rattle.gptman.specs.declared.copies.BothCopies.{BothCopies}
-use Rattle.gptman_plan.specs.Checking.{AreCopiesTold, AreFoundIn, IsCheckTold, number_in}
+use Rattle.gptman_plan.specs.Checking.{AreCopiesKnown, AreFoundIn, IsCheckResult, number_in}
 use Rattle.gptman_plan.specs.Ends.{zeroed}
 use Rattle.gptman_plan.specs.Reading.{OfEvery}
 use Rattle.gptman_plan.specs.declared.records.Check.{Check}
@@ -37,16 +37,16 @@ found_in b ss (Ok copies) old new view none is = record {
 -- ---- for every disk with these ends
 
 -- both copies are known
-pub both_told : (e : Ends) (ss : ℕ) → OfEvery e (λ b. copy_in primary b ss ≡ copy_in primary (zeroed e) ss)
-    → OfEvery e (λ b. copy_in backup b ss ≡ copy_in backup (zeroed e) ss) → AreCopiesTold e ss
-both_told e ss first second primary = first
-both_told e ss first second backup = second
+pub both_known : (e : Ends) (ss : ℕ) → OfEvery e (λ b. copy_in primary b ss ≡ copy_in primary (zeroed e) ss)
+    → OfEvery e (λ b. copy_in backup b ss ≡ copy_in backup (zeroed e) ss) → AreCopiesKnown e ss
+both_known e ss first second primary = first
+both_known e ss first second backup = second
 
 -- disks with the same copies hold the same tables
-held_as : (a b : List ℕ) (ss : ℕ) (side : Side) (t : Table) → copy_in side a ss ≡ copy_in side b ss → Holds a ss side t → Holds b ss side t
+held_as : (a b : List ℕ) (ss : ℕ) (side : CopyPlace) (t : Table) → copy_in side a ss ≡ copy_in side b ss → Holds a ss side t → Holds b ss side t
 held_as a b ss side t same holds = record { copy = holds.copy; accepted = sym same ∙ holds.accepted; form = holds.form }
 
-one_table_as : (a b : List ℕ) (ss : ℕ) → ((side : Side) → copy_in side a ss ≡ copy_in side b ss) → HoldOneTable a ss → HoldOneTable b ss
+one_table_as : (a b : List ℕ) (ss : ℕ) → ((side : CopyPlace) → copy_in side a ss ≡ copy_in side b ss) → HoldOneTable a ss → HoldOneTable b ss
 one_table_as a b ss same hold = record {
   table = hold.table;
   at_primary = held_as a b ss primary hold.table (same primary) hold.at_primary;
@@ -54,10 +54,10 @@ one_table_as a b ss same hold = record {
 }
 
 -- and a check has the same result
-pub check_told : (start b : List ℕ) (ss : ℕ) (copies : BothCopies) (check : Check) → ((side : Side) → copy_in side b ss ≡ copy_in side start ss) → AreFoundIn start ss copies
+pub check_known : (start b : List ℕ) (ss : ℕ) (copies : BothCopies) (check : Check) → ((side : CopyPlace) → copy_in side b ss ≡ copy_in side start ss) → AreFoundIn start ss copies
     → check.primary_fault ≡ number_in (answer_of copy_of_whole copies.primary) → check.backup_fault ≡ number_in (answer_of copy_of_whole copies.backup)
-    → (IsTrue copies.are_same ↔ (check.are_same ≡ 1)) → check.are_same ≤ 1 → check.reserved ≡ replicate 5 0 → IsCheckTold b ss check
-check_told start b ss copies check told found first second flag low zeros = record {
+    → (IsTrue copies.are_same ↔ (check.are_same ≡ 1)) → check.are_same ≤ 1 → check.reserved ≡ replicate 5 0 → IsCheckResult b ss check
+check_known start b ss copies check told found first second flag low zeros = record {
   at_primary = first ∙ ap number_in (found.at_primary ∙ sym (told primary));
   at_backup = second ∙ ap number_in (found.at_backup ∙ sym (told backup));
   same = λ one. one_table_as start b ss (λ side. sym (told side)) (found.same (flag.1 one));

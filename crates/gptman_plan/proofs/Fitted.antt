@@ -7,7 +7,7 @@ use Rattle.gptman.specs.Copy.{IsCoherent}
 use Rattle.gptman.specs.Fault.{Fault, fault_of, io, overflow}
 use Rattle.gptman.specs.Fit.{array_sectors, array_size, fit_fault, fit_header, is_too_small}
 use Rattle.gptman.specs.Layout.{HasLayout, Holds, IsLaidOut}
-use Rattle.gptman.specs.Reading.{Side, primary, backup, reading_of, taken_from}
+use Rattle.gptman.specs.Reading.{CopyPlace, primary, backup, reading_of, taken_from}
 use Rattle.gptman.specs.Stop.{HoldsOneOf}
 use Rattle.gptman.specs.Table.{entries_in, grow_to, table_in, IsHeaderForm, IsInForm}
 use Rattle.gptman.specs.TableReads.{copy_of}
@@ -23,8 +23,8 @@ use Rattle.gptman_plan.specs.Plan.{Act, LeftBy}
 use Rattle.gptman_plan.specs.Planning.{Cause, IsFitPlan, IsFitRefusal, IsNotStatedToFit, IsOfFault, IsSizeRefusal, IsStatedToFit, IsTablePlan, IsTableRefusal, IsUnfitTable, StopsFit, StopsTable}
 use Rattle.gptman_plan.specs.Planning.Cause.{bad_argument, a_fault, other_length, other_layout}
 use Rattle.gptman_plan.specs.Planning.RefusesFit.{does_not_fit, is_unfit_fitted}
-use Rattle.gptman_plan.specs.Reading.{IsTable, OfEvery, side_of}
-use Rattle.gptman_plan.specs.declared.planning.Refusal.{Refusal}
+use Rattle.gptman_plan.specs.Reading.{IsTable, OfEvery, copy_place_of}
+use Rattle.gptman_plan.specs.declared.planning.PlanError.{PlanError}
 use Rattle.gptman_plan.proofs.Refused.{fault_as, refused_as}
 use Rattle.gptman_plan.specs.declared.ends.Ends.{Ends}
 
@@ -79,7 +79,7 @@ settled_err fault e before after none settles = ⊎_elim
 pub in_form : (g : GPT) (len : ℕ) → HasLayout g len → IsInForm g.header
 in_form g len layout = by_side layout.side layout.form
   where
-    by_side : (side : Side) → IsHeaderForm side g.header → IsInForm g.header
+    by_side : (side : CopyPlace) → IsHeaderForm side g.header → IsInForm g.header
     by_side primary form = inl form
     by_side backup form = inr form
 
@@ -93,19 +93,19 @@ module _ (b : List ℕ) (g : GPT) (acts : List Act) (taken : reading_of b g.sect
   grown = grow_to g (length b)
 
   held : taken_from b g.sector_size ≡ primary → Holds b g.sector_size primary (table_in g)
-  held from = subst (λ (side : Side). Holds b g.sector_size side (table_in g)) from (holds_what_is_read b g.sector_size (copy_of g) taken form)
+  held from = subst (λ (side : CopyPlace). Holds b g.sector_size side (table_in g)) from (holds_what_is_read b g.sector_size (copy_of g) taken form)
 
   -- the primary copy keeps its place, which the backup copy does not overlap
   stops : taken_from b g.sector_size ≡ primary → (x : List ℕ) → LeftBy b acts x → HoldsOneOf x g.sector_size (table_in g ∷ table_in grown ∷ [])
   stops from x left =
-      let at : IsHeaderForm primary g.header = subst (λ (side : Side). IsHeaderForm side g.header) from form in
+      let at : IsHeaderForm primary g.header = subst (λ (side : CopyPlace). IsHeaderForm side g.header) from form in
       plan.replaced (form_fitted g.header g.sector_size (length b) at) (table_in g) (held from) (sides_clear backup (table_in grown) g.sector_size (length b) plan.layout.table) x left
 
   fit_here : IsFitPlan b g.sector_size acts
   fit_here = record {
     copy = copy_of g;
     taken = taken;
-    stated = record { form = form; fitted_form = in_form grown (length b) plan.layout; laid = plan.layout.table };
+    stated = record { form = form; fitted_form = in_form grown (length b) plan.layout; laid_out = plan.layout.table };
     written = plan.written;
     stops = stops;
   }
@@ -116,11 +116,11 @@ module _ (e : Ends) (ss : ℕ) (g : GPT) (is_backup : Bool) (told : IsTable e ss
   read_so : (b : List ℕ) → reading_of b ss ≡ Ok (copy_of g) → reading_of b g.sector_size ≡ Ok (copy_of g)
   read_so b is = subst (λ (n : ℕ). reading_of b n ≡ Ok (copy_of g)) (sym told.sector) is
 
-  form_so : IsHeaderForm (side_of is_backup) g.header → (b : List ℕ) → IsDiskOf e b → IsHeaderForm (taken_from b g.sector_size) g.header
+  form_so : IsHeaderForm (copy_place_of is_backup) g.header → (b : List ℕ) → IsDiskOf e b → IsHeaderForm (taken_from b g.sector_size) g.header
   form_so form b ends =
-      subst (λ (n : ℕ). IsHeaderForm (taken_from b n) g.header) (sym told.sector) (subst (λ (side : Side). IsHeaderForm side g.header) (sym (told.from b ends)) form)
+      subst (λ (n : ℕ). IsHeaderForm (taken_from b n) g.header) (sym told.sector) (subst (λ (side : CopyPlace). IsHeaderForm side g.header) (sym (told.from b ends)) form)
 
-  pub fit_plan : IsHeaderForm (side_of is_backup) g.header → (next : GPT) (acts : List Act) → next ≡ grow_to g e.size → OfEvery e (λ b. IsTablePlan b next acts)
+  pub fit_plan : IsHeaderForm (copy_place_of is_backup) g.header → (next : GPT) (acts : List Act) → next ≡ grow_to g e.size → OfEvery e (λ b. IsTablePlan b next acts)
       → OfEvery e (λ b. IsFitPlan b ss acts)
   fit_plan form next acts is plan b ends =
       let here : IsTablePlan b (grow_to g (length b)) acts =
@@ -128,14 +128,14 @@ module _ (e : Ends) (ss : ℕ) (g : GPT) (is_backup : Bool) (told : IsTable e ss
       subst (λ (n : ℕ). IsFitPlan b n acts) told.sector (fit_here b g acts (read_so b (told.reading b ends)) (form_so form b ends) here)
 
   -- a copy that is not in the form of its place
-  pub not_of_side : ¬ IsHeaderForm (side_of is_backup) g.header → OfEvery e (λ b. IsNotStatedToFit b ss)
+  pub not_of_side : ¬ IsHeaderForm (copy_place_of is_backup) g.header → OfEvery e (λ b. IsNotStatedToFit b ss)
   not_of_side not b ends = record {
     copy = copy_of g;
     taken = told.reading b ends;
-    other = λ stated. not (subst (λ (side : Side). IsHeaderForm side g.header) (told.from b ends) stated.form);
+    other = λ stated. not (subst (λ (side : CopyPlace). IsHeaderForm side g.header) (told.from b ends) stated.form);
   }
 
-  pub size_refused : (r : Refusal) → IsSizeRefusal e g r → IsFitRefusal e ss r
+  pub size_refused : (r : PlanError) → IsSizeRefusal e g r → IsFitRefusal e ss r
   size_refused r refused =
       let why : Fault → Type 0 = λ fault. fit_fault g.header g.sector_size e.size ≡ Some fault in
       refused_as (IsOfFault why) (λ cause. OfEvery e (λ b. StopsFit b ss cause)) e
@@ -153,17 +153,17 @@ module _ (e : Ends) (ss : ℕ) (g : GPT) (is_backup : Bool) (told : IsTable e ss
   }
 
   -- a fitted table without the stated layout
-  not_laid : (next : GPT) → next ≡ grow_to g e.size → ¬ HasLayout next e.size → OfEvery e (λ b. IsNotStatedToFit b ss)
-  not_laid next is not b ends = record {
+  not_laid_out : (next : GPT) → next ≡ grow_to g e.size → ¬ HasLayout next e.size → OfEvery e (λ b. IsNotStatedToFit b ss)
+  not_laid_out next is not b ends = record {
     copy = copy_of g;
     taken = told.reading b ends;
     other = λ stated.
         let at : IsStatedToFit b g.sector_size (copy_of g) = subst (λ (n : ℕ). IsStatedToFit b n (copy_of g)) (sym told.sector) stated in
-        let here : HasLayout (grow_to g (length b)) (length b) = has_layout (grow_to g (length b)) (length b) at.fitted_form at.laid in
+        let here : HasLayout (grow_to g (length b)) (length b) = has_layout (grow_to g (length b)) (length b) at.fitted_form at.laid_out in
         not (subst (λ (t : GPT). HasLayout t e.size) (sym is) (subst (λ (n : ℕ). HasLayout (grow_to g n) n) ends.long here));
   }
 
-  pub table_refused : (next : GPT) → next ≡ grow_to g e.size → (r : Refusal) → IsTableRefusal e next r → IsFitRefusal e ss r
+  pub table_refused : (next : GPT) → next ≡ grow_to g e.size → (r : PlanError) → IsTableRefusal e next r → IsFitRefusal e ss r
   table_refused next is r refused = refused_as (StopsTable next e.size) (λ cause. OfEvery e (λ b. StopsFit b ss cause)) e by_cause r refused
     where
       by_cause : (cause : Cause) → StopsTable next e.size cause → OfEvery e (λ b. StopsFit b ss cause)
@@ -171,4 +171,4 @@ module _ (e : Ends) (ss : ℕ) (g : GPT) (is_backup : Bool) (told : IsTable e ss
       by_cause (a_fault fault) why = λ b ends. is_unfit_fitted (copy_of g) (told.reading b ends)
           (subst (λ (n : ℕ). IsUnfitTable (fit_header g.header ss n) ss (entries_in g) n fault) (sym ends.long) (unfit next fault e.size is why))
       by_cause other_length none = absurd none
-      by_cause other_layout not = not_laid next is not
+      by_cause other_layout not = not_laid_out next is not

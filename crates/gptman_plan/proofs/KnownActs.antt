@@ -7,12 +7,12 @@ use Rattle.gptman.proofs.Ranges.{Ranges, agrees_self}
 use Rattle.gptman.proofs.Overlays.{length-overlay, overlay_above, overlay_below, overlay_inside}
 use Rattle.gptman_plan.specs.Ends.{IsKnown, AreRangesKnown}
 use Rattle.gptman_plan.specs.Plan.{Act, LeftBy, pending_with, bytes_with}
-use Rattle.gptman_plan.specs.Plan.Act.{lay, store}
+use Rattle.gptman_plan.specs.Plan.Act.{put, store}
 use Rattle.gptman_plan.proofs.Middle.{AreKnown, IsActKnown, cases_middle, clear, middle_of}
 
 -- bytes that overwrite a list without changing its length are within it
-fits_laid : (old : List ℕ) (at : ℕ) (bytes : List ℕ) → length (overlay old at bytes) ≡ length old → 0 < length bytes → at + length bytes ≤ length old
-fits_laid old at bytes same some = omega (
+fits_put : (old : List ℕ) (at : ℕ) (bytes : List ℕ) → length (overlay old at bytes) ≡ length old → 0 < length bytes → at + length bytes ≤ length old
+fits_put old at bytes same some = omega (
   arith,
   same,
   some,
@@ -75,9 +75,9 @@ module _ (first last size : ℕ) (apart : first + last ≤ size) where
 
     act_known : (view : List ℕ) (pending : Ranges) (e : Act) → length view ≡ size → length (bytes_with view e) ≡ size
         → ((x : List ℕ) → AgreesOutside (pending_with pending e) (bytes_with view e) x → AgreesOutside ranges start x) → IsActKnown first last size e
-    act_known view pending (lay at []) whole after keeps = tt
-    act_known view pending (lay at (y ∷ bytes)) whole after keeps =
-        let fits : at + length (y ∷ bytes) ≤ length view = fits_laid view at (y ∷ bytes) (after ∙ sym whole) (omega arith) in
+    act_known view pending (put at []) whole after keeps = tt
+    act_known view pending (put at (y ∷ bytes)) whole after keeps =
+        let fits : at + length (y ∷ bytes) ≤ length view = fits_put view at (y ∷ bytes) (after ∙ sym whole) (omega arith) in
         known_range at (length (y ∷ bytes)) (omega arith) (omega (arith, fits, whole))
         (byte_known (overlay view at (y ∷ bytes)) pending at (length (y ∷ bytes)) after (omega (arith, fits, whole)) keeps)
     act_known view pending store whole after keeps = tt

@@ -18,5 +18,5 @@ pub mod Seen
 pub mod Stated
 pub mod Steps
 pub mod TablePlans
-pub mod Told
+pub mod KnownCopies
 pub mod Unfailed

@@ -9,7 +9,7 @@ use Rattle.gptman.specs.Ranges.{AgreesInside, Inside, IsApartFromAll}
 use Rattle.gptman_plan.specs.Ends.{disk_bytes, length-disk_bytes, AreRangesKnown, HasEnds, IsDiskOf, IsKnown, zeroed}
 use Rattle.gptman_plan.specs.Plan.{Act, bytes_with, pending_with, bytes_after, pending_after}
 use Rattle.gptman_plan.specs.declared.ends.Ends.{Ends}
-use Rattle.gptman_plan.specs.Plan.Act.{lay, store}
+use Rattle.gptman_plan.specs.Plan.Act.{put, store}
 use Rattle.gptman.proofs.Ranges.{Ranges}
 use Rattle.gptman.proofs.Overlays.{outside_apart, part_same, length-overlay, overlay_below, overlay_above, overlay_inside, overlay_nothing}
 use Rattle.gptman_plan.proofs.Known.{known_head, known_tail}
@@ -93,8 +93,8 @@ agrees_known first last size rs a b known agrees = record { long = agrees.long; 
 
 -- the bytes of the act, if any, are within one of the ends of a disk of size bytes, which have `first` and `last` bytes
 abbrev pub IsActKnown : ℕ → ℕ → ℕ → Act → Type 0
-IsActKnown first last size (lay at []) = Unit {0}
-IsActKnown first last size (lay at (x ∷ bytes)) = IsKnown first last size (at, length (x ∷ bytes))
+IsActKnown first last size (put at []) = Unit {0}
+IsActKnown first last size (put at (x ∷ bytes)) = IsKnown first last size (at, length (x ∷ bytes))
 IsActKnown first last size store = Unit {0}
 
 -- so are those of each act
@@ -125,8 +125,8 @@ module _ (first last size : ℕ) (apart : first + last ≤ size) where
   fits_known r (inr (inr met)) = met.1
 
   length-step : (a : List ℕ) (e : Act) → length a ≡ size → IsActKnown first last size e → length (bytes_with a e) ≡ size
-  length-step a (lay at []) long known = ap (λ (l : List ℕ). length l) (overlay_nothing a at) ∙ long
-  length-step a (lay at (x ∷ bytes)) long known = length-overlay a at (x ∷ bytes) (omega (arith, long, fits_known (at, length (x ∷ bytes)) known)) ∙ long
+  length-step a (put at []) long known = ap (λ (l : List ℕ). length l) (overlay_nothing a at) ∙ long
+  length-step a (put at (x ∷ bytes)) long known = length-overlay a at (x ∷ bytes) (omega (arith, long, fits_known (at, length (x ∷ bytes)) known)) ∙ long
   length-step a store long known = long
 
   pub length-view : (a : List ℕ) (acts : List Act) → length a ≡ size → AreKnown first last size acts → length (bytes_after a acts) ≡ size
@@ -134,9 +134,9 @@ module _ (first last size : ℕ) (apart : first + last ≤ size) where
   length-view a (e ∷ acts) long known = length-view (bytes_with a e) acts (length-step a e long known.0) known.1
 
   step_both : (rs : Ranges) (a b : List ℕ) (e : Act) → length a ≡ size → IsActKnown first last size e → AgreesOutside rs a b → AgreesOutside rs (bytes_with a e) (bytes_with b e)
-  step_both rs a b (lay at []) long known agrees =
+  step_both rs a b (put at []) long known agrees =
       subst (λ (l : List ℕ). AgreesOutside rs l (overlay b at [])) (sym (overlay_nothing a at)) (subst (λ (l : List ℕ). AgreesOutside rs a l) (sym (overlay_nothing b at)) agrees)
-  step_both rs a b (lay at (x ∷ bytes)) long known agrees = overlay_both rs a b at (x ∷ bytes) (omega (arith, long, fits_known (at, length (x ∷ bytes)) known)) agrees
+  step_both rs a b (put at (x ∷ bytes)) long known agrees = overlay_both rs a b at (x ∷ bytes) (omega (arith, long, fits_known (at, length (x ∷ bytes)) known)) agrees
   step_both rs a b store long known agrees = agrees
 
   -- disks that agreed still do
@@ -163,8 +163,8 @@ module _ (first last size : ℕ) (apart : first + last ≤ size) where
     clear r (inr (inr met)) = absurd (omega (arith, met.0, low, high))
 
     still_step : (a : List ℕ) (e : Act) → length a ≡ size → IsActKnown first last size e → get_or (bytes_with a e) k 0 ≡ get_or a k 0
-    still_step a (lay at []) long known = ap (λ (l : List ℕ). get_or l k 0) (overlay_nothing a at)
-    still_step a (lay at (x ∷ bytes)) long known =
+    still_step a (put at []) long known = ap (λ (l : List ℕ). get_or l k 0) (overlay_nothing a at)
+    still_step a (put at (x ∷ bytes)) long known =
         let fits : at + length (x ∷ bytes) ≤ length a = omega (arith, long, fits_known (at, length (x ∷ bytes)) known) in
         ⊎_elim (overlay_below a at (x ∷ bytes) fits k) (overlay_above a at (x ∷ bytes) fits k) (clear (at, length (x ∷ bytes)) known)
     still_step a store long known = refl
@@ -175,8 +175,8 @@ module _ (first last size : ℕ) (apart : first + last ≤ size) where
     still_middle a (e ∷ acts) long known = still_middle (bytes_with a e) acts (length-step a e long known.0) known.1 ∙ still_step a e long known.0
 
     clear_step : (pending : Ranges) (e : Act) → IsActKnown first last size e → Outside pending k → Outside (pending_with pending e) k
-    clear_step pending (lay at []) known out = (⊎_elim (λ below. inl below) (λ above. inr (omega (arith, above))) (cases_lt k at), out)
-    clear_step pending (lay at (x ∷ bytes)) known out = (clear (at, length (x ∷ bytes)) known, out)
+    clear_step pending (put at []) known out = (⊎_elim (λ below. inl below) (λ above. inr (omega (arith, above))) (cases_lt k at), out)
+    clear_step pending (put at (x ∷ bytes)) known out = (clear (at, length (x ∷ bytes)) known, out)
     clear_step pending store known out = tt
 
     clear_fold : (pending : Ranges) (acts : List Act) → AreKnown first last size acts → Outside pending k → Outside (fold pending_with pending acts) k

@@ -13,8 +13,8 @@ use Rattle.gptman_plan.specs.Ends.{HaveRange, IsKnown}
 use Rattle.gptman.specs.Fault.{fault_number}
 use Rattle.gptman_plan.specs.Planning.{Cause, IsNumberOf, IsOfFault, IsRefusal, IsUnfit, RefusesNew, RefusesRewrite, needed_after, refusal_number}
 use Rattle.gptman_plan.specs.Planning.Cause.{bad_argument, a_fault, other_length, other_layout}
-use Rattle.gptman_plan.specs.declared.planning.Refusal.{Refusal}
-use Rattle.gptman_plan.specs.declared.planning.Refusal.TheVariants.{BadArgument, Refused, Lacks, OtherLength, OtherLayout}
+use Rattle.gptman_plan.specs.declared.planning.PlanError.{PlanError}
+use Rattle.gptman_plan.specs.declared.planning.PlanError.TheVariants.{BadArgument, Refused, Lacks, OtherLength, OtherLayout}
 use Rattle.gptman_plan.specs.declared.records.Needed.{Needed}
 use Rattle.gptman_plan.specs.declared.records.Partition.{Partition}
 use Rattle.gptman_plan.specs.declared.ends.Ends.{Ends}
@@ -41,7 +41,7 @@ within_16 out_of_memory = (omega arith, omega arith)
 within_16 (invalid_entry_size size) = (omega arith, omega arith)
 
 -- the numbers of refusals
-pub numbers : (r : Refusal) → (0 < refusal_number r) × (refusal_number r ≢ 104) × (refusal_number r ≢ 102) × ((refusal_number r ≤ 16) ⊎ ((100 ≤ refusal_number r) × (refusal_number r ≤ 105)))
+pub numbers : (r : PlanError) → (0 < refusal_number r) × (refusal_number r ≢ 104) × (refusal_number r ≢ 102) × ((refusal_number r ≤ 16) ⊎ ((100 ≤ refusal_number r) × (refusal_number r ≤ 105)))
 numbers BadArgument = (omega arith, λ is. absurd (omega (arith, is)), λ is. absurd (omega (arith, is)), inr (omega arith, omega arith))
 numbers (Refused error) = let n = within_16 (fault_of error) in (n.0, λ is. absurd (omega (arith, n.1, is)), λ is. absurd (omega (arith, n.1, is)), inl (omega (arith, n.1)))
 numbers (Lacks lack) = (omega arith, λ is. absurd (omega (arith, is)), λ is. absurd (omega (arith, is)), inr (omega arith, omega arith))
@@ -49,18 +49,18 @@ numbers OtherLength = (omega arith, λ is. absurd (omega (arith, is)), λ is. ab
 numbers OtherLayout = (omega arith, λ is. absurd (omega (arith, is)), λ is. absurd (omega (arith, is)), inr (omega arith, omega arith))
 
 -- what the caller learns, except for a missing range
-pub not_told : (r : Refusal) (needed : Needed) → refusal_number r ≢ 103 → needed_after r needed ≡ needed
-not_told BadArgument needed not = refl
-not_told (Refused error) needed not = refl
-not_told (Lacks lack) needed not = absurd (not refl)
-not_told OtherLength needed not = refl
-not_told OtherLayout needed not = refl
+pub not_lacking : (r : PlanError) (needed : Needed) → refusal_number r ≢ 103 → needed_after r needed ≡ needed
+not_lacking BadArgument needed not = refl
+not_lacking (Refused error) needed not = refl
+not_lacking (Lacks lack) needed not = absurd (not refl)
+not_lacking OtherLength needed not = refl
+not_lacking OtherLayout needed not = refl
 
 -- ---- reasons
 
 -- one reason implies another
 pub refused_as : (why why_too : Cause → Type 0) (e : Ends) → ((cause : Cause) → why cause → why_too cause)
-    → (r : Refusal) → IsRefusal why e r → IsRefusal why_too e r
+    → (r : PlanError) → IsRefusal why e r → IsRefusal why_too e r
 refused_as why why_too e f BadArgument is = f bad_argument is
 refused_as why why_too e f (Refused error) is = ⊎_elim (λ none. inl none) (λ w. inr (f (a_fault (fault_of error)) w)) is
 refused_as why why_too e f (Lacks lack) is = is
@@ -81,7 +81,7 @@ ends_apart first last size from len not within = ⊎_elim (λ less. less) (λ me
 -- ---- the number of a refusal
 
 module _ (why : Cause → Type 0) (e : Ends) where
-  pub lacks_of : (r : Refusal) (needed : Needed) → IsRefusal why e r → refusal_number r ≡ 103
+  pub lacks_of : (r : PlanError) (needed : Needed) → IsRefusal why e r → refusal_number r ≡ 103
       → (¬ HaveRange e ((needed_after r needed).from, (needed_after r needed).length)) × ((needed_after r needed).from + (needed_after r needed).length ≤ e.size)
   lacks_of BadArgument needed is seventeen = absurd (omega (arith, seventeen))
   lacks_of (Refused error) needed is seventeen = absurd (omega (arith, (within_16 (fault_of error)).1, seventeen))
@@ -89,7 +89,7 @@ module _ (why : Cause → Type 0) (e : Ends) where
   lacks_of OtherLength needed is seventeen = absurd (omega (arith, seventeen))
   lacks_of OtherLayout needed is seventeen = absurd (omega (arith, seventeen))
 
-  fault_of_number : (r : Refusal) → IsRefusal why e r → refusal_number r ≤ 16 → refusal_number r ≢ 15 → IsNumberOf (λ fault. why (a_fault fault)) (refusal_number r)
+  fault_of_number : (r : PlanError) → IsRefusal why e r → refusal_number r ≤ 16 → refusal_number r ≢ 15 → IsNumberOf (λ fault. why (a_fault fault)) (refusal_number r)
   fault_of_number BadArgument is below other = absurd (omega (arith, below))
   fault_of_number (Refused error) is below other = ⊎_elim
       (λ none. absurd (other (ap fault_number none)))
@@ -99,21 +99,21 @@ module _ (why : Cause → Type 0) (e : Ends) where
   fault_of_number OtherLength is below other = absurd (omega (arith, below))
   fault_of_number OtherLayout is below other = absurd (omega (arith, below))
 
-  bad_of : (r : Refusal) → IsRefusal why e r → refusal_number r ≡ 105 → why bad_argument
+  bad_of : (r : PlanError) → IsRefusal why e r → refusal_number r ≡ 105 → why bad_argument
   bad_of BadArgument is nineteen = is
   bad_of (Refused error) is nineteen = absurd (omega (arith, (within_16 (fault_of error)).1, nineteen))
   bad_of (Lacks lack) is nineteen = absurd (omega (arith, nineteen))
   bad_of OtherLength is nineteen = absurd (omega (arith, nineteen))
   bad_of OtherLayout is nineteen = absurd (omega (arith, nineteen))
 
-  length_of : (r : Refusal) → IsRefusal why e r → refusal_number r ≡ 100 → why other_length
+  length_of : (r : PlanError) → IsRefusal why e r → refusal_number r ≡ 100 → why other_length
   length_of BadArgument is hundred = absurd (omega (arith, hundred))
   length_of (Refused error) is hundred = absurd (omega (arith, (within_16 (fault_of error)).1, hundred))
   length_of (Lacks lack) is hundred = absurd (omega (arith, hundred))
   length_of OtherLength is hundred = is
   length_of OtherLayout is hundred = absurd (omega (arith, hundred))
 
-  layout_of : (r : Refusal) → IsRefusal why e r → refusal_number r ≡ 101 → why other_layout
+  layout_of : (r : PlanError) → IsRefusal why e r → refusal_number r ≡ 101 → why other_layout
   layout_of BadArgument is number = absurd (omega (arith, number))
   layout_of (Refused error) is number = absurd (omega (arith, (within_16 (fault_of error)).1, number))
   layout_of (Lacks lack) is number = absurd (omega (arith, number))
@@ -122,7 +122,7 @@ module _ (why : Cause → Type 0) (e : Ends) where
 
   -- ---- the result of a call without a plan
 
-  module _ (r : Refusal) (refused : IsRefusal why e r) (answer : ℕ) (is : answer ≡ refusal_number r) where
+  module _ (r : PlanError) (refused : IsRefusal why e r) (answer : ℕ) (is : answer ≡ refusal_number r) where
     pub answer_above : answer ≢ 0
     answer_above zero = omega (arith, zero, is, (numbers r).0)
 
@@ -157,7 +157,7 @@ module _ (why : Cause → Type 0) (e : Ends) where
       answer_whole seventeen = let two = answer_lacks seventeen in ends_apart (length e.head.now) (length e.tail.now) e.size new.from new.length two.0 two.1
 
       pub answer_kept : answer ≢ 103 → new ≡ old
-      answer_kept other = told ∙ not_told r old (λ seventeen. other (is ∙ seventeen))
+      answer_kept other = told ∙ not_lacking r old (λ seventeen. other (is ∙ seventeen))
 
 -- ---- a write that was tried
 

@@ -1,6 +1,6 @@
 -- The plan of a write of a given table.
 use Rattle.std.proofs.Common.{◌≡◌, ◌⊎◌, ⊎_elim, inr, ℕ, List, [], ◌∷◌, length, refl, sym, ap, ◌∙◌, subst}
-use Rattle.gptman.specs.Crash.{StartsLaidOut, StartsSynced, StopsComeInTurns, StopsKeepOthers}
+use Rattle.gptman.specs.Crash.{StartsLaidOut, StartsSynced, StopsComeInOrder, StopsKeepOthers}
 use Rattle.gptman.specs.Disk.{AgreesOutside, DiskState, IsHonest}
 use Rattle.gptman.specs.Layout.{HasLayout, Holds, copy_ranges_at}
 use Rattle.gptman.specs.Ranges.{AreInside}
@@ -15,9 +15,9 @@ use Rattle.gptman.proofs.Ranges.{Ranges, contains_first, contains_later}
 use Rattle.gptman_plan.specs.Crossing.{four_ranges}
 use Rattle.gptman_plan.specs.Ends.{HaveRanges, IsDiskOf, length-zeroed, zeroed}
 use Rattle.gptman_plan.specs.Plan.{Act, LeftBy, plan_state}
-use Rattle.gptman_plan.specs.Planning.{Cause, ComesInTurns, IsNewPlan, IsReplaced, IsTablePlan, IsWrittenPlan, StopsNew, StopsTable}
+use Rattle.gptman_plan.specs.Planning.{Cause, ComesInOrder, IsNewPlan, IsReplaced, IsTablePlan, IsWrittenPlan, StopsNew, StopsTable}
 use Rattle.gptman_plan.specs.Planning.Cause.{bad_argument, a_fault, other_length, other_layout}
-use Rattle.gptman_plan.proofs.AnyMiddle.{after_any, others_any, turns_any}
+use Rattle.gptman_plan.proofs.AnyMiddle.{after_any, order_any, others_any}
 use Rattle.gptman_plan.proofs.AnyPlan.{at_side}
 use Rattle.gptman_plan.proofs.KnownActs.{are_known}
 use Rattle.gptman_plan.proofs.Middle.{AreKnown}
@@ -59,18 +59,18 @@ module _ (start : List ℕ) (size : ℕ) (g : GPT) (acts : List Act) (old new : 
         at_backup = subst (λ (v : List ℕ). Holds v g.sector_size backup (table_in g)) after.view done.at_backup;
       }
 
-  pub turns_zero : IsHeaderForm primary g.header → (StartsSynced old g → StopsComeInTurns old new g) → ComesInTurns start g.sector_size (table_in g) acts
-  turns_zero form turns = λ x was.
+  pub order_zero : IsHeaderForm primary g.header → (StartsSynced old g → StopsComeInOrder old new g) → ComesInOrder start g.sector_size (table_in g) acts
+  order_zero form order = λ x was.
       subst (λ (b : List ℕ). AgreesOutside (copy_ranges_at backup (table_in g) g.sector_size (length start)) b x ⊎ Holds x g.sector_size backup (table_in g)) view
       (subst (λ (n : ℕ). AgreesOutside (copy_ranges_at backup (table_in g) g.sector_size n) old.view x ⊎ Holds x g.sector_size backup (table_in g)) (sized ∙ sym long)
-      (turns (record { start = laid; synced = synced }) primary form x (left x was)))
+      (order (record { start = laid; synced = synced }) primary form x (left x was)))
 
 -- ---- and on every disk with these ends
 
 module _ (e : Ends) (g : GPT) (acts : List Act)
     (places : AreInside (four_ranges (table_in g) g.sector_size e.size) e.size → HaveRanges e (four_ranges (table_in g) g.sector_size e.size))
     (written : HasLayout g e.size → IsWrittenPlan (zeroed e) g.sector_size (table_in g) acts)
-    (turns : HasLayout g e.size → IsHeaderForm primary g.header → ComesInTurns (zeroed e) g.sector_size (table_in g) acts)
+    (order : HasLayout g e.size → IsHeaderForm primary g.header → ComesInOrder (zeroed e) g.sector_size (table_in g) acts)
     (layout : HasLayout g e.size) (b : List ℕ) (ends : IsDiskOf e b) where
   abbrev zero : List ℕ
   zero = zeroed e
@@ -106,10 +106,10 @@ module _ (e : Ends) (g : GPT) (acts : List Act)
   abbrev other : ℕ → Ranges
   other n = copy_ranges_at backup (table_in g) g.sector_size n
 
-  turns_here : IsHeaderForm primary g.header → ComesInTurns b g.sector_size (table_in g) acts
-  turns_here form = subst (λ (n : ℕ). (x : List ℕ) → LeftBy b acts x → AgreesOutside (other n) b x ⊎ Holds x g.sector_size backup (table_in g)) (sym ends.long)
-      (turns_any e.head.now e.tail.now b e.size e.apart ends acts known (other e.size) g.sector_size backup (table_in g) (at_side (length e.head.now) (length e.tail.now) e.size g.sector_size (table_in g) backup four)
-      (subst (λ (n : ℕ). (y : List ℕ) → LeftBy zero acts y → AgreesOutside (other n) zero y ⊎ Holds y g.sector_size backup (table_in g)) all (turns layout form)))
+  order_here : IsHeaderForm primary g.header → ComesInOrder b g.sector_size (table_in g) acts
+  order_here form = subst (λ (n : ℕ). (x : List ℕ) → LeftBy b acts x → AgreesOutside (other n) b x ⊎ Holds x g.sector_size backup (table_in g)) (sym ends.long)
+      (order_any e.head.now e.tail.now b e.size e.apart ends acts known (other e.size) g.sector_size backup (table_in g) (at_side (length e.head.now) (length e.tail.now) e.size g.sector_size (table_in g) backup four)
+      (subst (λ (n : ℕ). (y : List ℕ) → LeftBy zero acts y → AgreesOutside (other n) zero y ⊎ Holds y g.sector_size backup (table_in g)) all (order layout form)))
 
   -- one of the two places holds one of the two tables
   replaced_any : IsHeaderForm primary g.header → (was : Table) → IsReplaced b g.sector_size was (table_in g) acts
@@ -121,7 +121,7 @@ module _ (e : Ends) (g : GPT) (acts : List Act)
         holds = holds_local b x g.sector_size primary was held (agrees_in (copy_ranges_at primary was g.sector_size (length b)) (other (length b)) b x clear few);
       })
       (λ new. record { side = backup; table = table_in g; listed = contains_later (table_in g) was (table_in g ∷ []) (contains_first (table_in g) []); holds = new })
-      (turns_here form x left)
+      (order_here form x left)
 
   pub table_any : IsTablePlan b g acts
   table_any = record { layout = here; written = written_any; replaced = replaced_any }

@@ -10,8 +10,8 @@ use Rattle.gptman_plan.specs.Planning.{fitted}
 use Rattle.gptman_plan.specs.Reading.{OfEvery}
 use Rattle.gptman_plan.specs.Rounds.{IsAmong, reading_ranges}
 use Rattle.gptman_plan.specs.declared.ends.Ends.{Ends}
-use Rattle.gptman_plan.specs.declared.planning.Refusal.{Refusal}
-use Rattle.gptman_plan.specs.declared.planning.Refusal.TheVariants.{BadArgument, Refused, Lacks, OtherLength, OtherLayout}
+use Rattle.gptman_plan.specs.declared.planning.PlanError.{PlanError}
+use Rattle.gptman_plan.specs.declared.planning.PlanError.TheVariants.{BadArgument, Refused, Lacks, OtherLength, OtherLayout}
 
 -- the four ranges of the table that was read, if one was, on a disk of len bytes
 abbrev pub table_ranges : ℕ → ℕ → Result Copy Fault → List (ℕ × ℕ)
@@ -36,7 +36,7 @@ abbrev pub value_ranges : GPT → ℕ → List (ℕ × ℕ)
 value_ranges g len = four_ranges (table_in g) g.sector_size len
 
 -- if a refusal asks for a range, it is one of these places on every disk with these ends
-abbrev pub AsksAmong : (List ℕ → List (ℕ × ℕ)) → Ends → Refusal → Type 0
+abbrev pub AsksAmong : (List ℕ → List (ℕ × ℕ)) → Ends → PlanError → Type 0
 AsksAmong places ends BadArgument = Unit {0}
 AsksAmong places ends (Refused e) = Unit {0}
 AsksAmong places ends (Lacks lack) = OfEvery ends (λ b. IsAmong (lack.from, lack.length) (places b))
@@ -44,7 +44,7 @@ AsksAmong places ends OtherLength = Unit {0}
 AsksAmong places ends OtherLayout = Unit {0}
 
 -- the refusal asks for no range
-abbrev pub AsksNothing : Refusal → Type 0
+abbrev pub AsksNothing : PlanError → Type 0
 AsksNothing BadArgument = Unit {0}
 AsksNothing (Refused e) = Unit {0}
 AsksNothing (Lacks lack) = ⊥

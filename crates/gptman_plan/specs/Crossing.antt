@@ -5,7 +5,7 @@ use Rattle.gptman.specs.Copy.{Copy}
 use Rattle.gptman.specs.Fault.{Fault}
 use Rattle.gptman.specs.Layout.{copy_ranges_at}
 use Rattle.gptman.specs.Place.{FindsPlace, IsBestPlace, IsFirstPlace, IsLastPlace}
-use Rattle.gptman.specs.Reading.{Side, primary, backup}
+use Rattle.gptman.specs.Reading.{CopyPlace, primary, backup}
 use Rattle.gptman.specs.Table.{Table as TheTable, TableEntry, entries_in, table_in}
 use Rattle.gptman.specs.declared.table.GPT.{GPT}
 use Rattle.gptman.specs.declared.codec.entry.GPTPartitionEntry.{GPTPartitionEntry}
@@ -55,22 +55,22 @@ with_partitions g partitions = record (table_in g) { entries = map content_of pa
 abbrev pub four_ranges : TheTable → ℕ → ℕ → List (ℕ × ℕ)
 four_ranges t ss len = copy_ranges_at primary t ss len ++ copy_ranges_at backup t ss len
 
--- the number of a side in C
-abbrev pub side_number : Side → ℕ
-side_number primary = 0
-side_number backup = 1
+-- the number of a place in C
+abbrev pub copy_place_number : CopyPlace → ℕ
+copy_place_number primary = 0
+copy_place_number backup = 1
 
--- The sectors of both copies, by the header that was read from this side. It does not state where the entries of the
+-- The sectors of both copies, by the header that was read from this place. It does not state where the entries of the
 -- other copy are: they are at the sector from which a write stores them.
-abbrev pub HasPlaces : Side → GPTHeader → Table → Type 0
+abbrev pub HasPlaces : CopyPlace → GPTHeader → Table → Type 0
 HasPlaces primary h t =
     (t.primary_header_lba ≡ h.primary_lba) × (t.primary_entries_lba ≡ h.partition_entry_lba) × (t.backup_header_lba ≡ h.backup_lba) × (t.backup_entries_lba ≡ min (h.last_usable_lba + 1) (2 ^ 64 - 1))
 HasPlaces backup h t =
     (t.primary_header_lba ≡ h.backup_lba) × (t.primary_entries_lba ≡ 2) × (t.backup_header_lba ≡ h.primary_lba) × (t.backup_entries_lba ≡ h.partition_entry_lba)
 
--- The result of a read that selected this copy, at this side: the fields of its header, and its entries at the start of
+-- The result of a read that selected this copy, at this place: the fields of its header, and its entries at the start of
 -- the array.
-pub record IsTold (taken : Result Copy Fault) (side : Side) (table : Table) (partitions : List Partition) : Type 0 where
+pub record IsReturned (taken : Result Copy Fault) (side : CopyPlace) (table : Table) (partitions : List Partition) : Type 0 where
   pub copy : Copy
   pub taken_is : taken ≡ Ok copy
   pub disk_guid : table.disk_guid ≡ copy.header.disk_guid
@@ -78,7 +78,7 @@ pub record IsTold (taken : Result Copy Fault) (side : Side) (table : Table) (par
   pub last_usable : table.last_usable_lba ≡ copy.header.last_usable_lba
   pub align : IsAlignment copy.header copy.entries table.align
   pub count : table.entry_count ≡ copy.header.number_of_partition_entries
-  pub from : table.is_backup ≡ side_number side
+  pub from : table.is_backup ≡ copy_place_number side
   pub places : HasPlaces side copy.header table
   pub reserved : table.reserved ≡ replicate 6 0
   pub partitions_are : take (length copy.entries) partitions ≡ map partition_of copy.entries

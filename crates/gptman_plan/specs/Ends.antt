@@ -3,7 +3,7 @@ use Rattle.std.specs.Prelude.{◌≡◌, ◌≤◌, ◌⊎◌, ◌+◌, ◌-◌,
 use Rattle.gptman.specs.Bytes.{part}
 use Rattle.gptman.specs.Disk.{AgreesOutside, DiskState, IsSound}
 use Rattle.gptman.specs.Layout.{copy_ranges_at}
-use Rattle.gptman.specs.Reading.{Side}
+use Rattle.gptman.specs.Reading.{CopyPlace}
 use Rattle.gptman.specs.Table.{Table}
 use Rattle.gptman_plan.specs.declared.ends.Ends.{Ends}
 use Rattle.gptman_plan.specs.declared.reader.Torn.{Torn}
@@ -27,9 +27,9 @@ abbrev pub AreRangesKnown : ℕ → ℕ → ℕ → List (ℕ × ℕ) → Type 0
 AreRangesKnown first last size [] = Unit {0}
 AreRangesKnown first last size (range ∷ ranges) = IsKnown first last size range × AreRangesKnown first last size ranges
 
--- so are the ranges of each table at both sides, with sectors of ss bytes
+-- so are the ranges of each table at both places, with sectors of ss bytes
 abbrev pub ArePlacesKnown : ℕ → ℕ → ℕ → ℕ → List Table → Type 0
-ArePlacesKnown first last size ss tables = (t : Table) → Contains tables t → (side : Side) → AreRangesKnown first last size (copy_ranges_at side t ss size)
+ArePlacesKnown first last size ss tables = (t : Table) → Contains tables t → (side : CopyPlace) → AreRangesKnown first last size (copy_ranges_at side t ss size)
 
 -- the disk with these ends, and with zeros between them
 abbrev pub disk_bytes : List ℕ → List ℕ → ℕ → List ℕ

@@ -10,7 +10,7 @@ use Rattle.std.proofs.lemmas.List.{take_all}
 
 -- An act on a disk: writing bytes from a place, or a sync.
 pub data Act : Type 0 where
-  lay : (at : ℕ) (bytes : List ℕ) → Act
+  put : (at : ℕ) (bytes : List ℕ) → Act
   store : Act
 
 -- ---- steps
@@ -30,7 +30,7 @@ bytes_of buffer step = part buffer step.start step.length
 
 -- the act of a step
 abbrev pub step_act : List ℕ → Step → Act
-step_act buffer step = if nat_eq step.kind 2 then store else lay step.offset (bytes_of buffer step)
+step_act buffer step = if nat_eq step.kind 2 then store else put step.offset (bytes_of buffer step)
 
 -- the acts of steps, in order
 abbrev pub acts_of : (buffer : List ℕ) (steps : List Step) → List Act
@@ -40,12 +40,12 @@ acts_of buffer steps = map (step_act buffer) steps
 
 -- the bytes that a read returns after an act
 abbrev pub bytes_with : List ℕ → Act → List ℕ
-bytes_with old (lay at bytes) = overlay old at bytes
+bytes_with old (put at bytes) = overlay old at bytes
 bytes_with old store = old
 
 -- the pending ranges, each a start and a length, after an act: a crash may leave any bytes there
 abbrev pub pending_with : List (ℕ × ℕ) → Act → List (ℕ × ℕ)
-pending_with ranges (lay at bytes) = (at, length bytes) ∷ ranges
+pending_with ranges (put at bytes) = (at, length bytes) ∷ ranges
 pending_with ranges store = []
 
 -- the bytes that a read returns after all acts

@@ -18,8 +18,8 @@ use Rattle.gptman.specs.Fault.{fault_number}
 use Rattle.gptman_plan.specs.Plan.{Act, LeftBy, acts_of, pending_after, bytes_after}
 use Rattle.gptman_plan.specs.Reading.{IsLack, OfEvery}
 use Rattle.gptman_plan.specs.declared.ends.Ends.{Ends}
-use Rattle.gptman_plan.specs.declared.planning.Refusal.{Refusal}
-use Rattle.gptman_plan.specs.declared.planning.Refusal.TheVariants.{BadArgument, Refused, Lacks, OtherLength, OtherLayout}
+use Rattle.gptman_plan.specs.declared.planning.PlanError.{PlanError}
+use Rattle.gptman_plan.specs.declared.planning.PlanError.TheVariants.{BadArgument, Refused, Lacks, OtherLength, OtherLayout}
 use Rattle.gptman_plan.specs.declared.records.Needed.{Needed}
 use Rattle.gptman_plan.specs.declared.records.Partition.{Partition}
 use Rattle.gptman_plan.specs.declared.records.Step.{Step}
@@ -43,7 +43,7 @@ pub record IsPlan (start : List ℕ) (ss : ℕ) (partitions : List Partition) (a
   pub copy : Copy
   pub taken : reading_of start ss ≡ Ok copy
   pub form : IsHeaderForm (taken_from start ss) copy.header
-  pub laid : IsLaidOut (table_of copy.header copy.entries) ss (length start)
+  pub laid_out : IsLaidOut (table_of copy.header copy.entries) ss (length start)
   pub safe : IsSafePlan start ss (table_of copy.header copy.entries) (rewritten copy partitions) acts
 
 -- The table that is read from these bytes was made for another length: its headers are not those of sector 1 and the
@@ -119,7 +119,7 @@ pub data Cause : Type 0 where
   other_layout : Cause
 
 -- Why there is no plan: a cause with this property, an allocation failure, or bytes of the disk that neither end has.
-abbrev pub IsRefusal : (Cause → Type 0) → Ends → Refusal → Type 0
+abbrev pub IsRefusal : (Cause → Type 0) → Ends → PlanError → Type 0
 IsRefusal why ends BadArgument = why bad_argument
 IsRefusal why ends (Refused e) = (fault_of e ≡ out_of_memory) ⊎ why (a_fault (fault_of e))
 IsRefusal why ends (Lacks lack) = IsLack ends lack
@@ -134,7 +134,7 @@ IsOfFault why other_length = ⊥
 IsOfFault why other_layout = ⊥
 
 -- the number of a refusal in C
-abbrev pub refusal_number : Refusal → ℕ
+abbrev pub refusal_number : PlanError → ℕ
 refusal_number BadArgument = 105
 refusal_number (Refused e) = fault_number (fault_of e)
 refusal_number (Lacks lack) = 103
@@ -142,7 +142,7 @@ refusal_number OtherLength = 100
 refusal_number OtherLayout = 101
 
 -- the output of a refusal: the missing range, if that is the reason
-abbrev pub needed_after : Refusal → Needed → Needed
+abbrev pub needed_after : PlanError → Needed → Needed
 needed_after BadArgument needed = needed
 needed_after (Refused e) needed = needed
 needed_after (Lacks lack) needed = record needed { from = lack.from; length = lack.length }
@@ -150,7 +150,7 @@ needed_after OtherLength needed = needed
 needed_after OtherLayout needed = needed
 
 -- why a write with valid arguments is not planned
-abbrev pub IsRewriteRefusal : Ends → GPT → List Partition → Refusal → Type 0
+abbrev pub IsRewriteRefusal : Ends → GPT → List Partition → PlanError → Type 0
 IsRewriteRefusal ends g partitions refusal = IsRefusal (IsOfFault (IsUnfit g.header g.sector_size partitions ends.size)) ends refusal
 
 -- why this table is not written to a disk of size bytes
@@ -160,7 +160,7 @@ StopsTable g size (a_fault fault) = RefusesTable g size fault
 StopsTable g size other_length = ⊥
 StopsTable g size other_layout = ¬ HasLayout g size
 
-abbrev pub IsTableRefusal : Ends → GPT → Refusal → Type 0
+abbrev pub IsTableRefusal : Ends → GPT → PlanError → Type 0
 IsTableRefusal ends g refusal = IsRefusal (StopsTable g ends.size) ends refusal
 
 -- why the table in these bytes is not written with these entries
@@ -170,7 +170,7 @@ StopsPlan b ss partitions (a_fault fault) = RefusesPlan b ss partitions fault
 StopsPlan b ss partitions other_length = IsOfOtherLength b ss
 StopsPlan b ss partitions other_layout = IsOfOtherLayout b ss
 
-abbrev pub IsPlanRefusal : Ends → ℕ → List Partition → Refusal → Type 0
+abbrev pub IsPlanRefusal : Ends → ℕ → List Partition → PlanError → Type 0
 IsPlanRefusal ends ss partitions refusal = IsRefusal (λ cause. OfEvery ends (λ b. StopsPlan b ss partitions cause)) ends refusal
 
 -- why a new table is not written
@@ -180,7 +180,7 @@ StopsNew count guid ss size (a_fault fault) = RefusesNew count guid ss size faul
 StopsNew count guid ss size other_length = ⊥
 StopsNew count guid ss size other_layout = ¬ HasLayout (new_table_of count guid ss size) size
 
-abbrev pub IsNewRefusal : Ends → ℕ → ℕ → List ℕ → Refusal → Type 0
+abbrev pub IsNewRefusal : Ends → ℕ → ℕ → List ℕ → PlanError → Type 0
 IsNewRefusal ends ss count guid refusal = IsRefusal (StopsNew count guid ss ends.size) ends refusal
 
 -- After all of these acts both places hold the table, and nothing is pending. A crash between or within them leaves all
@@ -193,8 +193,8 @@ pub record IsWrittenPlan (start : List ℕ) (ss : ℕ) (next : Table) (acts : Li
 
 -- A crash between or within these acts leaves all bytes outside the table's backup copy unchanged, or that copy
 -- complete.
-abbrev pub ComesInTurns : List ℕ → ℕ → Table → List Act → Type 0
-ComesInTurns start ss next acts = (x : List ℕ) → LeftBy start acts x → AgreesOutside (copy_ranges_at backup next ss (length start)) start x ⊎ Holds x ss backup next
+abbrev pub ComesInOrder : List ℕ → ℕ → Table → List Act → Type 0
+ComesInOrder start ss next acts = (x : List ℕ) → LeftBy start acts x → AgreesOutside (copy_ranges_at backup next ss (length start)) start x ⊎ Holds x ss backup next
 
 -- If the primary place holds a table that does not overlap the backup copy of the new one, a crash leaves that table or
 -- the new one.
@@ -224,7 +224,7 @@ fitted copy ss len = table_of (fit_header copy.header ss len) copy.entries
 pub record IsStatedToFit (b : List ℕ) (ss : ℕ) (copy : Copy) : Type 0 where
   pub form : IsHeaderForm (taken_from b ss) copy.header
   pub fitted_form : IsInForm (fit_header copy.header ss (length b))
-  pub laid : IsLaidOut (fitted copy ss (length b)) ss (length b)
+  pub laid_out : IsLaidOut (fitted copy ss (length b)) ss (length b)
 
 -- The acts write the table that is read from these bytes, fitted to the length of the disk, in the stated layout. If
 -- the primary copy is read, a crash leaves the old table or the fitted one in one place at least.
@@ -258,7 +258,7 @@ pub data RefusesFit (b : List ℕ) (ss : ℕ) (fault : Fault) : Type 0 where
   is_unfit_fitted : (copy : Copy) → reading_of b ss ≡ Ok copy → IsUnfitTable (fit_header copy.header ss (length b)) ss copy.entries (length b) fault → RefusesFit b ss fault
 
 -- why a table is not fitted to a disk of this size
-abbrev pub IsSizeRefusal : Ends → GPT → Refusal → Type 0
+abbrev pub IsSizeRefusal : Ends → GPT → PlanError → Type 0
 IsSizeRefusal ends g refusal = IsRefusal (IsOfFault (λ fault. fit_fault g.header g.sector_size ends.size ≡ Some fault)) ends refusal
 
 -- why the table in these bytes is not written fitted to their length
@@ -269,5 +269,5 @@ StopsFit b ss other_length = ⊥
 StopsFit b ss other_layout = IsNotStatedToFit b ss
 
 -- why there is no plan that fits the table in the ends
-abbrev pub IsFitRefusal : Ends → ℕ → Refusal → Type 0
+abbrev pub IsFitRefusal : Ends → ℕ → PlanError → Type 0
 IsFitRefusal ends ss refusal = IsRefusal (λ cause. OfEvery ends (λ b. StopsFit b ss cause)) ends refusal

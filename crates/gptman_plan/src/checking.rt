@@ -5,7 +5,7 @@ ghost use Rattle.std.specs.Prelude.{◌≡◌, ◌≤◌, ◌<◌, ◌+◌, ◌�
 ghost use Rattle.gptman.specs.Answers.{answer_of};
 ghost use Rattle.gptman.specs.Copy.{copy_of_whole};
 ghost use Rattle.gptman.specs.Fault.{fault_of, out_of_memory};
-ghost use Rattle.gptman_plan.specs.Checking.{number_in, AreCopiesTold, AreFoundIn, IsLook};
+ghost use Rattle.gptman_plan.specs.Checking.{number_in, AreCopiesKnown, AreFoundIn, IsLook};
 ghost use Rattle.gptman_plan.specs.Ends.{zeroed};
 ghost use Rattle.gptman_plan.specs.Reading.{IsLackOf};
 ghost use Rattle.gptman_plan.specs.Rounds.{reading_ranges};
@@ -21,7 +21,7 @@ use std::alloc::Global;
 /// The result of a check.
 #[derive(Clone, Copy)]
 pub enum Look {
-    Told(Check),
+    Known(Check),
     Unknown(Lack),
 }
 
@@ -40,13 +40,13 @@ pub fn look_at_both(alloc: Global, ends: &Ends, sector_size: u64) -> Result<Look
         return Ok(Look::Unknown(lack));
     }
     let copies = find_both(alloc, ends, sector_size)?;
-    Ok(Look::Told(check_of(&copies)))
+    Ok(Look::Known(check_of(&copies)))
 }
 
 // Returns a range of the two copies that the ends do not have.
 fn lack_of_copies(ends: &Ends, sector_size: u64) -> Option<Lack>
     requires sector { 0 < sector_size }
-    ensures told { MatchOption result (AreCopiesTold ends.now sector_size)
+    ensures known { MatchOption result (AreCopiesKnown ends.now sector_size)
         (IsLackOf (λ b. reading_ranges b sector_size) ends.now) }
 {
     if let Some(lack) = lack_of_copy(ends, sector_size, sector_size) {

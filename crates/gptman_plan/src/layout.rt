@@ -4,7 +4,7 @@ ghost use Rattle.std.specs.Prelude.{◌≡◌, ◌<◌, ◌↔◌, ◌+◌, IsTr
 ghost use Rattle.gptman.specs.Layout.{HasLayout, HasRightSectors, IsLaidOut};
 ghost use Rattle.gptman.specs.Reading.{primary, backup};
 ghost use Rattle.gptman.specs.Table.{table_in, IsHeaderForm};
-ghost use Rattle.gptman_plan.specs.Reading.{side_of};
+ghost use Rattle.gptman_plan.specs.Reading.{copy_place_of};
 
 use gptman::{GPT, GPTHeader};
 
@@ -22,7 +22,7 @@ pub fn is_made_for(table: &GPT, size: u64) -> bool
 
 /// Reports whether the table has the stated layout on a disk of `size` bytes, and its header the form of its place.
 pub fn is_stated(table: &GPT, is_backup: bool, size: u64) -> bool
-    ensures { IsTrue result ↔ (IsHeaderForm (side_of is_backup) table.now.header
+    ensures { IsTrue result ↔ (IsHeaderForm (copy_place_of is_backup) table.now.header
         × IsLaidOut (table_in table.now) table.now.sector_size size) }
 {
     is_of_side(&table.header, is_backup) && table.has_layout(size)
@@ -30,7 +30,7 @@ pub fn is_stated(table: &GPT, is_backup: bool, size: u64) -> bool
 
 /// Reports whether the header has the form of the backup copy, or of the primary one.
 pub fn is_of_side(header: &GPTHeader, is_backup: bool) -> bool
-    ensures { IsTrue result ↔ IsHeaderForm (side_of is_backup) header.now }
+    ensures { IsTrue result ↔ IsHeaderForm (copy_place_of is_backup) header.now }
 {
     if is_backup {
         is_backup_header(header)

@@ -22,6 +22,6 @@ pub mod record;
 pub mod recording;
 pub mod records;
 pub mod rounds;
+pub mod storing;
 pub mod tables;
-pub mod tell;
 pub mod writing;

@@ -8,7 +8,7 @@ ghost use Rattle.gptman_plan.specs.Planning.{IsNewPlan, IsNewRefusal};
 ghost use Rattle.gptman_plan.specs.Reading.{OfEvery};
 
 use crate::ends::Ends;
-use crate::planning::Refusal;
+use crate::planning::PlanError;
 use crate::reader::EndsReader;
 use crate::record::Record;
 use crate::tables::plan_table;
@@ -23,7 +23,7 @@ pub fn plan_new(
     sector_size: u64,
     disk_guid: [u8; 16],
     count: u32,
-) -> Result<Record, Refusal>
+) -> Result<Record, PlanError>
     requires sector { 0 < sector_size }
     ensures plan { IfOk result (λ plan. OfEvery ends.now (λ b. IsNewPlan b
         (new_table_of count disk_guid sector_size ends.now.size)
@@ -34,7 +34,7 @@ pub fn plan_new(
         (λ _. value_ranges (new_table_of count disk_guid sector_size ends.now.size) ends.now.size) ends.now) }
 {
     if count == 0 || ends.size < sector_size {
-        return Err(Refusal::BadArgument);
+        return Err(PlanError::BadArgument);
     }
     let table = make(alloc, ends, sector_size, disk_guid, count)?;
     plan_table(alloc, ends, table)
@@ -47,7 +47,7 @@ fn make(
     sector_size: u64,
     disk_guid: [u8; 16],
     count: u32,
-) -> Result<GPT, Refusal>
+) -> Result<GPT, PlanError>
     requires sector { 0 < sector_size }
     ensures value { IfOk result (λ g. g ≡ new_table_of count disk_guid sector_size ends.now.size) }
     ensures refused { IfErr result (IsNewRefusal ends.now sector_size count disk_guid) }
@@ -56,6 +56,6 @@ fn make(
     let mut disk = EndsReader::new(ends);
     match GPT::with_entries(alloc, &mut disk, sector_size, disk_guid, count) {
         Ok(table) => Ok(table),
-        Err(fault) => Err(Refusal::Refused(fault)),
+        Err(fault) => Err(PlanError::Refused(fault)),
     }
 }

@@ -43,8 +43,8 @@ pub fn units_for(alloc: Global, text: &str) -> Result<Option<[u16; 36]>>
 }
 
 /// Copies these bytes and a zero to the start of the array, and reports whether it was long enough.
-pub fn lay_text(bytes: &[u8], text: &mut [u8]) -> bool
-    ensures laid { result ≡ true → text.new ≡ bytes.now ++ 0 ∷ drop (length bytes.now + 1) text.old }
+pub fn copy_text(bytes: &[u8], text: &mut [u8]) -> bool
+    ensures contents { result ≡ true → text.new ≡ bytes.now ++ 0 ∷ drop (length bytes.now + 1) text.old }
     ensures room { result ≡ false → length text.old ≤ length bytes.now }
     ensures kept { result ≡ false → text.new ≡ text.old }
 {

@@ -27,7 +27,7 @@ use std::alloc::Global;
 
 /// The reason why there is no plan.
 #[derive(Drop)]
-pub enum Refusal {
+pub enum PlanError {
     BadArgument,
     Refused(Error),
     Lacks(Lack),
@@ -41,7 +41,7 @@ pub fn plan(
     ends: &Ends,
     sector_size: u64,
     partitions: &[Partition],
-) -> Result<Record, Refusal>
+) -> Result<Record, PlanError>
     requires sector { 0 < sector_size }
     ensures plan { IfOk result (λ plan. OfEvery ends.now
         (λ b. IsPlan b sector_size partitions.now (acts_of plan.bytes.items plan.steps.items))) }
@@ -52,16 +52,16 @@ pub fn plan(
     let table = read_stated(alloc, ends, sector_size)?;
     let count = u64::from(table.header.number_of_partition_entries);
     if count == 0 || partitions.len() as u64 != count || ends.size < sector_size {
-        return Err(Refusal::BadArgument);
+        return Err(PlanError::BadArgument);
     }
     if let Some(lack) = lack_of_places(ends, &table) {
-        return Err(Refusal::Lacks(lack));
+        return Err(PlanError::Lacks(lack));
     }
     record_write(alloc, ends, &table, partitions)
 }
 
 // Reads the table in the ends, which must have the stated layout.
-fn read_stated(alloc: Global, ends: &Ends, sector_size: u64) -> Result<GPT, Refusal>
+fn read_stated(alloc: Global, ends: &Ends, sector_size: u64) -> Result<GPT, PlanError>
     requires sector { 0 < sector_size }
     ensures table { IfOk result (IsStatedTable ends.now sector_size) }
     ensures refused { (partitions : List Partition)
@@ -70,14 +70,14 @@ fn read_stated(alloc: Global, ends: &Ends, sector_size: u64) -> Result<GPT, Refu
 {
     let (table, is_backup) = match read(alloc, ends, sector_size) {
         Reading::Table { table, is_backup } => (table, is_backup),
-        Reading::Fault(fault) => return Err(Refusal::Refused(fault)),
-        Reading::Lacks(lack) => return Err(Refusal::Lacks(lack)),
+        Reading::Fault(fault) => return Err(PlanError::Refused(fault)),
+        Reading::Lacks(lack) => return Err(PlanError::Lacks(lack)),
     };
     if !is_made_for(&table, ends.size) {
-        return Err(Refusal::OtherLength);
+        return Err(PlanError::OtherLength);
     }
     if !is_stated(&table, is_backup, ends.size) {
-        return Err(Refusal::OtherLayout);
+        return Err(PlanError::OtherLayout);
     }
     Ok(table)
 }
@@ -88,7 +88,7 @@ fn record_write(
     ends: &Ends,
     table: &GPT,
     partitions: &[Partition],
-) -> Result<Record, Refusal>
+) -> Result<Record, PlanError>
     requires sector { 0 < table.now.sector_size }
     requires coherent { IsCoherent table.now.header (entries_in table.now) }
     requires count { length partitions.now ≡ length (entries_in table.now) }
@@ -103,10 +103,10 @@ fn record_write(
     let mut disk = Recorder::new(alloc, ends);
     let written = rewrite(alloc, &mut disk, table, partitions);
     if disk.failures != 0 {
-        return Err(Refusal::Refused(Error::OutOfMemory));
+        return Err(PlanError::Refused(Error::OutOfMemory));
     }
     match written {
         Ok(_next) => Ok(disk.into_plan()),
-        Err(fault) => Err(Refusal::Refused(fault)),
+        Err(fault) => Err(PlanError::Refused(fault)),
     }
 }

@@ -9,7 +9,7 @@ ghost use Rattle.gptman.specs.Fault.{fault_of, out_of_memory};
 ghost use Rattle.gptman.specs.Reading.{reading_of};
 ghost use Rattle.gptman.specs.TableReads.{copy_of, IsAsRead};
 ghost use Rattle.gptman_plan.specs.Ends.{HaveRange, zeroed};
-ghost use Rattle.gptman_plan.specs.Reading.{IsArrayTold, IsCopyTold, IsLack, IsLackOf, IsPlace, IsReading};
+ghost use Rattle.gptman_plan.specs.Reading.{IsArrayKnown, IsCopyKnown, IsLack, IsLackOf, IsPlace, IsReading};
 ghost use Rattle.gptman_plan.specs.Rounds.{copy_ranges, entries_range};
 
 use crate::ends::Ends;
@@ -36,7 +36,7 @@ pub enum Reading {
 
 // The place of the copy that a read selects, or the range that decides it.
 #[derive(Clone, Copy)]
-enum Place {
+enum SelectedPlace {
     At { is_backup: bool },
     Unknown(Lack),
 }
@@ -49,8 +49,8 @@ pub fn read(alloc: Global, ends: &Ends, sector_size: u64) -> Reading
 {
     let is_backup = match find_place(alloc, ends, sector_size) {
         Err(fault) => return Reading::Fault(fault),
-        Ok(Place::Unknown(lack)) => return Reading::Lacks(lack),
-        Ok(Place::At { is_backup }) => is_backup,
+        Ok(SelectedPlace::Unknown(lack)) => return Reading::Lacks(lack),
+        Ok(SelectedPlace::At { is_backup }) => is_backup,
     };
     match read_table(alloc, ends, sector_size) {
         Err(fault) => Reading::Fault(fault),
@@ -59,24 +59,24 @@ pub fn read(alloc: Global, ends: &Ends, sector_size: u64) -> Reading
 }
 
 // Finds the place of the copy that a read selects. Fails only with `OutOfMemory`.
-fn find_place(alloc: Global, ends: &Ends, sector_size: u64) -> Result<Place>
+fn find_place(alloc: Global, ends: &Ends, sector_size: u64) -> Result<SelectedPlace>
     requires sector { 0 < sector_size }
     ensures place { IfOk result (IsPlace ends.now sector_size) }
     ensures refused { IfErr result (λ e. fault_of e ≡ out_of_memory) }
 {
     if let Some(lack) = lack_of_copy(ends, sector_size, sector_size) {
-        return Ok(Place::Unknown(lack));
+        return Ok(SelectedPlace::Unknown(lack));
     }
     if has_primary(alloc, ends, sector_size)? {
-        return Ok(Place::At { is_backup: false });
+        return Ok(SelectedPlace::At { is_backup: false });
     }
     if ends.size < sector_size {
-        return Ok(Place::At { is_backup: true });
+        return Ok(SelectedPlace::At { is_backup: true });
     }
     let at = last_sector(ends.size, sector_size);
     match lack_of_copy(ends, at, sector_size) {
-        Some(lack) => Ok(Place::Unknown(lack)),
-        None => Ok(Place::At { is_backup: true }),
+        Some(lack) => Ok(SelectedPlace::Unknown(lack)),
+        None => Ok(SelectedPlace::At { is_backup: true }),
     }
 }
 
@@ -111,7 +111,7 @@ fn has_primary(alloc: Global, ends: &Ends, sector_size: u64) -> Result<bool>
 
 /// Returns a range that the ends do not have, of the copy whose header is at this byte.
 pub fn lack_of_copy(ends: &Ends, at: u64, sector_size: u64) -> Option<Lack>
-    ensures told { MatchOption result (IsCopyTold ends.now at sector_size)
+    ensures known { MatchOption result (IsCopyKnown ends.now at sector_size)
         (IsLackOf (λ b. copy_ranges b sector_size at) ends.now) }
 {
     if passes_end(ends.size, at, 92) {
@@ -136,7 +136,7 @@ fn header_at(ends: &Ends, at: u64) -> Option<GPTHeader>
 
 // Returns the range of the entries of this header, if the ends do not have it.
 fn lack_of_entries(header: &GPTHeader, ends: &Ends, sector_size: u64) -> Option<Lack>
-    ensures told { MatchOption result (IsArrayTold ends.now sector_size header.now)
+    ensures known { MatchOption result (IsArrayKnown ends.now sector_size header.now)
         (IsLackOf (λ _. entries_range sector_size (Ok header.now)) ends.now) }
 {
     if header.number_of_partition_entries == 0 || header.size_of_partition_entry != 128 {

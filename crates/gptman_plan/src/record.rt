@@ -2,7 +2,7 @@
 
 ghost use Rattle.std.specs.Prelude.{◌≡◌, ◌≤◌, ◌<◌, ◌⊎◌, ◌+◌, [], ◌∷◌, ◌++◌, All, length, take, true, false};
 ghost use Rattle.gptman_plan.specs.Plan.{acts_of, kinds-prop, IsWriteOrSync, StepFits};
-ghost use Rattle.gptman_plan.specs.Plan.Act.{lay, store};
+ghost use Rattle.gptman_plan.specs.Plan.Act.{put, store};
 
 use crate::records::Step;
 use std::alloc::Global;
@@ -34,7 +34,7 @@ impl Record {
     pub fn write(&mut self, at: u64, buf: &[u8]) -> bool
         requires { at + length buf.now ≤ self.old.size }
         ensures done { result ≡ true → acts_of self.new.bytes.items self.new.steps.items
-            ≡ acts_of self.old.bytes.items self.old.steps.items ++ lay at buf.now ∷ [] }
+            ≡ acts_of self.old.bytes.items self.old.steps.items ++ put at buf.now ∷ [] }
         ensures refused { result ≡ false → acts_of self.new.bytes.items self.new.steps.items
             ≡ acts_of self.old.bytes.items self.old.steps.items }
         ensures size { self.new.size ≡ self.old.size }

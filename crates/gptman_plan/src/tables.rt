@@ -8,19 +8,19 @@ ghost use Rattle.gptman.specs.Table.{entries_in, table_in, IsHeaderForm};
 ghost use Rattle.gptman_plan.specs.Asking.{value_ranges, AsksAmong, AsksNothing};
 ghost use Rattle.gptman_plan.specs.Ends.{zeroed};
 ghost use Rattle.gptman_plan.specs.Plan.{acts_of};
-ghost use Rattle.gptman_plan.specs.Planning.{ComesInTurns, IsTablePlan, IsTableRefusal, IsWrittenPlan};
+ghost use Rattle.gptman_plan.specs.Planning.{ComesInOrder, IsTablePlan, IsTableRefusal, IsWrittenPlan};
 ghost use Rattle.gptman_plan.specs.Reading.{OfEvery};
 
 use crate::ends::Ends;
 use crate::places::lack_of_places;
-use crate::planning::Refusal;
+use crate::planning::PlanError;
 use crate::record::Record;
 use crate::recording::Recorder;
 use gptman::{Error, GPT};
 use std::alloc::Global;
 
 /// Returns the steps that write this table to a disk with these ends. Refuses a table without the stated layout there.
-pub fn plan_table(alloc: Global, ends: &Ends, table: GPT) -> Result<Record, Refusal>
+pub fn plan_table(alloc: Global, ends: &Ends, table: GPT) -> Result<Record, PlanError>
     requires sector { 0 < table.sector_size }
     requires room { table.sector_size ≤ ends.now.size }
     requires count { 0 < table.header.number_of_partition_entries }
@@ -35,16 +35,16 @@ pub fn plan_table(alloc: Global, ends: &Ends, table: GPT) -> Result<Record, Refu
     let is_laid_out = table.has_layout(ends.size);
     let plan = record_table(alloc, ends, table)?;
     if !is_laid_out {
-        return Err(Refusal::OtherLayout);
+        return Err(PlanError::OtherLayout);
     }
     if let Some(lack) = lack {
-        return Err(Refusal::Lacks(lack));
+        return Err(PlanError::Lacks(lack));
     }
     Ok(plan)
 }
 
 // Returns the steps that write this table to the disk with zeros between its ends.
-fn record_table(alloc: Global, ends: &Ends, mut table: GPT) -> Result<Record, Refusal>
+fn record_table(alloc: Global, ends: &Ends, mut table: GPT) -> Result<Record, PlanError>
     requires sector { 0 < table.sector_size }
     requires coherent { IsCoherent table.header (entries_in table) }
     ensures size { IfOk result (λ plan. plan.size ≡ ends.now.size) }
@@ -53,17 +53,17 @@ fn record_table(alloc: Global, ends: &Ends, mut table: GPT) -> Result<Record, Re
     ensures written { IfOk result (λ plan. HasLayout table ends.now.size
         → IsWrittenPlan (zeroed ends.now) table.sector_size (table_in table)
         (acts_of plan.bytes.items plan.steps.items)) }
-    ensures turns { IfOk result (λ plan. HasLayout table ends.now.size → IsHeaderForm primary table.header
-        → ComesInTurns (zeroed ends.now) table.sector_size (table_in table)
+    ensures order { IfOk result (λ plan. HasLayout table ends.now.size → IsHeaderForm primary table.header
+        → ComesInOrder (zeroed ends.now) table.sector_size (table_in table)
         (acts_of plan.bytes.items plan.steps.items)) }
 {
     let mut disk = Recorder::new(alloc, ends);
     let written = table.write_into(&mut disk);
     if disk.failures != 0 {
-        return Err(Refusal::Refused(Error::OutOfMemory));
+        return Err(PlanError::Refused(Error::OutOfMemory));
     }
     match written {
         Ok(_header) => Ok(disk.into_plan()),
-        Err(fault) => Err(Refusal::Refused(fault)),
+        Err(fault) => Err(PlanError::Refused(fault)),
     }
 }

@@ -6,5 +6,5 @@ pub mod calls;
 pub mod samples;
 pub mod shape;
 pub mod tables;
-pub mod told;
+pub mod texts;
 pub mod words;

@@ -80,7 +80,7 @@ fn is_neither_read(outcome: Result<GPT>) -> Result<bool> {
     match outcome {
         Ok(_) => Ok(false),
         Err(error) => {
-            if are_told(&error) {
+            if have_wrong_checksums(&error) {
                 Ok(true)
             } else {
                 Err(error)
@@ -90,7 +90,7 @@ fn is_neither_read(outcome: Result<GPT>) -> Result<bool> {
 }
 
 /// Reports whether the error is that both headers have a wrong checksum.
-pub fn are_told(error: &Error) -> bool {
+pub fn have_wrong_checksums(error: &Error) -> bool {
     match error {
         Error::ReadError(primary, backup) => {
             matches!(&**primary, Error::InvalidChecksum(..))

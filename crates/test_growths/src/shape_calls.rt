@@ -1,6 +1,6 @@
 //! Calls of the library on tables of many shapes, each made once with ample memory.
 
-use crate::readings::are_told;
+use crate::readings::have_wrong_checksums;
 use gptman::{Edit, GPT, MemoryDisk, Result};
 use std::alloc::Global;
 use test_fixtures::calls::{
@@ -93,7 +93,7 @@ fn is_backup_read(alloc: Global, shape: &Shape, disk: &MemoryDisk) -> Result<boo
 fn is_neither_read(alloc: Global, shape: &Shape, disk: &MemoryDisk) -> Result<bool> {
     match read_damaged(alloc, shape, disk, &in_headers(shape, disk)) {
         Ok(_) => Ok(false),
-        Err(error) => Ok(are_told(&error)),
+        Err(error) => Ok(have_wrong_checksums(&error)),
     }
 }
 

@@ -13,14 +13,14 @@ use Rattle.gptman.specs.declared.codec.entry.GPTPartitionEntry.{GPTPartitionEntr
 use Rattle.gptman.specs.declared.codec.header.GPTHeader.{GPTHeader}
 use Rattle.gptman.specs.declared.codec.name.PartitionName.{PartitionName}
 use Rattle.gptman.specs.declared.table.GPT.{GPT}
-use Rattle.gptedit_core.specs.Laying.{align_asked, IsLaid}
+use Rattle.gptedit_core.specs.Applying.{align_asked, IsApplied}
 use Rattle.gptedit_core.specs.Named.{AreThere, IsLengthened, IsThere, IsUnnamed, LayoutsChangeNamed, LayoutsOnlyLengthen, StaysAs}
 use Rattle.gptedit_core.specs.Placing.{AreFreeBehind, IsSpan}
 use Rattle.gptedit_core.specs.Resolving.{and_then, entry_asked, nothing_of, number_asked, partition_at, place_asked, resolved, resolved_all, unless, use_fault, used_at}
 use Rattle.gptedit_core.specs.declared.amount.Amount.{Amount}
 use Rattle.gptedit_core.specs.declared.amount.Amount.TheVariants.{Sectors}
 use Rattle.gptedit_core.specs.declared.asked.Asked.{Asked}
-use Rattle.gptedit_core.specs.declared.asked.Layout.{Layout}
+use Rattle.gptedit_core.specs.declared.asked.RequestedLayout.{RequestedLayout}
 use Rattle.gptedit_core.specs.declared.asked.Mode.{Mode}
 use Rattle.gptedit_core.specs.declared.asked.Mode.TheVariants.{Change}
 use Rattle.gptedit_core.specs.declared.asked.Size.TheVariants.{Rest}
@@ -28,10 +28,10 @@ use Rattle.gptedit_core.specs.declared.place.Place.{Place}
 use Rattle.gptedit_core.specs.declared.place.Place.TheVariants.{At}
 use Rattle.gptedit_core.specs.declared.refusal.Refusal.{Refusal}
 use Rattle.gptedit_core.specs.declared.refusal.Refusal.TheVariants.{NoAlignment, NoType}
-use Rattle.gptedit_core.specs.declared.resolve.Partition.{Partition}
+use Rattle.gptedit_core.specs.declared.resolve.ResolvedPartition.{ResolvedPartition}
 use Rattle.gptedit_core.proofs.Again.{given, of_by, unnamed_more}
 use Rattle.gptedit_core.proofs.Dumped.{at_number}
-use Rattle.gptedit_core.proofs.Laid.{cleared_keep, removed_keep}
+use Rattle.gptedit_core.proofs.Applied.{cleared_keep, removed_keep}
 use Rattle.gptedit_core.proofs.Same.{cleared_same, removed_same}
 use Rattle.gptedit_core.proofs.Steps.{and_then_ok, else_ok}
 use Rattle.gptman.proofs.Ranges.{contains_first}
@@ -53,19 +53,19 @@ found_by None e is = absurd (cc)
 found_by (Some x) e is = ap Some (if_found (is_used x) x e is)
 
 -- The partition is the used entry of number i with the request applied.
-record IsAsked (g : GPT) (a : Asked) (random : List ℕ) (i : ℕ) (p : Partition) : Type 0 where
+record IsAsked (g : GPT) (a : Asked) (random : List ℕ) (i : ℕ) (p : ResolvedPartition) : Type 0 where
   number : p.number ≡ i
   entry : p.entry ≡ entry_asked a (Some (entry_at g i)) random
   place : place_asked Change a i (Some (entry_at g i)) g.sector_size ≡ Ok p.place
 
-is_asked : (g : GPT) (a : Asked) (random : List ℕ) (i : ℕ) (p : Partition) → a.number ≡ Some i → resolved g Change a random ≡ Ok p → IsAsked g a random i p
+is_asked : (g : GPT) (a : Asked) (random : List ℕ) (i : ℕ) (p : ResolvedPartition) → a.number ≡ Some i → resolved g Change a random ≡ Ok p → IsAsked g a random i p
 is_asked g a random i p number_is is =
     let number = and_then_ok (number_asked g a) (partition_at g Change a random) p is in
     let here = given g a i number.0 number_is number.1 in
     let part : partition_at g Change a random i ≡ Ok p = subst (λ (n : ℕ). partition_at g Change a random n ≡ Ok p) (sym here.0) number.2 in
     let used = used_at g i in
     let e : GPTPartitionEntry = entry_asked a used random in
-    let last : Place → Result Partition Refusal = λ place. if is_unused e then Err (NoType i) else Ok (record { number = i; entry = e; place = place }) in
+    let last : Place → Result ResolvedPartition Refusal = λ place. if is_unused e then Err (NoType i) else Ok (record { number = i; entry = e; place = place }) in
     let use_of = and_then_ok (unless (use_fault Change i used) i) (λ (j : ℕ). and_then (place_asked Change a i used g.sector_size) last) p part in
     let place = and_then_ok (place_asked Change a i used g.sector_size) last p use_of.2 in
     let end = else_ok (is_unused e) (NoType i) (record { number = i; entry = e; place = place.0 }) p place.2 in
@@ -74,25 +74,25 @@ is_asked g a random i p number_is is =
     let at = of_by g i found.0 _ refl there in
     let used_is : used ≡ Some (entry_at g i) = found.1 ∙ ap Some (sym at.1) in
     record {
-      number = sym (ap (λ (q : Partition). q.number) end.1);
-      entry = sym (ap (λ (q : Partition). q.entry) end.1) ∙ ap (λ (u : Option GPTPartitionEntry). entry_asked a u random) used_is;
-      place = subst (λ (x : Place). place_asked Change a i (Some (entry_at g i)) g.sector_size ≡ Ok x) (ap (λ (q : Partition). q.place) end.1)
+      number = sym (ap (λ (q : ResolvedPartition). q.number) end.1);
+      entry = sym (ap (λ (q : ResolvedPartition). q.entry) end.1) ∙ ap (λ (u : Option GPTPartitionEntry). entry_asked a u random) used_is;
+      place = subst (λ (x : Place). place_asked Change a i (Some (entry_at g i)) g.sector_size ≡ Ok x) (ap (λ (q : ResolvedPartition). q.place) end.1)
           (subst (λ (u : Option GPTPartitionEntry). place_asked Change a i u g.sector_size ≡ Ok place.0) used_is place.1);
     }
 
 -- It is the only one.
-record IsOnly (g : GPT) (a : Asked) (i : ℕ) (ps : List Partition) : Type 0 where
+record IsOnly (g : GPT) (a : Asked) (i : ℕ) (ps : List ResolvedPartition) : Type 0 where
   random : List ℕ
-  p : Partition
+  p : ResolvedPartition
   asked : IsAsked g a random i p
   only : ps ≡ p ∷ []
 
-is_only : (g : GPT) (a : Asked) (i : ℕ) (randoms : List (List ℕ)) (ps : List Partition) → a.number ≡ Some i → 1 ≤ length randoms → resolved_all g Change (a ∷ []) randoms ≡ Ok ps → IsOnly g a i ps
+is_only : (g : GPT) (a : Asked) (i : ℕ) (randoms : List (List ℕ)) (ps : List ResolvedPartition) → a.number ≡ Some i → 1 ≤ length randoms → resolved_all g Change (a ∷ []) randoms ≡ Ok ps → IsOnly g a i ps
 is_only g a i [] ps number enough all = absurd (omega (arith, enough))
 is_only g a i (random ∷ randoms) ps number enough all =
-    let rest : Partition → Result (List Partition) Refusal = λ q. Ok (q ∷ []) in
+    let rest : ResolvedPartition → Result (List ResolvedPartition) Refusal = λ q. Ok (q ∷ []) in
     let p = and_then_ok (resolved g Change a random) rest ps all in
-    let last : ◌≡◌ {A = Result (List Partition) Refusal} (Ok (p.0 ∷ [])) (Ok ps) = p.2 in
+    let last : ◌≡◌ {A = Result (List ResolvedPartition) Refusal} (Ok (p.0 ∷ [])) (Ok ps) = p.2 in
     let whole : ps ≡ p.0 ∷ [] = cc in
     record { random = random; p = p.0; asked = is_asked g a random i p.0 number p.1; only = whole }
 
@@ -108,8 +108,8 @@ not_covered x e behind = λ covered.
     let below : x ≤ e.ending_lba = leb-true x e.ending_lba (both_true (is_used e && nat_le e.starting_lba x) (nat_le x e.ending_lba) covered) in
     omega (arith, behind, below)
 
-module _ (a : Asked) (align i : ℕ) (layout : Layout) (randoms : List (List ℕ)) (g next : GPT) (change : IsChangeOf a align layout) (number : a.number ≡ Some i)
-    (enough : 1 ≤ length randoms) (is : IsLaid layout randoms g next) where
+module _ (a : Asked) (align i : ℕ) (layout : RequestedLayout) (randoms : List (List ℕ)) (g next : GPT) (change : IsChangeOf a align layout) (number : a.number ≡ Some i)
+    (enough : 1 ≤ length randoms) (is : IsApplied layout randoms g next) where
   one : IsOnly g a i is.partitions
   one =
       is_only g a i randoms is.partitions number enough
@@ -118,7 +118,7 @@ module _ (a : Asked) (align i : ℕ) (layout : Layout) (randoms : List (List ℕ
 
   unnamed : (j : ℕ) → j ≢ i → IsUnnamed j is.partitions
   unnamed j other =
-      subst (λ (ps : List Partition). IsUnnamed j ps) (sym one.only)
+      subst (λ (ps : List ResolvedPartition). IsUnnamed j ps) (sym one.only)
       (unnamed_more j one.p [] (λ same. other (sym same ∙ one.asked.number)) (λ k d below. absurd (omega (arith, below))))
 
   kept : (j : ℕ) → All (λ (k : ℕ). k ≢ j) layout.removed.items
@@ -130,7 +130,7 @@ module _ (a : Asked) (align i : ℕ) (layout : Layout) (randoms : List (List ℕ
 
   -- It is at the requested place.
   there : LayoutsChangeNamed → IsThere one.p is.free next
-  there law = (subst (λ (ps : List Partition). AreThere ps is.free next) one.only (law layout randoms g next is).named).0
+  there law = (subst (λ (ps : List ResolvedPartition). AreThere ps is.free next) one.only (law layout randoms g next is).named).0
 
   -- ---- the free sectors
 
@@ -202,8 +202,8 @@ module _ (a : Asked) (align i : ℕ) (layout : Layout) (randoms : List (List ℕ
 abbrev pub renaming : ℕ → PartitionName → Asked
 renaming i name = record (nothing_of (Some i)) { name = Some name }
 
-pub renamed : (align i : ℕ) (name : PartitionName) (layout : Layout) (randoms : List (List ℕ)) (g next : GPT) → IsChangeOf (renaming i name) align layout → 1 ≤ length randoms
-    → IsLaid layout randoms g next → LayoutsChangeNamed → entry_at next i ≡ with_name name (entry_at g i)
+pub renamed : (align i : ℕ) (name : PartitionName) (layout : RequestedLayout) (randoms : List (List ℕ)) (g next : GPT) → IsChangeOf (renaming i name) align layout → 1 ≤ length randoms
+    → IsApplied layout randoms g next → LayoutsChangeNamed → entry_at next i ≡ with_name name (entry_at g i)
 renamed align i name layout randoms g next change enough is law =
     let a : Asked = renaming i name in
     let only = one a align i layout randoms g next change refl enough is in

@@ -7,7 +7,7 @@ use Rattle.gptman.specs.Crash.{EditListsKeepPlaces, HasPlacesOf, IsReadInForm, K
 use Rattle.gptman.specs.Disk.{AgreesOutside, DiskState, IsSound, LeavesOnly}
 use Rattle.gptman.specs.Edit.{edited_all}
 use Rattle.gptman.specs.Layout.{HasLayout, Holds}
-use Rattle.gptman.specs.Reading.{Side}
+use Rattle.gptman.specs.Reading.{CopyPlace}
 use Rattle.gptman.specs.Fault.{fault_of}
 use Rattle.gptman.specs.TableWrites.{RefusesWrite}
 use Rattle.gptman.specs.Error.{Error}
@@ -20,7 +20,7 @@ use Rattle.gptman.proofs.Held.{holds_local}
 use Rattle.gptman.proofs.Ranges.{Ranges, contains_first}
 
 -- If nothing was written or pending, a crash leaves the table that a place held.
-pub still_held : (a : DiskState) (ss : ℕ) (side : Side) (was : Table) (more : List Table) → IsSound a → a.pending ≡ [] → Holds a.view ss side was → LeavesOnly a a (λ b. HoldsOneOf b ss (was ∷ more))
+pub still_held : (a : DiskState) (ss : ℕ) (side : CopyPlace) (was : Table) (more : List Table) → IsSound a → a.pending ≡ [] → Holds a.view ss side was → LeavesOnly a a (λ b. HoldsOneOf b ss (was ∷ more))
 still_held a ss side was more sound synced held b left =
     let same : AgreesOutside [] a.view b = subst (λ (ps : Ranges). AgreesOutside ps a.view b) synced (sound.only_now b left) in
     record {

@@ -16,7 +16,7 @@ use Rattle.gptedit_core.specs.declared.growth.Bounds.{Bounds}
 use Rattle.gptedit_core.specs.declared.growth.Bounds.TheVariants.{Kept, Usual}
 use Rattle.gptedit_core.specs.declared.growth.Growth.{Growth}
 use Rattle.gptedit_core.specs.declared.plan.Outcome.{Outcome}
-use Rattle.test_laws.specs.Told.{HasAllUsable, IsOnDisk, TellsFit, TellsWide}
+use Rattle.test_laws.specs.Outcomes.{HasAllUsable, IsFitOutcome, IsOnDisk, IsWideOutcome}
 
 -- ---- tables that do not differ
 
@@ -36,26 +36,26 @@ abbrev pub keeping : Growth
 keeping = record { bounds = Kept; is_dry = false }
 
 module _ (reach : GrowthsReachEnd) (leave : GrowthsLeaveEnds) (keep : GrowthsKeepFirst) (len : ℕ) where
-  fit_written : (g next : GPT) (told : Outcome) → IsWrittenGrown keeping len g next told → TellsFit len told
+  fit_written : (g next : GPT) (told : Outcome) → IsWrittenGrown keeping len g next told → IsFitOutcome len told
   fit_written g next told is =
-      subst (TellsFit len) (sym is.told) (record {
+      subst (IsFitOutcome len) (sym is.outcome) (record {
         reaches = reach len g next is.planned (λ ends. is.needed (sym (leave len g next is.planned ends)));
         first = keep len g next is.planned;
       })
 
-  fit_left : (g : GPT) (told : Outcome) → IsLeftGrown keeping len g told → TellsFit len told
-  fit_left g told (is_refused r why is) = subst (TellsFit len) (sym is) why
+  fit_left : (g : GPT) (told : Outcome) → IsLeftGrown keeping len g told → IsFitOutcome len told
+  fit_left g told (is_refused r why is) = subst (IsFitOutcome len) (sym is) why
   fit_left g told (is_unchanged next made same is) =
-      subst (TellsFit len) (sym is) (subst (EndsAt len) (sym (same_table g next same)) (ends_there Kept len g next made))
+      subst (IsFitOutcome len) (sym is) (subst (EndsAt len) (sym (same_table g next same)) (ends_there Kept len g next made))
   fit_left g told (is_dry next made needed dry is) = absurd (cc)
 
-  fit_told : (size : Option ℕ) (a d : DiskState) (told : Outcome) → AnswersChange (IsWrittenGrown keeping len) (IsLeftGrown keeping len) size told a d → TellsFit len told
-  fit_told size a d told (is_written is) = fit_written is.table is.next told is.made
-  fit_told size a d told (is_left is) = fit_left is.table told is.answered
+  fit_outcome : (size : Option ℕ) (a d : DiskState) (told : Outcome) → AnswersChange (IsWrittenGrown keeping len) (IsLeftGrown keeping len) size told a d → IsFitOutcome len told
+  fit_outcome size a d told (is_written is) = fit_written is.table is.next told is.made
+  fit_outcome size a d told (is_left is) = fit_left is.table told is.answered
 
   pub all_fit : {E : Type 0} (size : Option ℕ) (a d : DiskState) (r : Result Outcome E)
-      → IfOk r (λ told. AnswersChange (IsWrittenGrown keeping len) (IsLeftGrown keeping len) size told a d) → IfOk r (TellsFit len)
-  all_fit size a d r answers = IfOk-weaker r (λ told. AnswersChange (IsWrittenGrown keeping len) (IsLeftGrown keeping len) size told a d) (TellsFit len) (fit_told size a d) answers
+      → IfOk r (λ told. AnswersChange (IsWrittenGrown keeping len) (IsLeftGrown keeping len) size told a d) → IfOk r (IsFitOutcome len)
+  all_fit size a d r answers = IfOk-weaker r (λ told. AnswersChange (IsWrittenGrown keeping len) (IsLeftGrown keeping len) size told a d) (IsFitOutcome len) (fit_outcome size a d) answers
 
 -- ---- with the usual bounds
 
@@ -66,19 +66,19 @@ module _ (law : UsualBoundsReachEnd) (len : ℕ) where
   usable : (g next : GPT) → IsGrown Usual len g next → HasAllUsable len g next
   usable g next is = let both = law len g next is in record { reaches = both.0; first = both.1 }
 
-  wide_left : (g : GPT) (told : Outcome) → IsLeftGrown widening len g told → TellsWide len told
-  wide_left g told (is_refused r why is) = subst (TellsWide len) (sym is) why
+  wide_left : (g : GPT) (told : Outcome) → IsLeftGrown widening len g told → IsWideOutcome len told
+  wide_left g told (is_refused r why is) = subst (IsWideOutcome len) (sym is) why
   wide_left g told (is_unchanged next made same is) =
-      subst (TellsWide len) (sym is) (subst (λ (m : GPT). HasAllUsable len g m) (sym (same_table g next same)) (usable g next made))
+      subst (IsWideOutcome len) (sym is) (subst (λ (m : GPT). HasAllUsable len g m) (sym (same_table g next same)) (usable g next made))
   wide_left g told (is_dry next made needed dry is) = absurd (cc)
 
-  wide_told : (size : Option ℕ) (a d : DiskState) (told : Outcome) → AnswersChange (IsWrittenGrown widening len) (IsLeftGrown widening len) size told a d → TellsWide len told
-  wide_told size a d told (is_written is) = subst (TellsWide len) (sym is.made.told) (usable is.table is.next is.made.planned)
-  wide_told size a d told (is_left is) = wide_left is.table told is.answered
+  wide_outcome : (size : Option ℕ) (a d : DiskState) (told : Outcome) → AnswersChange (IsWrittenGrown widening len) (IsLeftGrown widening len) size told a d → IsWideOutcome len told
+  wide_outcome size a d told (is_written is) = subst (IsWideOutcome len) (sym is.made.outcome) (usable is.table is.next is.made.planned)
+  wide_outcome size a d told (is_left is) = wide_left is.table told is.answered
 
   pub all_wide : {E : Type 0} (size : Option ℕ) (a d : DiskState) (r : Result Outcome E)
-      → IfOk r (λ told. AnswersChange (IsWrittenGrown widening len) (IsLeftGrown widening len) size told a d) → IfOk r (TellsWide len)
-  all_wide size a d r answers = IfOk-weaker r (λ told. AnswersChange (IsWrittenGrown widening len) (IsLeftGrown widening len) size told a d) (TellsWide len) (wide_told size a d) answers
+      → IfOk r (λ told. AnswersChange (IsWrittenGrown widening len) (IsLeftGrown widening len) size told a d) → IfOk r (IsWideOutcome len)
+  all_wide size a d r answers = IfOk-weaker r (λ told. AnswersChange (IsWrittenGrown widening len) (IsLeftGrown widening len) size told a d) (IsWideOutcome len) (wide_outcome size a d) answers
 
 -- ---- the disk afterwards
 
@@ -92,7 +92,7 @@ module _ (bounds : Bounds) (size : Option ℕ) (a d : DiskState) where
   left_there g told (is_dry next made needed dry is) = absurd (cc)
 
   on_disk : (told : Outcome) → AnswersChange (IsWrittenGrown growing a.size) (IsLeftGrown growing a.size) size told a d → IsOnDisk d told
-  on_disk told (is_written is) = subst (IsOnDisk d) (sym is.made.told) (is.stored is.made.planned.layout)
+  on_disk told (is_written is) = subst (IsOnDisk d) (sym is.made.outcome) (is.stored is.made.planned.layout)
   on_disk told (is_left is) = left_there is.table told is.answered
 
   pub all_on_disk : {E : Type 0} (r : Result Outcome E)

@@ -13,7 +13,7 @@ use Rattle.gptedit_core.specs.declared.asked.Asked.{Asked}
 use Rattle.gptedit_core.specs.declared.growth.Bounds.{Bounds}
 use Rattle.gptedit_core.specs.declared.growth.Growth.{Growth}
 use Rattle.gptedit_core.specs.declared.plan.Job.{Job}
-use Rattle.gptedit_core.specs.declared.plan.Job.TheVariants.{Lay, Sort, Rewrite}
+use Rattle.gptedit_core.specs.declared.plan.Job.TheVariants.{Apply, Sort, Rewrite}
 use Rattle.gptedit_core.specs.declared.plan.Outcome.{Outcome}
 use Rattle.gptedit_core.specs.declared.plan.Outcome.TheVariants.{Unchanged}
 use Rattle.gptedit_core.specs.declared.plan.Request.{Request}
@@ -23,7 +23,7 @@ use Rattle.test_laws.specs.Changed.{AsksAgain}
 -- ---- a request
 
 done_align : (job : Job) (randoms : List (List ℕ)) (g next : GPT) → IsDone job randoms g next → next.align ≡ g.align
-done_align (Lay layout) randoms g next is = ap (λ (m : GPT). m.align) is.next_is
+done_align (Apply layout) randoms g next is = ap (λ (m : GPT). m.align) is.next_is
 done_align Sort randoms g next is = ap (λ (m : GPT). m.align) is
 done_align Rewrite randoms g next is = ap (λ (m : GPT). m.align) is
 
@@ -61,14 +61,14 @@ module _ (stay : LayoutsStay) (taken : LayoutsAreTakenAgain) (first again : Requ
   left_again told (is_dry after made needed dry is) = absurd (not_needed after made needed)
 
   -- and the outcome says so, for a clone too.
-  pub told_written : (m : ℕ) (clone after : GPT) (told : Outcome) → m ≡ len → clone ≡ next → IsWritten again m clone after told → told ≡ Unchanged next
-  told_written m clone after told size same is =
+  pub written_again : (m : ℕ) (clone after : GPT) (told : Outcome) → m ≡ len → clone ≡ next → IsWritten again m clone after told → told ≡ Unchanged next
+  written_again m clone after told size same is =
       let here : IsWritten again len next after told =
       subst (λ (n : ℕ). IsWritten again n next after told) size (subst (λ (t : GPT). IsWritten again m t after told) same is) in
       absurd (not_needed after here.planned here.needed)
 
-  pub told_left : (m : ℕ) (clone : GPT) (told : Outcome) → m ≡ len → clone ≡ next → IsLeft again m clone told → told ≡ Unchanged next
-  told_left m clone told size same is =
+  pub left_unchanged : (m : ℕ) (clone : GPT) (told : Outcome) → m ≡ len → clone ≡ next → IsLeft again m clone told → told ≡ Unchanged next
+  left_unchanged m clone told size same is =
       left_again told (subst (λ (n : ℕ). IsLeft again n next told) size (subst (λ (t : GPT). IsLeft again m t told) same is))
 
 -- ---- a growth

@@ -1,3 +1,3 @@
 pub mod Changed
 pub mod Edited
-pub mod Told
+pub mod Outcomes

@@ -44,7 +44,7 @@ pub fn write_edited<D: Disk>(table: &mut GPT, disk: &mut D, edits: &[Edit]) -> R
 mod tests {
     use super::*;
     use std::test::Fail;
-    use test_fixtures::{samples, tables, told};
+    use test_fixtures::{samples, tables, texts};
 
     #[test]
     fn a_list_of_edits_is_written(rt: HostRuntime) -> std::result::Result<(), Fail> {
@@ -58,7 +58,7 @@ mod tests {
         edits.push(Edit::SortEntries)?;
         write_edited(&mut table, &mut disk, &edits)?;
         let read = tables::read(alloc, &mut disk, 512)?;
-        assert!(rt; told::used(alloc, &read)?.as_str() == ", 1 Bar 48..52");
+        assert!(rt; texts::used(alloc, &read)?.as_str() == ", 1 Bar 48..52");
         Ok(())
     }
 }

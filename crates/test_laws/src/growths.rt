@@ -7,7 +7,7 @@ ghost use Rattle.gptman.specs.Table.{entries_in};
 ghost use Rattle.gptedit_core.specs.Growing.{IsGrown, IsLeftGrown};
 ghost use Rattle.gptedit_core.specs.declared.plan.Outcome.{Outcome};
 ghost use Rattle.gptedit_core.specs.declared.plan.Outcome.TheVariants.{Unchanged};
-ghost use Rattle.test_laws.specs.Told.{IsOnDisk, TellsFit, TellsWide};
+ghost use Rattle.test_laws.specs.Outcomes.{IsFitOutcome, IsOnDisk, IsWideOutcome};
 
 use gptedit_core::growth_laws::{
     growths_again_change_nothing, growths_follow_the_end, usual_bounds_reach_the_end,
@@ -24,7 +24,7 @@ pub fn fit<D: Disk>(alloc: Global, disk: &mut D, sector_size: Option<u64>) -> Re
     requires { IfSome sector_size (λ size. 0 < size) }
 
     // Unless the request is refused, the table ends at the end of the disk, and a changed table is stored.
-    ensures fitted { IsHonest (D.state disk.old) → IfOk result (TellsFit (D.state disk.old).size) }
+    ensures fitted { IsHonest (D.state disk.old) → IfOk result (IsFitOutcome (D.state disk.old).size) }
     ensures stored { IsHonest (D.state disk.old) → IfOk result (IsOnDisk (D.state disk.new)) }
 {
     growths_follow_the_end();
@@ -40,7 +40,7 @@ pub fn fit<D: Disk>(alloc: Global, disk: &mut D, sector_size: Option<u64>) -> Re
 /// The errors are those of `grow`.
 pub fn widen<D: Disk>(alloc: Global, disk: &mut D, sector_size: Option<u64>) -> Result<Outcome>
     requires { IfSome sector_size (λ size. 0 < size) }
-    ensures wide { IsHonest (D.state disk.old) → IfOk result (TellsWide (D.state disk.old).size) }
+    ensures wide { IsHonest (D.state disk.old) → IfOk result (IsWideOutcome (D.state disk.old).size) }
     ensures stored { IsHonest (D.state disk.old) → IfOk result (IsOnDisk (D.state disk.new)) }
 {
     usual_bounds_reach_the_end();
@@ -91,7 +91,7 @@ mod tests {
     use super::*;
     use gptman::MemoryDisk;
     use std::test::Fail;
-    use test_fixtures::{calls, samples, tables, told};
+    use test_fixtures::{calls, samples, tables, texts};
 
     // Returns a disk of 200 sectors that holds a table for 100.
     fn longer_disk(alloc: Global) -> Result<MemoryDisk> {
@@ -108,7 +108,7 @@ mod tests {
         let outcome = widen(rt.alloc(), &mut disk, Some(512))?;
         assert!(rt; matches!(outcome, Outcome::Unchanged { .. }));
         let table = tables::read(rt.alloc(), &mut disk, 512)?;
-        let shown = told::shown(rt.alloc(), &table)?;
+        let shown = texts::shown(rt.alloc(), &table)?;
         assert!(rt; shown.as_str() == "512 1/199/2 34..166 align 2048");
         Ok(())
     }

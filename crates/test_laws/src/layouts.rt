@@ -15,12 +15,12 @@ ghost use Rattle.gptedit_core.specs.declared.plan.Outcome.{Outcome};
 ghost use Rattle.gptedit_core.specs.declared.plan.Outcome.TheVariants.{Unchanged};
 ghost use Rattle.test_laws.specs.Changed.{with_name, AsksAgain, IsChangeOf, IsForMemory, OthersStay};
 
+use gptedit_core::applying::apply_layout;
 use gptedit_core::laws::{
     layouts_again_are_taken, layouts_again_change_nothing, layouts_change_what_they_name,
     layouts_of_tables_are_taken, layouts_of_tables_give_them, layouts_only_lengthen,
 };
-use gptedit_core::laying::lay;
-use gptedit_core::{Amount, Asked, Layout, Mode, Outcome, Request, Size, Stop, layout_of};
+use gptedit_core::{Amount, Asked, Mode, Outcome, Request, RequestedLayout, Size, Stop, layout_of};
 use gptman::{Disk, GPT, PartitionName, Result};
 use gptman_change::{Plan, Planned};
 use std::alloc::Global;
@@ -45,7 +45,7 @@ pub fn rename(
         ..Asked::nothing(Some(number))
     };
     let layout = change_of(alloc, 1, asked)?;
-    lay(alloc, table, &layout, &[[0; 16]])
+    apply_layout(alloc, table, &layout, &[[0; 16]])
 }
 
 /// Extends the partition of this number over the free sectors after it, up to the last multiple of `align` sectors. All
@@ -73,14 +73,14 @@ pub fn lengthen(
         ..Asked::nothing(Some(number))
     };
     let layout = change_of(alloc, align, asked)?;
-    lay(alloc, table, &layout, &[[0; 16]])
+    apply_layout(alloc, table, &layout, &[[0; 16]])
 }
 
 // Returns the layout that changes one used entry, with places at multiples of `align` sectors.
-fn change_of(alloc: Global, align: u64, asked: Asked) -> Result<Layout>
+fn change_of(alloc: Global, align: u64, asked: Asked) -> Result<RequestedLayout>
     ensures { IfOk result (IsChangeOf asked align) }
 {
-    Ok(Layout {
+    Ok(RequestedLayout {
         mode: Mode::Change,
         disk_guid: None,
         align: Amount::Sectors(align),
@@ -104,7 +104,7 @@ pub fn put_back(alloc: Global, table: &mut GPT) -> std::result::Result<(), Stop>
     layouts_of_tables_are_taken();
     let layout = layout_of(alloc, table)?;
     let random = zeros(alloc, layout.asked.len())?;
-    lay(alloc, table, &layout, &random)
+    apply_layout(alloc, table, &layout, &random)
 }
 
 // Returns `count` zero GUIDs in the place of random ones, which are not used.
@@ -161,7 +161,7 @@ mod tests {
     use gptedit_core::Job;
     use std::process::Abort;
     use std::test::Fail;
-    use test_fixtures::{samples, told};
+    use test_fixtures::{samples, texts};
 
     // Asserts that the table has these used entries.
     fn assert_used<R: Abort + AllocGlobal>(
@@ -169,7 +169,7 @@ mod tests {
         table: &GPT,
         said: &str,
     ) -> std::result::Result<(), Fail> {
-        assert!(rt; told::used(rt.alloc(), table)?.as_str() == said);
+        assert!(rt; texts::used(rt.alloc(), table)?.as_str() == said);
         Ok(())
     }
 
@@ -199,7 +199,7 @@ mod tests {
         let layout = layout_of(alloc, &samples::disk_1(alloc)?)?;
         let random = zeros(alloc, layout.asked.len())?;
         Ok(Request {
-            job: Job::Lay(layout),
+            job: Job::Apply(layout),
             random,
             is_dry: false,
         })

@@ -147,7 +147,7 @@ fn called<D: Disk>(alloc: Global, disk: &mut D, row: Row) -> Answered {
         "goto" => place_of(disk.seek_start(row.number("at")?)),
         "end" => place_of(disk.seek_end()),
         "take" => take(alloc, disk, row.length("length")?),
-        "lay" => lay(disk, row.number("at")?, &row.bytes(alloc, "bytes")?),
+        "lay" => write_at(disk, row.number("at")?, &row.bytes(alloc, "bytes")?),
         _ => done(disk.sync()),
     }
 }
@@ -173,7 +173,7 @@ fn take<D: Disk>(alloc: Global, disk: &mut D, length: usize) -> Answered {
 }
 
 /// Writes these bytes from byte `at` on.
-pub(crate) fn lay<D: Disk>(disk: &mut D, at: u64, bytes: &[u8]) -> Answered {
+pub(crate) fn write_at<D: Disk>(disk: &mut D, at: u64, bytes: &[u8]) -> Answered {
     let size = disk.seek_end().map_err(Error::Io)?;
     disk.seek_start(at).map_err(Error::Io)?;
     if at > size || size - at < bytes.len() as u64 {

@@ -62,10 +62,10 @@ fn commit(bench: &mut Bench, row: Row) -> Answered {
     if table.sector_size == 0 || !table.is_coherent() {
         return Err(Fault::Requires);
     }
-    told(alloc, &table.commit_all(disk, edits))
+    progress_text(alloc, &table.commit_all(disk, edits))
 }
 
-fn told(alloc: Global, progress: &Progress) -> Answered {
+fn progress_text(alloc: Global, progress: &Progress) -> Answered {
     let done = progress.done;
     let text = match &progress.fault {
         Some(error) => {

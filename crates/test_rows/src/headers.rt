@@ -5,7 +5,7 @@ ghost use Rattle.gptman.specs.Copy.{IsCoherent};
 
 use crate::answer::{Answer, Answered, Fault, hex_of};
 use crate::bench::{Bench, held};
-use crate::disks::lay;
+use crate::disks::write_at;
 use crate::row::Row;
 use gptman::{Disk, GPT, GPTHeader, GPTPartitionEntry};
 use std::alloc::Global;
@@ -158,7 +158,7 @@ pub(crate) fn on_disk(bench: &mut Bench, row: Row) -> Answered {
     let table = held(&mut bench.tables, row.slot()?)?;
     match row.call() {
         "read_header" => read_header(disk, table, row.number("at")?),
-        "put_header" => lay(disk, row.number("at")?, &table.header.encode()),
+        "put_header" => write_at(disk, row.number("at")?, &table.header.encode()),
         "new_header" => new_header(disk, table, row),
         _ if table.sector_size == 0 => Err(Fault::Requires),
         "fit" => {

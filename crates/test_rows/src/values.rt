@@ -13,9 +13,9 @@ pub(crate) fn answer(alloc: Global, row: Row) -> Answered {
         "crc" => Ok(Answer::Checksum(crc32(&row.bytes(alloc, "bytes")?))),
         "name" => {
             let text = row.text(alloc)?;
-            told(alloc, &PartitionName::new(alloc, text.as_str())?)
+            name_text(alloc, &PartitionName::new(alloc, text.as_str())?)
         }
-        "units" => told(
+        "units" => name_text(
             alloc,
             &PartitionName::from_units(alloc, units_of(alloc, row)?)?,
         ),
@@ -25,7 +25,7 @@ pub(crate) fn answer(alloc: Global, row: Row) -> Answered {
 
 // Returns the text of the name, its units without trailing zeros, and whether it is plain: its display has no padding,
 // and it is equal to its clone.
-fn told(alloc: Global, name: &PartitionName) -> Answered {
+fn name_text(alloc: Global, name: &PartitionName) -> Answered {
     let mut units = String::new(alloc);
     let used = name.units().iter().rposition(|unit| *unit != 0);
     for unit in &name.units()[..used.map_or(0, |last| last + 1)] {

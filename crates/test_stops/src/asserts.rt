@@ -4,7 +4,7 @@ use gptman::disk::faulty::{self, FaultyDisk};
 use gptman::{GPT, MemoryDisk, Result};
 use std::fmt::Debug;
 use std::process::Abort;
-use test_fixtures::{calls, samples, told};
+use test_fixtures::{calls, samples, texts};
 
 /// The traits that test helpers need: to fail a test, and memory.
 pub(crate) trait Host: Abort + AllocGlobal {}
@@ -18,19 +18,19 @@ pub(crate) fn got<T, E: Debug>(rt: &impl Abort, outcome: std::result::Result<T, 
 
 /// Asserts that the result of a call is "ok", or an error with this text.
 pub(crate) fn assert_said<T>(rt: &impl Host, outcome: &Result<T>, said: &str) {
-    let text = got(rt, told::said(rt.alloc(), outcome));
+    let text = got(rt, texts::said(rt.alloc(), outcome));
     assert!(rt; text.as_str() == said, "{text}");
 }
 
 /// Asserts that the result of a call is a table of this text, or an error with this text.
-pub(crate) fn assert_told(rt: &impl Host, outcome: &Result<GPT>, said: &str) {
-    let text = got(rt, told::told(rt.alloc(), outcome));
+pub(crate) fn assert_result(rt: &impl Host, outcome: &Result<GPT>, said: &str) {
+    let text = got(rt, texts::text_of_result(rt.alloc(), outcome));
     assert!(rt; text.as_str() == said, "{text}");
 }
 
 /// Asserts the result of a read of these bytes with sectors of 512 bytes.
 pub(crate) fn assert_reads(rt: &impl Host, bytes: &[u8], said: &str) {
-    assert_told(rt, &samples::read_image(rt.alloc(), bytes, 512), said);
+    assert_result(rt, &samples::read_image(rt.alloc(), bytes, 512), said);
 }
 
 /// Returns the table in these bytes, with sectors of 512 bytes.

@@ -3,7 +3,7 @@
 //! A read of a copy makes these calls: seek to the header, read it, take the length, seek to the entries, read them in
 //! four blocks. If the primary copy is not accepted, the length is taken before the seek to the backup copy.
 
-use crate::asserts::{Host, assert_said, assert_told, failing_once, fused, got};
+use crate::asserts::{Host, assert_result, assert_said, failing_once, fused, got};
 use gptman::disk::faulty::FaultyDisk;
 use gptman::{Disk, GPTHeader, MemoryDisk};
 use std::process::Abort;
@@ -31,9 +31,9 @@ fn new_image(rt: &impl Host) -> Vec<u8> {
 // Asserts the result of a read with sectors of 512 bytes, or of one that detects the sector size.
 fn assert_read<D: Disk>(rt: &impl Host, disk: &mut D, is_found: bool, said: &str) {
     if is_found {
-        assert_told(rt, &find(rt.alloc(), disk), said);
+        assert_result(rt, &find(rt.alloc(), disk), said);
     } else {
-        assert_told(rt, &read(rt.alloc(), disk, 512), said);
+        assert_result(rt, &read(rt.alloc(), disk, 512), said);
     }
 }
 

@@ -1,7 +1,7 @@
 //! Writes with a crash or failure at any call. The old table or the new one must be read, also from each readable copy
 //! by itself.
 
-use crate::asserts::{Host, assert_reads, assert_told, copied, failing_once, fused, got, read};
+use crate::asserts::{Host, assert_reads, assert_result, copied, failing_once, fused, got, read};
 use crate::case::{Case, HEADERS, assert_reads_one, fate_of, fates, is_same_table, read_without};
 use gptman::{Disk, Edit, Error, Fate, GPT, MemoryDisk};
 use std::process::Abort;
@@ -183,7 +183,7 @@ fn live(rt: &impl Host, image: Vec<u8>, round: u8) -> Vec<u8> {
 fn assert_last(rt: &impl Host, image: &[u8]) {
     let last = read(rt, image);
     assert!(rt; last.header.disk_guid == [19; 16]);
-    assert_told(rt, &Ok(last), OLD);
+    assert_result(rt, &Ok(last), OLD);
 }
 
 #[test]

@@ -16,16 +16,16 @@ const MAX_BYTES: u64 = 16 << 20;
 
 /// An array of entries: its first sector, the number of entries, and the entry size in bytes.
 #[derive(Clone, Copy, PartialEq, Eq)]
-pub struct Span {
+pub struct ArraySpan {
     pub lba: u64,
     pub count: u32,
     pub entry_size: u32,
 }
 
-impl Span {
+impl ArraySpan {
     /// Returns the array of 128 entries at the usual place of a copy.
-    pub fn usual(spot: Spot) -> Span {
-        Span {
+    pub fn usual(spot: Spot) -> ArraySpan {
+        ArraySpan {
             lba: 0,
             count: USUAL,
             entry_size: USUAL,
@@ -34,12 +34,12 @@ impl Span {
     }
 
     /// Returns the array that a header describes. Impossible numbers are replaced by the usual ones.
-    pub fn said_by(header: &GPTHeader) -> Span {
+    pub fn said_by(header: &GPTHeader) -> ArraySpan {
         let (count, entry_size) = (
             header.number_of_partition_entries,
             header.size_of_partition_entry,
         );
-        Span {
+        ArraySpan {
             lba: header.partition_entry_lba,
             count: if count == 0 || count > MAX_ENTRY_COUNT {
                 USUAL
@@ -55,7 +55,7 @@ impl Span {
     }
 
     /// Returns this array at the usual place of a copy: after the header in sector 1, else before the header.
-    pub fn at_usual_place(self, spot: Spot) -> Span {
+    pub fn at_usual_place(self, spot: Spot) -> ArraySpan {
         if spot.lba <= 1 {
             self.at(2)
         } else {
@@ -65,7 +65,7 @@ impl Span {
 
     /// Returns this array at the usual places of the other copy: before the backup header or after the usable sectors;
     /// after the primary header or before the usable sectors.
-    pub fn at_places_of_other(self, spot: Spot, header: &GPTHeader) -> [Span; 3] {
+    pub fn at_places_of_other(self, spot: Spot, header: &GPTHeader) -> [ArraySpan; 3] {
         let (other, size) = (header.backup_lba, spot.sector_size);
         if spot.lba <= 1 {
             [
@@ -82,19 +82,19 @@ impl Span {
         }
     }
 
-    fn at(self, lba: u64) -> Span {
-        Span { lba, ..self }
+    fn at(self, lba: u64) -> ArraySpan {
+        ArraySpan { lba, ..self }
     }
 
     // Returns this array right before this sector.
-    fn before(self, lba: u64, sector_size: u64) -> Span {
+    fn before(self, lba: u64, sector_size: u64) -> ArraySpan {
         let sectors = self.len().div_ceil(sector_size.max(1));
         self.at(lba.saturating_sub(sectors))
     }
 
     /// Returns this array with the usual numbers.
-    pub fn of_usual_size(self) -> Span {
-        Span {
+    pub fn of_usual_size(self) -> ArraySpan {
+        ArraySpan {
             count: USUAL,
             entry_size: USUAL,
             ..self
@@ -129,7 +129,7 @@ fn is_entry_size(size: u32) -> bool {
 #[derive(Drop)]
 pub struct Array {
     /// The array.
-    pub span: Span,
+    pub span: ArraySpan,
     /// The bytes that were read.
     pub bytes: Vec<u8>,
     /// Their checksum.
@@ -142,7 +142,7 @@ pub struct Array {
 
 impl Array {
     /// Decodes the entries in the bytes that were read.
-    pub fn decode(alloc: Global, span: Span, bytes: Vec<u8>) -> Result<Array, AllocError> {
+    pub fn decode(alloc: Global, span: ArraySpan, bytes: Vec<u8>) -> Result<Array, AllocError> {
         let entries = decode_all(alloc, &bytes, span.entry_size)?;
         Ok(Array {
             span,
@@ -295,7 +295,11 @@ fn is_in_entry(bytes: &[u8], entry_size: usize, index: usize) -> bool {
 }
 
 // Records numbers in a header that are not those of the array.
-fn note_numbers(faults: &mut Vec<Fault>, header: &GPTHeader, span: Span) -> Result<(), AllocError> {
+fn note_numbers(
+    faults: &mut Vec<Fault>,
+    header: &GPTHeader,
+    span: ArraySpan,
+) -> Result<(), AllocError> {
     let count = header.number_of_partition_entries;
     if count == 0 {
         faults.push(Fault::NoEntries)?;

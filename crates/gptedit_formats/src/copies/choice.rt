@@ -1,6 +1,6 @@
 //! The choice of the best copy, and of places to read without a header.
 
-use crate::copies::arrays::Span;
+use crate::copies::arrays::ArraySpan;
 use crate::copies::found::{CopyKind, FoundCopy, Spot};
 
 /// Returns the index of the best copy. Copies with faults and without sensible entries come last; then fewer faults,
@@ -59,15 +59,15 @@ pub fn may_be_size(copies: &[FoundCopy], sector_size: u64) -> bool {
 }
 
 /// Returns the array to read without a header: with the length that a header has, or the usual one.
-pub fn bare_span(copies: &[FoundCopy], spot: Spot) -> Span {
+pub fn bare_span(copies: &[FoundCopy], spot: Spot) -> ArraySpan {
     for copy in copies {
         if let Some(header) = &copy.header {
             if copy.spot.sector_size == spot.sector_size {
-                return Span::said_by(header).at_usual_place(spot);
+                return ArraySpan::said_by(header).at_usual_place(spot);
             }
         }
     }
-    Span::usual(spot)
+    ArraySpan::usual(spot)
 }
 
 /// Reports whether there is a header at this place, or a header has the entries from this sector.

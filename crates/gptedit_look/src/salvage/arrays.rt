@@ -3,7 +3,7 @@
 ghost use Rattle.gptman.specs.Disk.{Reads};
 
 use crate::salvage::reading::read_range;
-use gptedit_formats::copies::{Array, Span, Spot, is_better, is_sure};
+use gptedit_formats::copies::{Array, ArraySpan, Spot, is_better, is_sure};
 use gptman::{Disk, GPTHeader};
 use std::alloc::{AllocError, Global};
 
@@ -38,12 +38,12 @@ fn find_own<D: Disk>(
 ) -> Result<Array, AllocError>
     ensures reads { Reads (D.state disk.old) (D.state disk.new) }
 {
-    let said = Span::said_by(header);
+    let said = ArraySpan::said_by(header);
     let mut best = read_array(alloc, disk, spot, said)?;
     let others = [
         said.at_usual_place(spot),
         said.of_usual_size(),
-        Span::usual(spot),
+        ArraySpan::usual(spot),
     ];
     for span in others {
         if is_sure(&best, header) {
@@ -71,7 +71,7 @@ fn find_of_other<D: Disk>(
     ensures reads { Reads (D.state disk.old) (D.state disk.new) }
 {
     let mut found = None;
-    for span in Span::said_by(header).at_places_of_other(spot, header) {
+    for span in ArraySpan::said_by(header).at_places_of_other(spot, header) {
         let mut array = read_array(alloc, disk, spot, span)?;
         if is_sure(&array, header) {
             array.is_of_other = true;
@@ -88,7 +88,7 @@ pub fn read_array<D: Disk>(
     alloc: Global,
     disk: &mut D,
     spot: Spot,
-    span: Span,
+    span: ArraySpan,
 ) -> Result<Array, AllocError>
     ensures reads { Reads (D.state disk.old) (D.state disk.new) }
 {

@@ -1,6 +1,6 @@
 //! The layout for a copy.
 
-use gptedit_core::{Amount, Asked, DEFAULT_ALIGN, Layout, Mode, Size};
+use gptedit_core::{Amount, Asked, DEFAULT_ALIGN, Mode, RequestedLayout, Size};
 use gptedit_formats::copies::{EntryFault, FoundCopy, FoundEntry};
 use gptedit_text::Header;
 use gptman::GPTHeader;
@@ -88,7 +88,11 @@ fn last_of(copy: &FoundCopy) -> Option<u64> {
 }
 
 /// Returns a layout of the entries that the frame permits.
-pub fn layout_of(alloc: Global, copy: &FoundCopy, frame: &Frame) -> Result<Layout, AllocError> {
+pub fn layout_of(
+    alloc: Global,
+    copy: &FoundCopy,
+    frame: &Frame,
+) -> Result<RequestedLayout, AllocError> {
     let mut layout = empty_layout(alloc);
     layout.disk_guid = copy.header.as_ref().map(|header| header.disk_guid);
     for found in copy.entries.iter() {
@@ -100,14 +104,14 @@ pub fn layout_of(alloc: Global, copy: &FoundCopy, frame: &Frame) -> Result<Layou
 }
 
 /// Returns a layout of one entry.
-pub fn layout_of_one(alloc: Global, found: &FoundEntry) -> Result<Layout, AllocError> {
+pub fn layout_of_one(alloc: Global, found: &FoundEntry) -> Result<RequestedLayout, AllocError> {
     let mut layout = empty_layout(alloc);
     layout.asked.push(ask_for(found)?)?;
     Ok(layout)
 }
 
-fn empty_layout(alloc: Global) -> Layout {
-    Layout {
+fn empty_layout(alloc: Global) -> RequestedLayout {
+    RequestedLayout {
         mode: Mode::Become { replace: false },
         disk_guid: None,
         align: DEFAULT_ALIGN,

@@ -6,7 +6,7 @@ ghost use Rattle.toml.specs.View.{table_view, view};
 ghost use Rattle.gptedit_text.specs.Layouts.{GivesAttributesOf, IsAttributeOf, SaysAttributeOf, SaysBitOf};
 ghost use Rattle.gptedit_text.specs.Words.{HasBitsOf};
 
-use crate::error::{Fault, LayoutError, Place, Section};
+use crate::error::{Fault, LayoutError, Section, TextPlace};
 use crate::values::{Wrong, read_attribute};
 use std::alloc::Global;
 use toml::{Table, Value};
@@ -25,8 +25,8 @@ impl<'a> Keyed<'a> {
     }
 
     /// Returns the place of the section, without a line.
-    pub fn place(&self) -> Place {
-        Place {
+    pub fn place(&self) -> TextPlace {
+        TextPlace {
             line: None,
             section: self.section,
         }

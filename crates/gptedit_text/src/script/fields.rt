@@ -1,7 +1,7 @@
 //! The lines of a script that describe partitions.
 
 use crate::entries::{Entries, read_name};
-use crate::error::{Fault, LayoutError, Place};
+use crate::error::{Fault, LayoutError, TextPlace};
 use crate::script::extent::read_extent;
 use crate::script::token::next_token;
 use crate::script::words::{read_script_attributes, read_script_type, unescaped};
@@ -16,7 +16,7 @@ const ORDER: [&str; 4] = ["start", "size", "type", "bootable"];
 pub fn read_line(
     alloc: Global,
     entries: &mut Entries,
-    place: Place,
+    place: TextPlace,
     line: &str,
 ) -> Result<(), LayoutError> {
     let (node, fields) = split_node(line);
@@ -73,7 +73,7 @@ fn digits_behind(node: &str) -> &str {
 #[derive(Drop)]
 struct Line<'a> {
     alloc: Global,
-    place: Place,
+    place: TextPlace,
     asked: &'a mut Asked,
 }
 
@@ -146,7 +146,7 @@ impl Line<'_> {
 }
 
 // Returns the key of a name, in any case.
-fn key_of(place: Place, name: &str) -> Option<&'static str> {
+fn key_of(place: TextPlace, name: &str) -> Option<&'static str> {
     if name.eq_ignore_ascii_case("Id") {
         return Some("type");
     }
@@ -156,7 +156,7 @@ fn key_of(place: Place, name: &str) -> Option<&'static str> {
         .find(|key| key.eq_ignore_ascii_case(name))
 }
 
-fn unknown(alloc: Global, place: Place, name: &str) -> LayoutError {
+fn unknown(alloc: Global, place: TextPlace, name: &str) -> LayoutError {
     match String::from_str(alloc, name) {
         Ok(key) => LayoutError::Unknown { place, key },
         Err(error) => LayoutError::from(error),
@@ -165,7 +165,7 @@ fn unknown(alloc: Global, place: Place, name: &str) -> LayoutError {
 
 // Returns the value of a part, and the text after it.
 fn token_of<'a>(
-    place: Place,
+    place: TextPlace,
     key: &'static str,
     text: &'a str,
 ) -> Result<(&'a str, &'a str), LayoutError> {
@@ -184,7 +184,11 @@ fn without_plus(value: &str) -> &str {
 }
 
 // Reads a start or a size. `+` means the default.
-fn extent_of(place: Place, key: &'static str, value: &str) -> Result<Option<Amount>, LayoutError> {
+fn extent_of(
+    place: TextPlace,
+    key: &'static str,
+    value: &str,
+) -> Result<Option<Amount>, LayoutError> {
     if value == "+" {
         return Ok(None);
     }
@@ -195,13 +199,13 @@ fn extent_of(place: Place, key: &'static str, value: &str) -> Result<Option<Amou
 }
 
 fn word_of(
-    place: Place,
+    place: TextPlace,
     key: &'static str,
     value: Result<[u8; 16], Wrong>,
 ) -> Result<[u8; 16], LayoutError> {
     value.map_err(|wrong| place.fault(key, Fault::Value(wrong)))
 }
 
-fn attributes_of(place: Place, key: &'static str, value: &str) -> Result<u64, LayoutError> {
+fn attributes_of(place: TextPlace, key: &'static str, value: &str) -> Result<u64, LayoutError> {
     read_script_attributes(value).ok_or(place.fault(key, Fault::NotScriptAttributes))
 }

@@ -1,6 +1,6 @@
 //! The headers of a script.
 
-use crate::error::{Fault, LayoutError, Place, Section};
+use crate::error::{Fault, LayoutError, Section, TextPlace};
 use crate::script::extent::{read_extent, read_number};
 use crate::table_header::Header;
 use crate::values::read_guid;
@@ -46,7 +46,7 @@ impl HeaderLines {
     pub fn read(
         &mut self,
         alloc: Global,
-        place: Place,
+        place: TextPlace,
         name: &str,
         value: &str,
     ) -> Result<(), LayoutError> {
@@ -73,7 +73,7 @@ impl HeaderLines {
     fn read_count(
         &mut self,
         alloc: Global,
-        place: Place,
+        place: TextPlace,
         name: &str,
         value: &str,
     ) -> Result<(), LayoutError> {
@@ -94,7 +94,7 @@ impl HeaderLines {
     /// Returns the headers of the whole script. Fails with `NotGpt` if it has no label.
     pub fn finish(self) -> Result<HeaderLines, LayoutError> {
         if !self.has_label {
-            let place = Place {
+            let place = TextPlace {
                 line: None,
                 section: Section::Header,
             };
@@ -106,7 +106,7 @@ impl HeaderLines {
 
 // Refuses a value other than the only permitted one.
 fn expect(
-    place: Place,
+    place: TextPlace,
     key: &'static str,
     value: &str,
     only: &str,
@@ -119,16 +119,16 @@ fn expect(
     }
 }
 
-fn count_in(place: Place, key: &'static str, value: &str) -> Result<u64, LayoutError> {
+fn count_in(place: TextPlace, key: &'static str, value: &str) -> Result<u64, LayoutError> {
     read_number(value).ok_or(place.fault(key, Fault::NotCount))
 }
 
-fn entries_in(place: Place, value: &str) -> Result<u32, LayoutError> {
+fn entries_in(place: TextPlace, value: &str) -> Result<u32, LayoutError> {
     let count = count_in(place, "table-length", value)?;
     u32::try_from(count).map_err(|_| place.fault("table-length", Fault::NotEntries))
 }
 
-fn guid_in(place: Place, value: &str) -> Result<[u8; 16], LayoutError> {
+fn guid_in(place: TextPlace, value: &str) -> Result<[u8; 16], LayoutError> {
     match read_guid(value) {
         Ok(guid) => Ok(guid),
         Err(wrong) => Err(place.fault("label-id", Fault::Value(wrong))),
@@ -136,7 +136,7 @@ fn guid_in(place: Place, value: &str) -> Result<[u8; 16], LayoutError> {
 }
 
 // Reads the alignment, which is in bytes also without a unit.
-fn grain_in(place: Place, value: &str) -> Result<Amount, LayoutError> {
+fn grain_in(place: TextPlace, value: &str) -> Result<Amount, LayoutError> {
     match read_extent(value) {
         Some(Amount::Sectors(bytes)) => Ok(Amount::Bytes(bytes)),
         Some(amount) => Ok(amount),

@@ -1,6 +1,6 @@
 //! Types, attributes and names in a script.
 
-use crate::error::{Fault, LayoutError, Place};
+use crate::error::{Fault, LayoutError, TextPlace};
 use crate::values::{Wrong, find_sfdisk_bit, read_type};
 use std::alloc::Global;
 
@@ -45,7 +45,7 @@ fn read_attribute(word: &str) -> Option<u64> {
 
 /// Returns the name with each escape, such as `\x22`, replaced by its byte. Fails with `NotUtf8` if the result is not
 /// UTF-8.
-pub fn unescaped(alloc: Global, place: Place, text: &str) -> Result<String, LayoutError> {
+pub fn unescaped(alloc: Global, place: TextPlace, text: &str) -> Result<String, LayoutError> {
     let mut bytes = Vec::new(alloc);
     let mut pieces = text.split("\\x");
     if let Some(piece) = pieces.next() {

@@ -55,7 +55,7 @@ impl Plan for Change<'_> {
 // Removes an entry.
 fn remove(table: &mut GPT, number: u32) -> Result<Report>
     requires coherent { IsCoherent table.old.header (entries_in table.old) }
-    ensures told { IfOk result (λ report. report ≡ Done) }
+    ensures outcome { IfOk result (λ report. report ≡ Done) }
     ensures refused { IfErr result (λ e. number_fault table.old number ≡ Some (fault_of e)) }
     ensures value { OnOk result ((number_fault table.old number ≡ None)
         × (table.new ≡ with_entry table.old number empty_entry)) }
@@ -68,7 +68,7 @@ fn remove(table: &mut GPT, number: u32) -> Result<Report>
 // Sorts the entries.
 fn sort(table: &mut GPT) -> Result<Report>
     requires coherent { IsCoherent table.old.header (entries_in table.old) }
-    ensures told { IfOk result (λ report. report ≡ Done) }
+    ensures outcome { IfOk result (λ report. report ≡ Done) }
     ensures refused { IfErr result (λ e. fault_of e ≡ out_of_memory) }
     ensures value { OnOk result (table.new
         ≡ with_entries table.old (by_rank rank (entries_in table.old))) }
@@ -85,7 +85,7 @@ fn fit<D: Disk>(disk: &mut D, table: &mut GPT) -> Result<Report>
     ensures reads { Reads (D.state disk.old) (D.state disk.new) }
     ensures counts { CountsFailure result (D.state disk.old) (D.state disk.new) }
     ensures once { HasFailedOnceAtMost (D.state disk.old) (D.state disk.new) }
-    ensures told { IfOk result (λ report. report ≡ Done) }
+    ensures outcome { IfOk result (λ report. report ≡ Done) }
     ensures refused { IfErr result (λ e.
         (fit_fault table.old.header table.old.sector_size (D.state disk.old).size ≡ Some (fault_of e))
         ⊎ IsFailure (fault_of e) (D.state disk.old) (D.state disk.new)) }
@@ -104,7 +104,7 @@ fn fit<D: Disk>(disk: &mut D, table: &mut GPT) -> Result<Report>
 fn add(alloc: Global, table: &mut GPT, addition: &Addition) -> Result<Report>
     requires coherent { IsCoherent table.old.header (entries_in table.old) }
     requires sized { IsSizedAddition addition.now }
-    ensures told { IfOk result (λ report. report ≡ report_of (Add addition.now) table.new) }
+    ensures outcome { IfOk result (λ report. report ≡ report_of (Add addition.now) table.new) }
     ensures refused { IfErr result (λ e. RefusesAddition addition.now table.old (fault_of e)) }
     ensures value { OnOk result (IsAdded addition.now table.old table.new) }
     ensures coherent { OnOk result (IsCoherent table.new.header (entries_in table.new)) }

@@ -41,14 +41,14 @@ pub fn parse_entry_number(text: &str) -> Option<u32>
 fn parse_number(text: &str) -> Option<u64>
     ensures { result ≡ number_in text.now }
 {
-    if !has_digits_alone(text) {
+    if !has_only_digits(text) {
         return None;
     }
     text.parse().ok()
 }
 
 // Reports whether each character is a decimal digit: `parse` would accept a sign too.
-fn has_digits_alone(text: &str) -> bool
+fn has_only_digits(text: &str) -> bool
     ensures { result ≡ list_all is_ascii_digit text.now }
 {
     text.as_bytes().iter().all(|byte| byte.is_ascii_digit())

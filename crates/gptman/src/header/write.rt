@@ -17,7 +17,7 @@ ghost use Rattle.gptman.specs.Write.{copy_write_fault, has_other_header, header_
 ghost use Rattle.gptman.specs.Write.{copy_ranges};
 ghost use Rattle.gptman.specs.Write.{is_addressable as is_range_addressable};
 ghost use Rattle.gptman.specs.Write.{is_inside as is_range_inside};
-ghost use Rattle.gptman.specs.Write.{FitsCopy, LaysCopy, SameButSums};
+ghost use Rattle.gptman.specs.Write.{FitsCopy, SameButSums, WritesCopy};
 
 use crate::cells::put;
 use crate::codec::entry::GPTPartitionEntry;
@@ -66,7 +66,7 @@ impl GPTHeader {
         // The disk: the copy is written and unsynced after `Ok`, and nothing is written after an error other
         // than `Io`.
         ensures wrote { Writes (copy_ranges self.old sector_size) (D.state disk.old) (D.state disk.new) }
-        ensures laid { LaysCopy self.new partitions.now sector_size result
+        ensures contents { WritesCopy self.new partitions.now sector_size result
             (D.state disk.old) (D.state disk.new) }
         ensures pending { IsHonest (D.state disk.old)
             → OnOk result (IsPending (header_range self.old sector_size) (D.state disk.new)) }
@@ -166,7 +166,7 @@ pub fn write_summed<D: Disk>(
     ensures fits { OnOk result (FitsCopy header.new partitions.now) }
     ensures sums { SameButSums header.old header.new }
     ensures wrote { Writes (copy_ranges header.old sector_size) (D.state disk.old) (D.state disk.new) }
-    ensures laid { LaysCopy header.new partitions.now sector_size result
+    ensures contents { WritesCopy header.new partitions.now sector_size result
         (D.state disk.old) (D.state disk.new) }
     ensures pending { IsHonest (D.state disk.old)
         → OnOk result (IsPending (header_range header.old sector_size) (D.state disk.new)) }
@@ -194,7 +194,7 @@ fn write_copy<D: Disk>(
     ensures cause { OnErr result (Rose (D.state disk.old) (D.state disk.new)) }
     ensures fits { OnOk result (FitsCopy header.now partitions.now) }
     ensures wrote { Writes (copy_ranges header.now sector_size) (D.state disk.old) (D.state disk.new) }
-    ensures laid { LaysCopy header.now partitions.now sector_size result
+    ensures contents { WritesCopy header.now partitions.now sector_size result
         (D.state disk.old) (D.state disk.new) }
     ensures pending { IsHonest (D.state disk.old)
         → OnOk result (IsPending (header_range header.now sector_size) (D.state disk.new)) }
@@ -220,7 +220,7 @@ fn write_entries<D: Disk>(disk: &mut D, partitions: &[GPTPartitionEntry]) -> io:
     ensures fits { OnOk result (All FitsEntry partitions.now) }
     ensures wrote { Writes (next_range (D.state disk.old) (128 * length partitions.now) ∷ [])
         (D.state disk.old) (D.state disk.new) }
-    ensures laid { IsHonest (D.state disk.old)
+    ensures contents { IsHonest (D.state disk.old)
         → OnOk result (Overlays (array_bytes partitions.now) (D.state disk.old) (D.state disk.new)) }
     ensures still_pending { IsHonest (D.state disk.old)
         → StaysPending (D.state disk.old) (D.state disk.new) }
@@ -251,7 +251,7 @@ fn write_block<D: Disk>(
     ensures moves { OnOk result (Moves (D.state disk.old) (D.state disk.new) (128 * length block.now)) }
     ensures wrote { Writes (next_range (D.state disk.old) (128 * length block.now) ∷ [])
         (D.state disk.old) (D.state disk.new) }
-    ensures laid { IsHonest (D.state disk.old)
+    ensures contents { IsHonest (D.state disk.old)
         → OnOk result (Overlays (array_bytes block.now) (D.state disk.old) (D.state disk.new)) }
     ensures still_pending { IsHonest (D.state disk.old)
         → StaysPending (D.state disk.old) (D.state disk.new) }

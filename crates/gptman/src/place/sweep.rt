@@ -21,20 +21,20 @@ pub(crate) fn sweep(
     requires ordered { All (λ r. r.0 ≤ r.1) ranges.now }
     ensures slots { IfOk result (λ r. AreSlots (IsOutside header.now ranges.now) align r.0.items) }
     ensures fits { IfOk result (λ r. All (λ s. s.0 + s.1 ≤ 2 ^ 64) r.0.items) }
-    ensures turns { IfOk result (λ r. r.1 ≤ length ranges.now) }
+    ensures iterations { IfOk result (λ r. r.1 ≤ length ranges.now) }
 {
     let mut slots = Vec::new(alloc);
-    let mut turns = 0;
+    let mut iterations = 0;
     // Sectors up to this one are done. It is at least 0, so sector 0 is never offered.
     let mut passed = header.first_usable_lba.saturating_sub(1);
     for range in ranges {
         let to = header.last_usable_lba.min(range.0.saturating_sub(1));
         push_gap(&mut slots, passed, to, align)?;
         passed = passed.max(range.1);
-        turns += 1;
+        iterations += 1;
     }
     push_gap(&mut slots, passed, header.last_usable_lba, align)?;
-    Ok((slots, turns))
+    Ok((slots, iterations))
 }
 
 // Appends the aligned slot of the sectors after `passed` up to `to`, if there is one.

@@ -147,11 +147,11 @@ fn are_disjoint(
     ensures { IfOk result (λ disjoint. IsTrue disjoint ↔ AllPairs AreDisjoint entries.now) }
 {
     let ranges = sorted_ranges(alloc, entries)?;
-    Ok(end_in_turn(&ranges))
+    Ok(end_before_next(&ranges))
 }
 
 // Reports whether each range ends before the next one begins.
-fn end_in_turn(ranges: &[(u64, u64)]) -> bool
+fn end_before_next(ranges: &[(u64, u64)]) -> bool
     requires sorted { IsNonDecreasingBy (λ r. r.0) ranges.now }
     requires ordered { All (λ r. r.0 ≤ r.1) ranges.now }
     ensures { IsTrue result ↔ AllPairs EndsBefore ranges.now }

@@ -3,7 +3,7 @@
 
 ghost use Rattle.gptman.specs.Crash.{EditListsKeepPlaces, EditsKeepPlaces, GrowingIsSafe};
 ghost use Rattle.gptman.specs.Crash.{KeepsWhatIsRead, TakesInForm};
-ghost use Rattle.gptman.specs.Stop.{AcceptsWhatStands, HoldsWhatIsRead, ReadsWhatItHolds};
+ghost use Rattle.gptman.specs.Stop.{AcceptsRightCopies, HoldsWhatIsRead, ReadsWhatItHolds};
 
 use crate::Disk;
 
@@ -22,8 +22,8 @@ pub fn what_is_read_is_held()
 /// States that in a list of fewer than 2^64 bytes a copy is accepted at a byte, with this header and these
 /// entries, exactly if they are there: a header with the right signature, revision, size and checksum, and at
 /// its place on the disk entries with the right checksum. The text of each name is that of its units.
-pub fn what_stands_is_accepted()
-    ensures { AcceptsWhatStands }
+pub fn right_copies_are_accepted()
+    ensures { AcceptsRightCopies }
 {}
 
 /// States that a table that the primary place holds is one good copy for writing a value whose header was

@@ -4,7 +4,7 @@
 ghost use Rattle.std.specs.Prelude.{◌≡◌, ◌≤◌, ◌<◌, ◌∷◌, [], true, false, IfOk};
 ghost use Rattle.gptman.specs.Answers.{refusal_of, CountsFailure, FailsPending, HasCause, RefusesUntouched};
 ghost use Rattle.gptman_disk.specs.Disk.{HasFailedOnceAtMost, Keeps, Writes};
-ghost use Rattle.gptman.specs.Mbr.{mbr_bytes, mbr_fault, mbr_range, AnswersMbr, LaysMbr};
+ghost use Rattle.gptman.specs.Mbr.{mbr_bytes, mbr_fault, mbr_range, AnswersMbr, WritesMbr};
 
 use crate::cells::{put, put_u32};
 use crate::table::GPT;
@@ -34,7 +34,7 @@ impl GPT {
         ensures answer { AnswersMbr sector_size result (D.state disk.old) (D.state disk.new) }
         ensures cause { HasCause result (D.state disk.old) (D.state disk.new) }
         ensures wrote { Writes (mbr_range ∷ []) (D.state disk.old) (D.state disk.new) }
-        ensures laid { LaysMbr false sector_size result (D.state disk.old) (D.state disk.new) }
+        ensures contents { WritesMbr false sector_size result (D.state disk.old) (D.state disk.new) }
         ensures untouched { RefusesUntouched result (D.state disk.old) (D.state disk.new) }
         ensures failed { FailsPending mbr_range result (D.state disk.old) (D.state disk.new) }
     {
@@ -51,7 +51,7 @@ impl GPT {
         ensures answer { AnswersMbr sector_size result (D.state disk.old) (D.state disk.new) }
         ensures cause { HasCause result (D.state disk.old) (D.state disk.new) }
         ensures wrote { Writes (mbr_range ∷ []) (D.state disk.old) (D.state disk.new) }
-        ensures laid { LaysMbr true sector_size result (D.state disk.old) (D.state disk.new) }
+        ensures contents { WritesMbr true sector_size result (D.state disk.old) (D.state disk.new) }
         ensures untouched { RefusesUntouched result (D.state disk.old) (D.state disk.new) }
         ensures failed { FailsPending mbr_range result (D.state disk.old) (D.state disk.new) }
     {
@@ -68,7 +68,7 @@ fn write_mbr<D: Disk>(disk: &mut D, sector_size: u64, bootable: bool) -> Result<
     ensures answer { AnswersMbr sector_size result (D.state disk.old) (D.state disk.new) }
     ensures cause { HasCause result (D.state disk.old) (D.state disk.new) }
     ensures wrote { Writes (mbr_range ∷ []) (D.state disk.old) (D.state disk.new) }
-    ensures laid { LaysMbr bootable sector_size result (D.state disk.old) (D.state disk.new) }
+    ensures contents { WritesMbr bootable sector_size result (D.state disk.old) (D.state disk.new) }
     ensures untouched { RefusesUntouched result (D.state disk.old) (D.state disk.new) }
     ensures failed { FailsPending mbr_range result (D.state disk.old) (D.state disk.new) }
 {

@@ -13,8 +13,8 @@ ghost use Rattle.gptman_disk.specs.Disk.{HasFailedOnceAtMost, IsHonest, Keeps, R
 ghost use Rattle.gptman_disk.specs.Fault.{fault_of, io as io_fault, overflow};
 ghost use Rattle.gptman_disk.specs.Ranges.{AreApart};
 ghost use Rattle.gptman.specs.Write.{copy_write_fault, header_range, other_header, copy_ranges};
-ghost use Rattle.gptman.specs.Write.{FitsCopy, LaysCopy, SameButSums};
-ghost use Rattle.gptman.specs.Crash.{AreReadAlone, BothSidesAfter, StopsComeInTurns, StopsKeepOthers};
+ghost use Rattle.gptman.specs.Write.{FitsCopy, SameButSums, WritesCopy};
+ghost use Rattle.gptman.specs.Crash.{AreReadFromEachCopy, BothPlacesAfter, StopsComeInOrder, StopsKeepOthers};
 ghost use Rattle.gptman.specs.Crash.{StartsFromOne, StartsLaidOut, StartsStored, StartsSynced};
 ghost use Rattle.gptman.specs.Layout.{HasLayout};
 ghost use Rattle.gptman.specs.Stop.{IsStored, StopsAreReadAs, StopsHold};
@@ -77,7 +77,7 @@ impl GPT {
         // The disk, in the stated layout or not. An error other than `Io` wrote nothing.
         ensures wrote { Writes (table_ranges self.old) (D.state disk.old) (D.state disk.new) }
         ensures synced { IsHonest (D.state disk.old) → OnOk result ((D.state disk.new).pending ≡ []) }
-        ensures laid { IsHonest (D.state disk.old) → AreApart (table_ranges self.old)
+        ensures contents { IsHonest (D.state disk.old) → AreApart (table_ranges self.old)
             → IfOk result (HasBothCopies (D.state disk.new).view self.new) }
         ensures untouched { RefusesUnwritten result (D.state disk.old) (D.state disk.new) }
 
@@ -85,14 +85,14 @@ impl GPT {
         // table.
         ensures stored { StartsLaidOut (D.state disk.old) self.old
             → OnOk result (IsStored (D.state disk.new) self.old.sector_size (table_in self.old)) }
-        ensures alone { StartsLaidOut (D.state disk.old) self.old
-            → OnOk result (AreReadAlone (D.state disk.new).view self.old) }
+        ensures each_copy { StartsLaidOut (D.state disk.old) self.old
+            → OnOk result (AreReadFromEachCopy (D.state disk.new).view self.old) }
 
         // A crash at any moment leaves all bytes outside the other copy unchanged, or that copy complete. So
         // from one good copy it leaves the old or the new table in at least one place, and all bytes outside
         // the four ranges unchanged.
-        ensures turns { StartsSynced (D.state disk.old) self.old
-            → StopsComeInTurns (D.state disk.old) (D.state disk.new) self.old }
+        ensures order { StartsSynced (D.state disk.old) self.old
+            → StopsComeInOrder (D.state disk.old) (D.state disk.new) self.old }
         ensures one_good { (was : Table) → StartsFromOne (D.state disk.old) self.old was
             → StopsHold (D.state disk.old) (D.state disk.new) self.old.sector_size
             (was ∷ table_in self.old ∷ []) }
@@ -107,7 +107,7 @@ impl GPT {
         // After an error each place is unchanged, or holds the new table whatever a crash leaves, or has an
         // unsynced header.
         ensures after { StartsSynced (D.state disk.old) self.old
-            → OnErr result (BothSidesAfter self.old (D.state disk.old) (D.state disk.new)) }
+            → OnErr result (BothPlacesAfter self.old (D.state disk.old) (D.state disk.new)) }
 
         // On an honest disk of the stated layout whose two synced copies hold one valid table, after any
         // edits that keep the layout and any acknowledged writes, a stop or disk fault at any moment of
@@ -157,14 +157,14 @@ impl GPT {
         ensures other { IfOk result (λ h. h ≡ other_with_checksums self.old) }
         ensures wrote { Writes (table_ranges self.old) (D.state disk.old) (D.state disk.new) }
         ensures synced { IsHonest (D.state disk.old) → OnOk result ((D.state disk.new).pending ≡ []) }
-        ensures laid { IsHonest (D.state disk.old) → AreApart (table_ranges self.old)
+        ensures contents { IsHonest (D.state disk.old) → AreApart (table_ranges self.old)
             → IfOk result (HasBothCopies (D.state disk.new).view self.new) }
         ensures stored { StartsLaidOut (D.state disk.old) self.old
             → OnOk result (IsStored (D.state disk.new) self.old.sector_size (table_in self.old)) }
-        ensures turns { StartsSynced (D.state disk.old) self.old
-            → StopsComeInTurns (D.state disk.old) (D.state disk.new) self.old }
+        ensures order { StartsSynced (D.state disk.old) self.old
+            → StopsComeInOrder (D.state disk.old) (D.state disk.new) self.old }
         ensures after { StartsSynced (D.state disk.old) self.old
-            → OnErr result (BothSidesAfter self.old (D.state disk.old) (D.state disk.new)) }
+            → OnErr result (BothPlacesAfter self.old (D.state disk.old) (D.state disk.new)) }
     {
         let sector_size = self.sector_size;
         let entries = self.partitions.as_slice();
@@ -243,7 +243,7 @@ fn write_and_sync<D: Disk>(
     ensures sums { SameButSums header.old header.new }
     ensures wrote { Writes (copy_ranges header.old sector_size) (D.state disk.old) (D.state disk.new) }
     ensures synced { IsHonest (D.state disk.old) → OnOk result ((D.state disk.new).pending ≡ []) }
-    ensures laid { LaysCopy header.new partitions.now sector_size result
+    ensures contents { WritesCopy header.new partitions.now sector_size result
         (D.state disk.old) (D.state disk.new) }
     ensures failed { FailsPending (header_range header.old sector_size) result
         (D.state disk.old) (D.state disk.new) }

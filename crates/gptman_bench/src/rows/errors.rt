@@ -4,7 +4,7 @@ use crate::asserts::{BOUNDARIES, Host, OVERFLOW, assert_text, got};
 use gptman::{Error, Progress};
 use std::fmt::Debug;
 use std::io;
-use test_fixtures::told::text_of;
+use test_fixtures::texts::text_of;
 
 // Asserts the debug output of the value.
 fn assert_printed(rt: &impl Host, value: &impl Debug, printed: &str) {

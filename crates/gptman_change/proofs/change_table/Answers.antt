@@ -12,7 +12,7 @@ use Rattle.gptman_change.specs.Changes.{is_left, is_written, unwritten, IsSafe, 
 use Rattle.gptman_change.specs.Changes.RefusesChange.{not_made, not_read, not_written}
 use Rattle.gptman_change.specs.Planning.{of_left, of_written, AlwaysKeepsPlaces, IsPlannedAs, RefusesPlan}
 use Rattle.gptman_change.specs.Reads.{size_for, IsReadFrom}
-use Rattle.gptman_change.proofs.Left.{both_laid, change_written, laid_since, wrote_since}
+use Rattle.gptman_change.proofs.Left.{both_contents, change_written, laid_out_since, wrote_since}
 use Rattle.gptman_change.proofs.Read.{counts_before, read_before}
 use Rattle.gptman_change.proofs.Safe.{from_good, unwritten_safe, written_safe}
 use Rattle.gptman_change.proofs.change_table.Given.{Over}
@@ -161,10 +161,10 @@ returns-clause-changed g c honest =
       made = made g at.In-Write;
       wrote = wrote_since next old last new read (c.write_into.ensures.wrote read.wrote.honest);
       synced = c.in_ok-write_into.ensures.synced read.wrote.honest;
-      laid = λ apart. both_laid new.view next c.write_into.new.self _ c.in_ok-write_into.ensures.value c.in_ok-write_into.ensures.other
-          (c.in_ok-write_into.ensures.laid read.wrote.honest apart);
-      stored = λ layout. c.in_ok-write_into.ensures.stored (laid_since next old last read keeps layout);
-      alone = λ layout. c.in_ok-write_into.ensures.alone (laid_since next old last read keeps layout);
+      contents = λ apart. both_contents new.view next c.write_into.new.self _ c.in_ok-write_into.ensures.value c.in_ok-write_into.ensures.other
+          (c.in_ok-write_into.ensures.contents read.wrote.honest apart);
+      stored = λ layout. c.in_ok-write_into.ensures.stored (laid_out_since next old last read keeps layout);
+      each_copy = λ layout. c.in_ok-write_into.ensures.each_copy (laid_out_since next old last read keeps layout);
       good = λ was good stays. from_good c.in_ok-table.table next was old mid (c.in_ok-table.ensures.value honest).accepted good stays;
     })
 

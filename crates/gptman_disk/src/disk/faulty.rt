@@ -21,7 +21,7 @@ pub struct FaultyDisk {
     // The number of calls before the one that fails; `None` after that call, or if none fails.
     calls_left: Option<u64>,
     failures: u64,
-    ghost stands: { position ≡ (⟦<MemoryDisk as Disk>⟧.state below).position },
+    ghost is_positioned: { position ≡ (⟦<MemoryDisk as Disk>⟧.state below).position },
 }
 
 impl FaultyDisk {

@@ -17,7 +17,7 @@ struct Written {
 
 impl Written {
     // Copies the part that overlaps into `bytes`, which begin at byte `at` of the disk.
-    fn lay(&self, at: u64, bytes: &mut [u8]) {
+    fn copy_into(&self, at: u64, bytes: &mut [u8]) {
         let before = self.at.saturating_sub(at) as usize;
         let passed = at.saturating_sub(self.at) as usize;
         let Some(laid) = self.bytes.get(passed..) else {
@@ -76,7 +76,7 @@ impl LongDisk {
 fn fill(written: &[Written], at: u64, buf: &mut [u8]) {
     buf.fill(0);
     for write in written {
-        write.lay(at, buf);
+        write.copy_into(at, buf);
     }
 }
 

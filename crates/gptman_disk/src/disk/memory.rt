@@ -11,10 +11,10 @@ ghost use Rattle.std.specs.IoError.{error_kind};
 ghost use Rattle.std.specs.declared.io.ErrorKind.TheVariants.{OutOfMemory};
 ghost use Rattle.gptman_disk.specs.Disk.{next_bytes, next_range, overlay, HasFailedAsOften};
 ghost use Rattle.gptman_disk.specs.Disk.{HasFailedOnce, HasNext, IsCountedOnce};
-ghost use Rattle.gptman_disk.specs.Disk.{Image, IsFresh, IsHonest, IsLaid};
-ghost use Rattle.gptman_disk.specs.Disk.{CoverTheSame, Keeps, MayBeLaid, Moves, PassesEnd, Reads};
+ghost use Rattle.gptman_disk.specs.Disk.{HasOverwritten, Image, IsFresh, IsHonest};
+ghost use Rattle.gptman_disk.specs.Disk.{CoverTheSame, Keeps, MayHaveWritten, Moves, PassesEnd, Reads};
 ghost use Rattle.gptman_disk.specs.Disk.{ReadsOnAsBefore, Rose};
-ghost use Rattle.gptman_disk.specs.Disk.{StandsAt, StaysAt, Untouched, Writes};
+ghost use Rattle.gptman_disk.specs.Disk.{IsPositionedAt, StaysAt, Untouched, Writes};
 ghost use Rattle.gptman_disk.specs.Memory.{after_call, event_fits, memory_sound, serves};
 ghost use Rattle.gptman_disk.specs.Memory.{view_of, AddsPending};
 
@@ -134,7 +134,7 @@ impl MemoryDisk {
                     next += 1;
                     written.leave(&mut left, fate);
                     if written.done {
-                        lay(&mut view, written.at as usize, &written.bytes);
+                        overwrite(&mut view, written.at as usize, &written.bytes);
                     }
                 }
             }
@@ -162,14 +162,14 @@ impl Written {
         let at = self.at as usize;
         match fate {
             Fate::Old => {}
-            Fate::New => lay(bytes, at, &self.bytes),
+            Fate::New => overwrite(bytes, at, &self.bytes),
             Fate::Garbage(byte) => bytes[at..at + self.bytes.len()].fill(byte),
         }
     }
 }
 
 // Overwrites the bytes from `at`.
-fn lay(bytes: &mut Vec<u8>, at: usize, over: &[u8])
+fn overwrite(bytes: &mut Vec<u8>, at: usize, over: &[u8])
     requires { at + length over.now ≤ length bytes.old.items }
     ensures after { bytes.new.items ≡ overlay bytes.old.items at over.now }
     ensures len { length bytes.new.items ≡ length bytes.old.items }
@@ -218,7 +218,7 @@ impl Disk for MemoryDisk {
     /// Seeks as the trait says. Fails only if the fuse does not serve the call; the position is then unchanged.
     fn seek_start(&mut self, at: u64) -> io::Result<u64>
         ensures reads { Reads (state_of self.old) (state_of self.new) }
-        ensures answer { IfOk result (StandsAt (state_of self.new) at) }
+        ensures answer { IfOk result (IsPositionedAt (state_of self.new) at) }
         ensures cause { OnErr result (Rose (state_of self.old) (state_of self.new)) }
         ensures counts { OnOk result (HasFailedAsOften (state_of self.old) (state_of self.new)) }
         ensures once { OnErr result (HasFailedOnce (state_of self.old) (state_of self.new)) }
@@ -236,7 +236,7 @@ impl Disk for MemoryDisk {
     /// Seeks as the trait says. Fails only if the fuse does not serve the call; the position is then unchanged.
     fn seek_end(&mut self) -> io::Result<u64>
         ensures reads { Reads (state_of self.old) (state_of self.new) }
-        ensures answer { IfOk result (StandsAt (state_of self.new) (state_of self.old).size) }
+        ensures answer { IfOk result (IsPositionedAt (state_of self.new) (state_of self.old).size) }
         ensures cause { OnErr result (Rose (state_of self.old) (state_of self.new)) }
         ensures counts { OnOk result (HasFailedAsOften (state_of self.old) (state_of self.new)) }
         ensures once { OnErr result (HasFailedOnce (state_of self.old) (state_of self.new)) }
@@ -299,10 +299,10 @@ impl Disk for MemoryDisk {
         ensures moves { OnOk result (Moves (state_of self.old) (state_of self.new) (length buf.now)) }
         ensures wrote { Writes (next_range (state_of self.old) (length buf.now) ∷ [])
             (state_of self.old) (state_of self.new) }
-        ensures laid { IsHonest (state_of self.old)
-            → OnOk result (IsLaid buf.now (state_of self.old) (state_of self.new)) }
+        ensures contents { IsHonest (state_of self.old)
+            → OnOk result (HasOverwritten buf.now (state_of self.old) (state_of self.new)) }
         ensures failed { IsHonest (state_of self.old)
-            → OnErr result (MayBeLaid (length buf.now) (state_of self.old) (state_of self.new)) }
+            → OnErr result (MayHaveWritten (length buf.now) (state_of self.old) (state_of self.new)) }
         ensures pending { AddsPending (next_range (state_of self.old) (length buf.now))
             (state_of self.old) (state_of self.new)
             ⊎ (IsErr result × Untouched (state_of self.old) (state_of self.new)) }
@@ -333,7 +333,7 @@ impl Disk for MemoryDisk {
             return Err(fail(&mut self.failures));
         }
         let at = self.position as usize;
-        lay(&mut self.bytes, at, buf);
+        overwrite(&mut self.bytes, at, buf);
         self.position += buf.len() as u64;
         Ok(())
     }

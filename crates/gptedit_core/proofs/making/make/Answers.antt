@@ -5,7 +5,7 @@ use Rattle.gptman.specs.Layout.{HasLayout}
 use Rattle.gptman.proofs.Outcomes.{on_err_of}
 use Rattle.gptman.proofs.Runs.{rose_since}
 use Rattle.gptedit_core.specs.Making.{IsPlannedNew}
-use Rattle.gptedit_core.specs.Making.AnswersMaking.{is_made, is_refused, is_told}
+use Rattle.gptedit_core.specs.Making.AnswersMaking.{is_dry_run, is_made, is_refused}
 use Rattle.gptedit_core.specs.declared.making.Made.TheVariants.{New}
 use Rattle.gptedit_core.proofs.Anew.{made_leaves, made_refused, new_above, on_disk, planned_new}
 use Rattle.gptedit_core.proofs.Bounded.{new_coherent, new_layout}
@@ -19,7 +19,7 @@ returns-in-Refused-clause-done g c = λ honest.
 pub returns-then-creation-clause-done : goal.returns-then-creation-clause-done
 returns-then-creation-clause-done g c = λ honest.
     let len : ℕ = (g.D.Disk.state c.args.disk.now).size in
-    is_told c.in-New.next (subst (IsPlannedNew c.args.creation.now c.args.sector_size len) c.in-New.is c.in_ok-next.ensures.value) (search rules) (c.plan.ensures.reads.only honest) refl
+    is_dry_run c.in-New.next (subst (IsPlannedNew c.args.creation.now c.args.sector_size len) c.in-New.is c.in_ok-next.ensures.value) (search rules) (c.plan.ensures.reads.only honest) refl
 
 pub write_into-requires-clause-sector : goal.write_into-requires-clause-sector
 write_into-requires-clause-sector g c =
@@ -80,7 +80,7 @@ returns-clause-done g c = λ honest.
     let is = planned_new c.args.creation.now c.args.sector_size old.size _ c.in-New.next w c.in-New.is c.in_ok-written.ensures.ok c.in_ok-next.ensures.value in
     is_made w is (search rules)
     (on_disk c.args.creation.now c.args.sector_size w old (g.D.Disk.state c.plan.new.disk) (g.D.Disk.state c.write_into.new.disk) read c.plan.ensures.reads.keeps is
-    (c.write_into.ensures.wrote read.wrote.honest) c.in_ok-write_into.ensures.stored c.in_ok-write_into.ensures.alone)
+    (c.write_into.ensures.wrote read.wrote.honest) c.in_ok-write_into.ensures.stored c.in_ok-write_into.ensures.each_copy)
     (ap New (sym c.in_ok-written.ensures.ok))
 
 pub returns-clause-leaves : goal.returns-clause-leaves

@@ -1,7 +1,7 @@
 use Rattle.std.proofs.Common.{◌≡◌, ℕ, List, ap, subst, ◌∙◌}
 use Rattle.gptman.proofs.Readers.{both_read}
 use Rattle.gptedit_look.specs.Wiped.{header_in, IsOfBeside, IsOfOther, WritesOnly}
-use Rattle.gptedit_look.specs.declared.signatures.Place.TheVariants.{Start, End}
+use Rattle.gptedit_look.specs.declared.signatures.HeaderPlace.TheVariants.{Start, End}
 use Rattle.gptedit_look.specs.declared.signatures.Signature.{Signature}
 use Rattle.gptedit_look.proofs.Beside.{cleared_as, only_after, only_as, only_named, only_read, other_of}
 use Rattle.gptedit_look.proofs.Clears.{on_ok_as}

@@ -11,5 +11,5 @@ returns-in_err-sync-clause-wrote g c = λ honest.
 pub returns-clause-stored : goal.returns-clause-stored
 returns-clause-stored g c = λ honest.
     let first = c.write_protective_mbr_into.ensures.wrote honest in
-    let laid = c.in_ok-write_protective_mbr_into.ensures.laid honest in
+    let laid = c.in_ok-write_protective_mbr_into.ensures.contents honest in
     record { view = c.sync.ensures.view first.honest ∙ laid.view; synced = c.in_ok-sync.ensures.synced first.honest }

@@ -13,11 +13,11 @@ returns-clause-set g c = λ honest.
     let old = g.D.Disk.state c.args.disk.now in
     let i = c.args.misfit.entry in
     let n = c.args.misfit.length in
-    let laid_over : List ℕ → List ℕ = λ b. overlay (overlay b (451 + 16 * i) (0xFF ∷ 0xFF ∷ 0xFF ∷ [])) (458 + 16 * i) (little_bytes 4 n) in
+    let overlaid : List ℕ → List ℕ = λ b. overlay (overlay b (451 + 16 * i) (0xFF ∷ 0xFF ∷ 0xFF ∷ [])) (458 + 16 * i) (little_bytes 4 n) in
     let fits : n < 256 ^ 4 = omega (arith, c.mended-mended.ensures.in_range) in
     let room : 512 ≤ length old.view = omega (arith, (g.met.D.Disk.sound c.args.disk.now honest).size, c.requires.room) in
-    let bytes : c.mended-mended.result ≡ laid_over (part old.view 0 512) = c.mended-mended.ensures.laid ∙ ap laid_over (c.requires.bytes honest) in
-    on_ok_both c.write_mbr.result (c.write_mbr.ensures.laid honest) (c.write_mbr.ensures.synced honest) (λ laid synced. record {
+    let bytes : c.mended-mended.result ≡ overlaid (part old.view 0 512) = c.mended-mended.ensures.contents ∙ ap overlaid (c.requires.bytes honest) in
+    on_ok_both c.write_mbr.result (c.write_mbr.ensures.contents honest) (c.write_mbr.ensures.synced honest) (λ laid synced. record {
       bytes = subst (λ (v : List ℕ). HasLength i n old.view v)
           (sym (laid ∙ ap (λ (m : List ℕ). overlay old.view 446 (slice_range m 446 512)) bytes))
           (has_length old.view i n c.requires.place fits room);

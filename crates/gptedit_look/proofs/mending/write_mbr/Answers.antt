@@ -24,10 +24,10 @@ returns-clause-wrote g c = λ honest.
     let wrote = wrote_then (within_range (omega (arith, at)) (omega (arith, at, c.requires.length))) (wrote_wider within_none read.wrote) (c.write_all.ensures.wrote read.wrote.honest) in
     wrote_then within_none wrote (c.sync.ensures.wrote wrote.honest)
 
-pub returns-clause-laid : goal.returns-clause-laid
-returns-clause-laid g c = λ honest.
+pub returns-clause-contents : goal.returns-clause-contents
+returns-clause-contents g c = λ honest.
     let read = c.seek_start.ensures.reads.only honest in
-    let laid = c.in_ok-write_all.ensures.laid read.wrote.honest in
+    let laid = c.in_ok-write_all.ensures.contents read.wrote.honest in
     let at : (g.D.Disk.state c.seek_start.new.self).position ≡ 446 = c.in_ok-seek_start.ensures.answer.1 in
     let wrote = c.write_all.ensures.wrote read.wrote.honest in
     c.sync.ensures.view wrote.honest ∙ laid.view ∙ (λ i. overlay (read.view i) (at i) c.args.bytes.now)

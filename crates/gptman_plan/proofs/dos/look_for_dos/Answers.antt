@@ -6,7 +6,7 @@ use Rattle.gptman_plan.specs.Reading.{IsLack}
 use Rattle.gptman_plan.specs.Rounds.{first_sector}
 use Rattle.gptman_plan.proofs.Asked.{lack_at}
 use Rattle.gptman_plan.proofs.Seen.{is_clear, is_dos, none_short}
-use Rattle.gptman_plan.proofs.Told.{at_none}
+use Rattle.gptman_plan.proofs.KnownCopies.{at_none}
 use Rattle.gptman_plan.proofs.dos.look_for_dos.Goals as goal
 
 pub returns-then-ends-lt512 : goal.returns-then-ends-lt512

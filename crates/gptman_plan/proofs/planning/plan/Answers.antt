@@ -20,7 +20,7 @@ use Rattle.gptman_plan.proofs.AnyPlan.{plan_any}
 use Rattle.gptman_plan.proofs.Asked.{among_left}
 use Rattle.gptman_plan.proofs.AskedPlans.{asks_as, asks_none, plan_place}
 use Rattle.gptman_plan.proofs.Refused.{fault_as, refused_as}
-use Rattle.gptman_plan.proofs.Told.{at_none}
+use Rattle.gptman_plan.proofs.KnownCopies.{at_none}
 use Rattle.gptman_plan.proofs.planning.plan.Goals as goal
 use Rattle.gptman_plan.proofs.planning.plan.Goals.{then-count-eq0-via-then-count-eq0, then-count-eq0-via-else-count-eq0+then-partitions-count, then-count-eq0-via-else-count-eq0+else-partitions-count+then-ends-sector_size}
 
@@ -35,7 +35,7 @@ returns-clause-plan c =
     let places : on_disk = at_none on_disk (IsLack a.ends.now) c.lack_of_places.result c.in_default.is c.lack_of_places.ensures.known in
     let next : Table = with_partitions g a.partitions.now in
     let read : IsTable a.ends.now g.sector_size g stated.is_backup = subst (λ (ss : ℕ). IsTable a.ends.now ss g stated.is_backup) (sym same) stated.read in
-    let laid : IsLaidOut (table_in g) g.sector_size a.ends.now.size = subst (λ (ss : ℕ). IsLaidOut (table_in g) ss a.ends.now.size) (sym same) stated.laid in
+    let laid : IsLaidOut (table_in g) g.sector_size a.ends.now.size = subst (λ (ss : ℕ). IsLaidOut (table_in g) ss a.ends.now.size) (sym same) stated.laid_out in
     let count : length a.partitions.now ≡ (table_in g).count = omega arith in
     IfOk-weaker c.record_write.result
     (λ (plan : Record). IsReadInForm (zeroed a.ends.now) g → IsLaidOut next g.sector_size a.ends.now.size

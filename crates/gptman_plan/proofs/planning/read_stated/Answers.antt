@@ -10,7 +10,7 @@ pub returns-clause-table : goal.returns-clause-table
 returns-clause-table c =
     let told = c.in-Table.ensures.reading in
     let stated = c.is_stated.ensures.0 c.if-not-is_stated.false in
-    record { is_backup = c.in-Table.is_backup; read = told; form = stated.0; laid = subst (λ (n : ℕ). IsLaidOut (table_in c.in-Table.table) n c.args.ends.now.size) told.sector stated.1 }
+    record { is_backup = c.in-Table.is_backup; read = told; form = stated.0; laid_out = subst (λ (n : ℕ). IsLaidOut (table_in c.in-Table.table) n c.args.ends.now.size) told.sector stated.1 }
 
 pub returns-in-Fault-clause-refused : goal.returns-in-Fault-clause-refused
 returns-in-Fault-clause-refused c = λ partitions. ⊎_elim (λ none. inl none) (λ told. inr (λ b ends. is_not_read (told b ends))) c.in-Fault.ensures.reading

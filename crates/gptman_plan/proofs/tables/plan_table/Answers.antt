@@ -10,7 +10,7 @@ use Rattle.gptman_plan.specs.Asking.{value_ranges}
 use Rattle.gptman_plan.specs.Rounds.{IsAmong}
 use Rattle.std.proofs.lemmas.Result.{err_from_is_err_and}
 use Rattle.gptman_plan.proofs.AskedPlans.{asks_none, if_some}
-use Rattle.gptman_plan.proofs.Told.{at_none}
+use Rattle.gptman_plan.proofs.KnownCopies.{at_none}
 use Rattle.gptman_plan.proofs.TablePlans.{table_any}
 use Rattle.gptman_plan.proofs.tables.plan_table.Goals as goal
 
@@ -21,7 +21,7 @@ returns-clause-plan c = λ b ends.
     let acts : List Act = acts_of c.in_ok-plan.plan.bytes.items c.in_ok-plan.plan.steps.items in
     let on_disk : Type 0 = AreInside (four_ranges (table_in g) g.sector_size a.ends.now.size) a.ends.now.size → HaveRanges a.ends.now (four_ranges (table_in g) g.sector_size a.ends.now.size) in
     let places : on_disk = at_none on_disk (IsLack a.ends.now) c.lack_of_places-lack.result c.in_default.is c.lack_of_places-lack.ensures.known in
-    table_any a.ends.now g acts places c.in_ok-plan.ensures.written c.in_ok-plan.ensures.turns (c.has_layout-is_laid_out.ensures.0 c.if-not-is_laid_out.false) b ends
+    table_any a.ends.now g acts places c.in_ok-plan.ensures.written c.in_ok-plan.ensures.order (c.has_layout-is_laid_out.ensures.0 c.if-not-is_laid_out.false) b ends
 
 pub returns-in_err-plan-clause-asked : goal.returns-in_err-plan-clause-asked
 returns-in_err-plan-clause-asked c =

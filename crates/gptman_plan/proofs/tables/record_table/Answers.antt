@@ -3,7 +3,7 @@ use Rattle.gptman_plan.specs.Ends.{length-zeroed, zeroed}
 use Rattle.gptman_plan.specs.Plan.{acts_of}
 use Rattle.gptman_plan.specs.declared.recording.Recorder.{Recorder}
 use Rattle.gptman_plan.proofs.Planned.{begins_at, ends_after, start_stays}
-use Rattle.gptman_plan.proofs.TablePlans.{turns_zero, written_zero}
+use Rattle.gptman_plan.proofs.TablePlans.{order_zero, written_zero}
 use Rattle.gptman_plan.proofs.tables.record_table.Goals as goal
 
 pub returns-in-Ok-clause-written : goal.returns-in-Ok-clause-written
@@ -19,8 +19,8 @@ returns-in-Ok-clause-written c = λ layout.
     written_zero (zeroed a.ends.now) a.ends.now.size a.table (acts_of c.into_plan.result.bytes.items c.into_plan.result.steps.items) _ _
     long begins after layout c.in-Ok.ensures.outside c.in-Ok.ensures.stored
 
-pub returns-in-Ok-clause-turns : goal.returns-in-Ok-clause-turns
-returns-in-Ok-clause-turns c = λ layout form.
+pub returns-in-Ok-clause-order : goal.returns-in-Ok-clause-order
+returns-in-Ok-clause-order c = λ layout form.
     let a = c.args in
     let made = c.new-disk.ensures in
     let begins = begins_at c.new-disk.result a.ends.now made.ends made.acts made.position made.failures in
@@ -29,5 +29,5 @@ returns-in-Ok-clause-turns c = λ layout form.
     let sized : e.ends.size ≡ a.ends.now.size = c.in-Ok.ensures.keeps.size ∙ (λ i. (made.ends i).size) in
     let same = start_stays (zeroed a.ends.now) a.ends.now.size _ e long begins sized (c.in-Ok.ensures.wrote refl).time in
     let after = ends_after e c.into_plan.result (zeroed a.ends.now) same c.into_plan.ensures in
-    turns_zero (zeroed a.ends.now) a.ends.now.size a.table (acts_of c.into_plan.result.bytes.items c.into_plan.result.steps.items) _ _
-    long begins after layout form c.in-Ok.ensures.turns
+    order_zero (zeroed a.ends.now) a.ends.now.size a.table (acts_of c.into_plan.result.bytes.items c.into_plan.result.steps.items) _ _
+    long begins after layout form c.in-Ok.ensures.order

@@ -5,7 +5,7 @@ use Rattle.gptman_change.specs.declared.Planned.{Planned}
 use Rattle.gptedit_core.specs.Planning.{IsLeft, IsWritten}
 use Rattle.gptedit_core.specs.declared.plan.Outcome.{Outcome}
 use Rattle.gptedit_core.specs.declared.plan.Request.{Request}
-use Rattle.test_laws.proofs.Twice.{planned_align, told_left, told_written}
+use Rattle.test_laws.proofs.Twice.{left_unchanged, planned_align, written_again}
 use Rattle.test_laws.proofs.layouts.ask_twice.Goals as goal
 
 pub returns-in-Leave-clause-left : goal.returns-in-Leave-clause-left
@@ -38,7 +38,7 @@ returns-in-Write-2-clause-again g c = λ asks.
     subst (λ (p : Planned Outcome). IsPlannedAs (IsWritten first n) (IsLeft first n) table next p) c.in-Write.is c.in_ok-change.ensures.value in
     let again : IsWritten second m clone c.change-2.new.table c.in-Write-2.told =
     subst (λ (p : Planned Outcome). IsPlannedAs (IsWritten second m) (IsLeft second m) clone c.change-2.new.table p) c.in-Write-2.is c.in_ok-told.ensures.value in
-    told_written c.layouts_again_change_nothing.ensures c.layouts_again_are_taken.ensures first second n table next c.requires.first c.requires.again made.planned asks
+    written_again c.layouts_again_change_nothing.ensures c.layouts_again_are_taken.ensures first second n table next c.requires.first c.requires.again made.planned asks
     m clone c.change-2.new.table c.in-Write-2.told c.change.ensures.reads.keeps.size c.in_ok-clone.ensures.ok again
 
 pub returns-clause-again : goal.returns-clause-again
@@ -54,5 +54,5 @@ returns-clause-again g c = λ asks.
     subst (λ (p : Planned Outcome). IsPlannedAs (IsWritten first n) (IsLeft first n) table next p) c.in-Write.is c.in_ok-change.ensures.value in
     let again : IsLeft second m clone c.in-Leave-2.told =
     subst (λ (p : Planned Outcome). IsPlannedAs (IsWritten second m) (IsLeft second m) clone c.change-2.new.table p) c.in-Leave-2.is c.in_ok-told.ensures.value in
-    told_left c.layouts_again_change_nothing.ensures c.layouts_again_are_taken.ensures first second n table next c.requires.first c.requires.again made.planned asks
+    left_unchanged c.layouts_again_change_nothing.ensures c.layouts_again_are_taken.ensures first second n table next c.requires.first c.requires.again made.planned asks
     m clone c.in-Leave-2.told c.change.ensures.reads.keeps.size c.in_ok-clone.ensures.ok again

@@ -26,7 +26,7 @@ header_left : (g : Over) (c : In_ok-write_all g) → IsTrue (g.D.Disk.state c.ar
     → IsPending (header_range c.args.header.now c.args.sector_size) (g.D.Disk.state c.write_all.new.self)
 header_left g c honest =
     let size : length c.encode.result ≡ 92 = omega arith in
-    grown_has _ _ _ _ c.in_ok-seek_start.ensures.answer.1 size (c.in_ok-write_all.ensures.laid (c.seek_start.ensures.reads.only honest).wrote.honest).pending
+    grown_has _ _ _ _ c.in_ok-seek_start.ensures.answer.1 size (c.in_ok-write_all.ensures.contents (c.seek_start.ensures.reads.only honest).wrote.honest).pending
 
 pub returns-in_err-write_all-clause-wrote : goal.returns-in_err-write_all-clause-wrote
 returns-in_err-write_all-clause-wrote g c = header_wrote g (goal.at.returns-in_err-write_all-clause-wrote g c).After-write_all
@@ -47,8 +47,8 @@ returns-in_err-write_all-clause-failed g c = λ honest.
 pub returns-then-is_empty-clause-wrote : goal.returns-then-is_empty-clause-wrote
 returns-then-is_empty-clause-wrote g c = header_wrote g (goal.at.returns-then-is_empty-clause-wrote g c).After-write_all
 
-pub returns-then-is_empty-clause-laid : goal.returns-then-is_empty-clause-laid
-returns-then-is_empty-clause-laid g c = λ honest.
+pub returns-then-is_empty-clause-contents : goal.returns-then-is_empty-clause-contents
+returns-then-is_empty-clause-contents g c = λ honest.
     let w1 = (c.seek_start.ensures.reads.only honest).wrote in
     let h = c.args.header.now in
     let s0 = g.D.Disk.state c.args.disk.now in
@@ -56,7 +56,7 @@ returns-then-is_empty-clause-laid g c = λ honest.
     let none : c.args.partitions.now ≡ [] = nil_from_length c.args.partitions.now (grind arith) in
     let at : ℕ = h.partition_entry_lba * c.args.sector_size in
     let header : s2.view ≡ overlay s0.view (h.primary_lba * c.args.sector_size) (header_bytes h) =
-    cc ((c.in_ok-write_all.ensures.laid w1.honest).view, c.in_ok-seek_start.ensures.answer.1, (c.seek_start.ensures.reads.only honest).view, c.encode.ensures.spelled) in
+    cc ((c.in_ok-write_all.ensures.contents w1.honest).view, c.in_ok-seek_start.ensures.answer.1, (c.seek_start.ensures.reads.only honest).view, c.encode.ensures.spelled) in
     header ∙ sym (overlay_nothing _ at) ∙ sym (ap (λ es. overlay (overlay s0.view (h.primary_lba * c.args.sector_size) (header_bytes h)) at (array_bytes es)) none)
 
 pub returns-then-is_empty-clause-pending : goal.returns-then-is_empty-clause-pending

@@ -57,11 +57,11 @@ loop-done-preserved g c =
       position = omega (arith, next.moves, inv.position, count);
       fits = All-same FitsEntry (take end es) _ (entries_more es done end upto) (All-append FitsEntry (take done es) block inv.fits next.fits);
       wrote = block_wrote g (goal.at.loop-done-preserved g c).After-write_block;
-      laid = λ honest.
+      contents = λ honest.
           let here : before.position ≡ start.position + length xs = omega (arith, inv.position, long) in
           let fits : start.position + length xs + length (array_bytes block) ≤ length start.view = omega (arith, long, size, c.requires, (g.met.D.Disk.sound c.args.disk.now honest).size) in
-          next.laid (inv.wrote honest).honest
-          ∙ ap (λ v. overlay v before.position (array_bytes block)) (inv.laid honest)
+          next.contents (inv.wrote honest).honest
+          ∙ ap (λ v. overlay v before.position (array_bytes block)) (inv.contents honest)
           ∙ ap (λ p. overlay (overlay start.view start.position xs) p (array_bytes block)) here
           ∙ overlay_more start.view start.position xs (array_bytes block) fits
           ∙ ap (λ l. overlay start.view start.position l) (sym (block_more es done end upto));

@@ -85,13 +85,13 @@ returns-clause-fits g c = search rules
 pub returns-clause-value : goal.returns-clause-value
 returns-clause-value g c = search rules
 
-pub returns-clause-laid : goal.returns-clause-laid
-returns-clause-laid g c = λ honest apart.
+pub returns-clause-contents : goal.returns-clause-contents
+returns-clause-contents g c = λ honest apart.
     let new = g.D.Disk.state c.write_into.new.disk in
     let keeps = edit_keeps c.args.self.now c.apply.new.self c.args.edit c.in_ok-apply.ensures.value in
     let here : AreApart (table_ranges c.apply.new.self) = subst (λ (rs : List (ℕ × ℕ)). AreApart rs) (sym (ranges_still c.args.self.now c.apply.new.self keeps)) apart in
     subst (λ (h : GPTHeader). HasBothCopies new.view c.write_into.new.self h) (c.in_ok-write_into.ensures.other ∙ ap other_with_checksums c.in_ok-apply.ensures.value)
-    (c.in_ok-write_into.ensures.laid honest here)
+    (c.in_ok-write_into.ensures.contents honest here)
 
 pub returns-clause-wrote : goal.returns-clause-wrote
 returns-clause-wrote g c = λ honest.

@@ -6,8 +6,8 @@ use Rattle.gptman_disk.specs.Fault.{fault_of}
 use Rattle.gptman.specs.Stop.{StopsHold}
 use Rattle.gptman.specs.Table.{table_in}
 use Rattle.gptman.specs.declared.edit.Edit.{Edit}
-use Rattle.gptman.proofs.CommitFailure.{failed_after, stands_alone}
-use Rattle.gptman.proofs.CommitLoop.{accepted_more, done_laid, done_leaves, done_stands, done_value, failed_cause, failed_laid, failed_last, failed_leaves, failed_refused, failed_room, failed_stands, failed_untouched, leaves_next, made_next, made_none, wrote_next}
+use Rattle.gptman.proofs.CommitFailure.{done_each_copy, failed_after}
+use Rattle.gptman.proofs.CommitLoop.{accepted_more, done_contents, done_leaves, done_stored, done_value, failed_cause, failed_contents, failed_last, failed_leaves, failed_refused, failed_room, failed_stored, failed_untouched, leaves_next, made_next, made_none, wrote_next}
 use Rattle.gptman.proofs.OneGood.{leaves_outside, one_of_stored}
 use Rattle.gptman.proofs.ReadingLaw.{reads_one_of}
 use Rattle.gptman.proofs.table.GPT.commit_all.Given.{Over}
@@ -46,7 +46,7 @@ loop-edit-preserved g c =
         keeps = next.keeps;
         wrote = next.wrote;
         synced = done.synced;
-        laid = done.laid;
+        contents = done.contents;
         stored = λ honest layout. done.stored (record { honest = honest; layout = layout });
         good = λ honest layout kept. next.one_good (record { start = record { honest = honest; layout = layout }; kept = kept });
       }),
@@ -103,21 +103,21 @@ returns-in-Err-clause-untouched g c = λ honest none.
     failed_untouched c.args.self.now at.yielded at.self (g.D.Disk.state c.args.disk.now) (g.D.Disk.state at.disk) (g.D.Disk.state c.commit.new.disk) at.invariant.0 c.args.edits.items _ at.done
     c.in-Some.edit (all_edits g c) at.invariant.2 (fault_of c.in-Err.fault) honest none c.in-Err.ensures.untouched
 
-pub returns-in-Err-clause-laid : goal.returns-in-Err-clause-laid
-returns-in-Err-clause-laid g c = λ honest some.
+pub returns-in-Err-clause-contents : goal.returns-in-Err-clause-contents
+returns-in-Err-clause-contents g c = λ honest some.
     let at = c.loop-edit in
-    failed_laid c.args.self.now at.yielded at.self (g.D.Disk.state c.args.disk.now) (g.D.Disk.state at.disk) (g.D.Disk.state c.commit.new.disk) at.invariant.0 c.args.edits.items _ at.done
+    failed_contents c.args.self.now at.yielded at.self (g.D.Disk.state c.args.disk.now) (g.D.Disk.state at.disk) (g.D.Disk.state c.commit.new.disk) at.invariant.0 c.args.edits.items _ at.done
     c.in-Some.edit (all_edits g c) at.invariant.2 (fault_of c.in-Err.fault) honest some c.in-Err.ensures.untouched
 
-pub returns-in-Err-clause-stands : goal.returns-in-Err-clause-stands
-returns-in-Err-clause-stands g c = λ start.
+pub returns-in-Err-clause-stored : goal.returns-in-Err-clause-stored
+returns-in-Err-clause-stored g c = λ start.
     let at = c.loop-edit in
-    failed_stands c.args.self.now at.yielded at.self (g.D.Disk.state c.args.disk.now) (g.D.Disk.state at.disk) (g.D.Disk.state c.commit.new.disk) at.invariant.0 c.args.edits.items _ at.done
+    failed_stored c.args.self.now at.yielded at.self (g.D.Disk.state c.args.disk.now) (g.D.Disk.state at.disk) (g.D.Disk.state c.commit.new.disk) at.invariant.0 c.args.edits.items _ at.done
     c.in-Some.edit (all_edits g c) at.invariant.2 (fault_of c.in-Err.fault) start.honest start.layout c.in-Err.ensures.untouched
 
-pub returns-in-Err-clause-alone : goal.returns-in-Err-clause-alone
-returns-in-Err-clause-alone g c = λ start some.
-    stands_alone c.args.self.now c.args.edits.items c.loop-edit.done (g.D.Disk.state c.args.disk.now) (g.D.Disk.state c.commit.new.disk) some (returns-in-Err-clause-stands g c start)
+pub returns-in-Err-clause-each_copy : goal.returns-in-Err-clause-each_copy
+returns-in-Err-clause-each_copy g c = λ start some.
+    done_each_copy c.args.self.now c.args.edits.items c.loop-edit.done (g.D.Disk.state c.args.disk.now) (g.D.Disk.state c.commit.new.disk) some (returns-in-Err-clause-stored g c start)
 
 pub returns-in-Err-clause-after : goal.returns-in-Err-clause-after
 returns-in-Err-clause-after g c = λ from.
@@ -195,19 +195,19 @@ returns-clause-value g c =
 pub returns-clause-untouched : goal.returns-clause-untouched
 returns-clause-untouched g c = λ honest none. inr (c.loop-edit.invariant.0.untouched honest (sym c.loop-edit.invariant.2 ∙ none))
 
-pub returns-clause-laid : goal.returns-clause-laid
-returns-clause-laid g c = λ honest some.
+pub returns-clause-contents : goal.returns-clause-contents
+returns-clause-contents g c = λ honest some.
     let at = c.loop-edit in
-    inr (done_laid c.args.self.now at.yielded at.self (g.D.Disk.state c.args.disk.now) (g.D.Disk.state at.disk) at.invariant.0 c.args.edits.items [] at.done (made_all g c) at.invariant.2 honest some)
+    inr (done_contents c.args.self.now at.yielded at.self (g.D.Disk.state c.args.disk.now) (g.D.Disk.state at.disk) at.invariant.0 c.args.edits.items [] at.done (made_all g c) at.invariant.2 honest some)
 
-pub returns-clause-stands : goal.returns-clause-stands
-returns-clause-stands g c = λ start.
+pub returns-clause-stored : goal.returns-clause-stored
+returns-clause-stored g c = λ start.
     let at = c.loop-edit in
-    inr (done_stands c.args.self.now at.yielded at.self (g.D.Disk.state c.args.disk.now) (g.D.Disk.state at.disk) at.invariant.0 c.args.edits.items [] at.done (made_all g c) at.invariant.2 start.honest start.layout)
+    inr (done_stored c.args.self.now at.yielded at.self (g.D.Disk.state c.args.disk.now) (g.D.Disk.state at.disk) at.invariant.0 c.args.edits.items [] at.done (made_all g c) at.invariant.2 start.honest start.layout)
 
-pub returns-clause-alone : goal.returns-clause-alone
-returns-clause-alone g c = λ start some.
-    stands_alone c.args.self.now c.args.edits.items c.loop-edit.done (g.D.Disk.state c.args.disk.now) (g.D.Disk.state c.loop-edit.disk) some (returns-clause-stands g c start)
+pub returns-clause-each_copy : goal.returns-clause-each_copy
+returns-clause-each_copy g c = λ start some.
+    done_each_copy c.args.self.now c.args.edits.items c.loop-edit.done (g.D.Disk.state c.args.disk.now) (g.D.Disk.state c.loop-edit.disk) some (returns-clause-stored g c start)
 
 done_good : (g : Over) (c : goal.After-drop-edit-iterator-2 g) → StartsFromOne (g.D.Disk.state c.args.disk.now) c.args.self.now (table_in c.args.self.now)
     → StopsHold (g.D.Disk.state c.args.disk.now) (g.D.Disk.state c.loop-edit.disk) c.args.self.now.sector_size (tables_to c.args.self.now c.args.edits.items c.loop-edit.done)

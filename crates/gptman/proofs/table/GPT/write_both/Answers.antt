@@ -8,8 +8,8 @@ use Rattle.gptman.specs.declared.codec.entry.GPTPartitionEntry.{GPTPartitionEntr
 use Rattle.gptman.specs.declared.codec.header.GPTHeader.{GPTHeader}
 use Rattle.gptman.proofs.Outcomes.{on_err_of}
 use Rattle.gptman.proofs.Runs.{rose_since}
-use Rattle.gptman.proofs.TwoCopies.{both_allowed, copied_stand, room_inside, wrote_other, wrote_own}
-use Rattle.gptman.proofs.TwoSides.{ComesFor, IsCopied, after_of, both_done, copied, first_fails, second_fails, stored_of, turns_of}
+use Rattle.gptman.proofs.TwoCopies.{both_allowed, copied_are_there, room_inside, wrote_other, wrote_own}
+use Rattle.gptman.proofs.TwoPlaces.{ComesFor, IsCopied, after_of, both_done, copied, first_fails, order_of, second_fails, stored_of}
 use Rattle.gptman.proofs.table.GPT.write_both.Given.{Over}
 use Rattle.gptman.proofs.table.GPT.write_both.Goals as goal
 
@@ -28,7 +28,7 @@ other_then : (g : Over) (c : goal.After-from_residual-in_err-write_and_sync-2 g)
 other_then g c honest =
     let first = c.in_ok-write_and_sync.ensures in
     copied (other_header c.args.self.now.header) c.args.other c.write_and_sync.new.header (entries_in c.args.self.now) _ c.args.self.now.sector_size _ _ c.requires.other
-    c.as_slice-entries.ensures.items first.value first.fits (first.laid honest) (first.synced honest)
+    c.as_slice-entries.ensures.items first.value first.fits (first.contents honest) (first.synced honest)
 
 -- Both were written.
 other_done : (g : Over) (c : goal.In_ok-write_and_sync-2 g) (honest : IsTrue (g.D.Disk.state c.args.disk.now).is_honest)
@@ -36,7 +36,7 @@ other_done : (g : Over) (c : goal.In_ok-write_and_sync-2 g) (honest : IsTrue (g.
 other_done g c honest =
     let first = c.in_ok-write_and_sync.ensures in
     copied (other_header c.args.self.now.header) c.args.other c.write_and_sync.new.header (entries_in c.args.self.now) _ c.args.self.now.sector_size _ _ c.requires.other
-    c.as_slice-entries.ensures.items first.value first.fits (first.laid honest) (first.synced honest)
+    c.as_slice-entries.ensures.items first.value first.fits (first.contents honest) (first.synced honest)
 
 come_first : (g : Over) (c : goal.After-from_residual g) (honest : IsTrue (g.D.Disk.state c.args.disk.now).is_honest)
     → ComesFor c.args.self.now (g.D.Disk.state c.args.disk.now) (g.D.Disk.state c.write_and_sync.new.disk) (g.met.D.Disk.sound c.args.disk.now honest).size
@@ -47,9 +47,9 @@ come_first g c honest side form laid =
     (subst (λ (h : GPTHeader). LeavesPending (header_range h c.args.self.now.sector_size) (g.D.Disk.state c.args.disk.now) new) c.requires.other
     (c.in_err-write_and_sync.ensures.failed honest))
 
-pub returns-in_err-write_and_sync-clause-turns : goal.returns-in_err-write_and_sync-clause-turns
-returns-in_err-write_and_sync-clause-turns g c = λ from.
-    turns_of c.args.self.now (g.D.Disk.state c.args.disk.now) (g.D.Disk.state c.write_and_sync.new.disk) (g.met.D.Disk.sound c.args.disk.now from.start.honest).size from
+pub returns-in_err-write_and_sync-clause-order : goal.returns-in_err-write_and_sync-clause-order
+returns-in_err-write_and_sync-clause-order g c = λ from.
+    order_of c.args.self.now (g.D.Disk.state c.args.disk.now) (g.D.Disk.state c.write_and_sync.new.disk) (g.met.D.Disk.sound c.args.disk.now from.start.honest).size from
     (come_first g c from.start.honest)
 
 pub returns-in_err-write_and_sync-clause-after : goal.returns-in_err-write_and_sync-clause-after
@@ -73,9 +73,9 @@ come_second g c honest side form laid =
     (subst (λ (h : GPTHeader). Wrote (copy_ranges h c.args.self.now.sector_size) (g.D.Disk.state c.args.disk.now) (g.D.Disk.state c.write_and_sync.new.disk)) c.requires.other first)
     (other_then g c honest) (c.write_and_sync-2.ensures.wrote first.honest) (c.in_err-write_and_sync-2.ensures.failed first.honest)
 
-pub returns-in_err-write_and_sync-2-clause-turns : goal.returns-in_err-write_and_sync-2-clause-turns
-returns-in_err-write_and_sync-2-clause-turns g c = λ from.
-    turns_of c.args.self.now (g.D.Disk.state c.args.disk.now) (g.D.Disk.state c.write_and_sync-2.new.disk) (g.met.D.Disk.sound c.args.disk.now from.start.honest).size from
+pub returns-in_err-write_and_sync-2-clause-order : goal.returns-in_err-write_and_sync-2-clause-order
+returns-in_err-write_and_sync-2-clause-order g c = λ from.
+    order_of c.args.self.now (g.D.Disk.state c.args.disk.now) (g.D.Disk.state c.write_and_sync-2.new.disk) (g.met.D.Disk.sound c.args.disk.now from.start.honest).size from
     (come_second g c from.start.honest)
 
 pub returns-in_err-write_and_sync-2-clause-after : goal.returns-in_err-write_and_sync-2-clause-after
@@ -102,7 +102,7 @@ own_done g c honest =
     let still = (c.write_and_sync.ensures.wrote honest).honest in
     let second = c.in_ok-write_and_sync-2.ensures in
     copied c.args.self.now.header c.args.self.now.header c.write_and_sync-2.new.header (entries_in c.args.self.now) _ c.args.self.now.sector_size _ _ refl
-    c.as_slice-entries.ensures.items second.value second.fits (second.laid still) (second.synced still)
+    c.as_slice-entries.ensures.items second.value second.fits (second.contents still) (second.synced still)
 
 come_both : (g : Over) (c : goal.In_ok-write_and_sync-2 g) (honest : IsTrue (g.D.Disk.state c.args.disk.now).is_honest)
     → ComesFor c.args.self.now (g.D.Disk.state c.args.disk.now) (g.D.Disk.state c.write_and_sync-2.new.disk) (g.met.D.Disk.sound c.args.disk.now honest).size
@@ -114,9 +114,9 @@ come_both g c honest side form laid =
     (subst (λ (h : GPTHeader). Wrote (copy_ranges h c.args.self.now.sector_size) (g.D.Disk.state c.args.disk.now) (g.D.Disk.state c.write_and_sync.new.disk)) c.requires.other first)
     (other_done g c honest) (c.write_and_sync-2.ensures.wrote first.honest) (own_done g c honest)
 
-pub returns-clause-turns : goal.returns-clause-turns
-returns-clause-turns g c = λ from.
-    turns_of c.args.self.now (g.D.Disk.state c.args.disk.now) (g.D.Disk.state c.write_and_sync-2.new.disk) (g.met.D.Disk.sound c.args.disk.now from.start.honest).size from
+pub returns-clause-order : goal.returns-clause-order
+returns-clause-order g c = λ from.
+    order_of c.args.self.now (g.D.Disk.state c.args.disk.now) (g.D.Disk.state c.write_and_sync-2.new.disk) (g.met.D.Disk.sound c.args.disk.now from.start.honest).size from
     (come_both g c from.start.honest)
 
 pub returns-clause-wrote : goal.returns-clause-wrote
@@ -130,15 +130,15 @@ returns-clause-stored g c = λ start.
     (g.D.Disk.state c.write_and_sync.new.disk) (g.met.D.Disk.bounded c.args.disk.now) start (other_done g c start.honest)
     (c.write_and_sync-2.ensures.wrote (c.write_and_sync.ensures.wrote start.honest).honest) (own_done g c start.honest)
 
-pub returns-clause-laid : goal.returns-clause-laid
-returns-clause-laid g c = λ honest apart.
+pub returns-clause-contents : goal.returns-clause-contents
+returns-clause-contents g c = λ honest apart.
     let h : GPTHeader = c.args.self.now.header in
     let es : List GPTPartitionEntry = entries_in c.args.self.now in
     let ss : ℕ = c.args.self.now.sector_size in
     let old = g.D.Disk.state c.args.disk.now in
     let new = g.D.Disk.state c.write_and_sync-2.new.disk in
     let inside = room_inside h ss old (g.met.D.Disk.sound c.args.disk.now honest).size c.requires.room in
-    let stand = copied_stand h es ss old (g.D.Disk.state c.write_and_sync.new.disk) new apart inside c.requires.coherent.count
+    let stand = copied_are_there h es ss old (g.D.Disk.state c.write_and_sync.new.disk) new apart inside c.requires.coherent.count
     (other_done g c honest) (c.write_and_sync-2.ensures.wrote (c.write_and_sync.ensures.wrote honest).honest) (own_done g c honest) in
     let own_is : c.write_and_sync-2.new.header ≡ with_checksums h es = c.in_ok-write_and_sync-2.ensures.value ∙ ap (with_checksums h) c.as_slice-entries.ensures.items in
     let other_is : c.write_and_sync.new.header ≡ with_checksums (other_header h) es = c.in_ok-write_and_sync.ensures.value ∙ (λ i. with_checksums (c.requires.other i) (c.as_slice-entries.ensures.items i)) in

@@ -4,7 +4,7 @@ use Rattle.std.proofs.lemmas.Result.{err_from_is_err_and, on_err_weaker, on_ok_w
 use Rattle.gptman.specs.Answers.{IsFailure}
 use Rattle.gptman_disk.specs.Disk.{Wrote}
 use Rattle.gptman_disk.specs.Fault.{fault_of}
-use Rattle.gptman.specs.Crash.{AreReadAlone, StartsFromOne, StartsLaidOut, StartsSynced, StopsComeInTurns}
+use Rattle.gptman.specs.Crash.{AreReadFromEachCopy, StartsFromOne, StartsLaidOut, StartsSynced, StopsComeInOrder}
 use Rattle.gptman.specs.Stop.{IsStored, StopsHold}
 use Rattle.gptman.specs.Table.{Table, entries_in, table_in}
 use Rattle.gptman.specs.TableWrites.{table_ranges, table_write_fault, HasRoomOn, MayBeWritten}
@@ -17,10 +17,10 @@ use Rattle.gptman.proofs.Runs.{rose_since}
 use Rattle.gptman.proofs.Accepted.{checked_valid, failed_or_memory, failure_rose, layout_fits, write_refused}
 use Rattle.gptman.proofs.Argument.{only_read}
 use Rattle.gptman.proofs.OneGood.{leaves_outside, one_is_synced, one_of_stored}
-use Rattle.gptman.proofs.ReadAlone.{stored_alone}
-use Rattle.gptman.proofs.ReadBefore.{after_still, laid_out_still, synced_still, turns_still, turns_then, wrote_still}
+use Rattle.gptman.proofs.EachCopy.{stored_each_copy}
+use Rattle.gptman.proofs.ReadBefore.{after_still, laid_out_still, order_still, order_then, synced_still, wrote_still}
 use Rattle.gptman.proofs.ReadingLaw.{reads_one_of}
-use Rattle.gptman.proofs.TwoSides.{ComesFor, good_of, turns_of}
+use Rattle.gptman.proofs.TwoPlaces.{ComesFor, good_of, order_of}
 use Rattle.gptman.proofs.table.GPT.write_into.Given.{Over}
 use Rattle.gptman.proofs.table.GPT.write_into.Goals as goal
 
@@ -30,20 +30,20 @@ come_check : (g : Over) (c : goal.After-from_residual g) (honest : IsTrue (g.D.D
     → ComesFor c.args.self.now (g.D.Disk.state c.args.disk.now) (g.D.Disk.state c.args.disk.now) (g.met.D.Disk.sound c.args.disk.now honest).size
 come_check g c honest side form laid = only_read (reads_not (g.D.Disk.state c.args.disk.now) honest (g.met.D.Disk.sound c.args.disk.now honest))
 
-turns_check : (g : Over) (c : goal.After-from_residual g) → StartsSynced (g.D.Disk.state c.args.disk.now) c.args.self.now
-    → StopsComeInTurns (g.D.Disk.state c.args.disk.now) (g.D.Disk.state c.args.disk.now) c.args.self.now
-turns_check g c from =
+order_check : (g : Over) (c : goal.After-from_residual g) → StartsSynced (g.D.Disk.state c.args.disk.now) c.args.self.now
+    → StopsComeInOrder (g.D.Disk.state c.args.disk.now) (g.D.Disk.state c.args.disk.now) c.args.self.now
+order_check g c from =
     let old = g.D.Disk.state c.args.disk.now in
-    turns_of c.args.self.now old old (g.met.D.Disk.sound c.args.disk.now from.start.honest).size from (come_check g c from.start.honest)
+    order_of c.args.self.now old old (g.met.D.Disk.sound c.args.disk.now from.start.honest).size from (come_check g c from.start.honest)
 
 good_check : (g : Over) (c : goal.After-from_residual g) (was : Table) → StartsFromOne (g.D.Disk.state c.args.disk.now) c.args.self.now was
     → StopsHold (g.D.Disk.state c.args.disk.now) (g.D.Disk.state c.args.disk.now) c.args.self.now.sector_size (was ∷ table_in c.args.self.now ∷ [])
 good_check g c was from =
     let old = g.D.Disk.state c.args.disk.now in
-    good_of c.args.self.now old old (g.met.D.Disk.sound c.args.disk.now from.start.honest).size was from (turns_check g c (one_is_synced old c.args.self.now was from))
+    good_of c.args.self.now old old (g.met.D.Disk.sound c.args.disk.now from.start.honest).size was from (order_check g c (one_is_synced old c.args.self.now was from))
 
-pub returns-in_err-check-clause-turns : goal.returns-in_err-check-clause-turns
-returns-in_err-check-clause-turns g c = turns_check g c
+pub returns-in_err-check-clause-order : goal.returns-in_err-check-clause-order
+returns-in_err-check-clause-order g c = order_check g c
 
 pub returns-in_err-check-clause-one_good : goal.returns-in_err-check-clause-one_good
 returns-in_err-check-clause-one_good g c = good_check g c
@@ -57,10 +57,10 @@ returns-in_err-check-clause-crash_safe g c = λ was from x left known.
 
 -- ---- the length is taken, or the other header refused: the disk was only read
 
-turns_read : (g : Over) (c : goal.After-from_residual-in_err-other g) → StartsSynced (g.D.Disk.state c.args.disk.now) c.args.self.now
-    → StopsComeInTurns (g.D.Disk.state c.args.disk.now) (g.D.Disk.state c.writable_other.new.disk) c.args.self.now
-turns_read g c from =
-    turns_still c.args.self.now (g.D.Disk.state c.args.disk.now) (g.D.Disk.state c.writable_other.new.disk) c.in_err-other.ensures.reads
+order_read : (g : Over) (c : goal.After-from_residual-in_err-other g) → StartsSynced (g.D.Disk.state c.args.disk.now) c.args.self.now
+    → StopsComeInOrder (g.D.Disk.state c.args.disk.now) (g.D.Disk.state c.writable_other.new.disk) c.args.self.now
+order_read g c from =
+    order_still c.args.self.now (g.D.Disk.state c.args.disk.now) (g.D.Disk.state c.writable_other.new.disk) c.in_err-other.ensures.reads
     (g.met.D.Disk.sound c.args.disk.now from.start.honest).size from
 
 still : (g : Over) (c : goal.After-from_residual-in_err-other g) (was : Table) → StartsFromOne (g.D.Disk.state c.args.disk.now) c.args.self.now was
@@ -68,10 +68,10 @@ still : (g : Over) (c : goal.After-from_residual-in_err-other g) (was : Table) �
 still g c was from =
     let old = g.D.Disk.state c.args.disk.now in
     good_of c.args.self.now old (g.D.Disk.state c.writable_other.new.disk) (g.met.D.Disk.sound c.args.disk.now from.start.honest).size was from
-    (turns_read g c (one_is_synced old c.args.self.now was from))
+    (order_read g c (one_is_synced old c.args.self.now was from))
 
-pub returns-in_err-other-clause-turns : goal.returns-in_err-other-clause-turns
-returns-in_err-other-clause-turns g c = turns_read g c
+pub returns-in_err-other-clause-order : goal.returns-in_err-other-clause-order
+returns-in_err-other-clause-order g c = order_read g c
 
 pub returns-in_err-other-clause-one_good : goal.returns-in_err-other-clause-one_good
 returns-in_err-other-clause-one_good g c = still g c
@@ -148,24 +148,24 @@ pub returns-clause-outside : goal.returns-clause-outside
 returns-clause-outside g c = λ from.
     leaves_outside c.args.self.now _ (g.D.Disk.state c.write_both.new.disk) from.synced from.start.layout (wrote g c from.start.honest)
 
-turns : (g : Over) (c : goal.After-write_both g) → StartsSynced (g.D.Disk.state c.args.disk.now) c.args.self.now
-    → StopsComeInTurns (g.D.Disk.state c.args.disk.now) (g.D.Disk.state c.write_both.new.disk) c.args.self.now
-turns g c from =
+order : (g : Over) (c : goal.After-write_both g) → StartsSynced (g.D.Disk.state c.args.disk.now) c.args.self.now
+    → StopsComeInOrder (g.D.Disk.state c.args.disk.now) (g.D.Disk.state c.write_both.new.disk) c.args.self.now
+order g c from =
     let old = g.D.Disk.state c.args.disk.now in
     let mid = g.D.Disk.state c.writable_other.new.disk in
     let reads = c.in_ok-other.ensures.reads in
-    turns_then c.args.self.now old mid reads (g.D.Disk.state c.write_both.new.disk) (table_ranges c.args.self.now) (g.met.D.Disk.sound c.args.disk.now from.start.honest).size from
-    (c.write_both.ensures.wrote (reads.only from.start.honest).wrote.honest) (c.write_both.ensures.turns (synced_still c.args.self.now old mid reads from))
+    order_then c.args.self.now old mid reads (g.D.Disk.state c.write_both.new.disk) (table_ranges c.args.self.now) (g.met.D.Disk.sound c.args.disk.now from.start.honest).size from
+    (c.write_both.ensures.wrote (reads.only from.start.honest).wrote.honest) (c.write_both.ensures.order (synced_still c.args.self.now old mid reads from))
 
-pub returns-clause-turns : goal.returns-clause-turns
-returns-clause-turns g c = turns g c
+pub returns-clause-order : goal.returns-clause-order
+returns-clause-order g c = order g c
 
 good : (g : Over) (c : goal.After-write_both g) (was : Table) → StartsFromOne (g.D.Disk.state c.args.disk.now) c.args.self.now was
     → StopsHold (g.D.Disk.state c.args.disk.now) (g.D.Disk.state c.write_both.new.disk) c.args.self.now.sector_size (was ∷ table_in c.args.self.now ∷ [])
 good g c was from =
     let old = g.D.Disk.state c.args.disk.now in
     good_of c.args.self.now old (g.D.Disk.state c.write_both.new.disk) (g.met.D.Disk.sound c.args.disk.now from.start.honest).size was from
-    (turns g c (one_is_synced old c.args.self.now was from))
+    (order g c (one_is_synced old c.args.self.now was from))
 
 pub returns-clause-one_good : goal.returns-clause-one_good
 returns-clause-one_good g c = good g c
@@ -193,8 +193,8 @@ stored g c start =
 pub returns-clause-stored : goal.returns-clause-stored
 returns-clause-stored g c = stored g c
 
-pub returns-clause-alone : goal.returns-clause-alone
-returns-clause-alone g c = λ start.
-    let each : IsStored (g.D.Disk.state c.write_both.new.disk) c.args.self.now.sector_size (table_in c.args.self.now) → AreReadAlone (g.D.Disk.state c.write_both.new.disk).view c.args.self.now =
-    λ is b. stored_alone (g.D.Disk.state c.write_both.new.disk) c.args.self.now.sector_size (table_in c.args.self.now) b is in
+pub returns-clause-each_copy : goal.returns-clause-each_copy
+returns-clause-each_copy g c = λ start.
+    let each : IsStored (g.D.Disk.state c.write_both.new.disk) c.args.self.now.sector_size (table_in c.args.self.now) → AreReadFromEachCopy (g.D.Disk.state c.write_both.new.disk).view c.args.self.now =
+    λ is b. stored_each_copy (g.D.Disk.state c.write_both.new.disk) c.args.self.now.sector_size (table_in c.args.self.now) b is in
     on_ok_weaker _ each (stored g c start)

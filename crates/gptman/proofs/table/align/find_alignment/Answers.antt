@@ -4,7 +4,7 @@ use Rattle.std.specs.Int.{IsGcd}
 use Rattle.gptman.specs.Entry.{is_used}
 use Rattle.gptman.specs.declared.codec.entry.GPTPartitionEntry.{GPTPartitionEntry}
 use Rattle.gptman.specs.Alignment.{used_starts}
-use Rattle.gptman.proofs.CommonDivisor.{IsGreatestCommonDivisor, common_more, starts_used, starts_unused, alignment_zero, alignment_alone, alignment_other}
+use Rattle.gptman.proofs.CommonDivisor.{IsGreatestCommonDivisor, common_more, starts_used, starts_unused, alignment_zero, alignment_of_one, alignment_other}
 use Rattle.gptman.proofs.table.align.find_alignment.Goals as goal
 use Rattle.gptman.proofs.table.align.find_alignment.Goals.{then-is_used, else-is_used, else-count-eq1-via-then-count-eq1+else-common-first_usable_lba, else-count-eq1-via-else-count-eq1}
 
@@ -59,7 +59,7 @@ returns-then-common-eq0 c =
 pub returns-then-common-first_usable_lba : goal.returns-then-common-first_usable_lba
 returns-then-common-first_usable_lba c =
     let count = count_all c.args.entries.now c.loop-entry.entry-index c.loop-entry.count (omega arith) c.loop-entry.invariant.1 in
-    alignment_alone c.args.first_usable_lba (used_starts c.args.entries.now) c.loop-entry.common
+    alignment_of_one c.args.first_usable_lba (used_starts c.args.entries.now) c.loop-entry.common
     (whole c.args.entries.now c.loop-entry.entry-index c.loop-entry.common (omega arith) c.loop-entry.invariant.0) (omega arith) (omega arith)
 
 pub returns-else-count-eq1 : goal.returns-else-count-eq1

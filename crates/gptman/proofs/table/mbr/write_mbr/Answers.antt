@@ -14,11 +14,11 @@ returns-in_err-write_all-clause-wrote g c = λ honest.
     let size : length c.in_ok-bytes.bytes ≡ 66 = omega arith in
     wrote_then (within_range (omega (arith, at)) (omega (arith, at, size))) (wrote_wider within_none read.wrote) (c.write_all.ensures.wrote read.wrote.honest)
 
-pub returns-clause-laid : goal.returns-clause-laid
-returns-clause-laid g c = λ honest.
+pub returns-clause-contents : goal.returns-clause-contents
+returns-clause-contents g c = λ honest.
     let end = c.seek_end.ensures.reads.only honest in
     let read = reads_then end (c.seek_start.ensures.reads.only end.wrote.honest) in
-    let laid = c.in_ok-write_all.ensures.laid read.wrote.honest in
+    let laid = c.in_ok-write_all.ensures.contents read.wrote.honest in
     let at : (g.D.Disk.state c.seek_start.new.self).position ≡ 446 = c.in_ok-seek_start.ensures.answer.1 in
     let size : length c.in_ok-bytes.bytes ≡ 66 = omega arith in
     let bytes : c.in_ok-bytes.bytes ≡ mbr_bytes c.args.bootable c.args.sector_size (g.D.Disk.state c.args.disk.now).size =

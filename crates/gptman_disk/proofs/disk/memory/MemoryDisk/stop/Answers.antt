@@ -60,7 +60,7 @@ loop-event-preserved c =
           record {
             so_far = stops_written d.start.items fates before after view left next inv.so_far here one_more (omega (arith, room, inv.long_view)) _ _ _ view_is left_is w.next-is;
             few = omega (arith, w.next-is, inv.few);
-            long_view = ap (λ (v : Vec ℕ Global). length v.items) w.view-is ∙ w.lay.ensures.len ∙ inv.long_view;
+            long_view = ap (λ (v : Vec ℕ Global). length v.items) w.view-is ∙ w.overwrite.ensures.len ∙ inv.long_view;
             long_left = ap (λ (v : Vec ℕ Global). length v.items) w.left-is ∙ w.leave.ensures.len ∙ inv.long_left;
           }
       | in-Write+else-written w ↦

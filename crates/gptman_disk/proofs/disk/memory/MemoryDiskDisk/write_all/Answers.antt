@@ -21,7 +21,7 @@ returns-clause-wrote c = λ honest.
     let w : Written = record { at = d.position; bytes = c.in-Ok.bytes; done = c.is_served-done.result } in
     let one_more : c.push.new.self.items ≡ d.events.items ++ Write w ∷ [] = search rules in
     let same : c.in-Ok.bytes.items ≡ c.args.buf.now = search rules in
-    served d.start.items d.bytes.items c.lay.new.bytes.items d.events.items c.push.new.self.items d.replays w d.position c.args.buf.now refl same c.if-not-done.false c.requires one_more c.lay.ensures.after _ _ _ _
+    served d.start.items d.bytes.items c.overwrite.new.bytes.items d.events.items c.push.new.self.items d.replays w d.position c.args.buf.now refl same c.if-not-done.false c.requires one_more c.overwrite.ensures.after _ _ _ _
 
 pub returns-clause-moves : goal.returns-clause-moves
 returns-clause-moves c = grind (arith, common_steps)
@@ -56,7 +56,7 @@ returns-clause-stops c =
     let w : Written = record { at = d.position; bytes = c.in-Ok.bytes; done = c.is_served-done.result } in
     let one_more : c.push.new.self.items ≡ d.events.items ++ Write w ∷ [] = search rules in
     let same : c.in-Ok.bytes.items ≡ c.args.buf.now = search rules in
-    counts_write d.start.items d.bytes.items c.lay.new.bytes.items d.events.items c.push.new.self.items d.replays d.fits _ _ _ _ w d.position c.args.buf.now refl same d.size c.requires one_more
+    counts_write d.start.items d.bytes.items c.overwrite.new.bytes.items d.events.items c.push.new.self.items d.replays d.fits _ _ _ _ w d.position c.args.buf.now refl same d.size c.requires one_more
 
 pub returns-in_default-clause-stops : goal.returns-in_default-clause-stops
 returns-in_default-clause-stops c =

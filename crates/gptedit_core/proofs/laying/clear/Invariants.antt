@@ -1,8 +1,0 @@
-use Rattle.std.proofs.Common.{◌≡◌, drop}
-use Rattle.gptedit_core.specs.Laying.{cleared}
-use Rattle.gptedit_core.proofs.laying.clear.Given as goal
-
-abbrev pub invariant-loop-partition : goal.invariant-loop-partition
-invariant-loop-partition l =
-    (cleared (drop l.partition-index l.partitions) l.table ≡ cleared l.partitions l.fn.table)
-    × (l.table.align ≡ l.fn.table.align)

@@ -1,0 +1,40 @@
+-- The outcome for a table that is fitted to its disk.
+use Rattle.std.specs.Prelude.{◌≡◌, ◌≤◌, ℕ}
+use Rattle.gptman.specs.Disk.{DiskState}
+use Rattle.gptman.specs.Stop.{IsStored}
+use Rattle.gptman.specs.Table.{table_in}
+use Rattle.gptman.specs.declared.table.GPT.{GPT}
+use Rattle.gptedit_core.specs.Growing.{lowest_usable, EndsAt, ReachesEnd, RefusesGrowth}
+use Rattle.gptedit_core.specs.declared.growth.Bounds.TheVariants.{Kept, Usual}
+use Rattle.gptedit_core.specs.declared.plan.Outcome.{Outcome}
+use Rattle.gptedit_core.specs.declared.plan.Outcome.TheVariants.{Changed, Unchanged, Refused}
+
+-- The table and its usable sectors end where a disk of len bytes does. The first usable sector is unchanged if
+-- possible, and so is everything else.
+pub record HasNewEnd (len : ℕ) (was next : GPT) : Type 0 where
+  pub reaches : ReachesEnd len was next
+  pub first : lowest_usable was ≤ was.header.first_usable_lba → was.header.first_usable_lba ≤ next.header.last_usable_lba
+      → next.header.first_usable_lba ≡ was.header.first_usable_lba
+
+-- a changed table has that new end; an unchanged one had it before; a refusal has its reason
+abbrev pub IsFitOutcome : ℕ → Outcome → Type 0
+IsFitOutcome len (Changed was next) = HasNewEnd len was next
+IsFitOutcome len (Unchanged table) = EndsAt len table
+IsFitOutcome len (Refused table r) = RefusesGrowth Kept len table r
+
+-- All sectors between the two copies are usable, on a disk of len bytes. Everything else is unchanged.
+pub record HasAllUsable (len : ℕ) (was next : GPT) : Type 0 where
+  pub reaches : ReachesEnd len was next
+  pub first : next.header.first_usable_lba ≡ lowest_usable was
+
+-- the table has all of them usable, or the refusal has its reason
+abbrev pub IsWideOutcome : ℕ → Outcome → Type 0
+IsWideOutcome len (Changed was next) = HasAllUsable len was next
+IsWideOutcome len (Unchanged table) = HasAllUsable len table table
+IsWideOutcome len (Refused table r) = RefusesGrowth Usual len table r
+
+-- both places hold a changed table
+abbrev pub IsOnDisk : DiskState → Outcome → Type 0
+IsOnDisk disk (Changed was next) = IsStored disk next.sector_size (table_in next)
+IsOnDisk disk (Unchanged table) = Unit {0}
+IsOnDisk disk (Refused table r) = Unit {0}
