@@ -13,4 +13,4 @@ pub use choice::{bare_span, find_best, is_known, keep_one_size, may_be_size};
 pub use fault::{EntryFault, Fault};
 pub use found::{CopyKind, FoundCopy, FoundEntry, Salvaged, Spot};
 pub use headers::{Seen, decode_header};
-pub use judge::judge;
+pub use judge::note_entries;

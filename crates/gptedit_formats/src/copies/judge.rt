@@ -6,7 +6,7 @@ use gptman::GPTHeader;
 use std::alloc::{AllocError, Global};
 
 /// Records the faults of each entry.
-pub fn judge(
+pub fn note_entries(
     alloc: Global,
     entries: &mut [FoundEntry],
     spot: Spot,

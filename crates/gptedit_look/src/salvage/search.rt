@@ -9,7 +9,7 @@ use crate::salvage::arrays::{find_array, read_array};
 use crate::salvage::reading::read_header;
 use gptedit_formats::copies::{
     CopyKind, Fault, FoundCopy, Salvaged, Seen, Spot, bare_span, find_best, is_known, is_likely,
-    judge, keep_one_size, may_be_size, note_array, note_length,
+    keep_one_size, may_be_size, note_array, note_entries, note_length,
 };
 use gptman::sizes::SECTOR_SIZES;
 use gptman::{Disk, GPTHeader};
@@ -157,7 +157,7 @@ fn read_copy<D: Disk>(
     note_array(alloc, &mut faults, &header, &mut array, spot)?;
     let entries_lba = Some(array.span.lba);
     let mut entries = array.entries;
-    judge(alloc, &mut entries, spot, Some(&header))?;
+    note_entries(alloc, &mut entries, spot, Some(&header))?;
     Ok(FoundCopy {
         spot,
         header: Some(header),
@@ -206,7 +206,7 @@ fn find_bare<D: Disk>(
     faults.push(Fault::NoHeader { lba })?;
     note_length(&mut faults, &array, spot)?;
     let mut entries = array.entries;
-    judge(alloc, &mut entries, spot, None)?;
+    note_entries(alloc, &mut entries, spot, None)?;
     copies.push(FoundCopy {
         spot,
         header: None,
