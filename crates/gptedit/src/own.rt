@@ -1,14 +1,15 @@
 //! The sectors of the entries of both copies, according to their headers.
 
 use gptedit_look::{Look, Obstacle};
+use gptedit_report::EntrySectors;
 use gptman::copy::WholeCopy;
 use gptman::{Disk, GPT, Result};
 
-/// The sectors of the entries of each good copy: the first one, and the one after the last.
+/// The sectors of the entries of each good copy.
 #[derive(Clone, Copy)]
 pub struct Own {
-    primary: Option<(u64, u64)>,
-    backup: Option<(u64, u64)>,
+    primary: Option<EntrySectors>,
+    backup: Option<EntrySectors>,
 }
 
 impl Own {
@@ -16,16 +17,16 @@ impl Own {
     pub fn of(look: &Look) -> Own {
         let sector_size = look.sector_size;
         Own {
-            primary: range_of(&look.copies.primary, sector_size),
-            backup: range_of(&look.copies.backup, sector_size),
+            primary: entries_of(&look.copies.primary, sector_size),
+            backup: entries_of(&look.copies.backup, sector_size),
         }
     }
 
     /// Reports whether a sector is one of them.
     pub fn has(self, sector: u64) -> bool {
-        for range in [self.primary, self.backup] {
-            if let Some((first, end)) = range {
-                if first <= sector && sector < end {
+        for entries in [self.primary, self.backup] {
+            if let Some(entries) = entries {
+                if entries.has(sector) {
                     return true;
                 }
             }
@@ -34,17 +35,11 @@ impl Own {
     }
 }
 
-fn range_of(copy: &Result<WholeCopy>, sector_size: u64) -> Option<(u64, u64)> {
-    let Ok(copy) = copy else {
-        return None;
-    };
-    let header = &copy.header;
-    let bytes = u64::from(header.number_of_partition_entries).saturating_mul(u64::from(
-        header.size_of_partition_entry,
-    ));
-    let first = header.partition_entry_lba;
-    let sectors = bytes.div_ceil(sector_size.max(1));
-    Some((first, first.saturating_add(sectors)))
+fn entries_of(copy: &Result<WholeCopy>, sector_size: u64) -> Option<EntrySectors> {
+    match copy {
+        Ok(copy) => Some(EntrySectors::of(copy, sector_size)),
+        Err(_) => None,
+    }
 }
 
 /// Reads bytes from byte `at` of the disk on.

@@ -115,17 +115,17 @@ own_again g t next mode a random other i p q number_is is there again =
       unique_partition_guid = unwrap_or a.unique_guid first.x.unique_partition_guid;
       attribute_bits = unwrap_or a.attributes first.x.attribute_bits;
       partition_name = unwrap_or a.name first.x.partition_name;
-      starting_lba = there.first;
-      ending_lba = there.last;
+      starting_lba = there.range.first;
+      ending_lba = there.range.last;
     } in
-    let put : entry_at next p.number ≡ y = there.entry ∙ (λ k. record (first.entry k) { starting_lba = there.first; ending_lba = there.last }) in
+    let put : entry_at next p.number ≡ y = there.entry ∙ (λ k. record (first.entry k) { starting_lba = there.range.first; ending_lba = there.range.last }) in
     let stands : entry_at next i ≡ y = subst (λ (n : ℕ). entry_at next n ≡ y) (sym first.number) put in
     let found : entry_of_number next i ≡ Some y = here.1.1 ∙ ap Some (sym at.1 ∙ stands) in
     let type : ¬ IsTrue (is_unused y) = subst (λ (e : GPTPartitionEntry). ¬ IsTrue (is_unused e)) first.entry first.used in
     let used : IsTrue (is_used y) = used_of (is_unused y) type in
     let part : partition_at next (Become false) a other i ≡ Ok q = subst (λ (n : ℕ). partition_at next (Become false) a other n ≡ Ok q) (sym here.0) number.2 in
     let with : with_used next a other i (Some y) ≡ Ok q = subst (λ (u : Option GPTPartitionEntry). with_used next a other i u ≡ Ok q) (used_is next i y found used) part in
-    (own_part next a i y other q at.0 stands used (asked_again a first.x other there.first there.last) with).1
+    (own_part next a i y other q at.0 stands used (asked_again a first.x other there.range.first there.range.last) with).1
 
 -- ---- all entries
 

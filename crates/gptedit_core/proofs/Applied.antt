@@ -31,7 +31,7 @@ this_entry g i e number = get_or-set_same (entries_in g) (i - 1) e empty_entry (
 pub put_other : (p : ResolvedPartition) (g next : GPT) (j : ℕ) → IsPut p g next → 1 ≤ j → p.number ≢ j → entry_at next j ≡ entry_at g j
 put_other p g next j put low differ =
     subst (λ (m : GPT). entry_at m j ≡ entry_at g j) (sym put.next_is)
-    (other_entry g p.number j (record p.entry { starting_lba = put.first; ending_lba = put.last }) put.number.0 low differ)
+    (other_entry g p.number j (record p.entry { starting_lba = put.range.first; ending_lba = put.range.last }) put.number.0 low differ)
 
 -- A used entry is unchanged, since nothing is put over it.
 pub put_stays : (p : ResolvedPartition) (g next : GPT) (j : ℕ) → IsPut p g next → 1 ≤ j → ¬ IsTrue (is_unused (entry_at g j)) → entry_at next j ≡ entry_at g j
@@ -56,12 +56,12 @@ pub there : (ps : List ResolvedPartition) (g last next : GPT) → ((i : ℕ) →
 there [] g last next same is used = tt
 there (p ∷ ps) g last next same is used =
     let put = is.1 in
-    let entry : GPTPartitionEntry = record p.entry { starting_lba = put.first; ending_lba = put.last } in
+    let entry : GPTPartitionEntry = record p.entry { starting_lba = put.range.first; ending_lba = put.range.last } in
     let here : entry_at is.0 p.number ≡ entry = subst (λ (m : GPT). entry_at m p.number ≡ entry) (sym put.next_is) (this_entry g p.number entry put.number) in
     let still = stay ps is.0 last p.number is.2 put.number.0 (λ unused. used.0 (subst (λ (e : GPTPartitionEntry). IsTrue (is_unused e)) here unused)) in
     let end : entry_at next p.number ≡ entry = same p.number ∙ (still ∙ here) in
     let mid : is.0 ≡ with_entry g p.number (entry_at next p.number) = put.next_is ∙ ap (with_entry g p.number) (sym end) in
-    (record { first = put.first; last = put.last; span = put.span; entry = end }, subst (λ (m : GPT). AreThere ps m next) mid (there ps is.0 last next same is.2 used.1))
+    (record { range = put.range; span = put.span; entry = end }, subst (λ (m : GPT). AreThere ps m next) mid (there ps is.0 last next same is.2 used.1))
 
 -- ---- entries that are cleared or removed first
 

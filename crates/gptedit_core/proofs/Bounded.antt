@@ -18,7 +18,7 @@ use Rattle.gptman.specs.Write.{has_other_header}
 use Rattle.gptman.specs.declared.table.GPT.{GPT}
 use Rattle.gptman.proofs.Commits.{coherent_still, form_still, layout_still, KeepsRanges}
 use Rattle.gptedit_core.specs.Applying.{IsStopOf}
-use Rattle.gptedit_core.specs.Making.{bounded, empty_of, first_asked, last_asked, with_bounds, AreBounds, HasBounds, HasRoomOf, IsAppliedIf, IsNew, RefusesAskedIf, RefusesNew}
+use Rattle.gptedit_core.specs.Making.{bounded, empty_of, first_asked, last_asked, usable_of, with_bounds, AreBounds, HasBounds, HasRoomOf, IsAppliedIf, IsNew, RefusesAskedIf, RefusesNew}
 use Rattle.gptedit_core.specs.Making.RefusesNew.{not_applied, not_valid, out_of_bounds}
 use Rattle.gptedit_core.specs.Planning.{RefusesCheck}
 use Rattle.gptedit_core.specs.declared.asked.RequestedLayout.{RequestedLayout}
@@ -225,8 +225,8 @@ applying_refused creation len empty mid is room bounds value (Refused r) refused
 applying_refused creation len empty mid is room bounds value (Failed e) refused = refused
 
 pub bounds_refused : (creation : Creation) (len : ℕ) (empty : GPT) → empty ≡ empty_of creation empty.sector_size len → HasRoomOf creation empty.sector_size len
-    → (r : Refusal) → (¬ HasBounds creation empty) × (r ≡ OutOfBounds empty.header.first_usable_lba empty.header.last_usable_lba)
+    → (r : Refusal) → (¬ HasBounds creation empty) × (r ≡ OutOfBounds (usable_of empty))
     → RefusesNew creation empty.sector_size len r
 bounds_refused creation len empty is room r (none, told) =
     out_of_bounds room (λ bounds. none (subst (HasBounds creation) (sym is) bounds))
-    (told ∙ ap (λ (m : GPT). OutOfBounds m.header.first_usable_lba m.header.last_usable_lba) is)
+    (told ∙ ap (λ (m : GPT). OutOfBounds (usable_of m)) is)

@@ -1,10 +1,10 @@
 -- The free slots after some sectors are taken.
 use Prim.Native.Nat.{◌∣◌}
-use Rattle.std.proofs.Common.{add-one, drop, drop-cons, length-drop, length-take, get_or-drop, get_or-take, ◌≡◌, ℕ, zero, suc, ◌+◌, ◌-◌, ◌%◌, ◌<◌, ◌≤◌, min, max, nat_lt, List, [], ◌∷◌, ◌++◌, length, get_or, take, append_assoc, ◌⊎◌, inl, inr, Option, Some, None, refl, sym, ap, ◌∙◌, subst, arith}
+use Rattle.std.proofs.Common.{add-one, drop, drop-cons, length-drop, length-take, get_or-drop, get_or-take, ◌≡◌, ℕ, zero, suc, ◌+◌, ◌-◌, ◌%◌, ◌<◌, ◌≤◌, min, max, nat_lt, List, [], ◌∷◌, ◌++◌, length, get_or, take, append_assoc, ◌⊎◌, inl, inr, Option, Some, None, option_map, refl, sym, ap, ◌∙◌, subst, arith}
 use Rattle.std.specs.List.{All, AllPairs, Contains, flat_map}
 use Rattle.std.specs.Option.{option_to_list}
 use Rattle.std.proofs.lemmas.Bool.{cases_lt, cond_above, cond_below, ltb-true}
-use Rattle.std.proofs.lemmas.List.{append-nil, get_or_default, take-append-drop, take_more}
+use Rattle.std.proofs.lemmas.List.{append-nil, get_or_default, length-map, take-append-drop, take_more}
 use Rattle.std.proofs.lemmas.List.Concat.{flat_map-append}
 use Rattle.std.proofs.lemmas.List.Elements.{All-append, All-cons, All-head, All-nil, All-tail, All-weaker, Contains-append_left, Contains-append_right}
 use Rattle.std.proofs.lemmas.List.Kept.{AllPairs-cons}
@@ -14,7 +14,10 @@ use Rattle.gptman.proofs.FreeRuns.{slot_free, slot_of_run}
 use Rattle.gptman.proofs.Multiples.{first_here, first_later, one_first_multiple}
 use Rattle.gptman.proofs.Pairs.{AllPairs-head, AllPairs-nil, AllPairs-tail}
 use Rattle.gptman.proofs.Places.{around, IsSettled}
+use Rattle.gptedit_core.specs.Sectors.{pair_of, pairs_of}
 use Rattle.gptedit_core.specs.Slots.{HasSpan, before_of, behind_of, rest_of, round_up}
+use Rattle.gptedit_core.specs.declared.sectors.Slot.{Slot}
+use Rattle.gptedit_core.proofs.Pairs.{at_pair, more_pairs, put_pairs}
 
 -- ---- the first multiple
 
@@ -276,16 +279,16 @@ rest_has F G align first last s t k less ordered positive slot left from to =
     ]
 
 -- If the first multiple is within the slot,
-pub behind_found : (align last : ℕ) (s : ℕ × ℕ) (from skipped : ℕ) → 0 < align → IsFirstMultiple align from (from + skipped) → from ≡ max s.0 (last + 1) → 0 < s.1
-    → from ≤ s.0 + (s.1 - 1) → skipped ≤ s.0 + (s.1 - 1) - from → ◌≡◌ {A = Option (ℕ × ℕ)} (Some (from + skipped, s.0 + (s.1 - 1) - from - skipped + 1)) (behind_of align last s)
-behind_found align last s from skipped positive next is some within low =
-    sym (behind_some align last s (from + skipped) (s.0 + (s.1 - 1) - from - skipped + 1) positive
+pub behind_found : (align last end : ℕ) (s : ℕ × ℕ) (from skipped : ℕ) → 0 < align → IsFirstMultiple align from (from + skipped) → from ≡ max s.0 (last + 1) → end + 1 ≡ s.0 + s.1
+    → from ≤ end → skipped ≤ end - from → ◌≡◌ {A = Option (ℕ × ℕ)} (Some (from + skipped, end - from - skipped + 1)) (behind_of align last s)
+behind_found align last end s from skipped positive next is long within low =
+    sym (behind_some align last s (from + skipped) (end - from - skipped + 1) positive
     (subst (λ (y : ℕ). IsFirstMultiple align y (from + skipped)) is next) (omega arith) (omega arith))
 
 -- and if it is not.
-pub behind_gone : (align last : ℕ) (s : ℕ × ℕ) (from skipped : ℕ) → 0 < align → IsFirstMultiple align from (from + skipped) → from ≡ max s.0 (last + 1) → 0 < s.1
-    → from ≤ s.0 + (s.1 - 1) → s.0 + (s.1 - 1) - from < skipped → ◌≡◌ {A = Option (ℕ × ℕ)} None (behind_of align last s)
-behind_gone align last s from skipped positive next is some within high =
+pub behind_gone : (align last end : ℕ) (s : ℕ × ℕ) (from skipped : ℕ) → 0 < align → IsFirstMultiple align from (from + skipped) → from ≡ max s.0 (last + 1) → end + 1 ≡ s.0 + s.1
+    → from ≤ end → end - from < skipped → ◌≡◌ {A = Option (ℕ × ℕ)} None (behind_of align last s)
+behind_gone align last end s from skipped positive next is long within high =
     let start : ℕ = round_up align (max s.0 (last + 1)) in
     let same : start ≡ from + skipped =
     round_up_is align (max s.0 (last + 1)) (from + skipped) positive (subst (λ (y : ℕ). IsFirstMultiple align y (from + skipped)) is next) in
@@ -334,28 +337,6 @@ slots_left F G align first last slots less ordered positive settled are = record
       (λ s slot. rest_in_order align first last s positive ordered (slot_long F align s.0 s.1 slot)) slots are.each)
       (slots_apart F align slots are);
 }
-
--- No slot ends later than before.
-pub rest_fits : (align first last n : ℕ) (slots : List (ℕ × ℕ)) → 0 < align → All (λ s. s.0 + s.1 ≤ n) slots
-    → All (λ s. s.0 + s.1 ≤ n) (flat_map (rest_of align first last) slots)
-rest_fits align first last n slots positive fit =
-    all_pieces (rest_of align first last) (λ s. s.0 + s.1 ≤ n) (λ s. s.0 + s.1 ≤ n) (λ s le.
-    all_rest align first last s (λ s. s.0 + s.1 ≤ n) positive
-    (λ x p. let at = ap (λ (r : ℕ × ℕ). r.0) p.is in let long = ap (λ (r : ℕ × ℕ). r.1) p.is in omega arith)
-    (λ x p. let low = p.low in let long = ap (λ (r : ℕ × ℕ). r.1) p.is in omega arith))
-    slots fit
-
--- One more slot.
-pub one_more : (align first last : ℕ) (slots : List (ℕ × ℕ)) (i : ℕ) → i < length slots
-    → (flat_map (rest_of align first last) (take i slots) ++ option_to_list (before_of first (get_or slots i (0, 0)))) ++ option_to_list (behind_of align last (get_or slots i (0, 0)))
-    ≡ flat_map (rest_of align first last) (take (i + 1) slots)
-one_more align first last slots i within =
-    let f : ℕ × ℕ → List (ℕ × ℕ) = rest_of align first last in
-    let s : ℕ × ℕ = get_or slots i (0, 0) in
-    let parts = append_assoc (flat_map f (take i slots)) (option_to_list (before_of first s)) (option_to_list (behind_of align last s)) in
-    let more : flat_map f (take (i + 1) slots) ≡ flat_map f (take i slots) ++ (f s ++ []) =
-    ap (λ (l : List (ℕ × ℕ)). flat_map f l) (take_more slots i (0, 0) within) ∙ flat_map-append f (take i slots) (s ∷ []) in
-    parts ∙ sym (more ∙ ap (λ (l : List (ℕ × ℕ)). flat_map f (take i slots) ++ l) (append-nil (f s)))
 
 -- ---- one slot contains all the sectors
 
@@ -407,3 +388,41 @@ cut_within align first last slots i positive ordered some multiples apart within
     let split : flat_map f slots ≡ flat_map f (take i slots) ++ (f s ++ flat_map f (drop (i + 1) slots)) =
     ap (λ (l : List (ℕ × ℕ)). flat_map f l) whole ∙ flat_map-append f (take i slots) (s ∷ drop (i + 1) slots) in
     sym (split ∙ (ap (λ (l : List (ℕ × ℕ)). l ++ (f s ++ flat_map f (drop (i + 1) slots))) front ∙ ap (λ (l : List (ℕ × ℕ)). take i slots ++ (f s ++ l)) back))
+
+-- ---- by slots
+
+pub has_span : (first last : ℕ) (slots : List Slot) (i : ℕ) (slot : Slot) → i < length slots → slot ≡ get_or slots i slot → slot.start ≤ first → last < slot.start + slot.length
+    → HasSpan first last (get_or (pairs_of slots) i (0, 0))
+has_span first last slots i slot within is low high = subst (HasSpan first last) (sym (at_pair slots i slot within is)) (low, high)
+
+both_parts : (align first last : ℕ) (slots : List Slot) (i : ℕ) (slot : Slot) (a b : Option Slot) → i < length slots → slot ≡ get_or slots i slot
+    → option_map pair_of a ≡ before_of first (pair_of slot) → option_map pair_of b ≡ behind_of align last (pair_of slot)
+    → option_to_list (option_map pair_of a) ++ option_to_list (option_map pair_of b) ≡ rest_of align first last (get_or (pairs_of slots) i (0, 0))
+both_parts align first last slots i slot a b within is before behind =
+    (λ k. option_to_list (before k) ++ option_to_list (behind k)) ∙ ap (rest_of align first last) (sym (at_pair slots i slot within is))
+
+-- The rest in the place of one slot,
+pub put_rest : (align first last : ℕ) (slots : List Slot) (i : ℕ) (slot : Slot) (a b : Option Slot) (next : List Slot) → i < length slots → slot ≡ get_or slots i slot
+    → option_map pair_of a ≡ before_of first (pair_of slot) → option_map pair_of b ≡ behind_of align last (pair_of slot)
+    → next ≡ take i slots ++ ((option_to_list a ++ option_to_list b) ++ drop (i + 1) slots)
+    → pairs_of next ≡ take i (pairs_of slots) ++ (rest_of align first last (get_or (pairs_of slots) i (0, 0)) ++ drop (i + 1) (pairs_of slots))
+put_rest align first last slots i slot a b next within is before behind same =
+    let parts = both_parts align first last slots i slot a b within is before behind in
+    ap pairs_of same ∙ (put_pairs slots i a b ∙ (λ k. take i (pairs_of slots) ++ (parts k ++ drop (i + 1) (pairs_of slots))))
+
+-- and after the rest of those before it.
+pub push_rest : (align first last : ℕ) (slots : List Slot) (i : ℕ) (slot : Slot) (a b : Option Slot) (rest next : List Slot) → i < length slots → slot ≡ get_or slots i slot
+    → option_map pair_of a ≡ before_of first (pair_of slot) → option_map pair_of b ≡ behind_of align last (pair_of slot)
+    → pairs_of rest ≡ flat_map (rest_of align first last) (take i (pairs_of slots)) → next ≡ (rest ++ option_to_list a) ++ option_to_list b
+    → pairs_of next ≡ flat_map (rest_of align first last) (take (i + 1) (pairs_of slots))
+push_rest align first last slots i slot a b rest next within is before behind so_far same =
+    let pairs : List (ℕ × ℕ) = pairs_of slots in
+    let f : ℕ × ℕ → List (ℕ × ℕ) = rest_of align first last in
+    let s : ℕ × ℕ = get_or pairs i (0, 0) in
+    let parts = both_parts align first last slots i slot a b within is before behind in
+    let more : flat_map f (take (i + 1) pairs) ≡ flat_map f (take i pairs) ++ (f s ++ []) =
+    ap (λ (l : List (ℕ × ℕ)). flat_map f l) (take_more pairs i (0, 0) (omega (arith, within, length-map slots pair_of))) ∙ flat_map-append f (take i pairs) (s ∷ []) in
+    ap pairs_of same
+    ∙ (more_pairs rest a b
+    ∙ (append_assoc (pairs_of rest) (option_to_list (option_map pair_of a)) (option_to_list (option_map pair_of b))
+    ∙ ((λ k. so_far k ++ parts k) ∙ sym (more ∙ ap (λ (l : List (ℕ × ℕ)). flat_map f (take i pairs) ++ l) (append-nil (f s))))))

@@ -17,6 +17,7 @@ use Rattle.gptedit_core.specs.Applying.{IsApplied}
 use Rattle.gptedit_core.specs.Named.{AreThere, IsUnnamed, LayoutsGiveTable, StaysAs}
 use Rattle.gptedit_core.specs.Placing.{IsSpan}
 use Rattle.gptedit_core.specs.Resolving.{and_then, entry_asked, number_asked, partition_at, place_asked, place_of, resolved, resolved_all, room_asked, start_asked, stay_fault, there_of, unless, use_fault, used_at}
+use Rattle.gptedit_core.specs.Sectors.{between}
 use Rattle.gptedit_core.specs.declared.asked.Asked.{Asked}
 use Rattle.gptedit_core.specs.declared.asked.RequestedLayout.{RequestedLayout}
 use Rattle.gptedit_core.specs.declared.asked.Mode.{Mode}
@@ -27,6 +28,7 @@ use Rattle.gptedit_core.specs.declared.refusal.Refusal.{Refusal}
 use Rattle.gptedit_core.specs.declared.refusal.Refusal.TheVariants.{NoEntry, NoType, WouldMove}
 use Rattle.gptedit_core.specs.declared.resolve.ResolvedPartition.{ResolvedPartition}
 use Rattle.gptedit_core.specs.declared.plan.Job.TheVariants.{Apply}
+use Rattle.gptedit_core.specs.declared.sectors.SectorRange.{SectorRange}
 use Rattle.gptedit_core.proofs.Kept.{done_keeps}
 use Rattle.gptedit_core.proofs.Applied.{change_named}
 use Rattle.gptedit_core.proofs.Steps.{and_then_ok, else_ok}
@@ -45,10 +47,10 @@ both_true : (a b : Bool) → (a && b) ≡ true → (a ≡ true) × (b ≡ true)
 both_true true b is = (refl, is)
 both_true false b is = absurd (cc)
 
-stays_at : (i : ℕ) (there : ℕ × ℕ) (place : Place) → stay_fault (Become false) i (Some there) place ≡ None → place ≡ At there.0 there.1
+stays_at : (i : ℕ) (there : SectorRange) (place : Place) → stay_fault (Become false) i (Some there) place ≡ None → place ≡ At there.first there.last
 stays_at i there (At first last) is =
-    let both = both_true (nat_eq first there.0) (nat_eq last there.1) (when_none (nat_eq first there.0 && nat_eq last there.1) (WouldMove i) is) in
-    ap (λ n. At n last) (eqb-true first there.0 both.0) ∙ ap (λ n. At there.0 n) (eqb-true last there.1 both.1)
+    let both = both_true (nat_eq first there.first) (nat_eq last there.last) (when_none (nat_eq first there.first && nat_eq last there.last) (WouldMove i) is) in
+    ap (λ n. At n last) (eqb-true first there.first both.0) ∙ ap (λ n. At there.first n) (eqb-true last there.last both.1)
 stays_at i there (From first) is = absurd (cc)
 stays_at i there (Longer first last) is = absurd (cc)
 stays_at i there (Free size choice) is = absurd (cc)
@@ -172,9 +174,9 @@ own_there g t next j (p ∷ ps) own there (inr has) = own_there g (with_entry t 
 own_there g t next j (p ∷ ps) own there (inl same) =
     let own = own.0 in
     let put = there.0 in
-    let span : (put.first, put.last) ≡ (own.e.starting_lba, own.e.ending_lba) = subst (λ (place : Place). IsSpan place t (put.first, put.last)) own.place put.span in
-    let first : put.first ≡ own.e.starting_lba = ap (λ (s : ℕ × ℕ). s.0) span in
-    let last : put.last ≡ own.e.ending_lba = ap (λ (s : ℕ × ℕ). s.1) span in
+    let span : put.range ≡ between own.e.starting_lba own.e.ending_lba = subst (λ (place : Place). IsSpan place t put.range) own.place put.span in
+    let first : put.range.first ≡ own.e.starting_lba = ap (λ (s : SectorRange). s.first) span in
+    let last : put.range.last ≡ own.e.ending_lba = ap (λ (s : SectorRange). s.last) span in
     let there : entry_at next p.number ≡ own.e =
     put.entry ∙ (λ i. record (own.entry i) { starting_lba = first i; ending_lba = last i }) in
     subst (λ (n : ℕ). entry_at next n ≡ entry_at g n) same (there ∙ sym own.at)

@@ -60,7 +60,7 @@ all_put_keep : (ps : List ResolvedPartition) (g h : GPT) → ArePut ps g h → K
 all_put_keep [] g h is = subst (KeepsRanges g) (sym is) (record { sector = refl; header = refl; long = refl })
 all_put_keep (p ∷ ps) g h is =
     let put = is.1 in
-    let mid_keeps = subst (KeepsRanges g) (sym put.next_is) (put_keeps g p.number (record p.entry { starting_lba = put.first; ending_lba = put.last })) in
+    let mid_keeps = subst (KeepsRanges g) (sym put.next_is) (put_keeps g p.number (record p.entry { starting_lba = put.range.first; ending_lba = put.range.last })) in
     keeps_both g is.0 h mid_keeps (all_put_keep ps is.0 h is.2)
 
 -- and the GUID of the disk is set.

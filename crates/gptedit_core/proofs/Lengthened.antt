@@ -210,10 +210,10 @@ module _ (layout : RequestedLayout) (randoms : List (List ℕ)) (g next : GPT) (
   longer = asked_longer g a step.random i step.p number size begins (subst (λ (m : Mode). resolved g m a step.random ≡ Ok step.p) mode step.asked)
 
   -- The resulting entry.
-  put_entry : entry_at next i ≡ record step.p.entry { starting_lba = step.put.first; ending_lba = step.put.last }
+  put_entry : entry_at next i ≡ record step.p.entry { starting_lba = step.put.range.first; ending_lba = step.put.range.last }
   put_entry =
       let p = step.p in
-      let e : GPTPartitionEntry = record p.entry { starting_lba = step.put.first; ending_lba = step.put.last } in
+      let e : GPTPartitionEntry = record p.entry { starting_lba = step.put.range.first; ending_lba = step.put.range.last } in
       let here : entry_at step.mid p.number ≡ e = subst (λ (m : GPT). entry_at m p.number ≡ e) (sym step.put.next_is) (this_entry step.before p.number e step.put.number) in
       let used : ¬ IsTrue (is_unused e) = resolved_used g layout.mode a step.random p step.asked in
       let still = stay step.rest step.mid is.last p.number step.later step.put.number.0 (λ unused. used (subst (λ (x : GPTPartitionEntry). IsTrue (is_unused x)) here unused)) in
@@ -226,8 +226,8 @@ module _ (layout : RequestedLayout) (randoms : List (List ℕ)) (g next : GPT) (
       ∙ (cleared_same (λ h. h.align) (λ h j e. refl) is.partitions is.rest is.free is.clear
       ∙ removed_same (λ h. h.align) (λ h j e. refl) layout.removed.items (record g { align = is.align }) is.rest is.removed)
 
-  span : (step.put.first ≡ (entry_at g i).starting_lba) × IsFurthestEnd (IsFreeIn step.before) step.before.align (entry_at g i).starting_lba (entry_at g i).ending_lba step.put.last
-  span = subst (λ (place : Place). IsSpan place step.before (step.put.first, step.put.last)) longer.place step.put.span
+  span : (step.put.range.first ≡ (entry_at g i).starting_lba) × IsFurthestEnd (IsFreeIn step.before) step.before.align (entry_at g i).starting_lba (entry_at g i).ending_lba step.put.range.last
+  span = subst (λ (place : Place). IsSpan place step.before step.put.range) longer.place step.put.span
 
   low : next.header.first_usable_lba ≡ step.before.header.first_usable_lba
   low =
@@ -248,19 +248,19 @@ module _ (layout : RequestedLayout) (randoms : List (List ℕ)) (g next : GPT) (
         (subst (λ (n : ℕ). IsFreeIn (with_entry next n empty_entry) x) (sym longer.number) free)),
   )
 
-  reached : (end : ℕ) → step.put.last ≡ end
-      → ((step.put.last ≡ (entry_at g i).ending_lba) ⊎ (((entry_at g i).starting_lba ≤ (entry_at g i).ending_lba) × (step.before.align ∣ step.put.last + 1) × AreFreeBehind (IsFreeIn step.before) (entry_at g i).ending_lba step.put.last))
+  reached : (end : ℕ) → step.put.range.last ≡ end
+      → ((step.put.range.last ≡ (entry_at g i).ending_lba) ⊎ (((entry_at g i).starting_lba ≤ (entry_at g i).ending_lba) × (step.before.align ∣ step.put.range.last + 1) × AreFreeBehind (IsFreeIn step.before) (entry_at g i).ending_lba step.put.range.last))
       → (end ≡ (entry_at g i).ending_lba) ⊎ ((is.align ∣ end + 1) × AreFreeBehind (IsFreeIn is.free) (entry_at g i).ending_lba end)
   reached end last (inl same) = inl (sym last ∙ same)
   reached end last (inr to) = inr (
-    subst (λ (n : ℕ). is.align ∣ n + 1) last (subst (λ (n : ℕ). n ∣ step.put.last + 1) align to.1),
+    subst (λ (n : ℕ). is.align ∣ n + 1) last (subst (λ (n : ℕ). n ∣ step.put.range.last + 1) align to.1),
     λ x above within. free_earlier step.first is.free step.before step.earlier x (to.2 x above (subst (λ (n : ℕ). x ≤ n) (sym last) within)),
   )
 
   lengthened : IsLengthened is.align (entry_at g i) (entry_at next i) (IsFreeIn is.free) (IsFreeIn (with_entry next i empty_entry))
   lengthened =
-      let first : (entry_at next i).starting_lba ≡ step.put.first = ap (λ (e : GPTPartitionEntry). e.starting_lba) put_entry in
-      let last : step.put.last ≡ (entry_at next i).ending_lba = sym (ap (λ (e : GPTPartitionEntry). e.ending_lba) put_entry) in
+      let first : (entry_at next i).starting_lba ≡ step.put.range.first = ap (λ (e : GPTPartitionEntry). e.starting_lba) put_entry in
+      let last : step.put.range.last ≡ (entry_at next i).ending_lba = sym (ap (λ (e : GPTPartitionEntry). e.ending_lba) put_entry) in
       record {
         start = first ∙ span.0;
         end = subst (λ (n : ℕ). (entry_at g i).ending_lba ≤ n) last span.1.kept;

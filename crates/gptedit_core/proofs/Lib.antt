@@ -11,6 +11,7 @@ pub mod Applied
 pub mod Lengthened
 pub mod Offered
 pub mod Ordered
+pub mod Pairs
 pub mod Planned
 pub mod Reached
 pub mod Remade

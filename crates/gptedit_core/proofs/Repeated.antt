@@ -18,6 +18,7 @@ use Rattle.gptedit_core.specs.Planning.{asks_random, IsDone, RefusesCheck, Refus
 use Rattle.gptedit_core.specs.Planning.RefusesCheck.{boundaries, shared}
 use Rattle.gptedit_core.specs.Planning.RefusesRequest.{not_done, not_laid_out, not_written}
 use Rattle.gptedit_core.specs.Resolving.{and_then, entry_asked, lowest_unused, number_asked, number_asked_or, partition_at, place_asked, place_of, resolved, resolved_all, rest_of, rest_there, room_asked, span_from, start_asked, stay_fault, there_of, unless, use_fault, used_at}
+use Rattle.gptedit_core.specs.Sectors.{between}
 use Rattle.gptedit_core.specs.declared.amount.Amount.{Amount}
 use Rattle.gptedit_core.specs.declared.asked.Asked.{Asked}
 use Rattle.gptedit_core.specs.declared.asked.Choice.{Choice}
@@ -33,6 +34,7 @@ use Rattle.gptedit_core.specs.declared.refusal.Refusal.TheVariants.{IsUnused, No
 use Rattle.gptedit_core.specs.declared.resolve.ResolvedPartition.{ResolvedPartition}
 use Rattle.gptedit_core.specs.declared.resolve.Room.{Room}
 use Rattle.gptedit_core.specs.declared.resolve.Room.TheVariants.{Sectors as RoomSectors, Rest as RoomRest}
+use Rattle.gptedit_core.specs.declared.sectors.SectorRange.{SectorRange}
 use Rattle.gptedit_core.proofs.Again.{all_again, asked_again, is_first, layouts_stay, named_or, unnamed_more, used_of}
 use Rattle.gptedit_core.proofs.Dumped.{at_number, of_number, unless_ok, used_is, with_used, CoversFrom, HasNumber, OwnedBy}
 use Rattle.gptedit_core.proofs.Kept.{done_keeps, done_layout}
@@ -49,7 +51,7 @@ span_by i first more true place is = cc
 span_by i first more false place is = absurd (cc)
 
 -- The sectors of a place from first on.
-span_at : (i first more : ℕ) (place : Place) (g : GPT) (s : ℕ × ℕ) → span_from i first more ≡ Ok place → IsSpan place g s → s ≡ (first, first + more)
+span_at : (i first more : ℕ) (place : Place) (g : GPT) (s : SectorRange) → span_from i first more ≡ Ok place → IsSpan place g s → s ≡ between first (first + more)
 span_at i first more place g s is span = subst (λ (p : Place). IsSpan p g s) (sym (span_by i first more (nat_lt (first + more) (2 ^ 64)) place is)) span
 
 sized_by : (i : ℕ) (b : Bool) (r : Result Place Refusal) (place : Place) → ◌≡◌ {A = Result Place Refusal} (if b then r else Err (NoSize i)) (Ok place) → r ≡ Ok place
@@ -57,26 +59,26 @@ sized_by i true r place is = is
 sized_by i false r place is = absurd (cc)
 
 -- The rest starts at the requested start.
-there_begins : (mode : Mode) (there s : ℕ × ℕ) (g : GPT) → IsSpan (rest_there mode there) g s → s.0 ≡ there.0
+there_begins : (mode : Mode) (there s : SectorRange) (g : GPT) → IsSpan (rest_there mode there) g s → s.first ≡ there.first
 there_begins Add there s g span = span.0
 there_begins Change there s g span = span.0
-there_begins (Become replace) there s g span = ap (λ (p : ℕ × ℕ). p.0) span
+there_begins (Become replace) there s g span = ap (λ (p : SectorRange). p.first) span
 
-begins_by : (mode : Mode) (x : ℕ) (there s : ℕ × ℕ) (g : GPT) (b : Bool) → nat_eq x there.0 ≡ b → IsSpan (if b then rest_there mode there else From x) g s → s.0 ≡ x
-begins_by mode x there s g true is span = there_begins mode there s g span ∙ sym (eqb-true x there.0 is)
-begins_by mode x there s g false is span = ap (λ (p : ℕ × ℕ). p.0) span.2
+begins_by : (mode : Mode) (x : ℕ) (there s : SectorRange) (g : GPT) (b : Bool) → nat_eq x there.first ≡ b → IsSpan (if b then rest_there mode there else From x) g s → s.first ≡ x
+begins_by mode x there s g true is span = there_begins mode there s g span ∙ sym (eqb-true x there.first is)
+begins_by mode x there s g false is span = ap (λ (p : SectorRange). p.first) span.2
 
-begins : (mode : Mode) (x : ℕ) (there : Option (ℕ × ℕ)) (s : ℕ × ℕ) (g : GPT) → IsSpan (rest_of mode (Some x) there) g s → s.0 ≡ x
-begins mode x None s g span = ap (λ (p : ℕ × ℕ). p.0) span.2
-begins mode x (Some there) s g span = begins_by mode x there s g (nat_eq x there.0) refl span
+begins : (mode : Mode) (x : ℕ) (there : Option SectorRange) (s : SectorRange) (g : GPT) → IsSpan (rest_of mode (Some x) there) g s → s.first ≡ x
+begins mode x None s g span = ap (λ (p : SectorRange). p.first) span.2
+begins mode x (Some there) s g span = begins_by mode x there s g (nat_eq x there.first) refl span
 
 -- The place of a used entry, by its steps.
 place_from : (a : Asked) (i ss : ℕ) (y : GPTPartitionEntry) (s : Option ℕ) (r : Option Room) (place : Place) → start_asked a.start ss ≡ Ok s → room_asked a.size i ss ≡ Ok r
-    → place_of (Become false) i r s (Some (y.starting_lba, y.ending_lba)) a.choice ≡ Ok place
-    → stay_fault (Become false) i (Some (y.starting_lba, y.ending_lba)) place ≡ None → place_asked (Become false) a i (Some y) ss ≡ Ok place
+    → place_of (Become false) i r s (Some (between y.starting_lba y.ending_lba)) a.choice ≡ Ok place
+    → stay_fault (Become false) i (Some (between y.starting_lba y.ending_lba)) place ≡ None → place_asked (Become false) a i (Some y) ss ≡ Ok place
 place_from a i ss y s r place start room at stay =
-    let stay_of : Place → Result Place Refusal = λ p. unless (stay_fault (Become false) i (Some (y.starting_lba, y.ending_lba)) p) p in
-    let at_of : Option ℕ → Option Room → Result Place Refusal = λ x z. and_then (place_of (Become false) i z x (Some (y.starting_lba, y.ending_lba)) a.choice) stay_of in
+    let stay_of : Place → Result Place Refusal = λ p. unless (stay_fault (Become false) i (Some (between y.starting_lba y.ending_lba)) p) p in
+    let at_of : Option ℕ → Option Room → Result Place Refusal = λ x z. and_then (place_of (Become false) i z x (Some (between y.starting_lba y.ending_lba)) a.choice) stay_of in
     let room_of : Option ℕ → Result Place Refusal = λ x. and_then (room_asked a.size i ss) (at_of x) in
     ap (λ (x : Result (Option ℕ) Refusal). and_then x room_of) start
     ∙ (ap (λ (x : Result (Option Room) Refusal). and_then x (at_of s)) room
@@ -85,38 +87,38 @@ place_from a i ss y s r place start room at stay =
 
 -- The place is unchanged, whatever was requested.
 module _ (i first last : ℕ) (choice : Choice) (g : GPT) (ordered : first ≤ last) (fits : last + 1 < 2 ^ 64) where
-  place_again : (mode : Mode) (room : Option Room) (start : Option ℕ) (there : Option (ℕ × ℕ)) (place : Place) → place_of mode i room start there choice ≡ Ok place
-      → IsSpan place g (first, last) → place_of (Become false) i room start (Some (first, last)) choice ≡ Ok (At first last)
+  place_again : (mode : Mode) (room : Option Room) (start : Option ℕ) (there : Option SectorRange) (place : Place) → place_of mode i room start there choice ≡ Ok place
+      → IsSpan place g (between first last) → place_of (Become false) i room start (Some (between first last)) choice ≡ Ok (At first last)
   place_again mode (Some (RoomSectors n)) (Some x) there place is span =
-      let s = span_at i x (n - 1) place g (first, last) is span in
-      let low : first ≡ x = ap (λ (p : ℕ × ℕ). p.0) s in
-      let high : last ≡ x + (n - 1) = ap (λ (p : ℕ × ℕ). p.1) s in
+      let s = span_at i x (n - 1) place g (between first last) is span in
+      let low : first ≡ x = ap (λ (p : SectorRange). p.first) s in
+      let high : last ≡ x + (n - 1) = ap (λ (p : SectorRange). p.last) s in
       subst (λ (y : ℕ). span_from i y (n - 1) ≡ Ok (At first last)) low (span_to i first (n - 1) last (omega (arith, low, high)) (omega (arith, fits)))
   place_again mode (Some (RoomSectors n)) None (Some there) place is span =
-      let s = span_at i there.0 (n - 1) place g (first, last) is span in
-      let low : first ≡ there.0 = ap (λ (p : ℕ × ℕ). p.0) s in
-      let high : last ≡ there.0 + (n - 1) = ap (λ (p : ℕ × ℕ). p.1) s in
+      let s = span_at i there.first (n - 1) place g (between first last) is span in
+      let low : first ≡ there.first = ap (λ (p : SectorRange). p.first) s in
+      let high : last ≡ there.first + (n - 1) = ap (λ (p : SectorRange). p.last) s in
       span_to i first (n - 1) last (omega (arith, low, high)) (omega (arith, fits))
   place_again mode (Some (RoomSectors n)) None None place is span =
       let same : Free n choice ≡ place = cc in
-      let free : IsSpan (Free n choice) g (first, last) = subst (λ (p : Place). IsSpan p g (first, last)) (sym same) span in
+      let free : IsSpan (Free n choice) g (between first last) = subst (λ (p : Place). IsSpan p g (between first last)) (sym same) span in
       let end : last ≡ first + (max 1 n - 1) = free.1 in
       span_to i first (n - 1) last (omega (arith, end)) (omega (arith, fits))
   place_again mode (Some RoomRest) None there place is span = refl
   place_again mode (Some RoomRest) (Some x) there place is span =
       let same : rest_of mode (Some x) there ≡ place = cc in
-      let low = begins mode x there (first, last) g (subst (λ (p : Place). IsSpan p g (first, last)) (sym same) span) in
+      let low = begins mode x there (between first last) g (subst (λ (p : Place). IsSpan p g (between first last)) (sym same) span) in
       rw (eq-eqb x first (sym low)) refl
   place_again mode None None (Some there) place is span = refl
   place_again mode None None None place is span = absurd (cc)
   place_again mode None (Some x) None place is span = absurd (cc)
   place_again mode None (Some x) (Some there) place is span =
-      let s = span_at i x (there.1 - there.0) place g (first, last) (sized_by i (nat_le there.0 there.1) _ place is) span in
-      let low : first ≡ x = ap (λ (p : ℕ × ℕ). p.0) s in
+      let s = span_at i x (there.last - there.first) place g (between first last) (sized_by i (nat_le there.first there.last) _ place is) span in
+      let low : first ≡ x = ap (λ (p : SectorRange). p.first) s in
       rw (le-leb first last ordered) (subst (λ (y : ℕ). span_from i y (last - first) ≡ Ok (At first last)) low (span_to i first (last - first) last (omega arith) (omega (arith, fits))))
 
   asked_place : (mode : Mode) (a : Asked) (used : Option GPTPartitionEntry) (ss : ℕ) (place : Place) (y : GPTPartitionEntry) → a.choice ≡ choice
-      → y.starting_lba ≡ first → y.ending_lba ≡ last → place_asked mode a i used ss ≡ Ok place → IsSpan place g (first, last)
+      → y.starting_lba ≡ first → y.ending_lba ≡ last → place_asked mode a i used ss ≡ Ok place → IsSpan place g (between first last)
       → place_asked (Become false) a i (Some y) ss ≡ Ok (At first last)
   asked_place mode a used ss place y chosen low high is span =
       let start = and_then_ok (start_asked a.start ss) _ place is in
@@ -124,15 +126,15 @@ module _ (i first last : ℕ) (choice : Choice) (g : GPT) (ordered : first ≤ l
       let at = and_then_ok (place_of mode i room.0 start.0 (there_of used) a.choice) _ place room.2 in
       let stay = unless_ok (stay_fault mode i (there_of used) at.0) at.0 place at.2 in
       let here : place_of mode i room.0 start.0 (there_of used) choice ≡ Ok at.0 = subst (λ (c : Choice). place_of mode i room.0 start.0 (there_of used) c ≡ Ok at.0) chosen at.1 in
-      let again : place_of (Become false) i room.0 start.0 (Some (first, last)) choice ≡ Ok (At first last) =
-      place_again mode room.0 start.0 (there_of used) at.0 here (subst (λ (p : Place). IsSpan p g (first, last)) (sym stay.1) span) in
-      let there : place_of (Become false) i room.0 start.0 (Some (y.starting_lba, y.ending_lba)) a.choice ≡ Ok (At first last) =
-      subst (λ (c : Choice). place_of (Become false) i room.0 start.0 (Some (y.starting_lba, y.ending_lba)) c ≡ Ok (At first last)) (sym chosen)
-      (subst (λ (x : ℕ). place_of (Become false) i room.0 start.0 (Some (x, y.ending_lba)) choice ≡ Ok (At first last)) (sym low)
-      (subst (λ (x : ℕ). place_of (Become false) i room.0 start.0 (Some (first, x)) choice ≡ Ok (At first last)) (sym high) again)) in
-      let fault : stay_fault (Become false) i (Some (y.starting_lba, y.ending_lba)) (At first last) ≡ None =
-      subst (λ (x : ℕ). stay_fault (Become false) i (Some (x, y.ending_lba)) (At first last) ≡ None) (sym low)
-      (subst (λ (x : ℕ). stay_fault (Become false) i (Some (first, x)) (At first last) ≡ None) (sym high) (stays i first last)) in
+      let again : place_of (Become false) i room.0 start.0 (Some (between first last)) choice ≡ Ok (At first last) =
+      place_again mode room.0 start.0 (there_of used) at.0 here (subst (λ (p : Place). IsSpan p g (between first last)) (sym stay.1) span) in
+      let there : place_of (Become false) i room.0 start.0 (Some (between y.starting_lba y.ending_lba)) a.choice ≡ Ok (At first last) =
+      subst (λ (c : Choice). place_of (Become false) i room.0 start.0 (Some (between y.starting_lba y.ending_lba)) c ≡ Ok (At first last)) (sym chosen)
+      (subst (λ (x : ℕ). place_of (Become false) i room.0 start.0 (Some (between x y.ending_lba)) choice ≡ Ok (At first last)) (sym low)
+      (subst (λ (x : ℕ). place_of (Become false) i room.0 start.0 (Some (between first x)) choice ≡ Ok (At first last)) (sym high) again)) in
+      let fault : stay_fault (Become false) i (Some (between y.starting_lba y.ending_lba)) (At first last) ≡ None =
+      subst (λ (x : ℕ). stay_fault (Become false) i (Some (between x y.ending_lba)) (At first last) ≡ None) (sym low)
+      (subst (λ (x : ℕ). stay_fault (Become false) i (Some (between first x)) (At first last) ≡ None) (sym high) (stays i first last)) in
       place_from a i ss y start.0 room.0 (At first last) start.1 room.1 there fault
 
 -- ---- one entry that is requested again
@@ -163,21 +165,21 @@ resolved_again g t next mode a random other i p number_is is sector found placed
       unique_partition_guid = unwrap_or a.unique_guid first.x.unique_partition_guid;
       attribute_bits = unwrap_or a.attributes first.x.attribute_bits;
       partition_name = unwrap_or a.name first.x.partition_name;
-      starting_lba = there.first;
-      ending_lba = there.last;
+      starting_lba = there.range.first;
+      ending_lba = there.range.last;
     } in
-    let put : entry_at next n ≡ y = there.entry ∙ (λ k. record (first.entry k) { starting_lba = there.first; ending_lba = there.last }) in
+    let put : entry_at next n ≡ y = there.entry ∙ (λ k. record (first.entry k) { starting_lba = there.range.first; ending_lba = there.range.last }) in
     let type : ¬ IsTrue (is_unused y) = subst (λ (e : GPTPartitionEntry). ¬ IsTrue (is_unused e)) first.entry first.used in
     let used : IsTrue (is_used y) = used_of (is_unused y) type in
     let is_placed : IsPlaced y = subst IsPlaced put placed in
-    let fits : (there.first ≤ there.last) × (there.last + 1 < 2 ^ 64) = is_placed used in
+    let fits : (there.range.first ≤ there.range.last) × (there.range.last + 1 < 2 ^ 64) = is_placed used in
     let asked = first_place g mode a random p is in
-    let place : place_asked (Become false) a n (Some y) g.sector_size ≡ Ok (At there.first there.last) =
-    asked_place n there.first there.last a.choice t fits.0 fits.1 mode a asked.0 g.sector_size p.place y refl refl refl asked.1 there.span in
-    let here : place_asked (Become false) a n (Some y) next.sector_size ≡ Ok (At there.first there.last) =
-    subst (λ (ss : ℕ). place_asked (Become false) a n (Some y) ss ≡ Ok (At there.first there.last)) (sym sector) place in
+    let place : place_asked (Become false) a n (Some y) g.sector_size ≡ Ok (At there.range.first there.range.last) =
+    asked_place n there.range.first there.range.last a.choice t fits.0 fits.1 mode a asked.0 g.sector_size p.place y refl refl refl asked.1 there.span in
+    let here : place_asked (Become false) a n (Some y) next.sector_size ≡ Ok (At there.range.first there.range.last) =
+    subst (λ (ss : ℕ). place_asked (Become false) a n (Some y) ss ≡ Ok (At there.range.first there.range.last)) (sym sector) place in
     let whole_of : GPTPartitionEntry → Place → Result ResolvedPartition Refusal = λ e place. if is_unused e then Err (NoType n) else Ok (record { number = n; entry = e; place = place }) in
-    let same : y ≡ entry_asked a (Some y) other = sym (asked_again a first.x other there.first there.last) in
+    let same : y ≡ entry_asked a (Some y) other = sym (asked_again a first.x other there.range.first there.range.last) in
     let plain : and_then (place_asked (Become false) a n (Some y) next.sector_size) (whole_of y) ≡ Ok (own_partition n y) =
     ap (λ (r : Result Place Refusal). and_then r (whole_of y)) here ∙ has_type (is_unused y) n (own_partition n y) used in
     let part : with_used next a other n (Some y) ≡ Ok (own_partition n y) =
@@ -246,7 +248,7 @@ unnamed_where (p ∷ ps) g last j put low used =
 differ_put : (ps : List ResolvedPartition) (g last : GPT) → ArePut ps g last → AreUsed ps → DifferInNumber ps
 differ_put [] g last put used = tt
 differ_put (p ∷ ps) g last put used =
-    let entry : GPTPartitionEntry = record p.entry { starting_lba = put.1.first; ending_lba = put.1.last } in
+    let entry : GPTPartitionEntry = record p.entry { starting_lba = put.1.range.first; ending_lba = put.1.range.last } in
     let here : entry_at put.0 p.number ≡ entry = subst (λ (m : GPT). entry_at m p.number ≡ entry) (sym put.1.next_is) (this_entry g p.number entry put.1.number) in
     (unnamed_where ps put.0 last p.number put.2 put.1.number.0 (λ unused. used.0 (subst (λ (e : GPTPartitionEntry). IsTrue (is_unused e)) here unused)), differ_put ps put.0 last put.2 used.1)
 

@@ -36,4 +36,4 @@ module _ {X : Type 0} (f : GPT → X) (stays : (g : GPT) (i : ℕ) (e : GPTParti
   put_same [] g h is = ap f is
   put_same (p ∷ ps) g h is =
       let put = is.1 in
-      put_same ps is.0 h is.2 ∙ (ap f put.next_is ∙ stays g p.number (record p.entry { starting_lba = put.first; ending_lba = put.last }))
+      put_same ps is.0 h is.2 ∙ (ap f put.next_is ∙ stays g p.number (record p.entry { starting_lba = put.range.first; ending_lba = put.range.last }))

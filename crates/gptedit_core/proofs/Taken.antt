@@ -23,6 +23,7 @@ use Rattle.gptedit_core.specs.Planning.{IsDone, RefusesCheck, RefusesJob}
 use Rattle.gptedit_core.specs.Planning.RefusesCheck.{boundaries, shared}
 use Rattle.gptedit_core.specs.Planning.RefusesRequest.{not_done, not_laid_out, not_written}
 use Rattle.gptedit_core.specs.Resolving.{and_then, first_numbered, number_asked, partition_at, place_asked, place_of, resolved, resolved_all, room_asked, span_from, stay_fault, unless}
+use Rattle.gptedit_core.specs.Sectors.{between}
 use Rattle.gptedit_core.specs.declared.amount.Amount.{Amount}
 use Rattle.gptedit_core.specs.declared.amount.Amount.TheVariants.{Sectors}
 use Rattle.gptedit_core.specs.declared.asked.Asked.{Asked}
@@ -77,7 +78,7 @@ span_to i first more last whole high =
     (sym (lt-ltb (first + more) (2 ^ 64) (omega (arith, whole, high)))) refl)
 
 -- so the place is unchanged.
-pub stays : (i first last : ℕ) → stay_fault (Become false) i (Some (first, last)) (At first last) ≡ None
+pub stays : (i first last : ℕ) → stay_fault (Become false) i (Some (between first last)) (At first last) ≡ None
 stays i first last = rw (eq-eqb first first refl, eq-eqb last last refl) refl
 
 place_own : (i ss : ℕ) (e : GPTPartitionEntry) → e.starting_lba ≤ e.ending_lba → e.ending_lba + 1 < 2 ^ 64
@@ -85,8 +86,8 @@ place_own : (i ss : ℕ) (e : GPTPartitionEntry) → e.starting_lba ≤ e.ending
 place_own i ss e low high =
     let first : ℕ = e.starting_lba in
     let last : ℕ = e.ending_lba in
-    let stay : Place → Result Place Refusal = λ place. unless (stay_fault (Become false) i (Some (first, last)) place) place in
-    let at : Option Room → Result Place Refusal = λ room. and_then (place_of (Become false) i room (Some first) (Some (first, last)) First) stay in
+    let stay : Place → Result Place Refusal = λ place. unless (stay_fault (Become false) i (Some (between first last)) place) place in
+    let at : Option Room → Result Place Refusal = λ room. and_then (place_of (Become false) i room (Some first) (Some (between first last)) First) stay in
     ap (λ (room : Result (Option Room) Refusal). and_then room at) (room_own i ss first last low high)
     ∙ (ap (λ (place : Result Place Refusal). and_then place stay) (span_to i first (last - first + 1 - 1) last (omega (arith, low)) (omega (arith, high)))
     ∙ ap (λ (o : Option Refusal). unless o (At first last)) (stays i first last))
@@ -247,7 +248,7 @@ put_one g p r free (no_room number unused full is) = subst (λ (place : Place). 
 free_still : (g next : GPT) (p q : ResolvedPartition) → IsPut p g next → q.number ≢ p.number → IsFree g q → IsFree next q
 free_still g next p q put other free =
     let number = free.number in
-    let entry : GPTPartitionEntry = record p.entry { starting_lba = put.first; ending_lba = put.last } in
+    let entry : GPTPartitionEntry = record p.entry { starting_lba = put.range.first; ending_lba = put.range.last } in
     let long : length (entries_in next) ≡ length (entries_in g) = ap (λ (m : GPT). length (entries_in m)) put.next_is ∙ length-set (entries_in g) (p.number - 1) entry in
     record {
       number = (number.0, omega (arith, long, number.1));

@@ -19,6 +19,7 @@ use Rattle.gptedit_core.specs.declared.refusal.Refusal.TheVariants.{IsUnused, No
 use Rattle.gptedit_core.specs.declared.refusal.Stop.{Stop}
 use Rattle.gptedit_core.specs.declared.refusal.Stop.TheVariants.{Refused, Failed}
 use Rattle.gptedit_core.specs.declared.resolve.ResolvedPartition.{ResolvedPartition}
+use Rattle.gptedit_core.specs.declared.sectors.SectorRange.{SectorRange}
 
 -- The requested alignment in sectors.
 abbrev pub align_asked : Amount → ℕ → Result ℕ Refusal
@@ -63,10 +64,9 @@ others_fault mode g = others_fault_of mode (lowest_used g)
 pub record IsPut (p : ResolvedPartition) (g next : GPT) : Type 0 where
   pub number : IsNumber g p.number
   pub unused : IsTrue (is_unused (entry_at g p.number))
-  pub first : ℕ
-  pub last : ℕ
-  pub span : IsSpan p.place g (first, last)
-  pub next_is : next ≡ with_entry g p.number (record p.entry { starting_lba = first; ending_lba = last })
+  pub range : SectorRange
+  pub span : IsSpan p.place g range
+  pub next_is : next ≡ with_entry g p.number (record p.entry { starting_lba = range.first; ending_lba = range.last })
 
 -- The partition cannot be put: there is no entry of its number, or it is used, since an earlier partition has this
 -- number; or there is no room.

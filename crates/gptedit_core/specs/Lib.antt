@@ -6,4 +6,5 @@ pub mod Named
 pub mod Placing
 pub mod Planning
 pub mod Resolving
+pub mod Sectors
 pub mod Slots

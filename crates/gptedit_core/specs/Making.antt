@@ -17,6 +17,7 @@ use Rattle.gptman.specs.declared.codec.header.GPTHeader.{GPTHeader}
 use Rattle.gptman_change.specs.Changes.{StopsLeaveEither}
 use Rattle.gptedit_core.specs.Applying.{IsApplied, RefusesAsked}
 use Rattle.gptedit_core.specs.Planning.{IsLeftAs, IsWrittenAs, RefusesCheck}
+use Rattle.gptedit_core.specs.Sectors.{between}
 use Rattle.gptedit_core.specs.declared.asked.RequestedLayout.{RequestedLayout}
 use Rattle.gptedit_core.specs.declared.making.Creation.{Creation}
 use Rattle.gptedit_core.specs.declared.making.Made.{Made}
@@ -25,6 +26,7 @@ use Rattle.gptedit_core.specs.declared.order.Copy.{Copy}
 use Rattle.gptedit_core.specs.declared.plan.Outcome.{Outcome}
 use Rattle.gptedit_core.specs.declared.refusal.Refusal.{Refusal}
 use Rattle.gptedit_core.specs.declared.refusal.Refusal.TheVariants.{NoSafeOrder, NotLaidOut, OutOfBounds, TooSmallFor}
+use Rattle.gptedit_core.specs.declared.sectors.SectorRange.{SectorRange}
 
 -- There are enough random GUIDs for the layout.
 abbrev pub has_random_for : Option RequestedLayout → ℕ → Type 0
@@ -45,6 +47,10 @@ pub record AreBounds (low high first last : ℕ) : Type 0 where
   pub first_is : low ≤ first
   pub last_is : last ≤ high
   pub ordered : first ≤ last + 1
+
+-- The usable sectors of the table.
+abbrev pub usable_of : GPT → SectorRange
+usable_of g = between g.header.first_usable_lba g.header.last_usable_lba
 
 -- The table with these bounds.
 abbrev pub with_bounds : GPT → ℕ → ℕ → GPT
@@ -111,7 +117,7 @@ pub record IsNew (creation : Creation) (ss len : ℕ) (next : GPT) : Type 0 wher
 pub data RefusesNew (creation : Creation) (ss len : ℕ) (r : Refusal) : Type 0 where
   too_small : ¬ HasRoomOf creation ss len → r ≡ TooSmallFor creation.entries → RefusesNew creation ss len r
   out_of_bounds : HasRoomOf creation ss len → ¬ HasBounds creation (empty_of creation ss len)
-      → r ≡ OutOfBounds (empty_of creation ss len).header.first_usable_lba (empty_of creation ss len).header.last_usable_lba → RefusesNew creation ss len r
+      → r ≡ OutOfBounds (usable_of (empty_of creation ss len)) → RefusesNew creation ss len r
   not_applied : HasRoomOf creation ss len → HasBounds creation (empty_of creation ss len)
       → RefusesAskedIf creation.layout creation.random.items (bounded creation (empty_of creation ss len)) r → RefusesNew creation ss len r
   not_valid : (next : GPT) → HasRoomOf creation ss len → HasBounds creation (empty_of creation ss len)

@@ -24,6 +24,7 @@ use Rattle.gptedit_core.specs.declared.plan.Job.TheVariants.{Apply}
 use Rattle.gptedit_core.specs.declared.plan.Request.{Request}
 use Rattle.gptedit_core.specs.declared.refusal.Refusal.{Refusal}
 use Rattle.gptedit_core.specs.declared.resolve.ResolvedPartition.{ResolvedPartition}
+use Rattle.gptedit_core.specs.declared.sectors.SectorRange.{SectorRange}
 
 -- No partition has the number.
 abbrev pub IsUnnamed : ℕ → List ResolvedPartition → Type 0
@@ -36,10 +37,9 @@ StaysAs mode e after = after ≡ e
 
 -- The partition is in the table next under its number, at the place that it had in g.
 pub record IsThere (p : ResolvedPartition) (g next : GPT) : Type 0 where
-  pub first : ℕ
-  pub last : ℕ
-  pub span : IsSpan p.place g (first, last)
-  pub entry : entry_at next p.number ≡ record p.entry { starting_lba = first; ending_lba = last }
+  pub range : SectorRange
+  pub span : IsSpan p.place g range
+  pub entry : entry_at next p.number ≡ record p.entry { starting_lba = range.first; ending_lba = range.last }
 
 -- All partitions are in the table next. The first had its place in g, and each other one in the table with those
 -- before it.

@@ -3,10 +3,12 @@ use Prim.Native.Nat.{◌∣◌}
 use Rattle.std.specs.Prelude.{◌≡◌, ◌≤◌, ◌<◌, ◌⊎◌, ℕ, ◌+◌, ◌-◌, ◌%◌, ◌&&◌, max, nat_le, nat_lt, if◌then◌else◌, Option, MatchOption}
 use Rattle.gptman.specs.Place.{HasNoPlace, HasNoSlot, IsAlignedSlot, IsBestPlace, IsFirstMultiple, IsFirstPlace, IsFreeIn, IsLastPlace, IsMaximumSize}
 use Rattle.gptman.specs.declared.table.GPT.{GPT}
+use Rattle.gptedit_core.specs.Sectors.{between}
 use Rattle.gptedit_core.specs.declared.asked.Choice.{Choice}
 use Rattle.gptedit_core.specs.declared.asked.Choice.TheVariants.{First, Last, Best, Longest as InLongest}
 use Rattle.gptedit_core.specs.declared.place.Place.{Place}
 use Rattle.gptedit_core.specs.declared.place.Place.TheVariants.{At, From, Longer, Free, Longest}
+use Rattle.gptedit_core.specs.declared.sectors.SectorRange.{SectorRange}
 
 -- The last sector, moved down to the one before a multiple of align, unless no sector would be left.
 abbrev pub trimmed : ℕ → ℕ → ℕ → ℕ
@@ -50,9 +52,9 @@ HasNoneChosen Last free align n = HasNoPlace free align n
 HasNoneChosen Best free align n = HasNoPlace free align n
 HasNoneChosen InLongest free align n = HasNoLongestPlace free align n
 
--- The run, given by its start and its length, contains the sector.
-abbrev pub HasSector : ℕ → ℕ × ℕ → Type 0
-HasSector s run = (run.0 ≤ s) × (s < run.0 + run.1)
+-- The run contains the sector.
+abbrev pub HasSector : ℕ → ℕ → ℕ → Type 0
+HasSector s start long = (start ≤ s) × (s < start + long)
 
 -- last is the last sector of the run of free sectors that contains s.
 pub record IsRunWith (free : ℕ → Type 0) (s last : ℕ) : Type 0 where
@@ -65,7 +67,7 @@ pub record IsRunWith (free : ℕ → Type 0) (s last : ℕ) : Type 0 where
 
 -- No run of free sectors contains s.
 abbrev pub HasNoRunWith : (ℕ → Type 0) → ℕ → Type 0
-HasNoRunWith free s = (start long : ℕ) → IsAlignedSlot free 1 start long → ¬ HasSector s (start, long)
+HasNoRunWith free s = (start long : ℕ) → IsAlignedSlot free 1 start long → ¬ HasSector s start long
 
 -- e is the last sector up to far that is directly before a multiple of align.
 pub record IsLastEnd (align far e : ℕ) : Type 0 where
@@ -93,14 +95,14 @@ pub record IsFurthestEnd (free : ℕ → Type 0) (align first last end : ℕ) : 
   pub furthest : first ≤ last → (e : ℕ) → align ∣ e + 1 → end < e → IsBlocked free last e
 
 -- The span has n sectors, at least one, at the chosen place.
-abbrev pub IsFreeSpan : Choice → ℕ → GPT → ℕ × ℕ → Type 0
-IsFreeSpan choice n g span = IsChosen choice (IsFreeIn g) g.align (max 1 n) span.0 × (span.1 ≡ span.0 + (max 1 n - 1))
+abbrev pub IsFreeSpan : Choice → ℕ → GPT → SectorRange → Type 0
+IsFreeSpan choice n g span = IsChosen choice (IsFreeIn g) g.align (max 1 n) span.first × (span.last ≡ span.first + (max 1 n - 1))
 
 -- The sectors, from the first to the last, that the place becomes in the table.
-abbrev pub IsSpan : Place → GPT → ℕ × ℕ → Type 0
-IsSpan (At first last) g span = span ≡ (first, last)
-IsSpan (From first) g span = (last : ℕ) × IsRunWith (IsFreeIn g) first last × (span ≡ (first, trimmed g.align first last))
-IsSpan (Longer first last) g span = (span.0 ≡ first) × IsFurthestEnd (IsFreeIn g) g.align first last span.1
+abbrev pub IsSpan : Place → GPT → SectorRange → Type 0
+IsSpan (At first last) g span = span ≡ between first last
+IsSpan (From first) g span = (last : ℕ) × IsRunWith (IsFreeIn g) first last × (span ≡ between first (trimmed g.align first last))
+IsSpan (Longer first last) g span = (span.first ≡ first) × IsFurthestEnd (IsFreeIn g) g.align first last span.last
 IsSpan (Free size choice) g span = IsFreeSpan choice size g span
 IsSpan Longest g span = (size : ℕ) × IsMaximumSize (IsFreeIn g) g.align size × (0 < size) × IsFreeSpan Best size g span
 
@@ -114,5 +116,5 @@ HasNoRoom Longest g = HasNoSlot (IsFreeIn g) g.align
     ⊎ ((size : ℕ) × IsMaximumSize (IsFreeIn g) g.align size × ((size ≡ 0) ⊎ HasNoPlace (IsFreeIn g) g.align (max 1 size)))
 
 -- The place is found, or there is no room for it.
-abbrev pub FindsSpan : Place → GPT → Option (ℕ × ℕ) → Type 0
+abbrev pub FindsSpan : Place → GPT → Option SectorRange → Type 0
 FindsSpan place g found = MatchOption found (HasNoRoom place g) (IsSpan place g)

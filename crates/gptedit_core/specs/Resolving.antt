@@ -8,6 +8,7 @@ use Rattle.gptman.specs.Number.{entry_of_number}
 use Rattle.gptman.specs.Table.{entries_in}
 use Rattle.gptman.specs.declared.codec.entry.GPTPartitionEntry.{GPTPartitionEntry}
 use Rattle.gptman.specs.declared.table.GPT.{GPT}
+use Rattle.gptedit_core.specs.Sectors.{between}
 use Rattle.gptedit_core.specs.declared.amount.Amount.{Amount}
 use Rattle.gptedit_core.specs.declared.amount.Amount.TheVariants.{Sectors, Bytes}
 use Rattle.gptedit_core.specs.declared.asked.Asked.{Asked}
@@ -26,6 +27,7 @@ use Rattle.gptedit_core.specs.declared.refusal.Stop.TheVariants.{Refused, Failed
 use Rattle.gptedit_core.specs.declared.resolve.ResolvedPartition.{ResolvedPartition}
 use Rattle.gptedit_core.specs.declared.resolve.Room.{Room}
 use Rattle.gptedit_core.specs.declared.resolve.Room.TheVariants.{Sectors as RoomSectors, Rest as RoomRest}
+use Rattle.gptedit_core.specs.declared.sectors.SectorRange.{SectorRange}
 
 -- A request for an entry with no field set.
 abbrev pub nothing_of : Option ℕ → Asked
@@ -83,34 +85,34 @@ abbrev pub span_from : ℕ → ℕ → ℕ → Result Place Refusal
 span_from i first more = if nat_lt (first + more) (2 ^ 64) then Ok (At first (first + more)) else Err (TooLarge i)
 
 -- The place of a used entry that gets the rest: unchanged if the table becomes the layout, else lengthened.
-abbrev pub rest_there : Mode → ℕ × ℕ → Place
-rest_there (Become replace) there = At there.0 there.1
-rest_there mode there = Longer there.0 there.1
+abbrev pub rest_there : Mode → SectorRange → Place
+rest_there (Become replace) there = At there.first there.last
+rest_there mode there = Longer there.first there.last
 
 -- The place of a partition that gets the rest, by its requested start and its present place.
-abbrev pub rest_of : Mode → Option ℕ → Option (ℕ × ℕ) → Place
+abbrev pub rest_of : Mode → Option ℕ → Option SectorRange → Place
 rest_of mode None None = Longest
 rest_of mode (Some first) None = From first
 rest_of mode None (Some there) = rest_there mode there
-rest_of mode (Some first) (Some there) = if nat_eq first there.0 then rest_there mode there else From first
+rest_of mode (Some first) (Some there) = if nat_eq first there.first then rest_there mode there else From first
 
 -- The place of a partition, by its requested size and start and its present place.
-abbrev pub place_of : Mode → ℕ → Option Room → Option ℕ → Option (ℕ × ℕ) → Choice → Result Place Refusal
+abbrev pub place_of : Mode → ℕ → Option Room → Option ℕ → Option SectorRange → Choice → Result Place Refusal
 place_of mode i (Some (RoomSectors n)) (Some first) there choice = span_from i first (n - 1)
-place_of mode i (Some (RoomSectors n)) None (Some there) choice = span_from i there.0 (n - 1)
+place_of mode i (Some (RoomSectors n)) None (Some there) choice = span_from i there.first (n - 1)
 place_of mode i (Some (RoomSectors n)) None None choice = Ok (Free n choice)
 place_of mode i (Some RoomRest) start there choice = Ok (rest_of mode start there)
-place_of mode i None None (Some there) choice = Ok (At there.0 there.1)
-place_of mode i None (Some start) (Some there) choice = if nat_le there.0 there.1 then span_from i start (there.1 - there.0) else Err (NoSize i)
+place_of mode i None None (Some there) choice = Ok (At there.first there.last)
+place_of mode i None (Some start) (Some there) choice = if nat_le there.first there.last then span_from i start (there.last - there.first) else Err (NoSize i)
 place_of mode i None start None choice = Err (NoSize i)
 
 -- The present place of an entry.
-abbrev pub there_of : Option GPTPartitionEntry → Option (ℕ × ℕ)
-there_of used = option_map (λ e. (e.starting_lba, e.ending_lba)) used
+abbrev pub there_of : Option GPTPartitionEntry → Option SectorRange
+there_of used = option_map (λ e. between e.starting_lba e.ending_lba) used
 
 -- A used entry is refused another place if the table may only become the layout.
-abbrev pub stay_fault : Mode → ℕ → Option (ℕ × ℕ) → Place → Option Refusal
-stay_fault (Become false) i (Some there) (At first last) = if nat_eq first there.0 && nat_eq last there.1 then None else Some (WouldMove i)
+abbrev pub stay_fault : Mode → ℕ → Option SectorRange → Place → Option Refusal
+stay_fault (Become false) i (Some there) (At first last) = if nat_eq first there.first && nat_eq last there.last then None else Some (WouldMove i)
 stay_fault (Become false) i (Some there) place = Some (WouldMove i)
 stay_fault mode i there place = None
 

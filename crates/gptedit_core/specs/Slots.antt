@@ -1,17 +1,19 @@
--- The free slots of a table, and those that are left after some sectors are taken.
-use Rattle.std.specs.Prelude.{◌≡◌, ◌<◌, ◌⊎◌, ℕ, ◌+◌, ◌-◌, ◌*◌, ◌/◌, ◌%◌, ◌^◌, ◌≤◌, ◌++◌, max, min, nat_lt, if◌then◌else◌, All, IfSome, List, Option, Some, None}
+-- The free slots of a table, and those that are left after some sectors are taken. The choice and what is left are
+-- said of slots as the library lists them: (start, length).
+use Rattle.std.specs.Prelude.{◌≡◌, ◌<◌, ◌⊎◌, ℕ, ◌+◌, ◌-◌, ◌*◌, ◌/◌, ◌%◌, ◌≤◌, ◌++◌, max, min, nat_lt, if◌then◌else◌, IfSome, List, Option, Some, None}
 use Rattle.std.specs.Option.{option_to_list}
 use Rattle.gptman.specs.Chosen.{IsNoEarlier, IsNoLater, IsTighter}
 use Rattle.gptman.specs.Place.{AreSlots, IsFreeIn}
 use Rattle.gptman.specs.declared.table.GPT.{GPT}
+use Rattle.gptedit_core.specs.Sectors.{pairs_of}
 use Rattle.gptedit_core.specs.declared.asked.Choice.{Choice}
 use Rattle.gptedit_core.specs.declared.asked.Choice.TheVariants.{First, Last, Best, Longest as InLongest}
+use Rattle.gptedit_core.specs.declared.sectors.Slot.{Slot}
 use Rattle.gptedit_core.specs.declared.slots.Slots.{Slots}
 
--- The list is exactly the slots of the table at multiples of align, and each ends at a 64-bit sector.
-pub record AreSlotsOf (g : GPT) (align : ℕ) (slots : List (ℕ × ℕ)) : Type 0 where
-  pub are : AreSlots (IsFreeIn g) align slots
-  pub fit : All (λ s. s.0 + s.1 ≤ 2 ^ 64) slots
+-- The list is exactly the slots of the table at multiples of align.
+abbrev pub AreSlotsOf : GPT → ℕ → List Slot → Type 0
+AreSlotsOf g align slots = AreSlots (IsFreeIn g) align (pairs_of slots)
 
 -- The slots and the runs that are computed are those of the table.
 abbrev pub AreKept : Slots → GPT → Type 0

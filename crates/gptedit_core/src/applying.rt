@@ -177,12 +177,12 @@ fn put(table: &mut GPT, slots: &mut Slots, partition: &ResolvedPartition) -> Res
     if there.is_used() {
         return Err(Stop::Refused(Refusal::Twice(number)));
     }
-    let Some((first, last)) = slots.find(table, partition.place)? else {
+    let Some(range) = slots.find(table, partition.place)? else {
         return Err(Stop::Refused(Refusal::NoRoom(number)));
     };
     let entry = GPTPartitionEntry {
-        starting_lba: first,
-        ending_lba: last,
+        starting_lba: range.first,
+        ending_lba: range.last,
         ..partition.entry.clone()?
     };
     slots.leave_out(table, number, &entry)?;

@@ -18,6 +18,7 @@ pub mod place;
 pub mod plan;
 pub mod refusal;
 pub mod resolve;
+mod sectors;
 mod slots;
 
 pub use amount::{Amount, DEFAULT_ALIGN};
@@ -31,3 +32,4 @@ pub use place::Place;
 pub use plan::{Job, Outcome, Request};
 pub use refusal::{Refusal, Stop};
 pub use resolve::ResolvedPartition;
+pub use sectors::SectorRange;

@@ -10,7 +10,7 @@ ghost use Rattle.gptman_change.specs.Changes.{AnswersChange, IsSafe, LeavesChang
 ghost use Rattle.gptman_change.specs.Changes.{StartsGoodFor};
 ghost use Rattle.gptman_change.specs.Reads.{size_for};
 ghost use Rattle.gptedit_core.specs.Applying.{IsStopOf};
-ghost use Rattle.gptedit_core.specs.Making.{bounded, copy_place_of, empty_of, has_random_in, put_at};
+ghost use Rattle.gptedit_core.specs.Making.{bounded, copy_place_of, empty_of, has_random_in, put_at, usable_of};
 ghost use Rattle.gptedit_core.specs.Making.{AnswersMaking, HasBounds, HasRoomOf, IsEmpty, IsFitted, IsLeftAnew, IsNew};
 ghost use Rattle.gptedit_core.specs.Making.{IsRemade, IsWrittenAnew, LeavesMaking, RefusesMaking, RefusesNew};
 ghost use Rattle.gptedit_core.specs.Making.{HasOrder, IsAppliedIf, IsPlannedNew, KeepsLaidOut, MayBeReplaced, RefusesAskedIf, RefusesRemaking};
@@ -23,6 +23,7 @@ use crate::asked::RequestedLayout;
 use crate::order::has_safe_order;
 use crate::plan::{Outcome, check, decide};
 use crate::refusal::{Refusal, Stop};
+use crate::sectors::SectorRange;
 use gptman::{Disk, Error, GPT};
 use gptman_change::{Plan, Planned, change_table};
 use std::alloc::Global;
@@ -338,13 +339,16 @@ fn bound(creation: &Creation, table: &mut GPT) -> Result<(), Refusal>
     ensures bounds { OnOk result (HasBounds creation.now table.old) }
     ensures value { OnOk result (table.new ≡ bounded creation.now table.old) }
     ensures refused { IfErr result (λ r. (¬ HasBounds creation.now table.old)
-        × (r ≡ OutOfBounds table.old.header.first_usable_lba table.old.header.last_usable_lba)) }
+        × (r ≡ OutOfBounds (usable_of table.old))) }
 {
-    let (low, high) = (table.header.first_usable_lba, table.header.last_usable_lba);
-    let first = creation.first_usable.unwrap_or(low);
-    let last = creation.last_usable.unwrap_or(high);
-    if first < low || high < last || last < first.saturating_sub(1) {
-        return Err(Refusal::OutOfBounds(low, high));
+    let usable = SectorRange {
+        first: table.header.first_usable_lba,
+        last: table.header.last_usable_lba,
+    };
+    let first = creation.first_usable.unwrap_or(usable.first);
+    let last = creation.last_usable.unwrap_or(usable.last);
+    if first < usable.first || usable.last < last || last < first.saturating_sub(1) {
+        return Err(Refusal::OutOfBounds(usable));
     }
     table.header.first_usable_lba = first;
     table.header.last_usable_lba = last;

@@ -1,17 +1,21 @@
 //! The requested place of a partition, and the sectors that it gets.
 
-ghost use Rattle.std.specs.Prelude.{◌≡◌, ◌≢◌, ◌≤◌, ◌<◌, ℕ, ◌+◌, ◌^◌, All, Contains, IfErr, IfOk, IfSome};
+ghost use Rattle.std.specs.Prelude.{◌≡◌, ◌≢◌, ◌≤◌, ◌<◌, ℕ, ◌+◌, ◌^◌, All, Contains, IfErr, IfOk};
 ghost use Rattle.std.specs.Prelude.{IsTrue, MatchOption};
 ghost use Rattle.gptman.specs.Entry.{covers};
 ghost use Rattle.gptman.specs.Fault.{fault_of, out_of_memory};
-ghost use Rattle.gptman.specs.Place.{AreSlots, EndsIn64Bits, HasNoSlot, IsFirstMultiple, IsFreeIn};
+ghost use Rattle.gptman.specs.Place.{EndsIn64Bits, HasNoSlot, IsFirstMultiple, IsFreeIn};
 ghost use Rattle.gptman.specs.Table.{entries_in};
 ghost use Rattle.gptedit_core.specs.Placing.{trimmed, AreFreeBehind, FindsSpan, HasNoEnd, HasNoLongestPlace};
 ghost use Rattle.gptedit_core.specs.Placing.{HasSector, IsFurthestEnd, IsLastEnd, IsLongestPlace, IsLongestRun};
+ghost use Rattle.gptedit_core.specs.Sectors.{pairs_of};
+ghost use Rattle.gptedit_core.specs.Slots.{AreSlotsOf};
 ghost use Rattle.gptedit_core.specs.declared.place.Place.TheVariants.{Free, From, Longest};
 
 use crate::asked::Choice;
+use crate::sectors::{SectorRange, Slot};
 use gptman::{Error, GPT, GPTPartitionEntry, Result};
+use std::alloc::AllocError;
 
 /// The requested place of a partition, in sectors.
 #[derive(Clone, Copy, PartialEq, Eq, Debug)]
@@ -30,19 +34,22 @@ pub enum Place {
 }
 
 impl Place {
-    /// Returns the first and the last sector of this place in the table, or `None` if there is no room for it. A
-    /// place without a size ends before a multiple of the alignment, if it can.
+    /// Returns the sectors of this place in the table, or `None` if there is no room for it. A place without a size
+    /// ends before a multiple of the alignment, if it can.
     ///
     /// Fails only with `OutOfMemory`.
-    pub fn find(self, table: &GPT) -> Result<Option<(u64, u64)>>
+    pub fn find(self, table: &GPT) -> Result<Option<SectorRange>>
         requires aligned { 0 < table.now.align }
         ensures refused { IfErr result (λ e. fault_of e ≡ out_of_memory) }
         ensures value { IfOk result (FindsSpan self table.now) }
     {
         match self {
-            Place::At { first, last } => Ok(Some((first, last))),
+            Place::At { first, last } => Ok(Some(SectorRange { first, last })),
             Place::From { first } => find_rest(table, first),
-            Place::Longer { first, last } => Ok(Some((first, find_end(table, first, last)))),
+            Place::Longer { first, last } => {
+                let last = find_end(table, first, last);
+                Ok(Some(SectorRange { first, last }))
+            }
             Place::Free { size, choice } => find_free(table, size.max(1), choice),
             Place::Longest => find_longest(table),
         }
@@ -50,14 +57,18 @@ impl Place {
 }
 
 #[tactic(auto, using(crate::proofs::Runs::run_at, crate::proofs::Runs::no_run))]
-fn find_rest(table: &GPT, first: u64) -> Result<Option<(u64, u64)>>
+fn find_rest(table: &GPT, first: u64) -> Result<Option<SectorRange>>
     requires aligned { 0 < table.now.align }
     ensures refused { IfErr result (λ e. fault_of e ≡ out_of_memory) }
     ensures value { IfOk result (FindsSpan (From first) table.now) }
 {
     let runs = find_runs(table)?;
     match run_with(&runs, first) {
-        Some((start, long)) => Ok(Some((first, trim(table.align, first, start + (long - 1))))),
+        Some(run) => {
+            let end = run.last();
+            let last = trim(table.align, first, end);
+            Ok(Some(SectorRange { first, last }))
+        }
         None => Ok(None),
     }
 }
@@ -125,26 +136,49 @@ fn last_end(align: u64, far: u64) -> Option<u64>
     Some(far - over)
 }
 
-// Returns the runs of free sectors, each as (start, length).
-pub(crate) fn find_runs(table: &GPT) -> Result<Vec<(u64, u64)>>
+// Returns the free slots, at multiples of the alignment.
+pub(crate) fn find_slots(table: &GPT) -> Result<Vec<Slot>>
+    requires { 0 < table.now.align }
     ensures refused { IfErr result (λ e. fault_of e ≡ out_of_memory) }
-    ensures value { IfOk result (λ v. AreSlots (IsFreeIn table.now) 1 v.items) }
-    ensures fits { IfOk result (λ v. All (λ s. s.0 + s.1 ≤ 2 ^ 64) v.items) }
+    ensures value { IfOk result (λ v. AreSlotsOf table.now table.now.align v.items) }
+{
+    let pairs = table.find_free_sectors()?;
+    Ok(name_slots(&pairs)?)
+}
+
+// Returns the runs of free sectors.
+pub(crate) fn find_runs(table: &GPT) -> Result<Vec<Slot>>
+    ensures refused { IfErr result (λ e. fault_of e ≡ out_of_memory) }
+    ensures value { IfOk result (λ v. AreSlotsOf table.now 1 v.items) }
 {
     let mut table = table.clone()?;
     table.align = 1;
-    table.find_free_sectors()
+    find_slots(&table)
+}
+
+// Returns the slots that the library lists as (start, length).
+fn name_slots(pairs: &Vec<(u64, u64)>) -> std::result::Result<Vec<Slot>, AllocError>
+    requires some { All (λ s. 0 < s.1) pairs.now.items }
+    requires fits { All (λ s. s.0 + s.1 ≤ 2 ^ 64) pairs.now.items }
+    ensures { IfOk result (λ v. pairs_of v.items ≡ pairs.now.items) }
+{
+    let mut slots = Vec::with_capacity(*pairs.allocator(), pairs.len())?;
+    for pair in pairs {
+        let slot = Slot::of(pair.0, pair.1);
+        slots.push(slot)?;
+    }
+    Ok(slots)
 }
 
 // Returns the run that contains this sector.
-fn run_with(runs: &[(u64, u64)], sector: u64) -> Option<(u64, u64)>
-    ensures { MatchOption result (All (λ r. ¬ HasSector sector r) runs.now)
-        (λ r. Contains runs.now r × HasSector sector r) }
+fn run_with(runs: &[Slot], sector: u64) -> Option<Slot>
+    ensures { MatchOption result (All (λ r. ¬ HasSector sector r.start r.length) runs.now)
+        (λ r. Contains runs.now r × HasSector sector r.start r.length) }
 {
-    runs.iter().copied().find(|(start, long)| *start <= sector && sector - *start < *long)
+    runs.iter().copied().find(|run| run.start <= sector && sector - run.start < run.length)
 }
 
-fn find_free(table: &GPT, size: u64, choice: Choice) -> Result<Option<(u64, u64)>>
+fn find_free(table: &GPT, size: u64, choice: Choice) -> Result<Option<SectorRange>>
     requires aligned { 0 < table.now.align }
     requires sized { 0 < size }
     ensures refused { IfErr result (λ e. fault_of e ≡ out_of_memory) }
@@ -157,7 +191,10 @@ fn find_free(table: &GPT, size: u64, choice: Choice) -> Result<Option<(u64, u64)
         Choice::Longest => find_in_longest(table, size),
     };
     match found? {
-        Some(first) => Ok(Some((first, first + (size - 1)))),
+        Some(first) => Ok(Some(SectorRange {
+            first,
+            last: first + (size - 1),
+        })),
         None => Ok(None),
     }
 }
@@ -172,29 +209,29 @@ fn find_in_longest(table: &GPT, size: u64) -> Result<Option<u64>>
         (IsLongestPlace (IsFreeIn table.now) table.now.align size)) }
     ensures fits { IfOk result (EndsIn64Bits size) }
 {
-    let Some((start, long)) = find_longest_run(table)? else {
+    let Some(run) = find_longest_run(table)? else {
         return Ok(None);
     };
-    let skipped = skip(table.align, start);
-    if skipped <= long && size <= long - skipped {
-        Ok(Some(start + skipped))
+    let skipped = skip(table.align, run.start);
+    if skipped <= run.length && size <= run.length - skipped {
+        Ok(Some(run.start + skipped))
     } else {
         Ok(None)
     }
 }
 
-// Returns the longest run of free sectors, the first of equals, as (start, length).
-fn find_longest_run(table: &GPT) -> Result<Option<(u64, u64)>>
+// Returns the longest run of free sectors, the first of equals.
+#[tactic(auto, using(crate::proofs::Runs::longest_some))]
+fn find_longest_run(table: &GPT) -> Result<Option<Slot>>
     ensures refused { IfErr result (λ e. fault_of e ≡ out_of_memory) }
     ensures value { IfOk result (λ found. MatchOption found (HasNoSlot (IsFreeIn table.now) 1)
-        (λ r. IsLongestRun (IsFreeIn table.now) r.0 r.1)) }
-    ensures fits { IfOk result (λ found. IfSome found (λ r. r.0 + r.1 ≤ 2 ^ 64)) }
+        (λ r. IsLongestRun (IsFreeIn table.now) r.start r.length)) }
 {
     let mut table = table.clone()?;
     table.align = 1;
     match table.get_maximum_partition_size() {
-        Ok(long) => match table.find_optimal_place(long)? {
-            Some(start) => Ok(Some((start, long))),
+        Ok(length) => match table.find_optimal_place(length)? {
+            Some(start) => Ok(Some(Slot { start, length })),
             None => Ok(None),
         },
         Err(Error::NoSpaceLeft) => Ok(None),
@@ -214,7 +251,7 @@ pub(crate) fn skip(align: u64, sector: u64) -> u64
 }
 
 // Returns the longest free range, rounded down to a multiple of the alignment.
-fn find_longest(table: &GPT) -> Result<Option<(u64, u64)>>
+fn find_longest(table: &GPT) -> Result<Option<SectorRange>>
     requires aligned { 0 < table.now.align }
     ensures refused { IfErr result (λ e. fault_of e ≡ out_of_memory) }
     ensures value { IfOk result (FindsSpan Longest table.now) }

@@ -5,6 +5,7 @@ ghost use Rattle.gptman.specs.Error.{OutOfMemory};
 ghost use Rattle.gptedit_core.specs.declared.refusal.Stop.TheVariants.{Failed, Refused};
 
 use crate::amount::Amount;
+use crate::sectors::SectorRange;
 use gptman::Error;
 use std::alloc::AllocFailed;
 
@@ -47,9 +48,9 @@ pub enum Refusal {
     BadBoundaries,
     /// The disk has no room for two copies of a table with this number of entries, or the number is 0.
     TooSmallFor(u32),
-    /// The requested usable sectors are not a range, empty or not, within these: the first and the last usable sector
-    /// between the two copies.
-    OutOfBounds(u64, u64),
+    /// The requested usable sectors are not a range, empty or not, within these: the usable sectors between the two
+    /// copies.
+    OutOfBounds(SectorRange),
     /// The new table would overwrite the only good copy of the old one before a copy of the new one is complete.
     NoSafeOrder,
 }

@@ -11,6 +11,7 @@ use crate::amount::Amount;
 use crate::asked::{Asked, Choice, Mode, Size};
 use crate::place::Place;
 use crate::refusal::{Refusal, Stop};
+use crate::sectors::SectorRange;
 use gptman::{Error, GPT, GPTPartitionEntry};
 use std::alloc::Global;
 
@@ -144,7 +145,10 @@ fn find_place(
     let start = find_start(asked.start, sector_size)?;
     let room = find_room(asked.size, number, sector_size)?;
     let there = match used {
-        Some(entry) => Some((entry.starting_lba, entry.ending_lba)),
+        Some(entry) => Some(SectorRange {
+            first: entry.starting_lba,
+            last: entry.ending_lba,
+        }),
         None => None,
     };
     let place = place_of(mode, number, room, start, there, asked.choice)?;
@@ -185,7 +189,7 @@ fn place_of(
     number: u32,
     room: Option<Room>,
     start: Option<u64>,
-    there: Option<(u64, u64)>,
+    there: Option<SectorRange>,
     choice: Choice,
 ) -> Result<Place, Refusal>
     ensures { result ≡ place_of mode number room start there choice }
@@ -194,38 +198,38 @@ fn place_of(
         (Some(Room::Sectors(size)), Some(first), _) => {
             span_from(number, first, size.saturating_sub(1))
         }
-        (Some(Room::Sectors(size)), None, Some((first, _))) => {
-            span_from(number, first, size.saturating_sub(1))
+        (Some(Room::Sectors(size)), None, Some(there)) => {
+            span_from(number, there.first, size.saturating_sub(1))
         }
         (Some(Room::Sectors(size)), None, None) => Ok(Place::Free { size, choice }),
         (Some(Room::Rest), start, there) => Ok(rest_of(mode, start, there)),
-        (None, None, Some((first, last))) => Ok(Place::At { first, last }),
-        (None, Some(start), Some((first, last))) if first <= last => {
-            span_from(number, start, last - first)
+        (None, None, Some(SectorRange { first, last })) => Ok(Place::At { first, last }),
+        (None, Some(start), Some(there)) if there.first <= there.last => {
+            span_from(number, start, there.last - there.first)
         }
         (None, _, _) => Err(Refusal::NoSize(number)),
     }
 }
 
 // Returns the place of a partition of size `Rest`.
-fn rest_of(mode: Mode, start: Option<u64>, there: Option<(u64, u64)>) -> Place
+fn rest_of(mode: Mode, start: Option<u64>, there: Option<SectorRange>) -> Place
     ensures { result ≡ rest_of mode start there }
 {
     match (start, there) {
         (None, None) => Place::Longest,
         (Some(first), None) => Place::From { first },
         (None, Some(there)) => rest_there(mode, there),
-        (Some(first), Some(there)) if first == there.0 => rest_there(mode, there),
+        (Some(first), Some(there)) if first == there.first => rest_there(mode, there),
         (Some(first), Some(_)) => Place::From { first },
     }
 }
 
 // Returns the place of a partition of size `Rest` that starts where the used entry does: unchanged if the table
 // becomes the layout, else lengthened.
-fn rest_there(mode: Mode, there: (u64, u64)) -> Place
+fn rest_there(mode: Mode, there: SectorRange) -> Place
     ensures { result ≡ rest_there mode there }
 {
-    let (first, last) = there;
+    let SectorRange { first, last } = there;
     match mode {
         Mode::Become { .. } => Place::At { first, last },
         _ => Place::Longer { first, last },
@@ -246,13 +250,13 @@ fn span_from(number: u32, first: u64, more: u64) -> Result<Place, Refusal>
 fn check_stay(
     mode: Mode,
     number: u32,
-    there: Option<(u64, u64)>,
+    there: Option<SectorRange>,
     place: Place,
 ) -> Result<(), Refusal>
     ensures { refusal_in result ≡ stay_fault mode number there place }
 {
     match (mode, there) {
-        (Mode::Become { replace: false }, Some((first, last)))
+        (Mode::Become { replace: false }, Some(SectorRange { first, last }))
             if place != (Place::At { first, last }) => { Err(Refusal::WouldMove(number)) }
         _ => Ok(()),
     }

@@ -1,7 +1,6 @@
 //! The free slots of a table, kept up to date while partitions are put into it.
 
-ghost use Prim.Native.Nat.{◌∣◌};
-ghost use Rattle.std.specs.Prelude.{◌≡◌, ◌≢◌, ◌≤◌, ◌<◌, ◌+◌, ◌^◌, ◌++◌, drop, length, slice_index_or, take, vec_len, All, AllPairs, IfErr, IfOk, IfSome, IsSomeAnd};
+ghost use Rattle.std.specs.Prelude.{◌≡◌, ◌≢◌, ◌≤◌, ◌<◌, ◌+◌, ◌++◌, drop, length, option_map, slice_index_or, take, vec_len, IfErr, IfOk, IfSome, IsSomeAnd};
 ghost use Rattle.std.specs.Prelude.{IsTrue, MatchBool, MatchOption, None, OnOk};
 ghost use Rattle.std.specs.List.{flat_map};
 ghost use Rattle.std.specs.Option.{option_to_list};
@@ -10,21 +9,24 @@ ghost use Rattle.gptman.specs.Entry.{is_unused};
 ghost use Rattle.gptman.specs.Fault.{fault_of, out_of_memory};
 ghost use Rattle.gptman.specs.Number.{entry_at, with_entry, IsNumber};
 ghost use Rattle.gptedit_core.specs.Placing.{FindsSpan};
+ghost use Rattle.gptedit_core.specs.Sectors.{pair_of, pairs_of};
 ghost use Rattle.gptedit_core.specs.Slots.{before_of, behind_of, rest_of, start_in, AreKept, AreSlotsOf, HasSpan, IsNoWorse};
 ghost use Rattle.gptedit_core.specs.declared.asked.Choice.TheVariants.{Longest as InLongest};
 ghost use Rattle.gptedit_core.specs.declared.place.Place.TheVariants.{Free};
+ghost use Rattle.gptman.specs.declared.table.GPT.{GPT};
 
 use crate::asked::Choice;
-use crate::place::{Place, find_runs, skip};
+use crate::place::{Place, find_runs, find_slots, skip};
+use crate::sectors::{SectorRange, Slot};
 use gptman::{GPT, GPTPartitionEntry, Result};
 use std::alloc::AllocError;
 
-/// The free slots of a table, at multiples of its alignment, and its runs of free sectors, each as (start, length).
-/// `None` means not computed yet.
+/// The free slots of a table, at multiples of its alignment, and its runs of free sectors. `None` means not computed
+/// yet.
 #[derive(Drop, Debug)]
 pub struct Slots {
-    slots: Option<Vec<(u64, u64)>>,
-    runs: Option<Vec<(u64, u64)>>,
+    slots: Option<Vec<Slot>>,
+    runs: Option<Vec<Slot>>,
 }
 
 impl Slots {
@@ -39,10 +41,10 @@ impl Slots {
         }
     }
 
-    /// Returns the first and the last sector of the place in the table, or `None` if there is no room for it.
+    /// Returns the sectors of the place in the table, or `None` if there is no room for it.
     ///
     /// Fails only with `OutOfMemory`.
-    pub fn find(&mut self, table: &GPT, place: Place) -> Result<Option<(u64, u64)>>
+    pub fn find(&mut self, table: &GPT, place: Place) -> Result<Option<SectorRange>>
         requires aligned { 0 < table.now.align }
         requires kept { AreKept self.old table.now }
         ensures refused { IfErr result (λ e. fault_of e ≡ out_of_memory) }
@@ -61,7 +63,12 @@ impl Slots {
     }
 
     // Returns `size` sectors at the chosen place in the slots.
-    fn find_chosen(&mut self, table: &GPT, size: u64, choice: Choice) -> Result<Option<(u64, u64)>>
+    fn find_chosen(
+        &mut self,
+        table: &GPT,
+        size: u64,
+        choice: Choice,
+    ) -> Result<Option<SectorRange>>
         requires aligned { 0 < table.now.align }
         requires sized { 0 < size }
         requires chosen { choice ≢ InLongest }
@@ -72,7 +79,7 @@ impl Slots {
     {
         let slots = match self.slots.take() {
             Some(slots) => slots,
-            None => table.find_free_sectors()?,
+            None => find_slots(table)?,
         };
         let found = span_in(&slots, table, size, choice);
         self.slots = Some(slots);
@@ -80,7 +87,7 @@ impl Slots {
     }
 
     // Returns `size` sectors in the longest run.
-    fn find_in_longest(&mut self, table: &GPT, size: u64) -> Result<Option<(u64, u64)>>
+    fn find_in_longest(&mut self, table: &GPT, size: u64) -> Result<Option<SectorRange>>
         requires aligned { 0 < table.now.align }
         requires sized { 0 < size }
         requires kept { AreKept self.old table.now }
@@ -116,12 +123,12 @@ impl Slots {
 
 // Returns the slots of the table with this entry, or `None` if they have to be computed again.
 fn leave_out(
-    slots: Option<Vec<(u64, u64)>>,
+    slots: Option<Vec<Slot>>,
     align: u64,
     table: &GPT,
     number: u32,
     entry: &GPTPartitionEntry,
-) -> std::result::Result<Option<Vec<(u64, u64)>>, AllocError>
+) -> std::result::Result<Option<Vec<Slot>>, AllocError>
     requires aligned { 0 < align }
     requires kept { IfSome slots (λ v. AreSlotsOf table.now align v.items) }
     requires number { IsNumber table.now number }
@@ -140,18 +147,15 @@ fn leave_out(
 
 // Returns the slots without the sectors from `first` to `last`.
 fn cut(
-    slots: Vec<(u64, u64)>,
+    slots: Vec<Slot>,
     align: u64,
     first: u64,
     last: u64,
-) -> std::result::Result<Vec<(u64, u64)>, AllocError>
+) -> std::result::Result<Vec<Slot>, AllocError>
     requires aligned { 0 < align }
     requires ordered { first ≤ last }
-    requires some { All (λ s. 0 < s.1) slots.items }
-    requires fits { All (λ s. s.0 + s.1 ≤ 2 ^ 64) slots.items }
-    requires multiples { All (λ s. align ∣ s.0) slots.items }
-    requires apart { AllPairs (λ s t. s.0 + s.1 ≤ t.0) slots.items }
-    ensures { IfOk result (λ v. v.items ≡ flat_map (rest_of align first last) slots.items) }
+    requires kept { (table : GPT) × AreSlotsOf table align slots.items }
+    ensures { IfOk result (λ v. pairs_of v.items ≡ flat_map (rest_of align first last) (pairs_of slots.items)) }
 {
     match index_with(&slots, first, last) {
         Some(i) => cut_at(slots, i, align, first, last),
@@ -160,14 +164,16 @@ fn cut(
 }
 
 // Returns the index of a slot that contains all these sectors.
-fn index_with(slots: &[(u64, u64)], first: u64, last: u64) -> Option<usize>
+#[tactic(auto, using(crate::proofs::Cuts::has_span))]
+fn index_with(slots: &[Slot], first: u64, last: u64) -> Option<usize>
     requires { first ≤ last }
-    ensures { IfSome result (λ i. (i < length slots.now) × HasSpan first last (slice_index_or slots.now i (0, 0))) }
+    ensures { IfSome result (λ i. (i < length slots.now)
+        × HasSpan first last (slice_index_or (pairs_of slots.now) i (0, 0))) }
 {
     for before in 0..slots.len() {
         let i = slots.len() - 1 - before;
-        let (start, long) = slots[i];
-        if start <= first && last - start < long {
+        let slot = slots[i];
+        if slot.start <= first && last - slot.start < slot.length {
             return Some(i);
         }
     }
@@ -176,18 +182,16 @@ fn index_with(slots: &[(u64, u64)], first: u64, last: u64) -> Option<usize>
 
 // Removes the sectors from the slot that contains them.
 fn cut_at(
-    mut slots: Vec<(u64, u64)>,
+    mut slots: Vec<Slot>,
     i: usize,
     align: u64,
     first: u64,
     last: u64,
-) -> std::result::Result<Vec<(u64, u64)>, AllocError>
+) -> std::result::Result<Vec<Slot>, AllocError>
     requires within { i < vec_len slots }
     requires aligned { 0 < align }
-    requires some { All (λ s. 0 < s.1) slots.items }
-    requires fits { All (λ s. s.0 + s.1 ≤ 2 ^ 64) slots.items }
-    ensures { IfOk result (λ v. v.items ≡ take i slots.items
-        ++ (rest_of align first last (slice_index_or slots.items i (0, 0)) ++ drop (i + 1) slots.items)) }
+    ensures { IfOk result (λ v. pairs_of v.items ≡ take i (pairs_of slots.items)
+        ++ (rest_of align first last (slice_index_or (pairs_of slots.items) i (0, 0)) ++ drop (i + 1) (pairs_of slots.items))) }
 {
     let slot = slots.remove(i);
     insert_some(&mut slots, i, behind(slot, align, last))?;
@@ -196,9 +200,9 @@ fn cut_at(
 }
 
 fn insert_some(
-    slots: &mut Vec<(u64, u64)>,
+    slots: &mut Vec<Slot>,
     i: usize,
-    slot: Option<(u64, u64)>,
+    slot: Option<Slot>,
 ) -> std::result::Result<(), AllocError>
     requires { i ≤ vec_len slots.old }
     ensures items { OnOk result (slots.new.items ≡ take i slots.old.items ++ (option_to_list slot ++ drop i slots.old.items)) }
@@ -212,15 +216,13 @@ fn insert_some(
 
 // Removes the sectors from each slot.
 fn cut_all(
-    slots: &Vec<(u64, u64)>,
+    slots: &Vec<Slot>,
     align: u64,
     first: u64,
     last: u64,
-) -> std::result::Result<Vec<(u64, u64)>, AllocError>
+) -> std::result::Result<Vec<Slot>, AllocError>
     requires aligned { 0 < align }
-    requires some { All (λ s. 0 < s.1) slots.now.items }
-    requires fits { All (λ s. s.0 + s.1 ≤ 2 ^ 64) slots.now.items }
-    ensures { IfOk result (λ v. v.items ≡ flat_map (rest_of align first last) slots.now.items) }
+    ensures { IfOk result (λ v. pairs_of v.items ≡ flat_map (rest_of align first last) (pairs_of slots.now.items)) }
 {
     let mut rest = Vec::new(*slots.allocator());
     for slot in slots {
@@ -231,8 +233,8 @@ fn cut_all(
 }
 
 fn push_some(
-    slots: &mut Vec<(u64, u64)>,
-    slot: Option<(u64, u64)>,
+    slots: &mut Vec<Slot>,
+    slot: Option<Slot>,
 ) -> std::result::Result<(), AllocError>
     ensures { OnOk result (slots.new.items ≡ slots.old.items ++ option_to_list slot) }
 {
@@ -243,40 +245,42 @@ fn push_some(
 }
 
 // Returns the part of the slot before sector `first`.
-fn before(slot: (u64, u64), first: u64) -> Option<(u64, u64)>
-    ensures { result ≡ before_of first slot }
+fn before(slot: Slot, first: u64) -> Option<Slot>
+    ensures { option_map pair_of result ≡ before_of first (pair_of slot) }
 {
-    let (start, long) = slot;
-    if start < first {
-        Some((start, long.min(first - start)))
+    if slot.start < first {
+        Some(Slot {
+            start: slot.start,
+            length: slot.length.min(first - slot.start),
+        })
     } else {
         None
     }
 }
 
 // Returns the slot in the part after sector `last`.
-fn behind(slot: (u64, u64), align: u64, last: u64) -> Option<(u64, u64)>
+fn behind(slot: Slot, align: u64, last: u64) -> Option<Slot>
     requires aligned { 0 < align }
-    requires some { 0 < slot.1 }
-    requires fits { slot.0 + slot.1 ≤ 2 ^ 64 }
-    ensures { result ≡ behind_of align last slot }
+    ensures { option_map pair_of result ≡ behind_of align last (pair_of slot) }
 {
-    let (start, long) = slot;
-    let end = start + (long - 1);
+    let end = slot.last();
     if end <= last {
         return None;
     }
-    let from = start.max(last + 1);
+    let from = slot.start.max(last + 1);
     let skipped = skip(align, from);
     if skipped <= end - from {
-        Some((from + skipped, end - from - skipped + 1))
+        Some(Slot {
+            start: from + skipped,
+            length: end - from - skipped + 1,
+        })
     } else {
         None
     }
 }
 
-// Returns the first and the last of `size` sectors in the chosen slot.
-fn span_in(slots: &[(u64, u64)], table: &GPT, size: u64, choice: Choice) -> Option<(u64, u64)>
+// Returns `size` sectors in the chosen slot.
+fn span_in(slots: &[Slot], table: &GPT, size: u64, choice: Choice) -> Option<SectorRange>
     requires aligned { 0 < table.now.align }
     requires sized { 0 < size }
     requires chosen { choice ≢ InLongest }
@@ -287,48 +291,53 @@ fn span_in(slots: &[(u64, u64)], table: &GPT, size: u64, choice: Choice) -> Opti
         return None;
     };
     let first = start_in(slot, table.align, size, choice);
-    Some((first, first + (size - 1)))
+    Some(SectorRange {
+        first,
+        last: first + (size - 1),
+    })
 }
 
 // Returns where `size` sectors start in the chosen slot.
-fn start_in(slot: (u64, u64), align: u64, size: u64, choice: Choice) -> u64
+fn start_in(slot: Slot, align: u64, size: u64, choice: Choice) -> u64
     requires aligned { 0 < align }
-    requires within { size ≤ slot.1 }
-    requires fits { slot.0 + slot.1 ≤ 2 ^ 64 }
+    requires within { size ≤ slot.length }
     requires sized { 0 < size }
-    ensures { result ≡ start_in choice align size slot }
+    ensures { result ≡ start_in choice align size (pair_of slot) }
 {
     match choice {
-        Choice::Last => slot.0 + (slot.1 - size) / align * align,
-        Choice::First => slot.0,
-        Choice::Best => slot.0,
-        Choice::Longest => slot.0,
+        Choice::Last => slot.start + (slot.length - size) / align * align,
+        Choice::First => slot.start,
+        Choice::Best => slot.start,
+        Choice::Longest => slot.start,
     }
 }
 
-// Returns the first and the last of `size` sectors in the longest run, from the first multiple of the alignment in
-// it.
-fn span_in_longest(runs: &[(u64, u64)], table: &GPT, size: u64) -> Option<(u64, u64)>
+// Returns `size` sectors in the longest run, from the first multiple of the alignment in it.
+fn span_in_longest(runs: &[Slot], table: &GPT, size: u64) -> Option<SectorRange>
     requires aligned { 0 < table.now.align }
     requires sized { 0 < size }
     requires runs { AreSlotsOf table.now 1 runs.now }
     ensures { FindsSpan (Free size InLongest) table.now result }
 {
-    let Some((start, long)) = pick(runs, 1, Choice::Longest) else {
+    let Some(run) = pick(runs, 1, Choice::Longest) else {
         return None;
     };
-    let skipped = skip(table.align, start);
-    if skipped <= long && size <= long - skipped {
-        let first = start + skipped;
-        Some((first, first + (size - 1)))
+    let skipped = skip(table.align, run.start);
+    if skipped <= run.length && size <= run.length - skipped {
+        let first = run.start + skipped;
+        Some(SectorRange {
+            first,
+            last: first + (size - 1),
+        })
     } else {
         None
     }
 }
 
 // Returns the chosen one of the slots with at least `size` sectors.
-fn pick(slots: &[(u64, u64)], size: u64, choice: Choice) -> Option<(u64, u64)>
-    ensures { MatchOption result (AreShort size slots.now) (IsBestSlot (IsNoWorse choice) size slots.now) }
+fn pick(slots: &[Slot], size: u64, choice: Choice) -> Option<Slot>
+    ensures { MatchOption result (AreShort size (pairs_of slots.now))
+        (λ s. IsBestSlot (IsNoWorse choice) size (pairs_of slots.now) (pair_of s)) }
 {
     let mut found = None;
     for slot in slots {
@@ -340,11 +349,11 @@ fn pick(slots: &[(u64, u64)], size: u64, choice: Choice) -> Option<(u64, u64)>
 }
 
 // Reports whether the slot has at least `size` sectors and is chosen over the one found so far.
-fn is_taken(slot: (u64, u64), found: Option<(u64, u64)>, size: u64, choice: Choice) -> bool
-    ensures { MatchBool result (size ≤ slot.1 × IfSome found (IsNoWorse choice slot))
-        (size ≤ slot.1 → IsSomeAnd found (λ s. IsNoWorse choice s slot)) }
+fn is_taken(slot: Slot, found: Option<Slot>, size: u64, choice: Choice) -> bool
+    ensures { MatchBool result (size ≤ slot.length × IfSome found (λ s. IsNoWorse choice (pair_of slot) (pair_of s)))
+        (size ≤ slot.length → IsSomeAnd found (λ s. IsNoWorse choice (pair_of s) (pair_of slot))) }
 {
-    slot.1 >= size
+    slot.length >= size
         && match found {
             Some(other) => is_better(slot, other, choice),
             None => true,
@@ -352,13 +361,17 @@ fn is_taken(slot: (u64, u64), found: Option<(u64, u64)>, size: u64, choice: Choi
 }
 
 // Reports whether the slot is chosen over the other.
-fn is_better(slot: (u64, u64), other: (u64, u64), choice: Choice) -> bool
-    ensures { MatchBool result (IsNoWorse choice slot other) (IsNoWorse choice other slot) }
+fn is_better(slot: Slot, other: Slot, choice: Choice) -> bool
+    ensures { MatchBool result (IsNoWorse choice (pair_of slot) (pair_of other))
+        (IsNoWorse choice (pair_of other) (pair_of slot)) }
 {
+    let is_earlier = slot.start < other.start;
     match choice {
-        Choice::First => slot.0 < other.0,
-        Choice::Last => slot.0 > other.0,
-        Choice::Best => slot.1 < other.1 || (slot.1 == other.1 && slot.0 < other.0),
-        Choice::Longest => slot.1 > other.1 || (slot.1 == other.1 && slot.0 < other.0),
+        Choice::First => is_earlier,
+        Choice::Last => slot.start > other.start,
+        Choice::Best => slot.length < other.length || (slot.length == other.length && is_earlier),
+        Choice::Longest => {
+            slot.length > other.length || (slot.length == other.length && is_earlier)
+        }
     }
 }

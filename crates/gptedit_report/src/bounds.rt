@@ -1,6 +1,7 @@
 //! The usable sectors of a table, compared with the sectors between its two copies.
 
 use gptman::GPT;
+use gptman::copy::WholeCopy;
 use std::fmt;
 
 /// The usable sectors of a table, and the sectors between its copies.
@@ -22,10 +23,8 @@ const ENTRY_BYTES: u64 = 128;
 impl Edges {
     /// Returns those of a table on a disk of `size` bytes.
     pub fn of(table: &GPT, size: u64) -> Edges {
-        let sector_size = table.sector_size.max(1);
-        let count = u64::from(table.header.number_of_partition_entries);
-        let entries = count.saturating_mul(ENTRY_BYTES).div_ceil(sector_size);
-        let sectors = size / sector_size;
+        let entries = sectors_of(table.header.number_of_partition_entries, table.sector_size);
+        let sectors = size / table.sector_size.max(1);
         Edges {
             first: table.header.first_usable_lba,
             last: table.header.last_usable_lba,
@@ -53,16 +52,38 @@ impl Edges {
     pub fn is_low(&self) -> bool {
         self.last < self.most
     }
+}
 
-    /// Returns the part of a range that is between the copies. Ranges are a first sector and a length.
-    pub fn cut(&self, start: u64, length: u64) -> Option<(u64, u64)> {
-        let end = start.checked_add(length)?.min(self.most.saturating_add(1));
-        let start = start.max(self.least);
-        match end.checked_sub(start) {
-            Some(0) | None => None,
-            Some(length) => Some((start, length)),
+/// The sectors of the entries of a good copy.
+#[derive(Clone, Copy, PartialEq, Eq, Debug)]
+pub struct EntrySectors {
+    /// The first sector.
+    pub first: u64,
+    /// The sector after the last one.
+    pub end: u64,
+}
+
+impl EntrySectors {
+    /// Returns those that the header gives, with sectors of `sector_size` bytes.
+    pub fn of(copy: &WholeCopy, sector_size: u64) -> EntrySectors {
+        let first = copy.header.partition_entry_lba;
+        let count = sectors_of(copy.header.number_of_partition_entries, sector_size);
+        EntrySectors {
+            first,
+            end: first.saturating_add(count),
         }
     }
+
+    /// Reports whether the sector is one of them.
+    pub fn has(self, sector: u64) -> bool {
+        self.first <= sector && sector < self.end
+    }
+}
+
+// Returns the number of sectors of this many entries.
+fn sectors_of(entries: u32, sector_size: u64) -> u64 {
+    let bytes = u64::from(entries).saturating_mul(ENTRY_BYTES);
+    bytes.div_ceil(sector_size.max(1))
 }
 
 impl fmt::Display for Edges {

@@ -30,7 +30,7 @@ pub mod types;
 pub mod way;
 pub mod wiped;
 
-pub use bounds::Edges;
+pub use bounds::{Edges, EntrySectors};
 pub use changes::print_changes;
 pub use check::{check_json, is_nothing_wrong, print_check};
 pub use copies::CopiesState;

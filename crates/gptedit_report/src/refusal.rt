@@ -1,7 +1,7 @@
 //! Explains why a request is refused.
 
 use crate::texts::EntryText;
-use gptedit_core::{Amount, Refusal};
+use gptedit_core::{Amount, Refusal, SectorRange};
 use gptedit_text::values::{AmountText, Escaped};
 use gptman::GPT;
 use std::fmt;
@@ -42,7 +42,7 @@ impl fmt::Display for RefusalText<'_> {
             Refusal::SharedGuid => write_shared_guid(f, self.image),
             Refusal::BadBoundaries => write_bad_boundaries(f, self.image, self.table),
             Refusal::TooSmallFor(count) => write_too_small_for(f, *count),
-            Refusal::OutOfBounds(first, last) => write_out_of_bounds(f, *first, *last),
+            Refusal::OutOfBounds(usable) => write_out_of_bounds(f, *usable),
             Refusal::NoSafeOrder => write_no_safe_order(f),
         }
     }
@@ -152,18 +152,26 @@ fn write_not_whole<W: fmt::Write>(
         "{} is not a whole number of sectors of {sector_size} bytes",
         AmountText(amount)
     )?;
-    let Some((bytes, sectors)) = round_up(amount, sector_size) else {
+    let Some(whole) = round_up(amount, sector_size) else {
         return Ok(());
     };
-    write!(f, "; use {bytes}B or {sectors}s")
+    write!(f, "; use {}B or {}s", whole.bytes, whole.sectors)
 }
 
-// Returns the amount, rounded up to a whole number of sectors, in bytes and in sectors.
-fn round_up(amount: Amount, sector_size: u64) -> Option<(u64, u64)> {
+// A whole number of sectors, also in bytes.
+#[derive(Clone, Copy)]
+struct Whole {
+    bytes: u64,
+    sectors: u64,
+}
+
+// Returns the amount, rounded up to a whole number of sectors.
+fn round_up(amount: Amount, sector_size: u64) -> Option<Whole> {
     match amount {
         Amount::Bytes(bytes) if sector_size > 0 => {
             let sectors = bytes.div_ceil(sector_size);
-            Some((sectors.checked_mul(sector_size)?, sectors))
+            let bytes = sectors.checked_mul(sector_size)?;
+            Some(Whole { bytes, sectors })
         }
         _ => None,
     }
@@ -214,9 +222,9 @@ fn write_too_small_for<W: fmt::Write>(f: &mut fmt::Formatter<W>, count: u32) -> 
 
 fn write_out_of_bounds<W: fmt::Write>(
     f: &mut fmt::Formatter<W>,
-    first: u64,
-    last: u64,
+    usable: SectorRange,
 ) -> fmt::Result {
+    let SectorRange { first, last } = usable;
     write!(
         f,
         "the usable sectors must be within {first}..{last} and not end before they begin; correct the layout"

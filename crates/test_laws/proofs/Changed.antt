@@ -17,6 +17,7 @@ use Rattle.gptedit_core.specs.Applying.{align_asked, IsApplied}
 use Rattle.gptedit_core.specs.Named.{AreThere, IsLengthened, IsThere, IsUnnamed, LayoutsChangeNamed, LayoutsOnlyLengthen, StaysAs}
 use Rattle.gptedit_core.specs.Placing.{AreFreeBehind, IsSpan}
 use Rattle.gptedit_core.specs.Resolving.{and_then, entry_asked, nothing_of, number_asked, partition_at, place_asked, resolved, resolved_all, unless, use_fault, used_at}
+use Rattle.gptedit_core.specs.Sectors.{between}
 use Rattle.gptedit_core.specs.declared.amount.Amount.{Amount}
 use Rattle.gptedit_core.specs.declared.amount.Amount.TheVariants.{Sectors}
 use Rattle.gptedit_core.specs.declared.asked.Asked.{Asked}
@@ -29,6 +30,7 @@ use Rattle.gptedit_core.specs.declared.place.Place.TheVariants.{At}
 use Rattle.gptedit_core.specs.declared.refusal.Refusal.{Refusal}
 use Rattle.gptedit_core.specs.declared.refusal.Refusal.TheVariants.{NoAlignment, NoType}
 use Rattle.gptedit_core.specs.declared.resolve.ResolvedPartition.{ResolvedPartition}
+use Rattle.gptedit_core.specs.declared.sectors.SectorRange.{SectorRange}
 use Rattle.gptedit_core.proofs.Again.{given, of_by, unnamed_more}
 use Rattle.gptedit_core.proofs.Dumped.{at_number}
 use Rattle.gptedit_core.proofs.Applied.{cleared_keep, removed_keep}
@@ -211,9 +213,9 @@ renamed align i name layout randoms g next change enough is law =
     let e : GPTPartitionEntry = entry_at g i in
     let stays : ◌≡◌ {A = Result Place Refusal} (Ok (At e.starting_lba e.ending_lba)) (Ok only.p.place) = only.asked.place in
     let place : only.p.place ≡ At e.starting_lba e.ending_lba = cc in
-    let span : (put.first, put.last) ≡ (e.starting_lba, e.ending_lba) = subst (λ (q : Place). IsSpan q is.free (put.first, put.last)) place put.span in
-    let first : put.first ≡ e.starting_lba = ap (λ (s : ℕ × ℕ). s.0) span in
-    let last : put.last ≡ e.ending_lba = ap (λ (s : ℕ × ℕ). s.1) span in
+    let span : put.range ≡ between e.starting_lba e.ending_lba = subst (λ (q : Place). IsSpan q is.free put.range) place put.span in
+    let first : put.range.first ≡ e.starting_lba = ap (λ (s : SectorRange). s.first) span in
+    let last : put.range.last ≡ e.ending_lba = ap (λ (s : SectorRange). s.last) span in
     let entry : only.p.entry ≡ with_name name e = only.asked.entry in
     let stands : entry_at next only.p.number ≡ with_name name e = put.entry ∙ (λ k. record (entry k) { starting_lba = first k; ending_lba = last k }) in
     subst (λ (n : ℕ). entry_at next n ≡ with_name name e) only.asked.number stands

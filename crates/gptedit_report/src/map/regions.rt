@@ -1,13 +1,10 @@
 //! The regions of a disk: copies of the table, partitions, free ranges, and sectors that are not usable.
 
-use crate::bounds::Edges;
+use crate::bounds::{Edges, EntrySectors};
 use gptman::copy::WholeCopy;
 use gptman::{BothCopies, GPT, GPTPartitionEntry};
 use std::alloc::{AllocError, Global};
 use std::fmt;
-
-// The length of an entry in bytes.
-const ENTRY_BYTES: u64 = 128;
 
 /// The owner of a region.
 #[derive(Clone, Copy)]
@@ -153,7 +150,7 @@ impl<'a> TableDisk<'a> {
         regions: &mut Vec<Region<'a>>,
         copy: &WholeCopy,
     ) -> Result<(), AllocError> {
-        let (first, end) = self.entries_of(copy);
+        let EntrySectors { first, end } = self.entries_of(copy);
         if first == 2 {
             return push(regions, 0, end, Owner::Table("MBR and primary copy"));
         }
@@ -167,7 +164,7 @@ impl<'a> TableDisk<'a> {
         regions: &mut Vec<Region<'a>>,
         copy: &WholeCopy,
     ) -> Result<(), AllocError> {
-        let (first, end) = self.entries_of(copy);
+        let EntrySectors { first, end } = self.entries_of(copy);
         let header = self.sectors.saturating_sub(1);
         if end == header {
             return push(regions, first, self.sectors, Owner::Table("backup copy"));
@@ -176,13 +173,8 @@ impl<'a> TableDisk<'a> {
         push(regions, header, self.sectors, Owner::Table("backup header"))
     }
 
-    // Returns the first sector of the entries of a copy, and the sector after them.
-    fn entries_of(&self, copy: &WholeCopy) -> (u64, u64) {
-        let first = copy.header.partition_entry_lba;
-        let count = u64::from(copy.header.number_of_partition_entries);
-        let sector_size = self.table.sector_size.max(1);
-        let length = count.saturating_mul(ENTRY_BYTES).div_ceil(sector_size);
-        (first, first.saturating_add(length))
+    fn entries_of(&self, copy: &WholeCopy) -> EntrySectors {
+        EntrySectors::of(copy, self.table.sector_size)
     }
 }
 

@@ -5,13 +5,13 @@ use Rattle.gptedit_core.proofs.place.find_in_longest.Goals as goal
 
 pub returns-then-size-long-clause-value : goal.returns-then-size-long-clause-value
 returns-then-size-long-clause-value c =
-    (c.in-Some.start + c.in-Some.long, record { start = c.in-Some.start; long = c.in-Some.long; longest = search rules; first = c.skip-skipped.ensures; is = refl }, omega arith)
+    (c.in-Some.run.start + c.in-Some.run.length, record { start = c.in-Some.run.start; long = c.in-Some.run.length; longest = search rules; first = c.skip-skipped.ensures; is = refl }, omega arith)
 
 pub returns-else-skipped-long-clause-value : goal.returns-else-skipped-long-clause-value
 returns-else-skipped-long-clause-value c =
     let table = c.args.table.now in
-    let s = c.in-Some.start + c.skip-skipped.result in
-    let end = c.in-Some.start + c.in-Some.long in
-    let at : IsStartInLongest (IsFreeIn table) table.align s end = record { start = c.in-Some.start; long = c.in-Some.long; longest = search rules; first = c.skip-skipped.ensures; is = refl } in
+    let s = c.in-Some.run.start + c.skip-skipped.result in
+    let end = c.in-Some.run.start + c.in-Some.run.length in
+    let at : IsStartInLongest (IsFreeIn table) table.align s end = record { start = c.in-Some.run.start; long = c.in-Some.run.length; longest = search rules; first = c.skip-skipped.ensures; is = refl } in
     let short : end < s + c.args.size = omega arith in
     inr (s, end, at, short)

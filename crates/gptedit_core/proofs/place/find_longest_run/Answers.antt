@@ -5,10 +5,10 @@ use Rattle.gptedit_core.proofs.Runs.{longest_at, no_longest}
 use Rattle.gptedit_core.proofs.place.find_longest_run.Goals as goal
 
 pub returns-in-Some-clause-value : goal.returns-in-Some-clause-value
-returns-in-Some-clause-value c = longest_at (IsFreeIn c.args.table.now) c.in-Ok.long c.in-Some.start (search rules) (search rules)
+returns-in-Some-clause-value c = longest_at (IsFreeIn c.args.table.now) c.in-Ok.length c.in-Some.start (search rules) (search rules)
 
 pub returns-in-Ok-clause-value : goal.returns-in-Ok-clause-value
-returns-in-Ok-clause-value c = no_longest (IsFreeIn c.args.table.now) c.in-Ok.long (search rules) (search rules)
+returns-in-Ok-clause-value c = no_longest (IsFreeIn c.args.table.now) c.in-Ok.length (search rules) (search rules)
 
 pub returns-in-Err-NoSpaceLeft-clause-value : goal.returns-in-Err-NoSpaceLeft-clause-value
 returns-in-Err-NoSpaceLeft-clause-value c =

@@ -1,0 +1,9 @@
+use Rattle.std.proofs.Common.{arith, rules}
+use Rattle.std.proofs.lemmas.Grind.{common_steps}
+use Rattle.gptedit_core.proofs.Cuts.{put_rest}
+use Rattle.gptedit_core.proofs.slots.cut_at.Goals as goal
+
+pub returns : goal.returns
+returns c =
+    put_rest c.args.align c.args.first c.args.last c.args.slots.items c.args.i c.remove-slot.result c.before.result c.behind.result c.insert_some-2.new.slots.items c.requires.within
+    (search rules) c.before.ensures c.behind.ensures (grind (arith, common_steps))
