@@ -11,7 +11,7 @@ invariant-loop-done g l = record {
   position : (g.D.Disk.state l.disk).position ≡ (g.D.Disk.state l.fn.disk).position + 128 * l.done;
   fits : All FitsEntry (take l.done l.partitions);
   wrote : IsTrue (g.D.Disk.state l.fn.disk).is_honest → Wrote (((g.D.Disk.state l.fn.disk).position, 128 * length l.partitions) ∷ []) (g.D.Disk.state l.fn.disk) (g.D.Disk.state l.disk);
-  laid : IsTrue (g.D.Disk.state l.fn.disk).is_honest
+  contents : IsTrue (g.D.Disk.state l.fn.disk).is_honest
       → (g.D.Disk.state l.disk).view ≡ overlay (g.D.Disk.state l.fn.disk).view (g.D.Disk.state l.fn.disk).position (array_bytes (take l.done l.partitions));
   still_pending : IsTrue (g.D.Disk.state l.fn.disk).is_honest → StaysPending (g.D.Disk.state l.fn.disk) (g.D.Disk.state l.disk);
 }
