@@ -6,10 +6,9 @@ use Rattle.gptman.specs.Disk.{Outside, AgreesOutside, overlay}
 use Rattle.gptman.specs.Layout.{Holds, copy_ranges_at}
 use Rattle.gptman.specs.Ranges.{AgreesInside}
 use Rattle.gptman.specs.Reading.{CopyPlace}
-use Rattle.gptman.specs.Stop.{HoldsOneOf}
 use Rattle.gptman.specs.Table.{Table}
 use Rattle.gptman.proofs.Held.{holds_local}
-use Rattle.gptman_plan.specs.Ends.{HasEnds, AreRangesKnown, ArePlacesKnown, disk_bytes}
+use Rattle.gptman_plan.specs.Ends.{HasEnds, AreRangesKnown, disk_bytes}
 use Rattle.gptman_plan.specs.Plan.{Act, bytes_after, pending_after, LeftBy}
 use Rattle.gptman.proofs.Ranges.{Ranges, agrees_back}
 use Rattle.gptman.proofs.Overlays.{length-overlay, overlay_below, overlay_above, overlay_inside}
@@ -92,19 +91,6 @@ module _ (first last size : ℕ) (apart : first + last ≤ size) (b c : List ℕ
     held_there : (ss : ℕ) (side : CopyPlace) (table : Table) → AreRangesKnown first last size (copy_ranges_at side table ss size) → Holds (mirrored x) ss side table → Holds x ss side table
     held_there ss side table places holds = holds_known first last size (mirrored x) x ss side table length-mirrored mirrored_same places holds
 
-    held_then : (ss : ℕ) (tables : List Table) → ArePlacesKnown first last size ss tables → HoldsOneOf (mirrored x) ss tables → HoldsOneOf x ss tables
-    held_then ss tables places holds = record {
-      side = holds.side;
-      table = holds.table;
-      listed = holds.listed;
-      holds = held_there ss holds.side holds.table (places holds.table holds.listed holds.side) holds.holds;
-    }
-
-  -- if each crash leaves one of the tables on the other disk, it does on this one
-  stops_hold : (ss : ℕ) (tables : List Table) → ArePlacesKnown first last size ss tables
-      → ((y : List ℕ) → LeftBy c acts y → HoldsOneOf y ss tables) → (x : List ℕ) → LeftBy b acts x → HoldsOneOf x ss tables
-  stops_hold ss tables places stops x left = held_then x left ss tables places (stops (mirrored x) (left_mirrored x left))
-
   -- if each crash leaves bytes outside ranges unchanged there, it does here
   stops_keep : (ranges : Ranges) → ((y : List ℕ) → LeftBy c acts y → AgreesOutside ranges c y) → (x : List ℕ) → LeftBy b acts x → AgreesOutside ranges b x
   stops_keep ranges stops x left = record { long = long x left ∙ sym long_b; same = outside_then x left ranges (stops (mirrored x) (left_mirrored x left)) }
@@ -142,13 +128,7 @@ module _ (head tail b : List ℕ) (size : ℕ) (apart : length head + length tai
     after_any ss side t places holds =
         after_holds (length head) (length tail) size apart (disk_bytes head tail size) b of_zeros.long ends.long from_zeros acts known ss side t places holds
 
-    -- each crash leaves one of the tables, if it does there
-    pub stops_any : (ss : ℕ) (tables : List Table) → ArePlacesKnown (length head) (length tail) size ss tables
-        → ((y : List ℕ) → LeftBy (disk_bytes head tail size) acts y → HoldsOneOf y ss tables) → (x : List ℕ) → LeftBy b acts x → HoldsOneOf x ss tables
-    stops_any ss tables places stops x left =
-        stops_hold (length head) (length tail) size apart b (disk_bytes head tail size) ends.long of_zeros.long (agrees_back from_zeros) acts known ss tables places stops x left
-
-    -- it leaves unchanged what it leaves unchanged there
+    -- each crash leaves unchanged what it leaves unchanged there
     pub others_any : (ranges : Ranges) → ((y : List ℕ) → LeftBy (disk_bytes head tail size) acts y → AgreesOutside ranges (disk_bytes head tail size) y)
         → (x : List ℕ) → LeftBy b acts x → AgreesOutside ranges b x
     others_any ranges stops x left =

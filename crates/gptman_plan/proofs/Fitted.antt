@@ -99,7 +99,7 @@ module _ (b : List ℕ) (g : GPT) (acts : List Act) (taken : reading_of b g.sect
   stops : taken_from b g.sector_size ≡ primary → (x : List ℕ) → LeftBy b acts x → HoldsOneOf x g.sector_size (table_in g ∷ table_in grown ∷ [])
   stops from x left =
       let at : IsHeaderForm primary g.header = subst (λ (side : CopyPlace). IsHeaderForm side g.header) from form in
-      plan.replaced (form_fitted g.header g.sector_size (length b) at) (table_in g) (held from) (sides_clear backup (table_in grown) g.sector_size (length b) plan.layout.table) x left
+      plan.replaced primary (form_fitted g.header g.sector_size (length b) at) (table_in g) (held from) (sides_clear backup (table_in grown) g.sector_size (length b) plan.layout.table) x left
 
   fit_here : IsFitPlan b g.sector_size acts
   fit_here = record {

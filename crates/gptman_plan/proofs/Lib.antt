@@ -1,7 +1,6 @@
 pub mod Acts
 pub mod Aligned
 pub mod AnyMiddle
-pub mod AnyPlan
 pub mod Asked
 pub mod AskedPlans
 pub mod Checked
@@ -12,7 +11,7 @@ pub mod Middle
 pub mod Numbered
 pub mod Planned
 pub mod Refused
-pub mod Rewriting
+pub mod Rewritten
 pub mod Rounded
 pub mod Seen
 pub mod Stated

@@ -1,21 +1,12 @@
 -- The recording disk, in terms of its acts.
-use Rattle.std.proofs.Common.{◌≡◌, ⊎_elim, ◌<◌, ℕ, zero, suc, List, [], ◌∷◌, length, refl, sym, ap, ◌∙◌, subst, arith}
-use Rattle.gptman.specs.Crash.{IsReadInForm}
-use Rattle.gptman.specs.Disk.{AgreesOutside, DiskState, Elapses, IsHonest, LeavesOnly}
-use Rattle.gptman.specs.Layout.{Holds, IsLaidOut}
-use Rattle.gptman.specs.Reading.{primary, backup}
-use Rattle.gptman.specs.Stop.{IsStored, StopsHold}
-use Rattle.gptman.specs.Table.{Table, table_in}
-use Rattle.gptman.specs.declared.table.GPT.{GPT}
-use Rattle.gptman_plan.specs.Crossing.{four_ranges, with_partitions}
+use Rattle.std.proofs.Common.{◌≡◌, ⊎_elim, ◌<◌, ℕ, zero, suc, List, [], ◌∷◌, length, refl, sym, ◌∙◌, subst, arith}
+use Rattle.gptman.specs.Disk.{DiskState, Elapses}
 use Rattle.gptman_plan.specs.Ends.{length-zeroed, zeroed}
 use Rattle.std.specs.Prelude.{All}
 use Rattle.gptman_plan.specs.Plan.{Act, IsLeftAt, LeftBy, StepFits, acts_of, bytes_after, left_now, pending_after, plan_state}
-use Rattle.gptman_plan.specs.Planning.{IsSafePlan}
 use Rattle.gptman_plan.specs.declared.ends.Ends.{Ends}
 use Rattle.gptman_plan.specs.declared.recording.Recorder.{Recorder}
 use Rattle.gptman_plan.specs.declared.record.Record.{Record}
-use Rattle.gptman_plan.specs.declared.records.Partition.{Partition}
 use Rattle.gptman_plan.proofs.Steps.{length-stopped}
 
 -- the disk has these bytes after the acts
@@ -40,7 +31,7 @@ pub begins_at : (d : Recorder) (ends : Ends) → d.ends ≡ ends → acts_of d.p
     → state_of d ≡ plan_state (zeroed ends) [] ends.size 0 0
 begins_at d ends is acts position failures = λ i. plan_state (zeroed (is i)) (acts i) (is i).size (position i) (failures i)
 
-pub ends_after : (e : Recorder) (plan : Record) (start : List ℕ) → zeroed e.ends ≡ start → plan ≡ e.plan
+ends_after : (e : Recorder) (plan : Record) (start : List ℕ) → zeroed e.ends ≡ start → plan ≡ e.plan
     → IsAfter start (acts_of plan.bytes.items plan.steps.items) (state_of e)
 ends_after e plan start same taken =
     is_after start (zeroed e.ends) (acts_of plan.bytes.items plan.steps.items) (acts_of e.plan.bytes.items e.plan.steps.items)
@@ -68,7 +59,7 @@ module _ (start : List ℕ) (size : ℕ) (old : DiskState) (e : Recorder) (long 
   unmarked zero since left = omega (arith, since)
   unmarked (suc n) since left = omega (arith, left.1.long, length-stopped now e.plan.bytes.items n e.plan.steps.items fit)
 
-  pub start_stays : Elapses old (state_of e) → now ≡ start
+  start_stays : Elapses old (state_of e) → now ≡ start
   start_stays time =
       let run : Elapses (plan_state start [] size 0 0) (state_of e) = subst (λ (d : DiskState). Elapses d (state_of e)) begins time in
       ⊎_elim
@@ -76,31 +67,8 @@ module _ (start : List ℕ) (size : ℕ) (old : DiskState) (e : Recorder) (long 
       (λ after. absurd (unmarked after.moment (omega (arith, after.since)) after.left))
       (run.nothing_else 0 (0 ∷ now) (omega arith) (record { moment = 0; since = omega arith; left = refl }))
 
-module _ (start : List ℕ) (size : ℕ) (g : GPT) (partitions : List Partition) (acts : List Act) (old new : DiskState) (long : length start ≡ size) (begins : old ≡ plan_state start [] size 0 0)
-    (after : IsAfter start acts new) where
-  abbrev next : Table
-  next = with_partitions g partitions
-
-  abbrev when_good : Type 0 → Type 0
-  when_good P = IsHonest old → old.pending ≡ [] → IsReadInForm old.view g → IsLaidOut next g.sector_size old.size → P
-
-  pub safe_zero : when_good (StopsHold old new g.sector_size (table_in g ∷ next ∷ [])) → when_good (LeavesOnly old new (AgreesOutside (four_ranges next g.sector_size old.size) old.view))
-      → when_good (IsStored new g.sector_size next)
-      → IsReadInForm start g → IsLaidOut next g.sector_size size → IsSafePlan start g.sector_size (table_in g) next acts
-  safe_zero holds others stored read laid =
-      let honest : IsHonest old = subst (λ (d : DiskState). IsHonest d) (sym begins) refl in
-      let synced : old.pending ≡ [] = ap (λ (d : DiskState). d.pending) begins in
-      let read : IsReadInForm old.view g = subst (λ (d : DiskState). IsReadInForm d.view g) (sym begins) read in
-      let laid : IsLaidOut next g.sector_size old.size = subst (λ (d : DiskState). IsLaidOut next g.sector_size d.size) (sym begins) laid in
-      let clock : old.clock ≡ 1 = ap (λ (d : DiskState). d.clock) begins in
-      let left : (x : List ℕ) → LeftBy start acts x → new.left_since old.clock x = λ x was. subst (λ (t : ℕ). new.left_since t x) (sym clock) (after.left x was) in
-      let done = stored honest synced read laid in
-      record {
-        stops = λ x was. holds honest synced read laid x (left x was);
-        others = λ x was.
-            subst (λ (b : List ℕ). AgreesOutside (four_ranges next g.sector_size (length start)) b x) (ap (λ (d : DiskState). d.view) begins)
-            (subst (λ (n : ℕ). AgreesOutside (four_ranges next g.sector_size n) old.view x) (ap (λ (d : DiskState). d.size) begins ∙ sym long) (others honest synced read laid x (left x was)));
-        synced = sym after.pending ∙ done.synced;
-        at_primary = subst (λ (v : List ℕ). Holds v g.sector_size primary next) after.view done.at_primary;
-        at_backup = subst (λ (v : List ℕ). Holds v g.sector_size backup next) after.view done.at_backup;
-      }
+-- after calls that began with no steps
+pub after_calls : (d e : Recorder) (ends : Ends) (plan : Record) → state_of d ≡ plan_state (zeroed ends) [] ends.size 0 0 → d.ends ≡ ends → e.ends.size ≡ d.ends.size
+    → Elapses (state_of d) (state_of e) → plan ≡ e.plan → IsAfter (zeroed ends) (acts_of plan.bytes.items plan.steps.items) (state_of e)
+after_calls d e ends plan begins is sized time taken =
+    ends_after e plan (zeroed ends) (start_stays (zeroed ends) ends.size (state_of d) e (length-zeroed ends) begins (sized ∙ (λ i. (is i).size)) time) taken

@@ -11,12 +11,11 @@ use Rattle.gptman.specs.TableWrites.RefusesWrite.{no_memory, not_valid, no_room,
 use Rattle.gptman.specs.declared.table.GPT.{GPT}
 use Rattle.gptman_plan.specs.Ends.{HaveRange, IsKnown}
 use Rattle.gptman.specs.Fault.{fault_number}
-use Rattle.gptman_plan.specs.Planning.{Cause, IsNumberOf, IsOfFault, IsRefusal, IsUnfit, RefusesNew, RefusesRewrite, needed_after, refusal_number}
+use Rattle.gptman_plan.specs.Planning.{Cause, IsNumberOf, IsOfFault, IsRefusal, RefusesNew, needed_after, refusal_number}
 use Rattle.gptman_plan.specs.Planning.Cause.{bad_argument, a_fault, other_length, other_layout}
 use Rattle.gptman_plan.specs.declared.planning.PlanError.{PlanError}
 use Rattle.gptman_plan.specs.declared.planning.PlanError.TheVariants.{BadArgument, Refused, Lacks, OtherLength, OtherLayout}
 use Rattle.gptman_plan.specs.declared.records.Needed.{Needed}
-use Rattle.gptman_plan.specs.declared.records.Partition.{Partition}
 use Rattle.gptman_plan.specs.declared.ends.Ends.{Ends}
 
 -- ---- numbers
@@ -170,18 +169,6 @@ table_refused g fault old new size same none (no_memory is) = table_no_memory is
 table_refused g fault old new size same none (not_valid is) = table_not_valid is
 table_refused g fault old new size same none (no_room valid is) = table_no_room valid (subst (λ (n : ℕ). table_write_fault g n ≡ Some fault) same is)
 table_refused g fault old new size same none (disk_failed valid room is) = absurd (not_failed old new none is.1)
-
-pub unfit : (g : GPT) (partitions : List Partition) (fault : Fault) (old new : DiskState) (size : ℕ) → old.size ≡ size → new.failures ≡ 0
-    → (fault ≡ out_of_memory) ⊎ RefusesRewrite g partitions fault old new → (fault ≡ out_of_memory) ⊎ IsUnfit g.header g.sector_size partitions size fault
-unfit g partitions fault old new size same none is = ⊎_elim (λ memory. inl memory)
-    (λ refused. inr (record {
-      value = refused.value;
-      header_is = refused.header_is;
-      sector = refused.sector;
-      entries = refused.entries;
-      why = table_refused refused.value fault old new size same none refused.why;
-    }))
-    is
 
 -- a new table that was not made
 pub new_refused : (count : ℕ) (guid : List ℕ) (ss size : ℕ) (fault : Fault) (old new : DiskState) → old.size ≡ size → new.failures ≡ 0

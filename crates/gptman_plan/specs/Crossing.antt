@@ -6,7 +6,7 @@ use Rattle.gptman.specs.Fault.{Fault}
 use Rattle.gptman.specs.Layout.{copy_ranges_at}
 use Rattle.gptman.specs.Place.{FindsPlace, IsBestPlace, IsFirstPlace, IsLastPlace}
 use Rattle.gptman.specs.Reading.{CopyPlace, primary, backup}
-use Rattle.gptman.specs.Table.{Table as TheTable, TableEntry, entries_in, table_in}
+use Rattle.gptman.specs.Table.{Table as TheTable, TableEntry, entries_in}
 use Rattle.gptman.specs.declared.table.GPT.{GPT}
 use Rattle.gptman.specs.declared.codec.entry.GPTPartitionEntry.{GPTPartitionEntry}
 use Rattle.gptman.specs.declared.codec.header.GPTHeader.{GPTHeader}
@@ -46,10 +46,6 @@ content_in e = record {
   attribute_bits = e.attribute_bits;
   units = e.partition_name.units;
 }
-
--- the table with these entries
-abbrev pub with_partitions : GPT → List Partition → TheTable
-with_partitions g partitions = record (table_in g) { entries = map content_of partitions }
 
 -- the four ranges of a table on a disk of len bytes
 abbrev pub four_ranges : TheTable → ℕ → ℕ → List (ℕ × ℕ)

@@ -1,13 +1,10 @@
 -- The ends of a disk, and the disk with zeros between them.
-use Rattle.std.specs.Prelude.{◌≡◌, ◌≤◌, ◌⊎◌, ◌+◌, ◌-◌, ◌++◌, ℕ, true, List, [], ◌∷◌, length, replicate, Contains, Option, None, Some}
+use Rattle.std.specs.Prelude.{◌≡◌, ◌≤◌, ◌⊎◌, ◌+◌, ◌-◌, ◌++◌, ℕ, true, List, [], ◌∷◌, length, replicate, Option, None, Some}
 use Rattle.gptman.specs.Bytes.{part}
 use Rattle.gptman.specs.Disk.{AgreesOutside, DiskState, IsSound}
-use Rattle.gptman.specs.Layout.{copy_ranges_at}
-use Rattle.gptman.specs.Reading.{CopyPlace}
-use Rattle.gptman.specs.Table.{Table}
 use Rattle.gptman_plan.specs.declared.ends.Ends.{Ends}
 use Rattle.gptman_plan.specs.declared.reader.Torn.{Torn}
-use Rattle.std.proofs.Common.{arith, length-append}
+use Rattle.std.proofs.Common.{sym, ap, ◌∙◌, add_assoc, add_comm, add-sub_of_le, length-append}
 use Rattle.std.proofs.lemmas.List.{length-replicate}
 
 -- The disk b has this length, and begins and ends with these bytes.
@@ -26,10 +23,6 @@ IsKnown first last size range =
 abbrev pub AreRangesKnown : ℕ → ℕ → ℕ → List (ℕ × ℕ) → Type 0
 AreRangesKnown first last size [] = Unit {0}
 AreRangesKnown first last size (range ∷ ranges) = IsKnown first last size range × AreRangesKnown first last size ranges
-
--- so are the ranges of each table at both places, with sectors of ss bytes
-abbrev pub ArePlacesKnown : ℕ → ℕ → ℕ → ℕ → List Table → Type 0
-ArePlacesKnown first last size ss tables = (t : Table) → Contains tables t → (side : CopyPlace) → AreRangesKnown first last size (copy_ranges_at side t ss size)
 
 -- the disk with these ends, and with zeros between them
 abbrev pub disk_bytes : List ℕ → List ℕ → ℕ → List ℕ
@@ -80,7 +73,12 @@ known_sound bytes torn s p f long = record {
 
 -- the disk with zeros between its ends has the right length
 pub length-disk_bytes : (head tail : List ℕ) (size : ℕ) → length head + length tail ≤ size → length (disk_bytes head tail size) ≡ size
-length-disk_bytes head tail size apart = simp (length-append, length-replicate) (omega (arith, apart))
+length-disk_bytes head tail size apart =
+    let middle : ℕ = size - (length head + length tail) in
+    length-append head (replicate middle 0 ++ tail)
+    ∙ ap (λ (n : ℕ). length head + n) (length-append (replicate middle 0) tail ∙ ap (λ (n : ℕ). n + length tail) (length-replicate {A = ℕ} middle 0) ∙ add_comm middle (length tail))
+    ∙ sym (add_assoc (length head) (length tail) middle)
+    ∙ add-sub_of_le apart
 
 pub length-zeroed : (ends : Ends) → length (zeroed ends) ≡ ends.size
 length-zeroed ends = length-disk_bytes ends.head.now ends.tail.now ends.size ends.apart

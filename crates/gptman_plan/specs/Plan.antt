@@ -4,7 +4,7 @@ use Rattle.std.specs.List.{fold, slice_index_or}
 use Rattle.gptman.specs.Bytes.{part}
 use Rattle.gptman.specs.Disk.{DiskState, IsSound, AgreesOutside, overlay}
 use Rattle.gptman_plan.specs.declared.records.Step.{Step}
-use Rattle.std.proofs.Common.{inl, inr, true, suc, zero, subst, sym, arith}
+use Rattle.std.proofs.Common.{inl, inr, true, suc, zero, subst, sym, ◌∙◌, le_of_suc-le-suc, le_refl, le_trans, lt_irrefl, lt-suc_self, not-suc-le-zero}
 use Rattle.std.proofs.Math.Nat.{ℕ_set}
 use Rattle.std.proofs.lemmas.List.{take_all}
 
@@ -102,23 +102,23 @@ kinds-prop steps p q = λ i k d below. one (slice_index_or steps k d).kind (p k 
   where
     one : (kind : ℕ) → IsProp ((kind ≡ 1) ⊎ (kind ≡ 2))
     one kind (inl a) (inl b) = λ i. inl (ℕ_set kind 1 a b i)
-    one kind (inl a) (inr b) = absurd (omega (arith, a, b))
-    one kind (inr a) (inl b) = absurd (omega (arith, a, b))
+    one kind (inl a) (inr b) = absurd (lt_irrefl 2 (subst (λ (n : ℕ). n < 2) (sym a ∙ b) (lt-suc_self 1)))
+    one kind (inr a) (inl b) = absurd (lt_irrefl 2 (subst (λ (n : ℕ). n < 2) (sym b ∙ a) (lt-suc_self 1)))
     one kind (inr a) (inr b) = λ i. inr (ℕ_set kind 2 a b i)
 
 -- Only an image of now may be left at the last moment.
 pub left_now : (start : List ℕ) (acts : List Act) (moment : ℕ) (b : List ℕ) → length acts < moment → IsLeftAt start acts moment b → IsImage start acts b
-left_now start acts zero b last left = absurd (omega (arith, last))
-left_now start acts (suc n) b last left = subst (λ (l : List Act). IsImage start l b) (take_all n acts (omega (arith, last))) left.1
+left_now start acts zero b last left = absurd (not-suc-le-zero last)
+left_now start acts (suc n) b last left = subst (λ (l : List Act). IsImage start l b) (take_all n acts (le_of_suc-le-suc last)) left.1
 
 -- The laws of an honest disk hold for it.
 pub plan_sound : (start : List ℕ) (acts : List Act) (long at failed : ℕ) → length (bytes_after start acts) ≡ long → IsSound (plan_state start acts long at failed)
 plan_sound start acts long at failed is_long = record {
   size = is_long;
-  counts_now = λ t b until image. record { moment = suc (length acts); since = until; left = (omega arith, subst (λ (l : List Act). IsImage start l b) (sym all) image) };
-  only_now = λ b was. left_now start acts was.moment b (omega (arith, was.since)) was.left;
-  earlier = λ t u b le was. record { moment = was.moment; since = omega (arith, le, was.since); left = was.left };
+  counts_now = λ t b until image. record { moment = suc (length acts); since = until; left = (le_refl (length acts), subst (λ (l : List Act). IsImage start l b) (sym all) image) };
+  only_now = λ b was. left_now start acts was.moment b was.since was.left;
+  earlier = λ t u b le was. record { moment = was.moment; since = le_trans le was.since; left = was.left };
 }
   where
     all : take (length acts) acts ≡ acts
-    all = take_all (length acts) acts (omega arith)
+    all = take_all (length acts) acts (le_refl (length acts))

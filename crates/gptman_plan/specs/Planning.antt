@@ -1,15 +1,16 @@
 -- The effect of a plan on the disk, and why there is no plan.
 use Rattle.std.specs.Prelude.{◌≡◌, ◌≢◌, ◌<◌, ◌⊎◌, ◌+◌, ℕ, List, [], ◌∷◌, length, map, Ok, Err, Some}
 use Rattle.gptman.specs.Copy.{Copy}
-use Rattle.gptman.specs.Disk.{AgreesOutside, DiskState}
+use Rattle.gptman.specs.Crash.{other_place}
+use Rattle.gptman.specs.Disk.{AgreesOutside}
 use Rattle.gptman.specs.Fault.{Fault, fault_of, out_of_memory}
 use Rattle.gptman.specs.Fit.{fit_fault, fit_header, new_header_of}
 use Rattle.gptman.specs.Layout.{HasLayout, HasRightSectors, Holds, IsLaidOut, copy_ranges_at}
 use Rattle.gptman.specs.Ranges.{AreClear}
-use Rattle.gptman.specs.Reading.{primary, backup, reading_of, taken_from}
+use Rattle.gptman.specs.Reading.{CopyPlace, primary, backup, reading_of, taken_from}
 use Rattle.gptman.specs.Stop.{HoldsOneOf}
 use Rattle.gptman.specs.Table.{Table, entries_in, new_table_of, table_in, table_of, IsHeaderForm, IsInForm}
-use Rattle.gptman.specs.TableWrites.{RefusesTable, RefusesWrite}
+use Rattle.gptman.specs.TableWrites.{RefusesTable}
 use Rattle.gptman.specs.declared.codec.entry.GPTPartitionEntry.{GPTPartitionEntry}
 use Rattle.gptman.specs.declared.codec.header.GPTHeader.{GPTHeader}
 use Rattle.gptman.specs.declared.table.GPT.{GPT}
@@ -28,23 +29,24 @@ use Rattle.gptman_plan.specs.declared.records.Step.{Step}
 abbrev pub rewritten : Copy → List Partition → Table
 rewritten copy partitions = record (table_of copy.header copy.entries) { entries = map content_of partitions }
 
--- A crash between or within these acts leaves the old table or the next one in one place at least, and all bytes
--- outside the four ranges unchanged. After all of them both places hold the next one, and nothing is pending.
-pub record IsSafePlan (start : List ℕ) (ss : ℕ) (was next : Table) (acts : List Act) : Type 0 where
-  pub stops : (x : List ℕ) → LeftBy start acts x → HoldsOneOf x ss (was ∷ next ∷ [])
+-- After all of these acts both places hold the table, and nothing is pending. A crash between or within them leaves all
+-- bytes outside its four ranges unchanged.
+pub record IsWrittenPlan (start : List ℕ) (ss : ℕ) (next : Table) (acts : List Act) : Type 0 where
   pub others : (x : List ℕ) → LeftBy start acts x → AgreesOutside (four_ranges next ss (length start)) start x
   pub synced : pending_after acts ≡ []
   pub at_primary : Holds (bytes_after start acts) ss primary next
   pub at_backup : Holds (bytes_after start acts) ss backup next
 
--- The acts safely write the table that is read from these bytes, with these entries. The copy that is read is in the
--- form of its place, and its table has the stated layout.
+-- The acts write the table that is read from these bytes, with these entries. The copy that is read is in the form of
+-- its place, and its table has the stated layout. A crash between or within the acts leaves the old table or the new
+-- one in one place at least.
 pub record IsPlan (start : List ℕ) (ss : ℕ) (partitions : List Partition) (acts : List Act) : Type 0 where
   pub copy : Copy
   pub taken : reading_of start ss ≡ Ok copy
   pub form : IsHeaderForm (taken_from start ss) copy.header
   pub laid_out : IsLaidOut (table_of copy.header copy.entries) ss (length start)
-  pub safe : IsSafePlan start ss (table_of copy.header copy.entries) (rewritten copy partitions) acts
+  pub written : IsWrittenPlan start ss (rewritten copy partitions) acts
+  pub stops : (x : List ℕ) → LeftBy start acts x → HoldsOneOf x ss (table_of copy.header copy.entries ∷ rewritten copy partitions ∷ [])
 
 -- The table that is read from these bytes was made for another length: its headers are not those of sector 1 and the
 -- last whole sector.
@@ -68,14 +70,6 @@ pub record IsUnfit (header : GPTHeader) (ss : ℕ) (partitions : List Partition)
   pub sector : value.sector_size ≡ ss
   pub entries : map content_in (entries_in value) ≡ map content_of partitions
   pub why : RefusesTable value len fault
-
--- The same for a write that was tried: the table was refused, or the disk failed.
-pub record RefusesRewrite (g : GPT) (partitions : List Partition) (fault : Fault) (old new : DiskState) : Type 0 where
-  pub value : GPT
-  pub header_is : value.header ≡ g.header
-  pub sector : value.sector_size ≡ g.sector_size
-  pub entries : map content_in (entries_in value) ≡ map content_of partitions
-  pub why : RefusesWrite value fault old new
 
 -- Why the table in these bytes is not written with these entries: it cannot be read, or may not be written.
 pub data RefusesPlan (b : List ℕ) (ss : ℕ) (partitions : List Partition) (fault : Fault) : Type 0 where
@@ -149,10 +143,6 @@ needed_after (Lacks lack) needed = record needed { from = lack.from; length = la
 needed_after OtherLength needed = needed
 needed_after OtherLayout needed = needed
 
--- why a write with valid arguments is not planned
-abbrev pub IsRewriteRefusal : Ends → GPT → List Partition → PlanError → Type 0
-IsRewriteRefusal ends g partitions refusal = IsRefusal (IsOfFault (IsUnfit g.header g.sector_size partitions ends.size)) ends refusal
-
 -- why this table is not written to a disk of size bytes
 abbrev pub StopsTable : GPT → ℕ → Cause → Type 0
 StopsTable g size bad_argument = ⊥
@@ -183,37 +173,30 @@ StopsNew count guid ss size other_layout = ¬ HasLayout (new_table_of count guid
 abbrev pub IsNewRefusal : Ends → ℕ → ℕ → List ℕ → PlanError → Type 0
 IsNewRefusal ends ss count guid refusal = IsRefusal (StopsNew count guid ss ends.size) ends refusal
 
--- After all of these acts both places hold the table, and nothing is pending. A crash between or within them leaves all
--- bytes outside its four ranges unchanged.
-pub record IsWrittenPlan (start : List ℕ) (ss : ℕ) (next : Table) (acts : List Act) : Type 0 where
-  pub others : (x : List ℕ) → LeftBy start acts x → AgreesOutside (four_ranges next ss (length start)) start x
-  pub synced : pending_after acts ≡ []
-  pub at_primary : Holds (bytes_after start acts) ss primary next
-  pub at_backup : Holds (bytes_after start acts) ss backup next
+-- A crash between or within these acts leaves all bytes outside the table's copy at the other side unchanged, or that
+-- copy complete.
+abbrev pub ComesInOrder : CopyPlace → List ℕ → ℕ → Table → List Act → Type 0
+ComesInOrder side start ss next acts = (x : List ℕ) → LeftBy start acts x
+    → AgreesOutside (copy_ranges_at (other_place side) next ss (length start)) start x ⊎ Holds x ss (other_place side) next
 
--- A crash between or within these acts leaves all bytes outside the table's backup copy unchanged, or that copy
--- complete.
-abbrev pub ComesInOrder : List ℕ → ℕ → Table → List Act → Type 0
-ComesInOrder start ss next acts = (x : List ℕ) → LeftBy start acts x → AgreesOutside (copy_ranges_at backup next ss (length start)) start x ⊎ Holds x ss backup next
-
--- If the primary place holds a table that does not overlap the backup copy of the new one, a crash leaves that table or
--- the new one.
-abbrev pub IsReplaced : List ℕ → ℕ → Table → Table → List Act → Type 0
-IsReplaced start ss was next acts = Holds start ss primary was → AreClear (copy_ranges_at primary was ss (length start)) (copy_ranges_at backup next ss (length start))
+-- If the place of this place holds a table that does not overlap the new one's copy at the other side, a crash leaves
+-- that table or the new one.
+abbrev pub IsReplaced : CopyPlace → List ℕ → ℕ → Table → Table → List Act → Type 0
+IsReplaced side start ss was next acts = Holds start ss side was → AreClear (copy_ranges_at side was ss (length start)) (copy_ranges_at (other_place side) next ss (length start))
     → (x : List ℕ) → LeftBy start acts x → HoldsOneOf x ss (was ∷ next ∷ [])
 
--- The acts write the table of this value, which has the stated layout. If the value has a primary header, a table that
--- it replaces is not lost.
+-- The acts write the table of this value, which has the stated layout. A table that it replaces at the place of its
+-- header's form is not lost.
 pub record IsTablePlan (start : List ℕ) (g : GPT) (acts : List Act) : Type 0 where
   pub layout : HasLayout g (length start)
   pub written : IsWrittenPlan start g.sector_size (table_in g) acts
-  pub replaced : IsHeaderForm primary g.header → (was : Table) → IsReplaced start g.sector_size was (table_in g) acts
+  pub replaced : (side : CopyPlace) → IsHeaderForm side g.header → (was : Table) → IsReplaced side start g.sector_size was (table_in g) acts
 
 -- The same for a new table, whose header is a primary one.
 pub record IsNewPlan (start : List ℕ) (g : GPT) (acts : List Act) : Type 0 where
   pub layout : HasLayout g (length start)
   pub written : IsWrittenPlan start g.sector_size (table_in g) acts
-  pub replaced : (was : Table) → IsReplaced start g.sector_size was (table_in g) acts
+  pub replaced : (was : Table) → IsReplaced primary start g.sector_size was (table_in g) acts
 
 -- the table of the copy, with its header fitted to a disk of len bytes
 abbrev pub fitted : Copy → ℕ → ℕ → Table

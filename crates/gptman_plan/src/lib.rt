@@ -24,4 +24,3 @@ pub mod records;
 pub mod rounds;
 pub mod storing;
 pub mod tables;
-pub mod writing;

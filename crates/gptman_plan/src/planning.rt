@@ -1,27 +1,21 @@
 //! Plans a write of the table that was read from the ends, with other entries.
 
 ghost use Rattle.std.specs.Prelude.{◌≡◌, ◌≤◌, ◌<◌, ◌+◌, ℕ, List, length, IfErr, IfOk};
-ghost use Rattle.gptman.specs.Copy.{IsCoherent};
-ghost use Rattle.gptman.specs.Crash.{IsReadInForm};
-ghost use Rattle.gptman.specs.Layout.{IsLaidOut};
-ghost use Rattle.gptman.specs.Table.{entries_in, table_in};
-ghost use Rattle.gptman_plan.specs.Asking.{plan_ranges, AsksAmong, AsksNothing};
-ghost use Rattle.gptman_plan.specs.Crossing.{with_partitions};
-ghost use Rattle.gptman_plan.specs.Ends.{zeroed};
+ghost use Rattle.gptman_plan.specs.Asking.{plan_ranges, AsksAmong};
 ghost use Rattle.gptman_plan.specs.Plan.{acts_of};
-ghost use Rattle.gptman_plan.specs.Planning.{IsPlan, IsPlanRefusal, IsRewriteRefusal, IsSafePlan};
+ghost use Rattle.gptman_plan.specs.Planning.{IsPlan, IsPlanRefusal};
 ghost use Rattle.gptman_plan.specs.Reading.{IsStatedTable, OfEvery};
 ghost use Rattle.gptman_plan.specs.Rounds.{reading_ranges};
 ghost use Rattle.gptman_plan.specs.declared.records.Partition.{Partition};
 
 use crate::ends::Ends;
 use crate::layout::{is_made_for, is_stated};
+use crate::partitions::entries_of;
 use crate::places::lack_of_places;
 use crate::reading::{Lack, Reading, read};
 use crate::record::Record;
-use crate::recording::Recorder;
 use crate::records::Partition;
-use crate::writing::rewrite;
+use crate::tables::plan_table;
 use gptman::{Error, GPT};
 use std::alloc::Global;
 
@@ -50,14 +44,20 @@ pub fn plan(
     ensures asked { IfErr result (AsksAmong (λ b. plan_ranges b sector_size) ends.now) }
 {
     let table = read_stated(alloc, ends, sector_size)?;
-    let count = u64::from(table.header.number_of_partition_entries);
+    let header = &table.header;
+    let count = u64::from(header.number_of_partition_entries);
     if count == 0 || partitions.len() as u64 != count || ends.size < sector_size {
         return Err(PlanError::BadArgument);
     }
+    // Bytes are asked for before the entries are judged.
     if let Some(lack) = lack_of_places(ends, &table) {
         return Err(PlanError::Lacks(lack));
     }
-    record_write(alloc, ends, &table, partitions)
+    let Ok(entries) = entries_of(alloc, partitions) else {
+        return Err(PlanError::Refused(Error::OutOfMemory));
+    };
+    let next = GPT::from_parts(sector_size, table.header, entries, table.align);
+    plan_table(alloc, ends, next)
 }
 
 // Reads the table in the ends, which must have the stated layout.
@@ -80,33 +80,4 @@ fn read_stated(alloc: Global, ends: &Ends, sector_size: u64) -> Result<GPT, Plan
         return Err(PlanError::OtherLayout);
     }
     Ok(table)
-}
-
-// Returns the steps that write this table with these entries to the disk with zeros between its ends.
-fn record_write(
-    alloc: Global,
-    ends: &Ends,
-    table: &GPT,
-    partitions: &[Partition],
-) -> Result<Record, PlanError>
-    requires sector { 0 < table.now.sector_size }
-    requires coherent { IsCoherent table.now.header (entries_in table.now) }
-    requires count { length partitions.now ≡ length (entries_in table.now) }
-    ensures size { IfOk result (λ plan. plan.size ≡ ends.now.size) }
-    ensures refused { IfErr result (IsRewriteRefusal ends.now table.now partitions.now) }
-    ensures asked { IfErr result AsksNothing }
-    ensures safe { IfOk result (λ plan. IsReadInForm (zeroed ends.now) table.now
-        → IsLaidOut (with_partitions table.now partitions.now) table.now.sector_size ends.now.size
-        → IsSafePlan (zeroed ends.now) table.now.sector_size (table_in table.now)
-        (with_partitions table.now partitions.now) (acts_of plan.bytes.items plan.steps.items)) }
-{
-    let mut disk = Recorder::new(alloc, ends);
-    let written = rewrite(alloc, &mut disk, table, partitions);
-    if disk.failures != 0 {
-        return Err(PlanError::Refused(Error::OutOfMemory));
-    }
-    match written {
-        Ok(_next) => Ok(disk.into_plan()),
-        Err(fault) => Err(PlanError::Refused(fault)),
-    }
 }

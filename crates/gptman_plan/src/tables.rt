@@ -3,7 +3,7 @@
 ghost use Rattle.std.specs.Prelude.{◌≡◌, ◌≤◌, ◌<◌, ◌+◌, ℕ, List, length, IfErr, IfOk};
 ghost use Rattle.gptman.specs.Copy.{IsCoherent};
 ghost use Rattle.gptman.specs.Layout.{HasLayout};
-ghost use Rattle.gptman.specs.Reading.{primary};
+ghost use Rattle.gptman.specs.Reading.{CopyPlace};
 ghost use Rattle.gptman.specs.Table.{entries_in, table_in, IsHeaderForm};
 ghost use Rattle.gptman_plan.specs.Asking.{value_ranges, AsksAmong, AsksNothing};
 ghost use Rattle.gptman_plan.specs.Ends.{zeroed};
@@ -53,8 +53,9 @@ fn record_table(alloc: Global, ends: &Ends, mut table: GPT) -> Result<Record, Pl
     ensures written { IfOk result (λ plan. HasLayout table ends.now.size
         → IsWrittenPlan (zeroed ends.now) table.sector_size (table_in table)
         (acts_of plan.bytes.items plan.steps.items)) }
-    ensures order { IfOk result (λ plan. HasLayout table ends.now.size → IsHeaderForm primary table.header
-        → ComesInOrder (zeroed ends.now) table.sector_size (table_in table)
+    ensures order { IfOk result (λ plan. HasLayout table ends.now.size
+        → (side : CopyPlace) → IsHeaderForm side table.header
+        → ComesInOrder side (zeroed ends.now) table.sector_size (table_in table)
         (acts_of plan.bytes.items plan.steps.items)) }
 {
     let mut disk = Recorder::new(alloc, ends);

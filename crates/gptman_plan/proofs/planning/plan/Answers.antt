@@ -1,63 +1,58 @@
-use Rattle.std.proofs.Common.{◌≡◌, ◌≢◌, ◌<◌, ◌⊎◌, inl, inr, ℕ, List, length, sym, subst, arith}
+use Rattle.std.proofs.Common.{◌≡◌, ◌≢◌, ◌<◌, ◌⊎◌, inl, inr, ℕ, List, length, map, sym, ap, ◌∙◌, subst, arith}
 use Rattle.std.proofs.lemmas.Result.{IfErr-weaker, IfOk-weaker, err_from_is_err_and}
-use Rattle.gptman.specs.Crash.{IsReadInForm}
-use Rattle.gptman.specs.Fault.{Fault}
-use Rattle.gptman.specs.Layout.{IsLaidOut}
-use Rattle.gptman.specs.Ranges.{AreInside}
-use Rattle.gptman.specs.Table.{Table, table_in}
 use Rattle.gptman.specs.TableReads.{copy_of}
-use Rattle.gptman_plan.specs.Crossing.{four_ranges, with_partitions}
-use Rattle.gptman_plan.specs.Ends.{HaveRanges, IsDiskOf, zeroed}
-use Rattle.gptman_plan.specs.Plan.{Act, acts_of}
-use Rattle.gptman_plan.specs.Planning.{IsOfFault, IsPlan, IsPlanRefusal, IsRewriteRefusal, IsSafePlan, IsUnfit, StopsPlan}
-use Rattle.gptman_plan.specs.Planning.RefusesPlan.{is_unfit}
-use Rattle.gptman_plan.specs.Reading.{IsLack, IsTable, OfEvery}
+use Rattle.gptman.specs.declared.codec.entry.GPTPartitionEntry.{GPTPartitionEntry}
+use Rattle.gptman.specs.declared.codec.header.GPTHeader.{GPTHeader}
+use Rattle.gptman_plan.specs.Crossing.{content_in}
+use Rattle.gptman_plan.specs.Ends.{IsDiskOf}
+use Rattle.gptman_plan.specs.Plan.{acts_of}
+use Rattle.gptman_plan.specs.Planning.{IsPlan, IsPlanRefusal, IsTablePlan, IsTableRefusal}
 use Rattle.gptman_plan.specs.declared.record.Record.{Record}
 use Rattle.gptman.specs.Reading.{reading_of}
-use Rattle.gptman_plan.specs.Asking.{AsksAmong, AsksNothing, plan_ranges, table_ranges}
+use Rattle.gptman_plan.specs.Asking.{AsksAmong, plan_ranges, table_ranges, value_ranges}
 use Rattle.gptman_plan.specs.Rounds.{reading_ranges}
-use Rattle.gptman_plan.proofs.AnyPlan.{plan_any}
 use Rattle.gptman_plan.proofs.Asked.{among_left}
-use Rattle.gptman_plan.proofs.AskedPlans.{asks_as, asks_none, plan_place}
-use Rattle.gptman_plan.proofs.Refused.{fault_as, refused_as}
-use Rattle.gptman_plan.proofs.KnownCopies.{at_none}
+use Rattle.gptman_plan.proofs.AskedPlans.{asks_as, plan_place}
+use Rattle.gptman_plan.proofs.Rewritten.{ready, write_asked, write_plan, write_refused}
 use Rattle.gptman_plan.proofs.planning.plan.Goals as goal
 use Rattle.gptman_plan.proofs.planning.plan.Goals.{then-count-eq0-via-then-count-eq0, then-count-eq0-via-else-count-eq0+then-partitions-count, then-count-eq0-via-else-count-eq0+else-partitions-count+then-ends-sector_size}
+
+pub from_parts-next-requires : goal.from_parts-next-requires
+from_parts-next-requires c = omega (arith, c.in-Ok.ensures.len, c.from-count.ensures)
+
+pub plan_table-requires : goal.plan_table-requires
+plan_table-requires c =
+    let a = c.args in
+    let g = c.in_ok-table.table in
+    let next = c.from_parts-next in
+    let count : length a.partitions.now ≡ g.header.number_of_partition_entries = omega arith in
+    let is = ready a.ends.now a.sector_size g next.result c.in_ok-table.ensures.table c.requires.sector (omega arith) (omega arith) next.ensures.sector
+    (ap (λ (l : List GPTPartitionEntry). length l) next.ensures.entries ∙ c.in-Ok.ensures.len ∙ count)
+    (ap (λ (h : GPTHeader). h.number_of_partition_entries) next.ensures.header)
+    (ap (λ (h : GPTHeader). h.header_size) next.ensures.header)
+    (ap (λ (h : GPTHeader). h.size_of_partition_entry) next.ensures.header) in
+    record { sector = is.0; room = is.1; count = is.2; coherent = is.3 }
 
 pub returns-clause-plan : goal.returns-clause-plan
 returns-clause-plan c =
     let a = c.args in
     let g = c.in_ok-table.table in
-    let stated = c.in_ok-table.ensures.table in
-    let same : g.sector_size ≡ a.sector_size = stated.read.sector in
-    let all : List (ℕ × ℕ) = four_ranges (table_in g) g.sector_size a.ends.now.size in
-    let on_disk : Type 0 = AreInside all a.ends.now.size → HaveRanges a.ends.now all in
-    let places : on_disk = at_none on_disk (IsLack a.ends.now) c.lack_of_places.result c.in_default.is c.lack_of_places.ensures.known in
-    let next : Table = with_partitions g a.partitions.now in
-    let read : IsTable a.ends.now g.sector_size g stated.is_backup = subst (λ (ss : ℕ). IsTable a.ends.now ss g stated.is_backup) (sym same) stated.read in
-    let laid : IsLaidOut (table_in g) g.sector_size a.ends.now.size = subst (λ (ss : ℕ). IsLaidOut (table_in g) ss a.ends.now.size) (sym same) stated.laid_out in
-    let count : length a.partitions.now ≡ (table_in g).count = omega arith in
-    IfOk-weaker c.record_write.result
-    (λ (plan : Record). IsReadInForm (zeroed a.ends.now) g → IsLaidOut next g.sector_size a.ends.now.size
-    → IsSafePlan (zeroed a.ends.now) g.sector_size (table_in g) next (acts_of plan.bytes.items plan.steps.items))
+    let next = c.from_parts-next in
+    IfOk-weaker c.plan_table.result
+    (λ (plan : Record). (b : List ℕ) → IsDiskOf a.ends.now b → IsTablePlan b next.result (acts_of plan.bytes.items plan.steps.items))
     (λ (plan : Record). (b : List ℕ) → IsDiskOf a.ends.now b → IsPlan b a.sector_size a.partitions.now (acts_of plan.bytes.items plan.steps.items))
-    (λ plan safe b ends. let acts : List Act = acts_of plan.bytes.items plan.steps.items in
-    subst (λ (ss : ℕ). IsPlan b ss a.partitions.now acts) same
-    (plan_any a.ends.now g stated.is_backup a.partitions.now acts read stated.form laid count places safe b ends))
-    c.record_write.ensures.safe
+    (λ plan is b ends. write_plan a.ends.now a.sector_size g next.result a.partitions.now c.in_ok-table.ensures.table (omega arith) (ap (map content_in) next.ensures.entries ∙ c.in-Ok.ensures.entries) next.ensures.sector next.ensures.header
+    b ends (acts_of plan.bytes.items plan.steps.items) (is b ends))
+    c.plan_table.ensures.plan
 
 pub returns-clause-refused : goal.returns-clause-refused
 returns-clause-refused c =
     let a = c.args in
     let g = c.in_ok-table.table in
-    let told = c.in_ok-table.ensures.table.read in
-    let why : Fault → Type 0 = IsUnfit g.header g.sector_size a.partitions.now a.ends.now.size in
-    IfErr-weaker c.record_write.result (IsRewriteRefusal a.ends.now g a.partitions.now) (IsPlanRefusal a.ends.now a.sector_size a.partitions.now)
-    (refused_as (IsOfFault why) (λ cause. OfEvery a.ends.now (λ b. StopsPlan b a.sector_size a.partitions.now cause)) a.ends.now
-    (fault_as why (λ cause. OfEvery a.ends.now (λ b. StopsPlan b a.sector_size a.partitions.now cause)) (λ fault why b ends. is_unfit (copy_of g) (told.reading b ends)
-    (subst (λ (ss : ℕ). IsUnfit g.header ss a.partitions.now (length b) fault) told.sector
-    (subst (λ (n : ℕ). IsUnfit g.header g.sector_size a.partitions.now n fault) (sym ends.long) why)))))
-    c.record_write.ensures.refused
+    let next = c.from_parts-next in
+    IfErr-weaker c.plan_table.result (IsTableRefusal a.ends.now next.result) (IsPlanRefusal a.ends.now a.sector_size a.partitions.now)
+    (write_refused a.ends.now a.sector_size g next.result a.partitions.now c.in_ok-table.ensures.table (omega arith) (ap (map content_in) next.ensures.entries ∙ c.in-Ok.ensures.entries) next.ensures.sector next.ensures.header)
+    c.plan_table.ensures.refused
 
 pub returns-in_err-table-clause-refused : goal.returns-in_err-table-clause-refused
 returns-in_err-table-clause-refused c =
@@ -97,5 +92,8 @@ returns-in-Some-clause-asked c =
 pub returns-clause-asked : goal.returns-clause-asked
 returns-clause-asked c =
     let a = c.args in
-    let places : List ℕ → List (ℕ × ℕ) = λ b. plan_ranges b a.sector_size in
-    IfErr-weaker c.record_write.result AsksNothing (AsksAmong places a.ends.now) (asks_none a.ends.now places) c.record_write.ensures.asked
+    let g = c.in_ok-table.table in
+    let next = c.from_parts-next in
+    IfErr-weaker c.plan_table.result (AsksAmong (λ _. value_ranges next.result a.ends.now.size) a.ends.now) (AsksAmong (λ b. plan_ranges b a.sector_size) a.ends.now)
+    (write_asked a.ends.now a.sector_size g next.result a.partitions.now c.in_ok-table.ensures.table (omega arith) (ap (map content_in) next.ensures.entries ∙ c.in-Ok.ensures.entries) next.ensures.sector next.ensures.header)
+    c.plan_table.ensures.asked
