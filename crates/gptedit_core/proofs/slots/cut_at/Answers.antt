@@ -5,5 +5,5 @@ use Rattle.gptedit_core.proofs.slots.cut_at.Goals as goal
 
 pub returns : goal.returns
 returns c =
-    put_rest c.args.align c.args.first c.args.last c.args.slots.items c.args.i c.remove-slot.result c.before.result c.behind.result c.insert_some-2.new.slots.items c.requires.within
-    (search rules) c.before.ensures c.behind.ensures (grind (arith, common_steps))
+    put_rest c.args.align c.args.first c.args.last c.args.slots.items c.args.i c.remove-slot.result c.before-2.result c.behind.result c.insert_some-2.new.slots.items (search rules)
+    (search rules) c.before-2.ensures c.behind.ensures (grind (arith, common_steps))
