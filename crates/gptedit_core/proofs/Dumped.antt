@@ -62,7 +62,7 @@ place_stays a i ss e place is =
     let room = and_then_ok (room_asked a.size i ss) _ place start.2 in
     let at = and_then_ok (place_of (Become false) i room.0 start.0 (there_of (Some e)) a.choice) _ place room.2 in
     let stay = unless_ok (stay_fault (Become false) i (there_of (Some e)) at.0) at.0 place at.2 in
-    sym stay.1 ∙ stays_at i (e.starting_lba, e.ending_lba) at.0 stay.0
+    sym stay.1 ∙ stays_at i (between e.starting_lba e.ending_lba) at.0 stay.0
 
 -- The partition is the used entry of its number, at its place.
 pub record IsOwn (g : GPT) (p : ResolvedPartition) : Type 0 where

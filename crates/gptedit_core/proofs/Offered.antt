@@ -99,16 +99,16 @@ pub record IsOffered (g : GPT) (choice : Choice) (n start : ℕ) : Type 0 where
 
 pub place_of : (choice : Choice) (g : GPT) (n : ℕ) (slots : List Slot) (s : ℕ × ℕ) → choice ≢ InLongest → 0 < g.align → 0 < n → AreSlotsOf g g.align slots
     → IsBestSlot (IsNoWorse choice) n (pairs_of slots) s → IsOffered g choice n (start_in choice g.align n s)
-place_of First g n slots s _ positive some are c = let o = offered first g n n slots s (asked_of g n slots positive some are) c in record { chosen = o.value; fits = o.fits }
-place_of Last g n slots s _ positive some are c = let o = offered last g n n slots s (asked_of g n slots positive some are) c in record { chosen = o.value; fits = o.fits }
-place_of Best g n slots s _ positive some are c = let o = offered best g n n slots s (asked_of g n slots positive some are) c in record { chosen = o.value; fits = o.fits }
+place_of First g n slots s _ positive some are c = let o = offered first g n n (pairs_of slots) s (asked_of g n slots positive some are) c in record { chosen = o.value; fits = o.fits }
+place_of Last g n slots s _ positive some are c = let o = offered last g n n (pairs_of slots) s (asked_of g n slots positive some are) c in record { chosen = o.value; fits = o.fits }
+place_of Best g n slots s _ positive some are c = let o = offered best g n n (pairs_of slots) s (asked_of g n slots positive some are) c in record { chosen = o.value; fits = o.fits }
 place_of InLongest g n slots s other positive some are c = absurd (other refl)
 
 pub none_of : (choice : Choice) (g : GPT) (n : ℕ) (slots : List Slot) → choice ≢ InLongest → 0 < g.align → 0 < n → AreSlotsOf g g.align slots → AreShort n (pairs_of slots)
     → HasNoneChosen choice (IsFreeIn g) g.align (max 1 n)
-none_of First g n slots _ positive some are short = none_offered g n n slots (asked_of g n slots positive some are) short
-none_of Last g n slots _ positive some are short = none_offered g n n slots (asked_of g n slots positive some are) short
-none_of Best g n slots _ positive some are short = none_offered g n n slots (asked_of g n slots positive some are) short
+none_of First g n slots _ positive some are short = none_offered g n n (pairs_of slots) (asked_of g n slots positive some are) short
+none_of Last g n slots _ positive some are short = none_offered g n n (pairs_of slots) (asked_of g n slots positive some are) short
+none_of Best g n slots _ positive some are short = none_offered g n n (pairs_of slots) (asked_of g n slots positive some are) short
 none_of InLongest g n slots other positive some are short = absurd (other refl)
 
 -- ---- a new entry

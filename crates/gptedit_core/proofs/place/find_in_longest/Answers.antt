@@ -3,12 +3,12 @@ use Rattle.gptman.specs.Place.{IsFreeIn}
 use Rattle.gptedit_core.specs.Placing.{IsStartInLongest}
 use Rattle.gptedit_core.proofs.place.find_in_longest.Goals as goal
 
-pub returns-then-size-long-clause-value : goal.returns-then-size-long-clause-value
-returns-then-size-long-clause-value c =
+pub returns-then-size-run-clause-value : goal.returns-then-size-run-clause-value
+returns-then-size-run-clause-value c =
     (c.in-Some.run.start + c.in-Some.run.length, record { start = c.in-Some.run.start; long = c.in-Some.run.length; longest = search rules; first = c.skip-skipped.ensures; is = refl }, omega arith)
 
-pub returns-else-skipped-long-clause-value : goal.returns-else-skipped-long-clause-value
-returns-else-skipped-long-clause-value c =
+pub returns-else-skipped-run-clause-value : goal.returns-else-skipped-run-clause-value
+returns-else-skipped-run-clause-value c =
     let table = c.args.table.now in
     let s = c.in-Some.run.start + c.skip-skipped.result in
     let end = c.in-Some.run.start + c.in-Some.run.length in
