@@ -5,7 +5,7 @@ use Rattle.gptedit_core.proofs.place.find_rest.Goals as goal
 
 pub returns-in-Some-clause-value : goal.returns-in-Some-clause-value
 returns-in-Some-clause-value c =
-    let run = run_at (IsFreeIn c.args.table.now) c.in_ok-runs.runs.items c.args.first c.last-end.result c.in-Some.run (search rules) (search rules) (search rules) c.last-end.ensures in
+    let run = run_at (IsFreeIn c.args.table.now) c.in_ok-runs.runs.items c.args.first c.last-end.result c.in-Some.run' (search rules) (search rules) (search rules) c.last-end.ensures in
     (c.last-end.result, run, search rules)
 
 pub returns-clause-value : goal.returns-clause-value

@@ -6,4 +6,4 @@ name_slots-requires-clause-some c = all_long c.args.table.now c.args.table.now.a
 
 pub returns-clause-value : goal.returns-clause-value
 returns-clause-value c =
-    named_slots c.args.table.now c.args.table.now.align c.in_ok-pairs.pairs.items c.in_ok-name_slots.name_slots.items c.in_ok-pairs.ensures.value c.in_ok-name_slots.ensures
+    named_slots c.args.table.now c.args.table.now.align c.in_ok-pairs.pairs.items c.in_ok-name_slots.field-0.items c.in_ok-pairs.ensures.value c.in_ok-name_slots.ensures

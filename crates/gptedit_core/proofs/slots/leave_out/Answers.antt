@@ -9,5 +9,5 @@ pub returns : goal.returns
 returns c =
     let g = c.args.table.now in
     let e = c.args.entry.now in
-    kept_after g c.args.align c.args.number e c.in-Some.slots.items c.in_ok-cut.cut.items c.requires.aligned c.requires.number c.requires.unused (search rules) (omega arith) (search rules)
+    kept_after g c.args.align c.args.number e c.in-Some.slots.items c.in_ok-cut.field-0.items c.requires.aligned c.requires.number c.requires.unused (search rules) (omega arith) (search rules)
     c.in_ok-cut.ensures

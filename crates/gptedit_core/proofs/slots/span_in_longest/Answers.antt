@@ -10,7 +10,7 @@ returns-in_default c = inl (no_longest_of c.args.table.now c.args.runs.now c.req
 pub returns-then-size-run : goal.returns-then-size-run
 returns-then-size-run c =
     let g = c.args.table.now in
-    let run = c.in-Some.run in
+    let run = c.in-Some.run' in
     let longest = longest_of g c.args.runs.now (pair_of run) c.requires.runs c.in-Some.ensures in
     (in_longest g c.args.size run.start run.length c.skip-skipped.result longest c.skip-skipped.ensures (omega arith), omega arith)
 
@@ -18,7 +18,7 @@ pub returns-else-skipped-run : goal.returns-else-skipped-run
 returns-else-skipped-run c =
     let g = c.args.table.now in
     let n = c.args.size in
-    let run = c.in-Some.run in
+    let run = c.in-Some.run' in
     let longest = longest_of g c.args.runs.now (pair_of run) c.requires.runs c.in-Some.ensures in
     let short : run.start + run.length < run.start + c.skip-skipped.result + max 1 n = elim c.else-skipped-run.branch [
       | else-skipped-run-via-then-skipped-run+else-size-run w ↦ omega arith
