@@ -10,6 +10,7 @@ import json
 import os
 import re
 import struct
+import tempfile
 import tomllib
 import zlib
 
@@ -17,7 +18,10 @@ from harness import table
 from commands import NAMED, SFDISK
 from makers import IMAGE
 from peer_reader import ROWS, TYPES, VERDICTS, rows_of
+from runs import Program
 
+# A folder in memory, where a sync takes no time.
+MEMORY = "/dev/shm"
 FIELDS = {"revision": (8, "<I"), "size": (12, "<I"), "checksum": (16, "<I"), "reserved": (20, "<I"), "own": (24, "<Q"),
           "other": (32, "<Q"), "first": (40, "<Q"), "last": (48, "<Q"), "at": (72, "<Q"), "count": (80, "<I"),
           "entry-size": (84, "<I"), "array-checksum": (88, "<I")}
@@ -63,10 +67,11 @@ def make(program, row):
     """Makes the image of a row."""
     program.make_image(IMAGE, row.size)
     if row.start:
-        pieces = table.pieces_of(row.start, row.size, row.sector)
+        backup_at = table.bounds(row.size, row.sector, row.start.count)[1] + 1
+        pieces = table.pieces_of(row.start, row.size, row.sector, backup_at=backup_at)
         if row.backup:
             other = row.start._replace(entries={**row.start.entries, **row.backup})
-            pieces[3:] = table.copies_of(other, row.size, row.sector)[2:]
+            pieces[3:] = table.copies_of(other, row.size, row.sector, backup_at=backup_at)[2:]
         table.put(program.file(IMAGE), pieces)
     for word, words in row.changes:
         make_change(program, row, word, words)
@@ -93,7 +98,7 @@ def printed_layout(out):
     found, names, entries = tomllib.loads(out), {name: bit for bit, name in NAMED.items()}, {}
     for one in found.get("partition", []):
         first, count = (int(one[key].removesuffix("s")) for key in ("start", "size"))
-        bits = sum(1 << names.get(word, word) for word in one.get("attributes", []))
+        bits = sum(1 << int(names.get(word, word)) for word in one.get("attributes", []))
         entries[one["number"]] = table.Entry(TYPES.get(one["type"], one["type"]), one["guid"], first, first + count - 1,
                                              bits, one.get("name", ""))
     disk = found["disk"]
@@ -183,9 +188,10 @@ def hold(tally, program, row):
 def try_rows(tally, program, name):
     """The rows of a file; returns how many are equal, differ and are refused."""
     rows = rows_of(name)
-    for row in rows:
-        tally.holds(f"{row.where} has a command line, a verdict and what belongs to it", row.is_whole())
-        hold(tally, program, row)
+    with tempfile.TemporaryDirectory(dir=MEMORY if os.access(MEMORY, os.W_OK) else None) as folder:
+        for row in rows:
+            tally.holds(f"{row.where} has a command line, a verdict and what belongs to it", row.is_whole())
+            hold(tally, Program(program.path, folder, tally), row)
     counts = [sum(row.verdict == verdict for row in rows) for verdict in VERDICTS]
     return f"{len(rows)} rows: {counts[0]} equal, {counts[1]} differ, {counts[2]} refused"
 
