@@ -13,7 +13,7 @@ from harness import runs, table
 from harness.images import Reader, changed, is_in
 
 GATE = ["commands", "refusals", "layouts", "texts", "outputs", "guards", "checks", "safety", "salvaging", "everyday",
-        "traces", "marks", "stops", "streams", "rules", "maps", "model"]
+        "traces", "marks", "stops", "streams", "rules", "maps", "model", "peers"]
 TRIALS = ["uses", "sources", "locks", "holders"]
 MODULES = GATE + TRIALS
 CHANGES = ["new", "add", "set", "resize", "remove", "sort", "grow", "repair", "randomize", "apply", "wipe"]
@@ -89,8 +89,9 @@ class Program(runs.Program):
 
 
 def may_replace(mbr):
-    """Whether these 66 bytes of sector 0 may be replaced: zeros, no 55 AA, or a protective MBR alone."""
-    if mbr[64:] != b"\x55\xaa":
+    """Whether these 66 bytes of sector 0 may be replaced: no 55 AA, an MBR without partitions, or a protective MBR
+    alone."""
+    if mbr[64:] != b"\x55\xaa" or not any(mbr[:64]):
         return True
     kinds = [mbr[i * 16 + 4] for i in range(4)]
     return 0xee in kinds and not any(kind not in (0, 0xee) for kind in kinds)
