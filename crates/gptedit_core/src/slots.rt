@@ -63,12 +63,7 @@ impl Slots {
     }
 
     // Returns `size` sectors at the chosen place in the slots.
-    fn find_chosen(
-        &mut self,
-        table: &GPT,
-        size: u64,
-        choice: Choice,
-    ) -> Result<Option<SectorRange>>
+    fn find_chosen(&mut self, table: &GPT, size: u64, choice: Choice) -> Result<Option<SectorRange>>
         requires aligned { 0 < table.now.align }
         requires sized { 0 < size }
         requires chosen { choice ≢ InLongest }
@@ -232,10 +227,7 @@ fn cut_all(
     Ok(rest)
 }
 
-fn push_some(
-    slots: &mut Vec<Slot>,
-    slot: Option<Slot>,
-) -> std::result::Result<(), AllocError>
+fn push_some(slots: &mut Vec<Slot>, slot: Option<Slot>) -> std::result::Result<(), AllocError>
     ensures { OnOk result (slots.new.items ≡ slots.old.items ++ option_to_list slot) }
 {
     if let Some(slot) = slot {

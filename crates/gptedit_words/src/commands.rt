@@ -1,7 +1,6 @@
 //! The commands and their arguments.
 
 use crate::definition::{Argument, Definition};
-use gptman::sizes::MAX_ENTRY_COUNT;
 
 /// The commands that only read, in the order of the help.
 pub(crate) static LOOKS: [Definition; 6] = [
@@ -232,7 +231,8 @@ const WRITING: &[Argument] = &[
     JSON,
 ];
 
-const MOST_ENTRIES: u64 = MAX_ENTRY_COUNT as u64;
+// Linux reads no larger table.
+const MOST_ENTRIES: u64 = 32768;
 
 const IMAGE: Argument = Argument::Place(
     "IMAGE",
