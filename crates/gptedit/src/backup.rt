@@ -2,7 +2,7 @@
 
 use crate::failure::{Failure, refuse};
 use crate::looking::layout_text;
-use gptedit_text::values::Escaped;
+use gptedit_values::Escaped;
 use gptman::GPT;
 use std::fs::File;
 use std::io::Write;

@@ -12,7 +12,7 @@ use gptedit_core::Job;
 use gptedit_look::Look;
 use gptedit_report::types_json;
 use gptedit_text::Parsed;
-use gptedit_text::values::Escaped;
+use gptedit_values::Escaped;
 use gptedit_words::{Change, Command, ImageRequest, Lock, Options};
 use std::alloc::Global;
 use std::fs::File;

@@ -2,7 +2,7 @@
 
 use gptedit_core::Refusal;
 use gptedit_report::{ErrorText, RefusalText};
-use gptedit_text::values::Escaped;
+use gptedit_values::Escaped;
 use gptman::{Error, GPT};
 use std::alloc::{AllocError, AllocFailed, Global};
 use std::io::ErrorKind;

@@ -5,7 +5,7 @@ use gptedit_busy::{Lock, OpenError, Opened};
 use gptedit_look::salvage::salvage;
 use gptedit_look::{Look, Looked, find_format, look};
 use gptedit_report::NoTableText;
-use gptedit_text::values::Escaped;
+use gptedit_values::Escaped;
 use gptman::sizes::MAX_ENTRY_COUNT;
 use gptman::{Error, FileDisk};
 use std::alloc::Global;

@@ -11,8 +11,8 @@ use gptedit_report::{
     CopiesState, Edges, free_json, print_free, print_map, print_salvaged, salvaged_json,
     show_table, table_json,
 };
-use gptedit_text::values::Escaped;
 use gptedit_text::{Header, write_layout};
+use gptedit_values::Escaped;
 use gptman::GPT;
 use std::alloc::Global;
 use std::io::Write;

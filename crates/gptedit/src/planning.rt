@@ -15,7 +15,7 @@ use gptedit_look::{
 use gptedit_report::{
     CutText, Edges, ObstacleText, Remains, Shortened, ShortenedText, find_shortened,
 };
-use gptedit_text::values::Escaped;
+use gptedit_values::Escaped;
 use gptedit_words::Options;
 use gptman::GPT;
 use std::alloc::Global;

@@ -1,7 +1,7 @@
 //! Messages about the use of a disk.
 
 use gptedit_look::{How, Part, Use};
-use gptedit_text::values::Escaped;
+use gptedit_values::Escaped;
 use std::fmt;
 
 /// Message: a part of the disk is in use, and the remedy. Two lines, without the last newline. Hidden characters are

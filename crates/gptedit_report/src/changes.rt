@@ -2,7 +2,7 @@
 
 use crate::compare::{EntryChange, compare};
 use crate::texts::{EntryText, GuidText, QuotedName, SectorsText, TypeText};
-use gptedit_text::values::AttributeNames;
+use gptedit_values::AttributeNames;
 use gptman::{GPT, GPTHeader, GPTPartitionEntry};
 use std::alloc::Global;
 use std::io::Write;

@@ -5,7 +5,7 @@ use crate::findings::Finding;
 use crate::json::{print_json, put_copies};
 use crate::members::Members;
 use crate::way::WayOut;
-use gptedit_text::values::Escaped;
+use gptedit_values::Escaped;
 use serde_json::Value;
 use std::alloc::{AllocError, Global};
 use std::io;

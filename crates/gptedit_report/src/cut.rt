@@ -3,7 +3,7 @@
 use crate::bounds::Edges;
 use crate::layout::{LayoutState, length_to};
 use crate::way::{Truncate, write_longer_disk};
-use gptedit_text::values::Escaped;
+use gptedit_values::Escaped;
 use gptman::GPT;
 use std::fmt;
 

@@ -1,6 +1,6 @@
 //! Explains the errors of the library.
 
-use gptedit_text::values::Escaped;
+use gptedit_values::Escaped;
 use gptman::Error;
 use std::fmt;
 

@@ -2,7 +2,7 @@
 
 use crate::columns::{Column, print_columns, push_cell};
 use crate::json::run_values;
-use gptedit_text::values::ByteCount;
+use gptedit_values::ByteCount;
 use serde_json::Value;
 use std::alloc::{AllocError, Global};
 use std::io;

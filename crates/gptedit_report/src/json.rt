@@ -3,7 +3,7 @@
 use crate::copies::CopiesState;
 use crate::members::Members;
 use crate::sfdisk::{Attributes, separator_of};
-use gptedit_text::values::is_hidden;
+use gptedit_values::is_hidden;
 use gptman::sizes::DEFAULT_ENTRY_COUNT;
 use gptman::{Error, GPT, GPTPartitionEntry};
 use serde_json::Value;

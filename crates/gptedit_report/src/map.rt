@@ -4,7 +4,7 @@ use crate::columns::{Column, print_columns, push_cell};
 use crate::map::regions::{Owner, Region, TableDisk};
 use crate::map::widths::{CELLS, widths_of};
 use crate::texts::NameText;
-use gptedit_text::values::{ByteCount, Escaped};
+use gptedit_values::{ByteCount, Escaped};
 use gptman::{BothCopies, GPT};
 use std::alloc::{AllocError, Global};
 use std::io;

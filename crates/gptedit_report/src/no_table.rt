@@ -4,7 +4,7 @@ use crate::fault::Meaning;
 use crate::way::SAVE;
 use gptedit_formats::copies::{CopyKind, FoundCopy, Salvaged};
 use gptedit_look::Look;
-use gptedit_text::values::Escaped;
+use gptedit_values::Escaped;
 use std::fmt;
 
 /// Message: no copy of the table is good, the fault of each, and the remedy. Three lines, without the last newline.

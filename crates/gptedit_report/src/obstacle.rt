@@ -1,7 +1,7 @@
 //! The refusal to overwrite data.
 
 use gptedit_look::{Obstacle, Purpose, What};
-use gptedit_text::values::Escaped;
+use gptedit_values::Escaped;
 use gptman::GPT;
 use std::fmt;
 

@@ -2,7 +2,7 @@
 
 use crate::texts::EntryText;
 use gptedit_core::{Amount, Refusal, SectorRange};
-use gptedit_text::values::{AmountText, Escaped};
+use gptedit_values::{AmountText, Escaped};
 use gptman::GPT;
 use std::fmt;
 

@@ -1,6 +1,6 @@
 //! The spellings of `sfdisk --json`.
 
-use gptedit_text::values::sfdisk_name;
+use gptedit_values::sfdisk_name;
 use std::fmt;
 
 // The lowest attribute bit that belongs to the partition type.

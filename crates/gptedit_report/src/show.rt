@@ -3,7 +3,7 @@
 use crate::columns::{Column, print_columns, push_cell};
 use crate::copies::CopiesState;
 use crate::texts::{GuidText, NameText, SizeText, TypeText};
-use gptedit_text::values::{AttributeNames, ByteCount, Escaped};
+use gptedit_values::{AttributeNames, ByteCount, Escaped};
 use gptman::{GPT, GPTPartitionEntry};
 use std::alloc::{AllocError, Global};
 use std::io;

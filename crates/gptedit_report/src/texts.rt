@@ -1,6 +1,6 @@
 //! Parts of a table as texts for people.
 
-use gptedit_text::values::{ByteCount, EscapedChar, EscapedCode};
+use gptedit_values::{ByteCount, EscapedChar, EscapedCode};
 use gptguid_core::{name_of, text_of};
 use gptman::{GPTPartitionEntry, PartitionName};
 use std::char::decode_utf16;

@@ -1,6 +1,6 @@
 //! The commands that correct findings, and the advice if none does.
 
-use gptedit_text::values::Escaped;
+use gptedit_values::Escaped;
 use std::alloc::{AllocError, Global};
 use std::fmt;
 

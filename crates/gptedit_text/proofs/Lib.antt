@@ -1,4 +1,1 @@
-mod Amounts
-mod BitLists
 mod Lists
-mod Tables

@@ -7,8 +7,8 @@ use Rattle.toml.specs.Data.{Data, Items, array, as_array, boolean, datetime, flo
 use Rattle.toml.specs.View.{array_view, items_of, view}
 use Rattle.toml.specs.declared.value.Value.{Value}
 use Rattle.gptedit_text.specs.Layouts.{IsAttributeOf, SaysAttributeOf, SaysAttributesOf, SaysBitOf, list_of}
-use Rattle.gptedit_text.specs.Words.{HasBitsOf}
-use Rattle.gptedit_text.proofs.BitLists.{Sofar, sofar_all, sofar_first, sofar_next, sofar_wrong}
+use Rattle.gptedit_values.specs.Words.{HasBitsOf}
+use Rattle.gptedit_values.proofs.BitLists.{Sofar, sofar_all, sofar_first, sofar_next, sofar_wrong}
 
 -- The attributes of the values of a list before index i.
 abbrev pub SofarAt : List Value → ℕ → ℕ → Type 0

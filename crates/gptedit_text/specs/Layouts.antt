@@ -1,7 +1,7 @@
 -- The meaning of values of a layout in TOML.
 use Rattle.std.specs.Prelude.{◌≡◌, ◌<◌, ◌^◌, ℕ, pos, List, [], ◌∷◌, Option, None, Some}
 use Rattle.toml.specs.Data.{Data, Items, array, boolean, datetime, float, integer, item, no_items, string, table}
-use Rattle.gptedit_text.specs.Words.{HasBitsOf, SaysBit}
+use Rattle.gptedit_values.specs.Words.{HasBitsOf, SaysBit}
 
 -- The value is the bit of an attribute, as a word or as a number.
 abbrev pub SaysBitOf : Data → ℕ → Type 0

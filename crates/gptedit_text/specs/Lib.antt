@@ -1,3 +1,1 @@
 pub mod Layouts
-pub mod Scripts
-pub mod Words

@@ -1,8 +1,8 @@
 //! Writes layouts as TOML.
 
 use crate::table_header::Header;
-use crate::values::{AmountText, AttributeName, SizeText, TomlText, UnitsText};
 use gptedit_core::{Asked, RequestedLayout};
+use gptedit_values::{AmountText, AttributeName, SizeText, TomlText, UnitsText};
 use gptman::PartitionName;
 use std::alloc::{AllocError, Global};
 use std::fmt;

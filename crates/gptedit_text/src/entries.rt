@@ -1,8 +1,8 @@
 //! The requests for entries, collected while a text is read.
 
 use crate::error::{Fault, LayoutError, TextPlace};
-use crate::values::is_long_name;
 use gptedit_core::{Amount, Asked, Mode, RequestedLayout, Size};
+use gptedit_values::is_long_name;
 use gptman::PartitionName;
 use std::alloc::Global;
 use std::collections::BTreeSet;

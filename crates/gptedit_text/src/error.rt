@@ -3,8 +3,8 @@
 mod fault;
 mod section;
 
-use crate::values::Escaped;
 pub use fault::Fault;
+use gptedit_values::Escaped;
 pub use section::Section;
 use std::alloc::{AllocError, AllocFailed};
 use std::fmt;

@@ -1,7 +1,4 @@
-//! Reads and writes values and layouts of partition tables as text.
-//!
-//! A value is one word; the error for a wrong word says what would be right. A layout is read from TOML or from a
-//! script of `sfdisk`, and written as TOML.
+//! Reads layouts of partition tables from TOML and from scripts of `sfdisk`, and writes them as TOML.
 #![tactic(auto)]
 
 mod creation;

@@ -1,6 +1,5 @@
 //! Reads scripts of `sfdisk`, as `sfdisk --dump` prints them.
 
-mod extent;
 mod fields;
 mod header_lines;
 mod token;

@@ -14,7 +14,7 @@ use Rattle.gptedit_core.specs.declared.asked.Mode.{Mode}
 use Rattle.gptedit_core.specs.declared.asked.Mode.TheVariants.{Add as Adding, Change as Changing}
 use Rattle.gptedit_core.specs.declared.asked.Size.{Size}
 use Rattle.gptedit_core.specs.declared.asked.Size.TheVariants.{Exactly, Rest}
-use Rattle.gptedit_text.specs.Words.{choice_said, guid_said, type_said, FitsAmount, FitsSize, SaysAmount, SaysAttributes, SaysSize}
+use Rattle.gptedit_values.specs.Words.{choice_said, guid_said, type_said, FitsAmount, FitsSize, SaysAmount, SaysAttributes, SaysSize}
 use Rattle.gptedit_words.specs.declared.request.Change.{Change}
 use Rattle.gptedit_words.specs.declared.request.Change.TheVariants.{New, Edit, Sort, Grow, Repair, Randomize, Apply, Wipe}
 use Rattle.gptedit_words.specs.declared.request.Command.{Command}

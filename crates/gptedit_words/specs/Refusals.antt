@@ -2,7 +2,7 @@
 use Rattle.std.specs.Prelude.{◌≡◌, ◌≢◌, ◌⊎◌, ◌||◌, ℕ, Bool, true, List, [], ◌∷◌, Option, Some, None, Result, Ok, Err, codes, is_some}
 use Rattle.clap.specs.Words.{first_value, matched_of, one_text}
 use Rattle.clap.specs.declared.parser.matches.Found.{Found}
-use Rattle.gptedit_text.specs.Words.{SaysNoAttributes}
+use Rattle.gptedit_values.specs.Words.{SaysNoAttributes}
 use Rattle.gptedit_words.specs.Asks.{IsMissingOrWrong, IsNoSectorOf, IsUnset, IsWrong, texts_of_place}
 use Rattle.gptedit_words.specs.Asks.{SaysNoAmount, SaysNoChoice, SaysNoGuid, SaysNoLock, SaysNoNewSize, SaysNoNumber, SaysNoSize, SaysNoType}
 use Rattle.gptedit_words.specs.declared.error.WordsError.{WordsError}

@@ -5,7 +5,7 @@ ghost use Rattle.gptedit_words.specs.Spelled.{IsOfUsage};
 ghost use Rattle.gptedit_words.specs.declared.error.WordsError.TheVariants.{OutOfMemory};
 
 use clap::error::ErrorKind;
-use gptedit_text::values::Wrong;
+use gptedit_values::Wrong;
 use std::alloc::{AllocError, AllocFailed};
 use std::error::Error;
 use std::{fmt, io};

@@ -2,7 +2,7 @@
 
 ghost use Rattle.std.specs.Prelude.{◌≡◌, ◌↔◌, codes, IfErr, IfOk, IsTrue, None, Some};
 ghost use Rattle.clap.specs.Words.{first_value, found_of, one_text};
-ghost use Rattle.gptedit_text.specs.Words.{SaysAmount, SaysAttributes, SaysNoAttributes, SaysSize};
+ghost use Rattle.gptedit_values.specs.Words.{SaysAmount, SaysAttributes, SaysNoAttributes, SaysSize};
 ghost use Rattle.gptedit_words.specs.Asks.{Gives, IsNumberOf, SaysChoice, SaysGuid, SaysLock, SaysName, SaysNewSize};
 ghost use Rattle.gptedit_words.specs.Asks.{HasNumbers, IsSectorOf, IsSectorSize, SaysType, texts_of_place};
 ghost use Rattle.gptedit_words.specs.Asks.{IsMissingOrWrong, IsNoSectorOf, IsWrong, MayHaveNumberOf};
@@ -14,7 +14,7 @@ use crate::error::WordsError;
 use crate::request::Lock;
 use clap::ArgMatches;
 use gptedit_core::{Amount, Choice, Size};
-use gptedit_text::values::{
+use gptedit_values::{
     Wrong, is_long_name, read_amount, read_attributes, read_choice, read_guid, read_size, read_type,
 };
 use gptman::PartitionName;

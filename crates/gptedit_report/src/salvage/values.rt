@@ -3,7 +3,7 @@
 use crate::json::print_json;
 use crate::members::{Members, list_of_texts};
 use gptedit_formats::copies::{CopyKind, FoundCopy, FoundEntry, Salvaged};
-use gptedit_text::values::UnitsText;
+use gptedit_values::UnitsText;
 use gptman::GPTHeader;
 use serde_json::Value;
 use std::alloc::{AllocError, Global};

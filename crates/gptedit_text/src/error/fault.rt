@@ -1,6 +1,6 @@
 //! Faults of values.
 
-use crate::values::{AllSfdiskNames, AttributeName, Wrong};
+use gptedit_values::{AllSfdiskNames, AttributeName, Wrong};
 use gptman::sizes::{DEFAULT_ENTRY_COUNT, MAX_ENTRY_COUNT};
 use std::fmt;
 

@@ -4,10 +4,10 @@ ghost use Rattle.std.specs.Prelude.{◌≡◌, ◌≢◌, ◌<◌, ℕ, pos, All
 ghost use Rattle.toml.specs.Data.{get_member};
 ghost use Rattle.toml.specs.View.{table_view, view};
 ghost use Rattle.gptedit_text.specs.Layouts.{GivesAttributesOf, IsAttributeOf, SaysAttributeOf, SaysBitOf};
-ghost use Rattle.gptedit_text.specs.Words.{HasBitsOf};
+ghost use Rattle.gptedit_values.specs.Words.{HasBitsOf};
 
 use crate::error::{Fault, LayoutError, Section, TextPlace};
-use crate::values::{Wrong, read_attribute};
+use gptedit_values::{Wrong, read_attribute};
 use std::alloc::Global;
 use toml::{Table, Value};
 

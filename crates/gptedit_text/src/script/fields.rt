@@ -2,11 +2,10 @@
 
 use crate::entries::{Entries, read_name};
 use crate::error::{Fault, LayoutError, TextPlace};
-use crate::script::extent::read_extent;
 use crate::script::token::next_token;
 use crate::script::words::{read_script_attributes, read_script_type, unescaped};
-use crate::values::{Wrong, read_guid};
 use gptedit_core::{Amount, Asked, Choice, Size};
+use gptedit_values::{Wrong, read_extent, read_guid};
 use std::alloc::Global;
 
 // The parts of a line without names, in their order.

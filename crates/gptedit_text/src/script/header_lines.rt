@@ -1,10 +1,9 @@
 //! The headers of a script.
 
 use crate::error::{Fault, LayoutError, Section, TextPlace};
-use crate::script::extent::{read_extent, read_number};
 use crate::table_header::Header;
-use crate::values::read_guid;
 use gptedit_core::{Amount, DEFAULT_ALIGN};
+use gptedit_values::{read_extent, read_guid, read_number};
 use std::alloc::Global;
 
 /// The headers that were read.

@@ -1,7 +1,7 @@
 //! Types, attributes and names in a script.
 
 use crate::error::{Fault, LayoutError, TextPlace};
-use crate::values::{Wrong, find_sfdisk_bit, read_type};
+use gptedit_values::{Wrong, find_sfdisk_bit, read_type};
 use std::alloc::Global;
 
 /// Reads a type: a letter or a short name of `sfdisk`, a name, or a GUID.

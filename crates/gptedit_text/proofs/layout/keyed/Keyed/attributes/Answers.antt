@@ -2,7 +2,7 @@ use Rattle.std.proofs.Common.{map, subst}
 use Rattle.std.specs.Prelude.{Some}
 use Rattle.toml.specs.View.{view}
 use Rattle.gptedit_text.specs.Layouts.{GivesAttributesOf, SaysBitOf}
-use Rattle.gptedit_text.specs.Words.{HasBitsOf}
+use Rattle.gptedit_values.specs.Words.{HasBitsOf}
 use Rattle.gptedit_text.proofs.Lists.{says_list}
 use Rattle.gptedit_text.proofs.layout.keyed.Keyed.attributes.Goals as goal
 

@@ -1,0 +1,3 @@
+mod Amounts
+pub mod BitLists
+mod Tables

@@ -1,0 +1,26 @@
+//! Values of one word each, for command lines and layouts: sizes, types, GUIDs, attributes, choices.
+//!
+//! The error for a wrong word says what would be right.
+#![tactic(auto)]
+
+mod amount;
+mod attributes;
+mod byte_count;
+mod escapes;
+mod extent;
+mod kinds;
+mod names;
+mod units;
+mod wrong;
+
+pub use amount::{AmountText, SizeText, read_amount, read_sector, read_size};
+pub use attributes::{
+    AllSfdiskNames, AttributeName, AttributeNames, find_sfdisk_bit, read_attribute,
+    read_attributes, sfdisk_name,
+};
+pub use byte_count::ByteCount;
+pub use escapes::{Escaped, EscapedChar, EscapedCode, TomlText, is_hidden};
+pub use extent::{read_extent, read_number};
+pub use kinds::{read_choice, read_guid, read_type};
+pub use names::{UnitsText, is_long_name, read_units};
+pub use wrong::Wrong;

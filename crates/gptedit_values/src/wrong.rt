@@ -1,0 +1,60 @@
+//! Faults of words.
+
+use crate::attributes::AllNames;
+use std::fmt;
+
+/// Why a word is wrong.
+#[derive(Clone, Copy, PartialEq, Eq, Debug)]
+pub enum Wrong {
+    /// It is a number without a unit.
+    NoUnit,
+    /// It is not a whole number with a unit.
+    NoAmount,
+    /// It is not the number of a sector.
+    NoSector,
+    /// It is not a whole number with a unit, and not `rest`.
+    NoSize,
+    /// The amount exceeds 64 bits.
+    TooLarge,
+    /// It is neither the name of a type nor a GUID.
+    NoType,
+    /// It is not a GUID.
+    NoGuid,
+    /// It is not a list of attributes.
+    NoAttribute,
+    /// It is not the choice of a place.
+    NoChoice,
+    /// It does not say what to do if an image is locked.
+    NoLock,
+}
+
+/// Prints the rule that the word breaks.
+impl fmt::Display for Wrong {
+    fn fmt<W: fmt::Write>(&self, f: &mut fmt::Formatter<W>) -> fmt::Result {
+        let rule = match self {
+            Wrong::NoUnit => "a unit is missing; use for example 2048s (sectors) or 64MiB",
+            Wrong::NoAmount => {
+                "it must be a whole number with a unit, for example 2048s (sectors) or 64MiB"
+            }
+            Wrong::NoSector => "it must be a whole number with the unit s, for example 34s",
+            Wrong::NoSize => {
+                "it must be rest, or a whole number with a unit, for example 2048s (sectors) or 64MiB"
+            }
+            Wrong::TooLarge => "it must be below 2^64 sectors or bytes",
+            Wrong::NoType => {
+                "it must be a GUID, or a name that `gptedit types` lists, for example efi or linux"
+            }
+            Wrong::NoGuid => "it must have the form c12a7328-f81f-11d2-ba4b-00a0c93ec93b",
+            Wrong::NoAttribute => {
+                return write!(
+                    f,
+                    "attributes are {} and bits from 0 to 63, with commas between; or all 64 bits as 0x..",
+                    AllNames
+                );
+            }
+            Wrong::NoChoice => "it must be first, last or best",
+            Wrong::NoLock => "it must be wait, fail or none",
+        };
+        f.write_str(rule)
+    }
+}
