@@ -7,13 +7,8 @@ ghost use Rattle.gptman.specs.Reading.{backup, primary};
 ghost use Rattle.gptman.specs.Table.{table_in};
 ghost use Rattle.gptedit_core.specs.Making.{ranges_of, AreOfOnePlace, IsSafeOrder, SafeOrdersKeepACopy};
 
-use gptman::{Disk, GPT};
-
-// The length of a header in bytes.
-const HEADER_SIZE: u64 = 92;
-
-// The length of an entry in bytes.
-const ENTRY_SIZE: u64 = 128;
+use gptman::sizes::{ENTRY_SIZE, HEADER_SIZE};
+use gptman::{ByteRange, Disk, GPT};
 
 /// Reports whether a write of the new table over the old one that was read, on a disk of `size` bytes, keeps a good
 /// copy at each moment: both have the stated layout and are in the form of the same place, and the other copy of the
@@ -51,8 +46,8 @@ pub fn safe_orders_keep_a_copy<D: Disk>(disk: &D)
 // The byte ranges of a copy.
 #[derive(Clone, Copy)]
 struct Copy {
-    header: Bytes,
-    entries: Bytes,
+    header: ByteRange,
+    entries: ByteRange,
 }
 
 impl Copy {
@@ -63,15 +58,15 @@ impl Copy {
             (table_in table.now) table.now.sector_size size }
     {
         let sector_size = table.sector_size;
-        let bytes = ENTRY_SIZE * u64::from(table.header.number_of_partition_entries);
+        let bytes = u64::from(ENTRY_SIZE) * u64::from(table.header.number_of_partition_entries);
         let (header, entries) = if is_primary {
             (1, 2)
         } else {
             (size / sector_size - 1, table.header.last_usable_lba + 1)
         };
         Copy {
-            header: Bytes::new(header, sector_size, HEADER_SIZE),
-            entries: Bytes::new(entries, sector_size, bytes),
+            header: ByteRange::at_sector(header, sector_size, u64::from(HEADER_SIZE)),
+            entries: ByteRange::at_sector(entries, sector_size, bytes),
         }
     }
 
@@ -83,39 +78,5 @@ impl Copy {
             && self.header.is_apart(other.entries)
             && self.entries.is_apart(other.header)
             && self.entries.is_apart(other.entries)
-    }
-}
-
-// A range of bytes. The start is a product of two 64-bit numbers.
-#[derive(Clone, Copy)]
-struct Bytes {
-    start: u128,
-    length: u64,
-}
-
-impl Bytes {
-    // Returns a range of `length` bytes that begins at this sector.
-    fn new(sector: u64, sector_size: u64, length: u64) -> Bytes
-        ensures start { result.start ≡ sector * sector_size }
-        ensures length { result.length ≡ length }
-    {
-        Bytes {
-            start: u128::from(sector) * u128::from(sector_size),
-            length,
-        }
-    }
-
-    // Reports whether the ranges do not overlap. An empty range overlaps no other.
-    fn is_apart(self, other: Bytes) -> bool
-        ensures { IsTrue result ↔ (self.length ≡ 0) ⊎ ((other.length ≡ 0)
-            ⊎ ((self.start + self.length ≤ other.start) ⊎ (other.start + other.length ≤ self.start))) }
-    {
-        self.length == 0 || other.length == 0 || self.is_before(other) || other.is_before(self)
-    }
-
-    fn is_before(self, other: Bytes) -> bool
-        ensures { IsTrue result ↔ (self.start + self.length ≤ other.start) }
-    {
-        self.start <= other.start && u128::from(self.length) <= other.start - self.start
     }
 }

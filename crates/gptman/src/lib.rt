@@ -1,9 +1,10 @@
 //! GUID partition tables that survive a crash.
 //!
-//! `codec`, `crc` and `sizes` have the bytes of the format, `header` and `copy` one copy of a table, `copies`
+//! `codec`, `crc`, `sizes` and `byte_range` have the bytes of the format, `header` and `copy` one copy of a table, `copies`
 //! both, and `table`, `place` and `edit` the table. Disks and errors come from `gptman_disk`.
 #![tactic(auto)]
 
+pub mod byte_range;
 pub mod cells;
 pub mod codec;
 pub mod copies;
@@ -15,6 +16,7 @@ pub mod place;
 pub mod sizes;
 pub mod table;
 
+pub use byte_range::ByteRange;
 pub use codec::entry::GPTPartitionEntry;
 pub use codec::header::GPTHeader;
 pub use codec::name::PartitionName;

@@ -6,6 +6,7 @@ ghost use Rattle.gptman.specs.Layout.{AreInPlace, HasLayout, HasRightMarks, HasR
 ghost use Rattle.gptman.specs.Reading.{backup, primary};
 ghost use Rattle.gptman.specs.Table.{entries_in, table_in, IsHeaderForm, IsInForm};
 
+use crate::byte_range::ByteRange;
 use crate::sizes::{ENTRY_SIZE, HEADER_SIZE};
 use crate::table::GPT;
 
@@ -97,17 +98,17 @@ impl GPT {
         };
         let last = (size / self.sector_size).saturating_sub(1);
         let bytes = u64::from(ENTRY_SIZE) * u64::from(self.header.number_of_partition_entries);
-        let first = Bytes::new(1, self.sector_size, u64::from(HEADER_SIZE));
-        let entries = Bytes::new(2, self.sector_size, bytes);
-        let second = Bytes::new(last, self.sector_size, u64::from(HEADER_SIZE));
-        let others = Bytes::new(behind, self.sector_size, bytes);
+        let first = ByteRange::at_sector(1, self.sector_size, u64::from(HEADER_SIZE));
+        let entries = ByteRange::at_sector(2, self.sector_size, bytes);
+        let second = ByteRange::at_sector(last, self.sector_size, u64::from(HEADER_SIZE));
+        let others = ByteRange::at_sector(behind, self.sector_size, bytes);
         are_within(first, entries, second, others, size)
             && are_apart(first, entries, second, others)
     }
 }
 
 // Reports whether the ranges are within a disk of `size` bytes.
-fn are_within(a: Bytes, b: Bytes, c: Bytes, d: Bytes, size: u64) -> bool
+fn are_within(a: ByteRange, b: ByteRange, c: ByteRange, d: ByteRange, size: u64) -> bool
     ensures { IsTrue result ↔ AreInside ((a.start, a.length) ∷ (b.start, b.length)
         ∷ (c.start, c.length) ∷ (d.start, d.length) ∷ []) size }
 {
@@ -115,7 +116,7 @@ fn are_within(a: Bytes, b: Bytes, c: Bytes, d: Bytes, size: u64) -> bool
 }
 
 // Reports whether no two ranges overlap.
-fn are_apart(a: Bytes, b: Bytes, c: Bytes, d: Bytes) -> bool
+fn are_apart(a: ByteRange, b: ByteRange, c: ByteRange, d: ByteRange) -> bool
     ensures { IsTrue result ↔ AreApart ((a.start, a.length) ∷ (b.start, b.length)
         ∷ (c.start, c.length) ∷ (d.start, d.length) ∷ []) }
 {
@@ -125,47 +126,4 @@ fn are_apart(a: Bytes, b: Bytes, c: Bytes, d: Bytes) -> bool
         && b.is_apart(c)
         && b.is_apart(d)
         && c.is_apart(d)
-}
-
-// A range of bytes.
-#[derive(Clone, Copy)]
-struct Bytes {
-    start: u128,
-    length: u64,
-}
-
-impl Bytes {
-    // Returns the `length` bytes from the start of the sector on.
-    fn new(sector: u64, sector_size: u64, length: u64) -> Bytes
-        ensures start { result.start ≡ sector * sector_size }
-        ensures length { result.length ≡ length }
-    {
-        Bytes {
-            start: u128::from(sector) * u128::from(sector_size),
-            length,
-        }
-    }
-
-    // Reports whether it is empty, or ends within a disk of `size` bytes.
-    fn is_within(self, size: u64) -> bool
-        ensures { IsTrue result ↔ (self.length ≡ 0) ⊎ (self.start + self.length ≤ size) }
-    {
-        let size = u128::from(size);
-        self.length == 0 || self.start <= size && u128::from(self.length) <= size - self.start
-    }
-
-    // Reports whether one of the two is empty, or they do not overlap.
-    fn is_apart(self, other: Bytes) -> bool
-        ensures { IsTrue result ↔ (self.length ≡ 0) ⊎ ((other.length ≡ 0)
-            ⊎ ((self.start + self.length ≤ other.start) ⊎ (other.start + other.length ≤ self.start))) }
-    {
-        self.length == 0 || other.length == 0 || self.is_before(other) || other.is_before(self)
-    }
-
-    // Reports whether it ends where the other begins, or before.
-    fn is_before(self, other: Bytes) -> bool
-        ensures { IsTrue result ↔ (self.start + self.length ≤ other.start) }
-    {
-        self.start <= other.start && u128::from(self.length) <= other.start - self.start
-    }
 }
