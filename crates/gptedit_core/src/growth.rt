@@ -2,7 +2,7 @@
 
 ghost use Rattle.std.specs.Prelude.{◌≡◌, ◌↔◌, ◌⊎◌, ◌<◌, None, Some, IfErr, IfOk, IsTrue, OnOk};
 ghost use Rattle.gptman.specs.Answers.{CountsFailure, HasCause, IsFailure};
-ghost use Rattle.gptman.specs.Disk.{HasFailedOnceAtMost, Reads};
+ghost use Rattle.gptman.specs.Disk.{Reads};
 ghost use Rattle.gptman.specs.Fault.{fault_of, out_of_memory, overflow};
 ghost use Rattle.gptman.specs.Fit.{fit_fault};
 ghost use Rattle.gptman.specs.Layout.{HasLayout};
@@ -84,7 +84,6 @@ fn fit<D: Disk>(disk: &mut D, table: &mut GPT) -> gptman::Result<u64>
     requires sector { 0 < table.old.sector_size }
     ensures reads { Reads (D.state disk.old) (D.state disk.new) }
     ensures counts { CountsFailure result (D.state disk.old) (D.state disk.new) }
-    ensures once { HasFailedOnceAtMost (D.state disk.old) (D.state disk.new) }
     ensures refused { IfErr result (λ e. ((fault_of e ≡ overflow)
         × (fit_fault table.old.header table.old.sector_size (D.state disk.old).size ≡ Some overflow))
         ⊎ IsFailure (fault_of e) (D.state disk.old) (D.state disk.new)) }

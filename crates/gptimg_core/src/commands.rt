@@ -3,7 +3,7 @@
 ghost use Rattle.std.specs.Prelude.{◌≡◌, ◌⊎◌, ◌<◌, ◌∷◌, [], false, IfErr, IfOk, IfSome, IsTrue, OnErr, OnOk};
 ghost use Rattle.gptman.specs.Answers.{CountsFailure, HasCause, IsFailure};
 ghost use Rattle.gptman.specs.Crash.{StartsLaidOut};
-ghost use Rattle.gptman.specs.Disk.{FailedOrUntouched, HasFailedOnceAtMost, IsHonest, Keeps, OnlyRead};
+ghost use Rattle.gptman.specs.Disk.{FailedOrUntouched, IsHonest, Keeps, OnlyRead};
 ghost use Rattle.gptman.specs.Disk.{Reads, Writes};
 ghost use Rattle.gptman.specs.Fault.{fault_of, out_of_memory};
 ghost use Rattle.gptman.specs.Mbr.{mbr_range, IsMbrStored, WritesMbr};
@@ -130,7 +130,6 @@ fn write_new<D: Disk>(
     requires { 0 < sector_size }
     ensures keeps { Keeps (D.state disk.old) (D.state disk.new) }
     ensures counts { CountsFailure result (D.state disk.old) (D.state disk.new) }
-    ensures once { HasFailedOnceAtMost (D.state disk.old) (D.state disk.new) }
     ensures refused { IfErr result (λ e. RefusesNew guid sector_size (fault_of e)
         (D.state disk.old) (D.state disk.new)) }
     ensures cause { HasCause result (D.state disk.old) (D.state disk.new) }
@@ -155,7 +154,6 @@ fn write_mbr<D: Disk>(disk: &mut D, sector_size: u64, bootable: bool) -> Result<
     requires { 0 < sector_size }
     ensures keeps { Keeps (D.state disk.old) (D.state disk.new) }
     ensures counts { CountsFailure result (D.state disk.old) (D.state disk.new) }
-    ensures once { HasFailedOnceAtMost (D.state disk.old) (D.state disk.new) }
     ensures refused { IfErr result (λ e. RefusesMbr sector_size (fault_of e)
         (D.state disk.old) (D.state disk.new)) }
     ensures cause { HasCause result (D.state disk.old) (D.state disk.new) }
@@ -176,7 +174,6 @@ fn write_unsynced_mbr<D: Disk>(disk: &mut D, sector_size: u64, bootable: bool) -
     requires { 0 < sector_size }
     ensures keeps { Keeps (D.state disk.old) (D.state disk.new) }
     ensures counts { CountsFailure result (D.state disk.old) (D.state disk.new) }
-    ensures once { HasFailedOnceAtMost (D.state disk.old) (D.state disk.new) }
     ensures refused { IfErr result (λ e. RefusesMbr sector_size (fault_of e)
         (D.state disk.old) (D.state disk.new)) }
     ensures cause { HasCause result (D.state disk.old) (D.state disk.new) }

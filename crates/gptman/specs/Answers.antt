@@ -1,6 +1,6 @@
 -- Results of calls.
 use Rattle.std.specs.Prelude.{◌≡◌, ◌⊎◌, ◌||◌, ℕ, Bool, true, false, Option, Some, None, Result, Ok, Err, IsTrue, IfErr, OnErr}
-use Rattle.gptman_disk.specs.Disk.{DiskState, HasFailedAsOften, IsHonest, LeavesPending, PassesEnd, Rose, Untouched}
+use Rattle.gptman_disk.specs.Disk.{DiskState, HasFailedAsOften, HasFailedOnceAtMost, IsHonest, LeavesPending, PassesEnd, Rose, Untouched}
 use Rattle.gptman_disk.specs.Fault.{Fault, io, invalid_signature, invalid_revision, invalid_header_size, invalid_checksum, invalid_array_checksum, overflow, out_of_memory, invalid_entry_size, fault_of}
 use Rattle.gptman_disk.specs.declared.error.Error.{Error}
 
@@ -44,9 +44,9 @@ HasCause result old new = Refuses result io → Rose old new
 abbrev pub HasCauseOrEnd : {T : Type 0} → ℕ → Result T Error → DiskState → DiskState → Type 0
 HasCauseOrEnd n result old new = Refuses result io → Rose old new ⊎ PassesEnd old n
 
--- The disk did not fail, unless `Io` is returned.
+-- The disk did not fail, or failed once and `Io` is returned.
 abbrev pub CountsFailure : {T : Type 0} → Result T Error → DiskState → DiskState → Type 0
-CountsFailure result old new = HasFailedAsOften old new ⊎ Refuses result io
+CountsFailure result old new = HasFailedAsOften old new ⊎ (Refuses result io × HasFailedOnceAtMost old new)
 
 -- On an honest disk the result, as f sees it, is this one; or the disk failed, and it is `Io`.
 abbrev pub Answers : {T A : Type 0} → (T → A) → Result A Fault → Result T Error → DiskState → DiskState → Type 0

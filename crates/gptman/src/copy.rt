@@ -4,7 +4,6 @@ ghost use Rattle.std.specs.Prelude.{◌≡◌, ◌≤◌, ◌<◌, ◌-◌, ◌*
 ghost use Rattle.gptman.specs.Answers.{is_copy_fault, AnswersInMemory, RefusesOnly};
 ghost use Rattle.gptman.specs.Copy.{copy_at, copy_of_whole, IsCoherent};
 ghost use Rattle.gptman.specs.Answers.{CountsFailure};
-ghost use Rattle.gptman_disk.specs.Disk.{HasFailedOnceAtMost};
 ghost use Rattle.gptman_disk.specs.Disk.{Reads};
 
 use crate::codec::entry::GPTPartitionEntry;
@@ -30,7 +29,6 @@ pub fn read_copy<D: Disk>(alloc: Global, disk: &mut D, sector_size: u64) -> Resu
     requires { 0 < sector_size }
     ensures reads { Reads (D.state disk.old) (D.state disk.new) }
     ensures counts { CountsFailure result (D.state disk.old) (D.state disk.new) }
-    ensures once { HasFailedOnceAtMost (D.state disk.old) (D.state disk.new) }
     ensures answer { AnswersInMemory copy_of_whole
         (copy_at (D.state disk.old).view (D.state disk.old).position sector_size) result
         (D.state disk.old) (D.state disk.new) }

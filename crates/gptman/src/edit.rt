@@ -213,7 +213,6 @@ impl GPT {
         requires coherent { IsCoherent self.old.header (entries_in self.old) }
         ensures keeps { Keeps (D.state disk.old) (D.state disk.new) }
         ensures counts { CountsFailure result (D.state disk.old) (D.state disk.new) }
-        ensures once { HasFailedOnceAtMost (D.state disk.old) (D.state disk.new) }
 
         // The result, and the edited value.
         ensures allowed { OnOk result (IsAllowed self.old edit) }

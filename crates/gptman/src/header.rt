@@ -4,7 +4,6 @@
 
 ghost use Rattle.std.specs.Prelude.{◌≡◌, ◌<◌, ◌↔◌, ◌⊎◌, ℕ, if◌then◌else◌, IsTrue, IfOk, IfErr, OnOk, OnErr};
 ghost use Rattle.gptman.specs.Answers.{CountsFailure};
-ghost use Rattle.gptman_disk.specs.Disk.{HasFailedOnceAtMost};
 ghost use Rattle.gptman_disk.specs.Disk.{Reads};
 ghost use Rattle.gptman.specs.Coding.{header_bytes, array_bytes};
 ghost use Rattle.gptman.specs.Crc.{crc_of};
@@ -44,7 +43,6 @@ impl GPTHeader {
         requires { 0 < sector_size }
         ensures reads { Reads (D.state disk.old) (D.state disk.new) }
         ensures counts { CountsFailure result (D.state disk.old) (D.state disk.new) }
-        ensures once { HasFailedOnceAtMost (D.state disk.old) (D.state disk.new) }
         ensures answer { Settles (fit_fault (new_header disk_guid) sector_size (D.state disk.old).size) result
             (D.state disk.old) (D.state disk.new) }
         ensures refused { IfErr result (λ e. (fault_of e ≡ overflow)
@@ -69,7 +67,6 @@ impl GPTHeader {
         requires { 0 < sector_size }
         ensures reads { Reads (D.state disk.old) (D.state disk.new) }
         ensures counts { CountsFailure result (D.state disk.old) (D.state disk.new) }
-        ensures once { HasFailedOnceAtMost (D.state disk.old) (D.state disk.new) }
         ensures at_once { count ≡ 0 → Refuses result overflow }
         ensures answer { Settles (fit_fault (new_header_of count disk_guid) sector_size
             (D.state disk.old).size) result (D.state disk.old) (D.state disk.new) }
@@ -107,7 +104,6 @@ impl GPTHeader {
         requires { 0 < sector_size }
         ensures reads { Reads (D.state disk.old) (D.state disk.new) }
         ensures counts { CountsFailure result (D.state disk.old) (D.state disk.new) }
-        ensures once { HasFailedOnceAtMost (D.state disk.old) (D.state disk.new) }
         ensures at_once { array_size self.old ≡ 0 → Refuses result overflow }
         ensures answer { Settles (fit_fault self.old sector_size (D.state disk.old).size) result
             (D.state disk.old) (D.state disk.new) }

@@ -7,7 +7,7 @@
 ghost use Rattle.std.specs.Prelude.{◌≡◌, ◌<◌, ℕ, IfErr, IfOk, IfSome, OnErr, OnOk, Option};
 ghost use Rattle.gptman.specs.Answers.{CountsFailure, HasCause};
 ghost use Rattle.gptman.specs.Copy.{IsCoherent};
-ghost use Rattle.gptman.specs.Disk.{FailedOrUntouched, HasFailedOnceAtMost, IsHonest, Keeps};
+ghost use Rattle.gptman.specs.Disk.{FailedOrUntouched, IsHonest, Keeps};
 ghost use Rattle.gptman.specs.Disk.{Reads};
 ghost use Rattle.gptman.specs.Fault.{Fault, fault_of};
 ghost use Rattle.gptman.specs.Table.{Table, entries_in};
@@ -65,7 +65,6 @@ pub trait Plan {
         requires aligned { 0 < table.old.align }
         ensures reads { Reads (D.state disk.old) (D.state disk.new) }
         ensures counts { CountsFailure result (D.state disk.old) (D.state disk.new) }
-        ensures once { HasFailedOnceAtMost (D.state disk.old) (D.state disk.new) }
         ensures value { IfOk result (IsPlannedAs (makes self.now (D.state disk.old).size)
             (leaves self.now (D.state disk.old).size) table.old table.new) }
         ensures refused { IfErr result (λ e. RefusesPlan (refuses self.now (D.state disk.old).size)

@@ -4,7 +4,7 @@ ghost use Rattle.std.specs.Prelude.{◌≡◌, ◌⊎◌, ◌<◌, ℕ, false, N
 ghost use Rattle.gptman.specs.Answers.{CountsFailure, HasCause, IsFailure};
 ghost use Rattle.gptman.specs.Coding.{empty_entry};
 ghost use Rattle.gptman.specs.Copy.{IsCoherent};
-ghost use Rattle.gptman.specs.Disk.{HasFailedOnceAtMost, Reads};
+ghost use Rattle.gptman.specs.Disk.{Reads};
 ghost use Rattle.gptman.specs.Entry.{is_unused};
 ghost use Rattle.gptman.specs.Fault.{fault_of, invalid_partition_number, out_of_memory};
 ghost use Rattle.gptman.specs.Fit.{fit_fault};
@@ -84,7 +84,6 @@ fn fit<D: Disk>(disk: &mut D, table: &mut GPT) -> Result<Report>
     requires coherent { IsCoherent table.old.header (entries_in table.old) }
     ensures reads { Reads (D.state disk.old) (D.state disk.new) }
     ensures counts { CountsFailure result (D.state disk.old) (D.state disk.new) }
-    ensures once { HasFailedOnceAtMost (D.state disk.old) (D.state disk.new) }
     ensures outcome { IfOk result (λ report. report ≡ Done) }
     ensures refused { IfErr result (λ e.
         (fit_fault table.old.header table.old.sector_size (D.state disk.old).size ≡ Some (fault_of e))

@@ -12,7 +12,7 @@ ghost use Rattle.gptman.specs.Coding.{header_bytes, units_at};
 ghost use Rattle.gptman.specs.Copy.{array_result, entries_of, entry_result, header_result, unless};
 ghost use Rattle.gptman.specs.Copy.{value_tests};
 ghost use Rattle.gptman.specs.Crc.{crc_of};
-ghost use Rattle.gptman_disk.specs.Disk.{next_bytes, HasFailedOnceAtMost, HasNext, IsHonest, Moves};
+ghost use Rattle.gptman_disk.specs.Disk.{next_bytes, HasNext, IsHonest, Moves};
 ghost use Rattle.gptman_disk.specs.Disk.{PassesEnd, Reads, Rose};
 ghost use Rattle.gptman_disk.specs.Fault.{fault_of, first_failing, io as io_fault};
 ghost use Rattle.gptman_disk.specs.Fault.{invalid_entry_size, out_of_memory, overflow};
@@ -41,7 +41,6 @@ impl GPTHeader {
     pub fn read_from<D: Disk>(disk: &mut D) -> Result<GPTHeader>
         ensures reads { Reads (D.state disk.old) (D.state disk.new) }
         ensures counts { CountsFailure result (D.state disk.old) (D.state disk.new) }
-        ensures once { HasFailedOnceAtMost (D.state disk.old) (D.state disk.new) }
         ensures answer { Answers (λ h. h) (header_result (D.state disk.old).view (D.state disk.old).position)
             result (D.state disk.old) (D.state disk.new) }
         ensures refused { RefusesOnly is_header_fault result }
@@ -96,7 +95,6 @@ impl GPTHeader {
         requires { 0 < sector_size }
         ensures reads { Reads (D.state disk.old) (D.state disk.new) }
         ensures counts { CountsFailure result (D.state disk.old) (D.state disk.new) }
-        ensures once { HasFailedOnceAtMost (D.state disk.old) (D.state disk.new) }
         ensures wrong_size { HasWrongSize self.now
             → Refuses result (invalid_entry_size self.now.size_of_partition_entry) }
         ensures too_far { BeginsTooFar self.now sector_size → Refuses result overflow }
@@ -126,7 +124,6 @@ impl GPTHeader {
     fn seek_entries<D: Disk>(&self, disk: &mut D, sector_size: u64) -> Result<()>
         ensures reads { Reads (D.state disk.old) (D.state disk.new) }
         ensures counts { CountsFailure result (D.state disk.old) (D.state disk.new) }
-        ensures once { HasFailedOnceAtMost (D.state disk.old) (D.state disk.new) }
         ensures wrong_size { HasWrongSize self.now
             → Refuses result (invalid_entry_size self.now.size_of_partition_entry) }
         ensures too_far { BeginsTooFar self.now sector_size → Refuses result overflow }
@@ -161,7 +158,6 @@ impl GPTPartitionEntry {
     pub fn read_from<D: Disk>(alloc: Global, disk: &mut D) -> Result<GPTPartitionEntry>
         ensures reads { Reads (D.state disk.old) (D.state disk.new) }
         ensures counts { CountsFailure result (D.state disk.old) (D.state disk.new) }
-        ensures once { HasFailedOnceAtMost (D.state disk.old) (D.state disk.new) }
         ensures answer { AnswersInMemory (λ e. e)
             (entry_result (D.state disk.old).view (D.state disk.old).position)
             result (D.state disk.old) (D.state disk.new) }
@@ -190,7 +186,6 @@ struct EntryArray {
 fn read_array<D: Disk>(alloc: Global, disk: &mut D, count: u32) -> Result<EntryArray>
     ensures reads { Reads (D.state disk.old) (D.state disk.new) }
     ensures counts { CountsFailure result (D.state disk.old) (D.state disk.new) }
-    ensures once { HasFailedOnceAtMost (D.state disk.old) (D.state disk.new) }
     ensures within { OnOk result ((count ≡ 0) ⊎ HasNext (D.state disk.old) (128 * count)) }
     ensures refused { IfErr result (λ e. IsBlockFault (128 * count) (fault_of e)
         (D.state disk.old) (D.state disk.new)) }
@@ -236,7 +231,6 @@ fn read_block<D: Disk>(
     requires { count ≤ 32 }
     ensures reads { Reads (D.state disk.old) (D.state disk.new) }
     ensures counts { CountsFailure result (D.state disk.old) (D.state disk.new) }
-    ensures once { HasFailedOnceAtMost (D.state disk.old) (D.state disk.new) }
     ensures within { OnOk result (HasNext (D.state disk.old) (128 * count)) }
     ensures refused { IfErr result (λ e. IsBlockFault (128 * count) (fault_of e)
         (D.state disk.old) (D.state disk.new)) }

@@ -48,7 +48,6 @@ impl GPTHeader {
         requires coherent { IsCoherent self.old partitions.now }
         ensures keeps { Keeps (D.state disk.old) (D.state disk.new) }
         ensures counts { CountsFailure result (D.state disk.old) (D.state disk.new) }
-        ensures once { HasFailedOnceAtMost (D.state disk.old) (D.state disk.new) }
 
         // The result: `Io` only if the disk failed.
         ensures at_once { copy_write_fault self.old sector_size (D.state disk.old).size ≡ Some overflow

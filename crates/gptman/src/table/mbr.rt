@@ -3,7 +3,7 @@
 
 ghost use Rattle.std.specs.Prelude.{◌≡◌, ◌≤◌, ◌<◌, ◌∷◌, [], true, false, IfOk};
 ghost use Rattle.gptman.specs.Answers.{refusal_of, CountsFailure, FailsPending, HasCause, RefusesUntouched};
-ghost use Rattle.gptman_disk.specs.Disk.{HasFailedOnceAtMost, Keeps, Writes};
+ghost use Rattle.gptman_disk.specs.Disk.{Keeps, Writes};
 ghost use Rattle.gptman.specs.Mbr.{mbr_bytes, mbr_fault, mbr_range, AnswersMbr, WritesMbr};
 
 use crate::cells::{put, put_u32};
@@ -30,7 +30,6 @@ impl GPT {
         requires { 0 < sector_size }
         ensures keeps { Keeps (D.state disk.old) (D.state disk.new) }
         ensures counts { CountsFailure result (D.state disk.old) (D.state disk.new) }
-        ensures once { HasFailedOnceAtMost (D.state disk.old) (D.state disk.new) }
         ensures answer { AnswersMbr sector_size result (D.state disk.old) (D.state disk.new) }
         ensures cause { HasCause result (D.state disk.old) (D.state disk.new) }
         ensures wrote { Writes (mbr_range ∷ []) (D.state disk.old) (D.state disk.new) }
@@ -47,7 +46,6 @@ impl GPT {
         requires { 0 < sector_size }
         ensures keeps { Keeps (D.state disk.old) (D.state disk.new) }
         ensures counts { CountsFailure result (D.state disk.old) (D.state disk.new) }
-        ensures once { HasFailedOnceAtMost (D.state disk.old) (D.state disk.new) }
         ensures answer { AnswersMbr sector_size result (D.state disk.old) (D.state disk.new) }
         ensures cause { HasCause result (D.state disk.old) (D.state disk.new) }
         ensures wrote { Writes (mbr_range ∷ []) (D.state disk.old) (D.state disk.new) }
@@ -64,7 +62,6 @@ fn write_mbr<D: Disk>(disk: &mut D, sector_size: u64, bootable: bool) -> Result<
     requires { 0 < sector_size }
     ensures keeps { Keeps (D.state disk.old) (D.state disk.new) }
     ensures counts { CountsFailure result (D.state disk.old) (D.state disk.new) }
-    ensures once { HasFailedOnceAtMost (D.state disk.old) (D.state disk.new) }
     ensures answer { AnswersMbr sector_size result (D.state disk.old) (D.state disk.new) }
     ensures cause { HasCause result (D.state disk.old) (D.state disk.new) }
     ensures wrote { Writes (mbr_range ∷ []) (D.state disk.old) (D.state disk.new) }

@@ -41,7 +41,6 @@ impl GPT {
         requires { 0 < sector_size }
         ensures reads { Reads (D.state disk.old) (D.state disk.new) }
         ensures counts { CountsFailure result (D.state disk.old) (D.state disk.new) }
-        ensures once { HasFailedOnceAtMost (D.state disk.old) (D.state disk.new) }
         ensures answer { Refuses result out_of_memory
             ⊎ Settles (fit_fault (new_header disk_guid) sector_size (D.state disk.old).size) result
             (D.state disk.old) (D.state disk.new) }
@@ -66,7 +65,6 @@ impl GPT {
         requires { 0 < sector_size }
         ensures reads { Reads (D.state disk.old) (D.state disk.new) }
         ensures counts { CountsFailure result (D.state disk.old) (D.state disk.new) }
-        ensures once { HasFailedOnceAtMost (D.state disk.old) (D.state disk.new) }
         ensures at_once { count ≡ 0 → Refuses result overflow }
         ensures answer { Refuses result out_of_memory
             ⊎ Settles (fit_fault (new_header_of count disk_guid) sector_size (D.state disk.old).size) result
@@ -193,7 +191,6 @@ fn read_primary<D: Disk>(alloc: Global, disk: &mut D, sector_size: u64) -> Resul
     requires { 0 < sector_size }
     ensures reads { Reads (D.state disk.old) (D.state disk.new) }
     ensures counts { CountsFailure result (D.state disk.old) (D.state disk.new) }
-    ensures once { HasFailedOnceAtMost (D.state disk.old) (D.state disk.new) }
     ensures answer { AnswersInMemory copy_of (copy_in primary (D.state disk.old).view sector_size) result
         (D.state disk.old) (D.state disk.new) }
     ensures refused { RefusesOnly is_copy_fault result }
@@ -264,7 +261,6 @@ fn read_table<D: Disk>(alloc: Global, disk: &mut D, sector_size: u64) -> Result<
     requires { 0 < sector_size }
     ensures reads { Reads (D.state disk.old) (D.state disk.new) }
     ensures counts { CountsFailure result (D.state disk.old) (D.state disk.new) }
-    ensures once { HasFailedOnceAtMost (D.state disk.old) (D.state disk.new) }
     ensures answer { AnswersInMemory copy_of
         (copy_at (D.state disk.old).view (D.state disk.old).position sector_size)
         result (D.state disk.old) (D.state disk.new) }

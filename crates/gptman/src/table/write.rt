@@ -9,7 +9,7 @@ ghost use Rattle.gptman.specs.Answers.{Settles};
 ghost use Rattle.gptman.specs.Coding.{array_bytes};
 ghost use Rattle.gptman.specs.Copy.{with_checksums, IsCoherent};
 ghost use Rattle.gptman.specs.Crc.{crc_of};
-ghost use Rattle.gptman_disk.specs.Disk.{HasFailedOnceAtMost, IsHonest, Keeps, Reads, Writes};
+ghost use Rattle.gptman_disk.specs.Disk.{IsHonest, Keeps, Reads, Writes};
 ghost use Rattle.gptman_disk.specs.Fault.{fault_of, io as io_fault, overflow};
 ghost use Rattle.gptman_disk.specs.Ranges.{AreApart};
 ghost use Rattle.gptman.specs.Write.{copy_write_fault, header_range, other_header, copy_ranges};
@@ -55,7 +55,6 @@ impl GPT {
         requires coherent { IsCoherent self.old.header (entries_in self.old) }
         ensures keeps { Keeps (D.state disk.old) (D.state disk.new) }
         ensures counts { CountsFailure result (D.state disk.old) (D.state disk.new) }
-        ensures once { HasFailedOnceAtMost (D.state disk.old) (D.state disk.new) }
 
         // The result. A write of a valid table in the stated layout fails only if the disk fails or memory runs
         // out.
@@ -150,7 +149,6 @@ impl GPT {
         requires room { HasRoomOn self.old (D.state disk.old).size }
         ensures keeps { Keeps (D.state disk.old) (D.state disk.new) }
         ensures counts { CountsFailure result (D.state disk.old) (D.state disk.new) }
-        ensures once { HasFailedOnceAtMost (D.state disk.old) (D.state disk.new) }
         ensures refused { IfErr result (λ e. IsFailure (fault_of e) (D.state disk.old) (D.state disk.new)) }
         ensures value { OnOk result (self.new ≡ value_with_checksums self.old) }
         ensures sums { IsButSums self.old self.new }
@@ -178,7 +176,6 @@ impl GPT {
     fn writable_other<D: Disk>(&self, disk: &mut D) -> Result<GPTHeader>
         ensures reads { Reads (D.state disk.old) (D.state disk.new) }
         ensures counts { CountsFailure result (D.state disk.old) (D.state disk.new) }
-        ensures once { HasFailedOnceAtMost (D.state disk.old) (D.state disk.new) }
         ensures at_once { RefusesAtOnce (table_write_fault self.now (D.state disk.old).size) result }
         ensures answer { Settles (table_write_fault self.now (D.state disk.old).size) result
             (D.state disk.old) (D.state disk.new) }
@@ -236,7 +233,6 @@ fn write_and_sync<D: Disk>(
     requires allowed { copy_write_fault header.old sector_size (D.state disk.old).size ≡ None }
     ensures keeps { Keeps (D.state disk.old) (D.state disk.new) }
     ensures counts { CountsFailure result (D.state disk.old) (D.state disk.new) }
-    ensures once { HasFailedOnceAtMost (D.state disk.old) (D.state disk.new) }
     ensures refused { IfErr result (λ e. IsFailure (fault_of e) (D.state disk.old) (D.state disk.new)) }
     ensures value { OnOk result (header.new ≡ with_checksums header.old partitions.now) }
     ensures fits { OnOk result (FitsCopy header.new partitions.now) }
