@@ -1,11 +1,11 @@
 -- Sequences of calls that only read.
 use Rattle.std.proofs.Common.{◌≡◌, ◌⊎◌, ⊎_elim, ◌+◌, ◌<◌, inl, inr, ℕ, true, length, Result, Err, arith, refl, sym, ◌∙◌, []}
 use Rattle.gptman.specs.Answers.{answer_of, Fails, IsFailure, Refuses}
-use Rattle.gptman_disk.specs.Disk.{DiskState, IsSound, Keeps, OnlyRead, PassesEnd, Reads, Rose}
+use Rattle.gptman_disk.specs.Disk.{DiskState, HasFailedOnce, IsSound, Keeps, OnlyRead, PassesEnd, Reads, Rose}
 use Rattle.gptman_disk.specs.Fault.{Fault, io, out_of_memory}
 use Rattle.gptman_disk.specs.declared.error.Error.{Error}
 use Rattle.gptman_disk.proofs.Ranges.{within_none}
-use Rattle.gptman.proofs.Runs.{keeps_then, rose_since, wrote_not, wrote_then}
+use Rattle.gptman.proofs.Runs.{keeps_then, rose_once, rose_since, wrote_not, wrote_then}
 
 -- Before the first call.
 pub reads_not : (a : DiskState) → a.is_honest ≡ true → IsSound a → OnlyRead a a
@@ -28,8 +28,8 @@ both_read ab bc = record {
 
 -- A read that fails: the disk failed, or ends before, as the result says.
 pub read_refused : {A : Type 0} (answer : Result A Fault) (old new : DiskState) (n : ℕ) → length old.view ≡ old.size
-    → (length old.view < old.position + n → answer ≡ Err io) → Rose old new ⊎ PassesEnd old n → IsFailure io old new ⊎ (Err io ≡ answer)
-read_refused answer old new n size short cause = ⊎_elim (λ rose. inl (refl, rose)) (λ past. inr (sym (short (omega (arith, past, size))))) cause
+    → (length old.view < old.position + n → answer ≡ Err io) → HasFailedOnce old new ⊎ PassesEnd old n → IsFailure io old new ⊎ (Err io ≡ answer)
+read_refused answer old new n size short cause = ⊎_elim (λ once. inl (refl, rose_once old new once)) (λ past. inr (sym (short (omega (arith, past, size))))) cause
 
 -- A result in memory after calls that only read.
 pub answer_since : {T A : Type 0} (f : T → A) (r : Result T Error) (old mid new : DiskState) (here there : Result A Fault) → Keeps old mid → here ≡ there

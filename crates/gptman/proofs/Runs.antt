@@ -1,6 +1,6 @@
 -- Sequences of disk calls.
 use Rattle.std.proofs.Common.{◌≡◌, true, inl, inr, ⊎_elim, ℕ, List, ◌++◌, ◌∙◌, arith}
-use Rattle.gptman_disk.specs.Disk.{DiskState, IsSound, AgreesOutside, Within, Elapses, Keeps, LeavesOnly, Rose, Wrote}
+use Rattle.gptman_disk.specs.Disk.{DiskState, IsSound, AgreesOutside, Within, Elapses, HasFailedOnce, Keeps, LeavesOnly, Rose, Wrote}
 use Rattle.gptman_disk.proofs.Ranges.{Ranges, agrees_self, agrees_then, agrees_wider, within_then, within_left, within_right, within_both}
 
 -- Before the first call.
@@ -61,6 +61,10 @@ wrote_then {outer} {inner} {a} {b} {c} within ab next = record {
     through = within_both (within_left outer a.pending) ab.pending
 
 -- A failure since a later moment is one since an earlier moment.
+pub rose_once : (a b : DiskState) → HasFailedOnce a b → Rose a b
+rose_once a b (inl one) = inl (omega (arith, one))
+rose_once a b (inr full) = inr (omega (arith, full.0, full.1))
+
 pub rose_since : (a b c : DiskState) → Keeps a b → Rose b c → Rose a c
 rose_since a b c first (inl more) = inl (omega (arith, more, first.failures))
 rose_since a b c first (inr top) = inr top

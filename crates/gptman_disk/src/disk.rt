@@ -9,7 +9,7 @@ ghost use Rattle.std.specs.IoError.{error_kind};
 ghost use Rattle.std.specs.declared.io.ErrorKind.TheVariants.{UnexpectedEof};
 ghost use Rattle.gptman_disk.specs.Disk.{next_bytes, next_range, CoverTheSame, DiskState, HasFailedAsOften};
 ghost use Rattle.gptman_disk.specs.Disk.{HasFailedOnce, HasNext, HasOverwritten, IsCountedOnce, IsHonest, IsSound};
-ghost use Rattle.gptman_disk.specs.Disk.{IsPositionedAt, Keeps, MayHaveWritten, Moves, PassesEnd, Reads, Rose, Writes};
+ghost use Rattle.gptman_disk.specs.Disk.{IsPositionedAt, Keeps, MayHaveWritten, Moves, PassesEnd, Reads, Writes};
 
 use std::io;
 
@@ -37,7 +37,6 @@ pub trait Disk {
     fn seek_start(&mut self, at: u64) -> io::Result<u64>
         ensures reads { Reads (state self.old) (state self.new) }
         ensures answer { IfOk result (IsPositionedAt (state self.new) at) }
-        ensures cause { OnErr result (Rose (state self.old) (state self.new)) }
         ensures counts { OnOk result (HasFailedAsOften (state self.old) (state self.new)) }
         ensures once { OnErr result (HasFailedOnce (state self.old) (state self.new)) };
 
@@ -49,7 +48,6 @@ pub trait Disk {
     fn seek_end(&mut self) -> io::Result<u64>
         ensures reads { Reads (state self.old) (state self.new) }
         ensures answer { IfOk result (IsPositionedAt (state self.new) (state self.old).size) }
-        ensures cause { OnErr result (Rose (state self.old) (state self.new)) }
         ensures counts { OnOk result (HasFailedAsOften (state self.old) (state self.new)) }
         ensures once { OnErr result (HasFailedOnce (state self.old) (state self.new)) };
 
@@ -62,8 +60,6 @@ pub trait Disk {
     fn read_exact(&mut self, buf: &mut [u8]) -> io::Result<()>
         ensures reads { Reads (state self.old) (state self.new) }
         ensures within { OnOk result (HasNext (state self.old) (length buf.old)) }
-        ensures cause { OnErr result (Rose (state self.old) (state self.new)
-            ⊎ PassesEnd (state self.old) (length buf.old)) }
         ensures counts { OnOk result (HasFailedAsOften (state self.old) (state self.new)) }
         ensures once { OnErr result (HasFailedOnce (state self.old) (state self.new)
             ⊎ PassesEnd (state self.old) (length buf.old)) }
@@ -83,7 +79,6 @@ pub trait Disk {
     fn write_all(&mut self, buf: &[u8]) -> io::Result<()>
         requires { HasNext (state self.old) (length buf.now) }
         ensures keeps { Keeps (state self.old) (state self.new) }
-        ensures cause { OnErr result (Rose (state self.old) (state self.new)) }
         ensures counts { OnOk result (HasFailedAsOften (state self.old) (state self.new)) }
         ensures once { OnErr result (HasFailedOnce (state self.old) (state self.new)) }
         ensures moves { OnOk result (Moves (state self.old) (state self.new) (length buf.now)) }
@@ -101,7 +96,6 @@ pub trait Disk {
     /// Only if the device failed. Then what was written may still be lost.
     fn sync(&mut self) -> io::Result<()>
         ensures keeps { Keeps (state self.old) (state self.new) }
-        ensures cause { OnErr result (Rose (state self.old) (state self.new)) }
         ensures counts { OnOk result (HasFailedAsOften (state self.old) (state self.new)) }
         ensures once { OnErr result (HasFailedOnce (state self.old) (state self.new)) }
         ensures stays { OnOk result ((state self.new).position ≡ (state self.old).position) }

@@ -13,7 +13,7 @@ ghost use Rattle.gptman_disk.specs.Disk.{next_bytes, next_range, overlay, HasFai
 ghost use Rattle.gptman_disk.specs.Disk.{HasFailedOnce, HasNext, IsCountedOnce};
 ghost use Rattle.gptman_disk.specs.Disk.{HasOverwritten, Image, IsFresh, IsHonest};
 ghost use Rattle.gptman_disk.specs.Disk.{CoverTheSame, Keeps, MayHaveWritten, Moves, PassesEnd, Reads};
-ghost use Rattle.gptman_disk.specs.Disk.{ReadsOnAsBefore, Rose};
+ghost use Rattle.gptman_disk.specs.Disk.{ReadsOnAsBefore};
 ghost use Rattle.gptman_disk.specs.Disk.{IsPositionedAt, StaysAt, Untouched, Writes};
 ghost use Rattle.gptman_disk.specs.Memory.{after_call, event_fits, memory_sound, serves};
 ghost use Rattle.gptman_disk.specs.Memory.{view_of, AddsPending};
@@ -219,7 +219,6 @@ impl Disk for MemoryDisk {
     fn seek_start(&mut self, at: u64) -> io::Result<u64>
         ensures reads { Reads (state_of self.old) (state_of self.new) }
         ensures answer { IfOk result (IsPositionedAt (state_of self.new) at) }
-        ensures cause { OnErr result (Rose (state_of self.old) (state_of self.new)) }
         ensures counts { OnOk result (HasFailedAsOften (state_of self.old) (state_of self.new)) }
         ensures once { OnErr result (HasFailedOnce (state_of self.old) (state_of self.new)) }
         ensures served { IsOk result ↔ IsTrue (serves (calls_left self.old)) }
@@ -237,7 +236,6 @@ impl Disk for MemoryDisk {
     fn seek_end(&mut self) -> io::Result<u64>
         ensures reads { Reads (state_of self.old) (state_of self.new) }
         ensures answer { IfOk result (IsPositionedAt (state_of self.new) (state_of self.old).size) }
-        ensures cause { OnErr result (Rose (state_of self.old) (state_of self.new)) }
         ensures counts { OnOk result (HasFailedAsOften (state_of self.old) (state_of self.new)) }
         ensures once { OnErr result (HasFailedOnce (state_of self.old) (state_of self.new)) }
         ensures served { IsOk result ↔ IsTrue (serves (calls_left self.old)) }
@@ -256,8 +254,6 @@ impl Disk for MemoryDisk {
     fn read_exact(&mut self, buf: &mut [u8]) -> io::Result<()>
         ensures reads { Reads (state_of self.old) (state_of self.new) }
         ensures within { OnOk result (HasNext (state_of self.old) (length buf.old)) }
-        ensures cause { OnErr result (Rose (state_of self.old) (state_of self.new)
-            ⊎ PassesEnd (state_of self.old) (length buf.old)) }
         ensures counts { OnOk result (HasFailedAsOften (state_of self.old) (state_of self.new)) }
         ensures once { OnErr result (HasFailedOnce (state_of self.old) (state_of self.new)
             ⊎ PassesEnd (state_of self.old) (length buf.old)) }
@@ -292,7 +288,6 @@ impl Disk for MemoryDisk {
     fn write_all(&mut self, buf: &[u8]) -> io::Result<()>
         requires { HasNext (state_of self.old) (length buf.now) }
         ensures keeps { Keeps (state_of self.old) (state_of self.new) }
-        ensures cause { OnErr result (Rose (state_of self.old) (state_of self.new)) }
         ensures counts { OnOk result (HasFailedAsOften (state_of self.old) (state_of self.new)) }
         ensures once { OnErr result (HasFailedOnce (state_of self.old) (state_of self.new)) }
         ensures served { OnOk result (IsTrue (serves (calls_left self.old))) }
@@ -342,7 +337,6 @@ impl Disk for MemoryDisk {
     /// the record cannot be allocated. Record and position are then unchanged.
     fn sync(&mut self) -> io::Result<()>
         ensures keeps { Keeps (state_of self.old) (state_of self.new) }
-        ensures cause { OnErr result (Rose (state_of self.old) (state_of self.new)) }
         ensures counts { OnOk result (HasFailedAsOften (state_of self.old) (state_of self.new)) }
         ensures once { OnErr result (HasFailedOnce (state_of self.old) (state_of self.new)) }
         ensures served { OnOk result (IsTrue (serves (calls_left self.old))) }

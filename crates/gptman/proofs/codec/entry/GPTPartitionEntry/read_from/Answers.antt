@@ -11,7 +11,7 @@ returns-in_err-read_exact-clause-answer g c = λ honest.
     let p = err_from_is_err_and c.from_residual.result c.from_residual.ensures.1 in
     rw (p.1, p.2) (⊎_elim inl (λ is. inr (inr is))
     (read_refused (entry_result old.view old.position) old (g.D.Disk.state c.read_exact.new.self) 128 (g.met.D.Disk.sound c.args.disk.now honest).size
-    (entry_short old.view old.position) c.in_err-read_exact.ensures.cause))
+    (entry_short old.view old.position) c.in_err-read_exact.ensures.once))
 
 pub returns-clause-answer : goal.returns-clause-answer
 returns-clause-answer g c = λ honest.

@@ -13,7 +13,7 @@ returns-in_err-read_exact-clause-answer g c = λ honest.
     let old = g.D.Disk.state c.args.disk.now in
     let p = err_from_is_err_and c.from_residual.result c.from_residual.ensures.1 in
     rw (p.1, p.2) (read_refused (header_result old.view old.position) old (g.D.Disk.state c.read_exact.new.self) 92 (g.met.D.Disk.sound c.args.disk.now honest).size
-    (header_short old.view old.position) c.in_err-read_exact.ensures.cause)
+    (header_short old.view old.position) c.in_err-read_exact.ensures.once)
 
 pub returns-clause-answer : goal.returns-clause-answer
 returns-clause-answer g c = λ honest.

@@ -1,8 +1,5 @@
 use Rattle.std.proofs.Common.{rules}
 use Rattle.gptman_disk.proofs.disk.memory.MemoryDiskDisk.read_exact.Goals as goal
 
-pub returns-then-passes_end-clause-cause : goal.returns-then-passes_end-clause-cause
-returns-then-passes_end-clause-cause c = search rules
-
 pub returns-then-passes_end-clause-past_end : goal.returns-then-passes_end-clause-past_end
 returns-then-passes_end-clause-past_end c = search rules
