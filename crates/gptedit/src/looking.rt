@@ -8,13 +8,13 @@ use gptedit_look::first_sector::read_first_sector;
 use gptedit_look::salvage::salvage;
 use gptedit_look::{FirstSector, Look, MbrKind};
 use gptedit_report::{
-    CopiesState, Edges, free_json, print_free, print_map, print_salvaged, salvaged_json,
+    CopiesState, Edges, FreeRange, free_json, print_free, print_map, print_salvaged, salvaged_json,
     show_table, table_json,
 };
 use gptedit_text::{Header, write_layout};
 use gptedit_values::Escaped;
 use gptman::GPT;
-use std::alloc::Global;
+use std::alloc::{AllocError, Global};
 use std::io::Write;
 
 /// Warns on standard error if the disk has a DOS partition table.
@@ -92,7 +92,7 @@ fn free_in(
     look: &Look,
     table: &GPT,
     align: u64,
-) -> Result<Vec<(u64, u64)>, Failure> {
+) -> Result<Vec<FreeRange>, Failure> {
     let mut table = match table.clone() {
         Ok(table) => table,
         Err(_) => return Err(Failure::OutOfMemory),
@@ -106,9 +106,21 @@ fn free_in(
         return Ok(Vec::new(alloc));
     }
     match table.find_free_sectors() {
-        Ok(free) => Ok(free),
+        Ok(free) => Ok(name_ranges(alloc, &free)?),
         Err(error) => Err(refuse_error(alloc, image.name, &error)),
     }
+}
+
+// Returns the ranges that the library lists as start and length.
+fn name_ranges(alloc: Global, pairs: &[(u64, u64)]) -> Result<Vec<FreeRange>, AllocError> {
+    let mut ranges = Vec::with_capacity(alloc, pairs.len())?;
+    for (start, length) in pairs {
+        ranges.push(FreeRange {
+            start: *start,
+            length: *length,
+        })?;
+    }
+    Ok(ranges)
 }
 
 /// Prints the free ranges, each starting at a multiple of `align`.

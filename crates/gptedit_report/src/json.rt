@@ -1,6 +1,7 @@
 //! Tables as JSON.
 
 use crate::copies::CopiesState;
+use crate::free::FreeRange;
 use crate::members::Members;
 use crate::sfdisk::{Attributes, separator_of};
 use gptedit_values::is_hidden;
@@ -14,15 +15,15 @@ use std::fmt;
 const PAIRS: u32 = 0x1_0000;
 
 /// Returns a table as JSON: `partitiontable` as in `sfdisk --json`, and `gptman` with the copy that was read (`form`),
-/// the state of both copies, the size of the disk in bytes, the alignment in sectors, and the free ranges (first sector
-/// and length). For a dry run `dry_run` is true.
+/// the state of both copies, the size of the disk in bytes, the alignment in sectors, and the free ranges. For a
+/// dry run `dry_run` is true.
 pub fn table_json(
     alloc: Global,
     image: &str,
     size: u64,
     table: &GPT,
     state: &CopiesState<'_>,
-    free: &[(u64, u64)],
+    free: &[FreeRange],
     is_dry: bool,
 ) -> Result<String, AllocError> {
     let mut members = Members::new(alloc);
@@ -89,14 +90,14 @@ fn own_value(
     size: u64,
     table: &GPT,
     state: &CopiesState<'_>,
-    free: &[(u64, u64)],
+    free: &[FreeRange],
 ) -> Result<Value, AllocError> {
     let mut members = Members::new(alloc);
     members.put_text("form", form_name(table))?;
     put_copies(&mut members, state)?;
     members.put_number("size", size)?;
     members.put_number("align", table.align)?;
-    members.put_list("free", run_values(alloc, free)?)?;
+    members.put_list("free", free_values(alloc, free)?)?;
     Ok(members.into_value())
 }
 
@@ -124,19 +125,19 @@ fn copy_name(fault: Option<&Error>) -> &'static str {
     }
 }
 
-/// Returns ranges as first sector and length.
-pub(crate) fn run_values(alloc: Global, runs: &[(u64, u64)]) -> Result<Vec<Value>, AllocError> {
-    let mut values = Vec::with_capacity(alloc, runs.len())?;
-    for (start, length) in runs {
-        values.push(run_value(alloc, *start, *length)?)?;
+/// Returns free ranges as `start` and `size`, in sectors.
+pub(crate) fn free_values(alloc: Global, ranges: &[FreeRange]) -> Result<Vec<Value>, AllocError> {
+    let mut values = Vec::with_capacity(alloc, ranges.len())?;
+    for range in ranges {
+        values.push(free_value(alloc, range)?)?;
     }
     Ok(values)
 }
 
-fn run_value(alloc: Global, start: u64, length: u64) -> Result<Value, AllocError> {
+fn free_value(alloc: Global, range: &FreeRange) -> Result<Value, AllocError> {
     let mut members = Members::new(alloc);
-    members.put_number("start", start)?;
-    members.put_number("size", length)?;
+    members.put_number("start", range.start)?;
+    members.put_number("size", range.length)?;
     Ok(members.into_value())
 }
 

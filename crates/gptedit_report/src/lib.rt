@@ -37,7 +37,7 @@ pub use copies::CopiesState;
 pub use cut::CutText;
 pub use fault::ErrorText;
 pub use findings::{Finding, Wrong, find_all};
-pub use free::{free_json, print_free};
+pub use free::{FreeRange, free_json, print_free};
 pub use json::{print_json, table_json};
 pub use kept::{Shortened, ShortenedText, UnlistedText, find_shortened, find_unlisted};
 pub use map::print_map;
