@@ -134,9 +134,9 @@ impl GPT {
         requires sector { 0 < self.old.sector_size }
         requires coherent { IsCoherent self.old.header (entries_in self.old) }
         ensures keeps { Keeps (D.state disk.old) (D.state disk.new) }
-        ensures counts { IsTrue (is_failure result.fault)
-            ⊎ HasFailedAsOften (D.state disk.old) (D.state disk.new) }
-        ensures once { HasFailedOnceAtMost (D.state disk.old) (D.state disk.new) }
+        ensures counts { HasFailedAsOften (D.state disk.old) (D.state disk.new)
+            ⊎ (IsTrue (is_failure result.fault)
+            × HasFailedOnceAtMost (D.state disk.old) (D.state disk.new)) }
 
         // How many edits were applied and written, and why the next one failed. In the stated layout there is
         // room for each.

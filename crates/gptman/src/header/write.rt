@@ -9,8 +9,8 @@ ghost use Rattle.gptman.specs.Answers.{CountsFailure, FailsPending, HasCause, Re
 ghost use Rattle.gptman.specs.Coding.{array_bytes, FitsEntry};
 ghost use Rattle.gptman.specs.Copy.{with_checksums, IsCoherent};
 ghost use Rattle.gptman.specs.Crc.{crc_of};
-ghost use Rattle.gptman_disk.specs.Disk.{HasFailedAsOften, HasFailedOnceAtMost};
-ghost use Rattle.gptman_disk.specs.Disk.{next_range, HasNext, IsHonest, IsPending, Keeps, Moves, Overlays, Rose};
+ghost use Rattle.gptman_disk.specs.Disk.{HasFailedAsOften, HasFailedOnce};
+ghost use Rattle.gptman_disk.specs.Disk.{next_range, HasNext, IsHonest, IsPending, Keeps, Moves, Overlays};
 ghost use Rattle.gptman_disk.specs.Disk.{StaysPending, Writes};
 ghost use Rattle.gptman_disk.specs.Fault.{fault_of, io as io_fault, overflow};
 ghost use Rattle.gptman.specs.Write.{copy_write_fault, has_other_header, header_range, other_header};
@@ -159,8 +159,7 @@ pub fn write_summed<D: Disk>(
         (copy_ranges header.old sector_size)) }
     ensures keeps { Keeps (D.state disk.old) (D.state disk.new) }
     ensures counts { OnOk result (HasFailedAsOften (D.state disk.old) (D.state disk.new)) }
-    ensures once { HasFailedOnceAtMost (D.state disk.old) (D.state disk.new) }
-    ensures cause { OnErr result (Rose (D.state disk.old) (D.state disk.new)) }
+    ensures once { OnErr result (HasFailedOnce (D.state disk.old) (D.state disk.new)) }
     ensures value { header.new ≡ with_checksums header.old partitions.now }
     ensures fits { OnOk result (FitsCopy header.new partitions.now) }
     ensures sums { SameButSums header.old header.new }
@@ -189,8 +188,7 @@ fn write_copy<D: Disk>(
         (copy_ranges header.now sector_size)) }
     ensures keeps { Keeps (D.state disk.old) (D.state disk.new) }
     ensures counts { OnOk result (HasFailedAsOften (D.state disk.old) (D.state disk.new)) }
-    ensures once { HasFailedOnceAtMost (D.state disk.old) (D.state disk.new) }
-    ensures cause { OnErr result (Rose (D.state disk.old) (D.state disk.new)) }
+    ensures once { OnErr result (HasFailedOnce (D.state disk.old) (D.state disk.new)) }
     ensures fits { OnOk result (FitsCopy header.now partitions.now) }
     ensures wrote { Writes (copy_ranges header.now sector_size) (D.state disk.old) (D.state disk.new) }
     ensures contents { WritesCopy header.now partitions.now sector_size result
@@ -214,8 +212,7 @@ fn write_entries<D: Disk>(disk: &mut D, partitions: &[GPTPartitionEntry]) -> io:
     requires { HasNext (D.state disk.old) (128 * length partitions.now) }
     ensures keeps { Keeps (D.state disk.old) (D.state disk.new) }
     ensures counts { OnOk result (HasFailedAsOften (D.state disk.old) (D.state disk.new)) }
-    ensures once { HasFailedOnceAtMost (D.state disk.old) (D.state disk.new) }
-    ensures cause { OnErr result (Rose (D.state disk.old) (D.state disk.new)) }
+    ensures once { OnErr result (HasFailedOnce (D.state disk.old) (D.state disk.new)) }
     ensures fits { OnOk result (All FitsEntry partitions.now) }
     ensures wrote { Writes (next_range (D.state disk.old) (128 * length partitions.now) ∷ [])
         (D.state disk.old) (D.state disk.new) }
@@ -244,8 +241,7 @@ fn write_block<D: Disk>(
     requires room { HasNext (D.state disk.old) (128 * length block.now) }
     ensures keeps { Keeps (D.state disk.old) (D.state disk.new) }
     ensures counts { OnOk result (HasFailedAsOften (D.state disk.old) (D.state disk.new)) }
-    ensures once { HasFailedOnceAtMost (D.state disk.old) (D.state disk.new) }
-    ensures cause { OnErr result (Rose (D.state disk.old) (D.state disk.new)) }
+    ensures once { OnErr result (HasFailedOnce (D.state disk.old) (D.state disk.new)) }
     ensures fits { All FitsEntry block.now }
     ensures moves { OnOk result (Moves (D.state disk.old) (D.state disk.new) (128 * length block.now)) }
     ensures wrote { Writes (next_range (D.state disk.old) (128 * length block.now) ∷ [])

@@ -57,7 +57,7 @@ loop-edit-preserved g c =
           let short = ap length steps in
           omega arith,
       λ none. absurd (omega (arith, none, length-append at.yielded (edit ∷ []))),
-      ⊎_elim (λ same. same ∙ at.invariant.5) (λ refused. absurd refused) done.counts,
+      ⊎_elim (λ same. same ∙ at.invariant.5) (λ refused. absurd refused.0) done.counts,
     )
 
 -- ---- an edit failed
