@@ -12,13 +12,21 @@ GOAL = re.compile(r"note: \S+: .* \(`(\S+)`\)(.*)")
 
 
 class Trial(NamedTuple):
-    """A wrong body: its function, the lines that it replaces, the line that it puts there, and the clauses that it breaks."""
+    """A wrong body: its function, the lines that it replaces, what it puts there, the clauses that it breaks, and its text.
+
+    Where it stands in a function of its own beside the right one, that has the function's name and `added`."""
 
     call: contracts.Call
     at: int
     until: int
     new: str
     breaks: list
+    text: str
+    added: str = ""
+
+    def symbol(self):
+        """The end of what the prover calls the function, without signs."""
+        return symbol_of(self.call.name) + self.added
 
 
 def symbol_of(name):
@@ -40,7 +48,7 @@ def checked(crate, group):
             lines[trial.at : trial.until] = [trial.new]
             with open(path, "w", encoding="utf-8") as source:
                 source.write("\n".join(lines))
-        words = ["rt", "check", *(word for trial in group for word in ("--only", symbol_of(trial.call.name)))]
+        words = ["rt", "check", *(word for trial in group for word in ("--only", trial.symbol()))]
         run = subprocess.run(words, cwd=f"{top}/crates/{crate}", stdout=subprocess.PIPE, stderr=subprocess.STDOUT, text=True, check=False)
     found, goals = {}, []
     for line in run.stdout.splitlines():
@@ -58,8 +66,8 @@ def groups(trials):
     while trials:
         group, left = {}, []
         for trial in trials:
-            left += [trial] if trial.call.name in group else []
-            group.setdefault(trial.call.name, trial)
+            left += [trial] if trial.symbol() in group else []
+            group.setdefault(trial.symbol(), trial)
         yield list(group.values())
         trials = left
 
@@ -71,7 +79,7 @@ def clauses_of(goals, call):
 
 def judged(said, trial):
     """The clauses that refuse a body, which of those that it breaks do not, and what the prover says of the call."""
-    symbols = [symbol for symbol in said if symbol.endswith(f"::{symbol_of(trial.call.name)}")]
+    symbols = [symbol for symbol in said if symbol.endswith(f"::{trial.symbol()}")]
     words, refused, given_up = said.get(min(symbols, key=len, default=None), ("the check does not tell of it", [], []))
     clauses = clauses_of(refused, trial.call)
     late = [name.strip("-") for name in trial.breaks] if "returns" in refused + given_up else clauses_of(given_up, trial.call)
@@ -90,11 +98,11 @@ def tried(crate, trials):
         for trial in group:
             clauses, lacking, words = judged(said, trial)
             if clauses and not lacking:
-                found.setdefault(trial.call.name, []).append((clauses, trial.new.strip()))
+                found.setdefault(trial.call.name, []).append((clauses, trial.text))
             elif len(group) > 1:  # it may call another function that is wrong in this group
                 left.append([trial])
             else:
-                wrong.append(f"{crate}: {trial.call.name}: {trial.new.strip()}: {words} {' '.join(lacking)}")
+                wrong.append(f"{crate}: {trial.call.name}: {trial.text}: {words} {' '.join(lacking)}")
     return found, wrong
 
 
