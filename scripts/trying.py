@@ -1,6 +1,8 @@
 """Tries wrong bodies of functions: in a copy of the crates, one body for each function and check."""
 
+import glob
 import re
+import shutil
 import subprocess
 import tempfile
 from typing import NamedTuple
@@ -14,7 +16,8 @@ GOAL = re.compile(r"note: \S+: .* \(`(\S+)`\)(.*)")
 class Trial(NamedTuple):
     """A wrong body: its function, the lines that it replaces, what it puts there, the clauses that it breaks, and its text.
 
-    Where it stands in a function of its own beside the right one, that has the function's name and `added`."""
+    Where it stands in a function of its own beside the right one, that has the function's name and `added`. Where it
+    replaces more than a line, the proof of the right body goes with it."""
 
     call: contracts.Call
     at: int
@@ -46,6 +49,9 @@ def checked(crate, group):
             path = f"{top}/crates/{crate}/{trial.call.file}"
             lines = contracts.lines_of(path)
             lines[trial.at : trial.until] = [trial.new]
+            if trial.until > trial.at + 1:
+                for proof in glob.glob(f"{top}/crates/{crate}/proofs/**/{trial.symbol().replace('::', '/')}", recursive=True):
+                    shutil.rmtree(proof)
             with open(path, "w", encoding="utf-8") as source:
                 source.write("\n".join(lines))
         words = ["rt", "check", *(word for trial in group for word in ("--only", trial.symbol()))]
@@ -87,8 +93,8 @@ def judged(said, trial):
     return clauses, {*trial.breaks} - {name or "-" for name in clauses}, f"{words[:80]} {refused} {given_up}"
 
 
-def tried(crate, trials):
-    """The clauses that refuse each body, by call, and what is wrong."""
+def tried(crate, trials, wants_all=True):
+    """The clauses that refuse each body, by call, and what is wrong: a body that none refuses, or not all that it breaks."""
     found, wrong, left = {}, [], [*groups(trials)]
     while left:
         group = left.pop(0)
@@ -97,7 +103,7 @@ def tried(crate, trials):
             raise SystemExit(whole)
         for trial in group:
             clauses, lacking, words = judged(said, trial)
-            if clauses and not lacking:
+            if clauses and not (wants_all and lacking):
                 found.setdefault(trial.call.name, []).append((clauses, trial.text))
             elif len(group) > 1:  # it may call another function that is wrong in this group
                 left.append([trial])

@@ -9,7 +9,6 @@ pub mod layout;
 mod lines;
 pub mod script;
 pub mod table_header;
-pub mod values;
 
 pub use dump::write_layout;
 pub use error::LayoutError;
