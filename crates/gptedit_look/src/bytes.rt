@@ -3,6 +3,12 @@
 ghost use Rattle.std.specs.Prelude.{◌≡◌, ◌↔◌, ◌≤◌, ◌<◌, ◌+◌, ◌*◌, IsTrue};
 ghost use Rattle.gptedit_look.specs.Guard.{IsIn};
 
+/// The size of a header in bytes.
+pub const HEADER_SIZE: u64 = 92;
+
+/// The size of an entry in bytes.
+pub const ENTRY_SIZE: u64 = 128;
+
 /// Returns the first byte of this sector.
 pub fn start_of(sector: u64, sector_size: u64) -> u128
     ensures { result ≡ sector * sector_size }

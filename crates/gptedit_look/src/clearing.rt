@@ -8,7 +8,7 @@ ghost use Rattle.gptman.specs.Ranges.{Inside};
 ghost use Rattle.gptedit_look.specs.Guard.{last_of, IsIn};
 ghost use Rattle.gptedit_look.specs.Wiped.{header_found, header_in, ranges_in, Adds, AreZeros, HasUsualEntries, IsApartFrom, IsBeside, IsCleared, IsClearOf, IsFailureOrUnbegun, IsOfBeside, IsOfCopies, IsOfMbr, IsOfOld, IsOfOther, IsOfOwn, IsOfPlace, IsOfRaw, IsOfSignature, IsOfWhole, IsWiped, WritesOnly};
 
-use crate::bytes::start_of;
+use crate::bytes::{ENTRY_SIZE, HEADER_SIZE, start_of};
 use crate::first_sector::MbrKind;
 use crate::raw::RawHeader;
 use crate::seen::Look;
@@ -21,12 +21,6 @@ use std::alloc::Global;
 
 // The size of a signature in bytes.
 const SIGNATURE_SIZE: u64 = 8;
-
-// The size of a header in bytes.
-const HEADER_SIZE: u64 = 92;
-
-// The size of an entry in bytes.
-const ENTRY_SIZE: u64 = 128;
 
 // The first byte of the entries of an MBR.
 const MBR_START: u64 = 446;

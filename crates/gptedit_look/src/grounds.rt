@@ -7,18 +7,12 @@ ghost use Rattle.gptedit_look.specs.Guard.{IsOfCopy, IsOfOther, IsOfTable, IsOwn
 ghost use Rattle.gptedit_look.specs.Guard.{IsReplaced, IsSpanned, IsUnknown, IsUsable};
 ghost use Rattle.gptedit_look.specs.declared.marks.Content.{Content};
 
-use crate::bytes::{is_in, start_after, start_of};
+use crate::bytes::{ENTRY_SIZE, HEADER_SIZE, is_in, start_after, start_of};
 use crate::marks::Content;
 use crate::raw::RawHeader;
 use crate::seen::{Look, Purpose};
 use gptman::copy::WholeCopy;
 use gptman::{GPT, GPTHeader, Result};
-
-// The size of a header in bytes.
-const HEADER_SIZE: u64 = 92;
-
-// The size of an entry in bytes.
-const ENTRY_SIZE: u64 = 128;
 
 // The assumed length in bytes of contents whose end is unknown.
 const MARK_SIZE: u64 = 512;

@@ -7,11 +7,9 @@ ghost use Rattle.gptman.specs.Bytes.{part as bytes_at};
 ghost use Rattle.gptman.specs.Coding.{header_of};
 ghost use Rattle.gptedit_look.specs.Seen.{header_at, raw_of, IsRawOf, IsSeenAt};
 
+use crate::bytes::HEADER_SIZE;
 use crate::signatures::{HeaderPlace, SIGNATURE, place_at};
 use gptman::{Disk, GPTHeader, Result};
-
-// The size of a header in bytes.
-const LENGTH: u64 = 92;
 
 /// The fields of a header that begins with `EFI PART`, valid or not.
 #[derive(Debug, Clone, Copy, PartialEq, Eq)]
@@ -93,7 +91,7 @@ pub fn read_raw_header_at<D: Disk>(disk: &mut D, at: u64) -> Result<Option<RawHe
     ensures seen { IsHonest (D.state disk.old) → IfOk result (IsSeenAt (D.state disk.old) at) }
 {
     let size = disk.seek_end()?;
-    if at > size || size - at < LENGTH {
+    if at > size || size - at < HEADER_SIZE {
         return Ok(None);
     }
     read_inside(disk, at)

@@ -6,14 +6,8 @@ ghost use Rattle.gptman.specs.Write.{copy_ranges, other_header};
 ghost use Rattle.gptedit_look.specs.Guard.{IsIn, IsWritten};
 ghost use Rattle.gptedit_look.specs.Touched.{EndsWithin, IsTouched, IsTouchedIn, IsTouchedOf};
 
-use crate::bytes::{start_after, start_of};
+use crate::bytes::{ENTRY_SIZE, HEADER_SIZE, start_after, start_of};
 use gptman::{GPT, GPTHeader};
-
-// The size of a header in bytes.
-const HEADER_SIZE: u64 = 92;
-
-// The size of an entry in bytes.
-const ENTRY_SIZE: u64 = 128;
 
 /// A range of bytes.
 #[derive(Debug, Clone, Copy, PartialEq, Eq)]
