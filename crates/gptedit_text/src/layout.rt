@@ -107,8 +107,10 @@ fn read_disk(alloc: Global, file: &Keyed<'_>) -> Result<Disk, LayoutError> {
     let disk = Keyed::new(table, Section::Disk);
     disk.check_keys(alloc)?;
     Ok(Disk {
-        guid: disk.word("guid", read_guid)?,
-        align: disk.word("align", read_amount)?.unwrap_or(DEFAULT_ALIGN),
+        guid: disk.word("guid", |text| read_guid(text))?,
+        align: disk
+            .word("align", |text| read_amount(text))?
+            .unwrap_or(DEFAULT_ALIGN),
         header: read_header(&disk)?,
     })
 }
@@ -117,14 +119,14 @@ fn read_header(disk: &Keyed<'_>) -> Result<Header, LayoutError> {
     Ok(Header {
         sector_size: read_sector_size(disk)?,
         entries: disk.count("entries")?,
-        first_usable: disk.word("first-usable", read_sector)?,
-        last_usable: disk.word("last-usable", read_sector)?,
+        first_usable: disk.word("first-usable", |text| read_sector(text))?,
+        last_usable: disk.word("last-usable", |text| read_sector(text))?,
     })
 }
 
 // Reads the size of a sector in bytes.
 fn read_sector_size(disk: &Keyed<'_>) -> Result<Option<u64>, LayoutError> {
-    match disk.word("sector-size", read_amount)? {
+    match disk.word("sector-size", |text| read_amount(text))? {
         None => Ok(None),
         Some(Amount::Bytes(bytes)) => Ok(Some(bytes)),
         Some(Amount::Sectors(_)) => Err(disk.fault("sector-size", Fault::NotSectorSize)),
@@ -181,12 +183,12 @@ fn read_entry(alloc: Global, partition: &Keyed<'_>, number: u32) -> Result<Asked
     ensures attributes { IfOk result (λ asked. GivesAttributesOf (get_member (codes "attributes") (table_view partition.now.table.now)) asked.attributes) }
 {
     Ok(Asked {
-        type_guid: partition.word("type", read_type)?,
-        unique_guid: partition.word("guid", read_guid)?,
+        type_guid: partition.word("type", |text| read_type(text))?,
+        unique_guid: partition.word("guid", |text| read_guid(text))?,
         attributes: partition.attributes("attributes")?,
         name: read_some_name(alloc, partition)?,
-        start: partition.word("start", read_amount)?,
-        size: partition.word("size", read_size)?,
+        start: partition.word("start", |text| read_amount(text))?,
+        size: partition.word("size", |text| read_size(text))?,
         ..Asked::nothing(Some(number))
     })
 }

@@ -76,7 +76,8 @@ impl<'a> Keyed<'a> {
         }
     }
 
-    /// Reads the word under this key.
+    /// Reads the word under this key. `read` is a closure: the toolchain proves no call of a function that another crate
+    /// exports and that is passed by its name.
     pub fn word<T, F: Fn(&str) -> Result<T, Wrong>>(
         &self,
         key: &'static str,
