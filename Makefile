@@ -68,14 +68,15 @@ demo: gptimg
 check:
 	@scripts/check
 
-# The gate: the same from nothing, has the prover refuse each wrong body, and each growth refused in turn. It
+# The gate: the same from nothing, has the prover refuse the wrong bodies, and each growth refused in turn. It
 # tells how long each part took. The last line is 'N passed, M failed'.
 test:
 	@scripts/gate
 
-# Has the prover take a right body in the place of each must-fail edit (trials/controls), the rows see wrong bodies that
-# no clause refuses (trials/caught), and the clauses refuse those that the gate leaves out (trials/wrong). Then it makes
-# wrong bodies for each function, and tells which of them still prove and are not in trials/plants/PROVES.txt.
+# Has the prover take a right body in the place of each wrong one of the gate (trials/controls), the rows see wrong
+# bodies that no clause refuses (trials/caught), and the clauses refuse those that the gate leaves out (trials/wrong).
+# Then it makes wrong bodies for each function, and tells which of them still prove and are not in
+# trials/plants/PROVES.txt.
 plants:
 	@scripts/controls
 	@scripts/caught

@@ -179,6 +179,15 @@ def named(function, block, here):
     return f"<{block[2]} as {block[1]}>::{function[2]}" if block[1] else f"{block[2]}::{function[2]}"
 
 
+def symbol_of(name):
+    """The end of what the prover calls a function, without signs."""
+    of_trait = re.match(r"<(\w+) as (\w+)(?:<([\w:]+).*>)?>::(\w+)$", name)
+    if not of_trait:
+        return "::".join(name.split("::")[-2:])
+    argument = "".join(part[:1].upper() + part[1:] for part in (of_trait[3] or "").split("::"))
+    return f"{of_trait[1]}{of_trait[2]}{argument}::{of_trait[4]}"
+
+
 def is_public(function, block, types, is_handed):
     """Whether a caller can name the function."""
     is_pub = function[1] == "pub "

@@ -1,16 +1,14 @@
 """Tries wrong bodies of functions: in a copy of the crates, one body for each function and check."""
 
 import glob
-import re
 import shutil
-import subprocess
-import tempfile
 from typing import NamedTuple
 
 import contracts
-import copies
+import prover
 
-GOAL = re.compile(r"note: \S+: .* \(`(\S+)`\)(.*)")
+# A check of more functions takes more memory than its share.
+MOST = 16
 
 
 class Trial(NamedTuple):
@@ -29,42 +27,22 @@ class Trial(NamedTuple):
 
     def symbol(self):
         """The end of what the prover calls the function, without signs."""
-        return symbol_of(self.call.name) + self.added
+        return contracts.symbol_of(self.call.name) + self.added
 
 
-def symbol_of(name):
-    """The end of what the prover calls a function, without signs."""
-    of_trait = re.match(r"<(\w+) as (\w+)(?:<([\w:]+).*>)?>::(\w+)$", name)
-    if not of_trait:
-        return "::".join(name.split("::")[-2:])
-    argument = "".join(part[:1].upper() + part[1:] for part in (of_trait[3] or "").split("::"))
-    return f"{of_trait[1]}{of_trait[2]}{argument}::{of_trait[4]}"
-
-
-def checked(crate, group):
-    """What is said of each function with these bodies: its line, the goals that do not hold, those that were given up."""
-    with tempfile.TemporaryDirectory() as top:
-        copies.copied(top)
-        for trial in sorted(group, key=lambda trial: -trial.at):
-            path = f"{top}/crates/{crate}/{trial.call.file}"
-            lines = contracts.lines_of(path)
-            lines[trial.at : trial.until] = [trial.new]
-            if trial.until > trial.at + 1:
-                for proof in glob.glob(f"{top}/crates/{crate}/proofs/**/{trial.symbol().replace('::', '/')}", recursive=True):
-                    shutil.rmtree(proof)
-            with open(path, "w", encoding="utf-8") as source:
-                source.write("\n".join(lines))
-        words = ["rt", "check", *(word for trial in group for word in ("--only", trial.symbol()))]
-        run = subprocess.run(words, cwd=f"{top}/crates/{crate}", stdout=subprocess.PIPE, stderr=subprocess.STDOUT, text=True, check=False)
-    found, goals = {}, []
-    for line in run.stdout.splitlines():
-        goals += GOAL.findall(line)
-        if line.startswith("fn "):
-            symbol, _, words = line[3:].partition(": ")
-            refused, given_up = ([goal for goal, how in goals if ("gave up" in how) == is_late] for is_late in (False, True))
-            found[symbol] = words, refused, given_up
-            goals = []
-    return found, run.stdout
+def checked(copy, group):
+    """What is said of each function with these bodies, and all that the prover prints."""
+    copy.restore()
+    for trial in sorted(group, key=lambda trial: -trial.at):
+        path = f"{copy.folder}/{trial.call.file}"
+        lines = contracts.lines_of(path)
+        lines[trial.at : trial.until] = [trial.new]
+        if trial.until > trial.at + 1:
+            for proof in glob.glob(f"{copy.folder}/proofs/**/{trial.symbol().replace('::', '/')}", recursive=True):
+                shutil.rmtree(proof)
+        with open(path, "w", encoding="utf-8") as source:
+            source.write("\n".join(lines))
+    return copy.run({trial.symbol() for trial in group})
 
 
 def groups(trials):
@@ -72,8 +50,9 @@ def groups(trials):
     while trials:
         group, left = {}, []
         for trial in trials:
-            left += [trial] if trial.symbol() in group else []
-            group.setdefault(trial.symbol(), trial)
+            is_apart = trial.symbol() not in group and len(group) < MOST
+            left += [] if is_apart else [trial]
+            group.update({trial.symbol(): trial} if is_apart else {})
         yield list(group.values())
         trials = left
 
@@ -85,8 +64,8 @@ def clauses_of(goals, call):
 
 def judged(said, trial):
     """The clauses that refuse a body, which of those that it breaks do not, and what the prover says of the call."""
-    symbols = [symbol for symbol in said if symbol.endswith(f"::{trial.symbol()}")]
-    words, refused, given_up = said.get(min(symbols, key=len, default=None), ("the check does not tell of it", [], []))
+    one = prover.of_function(said, trial.symbol()) or prover.Said("the check does not tell of it", [], [], False)
+    words, refused, given_up = one.verdict, one.refused, one.given_up
     clauses = clauses_of(refused, trial.call)
     late = [name.strip("-") for name in trial.breaks] if "returns" in refused + given_up else clauses_of(given_up, trial.call)
     clauses += [name for name in late if (name or "-") in trial.breaks and name not in clauses]
@@ -96,9 +75,10 @@ def judged(said, trial):
 def tried(crate, trials, wants_all=True):
     """The clauses that refuse each body, by call, and what is wrong: a body that none refuses, or not all that it breaks."""
     found, wrong, left = {}, [], [*groups(trials)]
+    copy = prover.Copy(crate, prover.commands()[crate])
     while left:
         group = left.pop(0)
-        said, whole = checked(crate, group)
+        said, whole = checked(copy, group)
         if not said:
             raise SystemExit(whole)
         for trial in group:
@@ -109,6 +89,7 @@ def tried(crate, trials, wants_all=True):
                 left.append([trial])
             else:
                 wrong.append(f"{crate}: {trial.call.name}: {trial.text}: {words} {' '.join(lacking)}")
+    copy.remove()
     return found, wrong
 
 

@@ -35,14 +35,6 @@ only_both P Q a b c to first next = record {
       wrote_then (within_left next.ranges first.ranges) (wrote_wider (within_right next.ranges first.ranges) ab) (next.wrote ab.honest);
 }
 
--- a call that writes nothing
-pub only_still : (P : ℕ → Type 0) (a b c : DiskState) → WritesOnly P a b → Writes [] b c → WritesOnly P a c
-only_still P a b c first next = record {
-  ranges = first.ranges;
-  within = first.within;
-  wrote = λ honest. let ab = first.wrote honest in wrote_then within_none ab (next ab.honest);
-}
-
 -- reads before the write
 pub only_after : (P : ℕ → Type 0) (a b c : DiskState) → Reads a b → WritesOnly P b c → WritesOnly P a c
 only_after P a b c reads next = record {

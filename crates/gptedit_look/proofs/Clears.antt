@@ -1,5 +1,5 @@
 -- Ranges that are cleared.
-use Rattle.std.proofs.Common.{◌≡◌, ◌≤◌, ◌<◌, ◌⊎◌, ⊎_elim, ◌∙◌, ◌+◌, ◌-◌, ◌*◌, ◌^◌, ℕ, zero, suc, List, [], ◌∷◌, ◌++◌, length, get_or, take, drop, replicate, inl, inr, sym, subst, refl, ap, arith, Option, Some, None, Result, Ok, Err}
+use Rattle.std.proofs.Common.{◌≡◌, ◌≤◌, ◌<◌, ◌⊎◌, ⊎_elim, ◌∙◌, ◌+◌, ◌-◌, ◌*◌, ℕ, zero, suc, List, [], ◌∷◌, ◌++◌, length, get_or, take, drop, replicate, inl, inr, sym, subst, refl, ap, arith, Option, Some, None, Result, Ok, Err}
 use Rattle.std.specs.Prelude.{◌≢◌, ◌↔◌, ◌/◌, Bool, nat_eq, IsTrue, OnOk, SomeIff}
 use Rattle.std.specs.Option.{option_eq}
 use Rattle.std.proofs.Common.{eq-eqb}
@@ -9,16 +9,11 @@ use Rattle.std.proofs.lemmas.Bool.{cases_lt, false≢true}
 use Rattle.std.proofs.lemmas.List.{get_or_past, length-take-le}
 use Rattle.gptman.specs.Disk.{overlay, AgreesOutside, DiskState, Outside, Within, Writes}
 use Rattle.gptman.specs.Ranges.{Inside}
-use Rattle.gptman.specs.declared.codec.header.GPTHeader.{GPTHeader}
-use Rattle.gptman.specs.declared.copy.WholeCopy.{WholeCopy}
-use Rattle.gptman.specs.Error.{Error}
 use Rattle.gptedit_look.specs.declared.raw.RawHeader.{RawHeader}
 use Rattle.gptman.proofs.Overlays.{overlay_inside}
 use Rattle.gptman.proofs.Runs.{wrote_then}
 use Rattle.gptedit_look.specs.Guard.{IsIn}
-use Rattle.gptedit_look.specs.Wiped.{ranges_in, Adds, AreZeros, EndsBefore, HasUsualEntries, IsCleared, IsOfMbr, IsOfOwn, IsOfPlace, IsOfRaw, IsOfSignature, IsOfWhole, WritesOnly}
-use Rattle.gptedit_look.specs.declared.first_sector.MbrKind.{MbrKind}
-use Rattle.gptedit_look.specs.declared.first_sector.MbrKind.TheVariants.{None as MbrNone, Other, Protective, Hybrid, Dos}
+use Rattle.gptedit_look.specs.Wiped.{ranges_in, Adds, AreZeros, EndsBefore, HasUsualEntries, IsCleared, IsOfSignature}
 use Rattle.gptedit_look.specs.declared.signatures.Signature.{Signature}
 use Rattle.gptedit_look.specs.declared.zeros.Zeroed.{Zeroed}
 use Rattle.gptedit_look.proofs.Spared.{in_or_out}
@@ -41,26 +36,6 @@ adds_range rs new start n r at long is =
       kept = λ k h. (inside_push rs r k).1 (inl h);
       all = λ k fits h. (inside_push rs r k).1 (inr (back k h));
     })
-
--- adding nothing
-pub adds_none : (P : ℕ → Type 0) (rs : List Zeroed) → ((k : ℕ) → k < 18446744073709551616 → ¬ P k) → Adds P rs rs
-adds_none P rs none = record { only = λ k h. inl h; kept = λ k h. h; all = λ k fits h. absurd (none k fits h) }
-
--- adding two sets of bytes
-pub adds_then : (P Q : ℕ → Type 0) (a b c : List Zeroed) → Adds P a b → Adds Q b c → Adds (λ k. P k ⊎ Q k) a c
-adds_then P Q a b c ab bc = record {
-  only = λ k h. ⊎_elim (λ x. ⊎_elim (λ y. inl y) (λ y. inr (inl y)) (ab.only k x)) (λ x. inr (inr x)) (bc.only k h);
-  kept = λ k h. bc.kept k (ab.kept k h);
-  all = λ k fits h. ⊎_elim (λ x. bc.kept k (ab.all k fits x)) (λ x. bc.all k fits x) h;
-}
-
--- the same for equal sets of bytes
-pub adds_as : (P Q : ℕ → Type 0) (a b : List Zeroed) → ((k : ℕ) → P k → Q k) → ((k : ℕ) → Q k → P k) → Adds P a b → Adds Q a b
-adds_as P Q a b to back ab = record {
-  only = λ k h. ⊎_elim (λ x. inl x) (λ x. inr (to k x)) (ab.only k h);
-  kept = ab.kept;
-  all = λ k fits h. ab.all k fits (back k h);
-}
 
 -- a signature in the rest of a list is in the list
 pub signature_drop : (i : ℕ) (signatures : List Signature) (k : ℕ) → IsOfSignature k (drop i signatures) → IsOfSignature k signatures
@@ -117,21 +92,6 @@ zeros_written old new bytes position at n is long fits zeros laid k here =
     let high : k < position + length bytes = omega (arith, is, long, here.1) in
     ap (λ (b : List ℕ). get_or b k 0) laid ∙ overlay_inside old position bytes room k low high ∙ zeros (k - position)
 
--- one more block is zero
-pub zeros_more : (start at n : ℕ) (a b : List ℕ) → AgreesOutside ((at, n) ∷ []) a b → AreZeros at n b
-    → ((k : ℕ) → start ≤ k → k < at → get_or a k 0 ≡ 0) → (k : ℕ) → start ≤ k → k < at + n → get_or b k 0 ≡ 0
-zeros_more start at n a b agrees zeros before k from below =
-    ⊎_elim (λ (lt : k < at). agrees.same k (inl lt, tt) ∙ before k from lt) (λ (ge : at ≤ k). zeros k (ge, below)) (cases_lt k at)
-
--- all bytes are zero, up to the end of the disk
-pub zeros_all : (start n at end size : ℕ) (b : List ℕ) → length b ≡ size → end ≤ at → ((end ≡ size) ⊎ (end ≡ start + n)) ⊎ (size ≤ start)
-    → ((k : ℕ) → start ≤ k → k < at → get_or b k 0 ≡ 0) → AreZeros start n b
-zeros_all start n at end size b long done ends before k here =
-    ⊎_elim (λ (lt : k < at). before k here.0 lt) (λ (ge : at ≤ k).
-    let past : length b ≤ k = ⊎_elim (λ e. ⊎_elim (λ is. omega (arith, long, done, ge, is)) (λ is. absurd (omega (arith, is, done, ge, here.1))) e)
-    (λ far. omega (arith, long, far, here.0)) ends in
-    get_or_past b k 0 past) (cases_lt k at)
-
 -- entries of this many sectors, right before a sector, end before it
 pub ends_before : (sector first n ss sectors : ℕ) → n ≤ sectors * ss → sectors * ss < n + ss → first + sectors ≡ sector → EndsBefore sector first n ss
 ends_before sector first n ss sectors low high is =
@@ -155,17 +115,6 @@ ends_only sector first n ss sectors low high ends =
     let one : 1 * ss ≡ ss = one-mul ss in
     absurd (omega (arith, all, up, more, one, low, high, ends.0)))
     (λ (le : first + sectors ≤ sector). omega (arith, ge, le)) (cases_lt sector (first + sectors))) (cases_lt (first + sectors) sector)
-
--- an MBR of another kind has no such bytes
-pub no_mbr : (kind : MbrKind) → kind ≢ Protective → (k : ℕ) → ¬ IsOfMbr kind k
-no_mbr Protective other k h = other refl
-no_mbr MbrNone other k h = h
-no_mbr Other other k h = h
-no_mbr Hybrid other k h = h
-no_mbr Dos other k h = h
-
-pub adds_mbr : (kind : MbrKind) (a b : List Zeroed) → kind ≡ Protective → Adds (IsIn 446 66) a b → Adds (IsOfMbr kind) a b
-adds_mbr kind a b is adds = subst (λ (x : MbrKind). Adds (IsOfMbr x) a b) (sym is) adds
 
 -- a list of signatures, added one by one
 pub signature_added : (signatures more : List Signature) (old now new : List Zeroed) (i : ℕ) (s : Signature) (r : Zeroed) → drop i signatures ≡ s ∷ more
@@ -197,58 +146,6 @@ signature_kept old now new r is kept k h = subst (λ (xs : List Zeroed). Inside 
 pub on_ok_as : {T E P R : Type 0} → (r : Result T E) → OnOk r P → (P → R) → OnOk r R
 on_ok_as (Ok x) p f = f p
 on_ok_as (Err e) p f = tt
-
--- a range that begins at a sector, or does not fit
-pub adds_at : (start place n : ℕ) (a b : List Zeroed) → start ≡ place → Adds (IsIn start n) a b → Adds (IsIn place n) a b
-adds_at start place n a b is adds = subst (λ (x : ℕ). Adds (IsIn x n) a b) is adds
-
-pub adds_far : (place n : ℕ) (a : List Zeroed) → ¬ (place < 2 ^ 64) → Adds (IsIn place n) a a
-adds_far place n a far = adds_none (IsIn place n) a (λ k fits h. far (omega (arith, fits, h.0)))
-
--- a copy with entries in sectors 0 and 1
-pub adds_bare : (h : GPTHeader) (ss : ℕ) (a b : List Zeroed) → h.partition_entry_lba < 2 → Adds (IsIn (h.primary_lba * ss) 92) a b → Adds (IsOfWhole h ss) a b
-adds_bare h ss a b low adds = adds_as (IsIn (h.primary_lba * ss) 92) (IsOfWhole h ss) a b (λ k x. inl x) (λ k x. ⊎_elim (λ y. y) (λ y. absurd (omega (arith, low, y.0))) x) adds
-
--- a copy with other entries
-pub adds_whole : (h : GPTHeader) (ss : ℕ) (a b c : List Zeroed) → 2 ≤ h.partition_entry_lba → Adds (IsIn (h.primary_lba * ss) 92) a b
-    → Adds (IsIn (h.partition_entry_lba * ss) (128 * h.number_of_partition_entries)) b c → Adds (IsOfWhole h ss) a c
-adds_whole h ss a b c high one two =
-    adds_as _ (IsOfWhole h ss) a c (λ k x. ⊎_elim (λ y. inl y) (λ y. inr (high, y)) x) (λ k x. ⊎_elim (λ y. inl y) (λ y. inr y.1) x)
-    (adds_then (IsIn (h.primary_lba * ss) 92) (IsIn (h.partition_entry_lba * ss) (128 * h.number_of_partition_entries)) a b c one two)
-
--- a header without usual entries
-pub adds_only : (h : RawHeader) (ss : ℕ) (a b : List Zeroed) → ¬ HasUsualEntries h ss → Adds (IsIn h.at 92) a b → Adds (λ k. IsOfRaw ss k (Some h)) a b
-adds_only h ss a b other adds = adds_as (IsIn h.at 92) (λ k. IsOfRaw ss k (Some h)) a b (λ k x. inl x) (λ k x. ⊎_elim (λ y. y) (λ y. absurd (other y.0)) x) adds
-
--- a header with usual entries
-pub adds_seen : (h : RawHeader) (ss : ℕ) (a b c : List Zeroed) → HasUsualEntries h ss → Adds (IsIn h.at 92) a b
-    → Adds (IsIn (h.entries_lba * ss) (128 * h.count)) b c → Adds (λ k. IsOfRaw ss k (Some h)) a c
-adds_seen h ss a b c usual one two =
-    adds_as _ (λ k. IsOfRaw ss k (Some h)) a c (λ k x. ⊎_elim (λ y. inl y) (λ y. inr (usual, y)) x) (λ k x. ⊎_elim (λ y. inl y) (λ y. inr y.1) x)
-    (adds_then (IsIn h.at 92) (IsIn (h.entries_lba * ss) (128 * h.count)) a b c one two)
-
-pub adds_raw : (ss : ℕ) (raw seen : Option RawHeader) (a b : List Zeroed) → raw ≡ seen → Adds (λ k. IsOfRaw ss k seen) a b → Adds (λ k. IsOfRaw ss k raw) a b
-adds_raw ss raw seen a b is adds = subst (λ (x : Option RawHeader). Adds (λ k. IsOfRaw ss k x) a b) (sym is) adds
-
-pub adds_nothing : (ss : ℕ) (raw : Option RawHeader) (a : List Zeroed) → raw ≡ None → Adds (λ k. IsOfRaw ss k raw) a a
-adds_nothing ss raw a is = adds_raw ss raw None a a is (adds_none (λ k. IsOfRaw ss k None) a (λ k fits h. h))
-
--- a good copy at this sector, or elsewhere
-pub adds_own : (h : GPTHeader) (sector ss : ℕ) (raw : Option RawHeader) (a b : List Zeroed) → h.primary_lba ≡ sector → Adds (IsOfWhole h ss) a b → Adds (IsOfOwn h sector ss raw) a b
-adds_own h sector ss raw a b is adds = adds_as (IsOfWhole h ss) (IsOfOwn h sector ss raw) a b (λ k x. inl (is, x)) (λ k x. ⊎_elim (λ y. y.1) (λ y. absurd (y.0 is)) x) adds
-
-pub adds_other : (h : GPTHeader) (sector ss : ℕ) (raw : Option RawHeader) (a b : List Zeroed) → h.primary_lba ≢ sector → Adds (λ k. IsOfRaw ss k raw) a b → Adds (IsOfOwn h sector ss raw) a b
-adds_other h sector ss raw a b other adds =
-    adds_as (λ k. IsOfRaw ss k raw) (IsOfOwn h sector ss raw) a b (λ k x. inr (other, x)) (λ k x. ⊎_elim (λ y. absurd (other y.0)) (λ y. y.1) x) adds
-
--- a fact about a copy holds for its place
-pub adds_place : (sector ss : ℕ) (raw : Option RawHeader) (copy same : Result WholeCopy Error) (a b : List Zeroed) → copy ≡ same
-    → Adds (λ k. IsOfPlace sector ss k raw same) a b → Adds (λ k. IsOfPlace sector ss k raw copy) a b
-adds_place sector ss raw copy same a b is adds = subst (λ (x : Result WholeCopy Error). Adds (λ k. IsOfPlace sector ss k raw x) a b) (sym is) adds
-
--- the bytes that a wipe changes and clears
-pub wiped_only : (P : ℕ → Type 0) (rs : List Zeroed) (old new : DiskState) → Adds P [] rs → Writes (ranges_in rs) old new → WritesOnly P old new
-wiped_only P rs old new adds wrote = record { ranges = ranges_in rs; within = λ k h. ⊎_elim (λ no. absurd no) (λ x. x) (adds.only k h); wrote = wrote }
 
 pub wiped_cleared : (P : ℕ → Type 0) (rs : List Zeroed) (disk : DiskState) → Adds P [] rs → length disk.view < 18446744073709551616
     → IsCleared (Inside (ranges_in rs)) disk → IsCleared P disk

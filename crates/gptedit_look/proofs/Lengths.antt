@@ -1,6 +1,6 @@
 -- The protective entry of an MBR, and its length.
 use Rattle.std.proofs.Common.{◌≡◌, ◌≤◌, ◌<◌, ⊎_elim, ◌∙◌, ◌+◌, ◌-◌, ◌*◌, ◌^◌, ℕ, zero, suc, List, [], ◌∷◌, length, get_or, drop, sym, refl, ap, arith}
-use Rattle.std.specs.Prelude.{◌≢◌, slice_range}
+use Rattle.std.specs.Prelude.{slice_range}
 use Rattle.std.proofs.lemmas.Bool.{cases_lt}
 use Rattle.std.proofs.lemmas.List.{get_or-drop, get_or-take, length-drop, length-take-le}
 use Rattle.byteorder.specs.Endian.{little_bytes}
@@ -9,69 +9,7 @@ use Rattle.gptman.specs.Disk.{overlay, AgreesOutside, Outside}
 use Rattle.gptman.proofs.Numbers.{le_of}
 use Rattle.gptman.proofs.Overlays.{agrees_overlay, length-overlay, overlay_above, overlay_below, overlay_inside}
 use Rattle.gptman.proofs.Ranges.{agrees_then, agrees_wider, within_left, within_right}
-use Rattle.gptedit_look.specs.FirstSector.{IsMarked, IsVacant}
-use Rattle.gptedit_look.specs.Protective.{number_at, type_of, HasLength, IsOnlyProtective}
-
--- four cases
-pub below_four : (P : ℕ → Type 0) → P 0 → P 1 → P 2 → P 3 → (i : ℕ) → i < 4 → P i
-below_four P a b c d zero lt = a
-below_four P a b c d (suc zero) lt = b
-below_four P a b c d (suc (suc zero)) lt = c
-below_four P a b c d (suc (suc (suc zero))) lt = d
-below_four P a b c d (suc (suc (suc (suc n)))) lt = absurd (omega (arith, lt))
-
--- one entry is the only one
-pub only_0 : (b : List ℕ) → type_of b 0 ≡ 0xEE → type_of b 1 ≡ 0 → type_of b 2 ≡ 0 → type_of b 3 ≡ 0 → IsOnlyProtective b 0
-only_0 b own x y z = record {
-  place = omega arith;
-  protects = own;
-  others_unused = below_four (λ j. j ≢ 0 → type_of b j ≡ 0) (λ no. absurd (no refl)) (λ no. x) (λ no. y) (λ no. z);
-}
-
-pub only_1 : (b : List ℕ) → type_of b 1 ≡ 0xEE → type_of b 0 ≡ 0 → type_of b 2 ≡ 0 → type_of b 3 ≡ 0 → IsOnlyProtective b 1
-only_1 b own x y z = record {
-  place = omega arith;
-  protects = own;
-  others_unused = below_four (λ j. j ≢ 1 → type_of b j ≡ 0) (λ no. x) (λ no. absurd (no refl)) (λ no. y) (λ no. z);
-}
-
-pub only_2 : (b : List ℕ) → type_of b 2 ≡ 0xEE → type_of b 0 ≡ 0 → type_of b 1 ≡ 0 → type_of b 3 ≡ 0 → IsOnlyProtective b 2
-only_2 b own x y z = record {
-  place = omega arith;
-  protects = own;
-  others_unused = below_four (λ j. j ≢ 2 → type_of b j ≡ 0) (λ no. x) (λ no. y) (λ no. absurd (no refl)) (λ no. z);
-}
-
-pub only_3 : (b : List ℕ) → type_of b 3 ≡ 0xEE → type_of b 0 ≡ 0 → type_of b 1 ≡ 0 → type_of b 2 ≡ 0 → IsOnlyProtective b 3
-only_3 b own x y z = record {
-  place = omega arith;
-  protects = own;
-  others_unused = below_four (λ j. j ≢ 3 → type_of b j ≡ 0) (λ no. x) (λ no. y) (λ no. z) (λ no. absurd (no refl));
-}
-
--- no entry is the only one
-pub none_is_only : (b : List ℕ)
-    → ¬ ((type_of b 0 ≡ 0xEE) × (type_of b 1 ≡ 0) × (type_of b 2 ≡ 0) × (type_of b 3 ≡ 0))
-    → ¬ ((type_of b 1 ≡ 0xEE) × (type_of b 0 ≡ 0) × (type_of b 2 ≡ 0) × (type_of b 3 ≡ 0))
-    → ¬ ((type_of b 2 ≡ 0xEE) × (type_of b 0 ≡ 0) × (type_of b 1 ≡ 0) × (type_of b 3 ≡ 0))
-    → ¬ ((type_of b 3 ≡ 0xEE) × (type_of b 0 ≡ 0) × (type_of b 1 ≡ 0) × (type_of b 2 ≡ 0))
-    → (i : ℕ) → ¬ IsOnlyProtective b i
-none_is_only b n0 n1 n2 n3 i only =
-    let no : IsOnlyProtective b i → ⊥ =
-    below_four (λ j. IsOnlyProtective b j → ⊥)
-    (λ o. n0 (o.protects, o.others_unused 1 (omega arith) (λ e. absurd (omega (arith, e))), o.others_unused 2 (omega arith) (λ e. absurd (omega (arith, e))), o.others_unused 3 (omega arith) (λ e. absurd (omega (arith, e)))))
-    (λ o. n1 (o.protects, o.others_unused 0 (omega arith) (λ e. absurd (omega (arith, e))), o.others_unused 2 (omega arith) (λ e. absurd (omega (arith, e))), o.others_unused 3 (omega arith) (λ e. absurd (omega (arith, e)))))
-    (λ o. n2 (o.protects, o.others_unused 0 (omega arith) (λ e. absurd (omega (arith, e))), o.others_unused 1 (omega arith) (λ e. absurd (omega (arith, e))), o.others_unused 3 (omega arith) (λ e. absurd (omega (arith, e)))))
-    (λ o. n3 (o.protects, o.others_unused 0 (omega arith) (λ e. absurd (omega (arith, e))), o.others_unused 1 (omega arith) (λ e. absurd (omega (arith, e))), o.others_unused 2 (omega arith) (λ e. absurd (omega (arith, e)))))
-    i only.place in
-    no only
-
--- a sector with 55 AA and a protective entry is not vacant
-pub only_some : (b : List ℕ) (i : ℕ) → IsMarked b → IsOnlyProtective b i → ¬ IsVacant b
-only_some b i marked only vacant =
-    ⊎_elim (λ no. no marked.0) (λ more. ⊎_elim (λ no. no marked.1)
-    (λ zeros. let zero_type : type_of b i ≡ 0 = zeros (450 + 16 * i) (omega arith) (omega (arith, only.place)) in
-    absurd (omega (arith, zero_type, only.protects))) more) vacant
+use Rattle.gptedit_look.specs.Protective.{number_at, HasLength}
 
 -- the 4 bytes of a number in a list
 pub number_is : (b : List ℕ) (at n : ℕ) → n < 256 ^ 4

@@ -1,0 +1,117 @@
+"""Has the prover check some functions of a crate, in a copy in which something is changed.
+
+It takes the libraries below the crate as `rt ci`, `rt check` or `rt lib` left them."""
+
+import importlib.machinery
+import os
+import re
+import shutil
+import subprocess
+import tempfile
+import types
+from typing import NamedTuple
+
+import edits
+
+NOTE = re.compile(r"note: \S+: .* \(`(\S+)`\)(.*)")
+ERROR = re.compile(r"^\./proofs/(\S+)/\w+\.antt:\d+:\d+: error: `([\w+*.-]+)`(.*)", re.M)
+GIVEN_UP = ("gave up", "Not every way was tried")
+WAITS = re.compile(r"^note: `search` has not tried the goals of `(\S+)`, which wait", re.M)
+
+
+class Said(NamedTuple):
+    """What the prover says of a function: the verdict, and whether it waits for that of another.
+
+    The goals that are left are those that cannot be proved, and those at which the search gave up."""
+
+    verdict: str
+    refused: list
+    given_up: list
+    waits: bool
+
+    def goals(self):
+        """All goals that are left."""
+        return self.refused + self.given_up
+
+
+def kit():
+    """The toolchain's knowledge of crates, as a module."""
+    page = subprocess.run(["rt", "doc"], stdout=subprocess.PIPE, text=True, check=True).stdout.split()[0]
+    found = types.ModuleType("rtlib")
+    found.__file__ = os.path.join(os.path.dirname(page), "bin", "rtlib.py")
+    importlib.machinery.SourceFileLoader("rtlib", found.__file__).exec_module(found)
+    return found
+
+
+def commands():
+    """The words that check each crate, by its name."""
+    rtlib = kit()
+    crates = rtlib.crates_below(os.path.abspath("crates"))
+    return {crate.name: [*rtlib.guarded(), rtlib.RATTLE, "check", *crate.words(["--jobs", "1"], keeps=False)] for crate in crates}
+
+
+class Copy:
+    """A copy of a crate, which keeps what the prover checked of it."""
+
+    def __init__(self, crate, command):
+        self.crate, self.command, self.folder = crate, command, tempfile.mkdtemp()
+        os.mkdir(f"{self.folder}/kept")
+        self.restore()
+
+    def restore(self):
+        """Makes all files those of the crate again."""
+        for part in ("src", "specs", "proofs"):
+            shutil.rmtree(f"{self.folder}/{part}", ignore_errors=True)
+            if os.path.isdir(f"crates/{self.crate}/{part}"):
+                shutil.copytree(f"crates/{self.crate}/{part}", f"{self.folder}/{part}")
+
+    def check(self, paths):
+        """What the prover says of each function that these edits change, and all that it prints."""
+        self.restore()
+        for path in paths:
+            why = edits.put(self.folder, edits.changes(path))
+            if why:
+                return {}, f"{path}: {why}"
+        return self.run({name for path in paths for name in edits.functions_of(self.crate, path)})
+
+    def run(self, functions):
+        """What the prover says of these functions and those that they call, and all that it prints."""
+        words = [word for name in sorted(functions) for word in ("--only", name)]
+        run = subprocess.run(
+            [*self.command, "--incremental", "kept", *words],
+            cwd=self.folder,
+            stdin=subprocess.DEVNULL,
+            stdout=subprocess.PIPE,
+            stderr=subprocess.STDOUT,
+            text=True,
+            errors="replace",
+            check=False,
+        )
+        return said_in(run.stdout), run.stdout
+
+    def remove(self):
+        """Removes the copy."""
+        shutil.rmtree(self.folder, ignore_errors=True)
+
+
+def said_in(text):
+    """What the prover says of each function, by its symbol."""
+    at_proofs, waiting, found, goals = {}, set(WAITS.findall(text)), {}, []
+    for folder, goal, how in ERROR.findall(text):
+        at_proofs.setdefault(folder.replace("/", "::"), []).append((goal, how))
+    for line in text.splitlines():
+        goals += NOTE.findall(line)
+        if line.startswith("fn "):
+            symbol, _, verdict = line[len("fn ") :].partition(": ")
+            own = at_proofs.get(symbol.partition("::")[2], []) + goals
+            refused, given_up = ([goal for goal, how in own if any(word in how for word in GIVEN_UP) == is_late] for is_late in (False, True))
+            found[symbol] = Said(verdict, refused, given_up, symbol in waiting)
+            goals = []
+    return found
+
+
+def of_function(said, function):
+    """What is said of the function of this name: of that with the shortest symbol, if its end is that of others too."""
+    symbols = [symbol for symbol in said if symbol.endswith(f"::{function}")]
+    return said[min(symbols, key=len)] if symbols else None
+
