@@ -2,13 +2,12 @@
 
 It takes the libraries below the crate as `rt ci`, `rt check` or `rt lib` left them."""
 
-import importlib.machinery
 import os
 import re
 import shutil
 import subprocess
+import sys
 import tempfile
-import types
 from typing import NamedTuple
 
 import edits
@@ -34,18 +33,14 @@ class Said(NamedTuple):
         return self.refused + self.given_up
 
 
-def kit():
-    """The toolchain's knowledge of crates, as a module."""
-    page = subprocess.run(["rt", "doc"], stdout=subprocess.PIPE, text=True, check=True).stdout.split()[0]
-    found = types.ModuleType("rtlib")
-    found.__file__ = os.path.join(os.path.dirname(page), "bin", "rtlib.py")
-    importlib.machinery.SourceFileLoader("rtlib", found.__file__).exec_module(found)
-    return found
-
-
 def commands():
     """The words that check each crate, by its name."""
-    rtlib = kit()
+    tool = shutil.which("rt")
+    if tool is None:
+        sys.exit("there is no toolchain: rt is not on PATH")
+    sys.path.insert(1, os.path.dirname(os.path.realpath(tool)))
+    import rtlib
+
     crates = rtlib.crates_below(os.path.abspath("crates"))
     return {crate.name: [*rtlib.guarded(), rtlib.RATTLE, "check", *crate.words(["--jobs", "1"], keeps=False)] for crate in crates}
 

@@ -13,7 +13,7 @@ from harness import runs, table
 from harness.images import Reader, changed, is_in
 
 GATE = ["commands", "refusals", "layouts", "texts", "outputs", "guards", "checks", "safety", "salvaging", "everyday",
-        "traces", "marks", "stops", "streams", "rules", "maps", "model", "peers"]
+        "traces", "marks", "stops", "streams", "rules", "maps", "completions", "model", "peers"]
 TRIALS = ["uses", "sources", "locks", "holders"]
 MODULES = GATE + TRIALS
 CHANGES = ["new", "add", "set", "resize", "remove", "sort", "grow", "repair", "randomize", "apply", "wipe"]
