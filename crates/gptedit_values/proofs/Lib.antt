@@ -1,3 +1,4 @@
 mod Amounts
 pub mod BitLists
+mod Extents
 mod Tables

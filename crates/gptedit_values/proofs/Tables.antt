@@ -26,6 +26,10 @@ pub lacks_next : {R : Type 0} (name : R → List ℕ) (P : List ℕ → Type 0) 
     → i < length rows → ¬ (P (name (get_or rows i d))) → Lacks name P (take (i + 1) rows)
 lacks_next name P rows i d sofar within other = record { none = All-more (λ row. ¬ (P (name row))) rows i d within sofar.none other }
 
+pub lacks_rows : {R : Type 0} (name : R → List ℕ) (P : List ℕ → Type 0) (rows : List R) (i : ℕ) → Lacks name P (take i rows)
+    → length rows ≤ i → AllByRecursion (λ row. ¬ (P (name row))) rows
+lacks_rows name P rows i sofar over = recursion_from_All _ rows (subst (All (λ row. ¬ (P (name row)))) (take_all i rows over) sofar.none)
+
 lacks_each : {R : Type 0} (name : R → List ℕ) (number : R → ℕ) (P : List ℕ → Type 0) (rows : List R) → AllByRecursion (λ row. ¬ (P (name row))) rows
     → (text : List ℕ) (n : ℕ) → Contains {X = List ℕ × ℕ} (map (λ row. (name row, number row)) rows) (text, n) → ¬ (P text)
 lacks_each name number P [] h text n (k, within, at) = absurd (omega (arith, within))
@@ -36,7 +40,7 @@ pub lacks_all : {R : Type 0} (name : R → List ℕ) (number : R → ℕ) (P : L
     → length rows ≤ i
     → (text : List ℕ) (n : ℕ) → Contains {X = List ℕ × ℕ} (map (λ row. (name row, number row)) rows) (text, n) → ¬ (P text)
 lacks_all name number P rows i sofar over =
-    lacks_each name number P rows (recursion_from_All _ rows (subst (All (λ row. ¬ (P (name row)))) (take_all i rows over) sofar.none))
+    lacks_each name number P rows (lacks_rows name P rows i sofar over)
 
 pub other_name : (word name : List ℕ) → false ≡ bytes_eq word name → word ≢ name
 other_name word name differs same = false≢true (differs ∙ (bytes_eq-Decides word name).1 same)

@@ -3,6 +3,7 @@ use Rattle.std.specs.Prelude.{◌≡◌, ◌≢◌, ◌≤◌, ◌⊎◌, ◌*�
 use Rattle.std.specs.Str.Parse.{digits_value, IsNumeral}
 use Rattle.gptedit_core.specs.declared.amount.Amount.{Amount}
 use Rattle.gptedit_core.specs.declared.amount.Amount.TheVariants.{Bytes, Sectors}
+use Rattle.gptedit_values.specs.Words.{FitsAmount}
 
 -- The text is the prefix and digits of the number.
 abbrev pub HasDigits : ℕ → List ℕ → List ℕ → ℕ → Type 0
@@ -36,3 +37,7 @@ abbrev pub SaysExtent : List ℕ → Amount → Type 0
 SaysExtent text (Sectors sectors) = SaysScriptNumber text sectors
 SaysExtent text (Bytes bytes) = SaysNoScriptNumber text ×
     ((number : List ℕ) × (unit : ℕ) × (count : ℕ) × HasScriptUnit text number unit × SaysScriptNumber number count × (count * unit ≡ bytes))
+
+-- No amount below 2^64 sectors or bytes is said.
+abbrev pub SaysNoExtent : List ℕ → Type 0
+SaysNoExtent text = (amount : Amount) → SaysExtent text amount → ¬ (FitsAmount amount)

@@ -69,6 +69,10 @@ attribute_names =
     (codes "required", 0) ∷ (codes "no-block-io", 1) ∷ (codes "legacy-boot", 2) ∷
     (codes "grow-file-system", 59) ∷ (codes "read-only", 60) ∷ (codes "no-auto", 63) ∷ []
 
+-- The attributes that have names in `sfdisk`, and their bits.
+abbrev pub sfdisk_names : List (List ℕ × ℕ)
+sfdisk_names = (codes "RequiredPartition", 0) ∷ (codes "NoBlockIOProtocol", 1) ∷ (codes "LegacyBIOSBootable", 2) ∷ []
+
 -- The word is the name of a bit, or its number.
 abbrev pub SaysBit : List ℕ → ℕ → Type 0
 SaysBit word bit = (bit < 64) × (Contains attribute_names (word, bit) ⊎ (IsNumeral 10 word × (digits_value 10 word ≡ bit)))

@@ -4,7 +4,7 @@ ghost use Rattle.std.specs.Prelude.{◌≡◌, ◌<◌, ◌^◌, ℕ, All, Conta
 ghost use Rattle.std.specs.Result.{OkIff};
 ghost use Rattle.std.specs.Str.Parse.{digits_value, IsNumeral};
 ghost use Rattle.gptedit_values.specs.Words.{attribute_names, IsAttribute, SaysAttribute, SaysAttributes};
-ghost use Rattle.gptedit_values.specs.Words.{SaysEach, SaysNoAttributes, words_of};
+ghost use Rattle.gptedit_values.specs.Words.{SaysEach, SaysNoAttributes, sfdisk_names, words_of};
 
 use crate::wrong::Wrong;
 use std::fmt;
@@ -119,12 +119,15 @@ fn find_bit(word: &str) -> Option<u64>
 
 /// Returns the bit that has this name in `sfdisk`.
 pub fn find_sfdisk_bit(word: &str) -> Option<u64>
-    ensures { IfSome result (λ bit. bit < 64) }
+    ensures found { IfSome result (λ bit. (bit < 64) × Contains sfdisk_names (word.now, bit)) }
+    ensures unknown { result ≡ None → (bit : ℕ) → ¬ (Contains sfdisk_names (word.now, bit)) }
 {
     for attribute in ATTRIBUTES {
-        match attribute.sfdisk {
-            Some(name) if word == name => return Some(attribute.bit),
-            _ => (),
+        let Some(name) = attribute.sfdisk else {
+            continue;
+        };
+        if word == name {
+            return Some(attribute.bit);
         }
     }
     None

@@ -2,7 +2,7 @@
 
 ghost use Rattle.std.specs.Prelude.{◌≡◌, ◌≢◌, ◌<◌, ◌≤◌, ◌⊎◌, ◌^◌, ◌++◌, ℕ, List, [], length, IfSome, MatchOption, None};
 ghost use Rattle.std.specs.Str.Parse.{digits_value, IsNumeral};
-ghost use Rattle.gptedit_values.specs.Scripts.{HasScriptUnit, SaysExtent, SaysNoScriptNumber, SaysScriptNumber};
+ghost use Rattle.gptedit_values.specs.Scripts.{HasScriptUnit, SaysExtent, SaysNoExtent, SaysNoScriptNumber, SaysScriptNumber};
 
 use crate::units::{EIB, GIB, KIB, MIB, PIB, TIB, Unit};
 use gptedit_core::Amount;
@@ -12,7 +12,8 @@ const UNITS: [Unit; 6] = [KIB, MIB, GIB, TIB, PIB, EIB];
 
 /// Reads a number of sectors, or of bytes with a unit, as `64MiB` or `64M`. `0x1E` is hexadecimal, not 1 EiB.
 pub fn read_extent(text: &str) -> Option<Amount>
-    ensures { IfSome result (SaysExtent text.now) }
+    ensures said { IfSome result (SaysExtent text.now) }
+    ensures refused { result ≡ None → SaysNoExtent text.now }
 {
     match read_number(text) {
         Some(sectors) => Some(Amount::Sectors(sectors)),
@@ -28,7 +29,8 @@ pub fn read_extent(text: &str) -> Option<Amount>
 
 // Returns the number before a unit, and the unit in bytes.
 fn split_unit(text: &str) -> Option<(&str, u64)>
-    ensures { IfSome result (λ parts. HasScriptUnit text.now parts.0.now parts.1) }
+    ensures found { IfSome result (λ parts. HasScriptUnit text.now parts.0.now parts.1) }
+    ensures unknown { result ≡ None → (number : List ℕ) (unit : ℕ) → ¬ (HasScriptUnit text.now number unit) }
 {
     for unit in UNITS {
         if let Some(number) = text.strip_suffix(unit.name) {
