@@ -42,7 +42,7 @@ def try_commands(tally, program):
 
 def try_values(tally, program):
     """Values of options."""
-    names = [line.split()[0] for line in program.plain("types")[1].splitlines()]
+    names = [line.split()[0] for line in program.plain("types")[1].splitlines()[1:]]
     tally.holds("there are types", len(names) > 200)
     tally.equals("types", names, completed("add", "disk.img", "--type", ""))
     tally.equals("types that begin with sw", ["swap"], completed("set", "disk.img", "1", "--type", "sw"))
