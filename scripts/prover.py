@@ -15,6 +15,8 @@ import edits
 NOTE = re.compile(r"note: \S+: .* \(`(\S+)`\)(.*)")
 ERROR = re.compile(r"^\./proofs/(\S+)/\w+\.antt:\d+:\d+: error: `([\w+*.-]+)`(.*)", re.M)
 GIVEN_UP = ("gave up", "Not every way was tried")
+# What the prover says where a proof names what an edit took away, which shows nothing of the goal.
+OF_NAMES = ("has no field", "is not in scope", "has no `", "was not admitted")
 WAITS = re.compile(r"^note: `search` has not tried the goals of `(\S+)`, which wait", re.M)
 
 
@@ -93,7 +95,8 @@ def said_in(text):
     """What the prover says of each function, by its symbol."""
     at_proofs, waiting, found, goals = {}, set(WAITS.findall(text)), {}, []
     for folder, goal, how in ERROR.findall(text):
-        at_proofs.setdefault(folder.replace("/", "::"), []).append((goal, how))
+        if not any(words in how for words in OF_NAMES):
+            at_proofs.setdefault(folder.replace("/", "::"), []).append((goal, how))
     for line in text.splitlines():
         goals += NOTE.findall(line)
         if line.startswith("fn "):
