@@ -14,7 +14,7 @@ import sys
 import types
 
 sys.dont_write_bytecode = True
-ON_DISK = {"reads", "counts", "once", "wrote", "outside", "untouched"}
+ON_DISK = {"reads", "counts", "failure", "once", "wrote", "outside", "untouched"}
 A_WRITE = "if let Ok(size) = {disk}.seek_end() {{ if size > 0 {{ if {disk}.seek_start(0).is_ok() {{ let _ = {disk}.write_all(&[0]); }} }} }} {call}"
 OF_DISK = ("let _ = {disk}.sync(); {call}", "let _ = {disk}.seek_end(); {call}", "let x = {call}; let _ = {disk}.sync(); x", A_WRITE)
 ERRORS = ("OutOfMemory", "NoSpaceLeft", "Io(std::io::Error::from(std::io::ErrorKind::Other))")

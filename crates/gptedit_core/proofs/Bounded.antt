@@ -18,14 +18,12 @@ use Rattle.gptman.specs.Write.{has_other_header}
 use Rattle.gptman.specs.declared.table.GPT.{GPT}
 use Rattle.gptman.proofs.Commits.{coherent_still, form_still, layout_still, KeepsRanges}
 use Rattle.gptedit_core.specs.Applying.{IsStopOf}
-use Rattle.gptedit_core.specs.Making.{bounded, empty_of, first_asked, last_asked, usable_of, with_bounds, AreBounds, HasBounds, HasRoomOf, IsAppliedIf, IsNew, RefusesAskedIf, RefusesNew}
-use Rattle.gptedit_core.specs.Making.RefusesNew.{not_applied, not_valid, out_of_bounds}
+use Rattle.gptedit_core.specs.Making.{bounded, empty_of, first_asked, last_asked, with_bounds, AreBounds, HasBounds, HasRoomOf, IsAppliedIf, IsNew, RefusesNew}
+use Rattle.gptedit_core.specs.Making.RefusesNew.{not_valid}
 use Rattle.gptedit_core.specs.Planning.{RefusesCheck}
 use Rattle.gptedit_core.specs.declared.asked.RequestedLayout.{RequestedLayout}
 use Rattle.gptedit_core.specs.declared.making.Creation.{Creation}
 use Rattle.gptedit_core.specs.declared.plan.Job.TheVariants.{Apply}
-use Rattle.gptedit_core.specs.declared.refusal.Refusal.{Refusal}
-use Rattle.gptedit_core.specs.declared.refusal.Refusal.TheVariants.{OutOfBounds}
 use Rattle.gptedit_core.specs.declared.refusal.Stop.{Stop}
 use Rattle.gptedit_core.specs.declared.refusal.Stop.TheVariants.{Refused, Failed}
 use Rattle.gptedit_core.proofs.Kept.{done_keeps}
@@ -214,19 +212,3 @@ module _ (creation : Creation) (len : ℕ) (empty mid next : GPT) (is : empty �
   pub filled_refused : (s : Stop) → IsStopOf (RefusesCheck next) s → IsStopOf (RefusesNew creation empty.sector_size len) s
   filled_refused (Refused r) refused = not_valid next room bounds_there applied_there refused
   filled_refused (Failed e) refused = refused
-
--- A refusal for the empty table is a refusal of the new one.
-pub applying_refused : (creation : Creation) (len : ℕ) (empty mid : GPT) → empty ≡ empty_of creation empty.sector_size len → HasRoomOf creation empty.sector_size len
-    → HasBounds creation empty → mid ≡ bounded creation empty → (s : Stop) → IsStopOf (RefusesAskedIf creation.layout creation.random.items mid) s
-    → IsStopOf (RefusesNew creation empty.sector_size len) s
-applying_refused creation len empty mid is room bounds value (Refused r) refused =
-    not_applied room (subst (HasBounds creation) is bounds)
-    (subst (λ (m : GPT). RefusesAskedIf creation.layout creation.random.items m r) (value ∙ ap (bounded creation) is) refused)
-applying_refused creation len empty mid is room bounds value (Failed e) refused = refused
-
-pub bounds_refused : (creation : Creation) (len : ℕ) (empty : GPT) → empty ≡ empty_of creation empty.sector_size len → HasRoomOf creation empty.sector_size len
-    → (r : Refusal) → (¬ HasBounds creation empty) × (r ≡ OutOfBounds (usable_of empty))
-    → RefusesNew creation empty.sector_size len r
-bounds_refused creation len empty is room r (none, told) =
-    out_of_bounds room (λ bounds. none (subst (HasBounds creation) (sym is) bounds))
-    (told ∙ ap (λ (m : GPT). OutOfBounds (usable_of m)) is)

@@ -30,19 +30,6 @@ other_is : (b : Bool) → side_if (not b) ≡ other_place (side_if b)
 other_is true = refl
 other_is false = refl
 
-same_side : (a b : Bool) → side_if a ≡ side_if b → a ≡ b
-same_side true true same = refl
-same_side false false same = refl
-same_side true false same = absurd (cc)
-same_side false true same = absurd (cc)
-
--- Two headers are of one place if both are primary, or neither is.
-pub one_place : (g h : GPTHeader) (a b : Bool) → IsTrue a ↔ (g.primary_lba ≡ 1) → IsTrue b ↔ (h.primary_lba ≡ 1) → (a ≡ b) ↔ (copy_place_of h ≡ copy_place_of g)
-one_place g h a b first second =
-    let left = side_is g a first in
-    let right = side_is h b second in
-    (λ same. right ∙ ap side_if (sym same) ∙ sym left, λ same. same_side a b (sym left ∙ sym same ∙ right))
-
 -- The copies are those of the two places.
 pub clear_is : (g next : GPT) (len : ℕ) (b : Bool) (read first : Copy) → IsTrue b ↔ (g.header.primary_lba ≡ 1)
     → ranges_of read ≡ copy_ranges_at (side_if b) (table_in g) g.sector_size len

@@ -46,12 +46,3 @@ used_all g mode (a ∷ asked) (random ∷ randoms) ps is =
 pub resolved_more : (g : GPT) (mode : Mode) (a : Asked) (random : List ℕ) (asked : List Asked) (randoms : List (List ℕ)) (p : ResolvedPartition) (ps : List ResolvedPartition)
     → resolved g mode a random ≡ Ok p → resolved_all g mode asked randoms ≡ Ok ps → resolved_all g mode (a ∷ asked) (random ∷ randoms) ≡ Ok (p ∷ ps)
 resolved_more g mode a random asked randoms p ps first rest = rw (first, rest) refl
-
--- The next request is refused, or a later one.
-pub refused_more : (g : GPT) (mode : Mode) (a : Asked) (random : List ℕ) (asked : List Asked) (randoms : List (List ℕ)) (r : Refusal)
-    → resolved g mode a random ≡ Err r → resolved_all g mode (a ∷ asked) (random ∷ randoms) ≡ Err r
-refused_more g mode a random asked randoms r first = rw first refl
-
-pub refused_rest : (g : GPT) (mode : Mode) (a : Asked) (random : List ℕ) (asked : List Asked) (randoms : List (List ℕ)) (p : ResolvedPartition) (r : Refusal)
-    → resolved g mode a random ≡ Ok p → resolved_all g mode asked randoms ≡ Err r → resolved_all g mode (a ∷ asked) (random ∷ randoms) ≡ Err r
-refused_rest g mode a random asked randoms p r first rest = rw (first, rest) refl

@@ -1,7 +1,7 @@
 //! A plan that fits a table to the length of its disk, or sets its usual bounds.
 
 ghost use Rattle.std.specs.Prelude.{◌≡◌, ◌↔◌, ◌⊎◌, ◌<◌, None, Some, IfErr, IfOk, IsTrue, OnOk};
-ghost use Rattle.gptman.specs.Answers.{CountsFailure, HasCause, IsFailure};
+ghost use Rattle.gptman.specs.Answers.{IsFailure, ReportsFailure};
 ghost use Rattle.gptman.specs.Disk.{Reads};
 ghost use Rattle.gptman.specs.Fault.{fault_of, out_of_memory, overflow};
 ghost use Rattle.gptman.specs.Fit.{fit_fault};
@@ -83,11 +83,10 @@ impl Plan for Growth {
 fn fit<D: Disk>(disk: &mut D, table: &mut GPT) -> gptman::Result<u64>
     requires sector { 0 < table.old.sector_size }
     ensures reads { Reads (D.state disk.old) (D.state disk.new) }
-    ensures counts { CountsFailure result (D.state disk.old) (D.state disk.new) }
+    ensures failure { ReportsFailure result (D.state disk.old) (D.state disk.new) }
     ensures refused { IfErr result (λ e. ((fault_of e ≡ overflow)
         × (fit_fault table.old.header table.old.sector_size (D.state disk.old).size ≡ Some overflow))
         ⊎ IsFailure (fault_of e) (D.state disk.old) (D.state disk.new)) }
-    ensures cause { HasCause result (D.state disk.old) (D.state disk.new) }
     ensures size { IfOk result (λ size. size ≡ (D.state disk.old).size) }
     ensures fits { OnOk result (fit_fault table.old.header table.old.sector_size (D.state disk.old).size ≡ None) }
     ensures value { OnOk result (table.new ≡ grow_to table.old (D.state disk.old).size) }

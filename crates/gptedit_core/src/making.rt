@@ -1,7 +1,7 @@
 //! Makes a new table, and writes it once: over an old table, or without reading one.
 
 ghost use Rattle.std.specs.Prelude.{◌≡◌, ◌⊎◌, ◌<◌, ◌↔◌, true, false, IfErr, IfOk, IfSome, IsTrue, OnErr, OnOk};
-ghost use Rattle.gptman.specs.Answers.{CountsFailure, HasCause, IsFailure};
+ghost use Rattle.gptman.specs.Answers.{HasCause, IsFailure, ReportsFailure};
 ghost use Rattle.gptman.specs.Disk.{FailedOrUntouched, IsHonest, Keeps, OnlyRead};
 ghost use Rattle.gptman.specs.Disk.{Reads};
 ghost use Rattle.gptman.specs.Fault.{fault_of, out_of_memory};
@@ -233,10 +233,9 @@ fn make_empty<D: Disk>(
 ) -> gptman::Result<(u64, Option<GPT>)>
     requires { 0 < sector_size }
     ensures reads { Reads (D.state disk.old) (D.state disk.new) }
-    ensures counts { CountsFailure result (D.state disk.old) (D.state disk.new) }
+    ensures failure { ReportsFailure result (D.state disk.old) (D.state disk.new) }
     ensures refused { IfErr result (λ e. (fault_of e ≡ out_of_memory)
         ⊎ IsFailure (fault_of e) (D.state disk.old) (D.state disk.new)) }
-    ensures cause { HasCause result (D.state disk.old) (D.state disk.new) }
     ensures size { IfOk result (λ made. made.0 ≡ (D.state disk.old).size) }
     ensures value { IfOk result (λ made. IsEmpty creation.now sector_size made.0 made.1) }
 {
@@ -254,10 +253,9 @@ fn fit_new<D: Disk>(
 ) -> gptman::Result<Option<GPT>>
     requires { 0 < sector_size }
     ensures reads { Reads (D.state disk.old) (D.state disk.new) }
-    ensures counts { CountsFailure result (D.state disk.old) (D.state disk.new) }
+    ensures failure { ReportsFailure result (D.state disk.old) (D.state disk.new) }
     ensures refused { IfErr result (λ e. (fault_of e ≡ out_of_memory)
         ⊎ IsFailure (fault_of e) (D.state disk.old) (D.state disk.new)) }
-    ensures cause { HasCause result (D.state disk.old) (D.state disk.new) }
     ensures value { IfOk result (IsFitted creation.now sector_size (D.state disk.old).size) }
 {
     match GPT::with_entries(alloc, disk, sector_size, creation.guid, creation.entries) {

@@ -63,9 +63,6 @@ abbrev IsThere : Option ℕ → Type 0
 IsThere None = ⊥
 IsThere (Some n) = Unit {0}
 
-pub unit_is_some : (text number : List ℕ) (unit : ℕ) → HasUnit text number unit → 0 < unit
-unit_is_some text number unit (name, has, is) = (named name unit has).2
-
 sectors_or_bytes : (text n m : List ℕ) (unit : ℕ) → IsNumeral 10 n → IsNumeral 10 m → text ≡ n ++ codes "s" → HasUnit text m unit → ⊥
 sectors_or_bytes text n m unit dn dm is (name, has, is') =
     let here = named name unit has in

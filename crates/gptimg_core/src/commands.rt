@@ -1,7 +1,7 @@
 //! Runs commands on a disk. Prints nothing.
 
 ghost use Rattle.std.specs.Prelude.{◌≡◌, ◌⊎◌, ◌<◌, ◌∷◌, [], false, IfErr, IfOk, IfSome, IsTrue, OnErr, OnOk};
-ghost use Rattle.gptman.specs.Answers.{CountsFailure, HasCause, IsFailure};
+ghost use Rattle.gptman.specs.Answers.{HasCause, IsFailure, ReportsFailure};
 ghost use Rattle.gptman.specs.Crash.{StartsLaidOut};
 ghost use Rattle.gptman.specs.Disk.{FailedOrUntouched, IsHonest, Keeps, OnlyRead};
 ghost use Rattle.gptman.specs.Disk.{Reads, Writes};
@@ -129,10 +129,9 @@ fn write_new<D: Disk>(
 ) -> Result<Report>
     requires { 0 < sector_size }
     ensures keeps { Keeps (D.state disk.old) (D.state disk.new) }
-    ensures counts { CountsFailure result (D.state disk.old) (D.state disk.new) }
+    ensures failure { ReportsFailure result (D.state disk.old) (D.state disk.new) }
     ensures refused { IfErr result (λ e. RefusesNew guid sector_size (fault_of e)
         (D.state disk.old) (D.state disk.new)) }
-    ensures cause { HasCause result (D.state disk.old) (D.state disk.new) }
     ensures kept { IsHonest (D.state disk.old) → OnErr result
         (FailedOrUntouched (D.state disk.old) (D.state disk.new)) }
     ensures made { IfOk result (λ report. report ≡ Done) }
@@ -153,10 +152,9 @@ fn write_new<D: Disk>(
 fn write_mbr<D: Disk>(disk: &mut D, sector_size: u64, bootable: bool) -> Result<Report>
     requires { 0 < sector_size }
     ensures keeps { Keeps (D.state disk.old) (D.state disk.new) }
-    ensures counts { CountsFailure result (D.state disk.old) (D.state disk.new) }
+    ensures failure { ReportsFailure result (D.state disk.old) (D.state disk.new) }
     ensures refused { IfErr result (λ e. RefusesMbr sector_size (fault_of e)
         (D.state disk.old) (D.state disk.new)) }
-    ensures cause { HasCause result (D.state disk.old) (D.state disk.new) }
     ensures kept { IsHonest (D.state disk.old) → OnErr result
         (FailedOrUntouched (D.state disk.old) (D.state disk.new)) }
     ensures made { IfOk result (λ report. report ≡ Done) }
@@ -173,10 +171,9 @@ fn write_mbr<D: Disk>(disk: &mut D, sector_size: u64, bootable: bool) -> Result<
 fn write_unsynced_mbr<D: Disk>(disk: &mut D, sector_size: u64, bootable: bool) -> Result<()>
     requires { 0 < sector_size }
     ensures keeps { Keeps (D.state disk.old) (D.state disk.new) }
-    ensures counts { CountsFailure result (D.state disk.old) (D.state disk.new) }
+    ensures failure { ReportsFailure result (D.state disk.old) (D.state disk.new) }
     ensures refused { IfErr result (λ e. RefusesMbr sector_size (fault_of e)
         (D.state disk.old) (D.state disk.new)) }
-    ensures cause { HasCause result (D.state disk.old) (D.state disk.new) }
     ensures kept { IsHonest (D.state disk.old) → OnErr result
         (FailedOrUntouched (D.state disk.old) (D.state disk.new)) }
     ensures wrote { Writes (mbr_range ∷ []) (D.state disk.old) (D.state disk.new) }

@@ -1,5 +1,5 @@
 -- Edits that are applied and written one by one.
-use Rattle.std.proofs.Common.{◌≡◌, ◌≢◌, ◌⊎◌, ◌<◌, ◌≤◌, ◌+◌, ◌++◌, ⊎_elim, inl, inr, ℕ, zero, suc, true, List, [], ◌∷◌, length, Some, None, Option, refl, sym, ap, ◌∙◌, subst, arith, length-append, append_assoc, Bool, false}
+use Rattle.std.proofs.Common.{◌≡◌, ◌≢◌, ◌⊎◌, ◌<◌, ◌≤◌, ◌+◌, ◌++◌, ⊎_elim, inl, inr, ℕ, zero, suc, true, List, [], ◌∷◌, length, Some, None, refl, sym, ap, ◌∙◌, subst, arith, length-append, append_assoc, Bool, false}
 use Rattle.std.specs.Prelude.{fold, slice_get, if◌then◌else◌, Contains, IsTrue}
 use Rattle.std.proofs.lemmas.Bool.{cases_lt}
 use Rattle.std.proofs.lemmas.List.{take-append-le, take_all}
@@ -18,8 +18,7 @@ use Rattle.gptman.specs.Reading.{CopyPlace, primary, backup}
 use Rattle.gptman.specs.Stop.{HoldsOneOf, IsStored}
 use Rattle.gptman.specs.Table.{Table, entries_in, table_in}
 use Rattle.gptman.specs.Copy.{with_checksums, IsCoherent}
-use Rattle.gptman.specs.Valid.{HasGoodBoundaries, IsValid, IsValidity}
-use Rattle.gptman.specs.Valid.IsValidity.{shared_guid, bad_boundaries, valid}
+use Rattle.gptman.specs.Valid.{IsValid}
 use Rattle.gptman_disk.specs.Ranges.{AreApart}
 use Rattle.gptman.specs.Write.{four_ranges, other_header, write_fault}
 use Rattle.gptman.specs.declared.codec.header.GPTHeader.{GPTHeader}
@@ -83,14 +82,6 @@ valid_summed : (g : GPT) (own array : ℕ) → IsValid (summed g own array).head
 valid_summed g own array is =
     let b = is.boundaries in
     record { own_guids = is.own_guids; boundaries = record { ordered = b.ordered; disjoint = b.disjoint; within = b.within; bounds = b.bounds } }
-
-good_summed : (g : GPT) (own array : ℕ) → HasGoodBoundaries g.header (entries_in g) → HasGoodBoundaries (summed g own array).header (entries_in g)
-good_summed g own array b = record { ordered = b.ordered; disjoint = b.disjoint; within = b.within; bounds = b.bounds }
-
-validity_summed : (g : GPT) (own array : ℕ) (fault : Option Fault) → IsValidity (summed g own array).header (entries_in g) fault → IsValidity g.header (entries_in g) fault
-validity_summed g own array fault (shared_guid shared said) = shared_guid shared said
-validity_summed g own array fault (bad_boundaries own_guids bad said) = bad_boundaries own_guids (λ good. bad (good_summed g own array good)) said
-validity_summed g own array fault (valid is said) = valid (valid_summed g own array is) said
 
 pub accepted_sums : (g new : GPT) (edit : Edit) → IsButSums g new → IsAllowed new edit → IsAllowed g edit
 accepted_sums g new edit is accepted =

@@ -1,7 +1,7 @@
 -- Sequences of calls that only read.
 use Rattle.std.proofs.Common.{◌≡◌, ◌⊎◌, ⊎_elim, ◌+◌, ◌<◌, inl, inr, ℕ, true, length, Result, Err, arith, refl, sym, ◌∙◌, []}
 use Rattle.gptman.specs.Answers.{answer_of, Fails, IsFailure, Refuses}
-use Rattle.gptman_disk.specs.Disk.{DiskState, HasFailedOnce, IsSound, Keeps, OnlyRead, PassesEnd, Reads, Rose}
+use Rattle.gptman_disk.specs.Disk.{DiskState, HasFailedOnce, IsSound, Keeps, OnlyRead, PassesEnd, Reads}
 use Rattle.gptman_disk.specs.Fault.{Fault, io, out_of_memory}
 use Rattle.gptman_disk.specs.declared.error.Error.{Error}
 use Rattle.gptman_disk.proofs.Ranges.{within_none}

@@ -40,13 +40,17 @@ IsFailure fault old new = (fault ≡ io) × Rose old new
 abbrev pub HasCause : {T : Type 0} → Result T Error → DiskState → DiskState → Type 0
 HasCause result old new = Refuses result io → Rose old new
 
--- `Io` is returned only if the disk failed, or the next n bytes pass its end.
-abbrev pub HasCauseOrEnd : {T : Type 0} → ℕ → Result T Error → DiskState → DiskState → Type 0
-HasCauseOrEnd n result old new = Refuses result io → Rose old new ⊎ PassesEnd old n
-
 -- The disk did not fail, or failed once and `Io` is returned.
 abbrev pub CountsFailure : {T : Type 0} → Result T Error → DiskState → DiskState → Type 0
 CountsFailure result old new = HasFailedAsOften old new ⊎ (Refuses result io × HasFailedOnceAtMost old new)
+
+-- `Io` is returned if the disk failed, and only then; it failed once at most.
+abbrev pub ReportsFailure : {T : Type 0} → Result T Error → DiskState → DiskState → Type 0
+ReportsFailure result old new = CountsFailure result old new × HasCause result old new
+
+-- `Io` is returned if the disk failed, or if the next n bytes pass its end, and only then; it failed once at most.
+abbrev pub ReportsFailureOrEnd : {T : Type 0} → ℕ → Result T Error → DiskState → DiskState → Type 0
+ReportsFailureOrEnd n result old new = CountsFailure result old new × (Refuses result io → Rose old new ⊎ PassesEnd old n)
 
 -- On an honest disk the result, as f sees it, is this one; or the disk failed, and it is `Io`.
 abbrev pub Answers : {T A : Type 0} → (T → A) → Result A Fault → Result T Error → DiskState → DiskState → Type 0

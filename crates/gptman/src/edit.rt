@@ -2,7 +2,7 @@
 
 ghost use Rattle.std.specs.Prelude.{◌≡◌, ◌≤◌, ◌<◌, ◌⊎◌, [], ◌∷◌, ℕ, length};
 ghost use Rattle.std.specs.Prelude.{IfErr, IfNone, IfOk, IfSome, IsOk, IsTrue, OnErr, OnOk};
-ghost use Rattle.gptman.specs.Answers.{refusal_of, CountsFailure, HasCause, Refuses};
+ghost use Rattle.gptman.specs.Answers.{refusal_of, Refuses, ReportsFailure};
 ghost use Rattle.gptman.specs.Copy.{IsCoherent};
 ghost use Rattle.gptman_disk.specs.Disk.{HasFailedAsOften, HasFailedOnceAtMost, IsHonest, Keeps, OnlyRead};
 ghost use Rattle.gptman_disk.specs.Disk.{Rose, Writes};
@@ -212,7 +212,7 @@ impl GPT {
         requires sector { 0 < self.old.sector_size }
         requires coherent { IsCoherent self.old.header (entries_in self.old) }
         ensures keeps { Keeps (D.state disk.old) (D.state disk.new) }
-        ensures counts { CountsFailure result (D.state disk.old) (D.state disk.new) }
+        ensures failure { ReportsFailure result (D.state disk.old) (D.state disk.new) }
 
         // The result, and the edited value.
         ensures allowed { OnOk result (IsAllowed self.old edit) }
@@ -221,7 +221,6 @@ impl GPT {
             (D.state disk.old) (D.state disk.new)) }
         ensures room { HasLayout self.old (D.state disk.old).size
             → IfErr result (λ e. IsNotForRoom (fault_of e)) }
-        ensures cause { HasCause result (D.state disk.old) (D.state disk.new) }
         ensures value { OnOk result (self.new ≡ value_with_checksums (after_edit self.old edit)) }
         ensures sector { self.new.sector_size ≡ self.old.sector_size }
         ensures coherent { IsCoherent self.new.header (entries_in self.new) }

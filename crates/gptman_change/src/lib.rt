@@ -5,7 +5,7 @@
 #![tactic(auto)]
 
 ghost use Rattle.std.specs.Prelude.{◌≡◌, ◌<◌, ℕ, IfErr, IfOk, IfSome, OnErr, OnOk, Option};
-ghost use Rattle.gptman.specs.Answers.{CountsFailure, HasCause};
+ghost use Rattle.gptman.specs.Answers.{HasCause, ReportsFailure};
 ghost use Rattle.gptman.specs.Copy.{IsCoherent};
 ghost use Rattle.gptman.specs.Disk.{FailedOrUntouched, IsHonest, Keeps};
 ghost use Rattle.gptman.specs.Disk.{Reads};
@@ -64,12 +64,11 @@ pub trait Plan {
         requires coherent { IsCoherent table.old.header (entries_in table.old) }
         requires aligned { 0 < table.old.align }
         ensures reads { Reads (D.state disk.old) (D.state disk.new) }
-        ensures counts { CountsFailure result (D.state disk.old) (D.state disk.new) }
+        ensures failure { ReportsFailure result (D.state disk.old) (D.state disk.new) }
         ensures value { IfOk result (IsPlannedAs (makes self.now (D.state disk.old).size)
             (leaves self.now (D.state disk.old).size) table.old table.new) }
         ensures refused { IfErr result (λ e. RefusesPlan (refuses self.now (D.state disk.old).size)
             (asks self.now) table.old (fault_of e) (D.state disk.old) (D.state disk.new)) }
-        ensures cause { HasCause result (D.state disk.old) (D.state disk.new) }
         ensures sector { OnOk result (table.new.sector_size ≡ table.old.sector_size) }
         ensures coherent { OnOk result (IsCoherent table.new.header (entries_in table.new)) };
 }

@@ -66,10 +66,6 @@ contains_later r s rs has = (suc has.0, omega (arith, has.1), has.2)
 pub within_range : {p n at m : ℕ} {more : Ranges} → at ≤ p → p + n ≤ at + m → Within ((p, n) ∷ []) ((at, m) ∷ more)
 within_range {p} {n} {at} {m} low high = record { covers = λ k o. (⊎_elim (λ below. inl (omega (arith, below, low))) (λ above. inr (omega (arith, above, high))) o.0, tt) }
 
--- equal lists cover the same indexes
-pub cover_equal : {rs ss : Ranges} → rs ≡ ss → CoverTheSame rs ss
-cover_equal {rs} is = subst (λ ps. CoverTheSame rs ps) is (record { there = within_self rs; back = within_self rs })
-
 -- what was pending is pending after a range was added
 pub grown_keeps : {r : ℕ × ℕ} {old new : Ranges} → CoverTheSame new (r ∷ old) → Within old new
 grown_keeps {old = old} grown = within_then (within_later (within_self old)) grown.back

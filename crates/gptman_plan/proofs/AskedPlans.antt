@@ -1,5 +1,5 @@
 -- The ranges for which a plan asks.
-use Rattle.std.proofs.Common.{◌≡◌, ◌≤◌, inl, inr, Bool, ℕ, List, [], ◌∷◌, length, sym, ◌∙◌, subst, arith, length-append}
+use Rattle.std.proofs.Common.{◌≡◌, ◌≤◌, inl, Bool, ℕ, List, ◌∷◌, length, sym, ◌∙◌, subst, arith, length-append}
 use Rattle.std.specs.Prelude.{Option, None, Some, Result, Ok, Err, IfSome}
 use Rattle.gptman.specs.Copy.{Copy}
 use Rattle.gptman.specs.Fault.{Fault, fault_of}
@@ -98,11 +98,6 @@ module _ (e : Ends) where
         (subst (λ (r : Result Copy Fault). IsAmong range (fitted_ranges ss (length b) r)) (sym (read.reading b ends)) here)
 
 -- ---- the first sector
-
--- it is among more places
-pub sector_among : (range : ℕ × ℕ) (more : List (ℕ × ℕ)) → IsAmong range (first_sector ∷ []) → IsAmong range (first_sector ∷ more)
-sector_among range more (inl is) = inl is
-sector_among range more (inr none) = absurd none
 
 -- ---- their number
 

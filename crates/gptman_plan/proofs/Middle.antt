@@ -74,11 +74,6 @@ agree_in_ends b c head tail size at n of_b of_c known = part_same (middle_of (le
     (same_ends c b head tail size of_c of_b)
     (apart_middle (length head) (length tail) size (at, n) known)
 
--- one by one
-pub agree_at : (b c head tail : List ℕ) (size at n k : ℕ) → HasEnds b head tail size → HasEnds c head tail size → IsKnown (length head) (length tail) size (at, n) → at ≤ k → k < at + n → get_or b k 0 ≡ get_or c k 0
-agree_at b c head tail size at n k of_b of_c known low high = (same_ends c b head tail size of_c of_b).same k
-    (outside_apart (at, n) (middle_of (length head) (length tail) size) k (apart_middle (length head) (length tail) size (at, n) known) low high)
-
 -- a byte of known ranges is outside the middle
 outside_middle : (first last size : ℕ) (rs : Ranges) (k : ℕ) → AreRangesKnown first last size rs → Inside rs k → Outside (middle_of first last size) k
 outside_middle first last size [] k known inside = elim inside [ ]

@@ -73,15 +73,6 @@ module _ (stay : LayoutsStay) (taken : LayoutsAreTakenAgain) (first again : Requ
 
 -- ---- a growth
 
-fitted_align : (bounds : Bounds) (len : ℕ) (g next : GPT) → IsFitted bounds len g next → next.align ≡ g.align
-fitted_align bounds len g next (stays kept ends is) = ap (λ (m : GPT). m.align) is
-fitted_align bounds len g next (follows kept there first may is) = ap (λ (m : GPT). m.align) is
-fitted_align bounds len g next (is_usual usual ends is) = ap (λ (m : GPT). m.align) is
-
--- It keeps the alignment.
-pub grown_align : (bounds : Bounds) (len : ℕ) (g next : GPT) → IsGrown bounds len g next → 0 < g.align → 0 < next.align
-grown_align bounds len g next is above = subst (λ (n : ℕ). 0 < n) (sym (fitted_align bounds len g next is.fitted)) above
-
 -- A table that fits has no other fitted form.
 fitted_only : (bounds : Bounds) (len : ℕ) (next other : GPT) → EndsAt len next → IsFitted bounds len next next → IsFitted bounds len next other → other ≡ next
 fitted_only bounds len next other ends own (stays kept here is) = is

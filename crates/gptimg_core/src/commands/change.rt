@@ -1,7 +1,7 @@
 //! Changes of a table in memory.
 
 ghost use Rattle.std.specs.Prelude.{◌≡◌, ◌⊎◌, ◌<◌, ℕ, false, None, Some, IfErr, IfOk, IsTrue, OnOk};
-ghost use Rattle.gptman.specs.Answers.{CountsFailure, HasCause, IsFailure};
+ghost use Rattle.gptman.specs.Answers.{IsFailure, ReportsFailure};
 ghost use Rattle.gptman.specs.Coding.{empty_entry};
 ghost use Rattle.gptman.specs.Copy.{IsCoherent};
 ghost use Rattle.gptman.specs.Disk.{Reads};
@@ -83,12 +83,11 @@ fn fit<D: Disk>(disk: &mut D, table: &mut GPT) -> Result<Report>
     requires sector { 0 < table.old.sector_size }
     requires coherent { IsCoherent table.old.header (entries_in table.old) }
     ensures reads { Reads (D.state disk.old) (D.state disk.new) }
-    ensures counts { CountsFailure result (D.state disk.old) (D.state disk.new) }
+    ensures failure { ReportsFailure result (D.state disk.old) (D.state disk.new) }
     ensures outcome { IfOk result (λ report. report ≡ Done) }
     ensures refused { IfErr result (λ e.
         (fit_fault table.old.header table.old.sector_size (D.state disk.old).size ≡ Some (fault_of e))
         ⊎ IsFailure (fault_of e) (D.state disk.old) (D.state disk.new)) }
-    ensures cause { HasCause result (D.state disk.old) (D.state disk.new) }
     ensures value { OnOk result (IsChanged (D.state disk.old).size Grow table.old table.new) }
     ensures coherent { OnOk result (IsCoherent table.new.header (entries_in table.new)) }
 {

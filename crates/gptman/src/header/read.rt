@@ -6,8 +6,8 @@
 ghost use Rattle.std.specs.Prelude.{◌≡◌, ◌≢◌, ◌≤◌, ◌<◌, ◌+◌, ◌*◌, ◌⊎◌, ◌++◌, ℕ, List, [], length};
 ghost use Rattle.std.specs.Prelude.{IfOk, IfErr, OnOk, OnErr};
 ghost use Rattle.gptman.specs.Answers.{answer_of, is_array_fault, is_header_fault};
-ghost use Rattle.gptman.specs.Answers.{Answers, AnswersInMemory, CountsFailure, HasCauseOrEnd, Refuses};
-ghost use Rattle.gptman.specs.Answers.{RefusesOnly};
+ghost use Rattle.gptman.specs.Answers.{Answers, AnswersInMemory, CountsFailure, Refuses};
+ghost use Rattle.gptman.specs.Answers.{RefusesOnly, ReportsFailureOrEnd};
 ghost use Rattle.gptman.specs.Coding.{header_bytes, units_at};
 ghost use Rattle.gptman.specs.Copy.{array_result, entries_of, entry_result, header_result, unless};
 ghost use Rattle.gptman.specs.Copy.{value_tests};
@@ -40,11 +40,10 @@ impl GPTHeader {
     /// `InvalidRevision`, `InvalidHeaderSize`, `InvalidChecksum`.
     pub fn read_from<D: Disk>(disk: &mut D) -> Result<GPTHeader>
         ensures reads { Reads (D.state disk.old) (D.state disk.new) }
-        ensures counts { CountsFailure result (D.state disk.old) (D.state disk.new) }
+        ensures failure { ReportsFailureOrEnd 92 result (D.state disk.old) (D.state disk.new) }
         ensures answer { Answers (λ h. h) (header_result (D.state disk.old).view (D.state disk.old).position)
             result (D.state disk.old) (D.state disk.new) }
         ensures refused { RefusesOnly is_header_fault result }
-        ensures cause { HasCauseOrEnd 92 result (D.state disk.old) (D.state disk.new) }
         ensures size { IfOk result (λ h. h.header_size ≡ 92) }
         ensures moves { OnOk result (Moves (D.state disk.old) (D.state disk.new) 92) }
     {
@@ -157,7 +156,7 @@ impl GPTPartitionEntry {
     /// before anything is allocated, and an empty name needs no memory.
     pub fn read_from<D: Disk>(alloc: Global, disk: &mut D) -> Result<GPTPartitionEntry>
         ensures reads { Reads (D.state disk.old) (D.state disk.new) }
-        ensures counts { CountsFailure result (D.state disk.old) (D.state disk.new) }
+        ensures failure { ReportsFailureOrEnd 128 result (D.state disk.old) (D.state disk.new) }
         ensures answer { AnswersInMemory (λ e. e)
             (entry_result (D.state disk.old).view (D.state disk.old).position)
             result (D.state disk.old) (D.state disk.new) }
@@ -166,7 +165,6 @@ impl GPTPartitionEntry {
         ensures empty { IsHonest (D.state disk.old)
             → text_of (units_at (next_bytes (D.state disk.old) 128)) ≡ []
             → Refuses result out_of_memory → ⊥ }
-        ensures cause { HasCauseOrEnd 128 result (D.state disk.old) (D.state disk.new) }
         ensures moves { OnOk result (Moves (D.state disk.old) (D.state disk.new) 128) }
     {
         let mut bytes = [0; 128];

@@ -5,7 +5,7 @@ ghost use Rattle.std.specs.Prelude.{take};
 ghost use Rattle.std.specs.Prelude.{true, false, Some, All, IfErr, IsTrue, MatchOption, OnErr};
 ghost use Rattle.std.specs.Prelude.{OnOk};
 ghost use Rattle.std.specs.List.{list_all};
-ghost use Rattle.gptman.specs.Answers.{CountsFailure, FailsPending, HasCause, Refuses, RefusesUntouched, Settles};
+ghost use Rattle.gptman.specs.Answers.{FailsPending, Refuses, RefusesUntouched, ReportsFailure, Settles};
 ghost use Rattle.gptman.specs.Coding.{array_bytes, FitsEntry};
 ghost use Rattle.gptman.specs.Copy.{with_checksums, IsCoherent};
 ghost use Rattle.gptman.specs.Crc.{crc_of};
@@ -47,14 +47,13 @@ impl GPTHeader {
         requires sector { 0 < sector_size }
         requires coherent { IsCoherent self.old partitions.now }
         ensures keeps { Keeps (D.state disk.old) (D.state disk.new) }
-        ensures counts { CountsFailure result (D.state disk.old) (D.state disk.new) }
+        ensures failure { ReportsFailure result (D.state disk.old) (D.state disk.new) }
 
-        // The result: `Io` only if the disk failed.
+        // The result.
         ensures at_once { copy_write_fault self.old sector_size (D.state disk.old).size ≡ Some overflow
             → Refuses result overflow }
         ensures answer { Settles (copy_write_fault self.old sector_size (D.state disk.old).size) result
             (D.state disk.old) (D.state disk.new) }
-        ensures cause { HasCause result (D.state disk.old) (D.state disk.new) }
 
         // The header: it has both checksums after `Ok`, and is unchanged after an error other than `Io`.
         ensures value { OnOk result (self.new ≡ with_checksums self.old partitions.now) }

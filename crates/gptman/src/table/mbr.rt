@@ -2,7 +2,7 @@
 //! that do not know GPT.
 
 ghost use Rattle.std.specs.Prelude.{◌≡◌, ◌≤◌, ◌<◌, ◌∷◌, [], true, false, IfOk};
-ghost use Rattle.gptman.specs.Answers.{refusal_of, CountsFailure, FailsPending, HasCause, RefusesUntouched};
+ghost use Rattle.gptman.specs.Answers.{refusal_of, FailsPending, RefusesUntouched, ReportsFailure};
 ghost use Rattle.gptman_disk.specs.Disk.{Keeps, Writes};
 ghost use Rattle.gptman.specs.Mbr.{mbr_bytes, mbr_fault, mbr_range, AnswersMbr, WritesMbr};
 
@@ -29,9 +29,8 @@ impl GPT {
     pub fn write_protective_mbr_into<D: Disk>(disk: &mut D, sector_size: u64) -> Result<()>
         requires { 0 < sector_size }
         ensures keeps { Keeps (D.state disk.old) (D.state disk.new) }
-        ensures counts { CountsFailure result (D.state disk.old) (D.state disk.new) }
+        ensures failure { ReportsFailure result (D.state disk.old) (D.state disk.new) }
         ensures answer { AnswersMbr sector_size result (D.state disk.old) (D.state disk.new) }
-        ensures cause { HasCause result (D.state disk.old) (D.state disk.new) }
         ensures wrote { Writes (mbr_range ∷ []) (D.state disk.old) (D.state disk.new) }
         ensures contents { WritesMbr false sector_size result (D.state disk.old) (D.state disk.new) }
         ensures untouched { RefusesUntouched result (D.state disk.old) (D.state disk.new) }
@@ -45,9 +44,8 @@ impl GPT {
     pub fn write_bootable_protective_mbr_into<D: Disk>(disk: &mut D, sector_size: u64) -> Result<()>
         requires { 0 < sector_size }
         ensures keeps { Keeps (D.state disk.old) (D.state disk.new) }
-        ensures counts { CountsFailure result (D.state disk.old) (D.state disk.new) }
+        ensures failure { ReportsFailure result (D.state disk.old) (D.state disk.new) }
         ensures answer { AnswersMbr sector_size result (D.state disk.old) (D.state disk.new) }
-        ensures cause { HasCause result (D.state disk.old) (D.state disk.new) }
         ensures wrote { Writes (mbr_range ∷ []) (D.state disk.old) (D.state disk.new) }
         ensures contents { WritesMbr true sector_size result (D.state disk.old) (D.state disk.new) }
         ensures untouched { RefusesUntouched result (D.state disk.old) (D.state disk.new) }
@@ -61,9 +59,8 @@ impl GPT {
 fn write_mbr<D: Disk>(disk: &mut D, sector_size: u64, bootable: bool) -> Result<()>
     requires { 0 < sector_size }
     ensures keeps { Keeps (D.state disk.old) (D.state disk.new) }
-    ensures counts { CountsFailure result (D.state disk.old) (D.state disk.new) }
+    ensures failure { ReportsFailure result (D.state disk.old) (D.state disk.new) }
     ensures answer { AnswersMbr sector_size result (D.state disk.old) (D.state disk.new) }
-    ensures cause { HasCause result (D.state disk.old) (D.state disk.new) }
     ensures wrote { Writes (mbr_range ∷ []) (D.state disk.old) (D.state disk.new) }
     ensures contents { WritesMbr bootable sector_size result (D.state disk.old) (D.state disk.new) }
     ensures untouched { RefusesUntouched result (D.state disk.old) (D.state disk.new) }

@@ -4,7 +4,7 @@
 
 ghost use Rattle.std.specs.Prelude.{◌≡◌, ◌<◌, ◌⊎◌, [], ◌∷◌, None, Some, if◌then◌else◌};
 ghost use Rattle.std.specs.Prelude.{IfErr, IfOk, IsTrue, OnErr, OnOk};
-ghost use Rattle.gptman.specs.Answers.{refusal_of, CountsFailure, FailsPending, HasCause, IsFailure};
+ghost use Rattle.gptman.specs.Answers.{refusal_of, CountsFailure, FailsPending, IsFailure, ReportsFailure};
 ghost use Rattle.gptman.specs.Answers.{Settles};
 ghost use Rattle.gptman.specs.Coding.{array_bytes};
 ghost use Rattle.gptman.specs.Copy.{with_checksums, IsCoherent};
@@ -54,7 +54,7 @@ impl GPT {
         requires sector { 0 < self.old.sector_size }
         requires coherent { IsCoherent self.old.header (entries_in self.old) }
         ensures keeps { Keeps (D.state disk.old) (D.state disk.new) }
-        ensures counts { CountsFailure result (D.state disk.old) (D.state disk.new) }
+        ensures failure { ReportsFailure result (D.state disk.old) (D.state disk.new) }
 
         // The result. A write of a valid table in the stated layout fails only if the disk fails or memory runs
         // out.
@@ -64,7 +64,6 @@ impl GPT {
         ensures room { HasLayout self.old (D.state disk.old).size
             → IsValid self.old.header (entries_in self.old)
             → IfErr result (λ e. IsFailureOrMemory (fault_of e) (D.state disk.old) (D.state disk.new)) }
-        ensures cause { HasCause result (D.state disk.old) (D.state disk.new) }
 
         // The value, and the other header: both have their checksums after `Ok`; at most the checksums of the
         // value change.
@@ -175,11 +174,10 @@ impl GPT {
     // Returns the other header, if both copies may be written to the disk.
     fn writable_other<D: Disk>(&self, disk: &mut D) -> Result<GPTHeader>
         ensures reads { Reads (D.state disk.old) (D.state disk.new) }
-        ensures counts { CountsFailure result (D.state disk.old) (D.state disk.new) }
+        ensures failure { ReportsFailure result (D.state disk.old) (D.state disk.new) }
         ensures at_once { RefusesAtOnce (table_write_fault self.now (D.state disk.old).size) result }
         ensures answer { Settles (table_write_fault self.now (D.state disk.old).size) result
             (D.state disk.old) (D.state disk.new) }
-        ensures cause { HasCause result (D.state disk.old) (D.state disk.new) }
         ensures value { IfOk result (λ h. h ≡ other_header self.now.header) }
     {
         let other = self.addressable_other()?;

@@ -68,7 +68,7 @@ returns-in_err-write_into-clause-kept g c honest =
     let read = only_read g at.After-change honest in
     let refused = c.in_err-write_into.ensures in
     on_err_of _ (⊎_elim
-    (λ failed. inl (rose_since _ (g.D.Disk.state c.change.new.disk) (g.D.Disk.state c.write_into.new.disk) (keeps_to g at.After-change) (refused.cause failed)))
+    (λ failed. inl (rose_since _ (g.D.Disk.state c.change.new.disk) (g.D.Disk.state c.write_into.new.disk) (keeps_to g at.After-change) (refused.failure.1 failed)))
     (λ same. inr (record { view = same.view ∙ read.view; pending = same.pending ∙ read.pending })) (refused.untouched read.wrote.honest))
 
 -- what the plan made, in terms of the disk after the read
@@ -107,7 +107,7 @@ returns-in-Leave-clause-changed g c honest =
       table = c.in_ok-table.table;
       read = read_before c.args.sector_size old mid new c.in_ok-table.table (c.in_ok-table.ensures.value honest) c.change.ensures.reads.keeps;
       counts =
-          let answered : HasFailedAsOften mid new = ⊎_elim (λ same. same) (λ io. absurd io.0) c.in_ok-planned.ensures.counts in
+          let answered : HasFailedAsOften mid new = ⊎_elim (λ same. same) (λ io. absurd io.0) c.in_ok-planned.ensures.failure.0 in
           counts_before old mid new c.in_ok-table.table (c.in_ok-table.ensures.counts honest) answered;
       answered = left g at.In-Leave;
       only = only_read g at.After-change honest;
@@ -155,8 +155,8 @@ returns-clause-changed g c honest =
       next = next;
       read = was_read g at.After-write_into honest;
       counts =
-          let answered : HasFailedAsOften mid last = ⊎_elim (λ same. same) (λ io. absurd io.0) c.in_ok-planned.ensures.counts in
-          let written : HasFailedAsOften last new = ⊎_elim (λ same. same) (λ io. absurd io.0) c.in_ok-write_into.ensures.counts in
+          let answered : HasFailedAsOften mid last = ⊎_elim (λ same. same) (λ io. absurd io.0) c.in_ok-planned.ensures.failure.0 in
+          let written : HasFailedAsOften last new = ⊎_elim (λ same. same) (λ io. absurd io.0) c.in_ok-write_into.ensures.failure.0 in
           counts_before old mid new c.in_ok-table.table (c.in_ok-table.ensures.counts honest) (written ∙ answered);
       made = made g at.In-Write;
       wrote = wrote_since next old last new read (c.write_into.ensures.wrote read.wrote.honest);

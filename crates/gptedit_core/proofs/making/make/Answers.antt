@@ -53,14 +53,14 @@ returns-in_err-write_into-clause-cause g c =
     let old = g.D.Disk.state c.args.disk.now in
     let p = err_from_is_err_and c.from_residual-in_err-write_into.result c.from_residual-in_err-write_into.ensures.1 in
     rw (p.1, p.2)
-    (λ failed. rose_since old (g.D.Disk.state c.plan.new.disk) (g.D.Disk.state c.write_into.new.disk) c.plan.ensures.reads.keeps (c.in_err-write_into.ensures.cause failed))
+    (λ failed. rose_since old (g.D.Disk.state c.plan.new.disk) (g.D.Disk.state c.write_into.new.disk) c.plan.ensures.reads.keeps (c.in_err-write_into.ensures.failure.1 failed))
 
 pub returns-in_err-write_into-clause-kept : goal.returns-in_err-write_into-clause-kept
 returns-in_err-write_into-clause-kept g c = λ honest.
     let read = c.plan.ensures.reads.only honest in
     let refused = c.in_err-write_into.ensures in
     on_err_of _ (⊎_elim
-    (λ failed. inl (rose_since _ (g.D.Disk.state c.plan.new.disk) (g.D.Disk.state c.write_into.new.disk) c.plan.ensures.reads.keeps (refused.cause failed)))
+    (λ failed. inl (rose_since _ (g.D.Disk.state c.plan.new.disk) (g.D.Disk.state c.write_into.new.disk) c.plan.ensures.reads.keeps (refused.failure.1 failed)))
     (λ same. inr (record { view = same.view ∙ read.view; pending = same.pending ∙ read.pending })) (refused.untouched read.wrote.honest))
 
 pub returns-in_err-write_into-clause-leaves : goal.returns-in_err-write_into-clause-leaves

@@ -32,14 +32,14 @@ returns-in-New-clause-does g c =
     rw c.in-New.is (record {
       does = record {
         refused = ensures.refused;
-        counts = ensures.counts;
+        counts = ensures.failure.0;
         wrote = ensures.wrote;
         made = ensures.made;
         stored = ensures.stored;
         replaces = ensures.replaces;
       };
       good = if_ok_as c.write_new.result (λ report done. inl (subst (λ (r : Report). IsTrue (is_good r)) (sym done) refl)) ensures.made;
-      cause = ensures.cause;
+      cause = ensures.failure.1;
       kept = ensures.kept;
     })
 

@@ -54,7 +54,7 @@ returns-in_err-write_into-clause-kept g c honest =
     let still : IsTrue (g.D.Disk.state c.new_from.new.disk).is_honest = subst (λ b. IsTrue b) (sym c.new_from.ensures.reads.keeps.honest) honest in
     let read = c.new_from.ensures.reads.only honest in
     let refused = c.in_err-write_into.ensures in
-    on_err_of _ (⊎_elim (λ failed. inl (rose_since _ (g.D.Disk.state c.new_from.new.disk) (g.D.Disk.state c.write_into.new.disk) c.new_from.ensures.reads.keeps (refused.cause failed)))
+    on_err_of _ (⊎_elim (λ failed. inl (rose_since _ (g.D.Disk.state c.new_from.new.disk) (g.D.Disk.state c.write_into.new.disk) c.new_from.ensures.reads.keeps (refused.failure.1 failed)))
     (λ same. inr (record { view = same.view ∙ read.view; pending = same.pending ∙ read.pending })) (refused.untouched still))
 
 pub returns-in_err-write_into-clause-refused : goal.returns-in_err-write_into-clause-refused

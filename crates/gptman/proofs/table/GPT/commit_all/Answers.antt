@@ -57,7 +57,7 @@ loop-edit-preserved g c =
           let short = ap length steps in
           omega arith,
       λ none. absurd (omega (arith, none, length-append at.yielded (edit ∷ []))),
-      ⊎_elim (λ same. same ∙ at.invariant.5) (λ refused. absurd refused.0) done.counts,
+      ⊎_elim (λ same. same ∙ at.invariant.5) (λ refused. absurd refused.0) done.failure.0,
     )
 
 -- ---- an edit failed
@@ -90,7 +90,7 @@ pub returns-in-Err-clause-cause : goal.returns-in-Err-clause-cause
 returns-in-Err-clause-cause g c = λ failed.
     let at = c.loop-edit in
     failed_cause c.args.self.now at.yielded at.self (g.D.Disk.state c.args.disk.now) (g.D.Disk.state at.disk) (g.D.Disk.state c.commit.new.disk) at.invariant.0 c.args.edits.items _ at.done
-    c.in-Some.edit (all_edits g c) at.invariant.2 (fault_of c.in-Err.fault) failed c.in-Err.ensures.cause
+    c.in-Some.edit (all_edits g c) at.invariant.2 (fault_of c.in-Err.fault) failed c.in-Err.ensures.failure.1
 
 pub returns-in-Err-clause-wrote : goal.returns-in-Err-clause-wrote
 returns-in-Err-clause-wrote g c = λ honest.

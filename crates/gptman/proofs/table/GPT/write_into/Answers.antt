@@ -1,9 +1,9 @@
-use Rattle.std.proofs.Common.{◌∙◌, ⊎_elim, inr, ap, sym, [], ◌∷◌, IsTrue, Err}
+use Rattle.std.proofs.Common.{◌∙◌, ◌≡◌, ◌⊎◌, ◌≤◌, ◌+◌, ℕ, ⊎_elim, inr, ap, subst, sym, [], ◌∷◌, IsTrue, Err}
 use Rattle.std.specs.Prelude.{IfErr, OnOk}
 use Rattle.std.proofs.lemmas.Result.{err_from_is_err_and, on_err_weaker, on_ok_weaker}
-use Rattle.gptman.specs.Answers.{IsFailure}
-use Rattle.gptman_disk.specs.Disk.{Wrote}
-use Rattle.gptman_disk.specs.Fault.{fault_of}
+use Rattle.gptman.specs.Answers.{IsFailure, Refuses}
+use Rattle.gptman_disk.specs.Disk.{HasFailedAsOften, Wrote}
+use Rattle.gptman_disk.specs.Fault.{fault_of, io}
 use Rattle.gptman.specs.Crash.{AreReadFromEachCopy, StartsFromOne, StartsLaidOut, StartsSynced, StopsComeInOrder}
 use Rattle.gptman.specs.Stop.{IsStored, StopsHold}
 use Rattle.gptman.specs.Table.{Table, entries_in, table_in}
@@ -132,8 +132,13 @@ returns-clause-refused g c = if_err_weaker c.write_both.result
 pub returns-clause-room : goal.returns-clause-room
 returns-clause-room g c = λ layout valid. if_err_weaker c.write_both.result (λ e is. inr is) (failed g c)
 
-pub returns-clause-cause : goal.returns-clause-cause
-returns-clause-cause g c = failure_rose c.write_both.result (g.D.Disk.state c.args.disk.now) (g.D.Disk.state c.write_both.new.disk) (failed g c)
+pub returns-clause-failure : goal.returns-clause-failure
+returns-clause-failure g c =
+    let old = g.D.Disk.state c.args.disk.now in
+    let new = g.D.Disk.state c.write_both.new.disk in
+    let still : HasFailedAsOften old (g.D.Disk.state c.writable_other.new.disk) = ⊎_elim (λ same. same) (λ io. absurd io.0) c.in_ok-other.ensures.failure.0 in
+    (subst (λ (n : ℕ). (new.failures ≡ n) ⊎ (Refuses c.write_both.result io × new.failures ≤ n + 1)) still c.write_both.ensures.counts,
+    failure_rose c.write_both.result old new (failed g c))
 
 wrote : (g : Over) (c : goal.After-write_both g) (honest : IsTrue (g.D.Disk.state c.args.disk.now).is_honest)
     → Wrote (table_ranges c.args.self.now) (g.D.Disk.state c.args.disk.now) (g.D.Disk.state c.write_both.new.disk)
