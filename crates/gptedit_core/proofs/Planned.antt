@@ -1,9 +1,9 @@
 -- The table that a request makes, and its outcome.
-use Rattle.std.proofs.Common.{◌≡◌, ◌⊎◌, ◌↔◌, inl, inr, refl, sym, subst, ℕ, Bool, true, false, not, IsTrue}
+use Rattle.std.proofs.Common.{◌≡◌, ◌∙◌, ◌⊎◌, ◌↔◌, inl, inr, refl, sym, subst, ℕ, Bool, true, false, not, IsTrue}
 use Rattle.std.specs.Prelude.{Result, Ok, Err, IfErr, IfOk, OnOk}
-use Rattle.gptman.specs.Answers.{IsFailure}
+use Rattle.gptman.specs.Answers.{IsFailure, Refuses}
 use Rattle.gptman.specs.Disk.{DiskState}
-use Rattle.gptman.specs.Fault.{Fault, io, overflow}
+use Rattle.gptman.specs.Fault.{Fault, fault_of, io, out_of_memory, overflow}
 use Rattle.gptman.specs.Layout.{HasLayout}
 use Rattle.gptman.specs.declared.table.GPT.{GPT}
 use Rattle.gptman.specs.Error.{Error}
@@ -59,6 +59,11 @@ all_refused P N R dry g refusal is (Err e) told = tt
 pub no_failure : (P : Type 0) (fault : Fault) (old new : DiskState) → fault ≡ overflow → ((fault ≡ overflow) × P) ⊎ IsFailure fault old new → P
 no_failure P fault old new is (inl small) = small.1
 no_failure P fault old new is (inr failure) = let other : fault ≡ io = failure.0 in absurd (cc)
+
+-- An allocation failure is no failure of the disk.
+pub memory_is_no_io : {T : Type 0} (r : Result T Error) → IfErr r (λ e. fault_of e ≡ out_of_memory) → Refuses r io → ⊥
+memory_is_no_io (Ok x) memory failed = failed
+memory_is_no_io (Err e) memory failed = let same : out_of_memory ≡ io = sym memory ∙ failed in absurd (cc)
 
 -- The tables differ, by the result of a comparison.
 pub differs : (same : Bool) (g next : GPT) → IsTrue same ↔ (g ≡ next) → Differs g next ↔ IsTrue (not same)

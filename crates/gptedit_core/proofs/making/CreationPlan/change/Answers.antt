@@ -1,12 +1,21 @@
-use Rattle.std.proofs.Common.{◌≡◌, ℕ, true, refl, rules}
+use Rattle.std.proofs.Common.{◌≡◌, ⊎_elim, inl, ℕ, true, refl, rules}
 use Rattle.gptman.specs.Copy.{IsCoherent}
 use Rattle.gptman.specs.Table.{entries_in}
 use Rattle.gptman.specs.declared.table.GPT.{GPT}
 use Rattle.gptedit_core.specs.Making.{IsAlways, IsRemade, RefusesRemaking}
 use Rattle.gptedit_core.specs.Planning.IsLeftAs.{is_refused}
-use Rattle.gptedit_core.proofs.Planned.{all_decided, all_have}
+use Rattle.gptman.proofs.Outcomes.{if_err_weaker}
+use Rattle.gptedit_core.proofs.Planned.{all_decided, all_have, memory_is_no_io}
 use Rattle.gptedit_core.proofs.Remade.{remade_coherent, remade_sector}
 use Rattle.gptedit_core.proofs.making.CreationPlan.change.Goals as goal
+
+pub returns-in-Ok-clause-failure : goal.returns-in-Ok-clause-failure
+returns-in-Ok-clause-failure g c =
+    (inl (⊎_elim (λ same. same) (λ failed. absurd failed.0) c.in_ok-size.ensures.failure.0),
+    λ failed. absurd (memory_is_no_io c.decide.result c.decide.ensures.refused failed))
+
+pub returns-in-Ok-clause-refused : goal.returns-in-Ok-clause-refused
+returns-in-Ok-clause-refused g c = if_err_weaker c.decide.result (λ e is. inl is) c.decide.ensures.refused
 
 pub returns-in-Ok-clause-value : goal.returns-in-Ok-clause-value
 returns-in-Ok-clause-value g c =
