@@ -10,9 +10,10 @@ use Rattle.gptedit_core.proofs.Remade.{remade_coherent, remade_sector}
 use Rattle.gptedit_core.proofs.making.CreationPlan.change.Goals as goal
 
 pub returns-in-Ok-clause-failure : goal.returns-in-Ok-clause-failure
-returns-in-Ok-clause-failure g c =
-    (inl (⊎_elim (λ same. same) (λ failed. absurd failed.0) c.in_ok-size.ensures.failure.0),
-    λ failed. absurd (memory_is_no_io c.decide.result c.decide.ensures.refused failed))
+returns-in-Ok-clause-failure g c = (
+  inl (⊎_elim (λ same. same) (λ failed. absurd failed.0) c.in_ok-size.ensures.failure.0),
+  λ failed. absurd (memory_is_no_io c.decide.result c.decide.ensures.refused failed),
+)
 
 pub returns-in-Ok-clause-refused : goal.returns-in-Ok-clause-refused
 returns-in-Ok-clause-refused g c = if_err_weaker c.decide.result (λ e is. inl is) c.decide.ensures.refused

@@ -136,9 +136,10 @@ pub returns-clause-failure : goal.returns-clause-failure
 returns-clause-failure g c =
     let old = g.D.Disk.state c.args.disk.now in
     let new = g.D.Disk.state c.write_both.new.disk in
-    let still : HasFailedAsOften old (g.D.Disk.state c.writable_other.new.disk) = ⊎_elim (λ same. same) (λ io. absurd io.0) c.in_ok-other.ensures.failure.0 in
-    (subst (λ (n : ℕ). (new.failures ≡ n) ⊎ (Refuses c.write_both.result io × new.failures ≤ n + 1)) still c.write_both.ensures.counts,
-    failure_rose c.write_both.result old new (failed g c))
+    let still : HasFailedAsOften old (g.D.Disk.state c.writable_other.new.disk) = ⊎_elim (λ same. same) (λ io. absurd io.0) c.in_ok-other.ensures.failure.0 in (
+      subst (λ (n : ℕ). (new.failures ≡ n) ⊎ (Refuses c.write_both.result io × new.failures ≤ n + 1)) still c.write_both.ensures.counts,
+      failure_rose c.write_both.result old new (failed g c),
+    )
 
 wrote : (g : Over) (c : goal.After-write_both g) (honest : IsTrue (g.D.Disk.state c.args.disk.now).is_honest)
     → Wrote (table_ranges c.args.self.now) (g.D.Disk.state c.args.disk.now) (g.D.Disk.state c.write_both.new.disk)
