@@ -48,7 +48,7 @@ CountsFailure result old new = HasFailedAsOften old new ⊎ (Refuses result io �
 abbrev pub ReportsFailure : {T : Type 0} → Result T Error → DiskState → DiskState → Type 0
 ReportsFailure result old new = CountsFailure result old new × HasCause result old new
 
--- `Io` is returned if the disk failed, or if the next n bytes pass its end, and only then; it failed once at most.
+-- `Io` is returned if the disk failed, and else only if the next n bytes pass its end; it failed once at most.
 abbrev pub ReportsFailureOrEnd : {T : Type 0} → ℕ → Result T Error → DiskState → DiskState → Type 0
 ReportsFailureOrEnd n result old new = CountsFailure result old new × (Refuses result io → Rose old new ⊎ PassesEnd old n)
 
