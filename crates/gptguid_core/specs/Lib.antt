@@ -1,3 +1,4 @@
 pub mod Forms
 pub mod Lines
+pub mod OtherTypes
 pub mod Types

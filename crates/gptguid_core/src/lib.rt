@@ -14,10 +14,14 @@ use std::io::Write;
 mod forms;
 mod lines;
 mod names;
+mod nearest;
+mod others;
 mod source;
 
 pub use forms::{digits_of, from_digits, from_random, from_text, text_of};
-pub use names::{from_name, name_of, types};
+pub use names::{from_any_name, from_name, guid_of_number, name_of, types};
+pub use nearest::nearest_name;
+pub use others::other_types;
 pub use source::{ByteSource, SystemSource};
 
 /// The usage line, with its newline.

@@ -1,9 +1,12 @@
 //! The named types of partitions.
 
-ghost use Rattle.std.specs.Prelude.{◌≡◌, map, option_map};
+ghost use Rattle.std.specs.Prelude.{◌≡◌, ◌++◌, map, option_map};
 ghost use Rattle.gptguid_core.specs.Types.{guid_of_name, guid_of_number as guid_that_is_written};
 ghost use Rattle.gptguid_core.specs.Types.{name_in, name_of_guid, number_in, types as types_by_name};
+ghost use Rattle.gptguid_core.specs.OtherTypes.{guid_of_any_name, number_in_any_case};
+ghost use Rattle.gptguid_core.specs.OtherTypes.{other_types as other_types_by_word};
 
+use crate::others::other_types;
 use uuid::Uuid;
 
 // Each name, and the text of its GUID without hyphens as a number.
@@ -263,6 +266,37 @@ fn find_number(types: &[(&str, u128)], name: &str) -> Option<u128>
 {
     for (known, number) in types {
         if *known == name {
+            return Some(*number);
+        }
+    }
+    None
+}
+
+/// Returns the GUID, as on a disk, of the type with this name, or with this word of another program, in any case.
+pub fn from_any_name(name: &str) -> Option<[u8; 16]>
+    ensures value { result ≡ guid_of_any_name name.now }
+{
+    let number = find_any_name(name)?;
+    Some(guid_of_number(number))
+}
+
+// Returns the number of the type with this name, or with this word of another program, in any case.
+#[tactic(auto, using(crate::proofs::Found::first_has, crate::proofs::Found::second_has))]
+fn find_any_name(name: &str) -> Option<u128>
+    ensures value { result ≡ number_in_any_case (types_by_name ++ other_types_by_word) name.now }
+{
+    match find_in_any_case(types(), name) {
+        Some(number) => Some(number),
+        None => find_in_any_case(other_types(), name),
+    }
+}
+
+// Returns the number of the first type whose name differs from this one at most in the case of ASCII letters.
+fn find_in_any_case(types: &[(&str, u128)], name: &str) -> Option<u128>
+    ensures value { result ≡ number_in_any_case (map (λ t. (t.0.now, t.1)) types.now) name.now }
+{
+    for (known, number) in types {
+        if known.eq_ignore_ascii_case(name) {
             return Some(*number);
         }
     }
