@@ -5,6 +5,7 @@ pub mod Checked
 pub mod Cuts
 pub mod Dumped
 pub mod Ends
+pub mod Fitted
 pub mod Growing
 pub mod Kept
 pub mod Applied

@@ -66,7 +66,7 @@ reached len g next fits ends elsewhere (is_usual usual here is) = absurd (elsewh
 pub growths_reach_end : GrowthsReachEnd
 growths_reach_end len g next is elsewhere = reached len g next is.fits (grown_ends Kept len g next is) elsewhere is.fitted
 
-left : (len : ℕ) (g next : GPT) → EndsAt len g → IsFitted Kept len g next → next ≡ g
+pub left : (len : ℕ) (g next : GPT) → EndsAt len g → IsFitted Kept len g next → next ≡ g
 left len g next here (stays kept ends is) = is
 left len g next here (follows kept there first may is) = absurd (there here)
 left len g next here (is_usual usual ends is) = absurd (cc)

@@ -1,4 +1,4 @@
--- From the primary copy a growth leaves the old or the grown table.
+-- From the primary copy a plan that fits a table leaves the old or the planned one.
 use Rattle.std.proofs.Common.{◌≡◌, ◌*◌, ◌∙◌, ℕ, List, [], ◌∷◌, inl, inr, refl, sym, subst, ap, Option}
 use Rattle.gptman.specs.Crash.{IsKeptFor}
 use Rattle.gptman.specs.Disk.{AgreesOutside, DiskState, OnlyRead}
@@ -15,11 +15,17 @@ use Rattle.gptman.proofs.ReadingLaw.{reads_one_of}
 use Rattle.gptman.proofs.Ranges.{Ranges, contains_first}
 use Rattle.gptman_change.specs.Changes.{begun, nothing_written, unwritten, written, IsSafe, LeavesChange, StopsLeaveEither}
 use Rattle.gptman_change.specs.Reads.{size_for, IsReadFrom}
+use Rattle.gptedit_core.specs.Fitting.{IsPlannedFitted, IsWrittenFitted}
 use Rattle.gptedit_core.specs.Growing.{GrowthsKeepPrimary, IsFitted, IsGrown, IsWrittenGrown, StartsPrimary, StartsPrimaryFor}
 use Rattle.gptedit_core.specs.Growing.IsFitted.{follows, is_usual, stays}
+use Rattle.gptedit_core.specs.declared.fitting.FittedRequest.{FittedRequest}
 use Rattle.gptedit_core.specs.declared.growth.Bounds.{Bounds}
+use Rattle.gptedit_core.specs.declared.growth.Bounds.TheVariants.{Kept}
 use Rattle.gptedit_core.specs.declared.growth.Growth.{Growth}
+use Rattle.gptedit_core.specs.declared.plan.Outcome.{Outcome}
+use Rattle.gptedit_core.specs.declared.plan.Request.{Request}
 use Rattle.gptedit_core.proofs.Growing.{fitted_sector}
+use Rattle.gptedit_core.proofs.Kept.{done_places}
 
 -- A growth keeps the primary form and the number of entries.
 fitted_form : (bounds : Bounds) (len : ℕ) (g next : GPT) → IsFitted bounds len g next → IsHeaderForm primary g.header → IsHeaderForm primary next.header
@@ -40,14 +46,43 @@ clear_of was next len count layout =
     let others : Ranges = copy_ranges_at backup (table_in next) ss len in
     subst (λ (n : ℕ). AreClear ((ss, 92) ∷ (2 * ss, 128 * n) ∷ []) others) count (clear_if_apart (copy_ranges_at primary (table_in next) ss len) others layout.table.apart)
 
-pub growths_keep_primary : (disk : DiskState) → GrowthsKeepPrimary disk
-growths_keep_primary disk bounds was g next synced held form count is = record {
+-- The planned table keeps the sector size, the primary form and the number of entries, and has the stated layout.
+pub record FromPrimary (len : ℕ) (g next : GPT) : Type 0 where
+  pub sector : next.sector_size ≡ g.sector_size
+  pub form : IsHeaderForm primary g.header → IsHeaderForm primary next.header
+  pub count : next.header.number_of_partition_entries ≡ g.header.number_of_partition_entries
+  pub layout : HasLayout next len
+
+grown_from_primary : (bounds : Bounds) (len : ℕ) (g next : GPT) → IsGrown bounds len g next → FromPrimary len g next
+grown_from_primary bounds len g next is = record {
+  sector = fitted_sector bounds len g next is.fitted;
+  form = fitted_form bounds len g next is.fitted;
+  count = fitted_count bounds len g next is.fitted;
+  layout = is.layout;
+}
+
+fitted_from_primary : (request : Request) (len : ℕ) (g next : GPT) → IsPlannedFitted request len g next → FromPrimary len g next
+fitted_from_primary request len g next is =
+    let stays = done_places request.job request.random.items is.mid next is.planned.done in
+    record {
+      sector = stays.places.sector ∙ fitted_sector Kept len g is.mid is.fitted;
+      form = λ form. stays.places.form primary (fitted_form Kept len g is.mid is.fitted form);
+      count = stays.places.ranges.count ∙ fitted_count Kept len g is.mid is.fitted;
+      layout = stays.layout len is.planned.layout;
+    }
+
+kept_from_primary : (disk : DiskState) (was : Table) (g next : GPT) → disk.pending ≡ [] → Holds disk.view g.sector_size primary was → IsHeaderForm primary g.header
+    → g.header.number_of_partition_entries ≡ was.count → FromPrimary disk.size g next → IsKeptFor disk next was
+kept_from_primary disk was g next synced held form count is = record {
   synced = synced;
   side = primary;
-  form = fitted_form bounds disk.size g next is.fitted form;
-  held = subst (λ (n : ℕ). Holds disk.view n primary was) (sym (fitted_sector bounds disk.size g next is.fitted)) held;
-  clear = clear_of was next disk.size (fitted_count bounds disk.size g next is.fitted ∙ count) is.layout;
+  form = is.form form;
+  held = subst (λ (n : ℕ). Holds disk.view n primary was) (sym is.sector) held;
+  clear = clear_of was next disk.size (is.count ∙ count) is.layout;
 }
+
+pub growths_keep_primary : (disk : DiskState) → GrowthsKeepPrimary disk
+growths_keep_primary disk bounds was g next synced held form count is = kept_from_primary disk was g next synced held form count (grown_from_primary bounds disk.size g next is)
 
 -- A read returns the table in the primary place.
 read_primary : (old new : DiskState) (ss : ℕ) (was : Table) (g : GPT) → StartsPrimary old ss was → MayBeRead old new ss (copy_of g) → IsForm primary was (copy_of g)
@@ -65,25 +100,35 @@ still_held old new ss was good only b agrees = record {
   holds = holds_local old.view b ss primary was good.held (record { long = agrees.long; same = λ k inside. agrees.same k tt });
 }
 
-module _ (growth : Growth) (size : Option ℕ) (was : Table) (old new : DiskState) (good : StartsPrimaryFor old size was) where
-  safe_written : (table next : GPT) → IsReadFrom size old new table → IsGrown growth.bounds old.size table next
+module _ (planned : GPT → GPT → Outcome → Type 0) (size : Option ℕ) (was : Table) (old new : DiskState) (good : StartsPrimaryFor old size was)
+    (from : (table next : GPT) (answer : Outcome) → planned table next answer → FromPrimary old.size table next) where
+  safe_written : (table next : GPT) → IsReadFrom size old new table → FromPrimary old.size table next
       → ((held : Table) → HasLayout next old.size → IsKeptFor old next held → StopsLeaveEither held (table_in next) next.sector_size old new)
       → (table_in table ≡ was) × StopsLeaveEither was (table_in next) (size_for old.view size) old new
-  safe_written table next read grown law =
+  safe_written table next read is law =
       let ss : ℕ = size_for old.view size in
       let form = read_primary old new ss was table good (subst (λ (n : ℕ). MayBeRead old new n (copy_of table)) read.sector read.accepted) in
       let held : Holds old.view table.sector_size primary was = subst (λ (n : ℕ). Holds old.view n primary was) (sym read.sector) good.held in
-      let kept = growths_keep_primary old growth.bounds was table next good.synced held form.form (ap (λ (t : Table). t.count) form.table) grown in (
+      let kept = kept_from_primary old was table next good.synced held form.form (ap (λ (t : Table). t.count) form.table) is in (
         form.table,
-        subst (λ (n : ℕ). StopsLeaveEither was (table_in next) n old new) (fitted_sector growth.bounds old.size table next grown.fitted ∙ read.sector)
-            (law was grown.layout kept),
+        subst (λ (n : ℕ). StopsLeaveEither was (table_in next) n old new) (is.sector ∙ read.sector) (law was is.layout kept),
       )
 
-  pub safe_growth : LeavesChange (IsWrittenGrown growth old.size) size old new → IsSafe (IsWrittenGrown growth old.size) (size_for old.view size) was old new
-  safe_growth (unwritten only) =
+  safe_plan : LeavesChange planned size old new → IsSafe planned (size_for old.view size) was old new
+  safe_plan (unwritten only) =
       nothing_written (λ b left known. reads_one_of b (size_for old.view size) (was ∷ [])
       (still_held old new (size_for old.view size) was good only b
       (subst (λ (ranges : Ranges). AgreesOutside ranges old.view b) good.synced (only.wrote.crash b left))) known)
-  safe_growth (written table next answer read made wrote law) =
-      let is = safe_written table next read made.planned law in
+  safe_plan (written table next answer read made wrote law) =
+      let is = safe_written table next read (from table next answer made) law in
       begun table next answer is.0 made is.1
+
+pub safe_growth : (growth : Growth) (size : Option ℕ) (was : Table) (old new : DiskState) → StartsPrimaryFor old size was
+    → LeavesChange (IsWrittenGrown growth old.size) size old new → IsSafe (IsWrittenGrown growth old.size) (size_for old.view size) was old new
+safe_growth growth size was old new good =
+    safe_plan (IsWrittenGrown growth old.size) size was old new good (λ table next answer made. grown_from_primary growth.bounds old.size table next made.planned)
+
+pub safe_fitted : (fitted : FittedRequest) (size : Option ℕ) (was : Table) (old new : DiskState) → StartsPrimaryFor old size was
+    → LeavesChange (IsWrittenFitted fitted old.size) size old new → IsSafe (IsWrittenFitted fitted old.size) (size_for old.view size) was old new
+safe_fitted fitted size was old new good =
+    safe_plan (IsWrittenFitted fitted old.size) size was old new good (λ table next answer made. fitted_from_primary fitted.request old.size table next made.planned)

@@ -8,9 +8,11 @@ ghost use Rattle.gptman.specs.Table.{Table};
 ghost use Rattle.gptman_change.specs.Changes.{AnswersChange, IsSafe, LeavesChange, RefusesChange};
 ghost use Rattle.gptman_change.specs.Changes.{StartsGoodFor};
 ghost use Rattle.gptman_change.specs.Reads.{size_for};
+ghost use Rattle.gptedit_core.specs.Fitting.{has_random_fitted, IsLeftFitted, IsWrittenFitted};
 ghost use Rattle.gptedit_core.specs.Growing.{IsLeftGrown, IsWrittenGrown, StartsPrimaryFor};
 ghost use Rattle.gptedit_core.specs.Planning.{has_random, IsLeft, IsMemoryFault, IsWritten, MayAsk};
 
+use crate::fitting::FittedRequest;
 use crate::growth::Growth;
 use crate::plan::{Outcome, Request};
 use gptman::{Disk, Result};
@@ -104,4 +106,46 @@ pub fn grow<D: Disk>(
         (size_for (D.state disk.old).view sector_size) was (D.state disk.old) (D.state disk.new) }
 {
     change_table(alloc, disk, sector_size, growth)
+}
+
+/// Reads the table on the disk, fits it to the length of the disk, changes it as requested, and writes it to both places
+/// in one write. Writes nothing if the request is a dry run, is refused or changes nothing; `Job::Rewrite` always
+/// writes. `sector_size` is as for `edit`.
+///
+/// # Errors
+///
+/// Those of `edit`.
+pub fn edit_fitted<D: Disk>(
+    alloc: Global,
+    disk: &mut D,
+    sector_size: Option<u64>,
+    fitted: &FittedRequest,
+) -> Result<Outcome>
+    requires sector { IfSome sector_size (λ size. 0 < size) }
+    requires random { has_random_fitted fitted.now }
+    ensures keeps { Keeps (D.state disk.old) (D.state disk.new) }
+    ensures done { IsHonest (D.state disk.old) → IfOk result (λ outcome. AnswersChange
+        (IsWrittenFitted fitted.now (D.state disk.old).size) (IsLeftFitted fitted.now (D.state disk.old).size)
+        sector_size outcome (D.state disk.old) (D.state disk.new)) }
+    ensures refused { IsHonest (D.state disk.old) → IfErr result (λ e. RefusesChange
+        (IsWrittenFitted fitted.now (D.state disk.old).size)
+        (IsMemoryFault fitted.now (D.state disk.old).size)
+        (MayAsk fitted.now) sector_size (fault_of e) (D.state disk.old) (D.state disk.new)) }
+    ensures cause { HasCause result (D.state disk.old) (D.state disk.new) }
+    ensures kept { IsHonest (D.state disk.old)
+        → OnErr result (FailedOrUntouched (D.state disk.old) (D.state disk.new)) }
+    ensures dry { IsHonest (D.state disk.old) → fitted.now.request.is_dry ≡ true
+        → OnlyRead (D.state disk.old) (D.state disk.new) }
+
+    // If nothing was unsynced before, a crash or disk fault at any moment leaves the old or the planned table.
+    // `leaves`: from one good copy that is clear of the ranges written first. `safe`: from the primary copy, if it is
+    // the only good one.
+    ensures leaves { IsHonest (D.state disk.old) → LeavesChange
+        (IsWrittenFitted fitted.now (D.state disk.old).size) sector_size
+        (D.state disk.old) (D.state disk.new) }
+    ensures safe { (was : Table) → StartsPrimaryFor (D.state disk.old) sector_size was
+        → IsSafe (IsWrittenFitted fitted.now (D.state disk.old).size)
+        (size_for (D.state disk.old).view sector_size) was (D.state disk.old) (D.state disk.new) }
+{
+    change_table(alloc, disk, sector_size, fitted)
 }

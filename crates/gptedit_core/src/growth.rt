@@ -79,8 +79,10 @@ impl Plan for Growth {
     }
 }
 
-// Fits the header to the disk, and returns the length of the disk in bytes.
-fn fit<D: Disk>(disk: &mut D, table: &mut GPT) -> gptman::Result<u64>
+/// Fits the header to the disk, and returns the length of the disk in bytes.
+///
+/// Fails with `Overflow` if the disk is too small, and with `Io`.
+pub(crate) fn fit<D: Disk>(disk: &mut D, table: &mut GPT) -> gptman::Result<u64>
     requires sector { 0 < table.old.sector_size }
     ensures reads { Reads (D.state disk.old) (D.state disk.new) }
     ensures failure { ReportsFailure result (D.state disk.old) (D.state disk.new) }
@@ -109,7 +111,13 @@ fn settle(bounds: Bounds, was: &GPT, size: u64, table: &mut GPT) -> Result<(), S
     check_grown(table, size)
 }
 
-fn set_bounds(bounds: Bounds, was: &GPT, size: u64, table: &mut GPT) -> Result<(), Refusal>
+/// Sets the bounds of a table that was fitted to a disk of `size` bytes. `was` is the table before.
+pub(crate) fn set_bounds(
+    bounds: Bounds,
+    was: &GPT,
+    size: u64,
+    table: &mut GPT,
+) -> Result<(), Refusal>
     requires sector { 0 < was.now.sector_size }
     requires fitted { table.old ≡ grow_to was.now size }
     ensures value { OnOk result (IsFitted bounds size was.now table.new) }
@@ -159,7 +167,10 @@ fn check_grown(table: &GPT, size: u64) -> Result<(), Stop>
     check(table, size)
 }
 
-fn refuse(table: &GPT, refusal: Refusal) -> gptman::Result<Planned<Outcome>>
+/// Returns the outcome of a refusal.
+///
+/// Fails only with `OutOfMemory`.
+pub(crate) fn refuse(table: &GPT, refusal: Refusal) -> gptman::Result<Planned<Outcome>>
     ensures outcome { IfOk result (λ planned. planned ≡ Leave (Refused table.now refusal)) }
     ensures refused { IfErr result (λ e. fault_of e ≡ out_of_memory) }
 {

@@ -1,6 +1,6 @@
 //! Plans changes of a partition table: requests for its entries, layouts, growths and new tables.
 //!
-//! `edit`, `grow`, `make` and `remake` carry out a plan on a disk, in one write of the table. Plans are made in
+//! `edit`, `edit_fitted`, `grow`, `make` and `remake` carry out a plan on a disk, in one write of the table. Plans are made in
 //! memory.
 #![tactic(auto)]
 
@@ -9,6 +9,8 @@ pub mod applying;
 pub mod asked;
 pub mod dump;
 pub mod editing;
+pub mod fitting;
+pub mod fitting_laws;
 pub mod growth;
 pub mod growth_laws;
 pub mod laws;
@@ -24,7 +26,8 @@ mod slots;
 pub use amount::{Amount, DEFAULT_ALIGN};
 pub use asked::{Asked, Choice, Mode, RequestedLayout, Size};
 pub use dump::layout_of;
-pub use editing::{edit, grow};
+pub use editing::{edit, edit_fitted, grow};
+pub use fitting::FittedRequest;
 pub use growth::{Bounds, Growth};
 pub use making::{Creation, Made, make, remake};
 pub use order::{has_safe_order, safe_orders_keep_a_copy};

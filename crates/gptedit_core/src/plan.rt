@@ -88,9 +88,11 @@ impl Plan for Request {
     }
 }
 
-// Changes the table as requested, if it has the stated layout on a disk of `size` bytes and the result may be written
-// to it.
-fn make(request: &Request, alloc: Global, size: u64, table: &mut GPT) -> Result<(), Stop>
+/// Changes the table as requested. Refuses a table without the stated layout on a disk of `size` bytes, and one that
+/// may not be written to it afterwards.
+///
+/// Fails only with `OutOfMemory`.
+pub(crate) fn make(request: &Request, alloc: Global, size: u64, table: &mut GPT) -> Result<(), Stop>
     requires ready { has_random request.now }
     requires sector { 0 < table.old.sector_size }
     ensures planned { OnOk result (IsPlanned request.now size table.old table.new) }
@@ -156,8 +158,8 @@ pub fn decide(
     Ok(Planned::Write(Outcome::Changed { was, next }))
 }
 
-// Reports whether there is something to write.
-fn is_needed(job: &Job, was: &GPT, next: &GPT) -> bool
+/// Reports whether there is something to write.
+pub(crate) fn is_needed(job: &Job, was: &GPT, next: &GPT) -> bool
     ensures { IsTrue result ↔ IsNeeded job.now was.now next.now }
 {
     match job {

@@ -2,12 +2,14 @@
 use Rattle.std.specs.Prelude.{◌≡◌, ◌≤◌, ℕ}
 use Rattle.gptman.specs.Disk.{DiskState}
 use Rattle.gptman.specs.Stop.{IsStored}
-use Rattle.gptman.specs.Table.{table_in}
+use Rattle.gptman.specs.Table.{entries_in, table_in}
 use Rattle.gptman.specs.declared.table.GPT.{GPT}
 use Rattle.gptedit_core.specs.Growing.{lowest_usable, EndsAt, ReachesEnd, RefusesGrowth}
+use Rattle.gptedit_core.specs.Planning.{IsPlanned}
 use Rattle.gptedit_core.specs.declared.growth.Bounds.TheVariants.{Kept, Usual}
 use Rattle.gptedit_core.specs.declared.plan.Outcome.{Outcome}
 use Rattle.gptedit_core.specs.declared.plan.Outcome.TheVariants.{Changed, Unchanged, Refused}
+use Rattle.gptedit_core.specs.declared.plan.Request.{Request}
 
 -- The table and its usable sectors end where a disk of len bytes does. The first usable sector is unchanged if
 -- possible, and so is everything else.
@@ -38,3 +40,15 @@ abbrev pub IsOnDisk : DiskState → Outcome → Type 0
 IsOnDisk disk (Changed was next) = IsStored disk next.sector_size (table_in next)
 IsOnDisk disk (Unchanged table) = Unit {0}
 IsOnDisk disk (Refused table r) = Unit {0}
+
+-- A changed table ends where a disk of len bytes does.
+abbrev pub IsNewEnd : ℕ → Outcome → Type 0
+IsNewEnd len told = (was next : GPT) → told ≡ Changed was next → EndsAt len next
+
+-- If the table ended there before, the request alone makes the changed one.
+abbrev pub IsOwnChange : Request → ℕ → Outcome → Type 0
+IsOwnChange request len told = (was next : GPT) → told ≡ Changed was next → EndsAt len was → IsPlanned request len was next
+
+-- The request makes the changed table of one with the entries of the table before.
+abbrev pub IsOfSameEntries : Request → ℕ → Outcome → Type 0
+IsOfSameEntries request len told = (was next : GPT) → told ≡ Changed was next → (mid : GPT) × (entries_in mid ≡ entries_in was) × IsPlanned request len mid next

@@ -3,6 +3,7 @@
 #![tactic(auto)]
 
 pub mod edits;
+pub mod fittings;
 pub mod growths;
 pub mod images;
 pub mod layouts;

@@ -1,0 +1,130 @@
+//! Changes a table and fits it to the length of its disk.
+
+ghost use Rattle.std.specs.Prelude.{◌≡◌, ◌<◌, true, IfOk, IfSome};
+ghost use Rattle.gptman.specs.Copy.{IsCoherent};
+ghost use Rattle.gptman.specs.Disk.{IsHonest};
+ghost use Rattle.gptman.specs.Table.{entries_in};
+ghost use Rattle.gptedit_core.specs.Fitting.{has_random_fitted, IsPlannedFitted};
+ghost use Rattle.gptedit_core.specs.Planning.{has_random};
+ghost use Rattle.test_laws.specs.Outcomes.{IsOfSameEntries, IsOwnChange, IsNewEnd};
+
+use gptedit_core::fitting_laws::{
+    fitted_requests_are_both, fitted_requests_reach_the_end, fitting_keeps_the_entries,
+};
+use gptedit_core::{Bounds, FittedRequest, Growth, Outcome, Request, edit_fitted};
+use gptman::{Disk, GPT, Result};
+use gptman_change::{Plan, Planned};
+use std::alloc::Global;
+
+/// Changes the table on the disk and fits it, in one write.
+///
+/// The errors are those of `edit_fitted`.
+pub fn change_fitted<D: Disk>(
+    alloc: Global,
+    disk: &mut D,
+    sector_size: Option<u64>,
+    fitted: &FittedRequest,
+) -> Result<Outcome>
+    requires sector { IfSome sector_size (λ size. 0 < size) }
+    requires random { has_random_fitted fitted.now }
+
+    // A changed table ends where the disk does. The request makes it of a table with the same entries, and of the same
+    // table if that ended there.
+    ensures ends { IsHonest (D.state disk.old) → IfOk result (IsNewEnd (D.state disk.old).size) }
+    ensures alone { IsHonest (D.state disk.old)
+        → IfOk result (IsOwnChange fitted.now.request (D.state disk.old).size) }
+    ensures entries { IsHonest (D.state disk.old)
+        → IfOk result (IsOfSameEntries fitted.now.request (D.state disk.old).size) }
+{
+    fitted_requests_reach_the_end();
+    fitted_requests_are_both();
+    fitting_keeps_the_entries();
+    edit_fitted(alloc, disk, sector_size, fitted)
+}
+
+/// Fits the table, and then changes it, in memory. Returns whether both changed it.
+///
+/// The errors are those of the two plans.
+pub fn grow_and_change<D: Disk>(
+    alloc: Global,
+    disk: &mut D,
+    table: &mut GPT,
+    request: &Request,
+) -> Result<bool>
+    requires ready { has_random request.now }
+    requires sector { 0 < table.old.sector_size }
+    requires coherent { IsCoherent table.old.header (entries_in table.old) }
+    requires aligned { 0 < table.old.align }
+
+    // It is what the fitted request makes at once.
+    ensures both { IfOk result (λ is_made. is_made ≡ true
+        → IsPlannedFitted request.now (D.state disk.old).size table.old table.new) }
+{
+    fitted_requests_are_both();
+    let growth = Growth {
+        bounds: Bounds::Kept,
+        is_dry: false,
+    };
+    match growth.change(alloc, disk, table)? {
+        Planned::Write(_) => {}
+        Planned::Leave(_) => return Ok(false),
+    }
+    match request.change(alloc, disk, table)? {
+        Planned::Write(_) => Ok(true),
+        Planned::Leave(_) => Ok(false),
+    }
+}
+
+#[cfg(test)]
+mod tests {
+    use super::*;
+    use gptedit_core::Job;
+    use gptman::MemoryDisk;
+    use std::test::Fail;
+    use test_fixtures::{calls, samples, tables, texts};
+
+    // Returns a disk of 200 sectors that holds a table for 100.
+    fn longer_disk(alloc: Global) -> Result<MemoryDisk> {
+        let mut image = samples::image_of_new(alloc, 0)?;
+        image.resize(102_400, 0)?;
+        calls::holding(alloc, &image)
+    }
+
+    fn sorting(alloc: Global) -> Request {
+        Request {
+            job: Job::Sort,
+            random: Vec::new(alloc),
+            is_dry: false,
+        }
+    }
+
+    #[test]
+    fn a_fitted_request_is_written(rt: HostRuntime) -> std::result::Result<(), Fail> {
+        let mut disk = longer_disk(rt.alloc())?;
+        let request = sorting(rt.alloc());
+        let fitted = FittedRequest { request };
+        let outcome = change_fitted(rt.alloc(), &mut disk, Some(512), &fitted)?;
+        assert!(rt; matches!(outcome, Outcome::Changed { .. }));
+        let table = tables::read(rt.alloc(), &mut disk, 512)?;
+        let shown = texts::shown(rt.alloc(), &table)?;
+        assert!(rt; shown.as_str() == "512 1/199/2 34..166 align 2048");
+        let outcome = change_fitted(rt.alloc(), &mut disk, Some(512), &fitted)?;
+        assert!(rt; matches!(outcome, Outcome::Unchanged { .. }));
+        Ok(())
+    }
+
+    #[test]
+    fn a_growth_and_a_request(rt: HostRuntime) -> std::result::Result<(), Fail> {
+        let mut disk = longer_disk(rt.alloc())?;
+        let mut table = tables::read(rt.alloc(), &mut disk, 512)?;
+        assert!(rt; table.sector_size > 0 && table.is_coherent() && table.align > 0);
+        let rewriting = Request {
+            job: Job::Rewrite,
+            ..sorting(rt.alloc())
+        };
+        assert!(rt; grow_and_change(rt.alloc(), &mut disk, &mut table, &rewriting)?);
+        let shown = texts::shown(rt.alloc(), &table)?;
+        assert!(rt; shown.as_str() == "512 1/199/2 34..166 align 2048");
+        Ok(())
+    }
+}
