@@ -90,7 +90,9 @@ mod tests {
         calls::holding(alloc, &image)
     }
 
-    fn sorting(alloc: Global) -> Request {
+    fn sorting(alloc: Global) -> Request
+        ensures ready { has_random result }
+    {
         Request {
             job: Job::Sort,
             random: Vec::new(alloc),
