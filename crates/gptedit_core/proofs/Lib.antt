@@ -23,3 +23,4 @@ pub mod Safe
 pub mod Same
 pub mod Steps
 pub mod Taken
+pub mod Targets

@@ -9,3 +9,4 @@ pub mod Planning
 pub mod Resolving
 pub mod Sectors
 pub mod Slots
+pub mod Targets

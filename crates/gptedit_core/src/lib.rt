@@ -22,6 +22,7 @@ pub mod refusal;
 pub mod resolve;
 mod sectors;
 mod slots;
+pub mod target;
 
 pub use amount::{Amount, DEFAULT_ALIGN};
 pub use asked::{Asked, Choice, Mode, RequestedLayout, Size};
@@ -36,3 +37,4 @@ pub use plan::{Job, Outcome, Request};
 pub use refusal::{Refusal, Stop};
 pub use resolve::ResolvedPartition;
 pub use sectors::SectorRange;
+pub use target::{NotFound, Target, find_target};
