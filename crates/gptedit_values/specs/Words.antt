@@ -1,18 +1,21 @@
 -- The meaning of words.
-use Rattle.std.specs.Prelude.{◌≡◌, ◌≢◌, ◌==◌, ◌<◌, ◌≤◌, ◌⊎◌, ℕ, ◌*◌, ◌^◌, List, [], ◌∷◌, ◌++◌, All, Contains, Option, None, Some, Result, Ok, Err, codes, if◌then◌else◌}
+use Rattle.std.specs.Prelude.{◌≡◌, ◌≢◌, ◌==◌, ◌<◌, ◌≤◌, ◌⊎◌, ℕ, ◌*◌, ◌^◌, List, [], ◌∷◌, ◌++◌, All, Contains, Option, None, Some, Result, Ok, Err, codes, flat_map, length, if◌then◌else◌}
+use Rattle.std.specs.Char.Escape.{encode_utf16}
 use Rattle.std.specs.Int.{bit_at}
 use Rattle.std.specs.List.{Any, slice_split}
-use Rattle.std.specs.Str.{bytes_eq}
+use Rattle.std.specs.Str.{bytes_eq, chars}
 use Rattle.std.specs.Option.{ok_or}
 use Rattle.std.specs.Str.Parse.{digits_value, IsNumeral}
 use Rattle.gptguid_core.specs.Forms.{guid_of_text}
-use Rattle.gptguid_core.specs.Types.{guid_of_name}
+use Rattle.gptguid_core.specs.OtherTypes.{guid_of_any_name}
 use Rattle.gptedit_core.specs.declared.amount.Amount.{Amount}
 use Rattle.gptedit_core.specs.declared.amount.Amount.TheVariants.{Sectors, Bytes}
 use Rattle.gptedit_core.specs.declared.asked.Size.{Size}
 use Rattle.gptedit_core.specs.declared.asked.Size.TheVariants.{Exactly, Rest}
 use Rattle.gptedit_core.specs.declared.asked.Choice.{Choice}
 use Rattle.gptedit_core.specs.declared.asked.Choice.TheVariants.{First, Last, Best}
+use Rattle.gptedit_core.specs.declared.target.Target.{Target}
+use Rattle.gptedit_core.specs.declared.target.Target.TheVariants.{Guid, Name, Number}
 use Rattle.gptedit_values.specs.declared.wrong.Wrong.{Wrong}
 use Rattle.gptedit_values.specs.declared.wrong.Wrong.TheVariants.{NoChoice, NoGuid, NoType}
 
@@ -27,13 +30,13 @@ choice_said word =
 abbrev pub guid_said : List ℕ → Result (List ℕ) Wrong
 guid_said word = ok_or (guid_of_text word) NoGuid
 
--- The type of a name, or of the text of a GUID.
+-- The type of a name or of a word of another program, in any case, or of the text of a GUID.
 abbrev pub type_said_or : List ℕ → Option (List ℕ) → Result (List ℕ) Wrong
 type_said_or word (Some guid) = Ok guid
 type_said_or word None = ok_or (guid_of_text word) NoType
 
 abbrev pub type_said : List ℕ → Result (List ℕ) Wrong
-type_said word = type_said_or word (guid_of_name word)
+type_said word = type_said_or word (guid_of_any_name word)
 
 -- The units, in bytes.
 abbrev pub units : List (List ℕ × ℕ)
@@ -112,3 +115,25 @@ pub record SaysNoAttributes (text : List ℕ) : Type 0 where
   pub words : ¬ (All IsAttribute (words_of text))
   pub some : text ≢ []
   pub bits : (attributes : ℕ) → SaysAllBits text attributes → 2 ^ 64 ≤ attributes
+
+-- The number of UTF-16 units of a text.
+abbrev pub utf16_len : List ℕ → ℕ
+utf16_len text = length (flat_map encode_utf16 (chars text))
+
+-- The text is the number of an entry.
+abbrev pub SaysEntry : List ℕ → ℕ → Type 0
+SaysEntry text n = IsNumeral 10 text × (digits_value 10 text ≡ n) × (1 ≤ n) × (n < 2 ^ 32)
+
+-- The text is a name that is not empty and fits an entry.
+abbrev pub IsName : List ℕ → Type 0
+IsName text = (text ≢ []) × (utf16_len text ≤ 36)
+
+-- The text selects an entry: it is its number, or `name=` and its name, or `guid=` and its GUID.
+abbrev pub SaysTarget : List ℕ → Target → Type 0
+SaysTarget text (Number n) = SaysEntry text n
+SaysTarget text (Name name) = (text ≡ codes "name=" ++ name.now) × IsName name.now
+SaysTarget text (Guid guid) = (word : List ℕ) × (text ≡ codes "guid=" ++ word) × (guid_said word ≡ Ok guid)
+
+-- The text selects no entry.
+abbrev pub SaysNoTarget : List ℕ → Type 0
+SaysNoTarget text = (target : Target) → ¬ SaysTarget text target

@@ -6,12 +6,12 @@ ghost use Rattle.gptedit_values.specs.Words.{choice_said, guid_said, type_said};
 use crate::wrong::Wrong;
 use gptedit_core::Choice;
 
-/// Reads the type of a partition, from its name or from the text of its GUID in any case. Returns the 16 bytes as on
-/// a disk.
+/// Reads the type of a partition, from its name, from a word of another program for it, or from the text of its GUID,
+/// in any case. Returns the 16 bytes as on a disk.
 pub fn read_type(text: &str) -> Result<[u8; 16], Wrong>
     ensures { result ≡ type_said text.now }
 {
-    if let Some(guid) = gptguid_core::from_name(text) {
+    if let Some(guid) = gptguid_core::from_any_name(text) {
         return Ok(guid);
     }
     gptguid_core::from_text(text).ok_or(Wrong::NoType)

@@ -1,4 +1,4 @@
-//! Values of one word each, for command lines and layouts: sizes, types, GUIDs, attributes, choices.
+//! Values of one word each, for command lines and layouts: sizes, types, GUIDs, attributes, choices, targets.
 //!
 //! The error for a wrong word says what would be right.
 #![tactic(auto)]
@@ -8,8 +8,10 @@ mod attributes;
 mod byte_count;
 mod escapes;
 mod extent;
+mod field;
 mod kinds;
 mod names;
+mod target;
 mod units;
 mod wrong;
 
@@ -21,6 +23,8 @@ pub use attributes::{
 pub use byte_count::ByteCount;
 pub use escapes::{Escaped, EscapedChar, EscapedCode, TomlText, is_hidden};
 pub use extent::{read_extent, read_number};
+pub use field::{FIELDS, Field, read_field};
 pub use kinds::{read_choice, read_guid, read_type};
 pub use names::{UnitsText, is_long_name, read_units};
-pub use wrong::Wrong;
+pub use target::read_target;
+pub use wrong::{Wrong, WrongText};

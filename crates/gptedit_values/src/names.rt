@@ -1,13 +1,29 @@
 //! Names of partitions.
 
+ghost use Rattle.std.specs.Prelude.{◌≡◌, ◌↔◌, ◌<◌, min, IsTrue};
+ghost use Rattle.gptedit_values.specs.Words.{utf16_len};
+
 use std::fmt;
 
 // The maximum number of UTF-16 units of a name.
 const NAME_UNITS: usize = 36;
 
 /// Reports whether the text has more UTF-16 units than a name may have, which is 36.
-pub fn is_long_name(text: &str) -> bool {
-    text.encode_utf16().count() > NAME_UNITS
+pub fn is_long_name(text: &str) -> bool
+    ensures { IsTrue result ↔ 36 < utf16_len text.now }
+{
+    count_units(text) > NAME_UNITS
+}
+
+// Returns the number of UTF-16 units of the text, or the greatest `usize` if there are more.
+fn count_units(text: &str) -> usize
+    ensures { result ≡ min (utf16_len text.now) usize.MAX }
+{
+    let mut units: usize = 0;
+    for c in text.chars() {
+        units = units.saturating_add(c.len_utf16());
+    }
+    units
 }
 
 /// Reads the units of a name: at most 36 numbers of four hexadecimal digits each, separated by single spaces, as

@@ -1,6 +1,8 @@
 //! Faults of words.
 
 use crate::attributes::AllNames;
+use crate::field::AllFields;
+use gptguid_core::nearest_name;
 use std::fmt;
 
 /// Why a word is wrong.
@@ -26,6 +28,10 @@ pub enum Wrong {
     NoChoice,
     /// It does not say what to do if an image is locked.
     NoLock,
+    /// It is not the name of a field.
+    NoField,
+    /// It does not select an entry.
+    NoTarget,
 }
 
 /// Prints the rule that the word breaks.
@@ -54,7 +60,33 @@ impl fmt::Display for Wrong {
             }
             Wrong::NoChoice => "it must be first, last or best",
             Wrong::NoLock => "it must be wait, fail or none",
+            Wrong::NoField => return write!(f, "it must be one of {}", AllFields),
+            Wrong::NoTarget => {
+                "it must be a number from 1, name=TEXT (at most 36 UTF-16 units), or guid=c12a7328-f81f-11d2-ba4b-00a0c93ec93b"
+            }
         };
         f.write_str(rule)
+    }
+}
+
+/// Prints the rule that a word breaks, and for a type the name that is nearest to the word.
+#[derive(Clone, Copy)]
+pub struct WrongText<'a> {
+    /// The rule.
+    pub wrong: Wrong,
+    /// The word.
+    pub text: &'a str,
+}
+
+impl fmt::Display for WrongText<'_> {
+    fn fmt<W: fmt::Write>(&self, f: &mut fmt::Formatter<W>) -> fmt::Result {
+        write!(f, "{}", self.wrong)?;
+        match self.wrong {
+            Wrong::NoType => match nearest_name(self.text) {
+                Some(name) => write!(f, "; the nearest name is {name}"),
+                None => Ok(()),
+            },
+            _ => Ok(()),
+        }
     }
 }
