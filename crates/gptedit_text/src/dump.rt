@@ -94,15 +94,16 @@ fn write_text<W: fmt::Write, D: fmt::Display>(
 }
 
 fn write_name<W: fmt::Write>(f: &mut fmt::Formatter<W>, name: &PartitionName) -> fmt::Result {
-    if is_given_by_text(name) {
+    if has_whole_text(name) {
         writeln!(f, "name = {}", TomlText(name.as_str()))
     } else {
         write_text(f, "name-utf16", &UnitsText(name.units()))
     }
 }
 
-// Reports whether the text of a name encodes to its 36 units.
-fn is_given_by_text(name: &PartitionName) -> bool {
+/// Reports whether the text of a name encodes to its 36 units. It does not after half a surrogate pair, or with units
+/// after a zero.
+pub fn has_whole_text(name: &PartitionName) -> bool {
     let mut units = name.units().iter();
     for unit in name.as_str().encode_utf16() {
         if unit == 0 || units.next() != Some(&unit) {

@@ -82,6 +82,7 @@ fn parsed_of(alloc: Global, table: &Table) -> Result<Parsed, LayoutError> {
         layout: entries.into_layout(alloc, disk.guid, disk.align),
         header: disk.header,
         form: Form::Toml,
+        bootable: Vec::new(alloc),
     })
 }
 

@@ -10,7 +10,7 @@ mod lines;
 pub mod script;
 pub mod table_header;
 
-pub use dump::write_layout;
+pub use dump::{has_whole_text, write_layout};
 pub use error::LayoutError;
 use gptedit_core::RequestedLayout;
 pub use layout::read_layout;
@@ -29,4 +29,7 @@ pub struct Parsed {
     pub header: Header,
     /// The form of the text.
     pub form: Form,
+    /// The numbers of the partitions that a script marks as bootable. They get the attribute `legacy-boot`; `sfdisk`
+    /// ignores the mark on a GPT.
+    pub bootable: Vec<u32>,
 }

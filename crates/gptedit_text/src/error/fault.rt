@@ -49,8 +49,14 @@ pub enum Fault {
     NotExtent,
     /// It is not a list of attributes as in scripts.
     NotScriptAttributes,
-    /// The partition is marked bootable, which a GPT cannot express.
-    Bootable,
+    /// It is a type of MBR partition tables.
+    MbrType,
+    /// It has no value.
+    NoValue,
+    /// It is not the last field of a line without names.
+    NotLast,
+    /// It is not a mark of bootable partitions.
+    NotMark,
     /// A double quote is not closed, or no separator follows the closing one.
     OpenQuote,
     /// It is not UTF-8.
@@ -118,10 +124,19 @@ impl Fault {
             Fault::NotCount => "it must be a whole number below 2^64",
             Fault::NotExtent => {
                 "it must be a number of sectors, or of bytes with a unit, for example 64MiB; \
-                 + is the default"
+                 + and - are the default"
             }
-            Fault::Bootable =>
-                "a GUID partition table has no such mark; use attrs=\"LegacyBIOSBootable\"",
+            Fault::MbrType => {
+                "it is a type of MBR partition tables, and the script is for a GPT; use for example linux, \
+                 swap or uefi"
+            }
+            Fault::NoValue => "it must have a value, after a =",
+            Fault::NotLast =>
+                "it must be the last field, because a line without names has at most four",
+            Fault::NotMark => {
+                "it must be * or - as the fourth field of a line without names, and has no value in a line \
+                 with names"
+            }
             Fault::OpenQuote => {
                 "a double quote must be closed, and a comma or a blank must follow"
             }

@@ -55,7 +55,7 @@ impl Section {
                 "sector-size",
                 "grain",
             ],
-            Section::Line => &["start", "size", "type", "uuid", "name", "attrs"],
+            Section::Line => { &["start", "size", "type", "uuid", "name", "attrs", "bootable"] }
         }
     }
 }

@@ -1,26 +1,67 @@
 //! The lines of a script that describe partitions.
 
-use crate::entries::{Entries, read_name};
-use crate::error::{Fault, LayoutError, TextPlace};
-use crate::script::token::next_token;
-use crate::script::words::{read_script_attributes, read_script_type, unescaped};
+use crate::entries::read_name;
+use crate::error::{Fault, LayoutError, Section, TextPlace};
+use crate::script::token::{first_word, next_token, skip_separator};
+use crate::script::words::{is_mbr_type, read_script_attributes, unescaped};
 use gptedit_core::{Amount, Asked, Choice, Size};
-use gptedit_values::{Wrong, read_extent, read_guid};
+use gptedit_values::{read_extent, read_guid, read_type};
 use std::alloc::Global;
 
 // The parts of a line without names, in their order.
-const ORDER: [&str; 4] = ["start", "size", "type", "bootable"];
+const ORDER: [&str; 4] = ["start", "size", "type", BOOTABLE];
 
-/// Reads a line that describes a partition.
+// The part that has no value in a line with names.
+const BOOTABLE: &str = "bootable";
+
+// The attribute `legacy-boot`.
+const LEGACY_BOOT: u64 = 1 << 2;
+
+/// The partition of a line.
+#[derive(Drop)]
+pub struct Partition {
+    /// The number of its entry, from 1.
+    pub number: u32,
+    /// The request for it.
+    pub asked: Asked,
+    /// Whether the line marks it as bootable. The request then has the attribute `legacy-boot`.
+    pub is_bootable: bool,
+}
+
+/// Reports whether the line describes a partition, also if a value in it is wrong. Without a node, a blank before a
+/// `=` is only in TOML.
+pub fn is_partition(line: &str) -> bool {
+    if !line.contains('=') {
+        return match next_token(line) {
+            Ok((start, _)) => is_start(start),
+            Err(_) => false,
+        };
+    }
+    let (node, fields) = split_node(line);
+    let (name, rest) = first_word(fields);
+    match key_of(Section::Line, name) {
+        Some(BOOTABLE) => !rest.trim_start().starts_with('='),
+        Some(_) => !node.is_empty() || rest.starts_with('='),
+        None => false,
+    }
+}
+
+// Reports whether the text is the start of a line without names.
+fn is_start(start: &str) -> bool {
+    let number = without_sign(start);
+    number.is_empty() || read_extent(number).is_some()
+}
+
+/// Reads a line that describes a partition. Its number is that of its node, or else this one.
 pub fn read_line(
     alloc: Global,
-    entries: &mut Entries,
     place: TextPlace,
+    lowest: u32,
     line: &str,
-) -> Result<(), LayoutError> {
+) -> Result<Partition, LayoutError> {
     let (node, fields) = split_node(line);
     let number = match digits_behind(node) {
-        "" => Some(entries.lowest_number()),
+        "" => Some(lowest),
         digits => digits.parse::<u32>().ok(),
     };
     let Some(number) = number else {
@@ -29,25 +70,30 @@ pub fn read_line(
     if number == 0 {
         return Err(place.fault("number", Fault::NotNumber));
     }
-    let mut asked = Asked {
-        type_guid: read_script_type("L").ok(),
-        attributes: Some(0),
-        name: Some(read_name(alloc, place, "")?),
-        size: Some(Size::Rest),
-        choice: Choice::Longest,
-        ..Asked::nothing(Some(number))
-    };
     let mut line = Line {
         alloc,
         place,
-        asked: &mut asked,
+        asked: default_of(alloc, place, number)?,
+        is_bootable: false,
     };
     if fields.contains('=') {
         line.read_named(fields)?;
     } else {
         line.read_ordered(fields)?;
     }
-    entries.add(place, number, asked)
+    Ok(line.into_partition(number))
+}
+
+// Returns the request for a partition whose line has no parts.
+fn default_of(alloc: Global, place: TextPlace, number: u32) -> Result<Asked, LayoutError> {
+    Ok(Asked {
+        type_guid: read_type("L").ok(),
+        attributes: Some(0),
+        name: Some(read_name(alloc, place, "")?),
+        size: Some(Size::Rest),
+        choice: Choice::Longest,
+        ..Asked::nothing(Some(number))
+    })
 }
 
 // Splits the line into the node, which ends at the last colon before the first `=`, and the text after it.
@@ -70,13 +116,14 @@ fn digits_behind(node: &str) -> &str {
 
 // The request of a line, while it is read.
 #[derive(Drop)]
-struct Line<'a> {
+struct Line {
     alloc: Global,
     place: TextPlace,
-    asked: &'a mut Asked,
+    asked: Asked,
+    is_bootable: bool,
 }
 
-impl Line<'_> {
+impl Line {
     // Reads named parts. Each takes at least one byte, which bounds the loop.
     fn read_named(&mut self, fields: &str) -> Result<(), LayoutError> {
         let mut rest = fields.trim_start();
@@ -84,18 +131,21 @@ impl Line<'_> {
             if rest.is_empty() {
                 break;
             }
-            if rest.starts_with("bootable") {
-                return Err(self.place.fault("bootable", Fault::Bootable));
+            let (name, behind) = first_word(rest);
+            let value = behind.trim_start().strip_prefix('=');
+            match (key_of(self.place.section, name), value) {
+                (Some(BOOTABLE), None) => {
+                    self.is_bootable = true;
+                    rest = skip_separator(behind);
+                }
+                (Some(key), Some(value)) => {
+                    let (value, after) = token_of(self.place, key, value)?;
+                    self.read_field(key, value)?;
+                    rest = after;
+                }
+                (Some(key), None) => return Err(self.place.fault(key, Fault::NoValue)),
+                (None, _) => return Err(unknown(self.alloc, self.place, name)),
             }
-            let Some((name, behind)) = rest.split_once('=') else {
-                return Err(unknown(self.alloc, self.place, rest));
-            };
-            let Some(key) = key_of(self.place, name.trim_end()) else {
-                return Err(unknown(self.alloc, self.place, name));
-            };
-            let (value, after) = token_of(self.place, key, behind)?;
-            self.read_field(key, value)?;
-            rest = after;
         }
         Ok(())
     }
@@ -105,15 +155,17 @@ impl Line<'_> {
         let mut rest = fields.trim_start();
         for key in ORDER {
             let (value, after) = token_of(self.place, key, rest)?;
-            if value != "-" {
-                self.read_field(key, value)?;
+            match (key, value) {
+                (_, "-") => (),
+                (BOOTABLE, "*" | "+") => self.is_bootable = true,
+                _ => self.read_field(key, value)?,
             }
             rest = after;
         }
         if rest.is_empty() {
             Ok(())
         } else {
-            Err(unknown(self.alloc, self.place, rest))
+            Err(self.place.fault(BOOTABLE, Fault::NotLast))
         }
     }
 
@@ -126,30 +178,43 @@ impl Line<'_> {
         match key {
             "start" => self.asked.start = extent_of(place, key, value)?,
             "size" => {
-                self.asked.size = match extent_of(place, key, without_plus(value))? {
+                self.asked.size = match extent_of(place, key, value)? {
                     Some(amount) => Some(Size::Exactly(amount)),
                     None => Some(Size::Rest),
                 };
             }
-            "type" => self.asked.type_guid = Some(word_of(place, key, read_script_type(value))?),
-            "uuid" => self.asked.unique_guid = Some(word_of(place, key, read_guid(value))?),
+            "type" => self.asked.type_guid = Some(type_of(place, key, value)?),
+            "uuid" => self.asked.unique_guid = Some(guid_of(place, key, value)?),
             "attrs" => self.asked.attributes = Some(attributes_of(place, key, value)?),
             "name" => {
                 let text = unescaped(self.alloc, place, value)?;
                 self.asked.name = Some(read_name(self.alloc, place, text.as_str())?);
             }
-            _ => return Err(place.fault(key, Fault::Bootable)),
+            _ => return Err(place.fault(key, Fault::NotMark)),
         }
         Ok(())
+    }
+
+    // Returns the partition of the line.
+    fn into_partition(self, number: u32) -> Partition {
+        let mut asked = self.asked;
+        if self.is_bootable {
+            asked.attributes = Some(asked.attributes.unwrap_or(0) | LEGACY_BOOT);
+        }
+        Partition {
+            number,
+            asked,
+            is_bootable: self.is_bootable,
+        }
     }
 }
 
 // Returns the key of a name, in any case.
-fn key_of(place: TextPlace, name: &str) -> Option<&'static str> {
+fn key_of(section: Section, name: &str) -> Option<&'static str> {
     if name.eq_ignore_ascii_case("Id") {
         return Some("type");
     }
-    let keys = place.section.keys();
+    let keys = section.keys();
     keys.iter()
         .copied()
         .find(|key| key.eq_ignore_ascii_case(name))
@@ -174,35 +239,37 @@ fn token_of<'a>(
     }
 }
 
-// Removes a `+` before the digits of a size.
-fn without_plus(value: &str) -> &str {
-    match value.strip_prefix('+') {
-        Some(digits) if !digits.is_empty() => digits,
-        _ => value,
-    }
+// Removes a sign before a start or a size.
+fn without_sign(value: &str) -> &str {
+    value.strip_prefix(['+', '-']).unwrap_or(value)
 }
 
-// Reads a start or a size. `+` means the default.
+// Reads a start or a size. A sign without a number means the default.
 fn extent_of(
     place: TextPlace,
     key: &'static str,
     value: &str,
 ) -> Result<Option<Amount>, LayoutError> {
-    if value == "+" {
+    let number = without_sign(value);
+    if number.is_empty() {
         return Ok(None);
     }
-    match read_extent(value) {
+    match read_extent(number) {
         Some(amount) => Ok(Some(amount)),
         None => Err(place.fault(key, Fault::NotExtent)),
     }
 }
 
-fn word_of(
-    place: TextPlace,
-    key: &'static str,
-    value: Result<[u8; 16], Wrong>,
-) -> Result<[u8; 16], LayoutError> {
-    value.map_err(|wrong| place.fault(key, Fault::Value(wrong)))
+fn type_of(place: TextPlace, key: &'static str, value: &str) -> Result<[u8; 16], LayoutError> {
+    match read_type(value) {
+        Ok(guid) => Ok(guid),
+        Err(_) if is_mbr_type(value) => Err(place.fault(key, Fault::MbrType)),
+        Err(wrong) => Err(place.fault(key, Fault::Value(wrong))),
+    }
+}
+
+fn guid_of(place: TextPlace, key: &'static str, value: &str) -> Result<[u8; 16], LayoutError> {
+    read_guid(value).map_err(|wrong| place.fault(key, Fault::Value(wrong)))
 }
 
 fn attributes_of(place: TextPlace, key: &'static str, value: &str) -> Result<u64, LayoutError> {

@@ -9,7 +9,6 @@ use std::alloc::Global;
 /// The headers that were read.
 #[derive(Clone, Copy)]
 pub struct HeaderLines {
-    has_label: bool,
     /// The GUID of the disk.
     pub disk_guid: Option<[u8; 16]>,
     /// The alignment.
@@ -18,7 +17,15 @@ pub struct HeaderLines {
     pub header: Header,
 }
 
-/// Returns the name and the value of a line, if it is a header.
+/// Reports whether the line is a header of `sfdisk`, also if its value is wrong.
+pub fn is_header(line: &str) -> bool {
+    match header_of(line) {
+        Some((name, _)) => Section::Header.keys().iter().any(|key| *key == name),
+        None => false,
+    }
+}
+
+/// Returns the name and the value of a line, if it has the form of a header.
 pub fn header_of(line: &str) -> Option<(&str, &str)> {
     if line.contains('=') {
         return None;
@@ -34,7 +41,6 @@ impl HeaderLines {
     /// Returns the defaults.
     pub fn new() -> HeaderLines {
         HeaderLines {
-            has_label: false,
             disk_guid: None,
             align: DEFAULT_ALIGN,
             header: Header::nothing(),
@@ -50,10 +56,7 @@ impl HeaderLines {
         value: &str,
     ) -> Result<(), LayoutError> {
         match name {
-            "label" => {
-                self.has_label = true;
-                expect(place, "label", value, "gpt", Fault::NotGpt)
-            }
+            "label" => expect(place, "label", value, "gpt", Fault::NotGpt),
             "unit" => expect(place, "unit", value, "sectors", Fault::NotInSectors),
             "device" => Ok(()),
             "label-id" => {
@@ -89,21 +92,9 @@ impl HeaderLines {
         }
         Ok(())
     }
-
-    /// Returns the headers of the whole script. Fails with `NotGpt` if it has no label.
-    pub fn finish(self) -> Result<HeaderLines, LayoutError> {
-        if !self.has_label {
-            let place = TextPlace {
-                line: None,
-                section: Section::Header,
-            };
-            return Err(place.fault("label", Fault::NotGpt));
-        }
-        Ok(self)
-    }
 }
 
-// Refuses a value other than the only permitted one.
+// Refuses a value other than the only permitted one, in any case.
 fn expect(
     place: TextPlace,
     key: &'static str,
@@ -111,7 +102,7 @@ fn expect(
     only: &str,
     fault: Fault,
 ) -> Result<(), LayoutError> {
-    if value == only {
+    if value.eq_ignore_ascii_case(only) {
         Ok(())
     } else {
         Err(place.fault(key, fault))

@@ -1,20 +1,21 @@
 //! Types, attributes and names in a script.
 
 use crate::error::{Fault, LayoutError, TextPlace};
-use gptedit_values::{Wrong, find_sfdisk_bit, read_type};
+use gptedit_values::{find_sfdisk_bit, read_number};
 use std::alloc::Global;
 
-/// Reads a type: a letter or a short name of `sfdisk`, a name, or a GUID.
-pub fn read_script_type(word: &str) -> Result<[u8; 16], Wrong> {
-    read_type(match word {
-        "L" => "linux",
-        "S" => "swap",
-        "H" => "home",
-        "U" => "uefi",
-        "R" | "raid" => "linux-raid",
-        "V" | "lvm" => "linux-lvm",
-        word => word,
-    })
+// The first bit, the one of the attribute `required`.
+const REQUIRED: u64 = 1;
+
+/// Reports whether the word is a type of MBR partition tables in `sfdisk`: one or two hexadecimal digits, or a word
+/// for an extended partition.
+pub fn is_mbr_type(word: &str) -> bool {
+    let digits = word.strip_prefix("0x").unwrap_or(word);
+    matches!(word, "Ex" | "X" | "extended") || digits.len() <= 2 && is_hexadecimal(digits)
+}
+
+fn is_hexadecimal(digits: &str) -> bool {
+    !digits.is_empty() && digits.chars().all(|c| c.is_ascii_hexdigit())
 }
 
 /// Reads a list of attributes, separated by commas or blanks.
@@ -28,17 +29,17 @@ pub fn read_script_attributes(text: &str) -> Option<u64> {
     Some(bits)
 }
 
-// Reads one attribute: its name, or the number of its bit, maybe after `GUID:`.
+// Reads one attribute: its name, or the number of its bit, maybe after `GUID:`. Old versions of `sfdisk` wrote the
+// misspelt name.
 fn read_attribute(word: &str) -> Option<u64> {
     if let Some(bit) = find_sfdisk_bit(word) {
         return Some(1 << bit);
     }
-    let number = word.strip_prefix("GUID:").unwrap_or(word);
-    if number.starts_with('+') {
-        return None;
+    if word == "RequiredPartiton" {
+        return Some(REQUIRED);
     }
-    match number.parse::<u64>() {
-        Ok(bit) if bit < 64 => Some(1 << bit),
+    match read_number(word.strip_prefix("GUID:").unwrap_or(word)) {
+        Some(bit) if bit < 64 => Some(1 << bit),
         _ => None,
     }
 }
