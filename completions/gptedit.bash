@@ -16,22 +16,22 @@ _gptedit() {
         words="show check free dump salvage types new add set resize remove sort grow repair randomize apply wipe --help --version"
     elif [ -z "$words" ] && [ "${word:0:1}" = - ]; then
         case ${COMP_WORDS[1]} in
-        show) words="--map --sector --json -h --help" ;;
+        show) words="--map --short --sector --json -h --help" ;;
         check) words="--sector --json -h --help" ;;
         free) words="--align --sector --json -h --help" ;;
-        dump) words="--sector --json -h --help" ;;
+        dump) words="--sfdisk --sector --json -h --help" ;;
         salvage) words="--sector --json -h --help" ;;
         types) words="--json -h --help" ;;
         new) words="--guid --entries -n --dry-run --overwrite --in-use --force --lock --backup --sector --json -h --help" ;;
-        add) words="--type --size --name --guid --attributes --number --start --place --align -n --dry-run --overwrite --in-use --force --lock --backup --sector --json -h --help" ;;
-        set) words="--name --type --guid --attributes -n --dry-run --overwrite --in-use --force --lock --backup --sector --json -h --help" ;;
-        resize) words="-n --dry-run --overwrite --in-use --force --lock --backup --sector --json -h --help" ;;
-        remove) words="-n --dry-run --overwrite --in-use --force --lock --backup --sector --json -h --help" ;;
-        sort) words="-n --dry-run --overwrite --in-use --force --lock --backup --sector --json -h --help" ;;
+        add) words="--type --size --name --guid --attributes --number --start --place --align --fit -n --dry-run --overwrite --in-use --force --lock --backup --sector --json -h --help" ;;
+        set) words="--name --type --guid --attributes --fit -n --dry-run --overwrite --in-use --force --lock --backup --sector --json -h --help" ;;
+        resize) words="--fit -n --dry-run --overwrite --in-use --force --lock --backup --sector --json -h --help" ;;
+        remove) words="--fit -n --dry-run --overwrite --in-use --force --lock --backup --sector --json -h --help" ;;
+        sort) words="--fit -n --dry-run --overwrite --in-use --force --lock --backup --sector --json -h --help" ;;
         grow) words="-n --dry-run --overwrite --in-use --force --lock --backup --sector --json -h --help" ;;
         repair) words="--bounds -n --dry-run --overwrite --in-use --force --lock --backup --sector --json -h --help" ;;
-        randomize) words="-n --dry-run --overwrite --in-use --force --lock --backup --sector --json -h --help" ;;
-        apply) words="--replace --create -n --dry-run --overwrite --in-use --force --lock --backup --sector --json -h --help" ;;
+        randomize) words="--fit -n --dry-run --overwrite --in-use --force --lock --backup --sector --json -h --help" ;;
+        apply) words="--replace --create --fit -n --dry-run --overwrite --in-use --force --lock --backup --sector --json -h --help" ;;
         wipe) words="-n --dry-run --overwrite --in-use --force --lock --backup --sector --json -h --help" ;;
         esac
     fi

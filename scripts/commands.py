@@ -5,7 +5,7 @@ from typing import NamedTuple
 
 SOURCE = "crates/gptedit_words/src/commands.rt"
 TEXT = r'"((?:[^"\\]|\\.|\\\n)*)"'
-PLACES = ("Place", "NumberPlace", "NumberPlaces")
+PLACES = ("Place", "Places", "MayPlace")
 WITH_VALUE = ("Value", "NeededValue", "Number")
 
 

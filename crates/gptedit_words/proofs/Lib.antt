@@ -1,3 +1,3 @@
-mod Numbers
+mod Targets
 mod Shapes
 mod Spelled

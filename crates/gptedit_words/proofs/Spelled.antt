@@ -9,7 +9,7 @@ use Rattle.gptedit_words.specs.Line.{line}
 use Rattle.gptedit_words.specs.Refusals.{CanAsk, RefusedOnlyFor}
 use Rattle.gptedit_words.specs.Spelled.{IsOfUsage, IsRefused, Names}
 use Rattle.gptedit_words.specs.declared.error.WordsError.{WordsError}
-use Rattle.gptedit_words.specs.declared.error.WordsError.TheVariants.{LongName, MapAsJson, Missing, NothingToSet, OutOfMemory, Sector, Usage, Value}
+use Rattle.gptedit_words.specs.declared.error.WordsError.TheVariants.{Conflict, LongName, Missing, NothingToSet, OutOfMemory, Sector, Usage, Value}
 
 -- an error of `clap`
 pub usage_is : (words : List (List ℕ)) (e : Error) (error : WordsError) → HasKind (fault_of line words) e → IsOfUsage e error → IsRefused words error
@@ -28,7 +28,7 @@ wrong_is words name found (Err (LongName text)) named reason = record { name = n
 wrong_is words name found (Err (Value word text wrong)) named reason = record { name = name; found = found; named = named; reason = reason }
 wrong_is words name found (Err (Sector text)) named reason = record { name = name; found = found; named = named; reason = reason }
 wrong_is words name found (Err NothingToSet) named reason = record { name = name; found = found; named = named; reason = reason }
-wrong_is words name found (Err MapAsJson) named reason = record { name = name; found = found; named = named; reason = reason }
+wrong_is words name found (Err (Conflict one other)) named reason = record { name = name; found = found; named = named; reason = reason }
 
 -- a command is found, by its name and its arguments
 pub met : {A B C : Type 0} (o : Option A) (f : A → B) (g : A → C) (x : B) (y : C) → Some x ≡ option_map f o

@@ -1,7 +1,7 @@
 -- The meaning of a command's arguments, by the values that the command line has for each option and place.
 use Rattle.std.specs.Prelude.{◌≡◌, ◌≢◌, ◌⊎◌, ◌^◌, ◌<◌, ℕ, Bool, true, false, List, [], ◌∷◌, Option, Some, None, Ok, codes, option_map}
 use Rattle.std.specs.Str.Parse.{digits_value, without_leading_plus, IsNumeral}
-use Rattle.clap.specs.Words.{first_value, matched_of, one_text, typed_values}
+use Rattle.clap.specs.Words.{first_value, matched_of, one_text, raw_values}
 use Rattle.clap.specs.declared.parser.matches.Found.{Found}
 use Rattle.gptman.specs.declared.codec.name.PartitionName.{PartitionName}
 use Rattle.gptedit_core.specs.declared.amount.Amount.{Amount}
@@ -14,9 +14,11 @@ use Rattle.gptedit_core.specs.declared.asked.Mode.{Mode}
 use Rattle.gptedit_core.specs.declared.asked.Mode.TheVariants.{Add as Adding, Change as Changing}
 use Rattle.gptedit_core.specs.declared.asked.Size.{Size}
 use Rattle.gptedit_core.specs.declared.asked.Size.TheVariants.{Exactly, Rest}
-use Rattle.gptedit_values.specs.Words.{choice_said, guid_said, type_said, FitsAmount, FitsSize, SaysAmount, SaysAttributes, SaysSize}
+use Rattle.gptedit_core.specs.declared.target.Target.{Target}
+use Rattle.gptedit_values.specs.Fields.{SaysField}
+use Rattle.gptedit_values.specs.Words.{choice_said, guid_said, type_said, FitsAmount, FitsSize, SaysAmount, SaysAttributes, SaysSize, SaysTarget}
 use Rattle.gptedit_words.specs.declared.request.Change.{Change}
-use Rattle.gptedit_words.specs.declared.request.Change.TheVariants.{New, Edit, Sort, Grow, Repair, Randomize, Apply, Wipe}
+use Rattle.gptedit_words.specs.declared.request.Change.TheVariants.{New, Add, Alter, Remove, Sort, Grow, Repair, Randomize, Apply, Wipe}
 use Rattle.gptedit_words.specs.declared.request.Command.{Command}
 use Rattle.gptedit_words.specs.declared.request.Command.TheVariants.{Show, Check, Free, Dump, Salvage, Write}
 use Rattle.gptedit_words.specs.declared.request.ImageRequest.{ImageRequest}
@@ -24,6 +26,8 @@ use Rattle.gptedit_words.specs.declared.request.Lock.{Lock}
 use Rattle.gptedit_words.specs.declared.request.Lock.TheVariants.{Wait, Fail, None as Unlocked}
 use Rattle.gptedit_words.specs.declared.request.NewTable.{NewTable}
 use Rattle.gptedit_words.specs.declared.request.Options.{Options}
+use Rattle.gptedit_words.specs.declared.request.View.{View}
+use Rattle.gptedit_words.specs.declared.request.View.TheVariants.{Table, Map, Short, Partition, Field}
 use Rattle.gptedit_words.specs.declared.request.CommandLine.{CommandLine}
 use Rattle.gptedit_words.specs.declared.request.CommandLine.TheVariants.{Types, Image}
 
@@ -46,20 +50,20 @@ SaysNumber text number = IsNumeral 10 (without_leading_plus text) × (digits_val
 abbrev pub IsNumberOf : Found → List ℕ → ℕ → Type 0
 IsNumberOf found word number = (one_text found word ≢ None) × ((text : List ℕ) → one_text found word ≡ Some text → SaysNumber text number)
 
-abbrev pub HasNumberOf : Found → List ℕ → Option ℕ → Type 0
-HasNumberOf found word (Some number) = IsNumberOf found word number
-HasNumberOf found word None = ⊥
-
 -- The argument has this number, or is not given if the number is None.
 abbrev pub MayHaveNumberOf : Found → List ℕ → Option ℕ → Type 0
 MayHaveNumberOf found word (Some number) = IsNumberOf found word number
 MayHaveNumberOf found word None = one_text found word ≡ None
 
--- These are the numbers of the texts, in their order.
-abbrev pub AreNumbers : List (List ℕ) → List ℕ → Type 0
-AreNumbers [] [] = Unit {0}
-AreNumbers (text ∷ texts) (number ∷ numbers) = SaysNumber text number × AreNumbers texts numbers
-AreNumbers texts numbers = ⊥
+-- The argument is this partition.
+abbrev pub IsTargetOf : Found → List ℕ → Target → Type 0
+IsTargetOf found word target = Gives SaysTarget (first_value found word) (Some target)
+
+-- These are the partitions of the texts, in their order.
+abbrev pub AreTargets : List (List ℕ) → List Target → Type 0
+AreTargets [] [] = Unit {0}
+AreTargets (text ∷ texts) (target ∷ targets) = SaysTarget text target × AreTargets texts targets
+AreTargets texts targets = ⊥
 
 -- The flag is given.
 abbrev pub IsSet : Found → List ℕ → Type 0
@@ -166,25 +170,26 @@ pub record AsksOne (mode : Mode) (asks : Asked → Type 0) (layout : RequestedLa
   pub removes_none : layout.removed.items ≡ []
   pub one : IsOne asks layout.asked.items
 
--- `resize IMAGE N SIZE` changes only the size of entry N.
+-- `resize IMAGE N SIZE` changes only the size of partition N.
 pub record AsksSize (found : Found) (asked : Asked) : Type 0 where
-  pub number : HasNumberOf found (codes "N") asked.number
+  pub no_number : asked.number ≡ None
   pub size : Gives SaysNewSize (first_value found (codes "SIZE|max")) asked.size
   pub start_stays : asked.start ≡ None
   pub fields_stay : KeepsFields asked
 
 abbrev pub IsResize : Found → Change → Type 0
-IsResize found (Edit layout) = AsksOne Changing (AsksSize found) layout × (layout.align ≡ usual_align)
+IsResize found (Alter target layout) =
+    IsTargetOf found (codes "N") target × (AsksOne Changing (AsksSize found) layout × (layout.align ≡ usual_align))
 IsResize found change = ⊥
 
--- `set IMAGE N` changes only the given fields of entry N.
+-- `set IMAGE N` changes only the given fields of partition N.
 pub record AsksSet (found : Found) (asked : Asked) : Type 0 where
-  pub number : HasNumberOf found (codes "N") asked.number
+  pub no_number : asked.number ≡ None
   pub fields : AsksFields found asked
   pub place_stays : KeepsPlace asked
 
 abbrev pub IsSetting : Found → Change → Type 0
-IsSetting found (Edit layout) = AsksOne Changing (AsksSet found) layout
+IsSetting found (Alter target layout) = IsTargetOf found (codes "N") target × AsksOne Changing (AsksSet found) layout
 IsSetting found change = ⊥
 
 -- `add IMAGE` adds an entry with these values.
@@ -196,28 +201,22 @@ pub record AsksAddition (found : Found) (asked : Asked) : Type 0 where
   pub place : GivesOr SaysChoice First (first_value found (codes "--place")) asked.choice
 
 abbrev pub IsAddition : Found → Change → Type 0
-IsAddition found (Edit layout) = AsksOne Adding (AsksAddition found) layout
+IsAddition found (Add layout) = AsksOne Adding (AsksAddition found) layout
     × GivesOr SaysAmount usual_align (first_value found (codes "--align")) layout.align
 IsAddition found change = ⊥
 
 -- The texts of an argument.
 abbrev pub texts_of_place : Found → List ℕ → Option (List (List ℕ))
-texts_of_place found word = option_map typed_values (matched_of found word)
+texts_of_place found word = option_map raw_values (matched_of found word)
 
--- These are the numbers of an argument, in their order.
-abbrev pub HasNumbers : Option (List (List ℕ)) → List ℕ → Type 0
-HasNumbers (Some texts) numbers = AreNumbers texts numbers
-HasNumbers None numbers = ⊥
+-- These are the partitions of an argument, in their order.
+abbrev pub HasTargets : Option (List (List ℕ)) → List Target → Type 0
+HasTargets (Some texts) targets = AreTargets texts targets
+HasTargets None targets = ⊥
 
--- `remove IMAGE N..` only removes these numbers, in their order.
-pub record AsksRemoval (found : Found) (layout : RequestedLayout) : Type 0 where
-  pub mode_is : layout.mode ≡ Changing
-  pub guid_stays : layout.disk_guid ≡ None
-  pub removes : HasNumbers (texts_of_place found (codes "N")) layout.removed.items
-  pub asks_none : layout.asked.items ≡ []
-
+-- `remove IMAGE N..` removes these partitions, in their order.
 abbrev pub IsRemoval : Found → Change → Type 0
-IsRemoval found (Edit layout) = AsksRemoval found layout
+IsRemoval found (Remove targets) = HasTargets (texts_of_place found (codes "N")) targets.items
 IsRemoval found change = ⊥
 
 -- `new IMAGE` makes a table with these values.
@@ -234,12 +233,12 @@ pub record AsksApply (found : Found) (file : List ℕ) (is_replacing is_creating
 -- The command of this name makes this change, with these arguments.
 abbrev pub IsChange : List ℕ → Found → Change → Type 0
 IsChange name found (New new) = (name ≡ codes "new") × AsksNew found new
-IsChange name found (Edit layout) = ((name ≡ codes "add") × IsAddition found (Edit layout))
-    ⊎ (((name ≡ codes "set") × IsSetting found (Edit layout))
-    ⊎ (((name ≡ codes "resize") × IsResize found (Edit layout))
-    ⊎ ((name ≡ codes "remove") × IsRemoval found (Edit layout))))
+IsChange name found (Add layout) = (name ≡ codes "add") × IsAddition found (Add layout)
+IsChange name found (Alter target layout) = ((name ≡ codes "set") × IsSetting found (Alter target layout))
+    ⊎ ((name ≡ codes "resize") × IsResize found (Alter target layout))
+IsChange name found (Remove targets) = (name ≡ codes "remove") × IsRemoval found (Remove targets)
 IsChange name found Sort = name ≡ codes "sort"
-IsChange name found Grow = name ≡ codes "grow"
+IsChange name found (Grow target) = (name ≡ codes "grow") × Gives SaysTarget (first_value found (codes "N")) target
 IsChange name found (Repair has_usual_bounds) = (name ≡ codes "repair") × IsFlag found (codes "--bounds") has_usual_bounds
 IsChange name found Randomize = name ≡ codes "randomize"
 IsChange name found (Apply file is_replacing is_creating) = (name ≡ codes "apply") × AsksApply found file.now is_replacing is_creating
@@ -247,23 +246,49 @@ IsChange name found Wipe = name ≡ codes "wipe"
 
 -- The options of the change are the given ones.
 pub record AsksOptions (found : Found) (options : Options) : Type 0 where
+  pub fits : IsFlag found (codes "--fit") options.is_fitted
   pub dry : IsFlag found (codes "--dry-run") options.is_dry
   pub overwrites : IsEither found (codes "--overwrite") (codes "--force") options.may_overwrite
   pub uses : IsEither found (codes "--in-use") (codes "--force") options.may_use
   pub lock_is : GivesOr SaysLock Wait (first_value found (codes "--lock")) options.lock
   pub backup_is : option_map (λ file. file.now) options.backup ≡ first_value found (codes "--backup")
 
--- `show IMAGE` draws a map if `--map` is given. A map is not JSON.
-pub record AsksShow (found : Found) (has_map : Bool) : Type 0 where
+-- `show IMAGE` prints the table in this form.
+pub record AsksForm (found : Found) (has_map is_short : Bool) : Type 0 where
   pub map : IsFlag found (codes "--map") has_map
-  pub text : IsSet found (codes "--map") → ¬ (IsSet found (codes "--json"))
+  pub short : IsFlag found (codes "--short") is_short
+  pub whole : first_value found (codes "N") ≡ None
+
+-- Neither the map nor the short form is asked for.
+pub record IsPlain (found : Found) : Type 0 where
+  pub no_map : ¬ (IsSet found (codes "--map"))
+  pub no_short : ¬ (IsSet found (codes "--short"))
+
+-- `show IMAGE N` prints the fields of this partition, or the field FIELD.
+abbrev pub IsViewOf : Found → Target → View → Type 0
+IsViewOf found target (Partition shown) = (shown ≡ target) × (first_value found (codes "FIELD") ≡ None)
+IsViewOf found target (Field shown field) = (shown ≡ target) × Gives SaysField (first_value found (codes "FIELD")) (Some field)
+IsViewOf found target view = ⊥
+
+-- `show` prints this. A map and the short form are not JSON, and are of the whole table.
+abbrev pub IsView : Found → View → Type 0
+IsView found Table = AsksForm found false false
+IsView found Map = AsksForm found true false × ¬ (IsSet found (codes "--json"))
+IsView found Short = AsksForm found false true × ¬ (IsSet found (codes "--json"))
+IsView found (Partition target) = IsTargetOf found (codes "N") target × (IsViewOf found target (Partition target) × IsPlain found)
+IsView found (Field target field) = IsTargetOf found (codes "N") target × (IsViewOf found target (Field target field) × IsPlain found)
+
+-- `dump IMAGE` prints a script if `--sfdisk` is given. A script is not JSON.
+pub record AsksDump (found : Found) (is_script : Bool) : Type 0 where
+  pub script : IsFlag found (codes "--sfdisk") is_script
+  pub text : IsSet found (codes "--sfdisk") → ¬ (IsSet found (codes "--json"))
 
 -- The command of this name does this with an image, with these arguments.
 abbrev pub IsCommand : List ℕ → Found → Command → Type 0
-IsCommand name found (Show has_map) = (name ≡ codes "show") × AsksShow found has_map
+IsCommand name found (Show view) = (name ≡ codes "show") × IsView found view
 IsCommand name found Check = name ≡ codes "check"
 IsCommand name found (Free align) = (name ≡ codes "free") × Gives SaysAmount (first_value found (codes "--align")) align
-IsCommand name found Dump = name ≡ codes "dump"
+IsCommand name found (Dump is_script) = (name ≡ codes "dump") × AsksDump found is_script
 IsCommand name found Salvage = name ≡ codes "salvage"
 IsCommand name found (Write change options) = IsChange name found change × AsksOptions found options
 

@@ -1,9 +1,9 @@
 -- The `clap` rules for the commands as the code defines them.
 use Rattle.std.specs.Prelude.{List, [], ◌∷◌, ◌++◌, map}
 use Rattle.clap.specs.Words.{App, Rule, Shape, with_rule, with_subcommand}
-use Rattle.gptedit_words.specs.Line.{flag, lettered, needed_value, number, number_place, number_places, text_place, value, with_words}
+use Rattle.gptedit_words.specs.Line.{flag, lettered, needed_value, number, place, text_place, text_places, value, with_words}
 use Rattle.gptedit_words.specs.declared.definition.Argument.{Argument}
-use Rattle.gptedit_words.specs.declared.definition.Argument.TheVariants.{Flag, Lettered, Value, NeededValue, Number, Place, NumberPlace, NumberPlaces}
+use Rattle.gptedit_words.specs.declared.definition.Argument.TheVariants.{Flag, Lettered, Value, NeededValue, Number, Place, Places, MayPlace}
 use Rattle.gptedit_words.specs.declared.definition.Definition.{Definition}
 
 abbrev pub rule_for : Argument → Rule
@@ -13,8 +13,8 @@ rule_for (Value word name help) = value word.now
 rule_for (NeededValue word name help) = needed_value word.now
 rule_for (Number word most help) = number word.now most
 rule_for (Place name help) = text_place name.now
-rule_for (NumberPlace name help) = number_place name.now
-rule_for (NumberPlaces name help) = number_places name.now
+rule_for (Places name help) = text_places name.now
+rule_for (MayPlace name help) = place name.now
 
 abbrev pub shape_for : Definition → Shape
 shape_for d = with_words d.name.now (map rule_for d.arguments.now ++ map rule_for d.options.now)

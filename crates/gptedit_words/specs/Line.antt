@@ -31,24 +31,17 @@ flag word = record (option word) { action = Some SetTrue }
 abbrev pub lettered : ℕ → Text → Rule
 lettered letter word = record (flag word) { short = Some letter }
 
--- A required positional argument.
+-- A positional argument that may be omitted, and else is not empty.
 abbrev pub place : Text → Rule
-place name = record (new_rule name) { required = true }
+place name = record (new_rule name) { parser = Some NonEmptyString }
 
--- A required positional argument that is not empty.
+-- A required one.
 abbrev pub text_place : Text → Rule
-text_place name = record (place name) { parser = Some NonEmptyString }
+text_place name = record (place name) { required = true }
 
--- A number from 1 to 2^32 - 1.
-abbrev pub numbered : Rule → Rule
-numbered rule = record rule { parser = Some (Unsigned 1 (2 ^ 32 - 1)) }
-
-abbrev pub number_place : Text → Rule
-number_place name = numbered (place name)
-
--- One or more positional numbers from 1 to 2^32 - 1.
-abbrev pub number_places : Text → Rule
-number_places name = record (number_place name) {
+-- One or more required ones.
+abbrev pub text_places : Text → Rule
+text_places name = record (text_place name) {
   range = Some (record { start_inclusive = 1; end_inclusive = usize_max });
   action = Some Append;
 }
@@ -75,34 +68,37 @@ change name rules = with_words name ((text_place (codes "IMAGE") ∷ rules) ++ w
 
 -- The commands that only read.
 abbrev pub looks : List Shape
-looks = look (codes "show") (flag (codes "--map") ∷ [])
+looks = look (codes "show") (place (codes "N") ∷ place (codes "FIELD") ∷ flag (codes "--map") ∷ flag (codes "--short") ∷ [])
     ∷ look (codes "check") []
     ∷ look (codes "free") (value (codes "--align") ∷ [])
-    ∷ look (codes "dump") []
+    ∷ look (codes "dump") (flag (codes "--sfdisk") ∷ [])
     ∷ look (codes "salvage") []
     ∷ with_words (codes "types") (flag (codes "--json") ∷ [])
     ∷ []
 
+abbrev pub fit : Rule
+fit = flag (codes "--fit")
+
 abbrev pub added : List Rule
 added = needed_value (codes "--type") ∷ needed_value (codes "--size") ∷ value (codes "--name") ∷ value (codes "--guid")
     ∷ value (codes "--attributes") ∷ number (codes "--number") (2 ^ 32 - 1) ∷ value (codes "--start") ∷ value (codes "--place")
-    ∷ value (codes "--align") ∷ []
+    ∷ value (codes "--align") ∷ fit ∷ []
 
 abbrev pub set : List Rule
-set = number_place (codes "N") ∷ value (codes "--name") ∷ value (codes "--type") ∷ value (codes "--guid")
-    ∷ value (codes "--attributes") ∷ []
+set = text_place (codes "N") ∷ value (codes "--name") ∷ value (codes "--type") ∷ value (codes "--guid")
+    ∷ value (codes "--attributes") ∷ fit ∷ []
 
 abbrev pub changes : List Shape
 changes = change (codes "new") (value (codes "--guid") ∷ number (codes "--entries") 32768 ∷ [])
     ∷ change (codes "add") added
     ∷ change (codes "set") set
-    ∷ change (codes "resize") (number_place (codes "N") ∷ text_place (codes "SIZE|max") ∷ [])
-    ∷ change (codes "remove") (number_places (codes "N") ∷ [])
-    ∷ change (codes "sort") []
-    ∷ change (codes "grow") []
+    ∷ change (codes "resize") (text_place (codes "N") ∷ text_place (codes "SIZE|max") ∷ fit ∷ [])
+    ∷ change (codes "remove") (text_places (codes "N") ∷ fit ∷ [])
+    ∷ change (codes "sort") (fit ∷ [])
+    ∷ change (codes "grow") (place (codes "N") ∷ [])
     ∷ change (codes "repair") (flag (codes "--bounds") ∷ [])
-    ∷ change (codes "randomize") []
-    ∷ change (codes "apply") (text_place (codes "FILE") ∷ flag (codes "--replace") ∷ flag (codes "--create") ∷ [])
+    ∷ change (codes "randomize") (fit ∷ [])
+    ∷ change (codes "apply") (text_place (codes "FILE") ∷ flag (codes "--replace") ∷ flag (codes "--create") ∷ fit ∷ [])
     ∷ change (codes "wipe") []
     ∷ []
 

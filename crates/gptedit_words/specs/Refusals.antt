@@ -2,11 +2,12 @@
 use Rattle.std.specs.Prelude.{◌≡◌, ◌≢◌, ◌⊎◌, ◌||◌, ℕ, Bool, true, List, [], ◌∷◌, Option, Some, None, Result, Ok, Err, codes, is_some}
 use Rattle.clap.specs.Words.{first_value, matched_of, one_text}
 use Rattle.clap.specs.declared.parser.matches.Found.{Found}
-use Rattle.gptedit_values.specs.Words.{SaysNoAttributes}
+use Rattle.gptedit_values.specs.Words.{SaysNoAttributes, SaysNoTarget}
 use Rattle.gptedit_words.specs.Asks.{IsMissingOrWrong, IsNoSectorOf, IsUnset, IsWrong, texts_of_place}
 use Rattle.gptedit_words.specs.Asks.{SaysNoAmount, SaysNoChoice, SaysNoGuid, SaysNoLock, SaysNoNewSize, SaysNoNumber, SaysNoSize, SaysNoType}
+use Rattle.gptedit_values.specs.Fields.{SaysNoField}
 use Rattle.gptedit_words.specs.declared.error.WordsError.{WordsError}
-use Rattle.gptedit_words.specs.declared.error.WordsError.TheVariants.{LongName, MapAsJson, Missing, NothingToSet, OutOfMemory, Sector, Usage, Value}
+use Rattle.gptedit_words.specs.declared.error.WordsError.TheVariants.{Conflict, LongName, Missing, NothingToSet, OutOfMemory, Sector, Usage, Value}
 
 -- The arguments are refused for this reason, for a name that is too long, or because an allocation failed.
 abbrev pub RefusedOnlyFor : {A : Type 0} → Found → Type 0 → Result A WordsError → Type 0
@@ -17,7 +18,7 @@ RefusedOnlyFor found reason (Err (Usage error)) = reason
 RefusedOnlyFor found reason (Err (Value word text wrong)) = reason
 RefusedOnlyFor found reason (Err (Sector text)) = reason
 RefusedOnlyFor found reason (Err NothingToSet) = reason
-RefusedOnlyFor found reason (Err MapAsJson) = reason
+RefusedOnlyFor found reason (Err (Conflict one other)) = reason
 RefusedOnlyFor found reason (Err (Missing word)) = reason
 
 -- The given fields of an entry are valid.
@@ -40,30 +41,30 @@ unfoldable pub gives_field : Found → Bool
 gives_field found = is_some (matched_of found (codes "--name")) || (is_some (matched_of found (codes "--type"))
     || (is_some (matched_of found (codes "--guid")) || is_some (matched_of found (codes "--attributes"))))
 
--- The number N is given and valid.
-abbrev pub HasNumber : Found → Type 0
-HasNumber found = ¬ (IsMissingOrWrong SaysNoNumber (one_text found (codes "N")))
+-- The partition N is given and valid.
+abbrev pub HasTarget : Found → Type 0
+HasTarget found = ¬ (IsMissingOrWrong SaysNoTarget (first_value found (codes "N")))
 
 -- The arguments of `set` are valid.
 pub record CanSet (found : Found) : Type 0 where
-  pub number : HasNumber found
+  pub target : HasTarget found
   pub some : gives_field found ≡ true
   pub fields : HasFields found
 
 -- The arguments of `resize` are valid.
 pub record CanResize (found : Found) : Type 0 where
-  pub number : HasNumber found
+  pub target : HasTarget found
   pub size : ¬ (IsWrong SaysNoNewSize (first_value found (codes "SIZE|max")))
 
--- Each text is a number.
-abbrev pub AllNumbers : List (List ℕ) → Type 0
-AllNumbers [] = Unit {0}
-AllNumbers (text ∷ texts) = ¬ (SaysNoNumber text) × AllNumbers texts
+-- Each text is a partition.
+abbrev pub AllTargets : List (List ℕ) → Type 0
+AllTargets [] = Unit {0}
+AllTargets (text ∷ texts) = ¬ (SaysNoTarget text) × AllTargets texts
 
 -- The arguments of `remove` are valid.
 abbrev pub CanRemove : Option (List (List ℕ)) → Type 0
 CanRemove None = ⊥
-CanRemove (Some texts) = AllNumbers texts
+CanRemove (Some texts) = AllTargets texts
 
 -- The arguments of `new` are valid.
 pub record CanMake (found : Found) : Type 0 where
@@ -84,6 +85,7 @@ pub record CanChange (name : List ℕ) (found : Found) : Type 0 where
   pub set : name ≡ codes "set" → CanSet found
   pub resize : name ≡ codes "resize" → CanResize found
   pub remove : name ≡ codes "remove" → CanRemove (texts_of_place found (codes "N"))
+  pub grow : name ≡ codes "grow" → ¬ (IsWrong SaysNoTarget (first_value found (codes "N")))
   pub apply : name ≡ codes "apply" → first_value found (codes "FILE") ≢ None
 
 -- The command only reads an image.
@@ -95,13 +97,22 @@ pub record CanWrite (name : List ℕ) (found : Found) : Type 0 where
   pub change : CanChange name found
   pub lock : ¬ (IsWrong SaysNoLock (first_value found (codes "--lock")))
 
--- The arguments of `show` are valid: not both `--map` and `--json`.
-abbrev pub CanShow : Found → Type 0
-CanShow found = IsUnset found (codes "--map") ⊎ IsUnset found (codes "--json")
+-- The arguments of `show` are valid: a partition and a field, one of the other forms as text, or none.
+pub record CanShow (found : Found) : Type 0 where
+  pub target : ¬ (IsWrong SaysNoTarget (first_value found (codes "N")))
+  pub field : ¬ (IsWrong SaysNoField (first_value found (codes "FIELD")))
+  pub map : IsUnset found (codes "--map") ⊎ ((IsUnset found (codes "--short") × IsUnset found (codes "--json"))
+      × (first_value found (codes "N") ≡ None))
+  pub short : IsUnset found (codes "--short") ⊎ (IsUnset found (codes "--json") × (first_value found (codes "N") ≡ None))
+
+-- The arguments of `dump` are valid: not both `--sfdisk` and `--json`.
+abbrev pub CanDump : Found → Type 0
+CanDump found = IsUnset found (codes "--sfdisk") ⊎ IsUnset found (codes "--json")
 
 -- The arguments of this command are valid.
 pub record CanRun (name : List ℕ) (found : Found) : Type 0 where
   pub show : name ≡ codes "show" → CanShow found
+  pub dump : name ≡ codes "dump" → CanDump found
   pub free : name ≡ codes "free" → ¬ (IsWrong SaysNoAmount (first_value found (codes "--align")))
   pub write : IsOfLook name ⊎ CanWrite name found
 

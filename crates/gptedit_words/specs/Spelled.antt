@@ -8,7 +8,7 @@ use Rattle.gptedit_words.specs.Asks.{IsCommandLine}
 use Rattle.gptedit_words.specs.Line.{line}
 use Rattle.gptedit_words.specs.Refusals.{CanAsk, RefusedOnlyFor}
 use Rattle.gptedit_words.specs.declared.error.WordsError.{WordsError}
-use Rattle.gptedit_words.specs.declared.error.WordsError.TheVariants.{LongName, MapAsJson, Missing, NothingToSet, OutOfMemory, Sector, Usage, Value}
+use Rattle.gptedit_words.specs.declared.error.WordsError.TheVariants.{Conflict, LongName, Missing, NothingToSet, OutOfMemory, Sector, Usage, Value}
 use Rattle.gptedit_words.specs.declared.request.CommandLine.{CommandLine}
 
 -- The bytes of each argument.
@@ -43,7 +43,7 @@ IsRefused words (LongName text) = IsWrongOf words (LongName text)
 IsRefused words (Value word text wrong) = IsWrongOf words (Value word text wrong)
 IsRefused words (Sector text) = IsWrongOf words (Sector text)
 IsRefused words NothingToSet = IsWrongOf words NothingToSet
-IsRefused words MapAsJson = IsWrongOf words MapAsJson
+IsRefused words (Conflict one other) = IsWrongOf words (Conflict one other)
 
 -- An error of `clap` becomes `OutOfMemory` if it is an allocation failure, else `Usage`.
 abbrev pub IsOfUsage : Error → WordsError → Type 0

@@ -7,10 +7,20 @@ pub(crate) static LOOKS: [Definition; 6] = [
     Definition {
         name: "show",
         about: "Shows the table",
-        example: "Example:\n  gptedit show disk.img --map",
+        example: "Examples:\n  gptedit show disk.img --map\n  gptedit show disk.img name=root offset",
         arguments: &[
             IMAGE,
+            Argument::MayPlace(
+                "N",
+                "Shows only this partition: its number, name=TEXT or guid=GUID",
+            ),
+            Argument::MayPlace(
+                "FIELD",
+                "Prints only this field of it: number, start, end, size, offset,{n}\
+                 size-bytes, type, guid, name or attributes",
+            ),
             Argument::Flag("--map", "Also draws the disk as a line of characters"),
+            Argument::Flag("--short", "Shows the table in at most 80 columns"),
         ],
         options: READING,
     },
@@ -39,7 +49,10 @@ pub(crate) static LOOKS: [Definition; 6] = [
         name: "dump",
         about: "Prints the table as a layout for apply",
         example: "Example:\n  gptedit dump disk.img > disk.toml",
-        arguments: &[IMAGE],
+        arguments: &[
+            IMAGE,
+            Argument::Flag("--sfdisk", "Prints a script of sfdisk instead"),
+        ],
         options: READING,
     },
     Definition {
@@ -106,6 +119,7 @@ pub(crate) static CHANGES: [Definition; 11] = [
                 "SIZE",
                 "Starts it at a multiple of this size [default: 1MiB]",
             ),
+            FIT,
         ],
         options: WRITING,
     },
@@ -115,11 +129,12 @@ pub(crate) static CHANGES: [Definition; 11] = [
         example: "Example:\n  gptedit set disk.img 2 --name data",
         arguments: &[
             IMAGE,
-            NUMBER,
+            PARTITION,
             NAME,
             Argument::Value("--type", "TYPE", TYPE_HELP),
             GUID,
             ATTRIBUTES,
+            FIT,
         ],
         options: WRITING,
     },
@@ -129,11 +144,12 @@ pub(crate) static CHANGES: [Definition; 11] = [
         example: "Examples:\n  gptedit resize disk.img 2 40GiB\n  gptedit resize disk.img 2 max",
         arguments: &[
             IMAGE,
-            NUMBER,
+            PARTITION,
             Argument::Place(
                 "SIZE|max",
                 "The new size, as 40GiB or 2048s; max takes all that is free after it",
             ),
+            FIT,
         ],
         options: WRITING,
     },
@@ -143,7 +159,8 @@ pub(crate) static CHANGES: [Definition; 11] = [
         example: "Example:\n  gptedit remove disk.img 3 4",
         arguments: &[
             IMAGE,
-            Argument::NumberPlaces("N", "The numbers of the partitions"),
+            Argument::Places("N", "The partitions: their numbers, name=TEXT or guid=GUID"),
+            FIT,
         ],
         options: WRITING,
     },
@@ -151,14 +168,20 @@ pub(crate) static CHANGES: [Definition; 11] = [
         name: "sort",
         about: "Numbers the partitions in the order of their starts",
         example: "Example:\n  gptedit sort disk.img --dry-run",
-        arguments: &[IMAGE],
+        arguments: &[IMAGE, FIT],
         options: WRITING,
     },
     Definition {
         name: "grow",
         about: "Fits the table to the present length of the disk",
-        example: "Example:\n  truncate -s 20G disk.img && gptedit grow disk.img",
-        arguments: &[IMAGE],
+        example: "Example:\n  truncate -s 20G disk.img && gptedit grow disk.img 2",
+        arguments: &[
+            IMAGE,
+            Argument::MayPlace(
+                "N",
+                "Also extends this partition over all that is free after it",
+            ),
+        ],
         options: WRITING,
     },
     Definition {
@@ -178,7 +201,7 @@ pub(crate) static CHANGES: [Definition; 11] = [
         name: "randomize",
         about: "Writes random GUIDs for the disk and its partitions, for a clone",
         example: "Example:\n  gptedit randomize clone.img",
-        arguments: &[IMAGE],
+        arguments: &[IMAGE, FIT],
         options: WRITING,
     },
     Definition {
@@ -196,6 +219,7 @@ pub(crate) static CHANGES: [Definition; 11] = [
                 "Removes, moves or shortens partitions that the layout has otherwise",
             ),
             Argument::Flag("--create", "Writes a new table if there is none"),
+            FIT,
         ],
         options: WRITING,
     },
@@ -239,7 +263,15 @@ const IMAGE: Argument = Argument::Place(
     "A disk image, or the block device of a whole disk",
 );
 
-const NUMBER: Argument = Argument::NumberPlace("N", "The number of the partition");
+const PARTITION: Argument = Argument::Place(
+    "N",
+    "The partition: its number, name=TEXT or guid=GUID",
+);
+
+const FIT: Argument = Argument::Flag(
+    "--fit",
+    "First fits the table to the length of the disk, in the same write",
+);
 
 const SECTOR: Argument = Argument::Value(
     "--sector",

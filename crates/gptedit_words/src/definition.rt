@@ -3,7 +3,7 @@
 ghost use Rattle.std.specs.Prelude.{◌≡◌, IfOk, false, map};
 ghost use Rattle.clap.specs.Words.{app_of, rule_of, shape_of};
 ghost use Rattle.gptedit_words.specs.Definitions.{rule_for, shape_for, with_commands, with_rules};
-ghost use Rattle.gptedit_words.specs.Line.{flag, line, long_word, numbered, option, place};
+ghost use Rattle.gptedit_words.specs.Line.{flag, line, long_word, option, place};
 
 use crate::commands::{CHANGES, LOOKS};
 use clap::builder::ValueParser;
@@ -40,10 +40,10 @@ pub(crate) enum Argument {
     Number(&'static str, u64, &'static str),
     /// A positional argument that is not empty.
     Place(&'static str, &'static str),
-    /// A positional number from 1 to 2^32 - 1.
-    NumberPlace(&'static str, &'static str),
-    /// One or more such numbers.
-    NumberPlaces(&'static str, &'static str),
+    /// One or more of them.
+    Places(&'static str, &'static str),
+    /// A positional argument that may be omitted, and else is not empty.
+    MayPlace(&'static str, &'static str),
 }
 
 /// Returns the command line of `gptedit`. Fails only if an allocation fails.
@@ -116,13 +116,12 @@ fn arg_of<'a>(alloc: Global, argument: Argument) -> Arg<'a>
                 .value_name("N")
                 .value_parser(parser)
         }
-        Argument::Place(name, help) => {
-            place(alloc, name, help).value_parser(ValueParser::NonEmptyString)
-        }
-        Argument::NumberPlace(name, help) => numbered(place(alloc, name, help)),
-        Argument::NumberPlaces(name, help) => numbered(place(alloc, name, help))
+        Argument::Place(name, help) => place(alloc, name, help).required(true),
+        Argument::Places(name, help) => place(alloc, name, help)
+            .required(true)
             .num_args(1..)
             .action(ArgAction::Append),
+        Argument::MayPlace(name, help) => place(alloc, name, help),
     }
 }
 
@@ -148,18 +147,12 @@ fn long_word(word: &str) -> &str
     word.strip_prefix("--").unwrap_or(word)
 }
 
-// Returns a required positional argument.
+// Returns a positional argument that is not empty.
 fn place<'a>(alloc: Global, name: &'a str, help: &'a str) -> Arg<'a>
     ensures rule { rule_of result ≡ place name.entry.now }
     ensures local { result.global ≡ false }
 {
-    Arg::new(alloc, name).required(true).help(help)
-}
-
-// Restricts the value to a number from 1 to 2^32 - 1.
-fn numbered(arg: Arg<'_>) -> Arg<'_>
-    ensures rule { rule_of result ≡ numbered (rule_of arg.entry) }
-    ensures local { result.global ≡ arg.entry.global }
-{
-    arg.value_parser(ValueParser::unsigned(1, u64::from(u32::MAX)))
+    Arg::new(alloc, name)
+        .value_parser(ValueParser::NonEmptyString)
+        .help(help)
 }

@@ -11,7 +11,7 @@ ghost use Rattle.gptedit_words.specs.Refusals.{gives_field, CanAdd, CanRemove, C
 use crate::error::WordsError;
 use crate::request::Change;
 use crate::values::{
-    amount, attributes, choice, guid, kind, name, new_size, number, number_if_given, numbers, size,
+    amount, attributes, choice, guid, kind, name, new_size, number_if_given, size, target, targets,
 };
 use clap::ArgMatches;
 use gptedit_core::{Amount, Asked, Choice, DEFAULT_ALIGN, Mode, RequestedLayout};
@@ -30,7 +30,7 @@ pub(crate) fn read_add<'a>(
 {
     let asked = read_new_entry(alloc, words)?;
     let align = amount(words, "--align")?.unwrap_or(DEFAULT_ALIGN);
-    Ok(Change::Edit(RequestedLayout {
+    Ok(Change::Add(RequestedLayout {
         mode: Mode::Add,
         ..layout_of(alloc, align, asked)?
     }))
@@ -60,11 +60,12 @@ pub(crate) fn read_set<'a>(
     if !gives_field(words) {
         return Err(WordsError::NothingToSet);
     }
-    let asked = Asked {
-        number: Some(number(words, "N")?),
-        ..read_fields(alloc, words)?
-    };
-    Ok(Change::Edit(layout_of(alloc, ANY, asked)?))
+    let target = target(words, "N")?;
+    let asked = read_fields(alloc, words)?;
+    Ok(Change::Alter {
+        target,
+        layout: layout_of(alloc, ANY, asked)?,
+    })
 }
 
 // Reports whether a field of the entry is given.
@@ -86,12 +87,15 @@ pub(crate) fn read_resize<'a>(
     ensures said { IfOk result (IsResize (found_of words.now)) }
     ensures refused { RefusedOnlyFor (found_of words.now) (¬ (CanResize (found_of words.now))) result }
 {
+    let target = target(words, "N")?;
     let asked = Asked {
-        number: Some(number(words, "N")?),
         size: new_size(words, "SIZE|max")?,
         ..Asked::nothing(None)
     };
-    Ok(Change::Edit(layout_of(alloc, DEFAULT_ALIGN, asked)?))
+    Ok(Change::Alter {
+        target,
+        layout: layout_of(alloc, DEFAULT_ALIGN, asked)?,
+    })
 }
 
 /// Reads the arguments of `remove`.
@@ -102,13 +106,7 @@ pub(crate) fn read_remove<'a>(
     ensures said { IfOk result (IsRemoval (found_of words.now)) }
     ensures refused { RefusedOnlyFor (found_of words.now) (¬ (CanRemove (texts_of_place (found_of words.now) (codes "N")))) result }
 {
-    Ok(Change::Edit(RequestedLayout {
-        mode: Mode::Change,
-        disk_guid: None,
-        align: ANY,
-        removed: numbers(alloc, words, "N")?,
-        asked: Vec::new(alloc),
-    }))
+    Ok(Change::Remove(targets(alloc, words, "N")?))
 }
 
 // Returns the layout that changes one entry.
@@ -132,6 +130,7 @@ fn layout_of(alloc: Global, align: Amount, asked: Asked) -> Result<RequestedLayo
 fn read_fields<'a>(alloc: Global, words: &ArgMatches<'a>) -> Result<Asked, WordsError<'a>>
     ensures fields { IfOk result (AsksFields (found_of words.now)) }
     ensures place { IfOk result KeepsPlace }
+    ensures number { IfOk result (λ asked. asked.number ≡ None) }
     ensures refused { RefusedOnlyFor (found_of words.now) (¬ (HasFields (found_of words.now))) result }
 {
     Ok(Asked {

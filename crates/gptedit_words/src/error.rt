@@ -5,7 +5,7 @@ ghost use Rattle.gptedit_words.specs.Spelled.{IsOfUsage};
 ghost use Rattle.gptedit_words.specs.declared.error.WordsError.TheVariants.{OutOfMemory};
 
 use clap::error::ErrorKind;
-use gptedit_values::Wrong;
+use gptedit_values::{Wrong, WrongText};
 use std::alloc::{AllocError, AllocFailed};
 use std::error::Error;
 use std::{fmt, io};
@@ -13,10 +13,6 @@ use std::{fmt, io};
 // The message for `set` without a field.
 const NOTHING_TO_SET: &str = "error: nothing to set; use --name, --type, --guid or --attributes\n\n\
                               For more information, try '--help'.\n";
-
-// The message for `show --map --json`.
-const MAP_AS_JSON: &str = "error: the argument '--map' cannot be used with '--json'\n\n\
-                           For more information, try '--help'.\n";
 
 /// An error of a command line.
 #[derive(Drop, Debug)]
@@ -35,8 +31,11 @@ pub enum WordsError<'a> {
     LongName(&'a str),
     /// `set` has nothing to set.
     NothingToSet,
-    /// `show` has both `--map` and `--json`.
-    MapAsJson,
+    /// Two arguments exclude each other, and both are given.
+    Conflict {
+        one: &'static str,
+        other: &'static str,
+    },
     /// The argument is missing. `clap` reports that first, as `Usage`.
     Missing(&'static str),
     /// An allocation failed.
@@ -67,7 +66,10 @@ impl fmt::Display for WordsError<'_> {
     fn fmt<W: fmt::Write>(&self, f: &mut fmt::Formatter<W>) -> fmt::Result {
         match self {
             WordsError::Usage(error) => write!(f, "{error}"),
-            WordsError::Value { word, text, wrong } => write_value(f, word, text, wrong),
+            WordsError::Value { word, text, wrong } => {
+                let wrong = *wrong;
+                write_value(f, word, text, WrongText { wrong, text })
+            }
             WordsError::Sector(text) => {
                 write_value(
                     f,
@@ -80,7 +82,13 @@ impl fmt::Display for WordsError<'_> {
                 write_value(f, "--name", text, "a name has at most 36 units of UTF-16")
             }
             WordsError::NothingToSet => f.write_str(NOTHING_TO_SET),
-            WordsError::MapAsJson => f.write_str(MAP_AS_JSON),
+            WordsError::Conflict { one, other } => {
+                write!(
+                    f,
+                    "error: the argument '{one}' cannot be used with '{other}'\n\n"
+                )?;
+                f.write_str("For more information, try '--help'.\n")
+            }
             WordsError::Missing(word) => writeln!(f, "error: {word} is missing"),
             WordsError::OutOfMemory => f.write_str("error: out of memory\n"),
         }

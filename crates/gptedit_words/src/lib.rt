@@ -14,4 +14,4 @@ mod values;
 pub use definition::command;
 pub use error::WordsError;
 pub use line::read_words;
-pub use request::{Change, Command, CommandLine, ImageRequest, Lock, NewTable, Options};
+pub use request::{Change, Command, CommandLine, ImageRequest, Lock, NewTable, Options, View};

@@ -1,23 +1,28 @@
 //! Parses the arguments of a command line.
 
-ghost use Rattle.std.specs.Prelude.{◌≡◌, ◌≢◌, codes, IfErr, IfOk, None};
+ghost use Rattle.std.specs.Prelude.{◌≡◌, ◌≢◌, codes, false, true, IfErr, IfOk, None, OnOk};
 ghost use Rattle.clap.specs.Words.{first_value, found_of};
-ghost use Rattle.gptedit_words.specs.Asks.{AsksOptions, IsChange, IsCommand, IsCommandLine, IsWrong, SaysNoLock};
-ghost use Rattle.gptedit_words.specs.Refusals.{CanAsk, CanChange, CanMake, CanRun, CanShow, RefusedOnlyFor};
+ghost use Rattle.gptedit_values.specs.Fields.{SaysNoField};
+ghost use Rattle.gptedit_words.specs.Asks.{AsksOptions, IsChange, IsCommand, IsCommandLine, IsView, IsViewOf};
+ghost use Rattle.gptedit_words.specs.Asks.{IsWrong, SaysNoLock};
+ghost use Rattle.gptedit_words.specs.Refusals.{CanAsk, CanChange, CanDump, CanMake, CanRun, CanShow, RefusedOnlyFor};
 ghost use Rattle.gptedit_words.specs.Spelled.{texts_of, IsRefused, IsSpelled};
 
 use crate::definition::command;
 use crate::entries;
 use crate::error::WordsError;
-use crate::request::{Change, Command, CommandLine, ImageRequest, Lock, NewTable, Options};
-use crate::values::{amount, guid, lock, needed, number_if_given, sector_size};
+use crate::request::{Change, Command, CommandLine, ImageRequest, Lock, NewTable, Options, View};
+use crate::values::{
+    amount, field_if_given, guid, lock, needed, number_if_given, sector_size, target_if_given,
+};
 use clap::ArgMatches;
+use gptedit_core::Target;
 use std::alloc::Global;
 
 /// Parses these arguments. The first is the program's name.
 ///
 /// # Errors
-/// `Usage` if they do not fit the command line; `Missing`, `Value`, `Sector`, `LongName`, `NothingToSet` or `MapAsJson`
+/// `Usage` if they do not fit the command line; `Missing`, `Value`, `Sector`, `LongName`, `NothingToSet` or `Conflict`
 /// if the arguments of a command are wrong; `OutOfMemory` if an allocation fails.
 pub fn read_words<'a>(alloc: Global, words: &'a [String]) -> Result<CommandLine<'a>, WordsError<'a>>
     ensures said { IfOk result (IsSpelled (texts_of words.entry.now)) }
@@ -65,7 +70,7 @@ fn read_command<'a>(
         "free" => Ok(Command::Free {
             align: amount(words, "--align")?,
         }),
-        "dump" => Ok(Command::Dump),
+        "dump" => read_dump(words),
         "salvage" => Ok(Command::Salvage),
         _ => Ok(Command::Write {
             change: read_change(alloc, name, words)?,
@@ -78,11 +83,66 @@ fn read_show<'a>(words: &ArgMatches<'a>) -> Result<Command<'a>, WordsError<'a>>
     ensures said { IfOk result (IsCommand (codes "show") (found_of words.now)) }
     ensures refused { RefusedOnlyFor (found_of words.now) (¬ (CanShow (found_of words.now))) result }
 {
-    let has_map = words.get_flag("--map");
-    if has_map && words.get_flag("--json") {
-        return Err(WordsError::MapAsJson);
+    Ok(Command::Show {
+        view: read_view(words)?,
+    })
+}
+
+fn read_view<'a>(words: &ArgMatches<'a>) -> Result<View<'a>, WordsError<'a>>
+    ensures said { IfOk result (IsView (found_of words.now)) }
+    ensures refused { RefusedOnlyFor (found_of words.now) (¬ (CanShow (found_of words.now))) result }
+{
+    let (has_map, is_short) = (words.get_flag("--map"), words.get_flag("--short"));
+    let (is_json, has_number) = (words.get_flag("--json"), words.get_str("N").is_some());
+    refuse_both(has_map && is_short, "--map", "--short")?;
+    refuse_both(has_map && is_json, "--map", "--json")?;
+    refuse_both(is_short && is_json, "--short", "--json")?;
+    refuse_both(has_map && has_number, "--map", "[N]")?;
+    refuse_both(is_short && has_number, "--short", "[N]")?;
+    match target_if_given(words, "N")? {
+        Some(target) => read_partition(words, target),
+        None if has_map => Ok(View::Map),
+        None if is_short => Ok(View::Short),
+        None => Ok(View::Table),
     }
-    Ok(Command::Show { has_map })
+}
+
+// Reads what is shown of a partition.
+fn read_partition<'a>(
+    words: &ArgMatches<'a>,
+    target: Target<'a>,
+) -> Result<View<'a>, WordsError<'a>>
+    ensures said { IfOk result (IsViewOf (found_of words.now) target.entry) }
+    ensures refused { RefusedOnlyFor (found_of words.now) (IsWrong SaysNoField (first_value (found_of words.now) (codes "FIELD"))) result }
+{
+    match field_if_given(words, "FIELD")? {
+        Some(field) => Ok(View::Field(target, field)),
+        None => Ok(View::Partition(target)),
+    }
+}
+
+// Refuses two arguments if both are given.
+fn refuse_both<'a>(
+    are_both: bool,
+    one: &'static str,
+    other: &'static str,
+) -> Result<(), WordsError<'a>>
+    ensures lacks { OnOk result (are_both ≡ false) }
+    ensures both { IfErr result (λ error. are_both ≡ true) }
+{
+    if are_both {
+        return Err(WordsError::Conflict { one, other });
+    }
+    Ok(())
+}
+
+fn read_dump<'a>(words: &ArgMatches<'a>) -> Result<Command<'a>, WordsError<'a>>
+    ensures said { IfOk result (IsCommand (codes "dump") (found_of words.now)) }
+    ensures refused { RefusedOnlyFor (found_of words.now) (¬ (CanDump (found_of words.now))) result }
+{
+    let is_script = words.get_flag("--sfdisk");
+    refuse_both(is_script && words.get_flag("--json"), "--sfdisk", "--json")?;
+    Ok(Command::Dump { is_script })
 }
 
 fn read_options<'a>(words: &ArgMatches<'a>) -> Result<Options<'a>, WordsError<'a>>
@@ -91,6 +151,7 @@ fn read_options<'a>(words: &ArgMatches<'a>) -> Result<Options<'a>, WordsError<'a
 {
     let is_forced = words.get_flag("--force");
     Ok(Options {
+        is_fitted: words.get_flag("--fit"),
         is_dry: words.get_flag("--dry-run"),
         may_overwrite: words.get_flag("--overwrite") || is_forced,
         may_use: words.get_flag("--in-use") || is_forced,
@@ -114,7 +175,7 @@ fn read_change<'a>(
         "resize" => entries::read_resize(alloc, words),
         "remove" => entries::read_remove(alloc, words),
         "sort" => Ok(Change::Sort),
-        "grow" => Ok(Change::Grow),
+        "grow" => Ok(Change::Grow(target_if_given(words, "N")?)),
         "repair" => Ok(Change::Repair {
             has_usual_bounds: words.get_flag("--bounds"),
         }),

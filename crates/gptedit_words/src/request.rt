@@ -1,6 +1,7 @@
 //! The requests of a command line.
 
-use gptedit_core::{Amount, RequestedLayout};
+use gptedit_core::{Amount, RequestedLayout, Target};
+use gptedit_values::Field;
 
 /// The request of a command line.
 #[derive(Drop, Debug)]
@@ -30,10 +31,10 @@ pub struct ImageRequest<'a> {
 /// The command.
 #[derive(Drop, Debug)]
 pub enum Command<'a> {
-    /// Prints the table.
+    /// Prints the table or a part of it.
     Show {
-        /// Whether to draw a map of the disk.
-        has_map: bool,
+        /// What is printed.
+        view: View<'a>,
     },
     /// Checks both copies of the table.
     Check,
@@ -43,7 +44,10 @@ pub enum Command<'a> {
         align: Option<Amount>,
     },
     /// Prints the table as a layout.
-    Dump,
+    Dump {
+        /// Whether the layout is a script of sfdisk.
+        is_script: bool,
+    },
     /// Prints what can be read of a damaged table, as a layout.
     Salvage,
     /// Writes a table.
@@ -55,9 +59,26 @@ pub enum Command<'a> {
     },
 }
 
+/// What `show` prints.
+#[derive(Clone, Copy, Debug)]
+pub enum View<'a> {
+    /// The table.
+    Table,
+    /// The table and a map of the disk.
+    Map,
+    /// The table in at most 80 columns.
+    Short,
+    /// The fields of a partition.
+    Partition(Target<'a>),
+    /// One field of a partition.
+    Field(Target<'a>, Field),
+}
+
 /// The options of a change.
 #[derive(Clone, Copy, PartialEq, Eq, Debug)]
 pub struct Options<'a> {
+    /// Whether the table is first fitted to the length of the disk, in the same write.
+    pub is_fitted: bool,
     /// Whether to print the change without writing it.
     pub is_dry: bool,
     /// Whether contents that would be lost may be overwritten.
@@ -95,12 +116,22 @@ pub struct NewTable {
 pub enum Change<'a> {
     /// Writes a new table and a protective MBR.
     New(NewTable),
-    /// Changes entries as this layout says.
-    Edit(RequestedLayout),
+    /// Adds the entry that this layout requests.
+    Add(RequestedLayout),
+    /// Changes the entry of a partition.
+    Alter {
+        /// The partition.
+        target: Target<'a>,
+        /// The change: a layout that requests one entry, without a number.
+        layout: RequestedLayout,
+    },
+    /// Removes partitions.
+    Remove(Vec<Target<'a>>),
     /// Numbers the partitions in the order of their starts.
     Sort,
-    /// Fits the table to the length of the image.
-    Grow,
+    /// Fits the table to the length of the image, and then extends this partition, if any, over all that is free after
+    /// it.
+    Grow(Option<Target<'a>>),
     /// Writes the table again from the good copy.
     Repair {
         /// Whether to set the first and last usable sectors to those of the usual layout.

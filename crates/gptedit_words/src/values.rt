@@ -2,9 +2,10 @@
 
 ghost use Rattle.std.specs.Prelude.{◌≡◌, ◌↔◌, codes, IfErr, IfOk, IsTrue, None, Some};
 ghost use Rattle.clap.specs.Words.{first_value, found_of, one_text};
-ghost use Rattle.gptedit_values.specs.Words.{SaysAmount, SaysAttributes, SaysNoAttributes, SaysSize};
-ghost use Rattle.gptedit_words.specs.Asks.{Gives, IsNumberOf, SaysChoice, SaysGuid, SaysLock, SaysName, SaysNewSize};
-ghost use Rattle.gptedit_words.specs.Asks.{HasNumbers, IsSectorOf, IsSectorSize, SaysType, texts_of_place};
+ghost use Rattle.gptedit_values.specs.Fields.{SaysField, SaysNoField};
+ghost use Rattle.gptedit_values.specs.Words.{SaysAmount, SaysAttributes, SaysNoAttributes, SaysNoTarget, SaysSize, SaysTarget};
+ghost use Rattle.gptedit_words.specs.Asks.{Gives, SaysChoice, SaysGuid, SaysLock, SaysName, SaysNewSize};
+ghost use Rattle.gptedit_words.specs.Asks.{HasTargets, IsSectorOf, IsSectorSize, IsTargetOf, SaysType, texts_of_place};
 ghost use Rattle.gptedit_words.specs.Asks.{IsMissingOrWrong, IsNoSectorOf, IsWrong, MayHaveNumberOf};
 ghost use Rattle.gptedit_words.specs.Asks.{SaysNoAmount, SaysNoChoice, SaysNoGuid, SaysNoLock, SaysNoNewSize};
 ghost use Rattle.gptedit_words.specs.Asks.{SaysNoNumber, SaysNoSize, SaysNoType};
@@ -13,9 +14,10 @@ ghost use Rattle.gptedit_words.specs.Refusals.{CanRemove, RefusedOnlyFor};
 use crate::error::WordsError;
 use crate::request::Lock;
 use clap::ArgMatches;
-use gptedit_core::{Amount, Choice, Size};
+use gptedit_core::{Amount, Choice, Size, Target};
 use gptedit_values::{
-    Wrong, is_long_name, read_amount, read_attributes, read_choice, read_guid, read_size, read_type,
+    Field, Wrong, is_long_name, read_amount, read_attributes, read_choice, read_field, read_guid,
+    read_size, read_target, read_type,
 };
 use gptman::PartitionName;
 use std::alloc::Global;
@@ -196,17 +198,6 @@ fn read_lock(text: &str) -> Result<Lock, Wrong>
     }
 }
 
-/// Reads the number of a required argument.
-pub(crate) fn number<'a>(words: &ArgMatches<'a>, word: &'static str) -> Result<u32, WordsError<'a>>
-    ensures said { IfOk result (IsNumberOf (found_of words.now) word.now) }
-    ensures refused { IfErr result (λ error. IsMissingOrWrong SaysNoNumber (one_text (found_of words.now) word.now)) }
-{
-    match words.get_one::<u32>(word) {
-        Some(number) => Ok(number),
-        None => Err(WordsError::Missing(word)),
-    }
-}
-
 /// Reads a number, if the argument is given.
 pub(crate) fn number_if_given<'a>(
     words: &ArgMatches<'a>,
@@ -215,35 +206,89 @@ pub(crate) fn number_if_given<'a>(
     ensures said { IfOk result (MayHaveNumberOf (found_of words.now) word.now) }
     ensures refused { IfErr result (λ error. IsWrong SaysNoNumber (one_text (found_of words.now) word.now)) }
 {
-    match words.get_str(word) {
-        Some(_) => match number(words, word) {
-            Ok(number) => Ok(Some(number)),
-            Err(error) => Err(error),
-        },
-        None => Ok(None),
+    if words.get_str(word).is_none() {
+        return Ok(None);
+    }
+    match words.get_one::<u32>(word) {
+        Some(number) => Ok(Some(number)),
+        None => Err(WordsError::Missing(word)),
     }
 }
 
-/// Reads the numbers of a required argument.
-pub(crate) fn numbers<'a>(
+/// Reads the partition of a required argument.
+pub(crate) fn target<'a>(
+    words: &ArgMatches<'a>,
+    word: &'static str,
+) -> Result<Target<'a>, WordsError<'a>>
+    ensures said { IfOk result (IsTargetOf (found_of words.now) word.now) }
+    ensures refused { IfErr result (λ error. IsMissingOrWrong SaysNoTarget (first_value (found_of words.now) word.now)) }
+{
+    match target_if_given(words, word)? {
+        Some(target) => Ok(target),
+        None => Err(WordsError::Missing(word)),
+    }
+}
+
+/// Reads a partition, if the argument is given.
+pub(crate) fn target_if_given<'a>(
+    words: &ArgMatches<'a>,
+    word: &'static str,
+) -> Result<Option<Target<'a>>, WordsError<'a>>
+    ensures said { IfOk result (Gives SaysTarget (first_value (found_of words.now) word.now)) }
+    ensures refused { IfErr result (λ error. IsWrong SaysNoTarget (first_value (found_of words.now) word.now)) }
+{
+    let Some(text) = words.get_str(word) else {
+        return Ok(None);
+    };
+    match read_target(text) {
+        Ok(value) => Ok(Some(value)),
+        Err(wrong) => Err(WordsError::Value { word, text, wrong }),
+    }
+}
+
+/// Reads the partitions of a required argument.
+pub(crate) fn targets<'a>(
     alloc: Global,
     words: &ArgMatches<'a>,
     word: &'static str,
-) -> Result<Vec<u32>, WordsError<'a>>
-    ensures said { IfOk result (λ numbers. HasNumbers (texts_of_place (found_of words.now) word.now) numbers.items) }
+) -> Result<Vec<Target<'a>>, WordsError<'a>>
+    ensures said { IfOk result (λ targets. HasTargets (texts_of_place (found_of words.now) word.now) targets.items) }
     ensures refused { RefusedOnlyFor (found_of words.now) (¬ (CanRemove (texts_of_place (found_of words.now) word.now))) result }
 {
-    let Some(texts) = words.get_many::<u32>(word) else {
+    let Some(texts) = words.get_strs(word) else {
         return Err(WordsError::Missing(word));
     };
-    let mut numbers = Vec::new(alloc);
-    for number in texts {
-        match number {
-            Ok(number) => numbers.push(number)?,
-            Err(_) => return Err(WordsError::Missing(word)),
+    let mut targets = Vec::new(alloc);
+    for text in texts {
+        match read_target(*text) {
+            Ok(target) => targets.push(target)?,
+            Err(wrong) => {
+                return Err(WordsError::Value {
+                    word,
+                    text: *text,
+                    wrong,
+                });
+            }
         }
     }
-    Ok(numbers)
+    Ok(targets)
+}
+
+/// Reads the name of a field, if the argument is given.
+pub(crate) fn field_if_given<'a>(
+    words: &ArgMatches<'a>,
+    word: &'static str,
+) -> Result<Option<Field>, WordsError<'a>>
+    ensures said { IfOk result (Gives SaysField (first_value (found_of words.now) word.now)) }
+    ensures refused { IfErr result (λ error. IsWrong SaysNoField (first_value (found_of words.now) word.now)) }
+{
+    let Some(text) = words.get_str(word) else {
+        return Ok(None);
+    };
+    match read_field(text) {
+        Ok(value) => Ok(Some(value)),
+        Err(wrong) => Err(WordsError::Value { word, text, wrong }),
+    }
 }
 
 /// Reads the name of a partition, if it is given.
