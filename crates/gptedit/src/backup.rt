@@ -1,13 +1,15 @@
 //! The file of `--backup`: the old table as a layout, written before a change.
 
-use crate::failure::{Failure, refuse};
+use crate::failure::{Failure, refuse, refuse_failed, refuse_plain};
 use crate::looking::layout_text;
+use gptedit_report::{Commands, Message, Reason};
 use gptedit_values::Escaped;
 use gptman::GPT;
+use std::alloc::AllocError;
 use std::fs::File;
 use std::io::Write;
 use std::rt::Files;
-use std::{fs, io};
+use std::{fmt, fs, io};
 
 /// Refuses `--backup` if no table is read or the file exists.
 pub fn refuse_backup<R: Files<File = File> + AllocGlobal>(
@@ -17,21 +19,40 @@ pub fn refuse_backup<R: Files<File = File> + AllocGlobal>(
     was: Option<&GPT>,
 ) -> Result<(), Failure> {
     if was.is_none() {
-        let name = Escaped(image);
-        let why = format!(in rt.alloc();
-            "there is no good table for --backup to save\n\
-            save what `gptedit salvage {name}` prints, then run this without --backup"
-        )?;
-        return Err(refuse(rt.alloc(), image, &why));
+        return Err(refuse(rt.alloc(), image, &NoBackup { image }));
     }
     if fs::symlink_metadata(rt, file).is_ok() {
-        return Err(refuse(
-            rt.alloc(),
-            file,
-            &"the file already exists; use another name for --backup",
-        ));
+        let text = "the file already exists; use another name for --backup";
+        return Err(refuse_plain(rt.alloc(), file, Reason::BackupExists, text));
     }
     Ok(())
+}
+
+// Message: there is no table to save.
+#[derive(Clone, Copy)]
+struct NoBackup<'a> {
+    image: &'a str,
+}
+
+impl fmt::Display for NoBackup<'_> {
+    fn fmt<W: fmt::Write>(&self, f: &mut fmt::Formatter<W>) -> fmt::Result {
+        f.write_str("there is no good table for --backup to save\n")?;
+        let image = Escaped(self.image);
+        write!(
+            f,
+            "save what `gptedit salvage {image}` prints, then run this without --backup"
+        )
+    }
+}
+
+impl Message for NoBackup<'_> {
+    fn reason(&self) -> Reason {
+        Reason::NoBackup
+    }
+
+    fn add_commands(&self, commands: &mut Commands) -> Result<(), AllocError> {
+        commands.add_own("salvage", self.image)
+    }
 }
 
 /// Writes the table to a new file, in the form that `dump` prints, and syncs it.
@@ -44,7 +65,7 @@ pub fn write_backup<R: Files<File = File> + AllocGlobal>(
     let text = layout_text(rt.alloc(), image, was)?;
     match write_new(rt, file, text.as_bytes()) {
         Ok(()) => Ok(()),
-        Err(error) => Err(refuse(rt.alloc(), file, &error)),
+        Err(error) => Err(refuse_failed(rt.alloc(), file, Reason::BackupFailed, &error)),
     }
 }
 

@@ -75,7 +75,7 @@ fn write(
             return Err(refuse_asked(alloc, image.name, table.as_ref(), sector_size, &refusal));
         }
     }
-    change_mbr(alloc, image, look, task.purpose, plan.is_changed, false)?;
+    change_mbr(alloc, image, look, task.mbr, plan.is_changed, false)?;
     if task.purpose == Purpose::New {
         if let Err(error) = clear_signatures(&mut image.opened.disk, look, sector_size) {
             return Err(refuse_error(alloc, image.name, &error));

@@ -104,6 +104,7 @@ where
 
 // The options of a dry run without other options.
 const PLAIN: Options<'static> = Options {
+    is_fitted: false,
     is_dry: true,
     may_overwrite: false,
     may_use: false,

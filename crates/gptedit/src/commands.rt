@@ -4,16 +4,18 @@ use crate::changing::change;
 use crate::checking::check;
 use crate::failure::Failure;
 use crate::image::{Image, Opening};
-use crate::layouts::{layout_for, read_asked};
+use crate::layouts::{layout_for, read_asked, take_bootable};
+use crate::selecting::number_of;
 use crate::task::Task;
 use crate::wiping::clear;
 use crate::{looking, making, tasks};
-use gptedit_core::Job;
-use gptedit_look::Look;
+use gptedit_core::{Job, RequestedLayout};
+use gptedit_look::{Look, Purpose};
 use gptedit_report::types_json;
 use gptedit_text::Parsed;
 use gptedit_values::Escaped;
 use gptedit_words::{Change, Command, ImageRequest, Lock, Options};
+use gptman::GPT;
 use std::alloc::Global;
 use std::fs::File;
 use std::io::Write;
@@ -95,11 +97,14 @@ where
         looking::warn_of_dos(rt, image, &look.first_sector);
     }
     match command {
-        Command::Show { has_map } => {
-            looking::show(out, alloc, image, &look, *has_map, is_json)?;
-        }
+        Command::Show { view } => looking::show(out, alloc, image, &look, view, is_json)?,
         Command::Free { align } => looking::free(out, alloc, image, &look, *align, is_json)?,
-        Command::Dump => looking::dump(out, alloc, image, &look, is_json)?,
+        Command::Dump { is_script } => {
+            if *is_script {
+                looking::warn_of_losses(rt, image, &look)?;
+            }
+            looking::dump(out, alloc, image, &look, *is_script, is_json)?;
+        }
         _ => return check(rt, out, image, &look, is_json),
     }
     Ok(0)
@@ -139,14 +144,18 @@ fn write<R, W: Write>(
 where
     R: Files<File = File> + RandomSource + Input + Eprint + AllocGlobal + Clone + Drop,
 {
-    let parsed = match &change {
+    let mut parsed = match &change {
         Change::Apply { file, .. } => Some(read_asked(rt, *file)?),
         _ => None,
     };
+    let bootable = take_bootable(rt.alloc(), parsed.as_mut());
     let mut image = Image::open(rt, asked.image, &asked.opening())?;
     let usual = usual_size(&change, parsed.as_ref());
     let look = image.look(rt.alloc(), usual)?;
     let is_written = make(rt, out, &mut image, look, change, parsed, &asked)?;
+    for number in bootable.iter() {
+        let _ = eprintln!(rt; "partition {number}: bootable sets the attribute legacy-boot");
+    }
     if is_written {
         if let Some(device) = &image.opened.device {
             let (command, name) = (device.command(), Escaped(image.name));
@@ -188,7 +197,7 @@ where
     if matches!(&wanted, Change::Wipe) {
         return clear(rt, out, image, look, options, how);
     }
-    let mut task = task_of(rt, image, &look, wanted, parsed)?;
+    let mut task = task_of(rt, image, &look, wanted, parsed, options.is_fitted)?;
     change(rt, out, image, &look, &mut task, options, how)
 }
 
@@ -198,11 +207,11 @@ fn task_of<R>(
     look: &Look,
     wanted: Change<'_>,
     parsed: Option<Parsed>,
+    is_fitted: bool,
 ) -> Result<Task, Failure>
 where
     R: RandomSource + AllocGlobal,
 {
-    let alloc = rt.alloc();
     if let Change::New(asked) = &wanted {
         return making::new(rt, image, look, *asked);
     }
@@ -210,25 +219,74 @@ where
         return task_without(rt, image, look, &wanted, parsed);
     };
     match wanted {
-        Change::Edit(layout) => tasks::edit(rt, Job::Apply(layout)),
-        Change::Sort => tasks::edit(rt, Job::Sort),
-        Change::Grow => Ok(tasks::grow()),
-        Change::Repair { has_usual_bounds } => tasks::repair(rt, image, look, has_usual_bounds),
-        Change::Randomize => tasks::randomize(rt, table),
-        Change::Apply {
-            file,
-            is_replacing,
-            ..
-        } => match parsed {
-            Some(parsed) => {
-                let layout = layout_for(alloc, file, parsed, table, is_replacing)?;
-                tasks::edit(rt, Job::Apply(layout))
-            }
-            None => Err(image.no_table(alloc, look)),
-        },
-        Change::New(asked) => making::new(rt, image, look, asked),
-        Change::Wipe => Err(image.no_table(alloc, look)),
+        Change::Grow(None) => return Ok(tasks::grow()),
+        Change::Repair { has_usual_bounds } => {
+            return tasks::repair(rt, image, look, has_usual_bounds);
+        }
+        _ => (),
     }
+    let is_growth = matches!(wanted, Change::Grow(_));
+    let job = job_of(rt, image, look, table, wanted, parsed)?;
+    if !is_fitted && !is_growth {
+        return tasks::edit(rt, job);
+    }
+    let mut task = tasks::edit_fitted(rt, look, table, job)?;
+    if is_growth {
+        task.mbr = Purpose::Fit;
+    }
+    Ok(task)
+}
+
+// Returns the job of a change of entries.
+fn job_of<R>(
+    rt: &R,
+    image: &mut Image<'_>,
+    look: &Look,
+    table: &GPT,
+    wanted: Change<'_>,
+    parsed: Option<Parsed>,
+) -> Result<Job, Failure>
+where
+    R: RandomSource + AllocGlobal,
+{
+    let alloc = rt.alloc();
+    let layout = match (wanted, parsed) {
+        (Change::Sort, _) => return Ok(Job::Sort),
+        (Change::Add(layout), _) => layout,
+        (Change::Alter { target, layout }, _) => {
+            let number = number_of(alloc, image.name, table, &target)?;
+            with_number(layout, number)
+        }
+        (Change::Remove(targets), _) => {
+            let mut numbers = Vec::new(alloc);
+            for target in targets.iter() {
+                numbers.push(number_of(alloc, image.name, table, target)?)?;
+            }
+            tasks::removal(alloc, numbers)
+        }
+        (Change::Grow(Some(target)), _) => {
+            tasks::extension(alloc, number_of(alloc, image.name, table, &target)?)?
+        }
+        (Change::Randomize, _) => tasks::random_guids(rt, table)?,
+        (
+            Change::Apply {
+                file,
+                is_replacing,
+                ..
+            },
+            Some(parsed),
+        ) => layout_for(alloc, file, parsed, table, is_replacing)?,
+        _ => return Err(image.no_table(alloc, look)),
+    };
+    Ok(Job::Apply(layout))
+}
+
+// Returns the layout, whose requested entry gets this number.
+fn with_number(mut layout: RequestedLayout, number: u32) -> RequestedLayout {
+    for asked in layout.asked.iter_mut() {
+        asked.number = Some(number);
+    }
+    layout
 }
 
 // Returns the task if no table was read: only `apply --create` makes a table.

@@ -3,8 +3,9 @@
 ghost use Rattle.std.specs.Prelude.{◌≤◌, IfOk, length};
 ghost use Rattle.gptedit_core.specs.Planning.{has_random};
 
-use crate::failure::{Failure, refuse};
+use crate::failure::{Failure, refuse_failed};
 use gptedit_core::{Job, Request};
+use gptedit_report::Reason;
 use gptguid_core::from_random;
 use std::random::RandomSource;
 
@@ -13,7 +14,10 @@ pub fn draw_guid<R: RandomSource + AllocGlobal>(rt: &R) -> Result<[u8; 16], Fail
     let mut drawn = [0; 16];
     match rt.fill_bytes(&mut drawn) {
         Ok(()) => Ok(from_random(drawn)),
-        Err(error) => Err(refuse(rt.alloc(), "random bytes", &error)),
+        Err(error) => {
+            let reason = Reason::NoRandomBytes;
+            Err(refuse_failed(rt.alloc(), "random bytes", reason, &error))
+        }
     }
 }
 

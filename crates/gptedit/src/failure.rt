@@ -1,24 +1,19 @@
 //! Failures of a command.
 
 use gptedit_core::Refusal;
-use gptedit_report::{ErrorText, RefusalText};
-use gptedit_values::Escaped;
+use gptedit_report::{
+    ErrorText, FailedText, Message, OUT_OF_MEMORY_JSON, Plain, Reason, RefusalText, Report,
+};
 use gptman::{Error, GPT};
 use std::alloc::{AllocError, AllocFailed, Global};
 use std::io::ErrorKind;
 use std::{fmt, io};
 
-/// The reason why a command failed.
+/// The failure of a command.
 #[derive(Drop, Debug)]
 pub enum Failure {
-    /// The command was refused; the text has the reason and a remedy.
-    Refused(String),
-    /// No table can be read, or the disk has a DOS partition table.
-    NoTable(String),
-    /// The image is in use or locked.
-    Busy(String),
-    /// The disk failed.
-    Device(String),
+    /// The command was refused, or the disk or a file failed.
+    Refused(Report),
     /// Standard output failed.
     Output(io::Error),
     /// Out of memory.
@@ -29,10 +24,26 @@ impl Failure {
     /// Returns the exit status.
     pub fn status(&self) -> u8 {
         match self {
-            Failure::Refused(_) | Failure::Output(_) | Failure::OutOfMemory => 1,
-            Failure::NoTable(_) => 3,
-            Failure::Busy(_) => 4,
-            Failure::Device(_) => 5,
+            Failure::Refused(report) => report.reason.status(),
+            Failure::Output(_) | Failure::OutOfMemory => 1,
+        }
+    }
+
+    /// Prints the failure as JSON, unless standard output has failed.
+    pub fn print_json<R: Print + AllocGlobal>(&self, rt: &R) {
+        match self {
+            Failure::Refused(report) => match report.to_json(rt.alloc()) {
+                Ok(text) => {
+                    let _ = println!(rt; "{text}");
+                }
+                Err(_) => {
+                    let _ = println!(rt; "{OUT_OF_MEMORY_JSON}");
+                }
+            },
+            Failure::OutOfMemory => {
+                let _ = println!(rt; "{OUT_OF_MEMORY_JSON}");
+            }
+            Failure::Output(_) => (),
         }
     }
 }
@@ -41,10 +52,7 @@ impl Failure {
 impl fmt::Display for Failure {
     fn fmt<W: fmt::Write>(&self, f: &mut fmt::Formatter<W>) -> fmt::Result {
         match self {
-            Failure::Refused(text)
-            | Failure::NoTable(text)
-            | Failure::Busy(text)
-            | Failure::Device(text) => f.write_str(text.as_str()),
+            Failure::Refused(report) => f.write_str(report.message.as_str()),
             Failure::Output(error) => write!(f, "standard output failed: {error}"),
             Failure::OutOfMemory => f.write_str("out of memory"),
         }
@@ -74,62 +82,34 @@ impl<T: Drop> From<AllocFailed<T>> for Failure {
     }
 }
 
-/// Returns the message `text` about `of`, an image or a file.
-pub fn text_of<D: fmt::Display>(alloc: Global, of: &str, text: &D) -> Result<String, AllocError> {
-    format!(in alloc; "{}: {text}", Escaped(of))
-}
-
-/// Returns a refusal with the message `text` about `of`, an image or a file.
-pub fn refuse<D: fmt::Display>(alloc: Global, of: &str, text: &D) -> Failure {
-    match text_of(alloc, of, text) {
-        Ok(text) => Failure::Refused(text),
+/// Returns the failure with a message about `of`, an image or a file.
+pub fn refuse<M: Message>(alloc: Global, of: &str, message: &M) -> Failure {
+    match Report::new(alloc, of, message) {
+        Ok(report) => Failure::Refused(report),
         Err(_) => Failure::OutOfMemory,
     }
 }
 
-/// Returns the failure that no table can be read.
-pub fn refuse_no_table<D: fmt::Display>(alloc: Global, of: &str, text: &D) -> Failure {
-    match text_of(alloc, of, text) {
-        Ok(text) => Failure::NoTable(text),
-        Err(_) => Failure::OutOfMemory,
-    }
+/// Returns the failure with a fixed text about `of`, an image or a file.
+pub fn refuse_plain(alloc: Global, of: &str, reason: Reason, text: &'static str) -> Failure {
+    refuse(alloc, of, &Plain { reason, text })
 }
 
-/// Returns the failure that the image is in use or locked.
-pub fn refuse_busy<D: fmt::Display>(alloc: Global, of: &str, text: &D) -> Failure {
-    match text_of(alloc, of, text) {
-        Ok(text) => Failure::Busy(text),
-        Err(_) => Failure::OutOfMemory,
-    }
-}
-
-/// Returns the failure that the disk failed.
-pub fn refuse_device<D: fmt::Display>(alloc: Global, of: &str, text: &D) -> Failure {
-    match text_of(alloc, of, text) {
-        Ok(text) => Failure::Device(text),
-        Err(_) => Failure::OutOfMemory,
-    }
+/// Returns the failure for an error of a file or of the system, with the text of the error.
+pub fn refuse_failed<E: fmt::Display>(
+    alloc: Global,
+    of: &str,
+    reason: Reason,
+    error: &E,
+) -> Failure {
+    refuse(alloc, of, &FailedText { reason, error })
 }
 
 /// Returns the failure for an error of the library.
 pub fn refuse_error(alloc: Global, image: &str, error: &Error) -> Failure {
-    let text = ErrorText { error, image };
     match error {
         Error::OutOfMemory => Failure::OutOfMemory,
-        Error::Io(_) => refuse_device(alloc, image, &text),
-        Error::InvalidSignature | Error::ReadError(_, _) => refuse_no_table(alloc, image, &text),
-        Error::InvalidRevision
-        | Error::InvalidHeaderSize
-        | Error::InvalidChecksum(_, _)
-        | Error::InvalidPartitionEntryArrayChecksum(_, _)
-        | Error::InvalidPartitionEntrySize(_)
-        | Error::NoSpaceLeft
-        | Error::ConflictPartitionGUID
-        | Error::InvalidPartitionBoundaries
-        | Error::InvalidPartitionNumber(_)
-        | Error::UnusedPartition
-        | Error::PartitionNotFound
-        | Error::Overflow => refuse(alloc, image, &text),
+        error => refuse(alloc, image, &ErrorText { error, image }),
     }
 }
 

@@ -1,14 +1,14 @@
 //! An open image.
 
-use crate::failure::{Failure, refuse, refuse_busy, refuse_device, refuse_error, refuse_no_table};
-use gptedit_busy::{Lock, OpenError, Opened};
+use crate::failure::{Failure, refuse, refuse_error, refuse_plain};
+use gptedit_busy::{Holder, Lock, OpenError, Opened};
 use gptedit_look::salvage::salvage;
 use gptedit_look::{Look, Looked, find_format, look};
-use gptedit_report::NoTableText;
+use gptedit_report::{Commands, Lift, Message, NoTableText, Reason};
 use gptedit_values::Escaped;
 use gptman::sizes::MAX_ENTRY_COUNT;
 use gptman::{Error, FileDisk};
-use std::alloc::Global;
+use std::alloc::{AllocError, Global};
 use std::fs::File;
 use std::io::ErrorKind;
 use std::rt::Files;
@@ -67,7 +67,7 @@ impl<'a> Image<'a> {
             Ok(Looked::Seen(look)) => Ok(look),
             Ok(Looked::TooMany(count)) => {
                 let image = self.name;
-                Err(refuse_no_table(alloc, image, &TooMany { count, image }))
+                Err(refuse(alloc, image, &TooMany { count, image }))
             }
             Err(error) => Err(refuse_error(alloc, self.name, &error)),
         }
@@ -92,7 +92,7 @@ impl<'a> Image<'a> {
         )
     }
 
-    fn without_table(&mut self, alloc: Global, look: &Look, more: &str) -> Failure {
+    fn without_table(&mut self, alloc: Global, look: &Look, more: &'static str) -> Failure {
         let salvaged = match salvage(alloc, &mut self.opened.disk, self.known_size) {
             Ok(salvaged) => salvaged,
             Err(error) => return refuse_error(alloc, self.name, &error),
@@ -102,23 +102,20 @@ impl<'a> Image<'a> {
             salvaged: &salvaged,
             image: self.name,
         };
-        match format!(in alloc; "{text}{more}") {
-            Ok(text) => refuse_no_table(alloc, self.name, &text),
-            Err(_) => Failure::OutOfMemory,
-        }
+        refuse(alloc, self.name, &WithoutTable { text, more })
     }
 
     /// Refuses to change a device of unknown sector size, and a disk that failed while a copy of the table was read. A
     /// copy past the end of the disk is not such a failure.
     pub fn refuse_unknown(&self, alloc: Global, look: &Look) -> Result<(), Failure> {
         if self.opened.device.is_some() && self.known_size.is_none() {
-            return Err(refuse(alloc, self.name, &NoSectorSize));
+            return Err(refuse_plain(alloc, self.name, Reason::NoSectorSize, NO_SECTOR_SIZE));
         }
         let copies = &look.copies;
         for copy in [&copies.primary, &copies.backup] {
             match copy {
                 Err(Error::Io(error)) if error.kind() != ErrorKind::UnexpectedEof => {
-                    return Err(refuse_device(alloc, self.name, &FailedReading(error)));
+                    return Err(refuse(alloc, self.name, &FailedReading(error)));
                 }
                 _ => (),
             }
@@ -130,8 +127,62 @@ impl<'a> Image<'a> {
 fn not_opened(alloc: Global, name: &str, error: &OpenError) -> Failure {
     match error {
         OpenError::OutOfMemory => Failure::OutOfMemory,
-        OpenError::Locked { .. } => refuse_busy(alloc, name, error),
-        _ => refuse(alloc, name, error),
+        error => refuse(alloc, name, &NotOpened(error)),
+    }
+}
+
+// Message: the image is not opened.
+#[derive(Clone, Copy)]
+struct NotOpened<'a>(&'a OpenError);
+
+impl fmt::Display for NotOpened<'_> {
+    fn fmt<W: fmt::Write>(&self, f: &mut fmt::Formatter<W>) -> fmt::Result {
+        write!(f, "{}", self.0)
+    }
+}
+
+impl Message for NotOpened<'_> {
+    fn reason(&self) -> Reason {
+        match self.0 {
+            OpenError::Io(_) => Reason::NotOpened,
+            OpenError::NotADisk => Reason::NotADisk,
+            OpenError::Locked { .. } => Reason::Locked,
+            OpenError::Replaced => Reason::Replaced,
+            OpenError::OutOfMemory => Reason::OutOfMemory,
+        }
+    }
+
+    fn lifted_by(&self) -> Option<Lift> {
+        match self.0 {
+            OpenError::Locked { holder } => match holder {
+                Holder::Ancestor | Holder::Machine => Some(Lift::NoLock),
+                Holder::Other => None,
+            },
+            _ => None,
+        }
+    }
+}
+
+// Message: no copy of the table is good, and a further line.
+#[derive(Clone, Copy)]
+struct WithoutTable<'a> {
+    text: NoTableText<'a>,
+    more: &'static str,
+}
+
+impl fmt::Display for WithoutTable<'_> {
+    fn fmt<W: fmt::Write>(&self, f: &mut fmt::Formatter<W>) -> fmt::Result {
+        write!(f, "{}{}", self.text, self.more)
+    }
+}
+
+impl Message for WithoutTable<'_> {
+    fn reason(&self) -> Reason {
+        self.text.reason()
+    }
+
+    fn add_commands(&self, commands: &mut Commands) -> Result<(), AllocError> {
+        self.text.add_commands(commands)
     }
 }
 
@@ -162,6 +213,20 @@ impl fmt::Display for OtherFormat<'_> {
             f,
             "convert it with `qemu-img convert -O raw {image} {image}.raw`, or export it with qemu-nbd"
         )
+    }
+}
+
+impl Message for OtherFormat<'_> {
+    fn reason(&self) -> Reason {
+        Reason::NotRaw
+    }
+
+    fn add_commands(&self, commands: &mut Commands) -> Result<(), AllocError> {
+        if !is_of_qemu(self.format) {
+            return Ok(());
+        }
+        let raw = format!(in commands.alloc(); "{}.raw", self.image)?;
+        commands.add(&["qemu-img", "convert", "-O", "raw", self.image, raw.as_str()])
     }
 }
 
@@ -196,16 +261,19 @@ impl fmt::Display for TooMany<'_> {
     }
 }
 
-// Message: the sector size of a device cannot be read.
-#[derive(Clone, Copy)]
-struct NoSectorSize;
+impl Message for TooMany<'_> {
+    fn reason(&self) -> Reason {
+        Reason::TooManyEntries
+    }
 
-impl fmt::Display for NoSectorSize {
-    fn fmt<W: fmt::Write>(&self, f: &mut fmt::Formatter<W>) -> fmt::Result {
-        f.write_str("the sector size of the device cannot be read\n")?;
-        f.write_str("use --sector, for example --sector 512")
+    fn add_commands(&self, commands: &mut Commands) -> Result<(), AllocError> {
+        commands.add_own("salvage", self.image)
     }
 }
+
+// Message: the sector size of a device cannot be read.
+const NO_SECTOR_SIZE: &str = "the sector size of the device cannot be read\n\
+    use --sector, for example --sector 512";
 
 // Message: the disk failed while a copy was read.
 #[derive(Clone, Copy)]
@@ -219,5 +287,11 @@ impl fmt::Display for FailedReading<'_> {
             self.0
         )?;
         f.write_str("nothing was written; first copy its contents to another disk")
+    }
+}
+
+impl Message for FailedReading<'_> {
+    fn reason(&self) -> Reason {
+        Reason::DeviceFailed
     }
 }

@@ -1,15 +1,16 @@
 //! Reads layouts from files.
 
-use crate::failure::{Failure, refuse};
+use crate::failure::{Failure, refuse_failed, refuse_plain};
 use gptedit_core::{Mode, RequestedLayout};
+use gptedit_report::Reason;
 use gptedit_text::{LayoutError, MAX_LAYOUT_BYTES, Parsed, is_script, read_layout, read_script};
 use gptman::GPT;
 use std::alloc::Global;
 use std::collections::BTreeSet;
 use std::fs::File;
-use std::io;
 use std::io::{ErrorKind, Read};
 use std::rt::Files;
+use std::{io, mem};
 
 /// Reads a layout or an `sfdisk` script from a file; `-` is standard input. Call it before the image is opened.
 /// Otherwise the image is locked while standard input is read, and may get the descriptor of a closed standard input.
@@ -48,11 +49,15 @@ fn read_text<R: Files<File = File> + Input + AllocGlobal>(
         Err(error) => return Err(not_read(alloc, file, error)),
     };
     if bytes.len() as u64 > MAX_LAYOUT_BYTES {
-        return Err(refuse(alloc, file, &"the layout is larger than 64 MiB"));
+        let text = "the layout is larger than 64 MiB";
+        return Err(refuse_plain(alloc, file, Reason::BadLayout, text));
     }
     match String::from_utf8(bytes) {
         Ok(text) => Ok(text),
-        Err(_) => Err(refuse(alloc, file, &"the layout is not a text in UTF-8")),
+        Err(_) => {
+            let text = "the layout is not a text in UTF-8";
+            Err(refuse_plain(alloc, file, Reason::BadLayout, text))
+        }
     }
 }
 
@@ -83,14 +88,22 @@ fn read_bytes<R: Read>(alloc: Global, reader: &mut R) -> io::Result<Vec<u8>> {
 fn not_read(alloc: Global, file: &str, error: io::Error) -> Failure {
     match error.kind() {
         ErrorKind::OutOfMemory => Failure::OutOfMemory,
-        _ => refuse(alloc, file, &error),
+        _ => refuse_failed(alloc, file, Reason::LayoutNotRead, &error),
     }
 }
 
 fn not_a_layout(alloc: Global, file: &str, error: LayoutError) -> Failure {
     match error {
         LayoutError::OutOfMemory => Failure::OutOfMemory,
-        error => refuse(alloc, file, &error),
+        error => refuse_failed(alloc, file, Reason::BadLayout, &error),
+    }
+}
+
+/// Takes the numbers of the partitions that a script marks as bootable.
+pub fn take_bootable(alloc: Global, parsed: Option<&mut Parsed>) -> Vec<u32> {
+    match parsed {
+        Some(parsed) => mem::replace(&mut parsed.bootable, Vec::new(alloc)),
+        None => Vec::new(alloc),
     }
 }
 
@@ -105,7 +118,7 @@ pub fn layout_for(
     is_replacing: bool,
 ) -> Result<RequestedLayout, Failure> {
     if let Err(other) = parsed.header.check(parsed.form, table) {
-        return Err(refuse(alloc, file, &other));
+        return Err(refuse_failed(alloc, file, Reason::LayoutMismatch, &other));
     }
     let mut layout = parsed.layout;
     if is_replacing {

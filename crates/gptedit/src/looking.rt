@@ -3,16 +3,18 @@
 use crate::failure::{Failure, refuse_asked, refuse_error};
 use crate::image::Image;
 use crate::making::USUAL_SIZE;
+use crate::query::{show_field, show_partition};
 use gptedit_core::{Amount, Refusal, layout_of};
 use gptedit_look::first_sector::read_first_sector;
 use gptedit_look::salvage::salvage;
 use gptedit_look::{FirstSector, Look, MbrKind};
 use gptedit_report::{
-    CopiesState, Edges, FreeRange, free_json, print_free, print_map, print_salvaged, salvaged_json,
-    show_table, table_json,
+    CopiesState, Edges, FreeRange, find_losses, free_json, print_free, print_map, print_salvaged,
+    salvaged_json, script_text, show_short, show_table, table_json,
 };
 use gptedit_text::{Header, write_layout};
 use gptedit_values::Escaped;
+use gptedit_words::View;
 use gptman::GPT;
 use std::alloc::{AllocError, Global};
 use std::io::Write;
@@ -38,26 +40,36 @@ pub fn look_for_dos<R: Eprint + AllocGlobal>(rt: &R, image: &mut Image<'_>) -> R
     }
 }
 
-/// Prints the table, and a map of the disk if `has_map` is set.
+/// Prints the table or a part of it.
 pub fn show<W: Write>(
     out: &mut W,
     alloc: Global,
     image: &mut Image<'_>,
     look: &Look,
-    has_map: bool,
+    view: &View<'_>,
     is_json: bool,
 ) -> Result<(), Failure> {
     let Some(table) = &look.table else {
         return Err(image.no_table(alloc, look));
     };
-    let state = state_of(look);
-    if is_json {
-        return print_state_json(out, alloc, image, look, table, &state, false);
-    }
-    show_table(out, alloc, image.name, look.size, table, &state)?;
-    if has_map {
-        out.write_all(b"\n")?;
-        print_map(out, alloc, image.name, look.size, table, &look.copies)?;
+    let (size, state) = (look.size, state_of(look));
+    match view {
+        View::Partition(target) => {
+            return show_partition(out, alloc, image, table, target, is_json);
+        }
+        View::Field(target, field) => {
+            return show_field(out, alloc, image, table, target, *field, is_json);
+        }
+        _ if is_json => {
+            return print_state_json(out, alloc, image, look, table, &state);
+        }
+        View::Short => show_short(out, alloc, size, table, &state)?,
+        View::Table => show_table(out, alloc, image.name, size, table, &state)?,
+        View::Map => {
+            show_table(out, alloc, image.name, size, table, &state)?;
+            out.write_all(b"\n")?;
+            print_map(out, alloc, image.name, size, table, &look.copies)?;
+        }
     }
     Ok(())
 }
@@ -68,25 +80,24 @@ pub fn state_of(look: &Look) -> CopiesState<'_> {
     CopiesState::new(&copies.primary, &copies.backup, copies.are_same)
 }
 
-/// Prints the table as JSON, with the given state of both copies.
-pub fn print_state_json<W: Write>(
+// Prints the table as JSON, with the given state of both copies.
+fn print_state_json<W: Write>(
     out: &mut W,
     alloc: Global,
     image: &Image<'_>,
     look: &Look,
     table: &GPT,
     state: &CopiesState<'_>,
-    is_dry: bool,
 ) -> Result<(), Failure> {
     let size = look.size;
     let free = free_in(alloc, image, look, table, table.align)?;
-    let text = table_json(alloc, image.name, size, table, state, &free, is_dry)?;
+    let text = table_json(alloc, image.name, size, table, state, &free)?;
     writeln!(out, "{text}")?;
     Ok(())
 }
 
-// Returns the free ranges outside the table's own sectors, each starting at a multiple of `align` sectors.
-fn free_in(
+/// Returns the free ranges outside the table's own sectors, each starting at a multiple of `align` sectors.
+pub fn free_in(
     alloc: Global,
     image: &Image<'_>,
     look: &Look,
@@ -160,21 +171,41 @@ fn align_in(alloc: Global, image: &str, table: &GPT, amount: Amount) -> Result<u
     Err(refuse_asked(alloc, image, Some(table), sector_size, &refusal))
 }
 
-/// Prints the table as a layout.
+/// Warns on standard error about each field of the table that its script does not hold in full.
+pub fn warn_of_losses<R: Eprint + AllocGlobal>(
+    rt: &R,
+    image: &Image<'_>,
+    look: &Look,
+) -> Result<(), Failure> {
+    if let Some(table) = &look.table {
+        let name = Escaped(image.name);
+        for loss in find_losses(rt.alloc(), table)?.iter() {
+            let _ = eprintln!(rt; "gptedit: {name}: {loss}");
+        }
+    }
+    Ok(())
+}
+
+/// Prints the table as a layout, or as a script of `sfdisk`.
 pub fn dump<W: Write>(
     out: &mut W,
     alloc: Global,
     image: &mut Image<'_>,
     look: &Look,
+    is_script: bool,
     is_json: bool,
 ) -> Result<(), Failure> {
     let Some(table) = &look.table else {
         return Err(image.no_table(alloc, look));
     };
     if is_json {
-        return print_state_json(out, alloc, image, look, table, &state_of(look), false);
+        return print_state_json(out, alloc, image, look, table, &state_of(look));
     }
-    let text = layout_text(alloc, image.name, table)?;
+    let text = if is_script {
+        script_text(alloc, image.name, look.size, table)?
+    } else {
+        layout_text(alloc, image.name, table)?
+    };
     out.write_all(text.as_bytes())?;
     Ok(())
 }

@@ -14,12 +14,15 @@ mod failure;
 mod image;
 mod layouts;
 mod looking;
+mod losses;
 mod making;
 mod mbr;
 mod own;
 mod planning;
+mod query;
 mod remains;
 mod reporting;
+mod selecting;
 mod task;
 mod tasks;
 mod using;
@@ -77,6 +80,32 @@ where
             return Ok(error.exit_code());
         }
     };
+    let is_json = is_json(&request);
+    match perform(rt, request) {
+        Ok(status) => Ok(status),
+        Err(failure) => {
+            if is_json {
+                failure.print_json(rt);
+            }
+            Err(failure)
+        }
+    }
+}
+
+// Reports whether the output is JSON.
+fn is_json(request: &CommandLine<'_>) -> bool {
+    match request {
+        CommandLine::Types { is_json } => *is_json,
+        CommandLine::Image(asked) => asked.is_json,
+    }
+}
+
+// Performs a request and returns the exit status.
+fn perform<R>(rt: &R, request: CommandLine<'_>) -> Result<u8, Failure>
+where
+    R: Files<File = File> + RandomSource + Input + Print + Eprint + AllocGlobal + Clone + Drop,
+{
+    let alloc = rt.alloc();
     let mut out = BufWriter::with_capacity(alloc, PIECE, io::writer(rt))?;
     let status = match request {
         CommandLine::Types { is_json } => commands::print_types(alloc, &mut out, is_json)?,

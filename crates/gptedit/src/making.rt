@@ -1,11 +1,12 @@
 //! New tables.
 
 use crate::drawing::{draw_guid, draw_guids};
-use crate::failure::{Failure, refuse, refuse_error};
+use crate::failure::{Failure, refuse_error, refuse_failed};
 use crate::image::Image;
 use crate::task::{Anew, Became, Task, Work};
 use gptedit_core::{Creation, Refusal};
 use gptedit_look::{Look, Purpose};
+use gptedit_report::Reason;
 use gptedit_text::{Header, OtherValue, Parsed};
 use gptedit_words::NewTable;
 use gptman::sizes::{DEFAULT_ENTRY_COUNT, SECTOR_SIZES};
@@ -55,6 +56,7 @@ fn task_of(work: Work) -> Task {
     Task {
         work,
         purpose: Purpose::New,
+        mbr: Purpose::New,
         only_removes: false,
     }
 }
@@ -87,7 +89,8 @@ pub fn create<R: RandomSource + AllocGlobal>(
         let is = look.sector_size;
         if said != is {
             let key = "sector-size";
-            return Err(refuse(rt.alloc(), file, &OtherValue { key, said, is }));
+            let other = OtherValue { key, said, is };
+            return Err(refuse_failed(rt.alloc(), file, Reason::LayoutMismatch, &other));
         }
     }
     let guid = match parsed.layout.disk_guid {

@@ -1,8 +1,9 @@
 //! The MBR during a change.
 
-use crate::failure::{Failure, refuse_device, refuse_error};
+use crate::failure::{Failure, refuse_error, refuse_failed};
 use crate::image::Image;
 use gptedit_look::{Look, MbrChange, MbrKind, Purpose, mend_mbr};
+use gptedit_report::Reason;
 use gptman::{Disk, GPT};
 use std::alloc::Global;
 
@@ -49,6 +50,6 @@ fn make_mbr(
     }
     match disk.sync() {
         Ok(()) => Ok(MbrChange::Made),
-        Err(error) => Err(refuse_device(alloc, image.name, &error)),
+        Err(error) => Err(refuse_failed(alloc, image.name, Reason::DeviceFailed, &error)),
     }
 }

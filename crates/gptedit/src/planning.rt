@@ -1,24 +1,20 @@
 //! Plans a change: what it makes of the table, and whether that may be written.
 
-use crate::failure::{Failure, refuse, refuse_asked, refuse_busy, refuse_error, refuse_no_table};
+use crate::failure::{Failure, refuse, refuse_asked, refuse_error};
 use crate::image::Image;
+use crate::losses::refuse_losses;
 use crate::mbr::change_mbr;
-use crate::own::{Own, read_at};
 use crate::remains::find_remains;
-use crate::task::{Became, Task, Work};
+use crate::task::{Became, Task};
 use crate::using::UseText;
 use gptedit_busy::find_users;
-use gptedit_core::{Bounds, Refusal};
-use gptedit_look::{
-    Look, MbrChange, MbrKind, Obstacle, Purpose, What, find_contents, find_obstacle,
-};
-use gptedit_report::{
-    CutText, Edges, ObstacleText, Remains, Shortened, ShortenedText, find_shortened,
-};
+use gptedit_core::Refusal;
+use gptedit_look::{Look, MbrChange, MbrKind, Obstacle, Purpose, What, find_obstacle};
+use gptedit_report::{Commands, CutText, Edges, Message, ObstacleText, Reason, Remains};
 use gptedit_values::Escaped;
 use gptedit_words::Options;
 use gptman::GPT;
-use std::alloc::Global;
+use std::alloc::{AllocError, Global};
 use std::fmt;
 use std::fs::File;
 use std::rt::Files;
@@ -74,13 +70,13 @@ where
     if !options.may_overwrite {
         refuse_obstacles(alloc, image, look, task, &plan)?;
     }
-    let (purpose, is_changed) = (task.purpose, plan.is_changed);
+    let (purpose, is_changed) = (task.mbr, plan.is_changed);
     plan.mbr = change_mbr(alloc, image, look, purpose, is_changed, true)?;
     if !options.may_use && plan.is_needed() {
         refuse_users(rt, image, plan.was.as_ref(), Some(&plan.next))?;
     }
-    if !options.may_overwrite {
-        refuse_losses(alloc, image, look, task, &plan)?;
+    if let (false, Some(was)) = (options.may_overwrite, &plan.was) {
+        refuse_losses(alloc, image, look, &task.work, was, &plan.next)?;
     }
     if task.purpose == Purpose::Repair && plan.is_changed {
         plan.replaced = find_replaced(alloc, image, look, &plan.next)?;
@@ -150,13 +146,36 @@ fn refuse_task(
     table: Option<&GPT>,
     refusal: &Refusal,
 ) -> Failure {
-    if let (Work::Grow(_), Refusal::BadBoundaries, Some(table)) = (&task.work, refusal, table) {
+    if let (true, Refusal::BadBoundaries, Some(table)) = (task.is_fitted(), refusal, table) {
         let is_device = image.opened.device.is_some();
         if let Some(text) = CutText::of(table, look.size, is_device, image.name) {
             return refuse(alloc, image.name, &text);
         }
+        if !ends_with_disk(table, look) {
+            return match fit_bounds(table, look.size) {
+                Ok(fitted) => refuse_asked(
+                    alloc,
+                    image.name,
+                    Some(&fitted),
+                    look.sector_size,
+                    refusal,
+                ),
+                Err(failure) => failure,
+            };
+        }
     }
     refuse_asked(alloc, image.name, table, look.sector_size, refusal)
+}
+
+// Returns a table with the usable sectors that it gets when it is fitted to a disk of `size` bytes.
+fn fit_bounds(table: &GPT, size: u64) -> Result<GPT, Failure> {
+    let mut fitted = copy_of(table)?;
+    let edges = Edges::of(table, size);
+    if edges.first < edges.least || edges.most < edges.first {
+        fitted.header.first_usable_lba = edges.least;
+    }
+    fitted.header.last_usable_lba = edges.most;
+    Ok(fitted)
 }
 
 /// Returns a copy of a table.
@@ -187,8 +206,8 @@ fn refuse_bounds(
     Err(refuse(alloc, image, &OverBounds { edges, image }))
 }
 
-// Reports whether the disk has the length of the table: the backup header is in its last sector.
-fn ends_with_disk(table: &GPT, look: &Look) -> bool {
+/// Reports whether the disk has the length of the table: the backup header is in its last sector.
+pub fn ends_with_disk(table: &GPT, look: &Look) -> bool {
     let sectors = look.size.checked_div(table.sector_size).unwrap_or(0);
     let last = sectors.saturating_sub(1);
     table.header.primary_lba.max(table.header.backup_lba) == last
@@ -213,6 +232,16 @@ impl fmt::Display for OverBounds<'_> {
         writeln!(f, "{}", self.edges)?;
         let image = Escaped(self.image);
         write!(f, "`gptedit repair {image} --bounds` sets the usual bounds")
+    }
+}
+
+impl Message for OverBounds<'_> {
+    fn reason(&self) -> Reason {
+        Reason::BoundsOverTable
+    }
+
+    fn add_commands(&self, commands: &mut Commands) -> Result<(), AllocError> {
+        commands.add(&["gptedit", "repair", self.image, "--bounds"])
     }
 }
 
@@ -242,26 +271,6 @@ fn refuse_obstacles(
     }
     let (was, size) = (plan.was.as_ref(), plan.next.sector_size);
     Err(refuse_asked(alloc, image.name, was, size, &Refusal::NoSafeOrder))
-}
-
-// Refuses to lose data on partitions, or in sectors that become usable.
-fn refuse_losses(
-    alloc: Global,
-    image: &mut Image<'_>,
-    look: &Look,
-    task: &Task,
-    plan: &Plan,
-) -> Result<(), Failure> {
-    let Some(was) = &plan.was else {
-        return Ok(());
-    };
-    match &task.work {
-        Work::Grow(growth) if growth.bounds == Bounds::Usual => {
-            refuse_freed(alloc, image, look, was, &plan.next)
-        }
-        Work::Edit(_) => refuse_shortening(alloc, image, was, &plan.next),
-        _ => Ok(()),
-    }
 }
 
 // Refuses a DOS disk.
@@ -295,10 +304,7 @@ fn refuse_obstacle(
         table: look.table.as_ref(),
         image,
     };
-    match obstacle.what {
-        What::DosDisk => refuse_no_table(alloc, image, &text),
-        _ => refuse(alloc, image, &text),
-    }
+    refuse(alloc, image, &text)
 }
 
 /// Refuses a change that a use of the image or of a partition does not permit.
@@ -317,116 +323,6 @@ where
     };
     match users.find_harm(was, next) {
         None => Ok(()),
-        Some(found) => Err(refuse_busy(rt.alloc(), image.name, &UseText(found))),
-    }
-}
-
-// Refuses to make partitions shorter than their contents.
-fn refuse_shortening(
-    alloc: Global,
-    image: &mut Image<'_>,
-    was: &GPT,
-    next: &GPT,
-) -> Result<(), Failure> {
-    for shortened in find_shortened(alloc, was, next)?.iter() {
-        refuse_shorter(alloc, image, was.sector_size, *shortened)?;
-    }
-    Ok(())
-}
-
-// Refuses to make a partition shorter than its contents.
-fn refuse_shorter(
-    alloc: Global,
-    image: &mut Image<'_>,
-    sector_size: u64,
-    shortened: Shortened,
-) -> Result<(), Failure> {
-    let start = shortened.first.saturating_mul(sector_size);
-    let end = shortened.last.saturating_add(1).saturating_mul(sector_size);
-    let next_end = shortened
-        .next_last
-        .saturating_add(1)
-        .saturating_mul(sector_size);
-    let contents = match find_contents(alloc, &mut image.opened.disk, start, end) {
-        Ok(contents) => contents,
-        Err(error) => return Err(refuse_error(alloc, image.name, &error)),
-    };
-    for content in contents.iter() {
-        let is_kept = match content.end {
-            Some(end) => end <= next_end,
-            None => false,
-        };
-        if !is_kept {
-            let text = ShortenedText {
-                shortened,
-                content,
-                sector_size,
-            };
-            return Err(refuse(alloc, image.name, &text));
-        }
-    }
-    Ok(())
-}
-
-// Refuses to make sectors usable that are not zero, unless they held the entries of a copy.
-fn refuse_freed(
-    alloc: Global,
-    image: &mut Image<'_>,
-    look: &Look,
-    was: &GPT,
-    next: &GPT,
-) -> Result<(), Failure> {
-    let (was, next) = (&was.header, &next.header);
-    let before = (next.first_usable_lba, was.first_usable_lba);
-    let after = (
-        was.last_usable_lba.saturating_add(1),
-        next.last_usable_lba.saturating_add(1),
-    );
-    for (first, end) in [before, after] {
-        if let Some(sector) = find_data(alloc, image, look, first, end)? {
-            return Err(refuse(alloc, image.name, &Freed(sector)));
-        }
-    }
-    Ok(())
-}
-
-// Returns the first sector of the range that is not zero and holds no entries of a good copy.
-fn find_data(
-    alloc: Global,
-    image: &mut Image<'_>,
-    look: &Look,
-    first: u64,
-    end: u64,
-) -> Result<Option<u64>, Failure> {
-    let sector_size = look.sector_size;
-    let own = Own::of(look);
-    let mut bytes = vec![in alloc; 0; sector_size.min(LARGEST) as usize]?;
-    for sector in first..end {
-        if own.has(sector) {
-            continue;
-        }
-        let at = sector.saturating_mul(sector_size);
-        match read_at(&mut image.opened.disk, at, &mut bytes) {
-            Ok(()) => (),
-            Err(error) => return Err(refuse_error(alloc, image.name, &error)),
-        }
-        if bytes.iter().any(|byte| *byte != 0) {
-            return Ok(Some(sector));
-        }
-    }
-    Ok(None)
-}
-
-// The largest sector size in bytes.
-const LARGEST: u64 = 4096;
-
-// Message: a sector that is not zero would become usable.
-#[derive(Clone, Copy)]
-struct Freed(u64);
-
-impl fmt::Display for Freed {
-    fn fmt<W: fmt::Write>(&self, f: &mut fmt::Formatter<W>) -> fmt::Result {
-        writeln!(f, "sector {} would become usable, but is not zero", self.0)?;
-        f.write_str("--overwrite sets the bounds anyway")
+        Some(found) => Err(refuse(rt.alloc(), image.name, &UseText(found))),
     }
 }

@@ -3,12 +3,13 @@
 use crate::commands::How;
 use crate::failure::{Failure, refuse_error};
 use crate::image::Image;
-use crate::looking::print_state_json;
+use crate::looking::free_in;
 use crate::planning::Plan;
 use crate::task::{Task, Work};
 use gptedit_look::{Look, MbrChange, MbrKind, Purpose};
 use gptedit_report::{
-    CopiesState, UnlistedText, WhatText, find_unlisted, print_changes, show_table,
+    CopiesState, TableChange, UnlistedText, WhatText, changed_json, find_unlisted, print_changes,
+    show_table,
 };
 use gptman::check;
 use std::alloc::Global;
@@ -68,7 +69,7 @@ pub fn report<W: Write>(
     report_hybrid(out, alloc, look, plan)
 }
 
-// Prints the table as JSON, with the state of both copies after the change.
+// Prints the table and the change as JSON, with the state of both copies after the change.
 fn report_json<W: Write>(
     out: &mut W,
     alloc: Global,
@@ -77,18 +78,39 @@ fn report_json<W: Write>(
     plan: &Plan,
     how: How,
 ) -> Result<(), Failure> {
-    let table = &plan.next;
     if how.is_dry && plan.is_changed {
-        let state = CopiesState::Good;
-        return print_state_json(out, alloc, image, look, table, &state, true);
+        return print_json(out, alloc, image, look, plan, &CopiesState::Good, how);
     }
-    let sector_size = table.sector_size.max(1);
+    let sector_size = plan.next.sector_size.max(1);
     let copies = match check(alloc, &mut image.opened.disk, sector_size) {
         Ok(copies) => copies,
         Err(error) => return Err(refuse_error(alloc, image.name, &error)),
     };
     let state = CopiesState::new(&copies.primary, &copies.backup, copies.are_same);
-    print_state_json(out, alloc, image, look, table, &state, how.is_dry)
+    print_json(out, alloc, image, look, plan, &state, how)
+}
+
+// Prints the table and the change as JSON, with this state of both copies.
+fn print_json<W: Write>(
+    out: &mut W,
+    alloc: Global,
+    image: &Image<'_>,
+    look: &Look,
+    plan: &Plan,
+    state: &CopiesState<'_>,
+    how: How,
+) -> Result<(), Failure> {
+    let table = &plan.next;
+    let free = free_in(alloc, image, look, table, table.align)?;
+    let change = TableChange {
+        was: plan.was.as_ref(),
+        next: Some(table),
+        is_needed: plan.is_needed(),
+        is_dry: how.is_dry,
+    };
+    let text = changed_json(alloc, image.name, look.size, table, state, &free, change)?;
+    writeln!(out, "{text}")?;
+    Ok(())
 }
 
 // Prints how the table changes.

@@ -7,7 +7,7 @@ ghost use Rattle.gptedit_core.specs.Planning.{has_random};
 
 use crate::failure::{Failure, refuse_error};
 use crate::image::Image;
-use gptedit_core::{Bounds, Creation, Growth, Made, Outcome, Refusal, Request};
+use gptedit_core::{Bounds, Creation, FittedRequest, Growth, Made, Outcome, Refusal, Request};
 use gptedit_look::Purpose;
 use gptman::{GPT, Result};
 use std::alloc::Global;
@@ -19,6 +19,8 @@ pub struct Task {
     pub work: Work,
     /// The purpose of the write.
     pub purpose: Purpose,
+    /// The purpose for the MBR. `grow` of a partition corrects the MBR, or writes a missing one, on each disk.
+    pub mbr: Purpose,
     /// Whether the layout requests no partition, so that it can only remove some.
     pub only_removes: bool,
 }
@@ -39,8 +41,10 @@ pub enum Work {
 /// A change of entries.
 #[derive(Drop)]
 pub struct Edit {
-    request: Request,
-    ghost ready: { has_random request } by { asks_random-prop request.job (length request.random.items) },
+    fitted: FittedRequest,
+    // Whether the table is first fitted to the disk.
+    is_fitted: bool,
+    ghost ready: { has_random fitted.request } by { asks_random-prop fitted.request.job (length fitted.request.random.items) },
 }
 
 /// A new table.
@@ -92,6 +96,15 @@ impl Task {
         }
     }
 
+    /// Reports whether the table is fitted to the disk.
+    pub fn is_fitted(&self) -> bool {
+        match &self.work {
+            Work::Grow(_) => true,
+            Work::Edit(edit) => edit.is_fitted,
+            Work::Remake(_) | Work::Make(_) => false,
+        }
+    }
+
     /// Reports whether a crash during the write may leave neither the old table nor the new one.
     pub fn may_lose(&self) -> bool {
         match &self.work {
@@ -117,11 +130,14 @@ fn run_growth(
 }
 
 impl Edit {
-    /// Returns the change for a request.
-    pub fn new(request: Request) -> Edit
+    /// Returns the change for a request. With `is_fitted` the table is first fitted to the disk, in the same write.
+    pub fn new(request: Request, is_fitted: bool) -> Edit
         requires { has_random request }
     {
-        Edit { request }
+        Edit {
+            fitted: FittedRequest { request },
+            is_fitted,
+        }
     }
 
     fn run(
@@ -133,9 +149,14 @@ impl Edit {
     ) -> Result<Became>
         requires { 0 < sector_size }
     {
-        self.request.is_dry = is_dry;
+        self.fitted.request.is_dry = is_dry;
         let disk = &mut image.opened.disk;
-        let outcome = gptedit_core::edit(alloc, disk, Some(sector_size), &self.request)?;
+        let size = Some(sector_size);
+        let outcome = if self.is_fitted {
+            gptedit_core::edit_fitted(alloc, disk, size, &self.fitted)?
+        } else {
+            gptedit_core::edit(alloc, disk, size, &self.fitted.request)?
+        };
         Ok(read_outcome(outcome))
     }
 }

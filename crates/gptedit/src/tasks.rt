@@ -3,6 +3,7 @@
 use crate::drawing::{draw_guid, request_for};
 use crate::failure::Failure;
 use crate::image::Image;
+use crate::planning::ends_with_disk;
 use crate::task::{Became, Edit, Task, Work};
 use gptedit_core::{
     Amount, Asked, Bounds, Choice, DEFAULT_ALIGN, Growth, Job, Mode, RequestedLayout, Size,
@@ -11,22 +12,46 @@ use gptedit_look::{Look, Purpose};
 use gptedit_report::Way;
 use gptguid_core::from_name;
 use gptman::GPT;
-use std::alloc::Global;
+use std::alloc::{AllocError, Global};
 use std::random::RandomSource;
 
-/// Returns the task of a job.
+/// Returns the task of a job on the table that was read.
 pub fn edit<R: RandomSource + AllocGlobal>(rt: &R, job: Job) -> Result<Task, Failure> {
-    let only_removes = match &job {
-        Job::Apply(layout) => layout.asked.is_empty(),
-        _ => false,
-    };
     let purpose = match &job {
         Job::Rewrite => Purpose::Repair,
-        _ => Purpose::Edit,
+        Job::Apply(_) | Job::Sort => Purpose::Edit,
+    };
+    task_of(rt, job, purpose, false)
+}
+
+/// Returns the task of a job on a table that is first fitted to the disk, in the same write. If the table already ends
+/// with the disk, it is that of the job.
+pub fn edit_fitted<R: RandomSource + AllocGlobal>(
+    rt: &R,
+    look: &Look,
+    table: &GPT,
+    job: Job,
+) -> Result<Task, Failure> {
+    if ends_with_disk(table, look) {
+        return edit(rt, job);
+    }
+    task_of(rt, job, Purpose::Fit, true)
+}
+
+fn task_of<R: RandomSource + AllocGlobal>(
+    rt: &R,
+    job: Job,
+    purpose: Purpose,
+    is_fitted: bool,
+) -> Result<Task, Failure> {
+    let only_removes = match &job {
+        Job::Apply(layout) => layout.asked.is_empty(),
+        Job::Sort | Job::Rewrite => false,
     };
     Ok(Task {
-        work: Work::Edit(Edit::new(request_for(rt, job)?)),
+        work: Work::Edit(Edit::new(request_for(rt, job)?, is_fitted)),
         purpose,
+        mbr: purpose,
         only_removes,
     })
 }
@@ -34,6 +59,25 @@ pub fn edit<R: RandomSource + AllocGlobal>(rt: &R, job: Job) -> Result<Task, Fai
 /// Returns the task of `grow`.
 pub fn grow() -> Task {
     fit(Bounds::Kept, Purpose::Fit)
+}
+
+/// Returns the layout that extends a partition over all that is free after it.
+pub fn extension(alloc: Global, number: u32) -> Result<RequestedLayout, AllocError> {
+    let mut layout = layout_of(alloc, Mode::Change);
+    layout.align = DEFAULT_ALIGN;
+    layout.asked.push(Asked {
+        size: Some(Size::Rest),
+        ..Asked::nothing(Some(number))
+    })?;
+    Ok(layout)
+}
+
+/// Returns the layout that removes these partitions.
+pub fn removal(alloc: Global, numbers: Vec<u32>) -> RequestedLayout {
+    RequestedLayout {
+        removed: numbers,
+        ..layout_of(alloc, Mode::Change)
+    }
 }
 
 // Returns the task that sets the bounds of the usable sectors.
@@ -45,6 +89,7 @@ fn fit(bounds: Bounds, purpose: Purpose) -> Task {
     Task {
         work: Work::Grow(growth),
         purpose,
+        mbr: purpose,
         only_removes: false,
     }
 }
@@ -66,26 +111,23 @@ pub fn repair<R: RandomSource + AllocGlobal>(
     edit(rt, Job::Rewrite)
 }
 
-/// Returns the task of `randomize`: random GUIDs for the disk and each partition.
-pub fn randomize<R: RandomSource + AllocGlobal>(rt: &R, table: &GPT) -> Result<Task, Failure> {
+/// Returns the layout of `randomize`: random GUIDs for the disk and each partition.
+pub fn random_guids<R: RandomSource + AllocGlobal>(
+    rt: &R,
+    table: &GPT,
+) -> Result<RequestedLayout, Failure> {
     let alloc = rt.alloc();
-    let mut asked = Vec::new(alloc);
+    let mut layout = layout_of(alloc, Mode::Change);
+    layout.disk_guid = Some(draw_guid(rt)?);
     for (number, entry) in table.iter() {
         if entry.is_used() {
-            asked.push(Asked {
+            layout.asked.push(Asked {
                 unique_guid: Some(draw_guid(rt)?),
                 ..Asked::nothing(Some(number))
             })?;
         }
     }
-    let layout = RequestedLayout {
-        mode: Mode::Change,
-        disk_guid: Some(draw_guid(rt)?),
-        align: Amount::Sectors(1),
-        removed: Vec::new(alloc),
-        asked,
-    };
-    edit(rt, Job::Apply(layout))
+    Ok(layout)
 }
 
 /// Returns the task of a command that corrects a finding.
@@ -101,14 +143,8 @@ pub fn mend<R: RandomSource + AllocGlobal>(
         Way::Repair => repair(rt, image, look, false),
         Way::RepairBounds => repair(rt, image, look, true),
         Way::Grow => Ok(grow()),
-        Way::Randomize => randomize(rt, table),
-        Way::Remove(numbers) => {
-            let mut layout = layout_of(alloc, Mode::Change);
-            for number in numbers.iter() {
-                layout.removed.push(*number)?;
-            }
-            edit(rt, Job::Apply(layout))
-        }
+        Way::Randomize => edit(rt, Job::Apply(random_guids(rt, table)?)),
+        Way::Remove(numbers) => edit(rt, Job::Apply(removal(alloc, numbers.clone()?))),
         Way::SetGuid(number) => {
             let mut layout = layout_of(alloc, Mode::Change);
             layout.asked.push(Asked {

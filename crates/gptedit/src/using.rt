@@ -1,6 +1,7 @@
 //! Messages about the use of a disk.
 
 use gptedit_look::{How, Part, Use};
+use gptedit_report::{Lift, Message, Reason};
 use gptedit_values::Escaped;
 use std::fmt;
 
@@ -25,6 +26,16 @@ impl fmt::Display for UseText<'_> {
         f.write_str(
             "; --in-use writes anyway, but the kernel keeps the old table until it reads it again",
         )
+    }
+}
+
+impl Message for UseText<'_> {
+    fn reason(&self) -> Reason {
+        Reason::Busy
+    }
+
+    fn lifted_by(&self) -> Option<Lift> {
+        Some(Lift::InUse)
     }
 }
 

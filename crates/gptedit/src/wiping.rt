@@ -6,9 +6,10 @@ use crate::failure::{Failure, refuse, refuse_error};
 use crate::image::Image;
 use crate::planning::refuse_users;
 use crate::reporting::DRY;
-use gptedit_look::{Look, MbrKind, wipe};
-use gptedit_report::wiped_json;
+use gptedit_look::{Look, MbrKind, What, wipe};
+use gptedit_report::{Lift, Message, Reason, wiped_json};
 use gptedit_words::Options;
+use std::fmt;
 use std::fs::File;
 use std::io::Write;
 use std::rt::Files;
@@ -45,7 +46,13 @@ where
         }
     }
     if how.is_json {
-        let text = wiped_json(alloc, image.name, is_needed, how.is_dry)?;
+        let text = wiped_json(
+            alloc,
+            image.name,
+            look.table.as_ref(),
+            is_needed,
+            how.is_dry,
+        )?;
         writeln!(out, "{text}")?;
     } else {
         report(out, is_needed, kind, how.is_dry)?;
@@ -71,14 +78,35 @@ where
     R: Files<File = File> + AllocGlobal + Clone + Drop,
 {
     if !options.may_overwrite {
-        let why = "there is a GUID partition table, or the remains of one, which would be lost\n\
-            --overwrite clears it anyway";
-        return Err(refuse(rt.alloc(), image.name, &why));
+        return Err(refuse(rt.alloc(), image.name, &WouldWipe));
     }
     if options.may_use {
         return Ok(());
     }
     refuse_users(rt, image, look.table.as_ref(), None)
+}
+
+// Message: `wipe` needs `--overwrite`.
+#[derive(Clone, Copy)]
+struct WouldWipe;
+
+impl fmt::Display for WouldWipe {
+    fn fmt<W: fmt::Write>(&self, f: &mut fmt::Formatter<W>) -> fmt::Result {
+        f.write_str(
+            "there is a GUID partition table, or the remains of one, which would be lost\n\
+             --overwrite clears it anyway",
+        )
+    }
+}
+
+impl Message for WouldWipe {
+    fn reason(&self) -> Reason {
+        Reason::Overwrites(What::Table)
+    }
+
+    fn lifted_by(&self) -> Option<Lift> {
+        Some(Lift::Overwrite)
+    }
 }
 
 // Reports the result for a disk whose MBR was of this kind.

@@ -64,6 +64,29 @@ pub(crate) fn push_cell<D: fmt::Display>(
     Ok(())
 }
 
+/// Returns the sum of the widths of columns, each as wide as its heading and cells, with `gap` characters after each.
+pub(crate) fn total_width(
+    alloc: Global,
+    columns: &[Column],
+    rows: &[Vec<String>],
+    gap: usize,
+) -> Result<usize, AllocError> {
+    let mut total: usize = 0;
+    for column in widen(alloc, columns, rows)?.iter() {
+        total = total.saturating_add(column.width()).saturating_add(gap);
+    }
+    Ok(total)
+}
+
+/// Returns the width of a column with this heading and these cells.
+pub(crate) fn widest(heading: &str, cells: &[String]) -> usize {
+    let mut width = count(heading);
+    for cell in cells {
+        width = width.max(count(cell.as_str()));
+    }
+    width
+}
+
 // Returns the columns, each as wide as its heading and cells.
 fn widen(
     alloc: Global,

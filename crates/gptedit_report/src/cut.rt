@@ -2,19 +2,20 @@
 
 use crate::bounds::Edges;
 use crate::layout::{LayoutState, length_to};
+use crate::reason::Reason;
+use crate::report::{Commands, Message};
 use crate::way::{Truncate, write_longer_disk};
 use gptedit_values::Escaped;
 use gptman::GPT;
+use std::alloc::{AllocError, Global};
 use std::fmt;
 
-/// Message: partitions do not fit on a shortened disk, and the remedies. Three lines for an image, two for a block
-/// device, without the last newline.
+/// Message: partitions do not fit on a shortened disk, and the remedies. Three lines, without the last newline.
 #[derive(Clone, Copy)]
 pub struct CutText<'a> {
     table: &'a GPT,
     edges: Edges,
-    // The length of the disk in bytes, now and before.
-    size: u64,
+    // The length in bytes that the disk had.
     size_before: u64,
     is_device: bool,
     image: &'a str,
@@ -30,7 +31,6 @@ impl<'a> CutText<'a> {
         let text = CutText {
             table,
             edges: Edges::of(table, size),
-            size,
             size_before: length_to(last, table.sector_size),
             is_device,
             image,
@@ -45,6 +45,17 @@ impl<'a> CutText<'a> {
             .iter()
             .filter(|(_, entry)| entry.is_used() && entry.ending_lba > most)
             .count()
+    }
+
+    // Returns the numbers of the partitions that do not fit.
+    fn numbers(&self, alloc: Global) -> Result<Vec<u32>, AllocError> {
+        let mut numbers = Vec::new(alloc);
+        for (number, entry) in self.table.iter() {
+            if entry.is_used() && entry.ending_lba > self.edges.most {
+                numbers.push(number)?;
+            }
+        }
+        Ok(numbers)
     }
 
     // Writes the numbers of the partitions that do not fit, each after `before`.
@@ -74,35 +85,45 @@ impl<'a> CutText<'a> {
     }
 }
 
-impl fmt::Display for CutText<'_> {
-    fn fmt<W: fmt::Write>(&self, f: &mut fmt::Formatter<W>) -> fmt::Result {
-        let image = self.image;
-        let (shorter, longer) = (
-            Truncate {
-                size: self.size,
-                image,
-            },
-            Truncate {
-                size: self.size_before,
-                image,
-            },
-        );
-        let name = Escaped(image);
-        self.write_reason(f)?;
-        f.write_str("\n")?;
+impl CutText<'_> {
+    // Writes how the disk gets its length again.
+    fn write_restored<W: fmt::Write>(&self, f: &mut fmt::Formatter<W>) -> fmt::Result {
+        let (size, image) = (self.size_before, self.image);
         if self.is_device {
-            return write_longer_disk(f, self.size_before);
+            return write_longer_disk(f, size);
         }
+        let (longer, name) = (Truncate { size, image }, Escaped(image));
         write!(
             f,
             "copy the image again, or run {longer} and `gptedit repair {name}`: "
         )?;
-        f.write_str("the part that was cut off is then zeros")?;
-        write!(
-            f,
-            "\nto remove what does not fit, continue with `gptedit remove {name}"
-        )?;
+        f.write_str("the part that was cut off is then zeros")
+    }
+}
+
+impl fmt::Display for CutText<'_> {
+    fn fmt<W: fmt::Write>(&self, f: &mut fmt::Formatter<W>) -> fmt::Result {
+        self.write_reason(f)?;
+        f.write_str("\n")?;
+        self.write_restored(f)?;
+        write!(f, "\n`gptedit remove --fit {}", Escaped(self.image))?;
         self.write_numbers(f, " ")?;
-        write!(f, "`, {shorter} and `gptedit grow {name}`")
+        f.write_str("` removes what does not fit")
+    }
+}
+
+impl Message for CutText<'_> {
+    fn reason(&self) -> Reason {
+        Reason::CutOff
+    }
+
+    fn add_commands(&self, commands: &mut Commands) -> Result<(), AllocError> {
+        let image = self.image;
+        if !self.is_device {
+            commands.add_truncate(self.size_before, image)?;
+            commands.add_own("repair", image)?;
+        }
+        let numbers = self.numbers(commands.alloc())?;
+        commands.add_remove(image, &numbers)
     }
 }

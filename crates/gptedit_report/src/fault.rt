@@ -1,7 +1,11 @@
 //! Explains the errors of the library.
 
+use crate::reason::Reason;
+use crate::report::{Commands, Message};
+use gptedit_core::Refusal;
 use gptedit_values::Escaped;
 use gptman::Error;
+use std::alloc::AllocError;
 use std::fmt;
 
 /// Message: an error and the remedy. One or two lines, without the last newline.
@@ -29,6 +33,35 @@ impl fmt::Display for ErrorText<'_> {
         match remedy_for(self.error) {
             Remedy::Command(command, does) => write!(f, "`gptedit {command} {image}` {does}"),
             Remedy::Advice(advice) => f.write_str(advice),
+        }
+    }
+}
+
+impl Message for ErrorText<'_> {
+    fn reason(&self) -> Reason {
+        match self.error {
+            Error::OutOfMemory => Reason::OutOfMemory,
+            Error::Io(_) => Reason::DeviceFailed,
+            Error::InvalidSignature | Error::ReadError(_, _) => Reason::NoTable,
+            Error::InvalidPartitionNumber(number) => Reason::Request(Refusal::NoEntry(*number)),
+            Error::InvalidRevision
+            | Error::InvalidHeaderSize
+            | Error::InvalidChecksum(_, _)
+            | Error::InvalidPartitionEntryArrayChecksum(_, _)
+            | Error::InvalidPartitionEntrySize(_)
+            | Error::NoSpaceLeft
+            | Error::ConflictPartitionGUID
+            | Error::InvalidPartitionBoundaries
+            | Error::UnusedPartition
+            | Error::PartitionNotFound
+            | Error::Overflow => Reason::BadTable,
+        }
+    }
+
+    fn add_commands(&self, commands: &mut Commands) -> Result<(), AllocError> {
+        match remedy_for(self.error) {
+            Remedy::Command(command, _) => commands.add_own(command, self.image),
+            Remedy::Advice(_) => Ok(()),
         }
     }
 }

@@ -3,7 +3,7 @@
 use crate::copies::CopiesState;
 use crate::free::FreeRange;
 use crate::members::Members;
-use crate::sfdisk::{Attributes, separator_of};
+use crate::sfdisk::{Attributes, NodePrefix};
 use gptedit_values::is_hidden;
 use gptman::sizes::DEFAULT_ENTRY_COUNT;
 use gptman::{Error, GPT, GPTPartitionEntry};
@@ -15,8 +15,7 @@ use std::fmt;
 const PAIRS: u32 = 0x1_0000;
 
 /// Returns a table as JSON: `partitiontable` as in `sfdisk --json`, and `gptman` with the copy that was read (`form`),
-/// the state of both copies, the size of the disk in bytes, the alignment in sectors, and the free ranges. For a
-/// dry run `dry_run` is true.
+/// the state of both copies, the size of the disk in bytes, the alignment in sectors, and the free ranges.
 pub fn table_json(
     alloc: Global,
     image: &str,
@@ -24,15 +23,24 @@ pub fn table_json(
     table: &GPT,
     state: &CopiesState<'_>,
     free: &[FreeRange],
-    is_dry: bool,
 ) -> Result<String, AllocError> {
+    let members = table_members(alloc, image, size, table, state, free)?;
+    print_json(alloc, &members.into_value())
+}
+
+/// Returns `partitiontable` and `gptman`.
+pub(crate) fn table_members(
+    alloc: Global,
+    image: &str,
+    size: u64,
+    table: &GPT,
+    state: &CopiesState<'_>,
+    free: &[FreeRange],
+) -> Result<Members, AllocError> {
     let mut members = Members::new(alloc);
     members.put("partitiontable", standard_value(alloc, image, table)?)?;
     members.put("gptman", own_value(alloc, size, table, state, free)?)?;
-    if is_dry {
-        members.put("dry_run", Value::Bool(true))?;
-    }
-    print_json(alloc, &members.into_value())
+    Ok(members)
 }
 
 // Returns the part that sfdisk also prints.
@@ -55,11 +63,11 @@ fn standard_value(alloc: Global, image: &str, table: &GPT) -> Result<Value, Allo
 
 // Returns the used entries.
 fn partition_values(alloc: Global, image: &str, table: &GPT) -> Result<Vec<Value>, AllocError> {
-    let separator = separator_of(image);
+    let prefix = NodePrefix::of(image);
     let mut partitions = Vec::new(alloc);
     for (number, entry) in table.iter() {
         if entry.is_used() {
-            let node = format!(in alloc; "{image}{separator}{number}")?;
+            let node = format!(in alloc; "{prefix}{number}")?;
             partitions.push(partition_value(alloc, node.as_str(), entry)?)?;
         }
     }

@@ -1,6 +1,8 @@
 //! Effects of a change on things that depend on partitions: their contents, and the entries of a hybrid MBR.
 
 use crate::compare::used_at;
+use crate::reason::{Lift, Reason};
+use crate::report::Message;
 use gptedit_look::{Content, FirstSector, Listed};
 use gptman::{GPT, GPTPartitionEntry};
 use std::alloc::{AllocError, Global};
@@ -75,6 +77,16 @@ impl fmt::Display for ShortenedText<'_> {
                 f.write_str("shrink that first, then use --overwrite")
             }
         }
+    }
+}
+
+impl Message for ShortenedText<'_> {
+    fn reason(&self) -> Reason {
+        Reason::ShorterThanContents
+    }
+
+    fn lifted_by(&self) -> Option<Lift> {
+        Some(Lift::Overwrite)
     }
 }
 

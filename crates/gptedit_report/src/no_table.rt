@@ -1,10 +1,13 @@
 //! The failure that no copy of a table is good.
 
 use crate::fault::Meaning;
+use crate::reason::Reason;
+use crate::report::{Commands, Message};
 use crate::way::SAVE;
 use gptedit_formats::copies::{CopyKind, FoundCopy, Salvaged};
 use gptedit_look::Look;
 use gptedit_values::Escaped;
+use std::alloc::AllocError;
 use std::fmt;
 
 /// Message: no copy of the table is good, the fault of each, and the remedy. Three lines, without the last newline.
@@ -46,6 +49,16 @@ impl fmt::Display for NoTableText<'_> {
             f.write_str("\nif its sectors have another size, use --sector")?;
         }
         Ok(())
+    }
+}
+
+impl Message for NoTableText<'_> {
+    fn reason(&self) -> Reason {
+        Reason::NoTable
+    }
+
+    fn add_commands(&self, commands: &mut Commands) -> Result<(), AllocError> {
+        commands.add_own("salvage", self.image)
     }
 }
 

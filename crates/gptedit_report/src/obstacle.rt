@@ -1,8 +1,11 @@
 //! The refusal to overwrite data.
 
+use crate::reason::{Lift, Reason};
+use crate::report::{Commands, Message};
 use gptedit_look::{Obstacle, Purpose, What};
 use gptedit_values::Escaped;
 use gptman::GPT;
+use std::alloc::AllocError;
 use std::fmt;
 
 /// The contents of the place of a broken copy, which only `repair` overwrites.
@@ -52,6 +55,30 @@ impl fmt::Display for ObstacleText<'_> {
     }
 }
 
+impl Message for ObstacleText<'_> {
+    fn reason(&self) -> Reason {
+        Reason::Overwrites(self.obstacle.what)
+    }
+
+    fn lifted_by(&self) -> Option<Lift> {
+        if self.needs_repair() {
+            None
+        } else {
+            Some(Lift::Overwrite)
+        }
+    }
+
+    fn add_commands(&self, commands: &mut Commands) -> Result<(), AllocError> {
+        if !self.needs_repair() {
+            return Ok(());
+        }
+        if self.remains != Remains::SameEntries {
+            commands.add(&["gptedit", "repair", self.image, "--dry-run"])?;
+        }
+        commands.add_own("repair", self.image)
+    }
+}
+
 // The refusal for a disk with a DOS partition table.
 const DOS: &str =
     "the disk has a DOS partition table, and its boot loader may be in sectors 1..33\n\
@@ -61,6 +88,12 @@ const DOS: &str =
 const LIFTED: &str = "--overwrite writes the table anyway";
 
 impl ObstacleText<'_> {
+    // Reports whether the message names `repair`, and no option.
+    fn needs_repair(&self) -> bool {
+        matches!(self.obstacle.what, What::BoardCode)
+            && matches!(self.purpose, Purpose::Edit | Purpose::Fit)
+    }
+
     // Writes the refusal of a new table.
     fn write_new<W: fmt::Write>(&self, f: &mut fmt::Formatter<W>) -> fmt::Result {
         write!(f, "there is {}", self.what())?;

@@ -1,9 +1,12 @@
 //! Explains why a request is refused.
 
+use crate::reason::{Lift, Reason};
+use crate::report::{Commands, Message};
 use crate::texts::EntryText;
 use gptedit_core::{Amount, Refusal, SectorRange};
 use gptedit_values::{AmountText, Escaped};
 use gptman::GPT;
+use std::alloc::AllocError;
 use std::fmt;
 
 /// Message: a request is refused, and the remedy. One or two lines, without the last newline.
@@ -44,6 +47,38 @@ impl fmt::Display for RefusalText<'_> {
             Refusal::TooSmallFor(count) => write_too_small_for(f, *count),
             Refusal::OutOfBounds(usable) => write_out_of_bounds(f, *usable),
             Refusal::NoSafeOrder => write_no_safe_order(f),
+        }
+    }
+}
+
+impl Message for RefusalText<'_> {
+    fn reason(&self) -> Reason {
+        Reason::Request(*self.refusal)
+    }
+
+    fn lifted_by(&self) -> Option<Lift> {
+        match self.refusal {
+            Refusal::NoSafeOrder => Some(Lift::Overwrite),
+            _ => None,
+        }
+    }
+
+    fn add_commands(&self, commands: &mut Commands) -> Result<(), AllocError> {
+        let image = self.image;
+        match self.refusal {
+            Refusal::IsUnused(_) => commands.add_own("show", image),
+            Refusal::NoRoom(_) => commands.add_own("free", image),
+            Refusal::NoType(_) => commands.add(&["gptedit", "types"]),
+            Refusal::SharedGuid => commands.add_own("check", image),
+            Refusal::NotLaidOut => {
+                commands.add_own("grow", image)?;
+                commands.add_own("check", image)
+            }
+            Refusal::BadBoundaries => {
+                commands.add_own("free", image)?;
+                commands.add_own("check", image)
+            }
+            _ => Ok(()),
         }
     }
 }
@@ -205,7 +240,7 @@ pub fn write_not_laid_out<W: fmt::Write>(f: &mut fmt::Formatter<W>, image: &str)
     )?;
     write!(
         f,
-        "if the length of the disk has changed, run `gptedit grow {image}`; "
+        "if the length of the disk has changed, run `gptedit grow {image}`, or use --fit if the command has it; "
     )?;
     write!(f, "else see `gptedit check {image}`")
 }

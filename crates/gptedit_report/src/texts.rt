@@ -33,13 +33,34 @@ impl fmt::Display for QuotedName<'_> {
         for read in decode_utf16(self.0.units().iter().copied()) {
             match read {
                 Ok('\0') => break,
-                Ok('"') => f.write_str("\\\"")?,
-                Ok('\\') => f.write_str("\\\\")?,
-                Ok(c) => write!(f, "{}", EscapedChar(c))?,
+                Ok(c) => write_quoted_char(f, c)?,
                 Err(error) => write_surrogate(f, error.unpaired_surrogate())?,
             }
         }
         f.write_char('"')
+    }
+}
+
+/// A text in quotes. Hidden characters are written as `\u{..}`, and a backslash before each quote and backslash.
+#[derive(Clone, Copy)]
+pub(crate) struct QuotedText<'a>(pub(crate) &'a str);
+
+impl fmt::Display for QuotedText<'_> {
+    fn fmt<W: fmt::Write>(&self, f: &mut fmt::Formatter<W>) -> fmt::Result {
+        f.write_char('"')?;
+        for c in self.0.chars() {
+            write_quoted_char(f, c)?;
+        }
+        f.write_char('"')
+    }
+}
+
+// Writes a character of a text in quotes.
+fn write_quoted_char<W: fmt::Write>(f: &mut fmt::Formatter<W>, c: char) -> fmt::Result {
+    match c {
+        '"' => f.write_str("\\\""),
+        '\\' => f.write_str("\\\\"),
+        c => write!(f, "{}", EscapedChar(c)),
     }
 }
 
