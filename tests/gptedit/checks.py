@@ -135,10 +135,12 @@ def try_cut(tally, program):
         status, _, err = program.run("grow", IMAGE)
         tally.holds(f"grow of a disk that was cut names a partition and {longer}: {err!r}", status == 1 and
                     "partition 2 " in err and longer in err and "gptedit free" not in err)
+        cut_off = program.state(IMAGE)
         steps = [re.findall("`([^`]*)`", line) for line in err.splitlines()[1:]]
         wanted = [made, of({1: made.entries[1]}, SIZE - cut, first=first)]
         tally.equals(f"how many lines of commands grow prints: {err!r}", len(wanted), len(steps))
         for commands, result in zip(steps, wanted):
+            program.restore(IMAGE, cut_off)
             for words in [command.split() for command in commands]:
                 if words[:2] == ["truncate", "-s"]:
                     program.set_length(IMAGE, int(words[2]))

@@ -180,7 +180,8 @@ def try_growth(tally, program):
     tally.holds("check names grow", "`gptedit grow disk.img`" in ended[1])
     says(tally, program, ["add", "disk.img", "--type", "linux", "--size", "1MiB"], "",
          "gptedit: disk.img: the table is for a disk of another length, or is not in the layout that gptedit writes\n"
-         "if the length of the disk has changed, run `gptedit grow disk.img`; else see `gptedit check disk.img`\n", 1)
+         "if the length of the disk has changed, run `gptedit grow disk.img`, or use --fit if the command has it; "
+         "else see `gptedit check disk.img`\n", 1)
     grown = "usable sectors 34..262110 -> 34..524254\n"
     before = program.state("disk.img")
     says(tally, program, ["grow", "disk.img", "-n"],

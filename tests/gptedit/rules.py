@@ -86,6 +86,9 @@ RULES = {
     "a refusal never follows a write": [EVERY_RUN, "orders of writing"],
     "no order of writing keeps a good copy: refused": ["orders of writing"],
     "both copies, each synced before the next": ["writes and syncs", "writes over a broken copy"],
+    "--fit and grow N: the table is fitted in the same write": ["--fit", "stops of --fit", "stops of growpart"],
+    "--fit changes nothing more on a disk of the table's length": ["--fit on a disk of the same length"],
+    "a shortened disk: only the partition beyond the end is removed": ["--fit on a shortened disk"],
     "a stop leaves the old table or the new one": ["stops", "kills", "system calls that fail",
                                                    "system calls of new that fail"],
     # Layouts and texts

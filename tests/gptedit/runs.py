@@ -12,8 +12,9 @@ import re
 from harness import runs, table
 from harness.images import Reader, changed, is_in
 
-GATE = ["commands", "refusals", "layouts", "texts", "outputs", "guards", "checks", "safety", "salvaging", "everyday",
-        "traces", "marks", "stops", "streams", "rules", "maps", "completions", "model", "peers"]
+GATE = ["commands", "refusals", "layouts", "script_inputs", "texts", "scripts", "outputs", "guards", "checks", "safety",
+        "salvaging", "everyday", "traces", "marks", "stops", "streams", "rules", "maps", "completions", "queries",
+        "targets", "kinds", "fitting", "growparts", "machine", "model", "peers"]
 TRIALS = ["uses", "sources", "locks", "holders"]
 MODULES = GATE + TRIALS
 CHANGES = ["new", "add", "set", "resize", "remove", "sort", "grow", "repair", "randomize", "apply", "wipe"]
