@@ -47,7 +47,7 @@ WRONG = ["0", "+3", "-3", "3.0", "0x3", "4294967296", "root", "name=", f"name={L
 def make(program, entries=None, remains=REMAINS):
     """Makes disk.img with these entries, and with the remains of another in entry 1."""
     first, last = table.bounds(SIZE)
-    found = table.Table(DISK, first, last, 128, {1: remains, **(entries or ENTRIES)})
+    found = table.Table(DISK, first, last, 128, {**({1: remains} if remains else {}), **(entries or ENTRIES)})
     program.write("disk.img", table.image_of(found, SIZE))
 
 
@@ -70,8 +70,8 @@ def try_selecting(tally, program):
 
 
 def try_not_selecting(tally, program):
-    """What selects no partition, or several, is refused."""
-    make(program)
+    """What selects no partition, or several, is refused. Entry 1 is zeros: `remove` clears the remains of an entry."""
+    make(program, remains=None)
     for word, text in UNKNOWN:
         for words in (["set", "disk.img", word, "--name", "new"], ["resize", "disk.img", word, "max"],
                       ["remove", "disk.img", "2", word], ["grow", "disk.img", word]):
