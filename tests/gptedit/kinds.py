@@ -10,7 +10,6 @@ from harness import table
 from harness.runs import run, there
 from commands import DISK, LINUX, MIB, ROOT
 from makers import IMAGE
-from refusals import refused
 from runs import Program
 
 WORDS = os.path.join(os.path.dirname(__file__), "type_words.txt")
@@ -23,11 +22,12 @@ TOOLS = {"sfdisk": "sfdisk", "parted": "parted", "repart": "systemd-repart", "gd
 CASES = {"lower": str.lower, "upper": str.upper,
          "mixed": lambda word: "".join(c.lower() if at % 2 else c.upper() for at, c in enumerate(word))}
 
-# Words that are no types, and what is said of them.
-NEAREST = [("lunix", "linux"), ("LUNIX", "linux"), ("linus", "linux"), ("swapp", "swap"), ("esq", "esp"),
-           ("linux-hom", "linux-home"), ("bios-bot", "bios-boot")]
-UNKNOWN = ["ef99", "EF99", "ffff", "0000", "8300h", "0x8300", " linux", "linux ", "li nux", "", "-", "\u212a", "l\u0131nux",
-           "x" * 300, "root-x86-64-verity-sig-sig", LINUX[:-1], LINUX + "0", LINUX.replace("-", "")]
+# Words that are no types, and the nearest word to each: at most half of its letters are inserted and removed.
+NEAREST = [("linus", "linux"), ("lniux", "linux"), ("LINUXX", "linux"), ("swapp", "swap"), ("linux-hom", "linux-home"),
+           ("bios-bot", "bios-boot"), ("bios_grubb", "bios_grub"), ("HP-servce", "hp-service"), ("0x8300", "8300")]
+UNKNOWN = ["lunix", "ef99", "EF99", "", " ", "-", "\u212a", "x" * 64, "x" * 300, "\u00e9\u540d\U0001f600"]
+# Words with a character too many or too few.
+NEARLY = [" linux", "linux ", "li nux", "8300h", LINUX[:-1], LINUX + "0", LINUX.replace("-", "")]
 
 
 def read_words():
@@ -147,42 +147,52 @@ def in_memory(program):
     return folder, Program(program.path, folder.name, program.tally)
 
 
+def hold_texts(tally, program, words, ways):
+    """Counts whether each word is its type in these kinds of texts, each in a case."""
+    folder, program = in_memory(program)
+    with folder:
+        for what, case in ways:
+            for some in chunks((CASES[case](word), guid) for word, guid in words.items()):
+                hold_text(tally, program, f"{what} ({case})", TEXTS[what], some)
+
+
+def all_words():
+    """The words of all programs, and the type of each."""
+    return {word: guid for words in read_words().values() for word, guid in words.items()}
+
+
 def try_texts(tally, program):
-    """Each word, in each case, in a layout and in a script."""
-    words = {word: guid for of in read_words().values() for word, guid in of.items()}
-    for case, change in CASES.items():
-        for what, text_of in TEXTS.items():
-            for some in chunks((change(word), guid) for word, guid in words.items()):
-                hold_text(tally, program, f"{what} ({case})", text_of, some)
+    """Each word, in each case in a layout, and in one in a script."""
+    words = all_words()
+    hold_texts(tally, program, words, [*(("a layout", case) for case in CASES), ("a script", "mixed")])
     return f"{len(words)} words"
 
 
 def try_options(tally, program):
-    """Each word by `set --type`, in one of the cases."""
+    """Some of the words by `set --type` and `add --type`."""
     folder, program = in_memory(program)
     with folder:
         start(program)
-        words = {word: guid for of in read_words().values() for word, guid in of.items()}
+        words = all_words()
+        chosen = list(words)[:6] + list(words)[6::50]
         ways = list(CASES.values())
-        for at, (word, guid) in enumerate(words.items()):
+        for at, word in enumerate(chosen):
             said = ways[at % len(ways)](word)
             ended = program.plain("set", IMAGE, "1", "--type", said)
-            tally.equals(f"set --type {said}", (0, "", [guid]), (ended.status, ended.err, types_in(program.file(IMAGE))))
-        for at, said in enumerate(("EF00", "Root", "u", "HP-Service", "usr-Verity"), 2):
-            ended = program.run("add", IMAGE, "--type", said, "--size", "1MiB")
-            guid = words.get(said.lower()) or words[said.upper()]
-            tally.equals(f"add --type {said}", (0, "", guid), (ended.status, ended.err, types_in(program.file(IMAGE))[-1]))
+            tally.equals(f"set --type {said}", (0, "", [words[word]]),
+                         (ended.status, ended.err, types_in(program.file(IMAGE))))
+        for said, word in ("EF00", "ef00"), ("Root", "root"), ("u", "U"), ("HP-Service", "hp-service"):
+            ended = program.plain("add", IMAGE, "--type", said, "--size", "1MiB")
+            tally.equals(f"add --type {said}", (0, "", words[word]),
+                         (ended.status, ended.err, types_in(program.file(IMAGE))[-1]))
 
 
 def try_names(tally, program):
-    """Each name that `gptedit types` lists, in each case; no word of another program is another type than the name."""
+    """Each name that `gptedit types` lists. A word of another program that is also a name is the same type."""
     status, out, _ = program.plain("types")
     names = dict(re.findall(r"^(\S+) +([0-9a-f-]{36})$", out, re.M))
     tally.equals("the lines of types", (0, len(out.splitlines()) - 1), (status, len(names)))
-    for case, change in CASES.items():
-        for what, text_of in TEXTS.items():
-            for some in chunks((change(name), guid) for name, guid in names.items()):
-                hold_text(tally, program, f"{what} ({case})", text_of, some)
+    hold_texts(tally, program, names, [("a layout", "mixed"), ("a script", "lower")])
     folded = {name.lower(): guid for name, guid in names.items()}
     for peer, words in read_words().items():
         for word, guid in words.items():
@@ -191,32 +201,27 @@ def try_names(tally, program):
 
 
 def try_unknown(tally, program):
-    """Words that are no types are refused, with the nearest name if there is one."""
+    """Words that are no types are refused. A command line is told the nearest word if there is one."""
     start(program)
-    for word, name in NEAREST:
-        text = f"the nearest name is {name}"
-        for words in (["set", IMAGE, "1", "--type", word], ["add", IMAGE, "--size", "1MiB", "--type", word]):
-            refused(tally, program, words, text, IMAGE, 2)
-        for what, text_of in TEXTS.items():
-            refuse_text(tally, program, f"{what} with {word!r}", text_of([word]), text)
-    for word in UNKNOWN:
-        for words in (["set", IMAGE, "1", f"--type={word}"], ["add", IMAGE, "--size", "1MiB", f"--type={word}"]):
-            before = program.state(IMAGE)
-            ended = program.run(*words)
-            tally.equals(f"the status of {words}", (2, ""), (ended.status, ended.out))
-            tally.holds(f"{words} leaves the image", program.state(IMAGE) == before)
-        refuse_text(tally, program, f"a layout with {word!r}", layout_of([word]), "type of ")
-        if word.strip() == word and word not in ("", "-"):
-            refuse_text(tally, program, f"a script with {word!r}", script_of([word]), "type")
-
-
-def refuse_text(tally, program, what, text, reason):
-    """Counts whether a text is refused for this reason, and the image stays."""
     before = program.state(IMAGE)
-    ended = program.run("apply", IMAGE, "-", text=text)
-    tally.equals(f"the status of apply of {what}", (1, ""), (ended.status, ended.out))
-    tally.contains(f"what apply of {what} says", reason, ended.err)
-    tally.holds(f"apply of {what} leaves the image", program.state(IMAGE) == before)
+    for word, name in [*NEAREST, *((word, "") for word in UNKNOWN)]:
+        ended = program.plain("set", IMAGE, "1", f"--type={word}")
+        said = re.search(r"the nearest name is (\S+)", ended.err)
+        tally.equals(f"set --type={word!r}, and the nearest word", (2, "", name),
+                     (ended.status, ended.out, said[1] if said else ""))
+    ended = program.plain("add", IMAGE, "--size", "1MiB", "--type", "linus")
+    tally.equals("add --type linus", (2, True), (ended.status, "the nearest name is linux\n" in ended.err))
+    for word in NEARLY:
+        ended = program.plain("set", IMAGE, "1", f"--type={word}")
+        tally.equals(f"set --type={word!r}", (2, ""), (ended.status, ended.out))
+    for word in [*UNKNOWN, *NEARLY, "linus"]:
+        # In a script, blanks are between words, and nothing or `-` is the type that sfdisk has by default.
+        texts = ["a layout"] if " " in word or word in ("", "-") else TEXTS
+        for what in texts:
+            ended = program.plain("apply", IMAGE, "-", text=TEXTS[what]([word]))
+            tally.equals(f"{what} with {word!r}", (1, "", True),
+                         (ended.status, ended.out, "it must be a GUID, or a name" in ended.err))
+    tally.holds("words that are no types leave the image", program.state(IMAGE) == before)
 
 
 def try_programs(tally, _):

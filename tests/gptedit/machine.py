@@ -563,7 +563,9 @@ def try_closed(tally, program):
 
 
 def mutants(value, random_):
-    """The value with one member left out or one value of another type."""
+    """The object with one member left out or one value of another type."""
+    if not isinstance(value, (dict, list)):
+        return
     text = json.dumps(value)
     for _ in range(12):
         made = json.loads(text)
