@@ -2,6 +2,7 @@
 use Rattle.std.proofs.Common.{◌≡◌, ◌≢◌, ◌≤◌, ◌⊎◌, inl, inr, ℕ, ◌-◌, List, [], ◌∷◌, refl, sym, ap, ◌∙◌, subst, arith, zero, suc, IsTrue, Bool, true, false, length}
 use Rattle.std.specs.Prelude.{Option, Some, None, Result, Ok, Err, All, nat_eq, nat_le, not, slice_get, unwrap_or, if◌then◌else◌}
 use Rattle.std.proofs.lemmas.Bool.{eqb-false, eqb-true, leb-true}
+use Rattle.std.proofs.lemmas.List.{length-set}
 use Rattle.std.proofs.lemmas.Option.{slice_get_within, slice_get-get_or}
 use Rattle.gptman.specs.Coding.{empty_entry}
 use Rattle.gptman.specs.Entry.{is_unused, is_used}
@@ -10,9 +11,10 @@ use Rattle.gptman.specs.Table.{entries_in}
 use Rattle.gptman.specs.declared.codec.entry.GPTPartitionEntry.{GPTPartitionEntry}
 use Rattle.gptman.specs.declared.codec.header.GPTHeader.{GPTHeader}
 use Rattle.gptman.specs.declared.table.GPT.{GPT}
-use Rattle.gptedit_core.specs.Applying.{IsApplied}
-use Rattle.gptedit_core.specs.Named.{AreNumbered, AreThere, IsAgain, IsThere, IsUnnamed, LayoutsStay, StaysAs}
+use Rattle.gptedit_core.specs.Applying.{align_asked, asks_rest, rest_numbers, IsApplied}
+use Rattle.gptedit_core.specs.Named.{AreNumbered, AreThere, IsAgain, IsThere, IsUnnamed, LayoutsStay}
 use Rattle.gptedit_core.specs.Resolving.{and_then, entry_asked, entry_there, lowest_unused, number_asked, number_asked_or, partition_at, place_asked, resolved, resolved_all, unless, use_fault, used_at}
+use Rattle.gptedit_core.specs.declared.amount.Amount.{Amount}
 use Rattle.gptedit_core.specs.declared.asked.Asked.{Asked}
 use Rattle.gptedit_core.specs.declared.asked.RequestedLayout.{RequestedLayout}
 use Rattle.gptedit_core.specs.declared.asked.Mode.{Mode}
@@ -24,7 +26,8 @@ use Rattle.gptedit_core.specs.declared.resolve.ResolvedPartition.{ResolvedPartit
 use Rattle.gptedit_core.specs.declared.plan.Job.TheVariants.{Apply}
 use Rattle.gptedit_core.proofs.Dumped.{equal_entries, own_part, own_there, used_is, with_used, HasNumber, IsOwn, OwnedBy}
 use Rattle.gptedit_core.proofs.Kept.{done_keeps}
-use Rattle.gptedit_core.proofs.Applied.{change_named}
+use Rattle.gptedit_core.proofs.Extended.{all_settled, extended_same, idle, settled_as, AllSettled, OnlyEnd}
+use Rattle.gptedit_core.proofs.Placed.{last_end, placed_align, placed_keeps, placed_there}
 use Rattle.gptedit_core.proofs.Same.{cleared_same, put_same, removed_same}
 use Rattle.gptedit_core.proofs.Steps.{and_then_ok, else_ok}
 
@@ -103,49 +106,52 @@ is_first g mode a random i p number_is is =
     subst (IsFirst a i) end.1 (record { number = same; x = entry_there used random; used = end.0; entry = refl })
 
 -- Requested again, it is the entry that is in the table.
-own_again : (g t next : GPT) (mode : Mode) (a : Asked) (random other : List ℕ) (i : ℕ) (p q : ResolvedPartition) → a.number ≡ Some i → resolved g mode a random ≡ Ok p → IsThere p t next
-    → resolved next (Become false) a other ≡ Ok q → IsOwn next q
-own_again g t next mode a random other i p q number_is is there again =
+own_again : (g t placed next : GPT) (mode : Mode) (a : Asked) (random other : List ℕ) (i : ℕ) (p q : ResolvedPartition) → a.number ≡ Some i → resolved g mode a random ≡ Ok p → IsThere p t placed
+    → ((j : ℕ) → 1 ≤ j → OnlyEnd (entry_at placed j) (entry_at next j)) → resolved next (Become false) a other ≡ Ok q → IsOwn next q
+own_again g t placed next mode a random other i p q number_is is there ends again =
     let first = is_first g mode a random i p number_is is in
     let number = and_then_ok (number_asked next a) (partition_at next (Become false) a other) q again in
     let here = given next a i number.0 number_is number.1 in
     let at = of_by next i here.1.0 (nat_le 1 i) refl here.1.1 in
+    let last : ℕ = (entry_at next p.number).ending_lba in
     let y : GPTPartitionEntry = record first.x {
       partition_type_guid = unwrap_or a.type_guid first.x.partition_type_guid;
       unique_partition_guid = unwrap_or a.unique_guid first.x.unique_partition_guid;
       attribute_bits = unwrap_or a.attributes first.x.attribute_bits;
       partition_name = unwrap_or a.name first.x.partition_name;
       starting_lba = there.range.first;
-      ending_lba = there.range.last;
+      ending_lba = last;
     } in
-    let put : entry_at next p.number ≡ y = there.entry ∙ (λ k. record (first.entry k) { starting_lba = there.range.first; ending_lba = there.range.last }) in
+    let only = ends p.number (omega (arith, at.0, first.number)) in
+    let put : entry_at next p.number ≡ y =
+    only.same ∙ (ap (λ (e : GPTPartitionEntry). record e { ending_lba = last }) there.entry ∙ (λ k. record (first.entry k) { starting_lba = there.range.first; ending_lba = last })) in
     let stands : entry_at next i ≡ y = subst (λ (n : ℕ). entry_at next n ≡ y) (sym first.number) put in
     let found : entry_of_number next i ≡ Some y = here.1.1 ∙ ap Some (sym at.1 ∙ stands) in
     let type : ¬ IsTrue (is_unused y) = subst (λ (e : GPTPartitionEntry). ¬ IsTrue (is_unused e)) first.entry first.used in
     let used : IsTrue (is_used y) = used_of (is_unused y) type in
     let part : partition_at next (Become false) a other i ≡ Ok q = subst (λ (n : ℕ). partition_at next (Become false) a other n ≡ Ok q) (sym here.0) number.2 in
     let with : with_used next a other i (Some y) ≡ Ok q = subst (λ (u : Option GPTPartitionEntry). with_used next a other i u ≡ Ok q) (used_is next i y found used) part in
-    (own_part next a i y other q at.0 stands used (asked_again a first.x other there.range.first there.range.last) with).1
+    (own_part next a i y other q at.0 stands used (asked_again a first.x other there.range.first last) with).1
 
 -- ---- all entries
 
-pub all_again : (g t next : GPT) (mode : Mode) (asked : List Asked) (randoms others : List (List ℕ)) (ps qs : List ResolvedPartition) → AreNumbered asked
-    → length asked ≤ length randoms → length asked ≤ length others → resolved_all g mode asked randoms ≡ Ok ps → AreThere ps t next
-    → resolved_all next (Become false) asked others ≡ Ok qs → OwnedBy next qs
-all_again g t next mode [] randoms others ps qs numbered long more all there again = let none : [] ≡ qs = cc in subst (OwnedBy next) none tt
-all_again g t next mode (a ∷ asked) [] others ps qs numbered long more all there again = absurd (omega (arith, long))
-all_again g t next mode (a ∷ asked) (random ∷ randoms) [] ps qs numbered long more all there again = absurd (omega (arith, more))
-all_again g t next mode (a ∷ asked) (random ∷ randoms) (other ∷ others) ps qs numbered long more all there again =
+pub all_again : (g t placed next : GPT) (mode : Mode) (asked : List Asked) (randoms others : List (List ℕ)) (ps qs : List ResolvedPartition) → AreNumbered asked
+    → length asked ≤ length randoms → length asked ≤ length others → resolved_all g mode asked randoms ≡ Ok ps → AreThere ps t placed
+    → ((j : ℕ) → 1 ≤ j → OnlyEnd (entry_at placed j) (entry_at next j)) → resolved_all next (Become false) asked others ≡ Ok qs → OwnedBy next qs
+all_again g t placed next mode [] randoms others ps qs numbered long more all there ends again = let none : [] ≡ qs = cc in subst (OwnedBy next) none tt
+all_again g t placed next mode (a ∷ asked) [] others ps qs numbered long more all there ends again = absurd (omega (arith, long))
+all_again g t placed next mode (a ∷ asked) (random ∷ randoms) [] ps qs numbered long more all there ends again = absurd (omega (arith, more))
+all_again g t placed next mode (a ∷ asked) (random ∷ randoms) (other ∷ others) ps qs numbered long more all there ends again =
     let p = and_then_ok (resolved g mode a random) _ ps all in
     let rest = and_then_ok (resolved_all g mode asked randoms) _ ps p.2 in
     let whole : p.0 ∷ rest.0 ≡ ps = cc in
-    let both : AreThere (p.0 ∷ rest.0) t next = subst (λ (xs : List ResolvedPartition). AreThere xs t next) (sym whole) there in
+    let both : AreThere (p.0 ∷ rest.0) t placed = subst (λ (xs : List ResolvedPartition). AreThere xs t placed) (sym whole) there in
     let q = and_then_ok (resolved next (Become false) a other) _ qs again in
     let last = and_then_ok (resolved_all next (Become false) asked others) _ qs q.2 in
     let same : q.0 ∷ last.0 ≡ qs = cc in
     subst (OwnedBy next) same (
-      own_again g t next mode a random other numbered.0.0 p.0 q.0 numbered.0.1 p.1 both.0 q.1,
-      all_again g (with_entry t p.0.number (entry_at next p.0.number)) next mode asked randoms others rest.0 last.0 numbered.1 (omega (arith, long)) (omega (arith, more)) rest.1 both.1 last.1,
+      own_again g t placed next mode a random other numbered.0.0 p.0 q.0 numbered.0.1 p.1 both.0 ends q.1,
+      all_again g (with_entry t p.0.number (entry_at placed p.0.number)) placed next mode asked randoms others rest.0 last.0 numbered.1 (omega (arith, long)) (omega (arith, more)) rest.1 both.1 ends last.1,
     )
 
 -- ---- the entries of the resulting table
@@ -163,6 +169,26 @@ pub named_or : (j : ℕ) (ps : List ResolvedPartition) → HasNumber j ps ⊎ Is
 named_or j [] = inr (λ k d below. absurd (omega (arith, below)))
 named_or j (p ∷ ps) = named_by j p ps (nat_eq p.number j) refl (named_or j ps)
 
+-- The numbers of those that get the rest are the same.
+same_numbers : (g next : GPT) (mode : Mode) (asked : List Asked) (randoms others : List (List ℕ)) (ps qs : List ResolvedPartition) → AreNumbered asked
+    → length asked ≤ length randoms → length asked ≤ length others → resolved_all g mode asked randoms ≡ Ok ps
+    → resolved_all next (Become false) asked others ≡ Ok qs → rest_numbers asked ps ≡ rest_numbers asked qs
+same_numbers g next mode [] randoms others ps qs numbered long more all again = refl
+same_numbers g next mode (a ∷ asked) [] others ps qs numbered long more all again = absurd (omega (arith, long))
+same_numbers g next mode (a ∷ asked) (random ∷ randoms) [] ps qs numbered long more all again = absurd (omega (arith, more))
+same_numbers g next mode (a ∷ asked) (random ∷ randoms) (other ∷ others) ps qs numbered long more all again =
+    let p = and_then_ok (resolved g mode a random) _ ps all in
+    let rest = and_then_ok (resolved_all g mode asked randoms) _ ps p.2 in
+    let first : p.0 ∷ rest.0 ≡ ps = cc in
+    let q = and_then_ok (resolved next (Become false) a other) _ qs again in
+    let last = and_then_ok (resolved_all next (Become false) asked others) _ qs q.2 in
+    let second : q.0 ∷ last.0 ≡ qs = cc in
+    let number : p.0.number ≡ q.0.number =
+    sym (is_first g mode a random numbered.0.0 p.0 numbered.0.1 p.1).number ∙ (is_first next (Become false) a other numbered.0.0 q.0 numbered.0.1 q.1).number in
+    let same = same_numbers g next mode asked randoms others rest.0 last.0 numbered.1 (omega (arith, long)) (omega (arith, more)) rest.1 last.1 in
+    let here : rest_numbers (a ∷ asked) (p.0 ∷ rest.0) ≡ rest_numbers (a ∷ asked) (q.0 ∷ last.0) = λ k. if asks_rest a.size then number k ∷ same k else same k in
+    sym (ap (rest_numbers (a ∷ asked)) first) ∙ (here ∙ ap (rest_numbers (a ∷ asked)) second)
+
 -- ---- the whole table
 
 module _ (g next after : GPT) (layout again : RequestedLayout) (randoms others : List (List ℕ)) (numbered : AreNumbered layout.asked.items) (is_again : IsAgain layout again)
@@ -174,24 +200,64 @@ module _ (g next after : GPT) (layout again : RequestedLayout) (randoms others :
       (subst (λ (items : List Asked). resolved_all next again.mode items others ≡ Ok applied_again.partitions) is_again.asked applied_again.asked)
 
   owned : OwnedBy next applied_again.partitions
-  owned = all_again g applied.free next layout.mode layout.asked.items randoms others applied.partitions applied_again.partitions numbered long more applied.asked
-      (change_named layout randoms g next applied).named second
+  owned = all_again g applied.free applied.placed next layout.mode layout.asked.items randoms others applied.partitions applied_again.partitions numbered long more applied.asked
+      (placed_there layout randoms g next applied) (last_end layout randoms g next applied) second
 
-  each_by : (m : ℕ) → (HasNumber (suc m) applied_again.partitions ⊎ IsUnnamed (suc m) applied_again.partitions) → entry_at after (suc m) ≡ entry_at next (suc m)
-  each_by m (inl has) = own_there next applied_again.free after (suc m) applied_again.partitions owned (change_named again others next after applied_again).named has
+  -- Putting the partitions results in the same entries,
+  each_by : (m : ℕ) → (HasNumber (suc m) applied_again.partitions ⊎ IsUnnamed (suc m) applied_again.partitions) → entry_at applied_again.placed (suc m) ≡ entry_at next (suc m)
+  each_by m (inl has) =
+      own_there next applied_again.free applied_again.placed (suc m) applied_again.partitions owned (placed_there again others next after applied_again) has
   each_by m (inr unnamed) =
       let kept : All (λ (j : ℕ). j ≢ suc m) again.removed.items = subst (λ (js : List ℕ). All (λ (j : ℕ). j ≢ suc m) js) (sym is_again.removed) (λ k d below. absurd (omega (arith, below))) in
-      let stays = (change_named again others next after applied_again).others (suc m) (omega arith) unnamed kept in
-      (subst (λ (mo : Mode). StaysAs mo (entry_at next (suc m)) (entry_at after (suc m))) is_again.mode stays).0
+      (placed_keeps again others next after applied_again (suc m) (omega arith) unnamed kept).0
+
+  placed_as : {X : Type 0} (f : GPT → X) → ((m : GPT) (i : ℕ) (e : GPTPartitionEntry) → f (with_entry m i e) ≡ f m) → f applied_again.placed ≡ f (record next { align = applied_again.align })
+  placed_as f stays =
+      put_same f stays applied_again.partitions applied_again.free applied_again.placed applied_again.put
+      ∙ (cleared_same f stays applied_again.partitions applied_again.rest applied_again.free applied_again.clear
+      ∙ removed_same f stays again.removed.items (record next { align = applied_again.align }) applied_again.rest applied_again.removed)
+
+  placed_entries : entries_in applied_again.placed ≡ entries_in next
+  placed_entries =
+      equal_entries next applied_again.placed (placed_as (λ (m : GPT). length (entries_in m)) (λ m i e. length-set (entries_in m) (i - 1) e))
+      (λ m. each_by m (named_or (suc m) applied_again.partitions))
+
+  placed_header : applied_again.placed.header ≡ next.header
+  placed_header = placed_as (λ (m : GPT). m.header) (λ m i e. refl)
+
+  -- in which those that get the rest cannot end later,
+  same_align : applied_again.align ≡ applied.align
+  same_align =
+      let sector : next.sector_size ≡ g.sector_size = (done_keeps (Apply layout) randoms g next applied).sector in
+      let first : align_asked layout.align g.sector_size ≡ Ok applied.align = applied.is_align in
+      let both : Ok applied_again.align ≡ Ok applied.align =
+      sym applied_again.is_align ∙ (ap (λ (amount : Amount). align_asked amount next.sector_size) is_again.align ∙ (ap (align_asked layout.align) sector ∙ first)) in
+      cc
+
+  settled : AllSettled (rest_numbers again.asked.items applied_again.partitions) applied_again.placed
+  settled =
+      let numbers : rest_numbers layout.asked.items applied.partitions ≡ rest_numbers again.asked.items applied_again.partitions =
+      same_numbers g next layout.mode layout.asked.items randoms others applied.partitions applied_again.partitions numbered long more applied.asked second
+      ∙ ap (λ (items : List Asked). rest_numbers items applied_again.partitions) (sym is_again.asked) in
+      let end : applied.last.align ≡ applied_again.placed.align =
+      extended_same (λ (m : GPT). m.align) (λ m i e. refl) (rest_numbers layout.asked.items applied.partitions) applied.placed applied.last applied.extended
+      ∙ (placed_align layout randoms g next applied ∙ (sym same_align ∙ sym (placed_as (λ (m : GPT). m.align) (λ m i e. refl)))) in
+      subst (λ (is : List ℕ). AllSettled is applied_again.placed) numbers
+      (settled_as (rest_numbers layout.asked.items applied.partitions) applied.last applied_again.placed
+      (placed_entries ∙ ap (λ (m : GPT). entries_in m) applied.next_is)
+      (ap (λ (h : GPTHeader). h.first_usable_lba) placed_header ∙ ap (λ (m : GPT). m.header.first_usable_lba) applied.next_is)
+      (ap (λ (h : GPTHeader). h.last_usable_lba) placed_header ∙ ap (λ (m : GPT). m.header.last_usable_lba) applied.next_is)
+      end (all_settled (rest_numbers layout.asked.items applied.partitions) applied.placed applied.last applied.extended))
+
+  -- so lengthening them changes nothing.
+  last_is : applied_again.last ≡ applied_again.placed
+  last_is = idle (rest_numbers again.asked.items applied_again.partitions) applied_again.placed applied_again.last settled applied_again.extended
 
   same_entries : entries_in after ≡ entries_in next
-  same_entries = equal_entries next after (done_keeps (Apply again) others next after applied_again).long (λ m. each_by m (named_or (suc m) applied_again.partitions))
+  same_entries = ap (λ (m : GPT). entries_in m) applied_again.next_is ∙ (ap (λ (m : GPT). entries_in m) last_is ∙ placed_entries)
 
   last_header : applied_again.last.header ≡ next.header
-  last_header =
-      put_same (λ (m : GPT). m.header) (λ m i e. refl) applied_again.partitions applied_again.free applied_again.last applied_again.put
-      ∙ (cleared_same (λ (m : GPT). m.header) (λ m i e. refl) applied_again.partitions applied_again.rest applied_again.free applied_again.clear
-      ∙ removed_same (λ (m : GPT). m.header) (λ m i e. refl) again.removed.items (record next { align = applied_again.align }) applied_again.rest applied_again.removed)
+  last_header = ap (λ (m : GPT). m.header) last_is ∙ placed_header
 
   same_guid : after.header.disk_guid ≡ next.header.disk_guid
   same_guid =

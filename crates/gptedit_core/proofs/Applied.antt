@@ -1,4 +1,4 @@
--- A layout leaves other entries unchanged, and puts the named ones.
+-- Removing, clearing and putting leave other entries unchanged, and the named ones are put.
 use Rattle.std.proofs.Common.{◌≡◌, ◌≢◌, ◌≤◌, ℕ, ◌+◌, ◌-◌, List, [], ◌∷◌, refl, sym, ap, ◌∙◌, subst, arith, zero, suc, IsTrue}
 use Rattle.std.specs.Prelude.{Option, Some, None, Result, Ok, Err, All, Bool, true, false, not, get_or, if◌then◌else◌}
 use Rattle.std.proofs.lemmas.List.{get_or-set_other, get_or-set_same}
@@ -9,7 +9,7 @@ use Rattle.gptman.specs.Table.{entries_in}
 use Rattle.gptman.specs.declared.codec.entry.GPTPartitionEntry.{GPTPartitionEntry}
 use Rattle.gptman.specs.declared.table.GPT.{GPT}
 use Rattle.gptedit_core.specs.Applying.{cleared, lowest_used, others_fault, others_fault_of, removed_all, removed_one, without_entry, is_blank, ArePut, IsPut}
-use Rattle.gptedit_core.specs.Named.{AreThere, IsUnnamed, LayoutsChangeNamed, StaysAs}
+use Rattle.gptedit_core.specs.Named.{AreThere, IsUnnamed, StaysAs}
 use Rattle.gptedit_core.specs.Resolving.{first_numbered}
 use Rattle.std.specs.List.{enumerate_from}
 use Rattle.gptedit_core.specs.declared.asked.Mode.{Mode}
@@ -17,7 +17,7 @@ use Rattle.gptedit_core.specs.declared.asked.Mode.TheVariants.{Add, Change, Beco
 use Rattle.gptedit_core.specs.declared.refusal.Refusal.{Refusal}
 use Rattle.gptedit_core.specs.declared.refusal.Refusal.TheVariants.{IsUnused, NoEntry}
 use Rattle.gptedit_core.specs.declared.resolve.ResolvedPartition.{ResolvedPartition}
-use Rattle.gptedit_core.proofs.Resolved.{used_all, AreUsed}
+use Rattle.gptedit_core.proofs.Resolved.{AreUsed}
 use Rattle.gptedit_core.proofs.Steps.{and_then_ok, else_ok}
 
 -- Another entry is unchanged.
@@ -52,16 +52,16 @@ keep (p ∷ ps) g next j is low unnamed =
     ∙ put_other p g is.0 j is.1 low (unnamed 0 p (omega arith))
 
 -- A partition that was put is there at the end.
-pub there : (ps : List ResolvedPartition) (g last next : GPT) → ((i : ℕ) → entry_at next i ≡ entry_at last i) → ArePut ps g last → AreUsed ps → AreThere ps g next
-there [] g last next same is used = tt
-there (p ∷ ps) g last next same is used =
+pub there : (ps : List ResolvedPartition) (g last : GPT) → ArePut ps g last → AreUsed ps → AreThere ps g last
+there [] g last is used = tt
+there (p ∷ ps) g last is used =
     let put = is.1 in
     let entry : GPTPartitionEntry = record p.entry { starting_lba = put.range.first; ending_lba = put.range.last } in
     let here : entry_at is.0 p.number ≡ entry = subst (λ (m : GPT). entry_at m p.number ≡ entry) (sym put.next_is) (this_entry g p.number entry put.number) in
     let still = stay ps is.0 last p.number is.2 put.number.0 (λ unused. used.0 (subst (λ (e : GPTPartitionEntry). IsTrue (is_unused e)) here unused)) in
-    let end : entry_at next p.number ≡ entry = same p.number ∙ (still ∙ here) in
-    let mid : is.0 ≡ with_entry g p.number (entry_at next p.number) = put.next_is ∙ ap (with_entry g p.number) (sym end) in
-    (record { range = put.range; span = put.span; entry = end }, subst (λ (m : GPT). AreThere ps m next) mid (there ps is.0 last next same is.2 used.1))
+    let end : entry_at last p.number ≡ entry = still ∙ here in
+    let mid : is.0 ≡ with_entry g p.number (entry_at last p.number) = put.next_is ∙ ap (with_entry g p.number) (sym end) in
+    (record { range = put.range; span = put.span; entry = end }, subst (λ (m : GPT). AreThere ps m last) mid (there ps is.0 last is.2 used.1))
 
 -- ---- entries that are cleared or removed first
 
@@ -116,22 +116,9 @@ others_unused h j None found is = none_used 1 (entries_in h) (j - 1) found
 others_unused h j (Some i) found is = absurd (cc)
 
 -- An equal entry fulfils StaysAs.
-stays_as : (mode : Mode) (e : GPTPartitionEntry) (h : GPT) (j : ℕ) (after : GPTPartitionEntry) → entry_at h j ≡ e → after ≡ e → others_fault mode h ≡ None → StaysAs mode e after
+pub stays_as : (mode : Mode) (e : GPTPartitionEntry) (h : GPT) (j : ℕ) (after : GPTPartitionEntry) → entry_at h j ≡ e → after ≡ e → others_fault mode h ≡ None → StaysAs mode e after
 stays_as Add e h j after before same none = same
 stays_as Change e h j after before same none = same
 stays_as (Become true) e h j after before same none = same
 stays_as (Become false) e h j after before same none =
     (same, subst (λ (x : GPTPartitionEntry). IsTrue (is_unused x)) before (others_unused h j (lowest_used h) refl none))
-
--- ---- the whole layout
-
-pub change_named : LayoutsChangeNamed
-change_named layout randoms g next is =
-    let same : (i : ℕ) → entry_at next i ≡ entry_at is.last i = λ i. ap (λ (m : GPT). entry_at m i) is.next_is in
-    record {
-      others = λ i low unnamed kept.
-          let before = cleared_keep is.partitions is.rest is.free i is.clear low unnamed ∙ removed_keep layout.removed.items (record g { align = is.align }) is.rest i is.removed low kept in
-          let after = same i ∙ keep is.partitions is.free is.last i is.put low unnamed in
-          stays_as layout.mode (entry_at g i) is.free i (entry_at next i) before (after ∙ before) is.others;
-      named = there is.partitions is.free is.last next same is.put (used_all g layout.mode layout.asked.items randoms is.partitions is.asked);
-    }

@@ -13,8 +13,8 @@ use Rattle.gptman.specs.declared.codec.entry.GPTPartitionEntry.{GPTPartitionEntr
 use Rattle.gptman.specs.declared.codec.header.GPTHeader.{GPTHeader}
 use Rattle.gptman.specs.declared.table.GPT.{GPT}
 use Rattle.gptedit_core.specs.Dumping.{asked_of, asked_of_all, IsLayoutOf}
-use Rattle.gptedit_core.specs.Applying.{IsApplied}
-use Rattle.gptedit_core.specs.Named.{AreThere, IsUnnamed, LayoutsGiveTable, StaysAs}
+use Rattle.gptedit_core.specs.Applying.{rest_numbers, IsApplied}
+use Rattle.gptedit_core.specs.Named.{AreThere, IsAmong, IsUnnamed, LayoutsGiveTable, StaysAs}
 use Rattle.gptedit_core.specs.Placing.{IsSpan}
 use Rattle.gptedit_core.specs.Resolving.{and_then, entry_asked, number_asked, partition_at, place_asked, place_of, resolved, resolved_all, room_asked, start_asked, stay_fault, there_of, unless, use_fault, used_at}
 use Rattle.gptedit_core.specs.Sectors.{between}
@@ -23,14 +23,15 @@ use Rattle.gptedit_core.specs.declared.asked.RequestedLayout.{RequestedLayout}
 use Rattle.gptedit_core.specs.declared.asked.Mode.{Mode}
 use Rattle.gptedit_core.specs.declared.asked.Mode.TheVariants.{Become}
 use Rattle.gptedit_core.specs.declared.place.Place.{Place}
-use Rattle.gptedit_core.specs.declared.place.Place.TheVariants.{At, From, Longer, Free, Longest}
+use Rattle.gptedit_core.specs.declared.place.Place.TheVariants.{At, From, Free, Longest}
 use Rattle.gptedit_core.specs.declared.refusal.Refusal.{Refusal}
 use Rattle.gptedit_core.specs.declared.refusal.Refusal.TheVariants.{NoEntry, NoType, WouldMove}
 use Rattle.gptedit_core.specs.declared.resolve.ResolvedPartition.{ResolvedPartition}
 use Rattle.gptedit_core.specs.declared.plan.Job.TheVariants.{Apply}
 use Rattle.gptedit_core.specs.declared.sectors.SectorRange.{SectorRange}
 use Rattle.gptedit_core.proofs.Kept.{done_keeps}
-use Rattle.gptedit_core.proofs.Applied.{change_named}
+use Rattle.gptedit_core.proofs.Extended.{both_true}
+use Rattle.gptedit_core.proofs.Placed.{change_named, last_exact, placed_there}
 use Rattle.gptedit_core.proofs.Steps.{and_then_ok, else_ok}
 
 -- ---- one entry that is requested unchanged
@@ -43,16 +44,11 @@ when_none : (b : Bool) (r : Refusal) → ◌≡◌ {A = Option Refusal} (if b th
 when_none true r is = refl
 when_none false r is = absurd (cc)
 
-both_true : (a b : Bool) → (a && b) ≡ true → (a ≡ true) × (b ≡ true)
-both_true true b is = (refl, is)
-both_true false b is = absurd (cc)
-
 stays_at : (i : ℕ) (there : SectorRange) (place : Place) → stay_fault (Become false) i (Some there) place ≡ None → place ≡ At there.first there.last
 stays_at i there (At first last) is =
     let both = both_true (nat_eq first there.first) (nat_eq last there.last) (when_none (nat_eq first there.first && nat_eq last there.last) (WouldMove i) is) in
     ap (λ n. At n last) (eqb-true first there.first both.0) ∙ ap (λ n. At there.first n) (eqb-true last there.last both.1)
 stays_at i there (From first) is = absurd (cc)
-stays_at i there (Longer first last) is = absurd (cc)
 stays_at i there (Free size choice) is = absurd (cc)
 stays_at i there Longest is = absurd (cc)
 
@@ -60,7 +56,7 @@ pub place_stays : (a : Asked) (i ss : ℕ) (e : GPTPartitionEntry) (place : Plac
 place_stays a i ss e place is =
     let start = and_then_ok (start_asked a.start ss) _ place is in
     let room = and_then_ok (room_asked a.size i ss) _ place start.2 in
-    let at = and_then_ok (place_of (Become false) i room.0 start.0 (there_of (Some e)) a.choice) _ place room.2 in
+    let at = and_then_ok (place_of i room.0 start.0 (there_of (Some e)) a.choice) _ place room.2 in
     let stay = unless_ok (stay_fault (Become false) i (there_of (Some e)) at.0) at.0 place at.2 in
     sym stay.1 ∙ stays_at i (between e.starting_lba e.ending_lba) at.0 stay.0
 
@@ -247,6 +243,17 @@ equal_entries g next long each =
     get_or_default (entries_in next) k d empty_entry below ∙ (sym (at_number next k (suc k) (omega arith)) ∙ (each k
     ∙ (at_number g k (suc k) (omega arith) ∙ get_or_default (entries_in g) k empty_entry d (omega (arith, below, long))))))
 
+-- None of them gets the rest.
+none_rest_by : (b : Bool) (k : ℕ) (e : GPTPartitionEntry) (asked : List Asked) (j : ℕ) → ((ps : List ResolvedPartition) → ¬ IsAmong j (rest_numbers asked ps))
+    → (ps : List ResolvedPartition) → ¬ IsAmong j (rest_numbers (if_used b k e asked) ps)
+none_rest_by false k e asked j rest ps among = rest ps among
+none_rest_by true k e asked j rest [] among = among
+none_rest_by true k e asked j rest (p ∷ ps) among = rest ps among
+
+none_rest : (k : ℕ) (es : List GPTPartitionEntry) (j : ℕ) (ps : List ResolvedPartition) → ¬ IsAmong j (rest_numbers (asked_of_all (enumerate_from k es)) ps)
+none_rest k [] j ps among = among
+none_rest k (e ∷ es) j ps among = none_rest_by (is_used e) k e (asked_of_all (enumerate_from (k + 1) es)) j (none_rest (k + 1) es j) ps among
+
 -- ---- the whole table
 
 module _ (g next : GPT) (layout : RequestedLayout) (randoms : List (List ℕ)) (is : IsLayoutOf g layout) (enough : length layout.asked.items ≤ length randoms)
@@ -262,7 +269,10 @@ module _ (g next : GPT) (layout : RequestedLayout) (randoms : List (List ℕ)) (
 
   each_used : (m : ℕ) → is_used (entry_at g (suc m)) ≡ true → entry_at next (suc m) ≡ entry_at g (suc m)
   each_used m used =
-      own_there g applied.free next (suc m) applied.partitions owned.0 (change_named layout randoms g next applied).named (used_named g applied.partitions m owned.1 used)
+      let none : ¬ IsAmong (suc m) (rest_numbers layout.asked.items applied.partitions) =
+      subst (λ (asked : List Asked). ¬ IsAmong (suc m) (rest_numbers asked applied.partitions)) (sym is.asked) (none_rest 1 (entries_in g) (suc m) applied.partitions) in
+      last_exact layout randoms g next applied (suc m) (omega arith) none
+      ∙ own_there g applied.free applied.placed (suc m) applied.partitions owned.0 (placed_there layout randoms g next applied) (used_named g applied.partitions m owned.1 used)
 
   each_unused : (m : ℕ) → is_used (entry_at g (suc m)) ≡ false → entry_at next (suc m) ≡ entry_at g (suc m)
   each_unused m unused =

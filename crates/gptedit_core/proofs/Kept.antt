@@ -12,7 +12,7 @@ use Rattle.gptman.specs.declared.table.GPT.{GPT}
 use Rattle.gptman.proofs.Commits.{coherent_still, edited_keeps, keeps_both, layout_still, KeepsRanges}
 use Rattle.gptman.proofs.ReadKept.{has_places}
 use Rattle.gptman_change.specs.Planning.{KeepsPlaces}
-use Rattle.gptedit_core.specs.Applying.{cleared, removed_all, removed_one, without_entry, is_blank, ArePut}
+use Rattle.gptedit_core.specs.Applying.{cleared, removed_all, removed_one, rest_numbers, without_entry, is_blank, AreExtended, ArePut, IsExtendedFrom}
 use Rattle.gptedit_core.specs.Planning.{IsDone}
 use Rattle.gptedit_core.specs.declared.plan.Job.{Job}
 use Rattle.gptedit_core.specs.declared.plan.Job.TheVariants.{Apply, Sort, Rewrite}
@@ -63,25 +63,37 @@ all_put_keep (p ∷ ps) g h is =
     let mid_keeps = subst (KeepsRanges g) (sym put.next_is) (put_keeps g p.number (record p.entry { starting_lba = put.range.first; ending_lba = put.range.last })) in
     keeps_both g is.0 h mid_keeps (all_put_keep ps is.0 h is.2)
 
+-- lengthened,
+extended_keeps : (g h : GPT) (i : ℕ) (found : Option GPTPartitionEntry) → IsExtendedFrom found i g h → KeepsRanges g h
+extended_keeps g h i None is = subst (KeepsRanges g) (sym is) (record { sector = refl; header = refl; long = refl })
+extended_keeps g h i (Some e) is = subst (KeepsRanges g) (sym is.2) (put_keeps g i (record e { ending_lba = is.0 }))
+
+all_extended_keep : (is : List ℕ) (g h : GPT) → AreExtended is g h → KeepsRanges g h
+all_extended_keep [] g h is = subst (KeepsRanges g) (sym is) (record { sector = refl; header = refl; long = refl })
+all_extended_keep (i ∷ is) g h all =
+    keeps_both g all.0 h (extended_keeps g all.0 i (entry_of_number g i) all.1) (all_extended_keep is all.0 h all.2)
+
 -- and the GUID of the disk is set.
 guid_keeps : (g : GPT) (align : ℕ) (guid : List ℕ) → KeepsRanges g (record g { align = align; header = record g.header { disk_guid = guid } })
 guid_keeps g align guid = record { sector = refl; header = refl; long = refl }
 
-applied_keeps : (g next : GPT) (guid : Option (List ℕ)) (align : ℕ) (ps : List ResolvedPartition) (is : List ℕ) (rest free last : GPT) → removed_all is (record g { align = align }) ≡ Ok rest
-    → cleared ps rest ≡ Ok free → ArePut ps free last
+applied_keeps : (g next : GPT) (guid : Option (List ℕ)) (align : ℕ) (ps : List ResolvedPartition) (is js : List ℕ) (rest free placed last : GPT) → removed_all is (record g { align = align }) ≡ Ok rest
+    → cleared ps rest ≡ Ok free → ArePut ps free placed → AreExtended js placed last
     → next ≡ record last { align = g.align; header = record last.header { disk_guid = unwrap_or guid last.header.disk_guid } } → KeepsRanges g next
-applied_keeps g next guid align ps is rest free last removed clear put next_is =
+applied_keeps g next guid align ps is js rest free placed last removed clear put extended next_is =
     let h : GPT = record g { align = align } in
     let to_rest = keeps_both g h rest (align_keeps g align) (all_removed_keep is h rest removed) in
     let to_free = keeps_both g rest free to_rest (all_cleared_keep ps rest free clear) in
-    let to_last = keeps_both g free last to_free (all_put_keep ps free last put) in
+    let to_placed = keeps_both g free placed to_free (all_put_keep ps free placed put) in
+    let to_last = keeps_both g placed last to_placed (all_extended_keep js placed last extended) in
     let end : GPT = record last { align = g.align; header = record last.header { disk_guid = unwrap_or guid last.header.disk_guid } } in
     subst (KeepsRanges g) (sym next_is) (keeps_both g last end to_last (guid_keeps last g.align (unwrap_or guid last.header.disk_guid)))
 
 -- So each job keeps them.
 pub done_keeps : (job : Job) (randoms : List (List ℕ)) (g next : GPT) → IsDone job randoms g next → KeepsRanges g next
 done_keeps (Apply layout) randoms g next is =
-    applied_keeps g next layout.disk_guid is.align is.partitions layout.removed.items is.rest is.free is.last is.removed is.clear is.put is.next_is
+    applied_keeps g next layout.disk_guid is.align is.partitions layout.removed.items (rest_numbers layout.asked.items is.partitions)
+    is.rest is.free is.placed is.last is.removed is.clear is.put is.extended is.next_is
 done_keeps Sort randoms g next is = subst (KeepsRanges g) (sym is) (edited_keeps g SortEntries)
 done_keeps Rewrite randoms g next is = subst (KeepsRanges g) (sym is) (record { sector = refl; header = refl; long = refl })
 

@@ -1,11 +1,15 @@
 pub mod Again
 pub mod Anew
+pub mod Bits
 pub mod Bounded
 pub mod Checked
+pub mod Counts
 pub mod Cuts
 pub mod Dumped
 pub mod Ends
+pub mod Extended
 pub mod Fitted
+pub mod Floors
 pub mod Growing
 pub mod Kept
 pub mod Applied
@@ -13,6 +17,7 @@ pub mod Lengthened
 pub mod Offered
 pub mod Ordered
 pub mod Pairs
+pub mod Placed
 pub mod Planned
 pub mod Reached
 pub mod Remade
@@ -20,7 +25,9 @@ pub mod Repeated
 pub mod Resolved
 pub mod Runs
 pub mod Safe
+pub mod Settings
 pub mod Same
+pub mod Selected
 pub mod Steps
 pub mod Taken
 pub mod Targets

@@ -1,5 +1,5 @@
 -- A layout is not refused a second time.
-use Rattle.std.proofs.Common.{◌≡◌, ◌≤◌, ◌<◌, ◌⊎◌, inl, inr, ℕ, ◌+◌, ◌-◌, ◌^◌, List, [], ◌∷◌, refl, sym, ap, ◌∙◌, subst, arith, zero, suc, IsTrue, Bool, true, false, length}
+use Rattle.std.proofs.Common.{◌≡◌, ◌≢◌, ◌≤◌, ◌<◌, ◌⊎◌, inl, inr, ℕ, ◌+◌, ◌-◌, ◌^◌, List, [], ◌∷◌, refl, sym, ap, ◌∙◌, subst, arith, zero, suc, IsTrue, Bool, true, false, length}
 use Rattle.std.specs.Prelude.{Option, Some, None, Result, Ok, Err, All, Contains, get_or, max, nat_eq, nat_le, nat_lt, not, slice_get, unwrap_or, if◌then◌else◌}
 use Rattle.std.proofs.lemmas.Bool.{eq-eqb, eqb-false, eqb-true, le-leb, leb-true}
 use Rattle.std.proofs.lemmas.List.{length-set}
@@ -11,20 +11,22 @@ use Rattle.gptman.specs.Table.{entries_in}
 use Rattle.gptman.specs.TableWrites.{MayBeWritten}
 use Rattle.gptman.specs.declared.codec.entry.GPTPartitionEntry.{GPTPartitionEntry}
 use Rattle.gptman.specs.declared.table.GPT.{GPT}
-use Rattle.gptedit_core.specs.Applying.{align_asked, lowest_used, others_fault, removed_all, removed_one, without_entry, is_blank, ArePut, IsApplied, RefusesAsked}
-use Rattle.gptedit_core.specs.Named.{AreNumbered, AreThere, Asks, IsAgain, IsThere, IsUnnamed, IsWhole, LayoutsAreTakenAgain}
+use Rattle.gptedit_core.specs.Applying.{align_asked, asks_rest, lowest_used, rest_numbers, others_fault, removed_all, removed_one, without_entry, is_blank, ArePut, IsApplied, RefusesAsked}
+use Rattle.gptedit_core.specs.Named.{AreNumbered, AreThere, Asks, IsAgain, IsAmong, IsThere, IsUnnamed, IsWhole, LayoutsAreTakenAgain}
 use Rattle.gptedit_core.specs.Placing.{IsSpan}
 use Rattle.gptedit_core.specs.Planning.{asks_random, IsDone, RefusesCheck, RefusesJob}
 use Rattle.gptedit_core.specs.Planning.RefusesCheck.{boundaries, shared}
 use Rattle.gptedit_core.specs.Planning.RefusesRequest.{not_done, not_laid_out, not_written}
-use Rattle.gptedit_core.specs.Resolving.{and_then, entry_asked, lowest_unused, number_asked, number_asked_or, partition_at, place_asked, place_of, resolved, resolved_all, rest_of, rest_there, room_asked, span_from, start_asked, stay_fault, there_of, unless, use_fault, used_at}
+use Rattle.gptedit_core.specs.Resolving.{and_then, entry_asked, lowest_unused, number_asked, number_asked_or, partition_at, place_asked, place_of, resolved, resolved_all, rest_of, room_asked, span_from, start_asked, stay_fault, there_of, unless, use_fault, used_at}
 use Rattle.gptedit_core.specs.Sectors.{between}
 use Rattle.gptedit_core.specs.declared.amount.Amount.{Amount}
 use Rattle.gptedit_core.specs.declared.asked.Asked.{Asked}
 use Rattle.gptedit_core.specs.declared.asked.Choice.{Choice}
 use Rattle.gptedit_core.specs.declared.asked.RequestedLayout.{RequestedLayout}
 use Rattle.gptedit_core.specs.declared.asked.Mode.{Mode}
-use Rattle.gptedit_core.specs.declared.asked.Mode.TheVariants.{Add, Change, Become}
+use Rattle.gptedit_core.specs.declared.asked.Mode.TheVariants.{Become}
+use Rattle.gptedit_core.specs.declared.asked.Size.{Size}
+use Rattle.gptedit_core.specs.declared.asked.Size.TheVariants.{Exactly, Rest}
 use Rattle.gptedit_core.specs.declared.place.Place.{Place}
 use Rattle.gptedit_core.specs.declared.place.Place.TheVariants.{At, From, Free}
 use Rattle.gptedit_core.specs.declared.plan.Job.{Job}
@@ -37,12 +39,14 @@ use Rattle.gptedit_core.specs.declared.resolve.Room.TheVariants.{Sectors as Room
 use Rattle.gptedit_core.specs.declared.sectors.SectorRange.{SectorRange}
 use Rattle.gptedit_core.proofs.Again.{all_again, asked_again, is_first, layouts_stay, named_or, unnamed_more, used_of}
 use Rattle.gptedit_core.proofs.Dumped.{at_number, of_number, unless_ok, used_is, with_used, CoversFrom, HasNumber, OwnedBy}
+use Rattle.gptedit_core.proofs.Extended.{extended_same, OnlyEnd}
+use Rattle.gptedit_core.proofs.Placed.{all_exact, last_end, last_exact, placed_there, unnamed_among, AreExact, DifferInNumber}
 use Rattle.gptedit_core.proofs.Kept.{done_keeps, done_layout}
-use Rattle.gptedit_core.proofs.Applied.{change_named, cleared_keep, keep, other_entry, others_unused, put_stays, this_entry}
+use Rattle.gptedit_core.proofs.Applied.{cleared_keep, keep, other_entry, others_unused, put_stays, this_entry}
 use Rattle.gptedit_core.proofs.Resolved.{resolved_more, used_all, AreUsed}
 use Rattle.gptedit_core.proofs.Same.{put_same}
 use Rattle.gptedit_core.proofs.Steps.{and_then_ok, else_ok}
-use Rattle.gptedit_core.proofs.Taken.{all_placed, has_type, not_refused_where, own_partition, span_to, stays, DifferInNumber, IsPlaced}
+use Rattle.gptedit_core.proofs.Taken.{all_placed, has_type, not_refused_where, own_partition, span_to, stays, IsPlaced}
 
 -- ---- the place of an entry that is requested again
 
@@ -59,79 +63,84 @@ sized_by i true r place is = is
 sized_by i false r place is = absurd (cc)
 
 -- The rest starts at the requested start.
-there_begins : (mode : Mode) (there s : SectorRange) (g : GPT) → IsSpan (rest_there mode there) g s → s.first ≡ there.first
-there_begins Add there s g span = span.0
-there_begins Change there s g span = span.0
-there_begins (Become replace) there s g span = ap (λ (p : SectorRange). p.first) span
+begins_by : (x : ℕ) (there s : SectorRange) (g : GPT) (b : Bool) → nat_eq x there.first ≡ b → IsSpan (if b then At there.first there.last else From x) g s → s.first ≡ x
+begins_by x there s g true is span = ap (λ (p : SectorRange). p.first) span ∙ sym (eqb-true x there.first is)
+begins_by x there s g false is span = ap (λ (p : SectorRange). p.first) span.2
 
-begins_by : (mode : Mode) (x : ℕ) (there s : SectorRange) (g : GPT) (b : Bool) → nat_eq x there.first ≡ b → IsSpan (if b then rest_there mode there else From x) g s → s.first ≡ x
-begins_by mode x there s g true is span = there_begins mode there s g span ∙ sym (eqb-true x there.first is)
-begins_by mode x there s g false is span = ap (λ (p : SectorRange). p.first) span.2
+begins : (x : ℕ) (there : Option SectorRange) (s : SectorRange) (g : GPT) → IsSpan (rest_of (Some x) there) g s → s.first ≡ x
+begins x None s g span = ap (λ (p : SectorRange). p.first) span.2
+begins x (Some there) s g span = begins_by x there s g (nat_eq x there.first) refl span
 
-begins : (mode : Mode) (x : ℕ) (there : Option SectorRange) (s : SectorRange) (g : GPT) → IsSpan (rest_of mode (Some x) there) g s → s.first ≡ x
-begins mode x None s g span = ap (λ (p : SectorRange). p.first) span.2
-begins mode x (Some there) s g span = begins_by mode x there s g (nat_eq x there.first) refl span
+-- A request whose room is not the rest does not ask for it.
+not_rest : {X : Type 0} (size : Option Size) (i ss : ℕ) (room : Option Room) → room_asked size i ss ≡ Ok room → (asks_rest size ≡ false → X) → room ≢ Some RoomRest → X
+not_rest None i ss room is exact other = exact refl
+not_rest (Some (Exactly amount)) i ss room is exact other = exact refl
+not_rest (Some Rest) i ss room is exact other = let same : Some RoomRest ≡ room = cc in absurd (other (sym same))
 
 -- The place of a used entry, by its steps.
 place_from : (a : Asked) (i ss : ℕ) (y : GPTPartitionEntry) (s : Option ℕ) (r : Option Room) (place : Place) → start_asked a.start ss ≡ Ok s → room_asked a.size i ss ≡ Ok r
-    → place_of (Become false) i r s (Some (between y.starting_lba y.ending_lba)) a.choice ≡ Ok place
+    → place_of i r s (Some (between y.starting_lba y.ending_lba)) a.choice ≡ Ok place
     → stay_fault (Become false) i (Some (between y.starting_lba y.ending_lba)) place ≡ None → place_asked (Become false) a i (Some y) ss ≡ Ok place
 place_from a i ss y s r place start room at stay =
     let stay_of : Place → Result Place Refusal = λ p. unless (stay_fault (Become false) i (Some (between y.starting_lba y.ending_lba)) p) p in
-    let at_of : Option ℕ → Option Room → Result Place Refusal = λ x z. and_then (place_of (Become false) i z x (Some (between y.starting_lba y.ending_lba)) a.choice) stay_of in
+    let at_of : Option ℕ → Option Room → Result Place Refusal = λ x z. and_then (place_of i z x (Some (between y.starting_lba y.ending_lba)) a.choice) stay_of in
     let room_of : Option ℕ → Result Place Refusal = λ x. and_then (room_asked a.size i ss) (at_of x) in
     ap (λ (x : Result (Option ℕ) Refusal). and_then x room_of) start
     ∙ (ap (λ (x : Result (Option Room) Refusal). and_then x (at_of s)) room
     ∙ (ap (λ (x : Result Place Refusal). and_then x stay_of) at
     ∙ ap (λ (o : Option Refusal). unless o place) stay))
 
--- The place is unchanged, whatever was requested.
-module _ (i first last : ℕ) (choice : Choice) (g : GPT) (ordered : first ≤ last) (fits : last + 1 < 2 ^ 64) where
-  place_again : (mode : Mode) (room : Option Room) (start : Option ℕ) (there : Option SectorRange) (place : Place) → place_of mode i room start there choice ≡ Ok place
-      → IsSpan place g (between first last) → place_of (Become false) i room start (Some (between first last)) choice ≡ Ok (At first last)
-  place_again mode (Some (RoomSectors n)) (Some x) there place is span =
-      let s = span_at i x (n - 1) place g (between first last) is span in
+-- The place is unchanged, whatever was requested. Only one that gets the rest may have been put with another end.
+module _ (i first end last : ℕ) (choice : Choice) (g : GPT) (ordered : first ≤ last) (fits : last + 1 < 2 ^ 64) where
+  place_again : (room : Option Room) (start : Option ℕ) (there : Option SectorRange) (place : Place) → place_of i room start there choice ≡ Ok place
+      → IsSpan place g (between first end) → (room ≢ Some RoomRest → end ≡ last) → place_of i room start (Some (between first last)) choice ≡ Ok (At first last)
+  place_again (Some (RoomSectors n)) (Some x) there place is span exact =
+      let same : end ≡ last = exact (λ rest. absurd (cc)) in
+      let s = span_at i x (n - 1) place g (between first end) is span in
       let low : first ≡ x = ap (λ (p : SectorRange). p.first) s in
-      let high : last ≡ x + (n - 1) = ap (λ (p : SectorRange). p.last) s in
-      subst (λ (y : ℕ). span_from i y (n - 1) ≡ Ok (At first last)) low (span_to i first (n - 1) last (omega (arith, low, high)) (omega (arith, fits)))
-  place_again mode (Some (RoomSectors n)) None (Some there) place is span =
-      let s = span_at i there.first (n - 1) place g (between first last) is span in
+      let high : end ≡ x + (n - 1) = ap (λ (p : SectorRange). p.last) s in
+      subst (λ (y : ℕ). span_from i y (n - 1) ≡ Ok (At first last)) low (span_to i first (n - 1) last (omega (arith, low, high, same)) (omega (arith, fits)))
+  place_again (Some (RoomSectors n)) None (Some there) place is span exact =
+      let same : end ≡ last = exact (λ rest. absurd (cc)) in
+      let s = span_at i there.first (n - 1) place g (between first end) is span in
       let low : first ≡ there.first = ap (λ (p : SectorRange). p.first) s in
-      let high : last ≡ there.first + (n - 1) = ap (λ (p : SectorRange). p.last) s in
-      span_to i first (n - 1) last (omega (arith, low, high)) (omega (arith, fits))
-  place_again mode (Some (RoomSectors n)) None None place is span =
+      let high : end ≡ there.first + (n - 1) = ap (λ (p : SectorRange). p.last) s in
+      span_to i first (n - 1) last (omega (arith, low, high, same)) (omega (arith, fits))
+  place_again (Some (RoomSectors n)) None None place is span exact =
+      let equal : end ≡ last = exact (λ rest. absurd (cc)) in
       let same : Free n choice ≡ place = cc in
-      let free : IsSpan (Free n choice) g (between first last) = subst (λ (p : Place). IsSpan p g (between first last)) (sym same) span in
-      let end : last ≡ first + (max 1 n - 1) = free.1 in
-      span_to i first (n - 1) last (omega (arith, end)) (omega (arith, fits))
-  place_again mode (Some RoomRest) None there place is span = refl
-  place_again mode (Some RoomRest) (Some x) there place is span =
-      let same : rest_of mode (Some x) there ≡ place = cc in
-      let low = begins mode x there (between first last) g (subst (λ (p : Place). IsSpan p g (between first last)) (sym same) span) in
+      let free : IsSpan (Free n choice) g (between first end) = subst (λ (p : Place). IsSpan p g (between first end)) (sym same) span in
+      let at : end ≡ first + (max 1 n - 1) = free.1 in
+      span_to i first (n - 1) last (omega (arith, at, equal)) (omega (arith, fits))
+  place_again (Some RoomRest) None there place is span exact = refl
+  place_again (Some RoomRest) (Some x) there place is span exact =
+      let same : rest_of (Some x) there ≡ place = cc in
+      let low = begins x there (between first end) g (subst (λ (p : Place). IsSpan p g (between first end)) (sym same) span) in
       rw (eq-eqb x first (sym low)) refl
-  place_again mode None None (Some there) place is span = refl
-  place_again mode None None None place is span = absurd (cc)
-  place_again mode None (Some x) None place is span = absurd (cc)
-  place_again mode None (Some x) (Some there) place is span =
-      let s = span_at i x (there.last - there.first) place g (between first last) (sized_by i (nat_le there.first there.last) _ place is) span in
+  place_again None None (Some there) place is span exact = refl
+  place_again None None None place is span exact = absurd (cc)
+  place_again None (Some x) None place is span exact = absurd (cc)
+  place_again None (Some x) (Some there) place is span exact =
+      let same : end ≡ last = exact (λ rest. absurd (cc)) in
+      let s = span_at i x (there.last - there.first) place g (between first end) (sized_by i (nat_le there.first there.last) _ place is) span in
       let low : first ≡ x = ap (λ (p : SectorRange). p.first) s in
       rw (le-leb first last ordered) (subst (λ (y : ℕ). span_from i y (last - first) ≡ Ok (At first last)) low (span_to i first (last - first) last (omega arith) (omega (arith, fits))))
 
   asked_place : (mode : Mode) (a : Asked) (used : Option GPTPartitionEntry) (ss : ℕ) (place : Place) (y : GPTPartitionEntry) → a.choice ≡ choice
-      → y.starting_lba ≡ first → y.ending_lba ≡ last → place_asked mode a i used ss ≡ Ok place → IsSpan place g (between first last)
-      → place_asked (Become false) a i (Some y) ss ≡ Ok (At first last)
-  asked_place mode a used ss place y chosen low high is span =
+      → y.starting_lba ≡ first → y.ending_lba ≡ last → place_asked mode a i used ss ≡ Ok place → IsSpan place g (between first end)
+      → (asks_rest a.size ≡ false → end ≡ last) → place_asked (Become false) a i (Some y) ss ≡ Ok (At first last)
+  asked_place mode a used ss place y chosen low high is span exact =
       let start = and_then_ok (start_asked a.start ss) _ place is in
       let room = and_then_ok (room_asked a.size i ss) _ place start.2 in
-      let at = and_then_ok (place_of mode i room.0 start.0 (there_of used) a.choice) _ place room.2 in
+      let at = and_then_ok (place_of i room.0 start.0 (there_of used) a.choice) _ place room.2 in
       let stay = unless_ok (stay_fault mode i (there_of used) at.0) at.0 place at.2 in
-      let here : place_of mode i room.0 start.0 (there_of used) choice ≡ Ok at.0 = subst (λ (c : Choice). place_of mode i room.0 start.0 (there_of used) c ≡ Ok at.0) chosen at.1 in
-      let again : place_of (Become false) i room.0 start.0 (Some (between first last)) choice ≡ Ok (At first last) =
-      place_again mode room.0 start.0 (there_of used) at.0 here (subst (λ (p : Place). IsSpan p g (between first last)) (sym stay.1) span) in
-      let there : place_of (Become false) i room.0 start.0 (Some (between y.starting_lba y.ending_lba)) a.choice ≡ Ok (At first last) =
-      subst (λ (c : Choice). place_of (Become false) i room.0 start.0 (Some (between y.starting_lba y.ending_lba)) c ≡ Ok (At first last)) (sym chosen)
-      (subst (λ (x : ℕ). place_of (Become false) i room.0 start.0 (Some (between x y.ending_lba)) choice ≡ Ok (At first last)) (sym low)
-      (subst (λ (x : ℕ). place_of (Become false) i room.0 start.0 (Some (between first x)) choice ≡ Ok (At first last)) (sym high) again)) in
+      let here : place_of i room.0 start.0 (there_of used) choice ≡ Ok at.0 = subst (λ (c : Choice). place_of i room.0 start.0 (there_of used) c ≡ Ok at.0) chosen at.1 in
+      let again : place_of i room.0 start.0 (Some (between first last)) choice ≡ Ok (At first last) =
+      place_again room.0 start.0 (there_of used) at.0 here (subst (λ (p : Place). IsSpan p g (between first end)) (sym stay.1) span) (not_rest a.size i ss room.0 room.1 exact) in
+      let there : place_of i room.0 start.0 (Some (between y.starting_lba y.ending_lba)) a.choice ≡ Ok (At first last) =
+      subst (λ (c : Choice). place_of i room.0 start.0 (Some (between y.starting_lba y.ending_lba)) c ≡ Ok (At first last)) (sym chosen)
+      (subst (λ (x : ℕ). place_of i room.0 start.0 (Some (between x y.ending_lba)) choice ≡ Ok (At first last)) (sym low)
+      (subst (λ (x : ℕ). place_of i room.0 start.0 (Some (between first x)) choice ≡ Ok (At first last)) (sym high) again)) in
       let fault : stay_fault (Become false) i (Some (between y.starting_lba y.ending_lba)) (At first last) ≡ None =
       subst (λ (x : ℕ). stay_fault (Become false) i (Some (between x y.ending_lba)) (At first last) ≡ None) (sym low)
       (subst (λ (x : ℕ). stay_fault (Become false) i (Some (between first x)) (At first last) ≡ None) (sym high) (stays i first last)) in
@@ -154,32 +163,37 @@ first_place g mode a random p is =
     (used, subst (λ (q : ResolvedPartition). place_asked mode a q.number used g.sector_size ≡ Ok q.place) end.1 place.1)
 
 -- Requested again, an entry that was put is that entry.
-resolved_again : (g t next : GPT) (mode : Mode) (a : Asked) (random other : List ℕ) (i : ℕ) (p : ResolvedPartition) → a.number ≡ Some i → resolved g mode a random ≡ Ok p
-    → next.sector_size ≡ g.sector_size → entry_of_number next p.number ≡ Some (entry_at next p.number) → IsPlaced (entry_at next p.number) → IsThere p t next
+resolved_again : (g t mid next : GPT) (mode : Mode) (a : Asked) (random other : List ℕ) (i : ℕ) (p : ResolvedPartition) → a.number ≡ Some i → resolved g mode a random ≡ Ok p
+    → next.sector_size ≡ g.sector_size → entry_of_number next p.number ≡ Some (entry_at next p.number) → IsPlaced (entry_at next p.number) → IsThere p t mid
+    → OnlyEnd (entry_at mid p.number) (entry_at next p.number) → (asks_rest a.size ≡ false → entry_at next p.number ≡ entry_at mid p.number)
     → resolved next (Become false) a other ≡ Ok (own_partition p.number (entry_at next p.number))
-resolved_again g t next mode a random other i p number_is is sector found placed there =
+resolved_again g t mid next mode a random other i p number_is is sector found placed there only exact =
     let first = is_first g mode a random i p number_is is in
     let n : ℕ = p.number in
+    let last : ℕ = (entry_at next n).ending_lba in
     let y : GPTPartitionEntry = record first.x {
       partition_type_guid = unwrap_or a.type_guid first.x.partition_type_guid;
       unique_partition_guid = unwrap_or a.unique_guid first.x.unique_partition_guid;
       attribute_bits = unwrap_or a.attributes first.x.attribute_bits;
       partition_name = unwrap_or a.name first.x.partition_name;
       starting_lba = there.range.first;
-      ending_lba = there.range.last;
+      ending_lba = last;
     } in
-    let put : entry_at next n ≡ y = there.entry ∙ (λ k. record (first.entry k) { starting_lba = there.range.first; ending_lba = there.range.last }) in
+    let put : entry_at next n ≡ y =
+    only.same ∙ (ap (λ (e : GPTPartitionEntry). record e { ending_lba = last }) there.entry ∙ (λ k. record (first.entry k) { starting_lba = there.range.first; ending_lba = last })) in
+    let end : asks_rest a.size ≡ false → there.range.last ≡ last =
+    λ none. sym (ap (λ (e : GPTPartitionEntry). e.ending_lba) (exact none ∙ there.entry)) in
     let type : ¬ IsTrue (is_unused y) = subst (λ (e : GPTPartitionEntry). ¬ IsTrue (is_unused e)) first.entry first.used in
     let used : IsTrue (is_used y) = used_of (is_unused y) type in
     let is_placed : IsPlaced y = subst IsPlaced put placed in
-    let fits : (there.range.first ≤ there.range.last) × (there.range.last + 1 < 2 ^ 64) = is_placed used in
+    let fits : (there.range.first ≤ last) × (last + 1 < 2 ^ 64) = is_placed used in
     let asked = first_place g mode a random p is in
-    let place : place_asked (Become false) a n (Some y) g.sector_size ≡ Ok (At there.range.first there.range.last) =
-    asked_place n there.range.first there.range.last a.choice t fits.0 fits.1 mode a asked.0 g.sector_size p.place y refl refl refl asked.1 there.span in
-    let here : place_asked (Become false) a n (Some y) next.sector_size ≡ Ok (At there.range.first there.range.last) =
-    subst (λ (ss : ℕ). place_asked (Become false) a n (Some y) ss ≡ Ok (At there.range.first there.range.last)) (sym sector) place in
+    let place : place_asked (Become false) a n (Some y) g.sector_size ≡ Ok (At there.range.first last) =
+    asked_place n there.range.first there.range.last last a.choice t fits.0 fits.1 mode a asked.0 g.sector_size p.place y refl refl refl asked.1 there.span end in
+    let here : place_asked (Become false) a n (Some y) next.sector_size ≡ Ok (At there.range.first last) =
+    subst (λ (ss : ℕ). place_asked (Become false) a n (Some y) ss ≡ Ok (At there.range.first last)) (sym sector) place in
     let whole_of : GPTPartitionEntry → Place → Result ResolvedPartition Refusal = λ e place. if is_unused e then Err (NoType n) else Ok (record { number = n; entry = e; place = place }) in
-    let same : y ≡ entry_asked a (Some y) other = sym (asked_again a first.x other there.range.first there.range.last) in
+    let same : y ≡ entry_asked a (Some y) other = sym (asked_again a first.x other there.range.first last) in
     let plain : and_then (place_asked (Become false) a n (Some y) next.sector_size) (whole_of y) ≡ Ok (own_partition n y) =
     ap (λ (r : Result Place Refusal). and_then r (whole_of y)) here ∙ has_type (is_unused y) n (own_partition n y) used in
     let part : with_used next a other n (Some y) ≡ Ok (own_partition n y) =
@@ -189,8 +203,8 @@ resolved_again g t next mode a random other i p number_is is sector found placed
     let number : number_asked next a ≡ Ok n =
     subst (λ (o : Option ℕ). number_asked_or next o (lowest_unused next) ≡ Ok n) (ap Some (sym first.number) ∙ sym number_is)
     (subst (λ (o : Option GPTPartitionEntry). ◌≡◌ {A = Result ℕ Refusal} (elim o [ None ↦ Err (NoEntry n) | Some x ↦ Ok n ]) (Ok n)) (sym is_found) refl) in
-    let end : ◌≡◌ {A = Result ResolvedPartition Refusal} (Ok (own_partition n y)) (Ok (own_partition n (entry_at next n))) = ap (λ (e : GPTPartitionEntry). Ok (own_partition n e)) (sym put) in
-    ap (λ (r : Result ℕ Refusal). and_then r (partition_at next (Become false) a other)) number ∙ (ap (with_used next a other n) at ∙ (part ∙ end))
+    let whole : ◌≡◌ {A = Result ResolvedPartition Refusal} (Ok (own_partition n y)) (Ok (own_partition n (entry_at next n))) = ap (λ (e : GPTPartitionEntry). Ok (own_partition n e)) (sym put) in
+    ap (λ (r : Result ℕ Refusal). and_then r (partition_at next (Become false) a other)) number ∙ (ap (with_used next a other n) at ∙ (part ∙ whole))
 
 -- ---- all entries
 -- The entries under the numbers of the partitions, as partitions.
@@ -201,23 +215,27 @@ those_there next (p ∷ ps) = own_partition p.number (entry_at next p.number) �
 -- Each of them has a number.
 abbrev AllFound : GPT → List ResolvedPartition → Type 0
 AllFound next [] = Unit {0}
-AllFound next (p ∷ ps) = ((entry_of_number next p.number ≡ Some (entry_at next p.number)) × IsPlaced (entry_at next p.number)) × AllFound next ps
+AllFound next (p ∷ ps) = ((entry_of_number next p.number ≡ Some (entry_at next p.number)) × IsPlaced (entry_at next p.number) × (1 ≤ p.number)) × AllFound next ps
 
-all_resolved_again : (g t next : GPT) (mode : Mode) (asked : List Asked) (randoms others : List (List ℕ)) (ps : List ResolvedPartition) → AreNumbered asked
+all_resolved_again : (g t mid next : GPT) (mode : Mode) (asked : List Asked) (randoms others : List (List ℕ)) (ps : List ResolvedPartition) → AreNumbered asked
     → length asked ≤ length randoms → length asked ≤ length others → next.sector_size ≡ g.sector_size → AllFound next ps
-    → resolved_all g mode asked randoms ≡ Ok ps → AreThere ps t next → resolved_all next (Become false) asked others ≡ Ok (those_there next ps)
-all_resolved_again g t next mode [] randoms others ps numbered long more sector found all there =
+    → resolved_all g mode asked randoms ≡ Ok ps → AreThere ps t mid
+    → ((j : ℕ) → 1 ≤ j → OnlyEnd (entry_at mid j) (entry_at next j)) → AreExact (λ j. entry_at next j ≡ entry_at mid j) asked ps
+    → resolved_all next (Become false) asked others ≡ Ok (those_there next ps)
+all_resolved_again g t mid next mode [] randoms others ps numbered long more sector found all there ends exact =
     let none : [] ≡ ps = cc in ap (λ (qs : List ResolvedPartition). Ok (those_there next qs)) none
-all_resolved_again g t next mode (a ∷ asked) [] others ps numbered long more sector found all there = absurd (omega (arith, long))
-all_resolved_again g t next mode (a ∷ asked) (random ∷ randoms) [] ps numbered long more sector found all there = absurd (omega (arith, more))
-all_resolved_again g t next mode (a ∷ asked) (random ∷ randoms) (other ∷ others) ps numbered long more sector found all there =
+all_resolved_again g t mid next mode (a ∷ asked) [] others ps numbered long more sector found all there ends exact = absurd (omega (arith, long))
+all_resolved_again g t mid next mode (a ∷ asked) (random ∷ randoms) [] ps numbered long more sector found all there ends exact = absurd (omega (arith, more))
+all_resolved_again g t mid next mode (a ∷ asked) (random ∷ randoms) (other ∷ others) ps numbered long more sector found all there ends exact =
     let p = and_then_ok (resolved g mode a random) _ ps all in
     let rest = and_then_ok (resolved_all g mode asked randoms) _ ps p.2 in
     let whole : p.0 ∷ rest.0 ≡ ps = cc in
-    let both : AreThere (p.0 ∷ rest.0) t next = subst (λ (xs : List ResolvedPartition). AreThere xs t next) (sym whole) there in
+    let both : AreThere (p.0 ∷ rest.0) t mid = subst (λ (xs : List ResolvedPartition). AreThere xs t mid) (sym whole) there in
     let have : AllFound next (p.0 ∷ rest.0) = subst (AllFound next) (sym whole) found in
-    let one = resolved_again g t next mode a random other numbered.0.0 p.0 numbered.0.1 p.1 sector have.0.0 have.0.1 both.0 in
-    let others_again = all_resolved_again g (with_entry t p.0.number (entry_at next p.0.number)) next mode asked randoms others rest.0 numbered.1 (omega (arith, long)) (omega (arith, more)) sector have.1 rest.1 both.1 in
+    let exacts : AreExact (λ j. entry_at next j ≡ entry_at mid j) (a ∷ asked) (p.0 ∷ rest.0) =
+    subst (AreExact (λ j. entry_at next j ≡ entry_at mid j) (a ∷ asked)) (sym whole) exact in
+    let one = resolved_again g t mid next mode a random other numbered.0.0 p.0 numbered.0.1 p.1 sector have.0.0 have.0.1 both.0 (ends p.0.number have.0.2) exacts.0 in
+    let others_again = all_resolved_again g (with_entry t p.0.number (entry_at mid p.0.number)) mid next mode asked randoms others rest.0 numbered.1 (omega (arith, long)) (omega (arith, more)) sector have.1 rest.1 both.1 ends exacts.1 in
     let end : ◌≡◌ {A = Result (List ResolvedPartition) Refusal} (Ok (those_there next (p.0 ∷ rest.0))) (Ok (those_there next ps)) = ap (λ (qs : List ResolvedPartition). Ok (those_there next qs)) whole in
     resolved_more next (Become false) a other asked others (own_partition p.0.number (entry_at next p.0.number)) (those_there next rest.0) one others_again
     ∙ end
@@ -235,7 +253,7 @@ numbers_found g next (p ∷ ps) last put long placed =
     let found : entry_of_number next p.number ≡ Some (entry_at next p.number) = of_number next (p.number - 1) p.number index below ∙ ap Some (sym at) in
     let is_placed : IsPlaced (entry_at next p.number) = subst IsPlaced (sym at) (placed (p.number - 1) empty_entry below) in
     let mid : length (entries_in put.0) ≡ length (entries_in g) = put_same (λ (m : GPT). length (entries_in m)) (λ m i e. length-set (entries_in m) (i - 1) e) (p ∷ []) g put.0 (put.0, put.1, refl) in
-    ((found, is_placed), numbers_found put.0 next ps last put.2 (long ∙ sym mid) placed)
+    ((found, is_placed, number.0), numbers_found put.0 next ps last put.2 (long ∙ sym mid) placed)
 
 -- and no partition has the number of a used entry.
 unnamed_where : (ps : List ResolvedPartition) (g last : GPT) (j : ℕ) → ArePut ps g last → 1 ≤ j → (¬ IsTrue (is_unused (entry_at g j))) → IsUnnamed j ps
@@ -251,6 +269,12 @@ differ_put (p ∷ ps) g last put used =
     let entry : GPTPartitionEntry = record p.entry { starting_lba = put.1.range.first; ending_lba = put.1.range.last } in
     let here : entry_at put.0 p.number ≡ entry = subst (λ (m : GPT). entry_at m p.number ≡ entry) (sym put.1.next_is) (this_entry g p.number entry put.1.number) in
     (unnamed_where ps put.0 last p.number put.2 put.1.number.0 (λ unused. used.0 (subst (λ (e : GPTPartitionEntry). IsTrue (is_unused e)) here unused)), differ_put ps put.0 last put.2 used.1)
+
+-- What holds for the numbers of those that do not get the rest holds since they are above zero.
+exact_low : (P Q : ℕ → Type 0) (next : GPT) (asked : List Asked) (ps : List ResolvedPartition) → AllFound next ps → ((j : ℕ) → 1 ≤ j → P j → Q j) → AreExact P asked ps → AreExact Q asked ps
+exact_low P Q next [] ps found turn all = tt
+exact_low P Q next (a ∷ asked) [] found turn all = tt
+exact_low P Q next (a ∷ asked) (p ∷ ps) found turn all = (λ none. turn p.number found.0.2 (all.0 none), exact_low P Q next asked ps found.1 turn all.1)
 
 unnamed_there : (next : GPT) (j : ℕ) (ps : List ResolvedPartition) → IsUnnamed j ps → IsUnnamed j (those_there next ps)
 unnamed_there next j [] unnamed = λ k d below. absurd (omega (arith, below))
@@ -354,7 +378,9 @@ covers_from ps k (e ∷ es) each = (
 
 module _ (layout : RequestedLayout) (randoms : List (List ℕ)) (g next : GPT) (applied : IsApplied layout randoms g next) (long : length layout.asked.items ≤ length randoms) (whole : IsWhole layout g) where
   kept : (j : ℕ) → 1 ≤ j → IsUnnamed j applied.partitions → entry_at next j ≡ entry_at applied.free j
-  kept j low unnamed = ap (λ (m : GPT). entry_at m j) applied.next_is ∙ keep applied.partitions applied.free applied.last j applied.put low unnamed
+  kept j low unnamed =
+      last_exact layout randoms g next applied j low (unnamed_among layout.asked.items applied.partitions j unnamed)
+      ∙ keep applied.partitions applied.free applied.placed j applied.put low unnamed
 
   left_by : (j : ℕ) (b : Bool) → is_unused (entry_at applied.rest j) ≡ b → 1 ≤ j → IsUnnamed j applied.partitions
       → ((i : ℕ) → 1 ≤ i → IsTrue (is_used (entry_at g i)) → Asks i layout.asked.items ⊎ Contains layout.removed.items i) → IsTrue (is_unused (entry_at applied.rest j))
@@ -400,15 +426,23 @@ module _ (g next : GPT) (layout again : RequestedLayout) (randoms others : List 
 
   found : AllFound next applied.partitions
   found =
-      let put : length (entries_in applied.last) ≡ length (entries_in applied.free) =
-      put_same (λ (m : GPT). length (entries_in m)) (λ m i e. length-set (entries_in m) (i - 1) e) applied.partitions applied.free applied.last applied.put in
-      numbers_found applied.free next applied.partitions applied.last applied.put (ap (λ (m : GPT). length (entries_in m)) applied.next_is ∙ put) placed
+      let put : length (entries_in applied.placed) ≡ length (entries_in applied.free) =
+      put_same (λ (m : GPT). length (entries_in m)) (λ m i e. length-set (entries_in m) (i - 1) e) applied.partitions applied.free applied.placed applied.put in
+      let extended : length (entries_in applied.last) ≡ length (entries_in applied.placed) =
+      extended_same (λ (m : GPT). length (entries_in m)) (λ m i e. length-set (entries_in m) (i - 1) e) (rest_numbers layout.asked.items applied.partitions) applied.placed applied.last applied.extended in
+      numbers_found applied.free next applied.partitions applied.placed applied.put (ap (λ (m : GPT). length (entries_in m)) applied.next_is ∙ (extended ∙ put)) placed
 
-  there_now : AreThere applied.partitions applied.free next
-  there_now = (change_named layout randoms g next applied).named
+  differ : DifferInNumber applied.partitions
+  differ = differ_put applied.partitions applied.free applied.placed applied.put (used_all g layout.mode layout.asked.items randoms applied.partitions applied.asked)
+
+  exact : AreExact (λ j. entry_at next j ≡ entry_at applied.placed j) layout.asked.items applied.partitions
+  exact =
+      exact_low (λ j. ¬ IsAmong j (rest_numbers layout.asked.items applied.partitions)) (λ j. entry_at next j ≡ entry_at applied.placed j) next layout.asked.items applied.partitions found
+      (λ j low other. last_exact layout randoms g next applied j low other) (all_exact layout.asked.items applied.partitions differ)
 
   resolves : resolved_all next (Become false) layout.asked.items others ≡ Ok own
-  resolves = all_resolved_again g applied.free next layout.mode layout.asked.items randoms others applied.partitions numbered long more sector found applied.asked there_now
+  resolves = all_resolved_again g applied.free applied.placed next layout.mode layout.asked.items randoms others applied.partitions numbered long more sector found applied.asked
+      (placed_there layout randoms g next applied) (last_end layout randoms g next applied) exact
 
   resolves_again : resolved_all next again.mode again.asked.items others ≡ Ok own
   resolves_again =
@@ -416,10 +450,11 @@ module _ (g next : GPT) (layout again : RequestedLayout) (randoms others : List 
       (subst (λ (items : List Asked). resolved_all next (Become false) items others ≡ Ok own) (sym is_again.asked) resolves)
 
   owned : OwnedBy next own
-  owned = all_again g applied.free next layout.mode layout.asked.items randoms others applied.partitions own numbered long more applied.asked there_now resolves
+  owned = all_again g applied.free applied.placed next layout.mode layout.asked.items randoms others applied.partitions own numbered long more applied.asked
+      (placed_there layout randoms g next applied) (last_end layout randoms g next applied) resolves
 
   once : DifferInNumber own
-  once = differ_there next applied.partitions (differ_put applied.partitions applied.free applied.last applied.put (used_all g layout.mode layout.asked.items randoms applied.partitions applied.asked))
+  once = differ_there next applied.partitions differ
 
   align_is : align_asked again.align next.sector_size ≡ Ok applied.align
   align_is = ap (λ (amount : Amount). align_asked amount next.sector_size) is_again.align ∙ (ap (align_asked layout.align) sector ∙ applied.is_align)
@@ -429,7 +464,7 @@ module _ (g next : GPT) (layout again : RequestedLayout) (randoms others : List 
 
 not_written_again : (g : GPT) (len : ℕ) (r : Refusal) → MayBeWritten g len → ¬ RefusesCheck g r
 not_written_again g len r may (shared clash told) = clash may.valid.own_guids
-not_written_again g len r may (boundaries differ bad told) = bad may.valid.boundaries
+not_written_again g len r may (boundaries is bad told) = bad may.valid.boundaries
 
 pub taken_twice : LayoutsAreTakenAgain
 taken_twice g next len layout again request other r job job_again numbered is_again whole long more planned refused =

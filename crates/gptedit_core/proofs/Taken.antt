@@ -45,6 +45,7 @@ use Rattle.gptedit_core.proofs.Again.{named_or, unnamed_more}
 use Rattle.gptedit_core.proofs.Dumped.{all_own, at_number, has_all, if_used, of_number, own_unnamed, same_entries, used_below, used_is, used_named, with_used, CoversFrom, HasFrom, HasNumber, IsOwn, OwnedBy}
 use Rattle.gptedit_core.proofs.Kept.{all_cleared_keep, done_keeps}
 use Rattle.gptedit_core.proofs.Applied.{cleared_keep, put_other, this_entry}
+use Rattle.gptedit_core.proofs.Placed.{DifferInNumber}
 use Rattle.gptedit_core.proofs.Resolved.{resolved_more}
 
 -- ---- one entry that is requested unchanged
@@ -87,7 +88,7 @@ place_own i ss e low high =
     let first : ℕ = e.starting_lba in
     let last : ℕ = e.ending_lba in
     let stay : Place → Result Place Refusal = λ place. unless (stay_fault (Become false) i (Some (between first last)) place) place in
-    let at : Option Room → Result Place Refusal = λ room. and_then (place_of (Become false) i room (Some first) (Some (between first last)) First) stay in
+    let at : Option Room → Result Place Refusal = λ room. and_then (place_of i room (Some first) (Some (between first last)) First) stay in
     ap (λ (room : Result (Option Room) Refusal). and_then room at) (room_own i ss first last low high)
     ∙ (ap (λ (place : Result Place Refusal). and_then place stay) (span_to i first (last - first + 1 - 1) last (omega (arith, low)) (omega (arith, high)))
     ∙ ap (λ (o : Option Refusal). unless o (At first last)) (stays i first last))
@@ -139,11 +140,6 @@ resolves_all g k [] has placed = λ randoms enough. refl
 resolves_all g k (e ∷ es) has placed =
     resolves_more g (is_used e) k e (asked_of_all (enumerate_from (k + 1) es)) (own_partitions (k + 1) es) refl has.0 (placed 0 e (omega arith))
     (resolves_all g (k + 1) es has.2 (λ m d below. placed (suc m) d (omega (arith, below))))
-
--- No two have the same number.
-abbrev pub DifferInNumber : List ResolvedPartition → Type 0
-DifferInNumber [] = Unit {0}
-DifferInNumber (p ∷ ps) = IsUnnamed p.number ps × DifferInNumber ps
 
 above_more : (j k : ℕ) (b : Bool) (e : GPTPartitionEntry) (ps : List ResolvedPartition) → j < k → IsUnnamed j ps → IsUnnamed j (part_if_used b k e ps)
 above_more j k false e ps low rest = rest

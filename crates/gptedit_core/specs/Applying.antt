@@ -1,17 +1,21 @@
 -- A layout is applied to a table.
-use Rattle.std.specs.Prelude.{◌≡◌, ◌⊎◌, ◌∷◌, [], ℕ, Bool, false, nat_eq, if◌then◌else◌, List, IsTrue, Option, None, Some, Result, Ok, Err, unwrap_or}
+use Rattle.std.specs.Prelude.{◌≡◌, ◌⊎◌, ◌∷◌, [], ℕ, Bool, true, false, nat_eq, if◌then◌else◌, List, IsTrue, Option, None, Some, Result, Ok, Err, unwrap_or}
 use Rattle.std.specs.List.{enumerate_from, list_all}
 use Rattle.gptman.specs.Coding.{empty_entry, entry_bytes}
 use Rattle.gptman.specs.Entry.{is_unused, is_used}
 use Rattle.gptman.specs.Fault.{fault_of, out_of_memory}
 use Rattle.gptman.specs.Number.{entry_at, entry_of_number, with_entry, IsNumber}
+use Rattle.gptman.specs.Place.{IsFreeIn}
 use Rattle.gptman.specs.Table.{entries_in}
 use Rattle.gptman.specs.declared.codec.entry.GPTPartitionEntry.{GPTPartitionEntry}
 use Rattle.gptman.specs.declared.table.GPT.{GPT}
-use Rattle.gptedit_core.specs.Placing.{HasNoRoom, IsSpan}
+use Rattle.gptedit_core.specs.Placing.{HasNoRoom, IsFurthestEnd, IsSpan}
 use Rattle.gptedit_core.specs.Resolving.{and_then, first_numbered, resolved_all, sectors_in}
 use Rattle.gptedit_core.specs.declared.amount.Amount.{Amount}
+use Rattle.gptedit_core.specs.declared.asked.Asked.{Asked}
 use Rattle.gptedit_core.specs.declared.asked.RequestedLayout.{RequestedLayout}
+use Rattle.gptedit_core.specs.declared.asked.Size.{Size}
+use Rattle.gptedit_core.specs.declared.asked.Size.TheVariants.{Exactly, Rest}
 use Rattle.gptedit_core.specs.declared.asked.Mode.{Mode}
 use Rattle.gptedit_core.specs.declared.asked.Mode.TheVariants.{Become}
 use Rattle.gptedit_core.specs.declared.refusal.Refusal.{Refusal}
@@ -85,13 +89,38 @@ abbrev pub RefusesPutting : List ResolvedPartition → GPT → Refusal → Type 
 RefusesPutting [] g r = ⊥
 RefusesPutting (p ∷ ps) g r = RefusesPut p g r ⊎ ((mid : GPT) × IsPut p g mid × RefusesPutting ps mid r)
 
+-- The rest is requested.
+abbrev pub asks_rest : Option Size → Bool
+asks_rest (Some Rest) = true
+asks_rest (Some (Exactly amount)) = false
+asks_rest None = false
+
+-- The numbers of the partitions that get the rest.
+abbrev pub rest_numbers : List Asked → List ResolvedPartition → List ℕ
+rest_numbers [] ps = []
+rest_numbers (a ∷ asked) [] = []
+rest_numbers (a ∷ asked) (p ∷ ps) = if asks_rest a.size then p.number ∷ rest_numbers asked ps else rest_numbers asked ps
+
+-- Entry i, if it exists, was lengthened over the free sectors after it to the furthest end.
+abbrev pub IsExtendedFrom : Option GPTPartitionEntry → ℕ → GPT → GPT → Type 0
+IsExtendedFrom None i g next = next ≡ g
+IsExtendedFrom (Some e) i g next = (end : ℕ) × IsFurthestEnd (IsFreeIn g) g.align e.starting_lba e.ending_lba end × (next ≡ with_entry g i (record e { ending_lba = end }))
+
+abbrev pub IsExtended : ℕ → GPT → GPT → Type 0
+IsExtended i g next = IsExtendedFrom (entry_of_number g i) i g next
+
+-- The entries of these numbers were lengthened one by one.
+abbrev pub AreExtended : List ℕ → GPT → GPT → Type 0
+AreExtended [] g next = next ≡ g
+AreExtended (i ∷ is) g next = (mid : GPT) × IsExtended i g mid × AreExtended is mid next
+
 -- A plan ends with a refusal for which P holds, or since an allocation failed.
 abbrev pub IsStopOf : (Refusal → Type 0) → Stop → Type 0
 IsStopOf P (Refused r) = P r
 IsStopOf P (Failed e) = fault_of e ≡ out_of_memory
 
 -- The layout was applied to a table: each request was resolved against the original table, then the removed and the
--- named entries were made unused, and then the partitions were put.
+-- named entries were made unused, then the partitions were put, and then those that get the rest were lengthened.
 pub record IsApplied (layout : RequestedLayout) (randoms : List (List ℕ)) (g next : GPT) : Type 0 where
   pub align : ℕ
   pub is_align : align_asked layout.align g.sector_size ≡ Ok align
@@ -102,8 +131,10 @@ pub record IsApplied (layout : RequestedLayout) (randoms : List (List ℕ)) (g n
   pub free : GPT
   pub clear : cleared partitions rest ≡ Ok free
   pub others : others_fault layout.mode free ≡ None
+  pub placed : GPT
+  pub put : ArePut partitions free placed
   pub last : GPT
-  pub put : ArePut partitions free last
+  pub extended : AreExtended (rest_numbers layout.asked.items partitions) placed last
   pub next_is : next ≡ record last { align = g.align; header = record last.header { disk_guid = unwrap_or layout.disk_guid last.header.disk_guid } }
 
 -- The layout cannot be applied to a table, for the first of these reasons that applies.

@@ -3,10 +3,13 @@ pub mod Fitting
 pub mod Growing
 pub mod Applying
 pub mod Making
+pub mod Measuring
 pub mod Named
 pub mod Placing
 pub mod Planning
 pub mod Resolving
 pub mod Sectors
+pub mod Selecting
+pub mod Setting
 pub mod Slots
 pub mod Targets

@@ -4,14 +4,14 @@ use Rattle.std.specs.Prelude.{◌≡◌, ◌≢◌, ◌≤◌, ◌<◌, ◌⊎�
 use Rattle.gptman.specs.Coding.{empty_entry}
 use Rattle.gptman.specs.Entry.{is_unused, is_used}
 use Rattle.gptman.specs.Layout.{HasLayout}
-use Rattle.gptman.specs.Number.{entry_at, with_entry}
+use Rattle.gptman.specs.Number.{entry_at, with_entry, IsNumber}
 use Rattle.gptman.specs.Place.{IsFreeIn}
 use Rattle.gptman.specs.Table.{entries_in, table_in}
 use Rattle.gptman.specs.Valid.{IsValid}
 use Rattle.gptman.specs.declared.codec.entry.GPTPartitionEntry.{GPTPartitionEntry}
 use Rattle.gptman.specs.declared.table.GPT.{GPT}
 use Rattle.gptedit_core.specs.Dumping.{IsLayoutOf}
-use Rattle.gptedit_core.specs.Applying.{IsApplied}
+use Rattle.gptedit_core.specs.Applying.{rest_numbers, IsApplied}
 use Rattle.gptedit_core.specs.Placing.{AreFreeBehind, IsBlocked, IsSpan}
 use Rattle.gptedit_core.specs.Planning.{has_random, IsPlanned, RefusesRequest}
 use Rattle.gptedit_core.specs.Resolving.{start_asked}
@@ -47,11 +47,31 @@ abbrev pub AreThere : List ResolvedPartition → GPT → GPT → Type 0
 AreThere [] g next = Unit {0}
 AreThere (p ∷ ps) g next = IsThere p g next × AreThere ps (with_entry g p.number (entry_at next p.number)) next
 
--- Entries that a layout neither names nor removes are unchanged. Those that it names are there, put into the table
--- without the named and removed ones.
+-- The list has the number.
+abbrev pub IsAmong : ℕ → List ℕ → Type 0
+IsAmong i [] = ⊥
+IsAmong i (j ∷ js) = (j ≡ i) ⊎ IsAmong i js
+
+-- An entry starts where it did and ends no earlier: where it ended, or before a multiple of align and after sectors
+-- that were free.
+-- It could not end before a later multiple: a sector up to there is not left. An entry that ended before it started
+-- is unchanged.
+pub record IsLengthened (align : ℕ) (before after : GPTPartitionEntry) (free left : ℕ → Type 0) : Type 0 where
+  pub start : after.starting_lba ≡ before.starting_lba
+  pub end : before.ending_lba ≤ after.ending_lba
+  pub reached : (after.ending_lba ≡ before.ending_lba) ⊎ ((before.starting_lba ≤ before.ending_lba) × (align ∣ after.ending_lba + 1) × AreFreeBehind free before.ending_lba after.ending_lba)
+  pub furthest : before.starting_lba ≤ before.ending_lba → (e : ℕ) → align ∣ e + 1 → after.ending_lba < e → IsBlocked left before.ending_lba e
+
+-- Entries that a layout neither names nor removes are unchanged. Those that it names were put into the table without
+-- the named and removed ones, and are there. Only those that get the rest may then end later: after sectors that were
+-- free when all were put, and as far as the resulting table has room without the entry.
 pub record ChangesNamed (layout : RequestedLayout) (randoms : List (List ℕ)) (g next : GPT) (is : IsApplied layout randoms g next) : Type 0 where
   pub others : (i : ℕ) → 1 ≤ i → IsUnnamed i is.partitions → All (λ j. j ≢ i) layout.removed.items → StaysAs layout.mode (entry_at g i) (entry_at next i)
-  pub named : AreThere is.partitions is.free next
+  pub named : AreThere is.partitions is.free is.placed
+  pub exact : (i : ℕ) → 1 ≤ i → ¬ IsAmong i (rest_numbers layout.asked.items is.partitions) → entry_at next i ≡ entry_at is.placed i
+  pub fields : (i : ℕ) → 1 ≤ i → entry_at next i ≡ record (entry_at is.placed i) { ending_lba = (entry_at next i).ending_lba }
+  pub longer : (i : ℕ) → IsNumber next i → IsAmong i (rest_numbers layout.asked.items is.partitions)
+      → IsLengthened is.align (entry_at is.placed i) (entry_at next i) (IsFreeIn is.placed) (IsFreeIn (with_entry next i empty_entry))
 
 -- Each layout changes only the entries that it names or removes.
 abbrev pub LayoutsChangeNamed : Type 0
@@ -108,19 +128,10 @@ LayoutsAreTakenAgain = (g next : GPT) (len : ℕ) (layout again : RequestedLayou
 abbrev pub BeginsThere : Asked → ℕ → GPTPartitionEntry → Type 0
 BeginsThere a ss e = (a.start ≡ None) ⊎ (start_asked a.start ss ≡ Ok (Some e.starting_lba))
 
--- An entry starts where it did and ends no earlier: where it ended, or before a multiple of align and after sectors
--- that were free.
--- It could not end before a later multiple: a sector up to there is not left. An entry that ended before it started
--- may be unchanged.
-pub record IsLengthened (align : ℕ) (before after : GPTPartitionEntry) (free left : ℕ → Type 0) : Type 0 where
-  pub start : after.starting_lba ≡ before.starting_lba
-  pub end : before.ending_lba ≤ after.ending_lba
-  pub reached : (after.ending_lba ≡ before.ending_lba) ⊎ ((align ∣ after.ending_lba + 1) × AreFreeBehind free before.ending_lba after.ending_lba)
-  pub furthest : before.starting_lba ≤ before.ending_lba → (e : ℕ) → align ∣ e + 1 → after.ending_lba < e → IsBlocked left before.ending_lba e
-
--- A change to the rest, from where the entry starts, only lengthens it: over sectors that are free in the table
+-- A request for the rest, from where a used entry starts, only lengthens it: over sectors that are free in the table
 -- without the named and removed entries, and as far as the resulting table has room without the entry.
 abbrev pub LayoutsOnlyLengthen : Type 0
-LayoutsOnlyLengthen = (layout : RequestedLayout) (randoms : List (List ℕ)) (g next : GPT) (a : Asked) (i : ℕ) → layout.mode ≡ Change → length layout.asked.items ≤ length randoms
+LayoutsOnlyLengthen = (layout : RequestedLayout) (randoms : List (List ℕ)) (g next : GPT) (a : Asked) (i : ℕ) → (layout.mode ≡ Change) ⊎ IsTrue (is_used (entry_at g i))
+    → length layout.asked.items ≤ length randoms
     → Contains layout.asked.items a → a.number ≡ Some i → a.size ≡ Some Rest → BeginsThere a g.sector_size (entry_at g i)
     → (is : IsApplied layout randoms g next) → IsLengthened is.align (entry_at g i) (entry_at next i) (IsFreeIn is.free) (IsFreeIn (with_entry next i empty_entry))

@@ -7,7 +7,7 @@ use Rattle.gptedit_core.specs.Sectors.{between}
 use Rattle.gptedit_core.specs.declared.asked.Choice.{Choice}
 use Rattle.gptedit_core.specs.declared.asked.Choice.TheVariants.{First, Last, Best, Longest as InLongest}
 use Rattle.gptedit_core.specs.declared.place.Place.{Place}
-use Rattle.gptedit_core.specs.declared.place.Place.TheVariants.{At, From, Longer, Free, Longest}
+use Rattle.gptedit_core.specs.declared.place.Place.TheVariants.{At, From, Free, Longest}
 use Rattle.gptedit_core.specs.declared.sectors.SectorRange.{SectorRange}
 
 -- The last sector, moved down to the one before a multiple of align, unless no sector would be left.
@@ -102,7 +102,6 @@ IsFreeSpan choice n g span = IsChosen choice (IsFreeIn g) g.align (max 1 n) span
 abbrev pub IsSpan : Place → GPT → SectorRange → Type 0
 IsSpan (At first last) g span = span ≡ between first last
 IsSpan (From first) g span = (last : ℕ) × IsRunWith (IsFreeIn g) first last × (span ≡ between first (trimmed g.align first last))
-IsSpan (Longer first last) g span = (span.first ≡ first) × IsFurthestEnd (IsFreeIn g) g.align first last span.last
 IsSpan (Free size choice) g span = IsFreeSpan choice size g span
 IsSpan Longest g span = (size : ℕ) × IsMaximumSize (IsFreeIn g) g.align size × (0 < size) × IsFreeSpan Best size g span
 
@@ -110,7 +109,6 @@ IsSpan Longest g span = (size : ℕ) × IsMaximumSize (IsFreeIn g) g.align size 
 abbrev pub HasNoRoom : Place → GPT → Type 0
 HasNoRoom (At first last) g = ⊥
 HasNoRoom (From first) g = HasNoRunWith (IsFreeIn g) first
-HasNoRoom (Longer first last) g = ⊥
 HasNoRoom (Free size choice) g = HasNoneChosen choice (IsFreeIn g) g.align (max 1 size)
 HasNoRoom Longest g = HasNoSlot (IsFreeIn g) g.align
     ⊎ ((size : ℕ) × IsMaximumSize (IsFreeIn g) g.align size × ((size ≡ 0) ⊎ HasNoPlace (IsFreeIn g) g.align (max 1 size)))

@@ -19,7 +19,7 @@ use Rattle.gptedit_core.specs.declared.asked.Mode.TheVariants.{Add, Change, Beco
 use Rattle.gptedit_core.specs.declared.asked.Size.{Size}
 use Rattle.gptedit_core.specs.declared.asked.Size.TheVariants.{Exactly, Rest}
 use Rattle.gptedit_core.specs.declared.place.Place.{Place}
-use Rattle.gptedit_core.specs.declared.place.Place.TheVariants.{At, From, Longer, Free, Longest}
+use Rattle.gptedit_core.specs.declared.place.Place.TheVariants.{At, From, Free, Longest}
 use Rattle.gptedit_core.specs.declared.refusal.Refusal.{Refusal}
 use Rattle.gptedit_core.specs.declared.refusal.Refusal.TheVariants.{NoUnusedEntry, NoEntry, IsUsed, IsUnused, NoType, NoSize, NotWhole, TooLarge, WouldMove}
 use Rattle.gptedit_core.specs.declared.refusal.Stop.{Stop}
@@ -84,27 +84,23 @@ room_asked (Some (Exactly amount)) i ss =
 abbrev pub span_from : ℕ → ℕ → ℕ → Result Place Refusal
 span_from i first more = if nat_lt (first + more) (2 ^ 64) then Ok (At first (first + more)) else Err (TooLarge i)
 
--- The place of a used entry that gets the rest: unchanged if the table becomes the layout, else lengthened.
-abbrev pub rest_there : Mode → SectorRange → Place
-rest_there (Become replace) there = At there.first there.last
-rest_there mode there = Longer there.first there.last
-
--- The place of a partition that gets the rest, by its requested start and its present place.
-abbrev pub rest_of : Mode → Option ℕ → Option SectorRange → Place
-rest_of mode None None = Longest
-rest_of mode (Some first) None = From first
-rest_of mode None (Some there) = rest_there mode there
-rest_of mode (Some first) (Some there) = if nat_eq first there.first then rest_there mode there else From first
+-- The place of a partition that gets the rest, by its requested start and its present place. From where it starts, it
+-- is unchanged at first.
+abbrev pub rest_of : Option ℕ → Option SectorRange → Place
+rest_of None None = Longest
+rest_of (Some first) None = From first
+rest_of None (Some there) = At there.first there.last
+rest_of (Some first) (Some there) = if nat_eq first there.first then At there.first there.last else From first
 
 -- The place of a partition, by its requested size and start and its present place.
-abbrev pub place_of : Mode → ℕ → Option Room → Option ℕ → Option SectorRange → Choice → Result Place Refusal
-place_of mode i (Some (RoomSectors n)) (Some first) there choice = span_from i first (n - 1)
-place_of mode i (Some (RoomSectors n)) None (Some there) choice = span_from i there.first (n - 1)
-place_of mode i (Some (RoomSectors n)) None None choice = Ok (Free n choice)
-place_of mode i (Some RoomRest) start there choice = Ok (rest_of mode start there)
-place_of mode i None None (Some there) choice = Ok (At there.first there.last)
-place_of mode i None (Some start) (Some there) choice = if nat_le there.first there.last then span_from i start (there.last - there.first) else Err (NoSize i)
-place_of mode i None start None choice = Err (NoSize i)
+abbrev pub place_of : ℕ → Option Room → Option ℕ → Option SectorRange → Choice → Result Place Refusal
+place_of i (Some (RoomSectors n)) (Some first) there choice = span_from i first (n - 1)
+place_of i (Some (RoomSectors n)) None (Some there) choice = span_from i there.first (n - 1)
+place_of i (Some (RoomSectors n)) None None choice = Ok (Free n choice)
+place_of i (Some RoomRest) start there choice = Ok (rest_of start there)
+place_of i None None (Some there) choice = Ok (At there.first there.last)
+place_of i None (Some start) (Some there) choice = if nat_le there.first there.last then span_from i start (there.last - there.first) else Err (NoSize i)
+place_of i None start None choice = Err (NoSize i)
 
 -- The present place of an entry.
 abbrev pub there_of : Option GPTPartitionEntry → Option SectorRange
@@ -131,7 +127,7 @@ abbrev pub place_asked : Mode → Asked → ℕ → Option GPTPartitionEntry →
 place_asked mode a i used ss =
     and_then (start_asked a.start ss) (λ start.
     and_then (room_asked a.size i ss) (λ room.
-    and_then (place_of mode i room start (there_of used) a.choice) (λ place.
+    and_then (place_of i room start (there_of used) a.choice) (λ place.
     unless (stay_fault mode i (there_of used) place) place)))
 
 -- The used entry, or an empty one with the random GUID.

@@ -3,13 +3,14 @@
 ghost use Rattle.std.specs.Prelude.{◌≡◌, ◌<◌, ◌≤◌, Ok, Err, IfErr, IfOk, OnOk, length};
 ghost use Rattle.gptedit_core.specs.Applying.{align_asked, cleared, is_blank, lowest_used, others_fault};
 ghost use Rattle.gptedit_core.specs.Applying.{removed_all, removed_one};
-ghost use Rattle.gptedit_core.specs.Applying.{ArePut, IsApplied, IsPut, IsStopOf, RefusesApplying, RefusesPut};
+ghost use Rattle.gptedit_core.specs.Applying.{asks_rest, rest_numbers, AreExtended, ArePut, IsApplied, IsExtended, IsPut, IsStopOf, RefusesApplying, RefusesPut};
 ghost use Rattle.gptedit_core.specs.Applying.{RefusesPutting};
 ghost use Rattle.gptedit_core.specs.Resolving.{refusal_in, resolved_all, IsStopFor};
 ghost use Rattle.gptedit_core.specs.Slots.{AreKept};
 
 use crate::amount::Amount;
-use crate::asked::{Asked, Mode, RequestedLayout};
+use crate::asked::{Asked, Mode, RequestedLayout, Size};
+use crate::place::find_end;
 use crate::refusal::{Refusal, Stop};
 use crate::resolve::{ResolvedPartition, resolve};
 use crate::slots::Slots;
@@ -36,6 +37,7 @@ pub fn apply_layout(
     clear(alloc, table, &partitions)?;
     check_others(table, layout.mode)?;
     put_all(table, &partitions)?;
+    lengthen_all(table, &layout.asked, &partitions);
     table.align = align;
     table.header.disk_guid = layout.disk_guid.unwrap_or(table.header.disk_guid);
     Ok(())
@@ -51,6 +53,7 @@ fn resolve_all(
     requires sector { 0 < table.now.sector_size }
     requires random { length asked.now ≤ length random.now }
     ensures ok { IfOk result (λ ps. resolved_all table.now mode asked.now random.now ≡ Ok ps.items) }
+    ensures long { IfOk result (λ ps. length ps.items ≡ length asked.now) }
     ensures refused { IfErr result (IsStopFor (resolved_all table.now mode asked.now random.now)) }
 {
     let mut partitions = Vec::new(alloc);
@@ -153,6 +156,7 @@ fn put_all(table: &mut GPT, partitions: &[ResolvedPartition]) -> Result<(), Stop
     requires { 0 < table.old.align }
     ensures put { OnOk result (ArePut partitions.now table.old table.new) }
     ensures refused { IfErr result (IsStopOf (RefusesPutting partitions.now table.old)) }
+    ensures align { OnOk result (table.new.align ≡ table.old.align) }
 {
     let mut slots = Slots::unknown();
     for partition in partitions {
@@ -188,4 +192,40 @@ fn put(table: &mut GPT, slots: &mut Slots, partition: &ResolvedPartition) -> Res
     slots.leave_out(table, number, &entry)?;
     table[number] = entry;
     Ok(())
+}
+
+// Lengthens the partitions of size `Rest`, one after another.
+fn lengthen_all(table: &mut GPT, asked: &[Asked], partitions: &[ResolvedPartition])
+    requires aligned { 0 < table.old.align }
+    requires long { length asked.now ≤ length partitions.now }
+    ensures { AreExtended (rest_numbers asked.now partitions.now) table.old table.new }
+{
+    for i in 0..asked.len() {
+        if asks_rest(asked[i].size) {
+            lengthen(table, partitions[i].number);
+        }
+    }
+}
+
+fn asks_rest(size: Option<Size>) -> bool
+    ensures { result ≡ asks_rest size }
+{
+    match size {
+        Some(Size::Rest) => true,
+        Some(Size::Exactly(_)) => false,
+        None => false,
+    }
+}
+
+// Lengthens the entry, if it exists, over the free sectors after it.
+fn lengthen(table: &mut GPT, number: u32)
+    requires { 0 < table.old.align }
+    ensures lengthened { IsExtended number table.old table.new }
+    ensures align { table.new.align ≡ table.old.align }
+{
+    let Some(entry) = table.get(number) else {
+        return
+    };
+    let end = find_end(table, entry.starting_lba, entry.ending_lba);
+    table[number].ending_lba = end;
 }

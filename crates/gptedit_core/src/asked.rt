@@ -25,7 +25,7 @@ pub enum Size {
     /// Exactly this size.
     Exactly(Amount),
     /// All free sectors from its first sector on; without a first sector, the longest free range. A used entry that
-    /// starts there is never shortened: `Mode::Change` lengthens it if it can, `Mode::Become` leaves it unchanged.
+    /// starts there is never shortened. It is lengthened if it can be, after all other entries have their places.
     Rest,
 }
 
@@ -76,7 +76,7 @@ pub enum Mode {
     /// It changes used entries, and may not name an unused one.
     Change,
     /// The table becomes the layout. Unless `replace` is set, the layout must name or remove each used entry, and no
-    /// used entry may move or change its size.
+    /// used entry may move or change its size, except that `Size::Rest` may lengthen it.
     Become { replace: bool },
 }
 

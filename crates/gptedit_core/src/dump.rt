@@ -45,8 +45,8 @@ fn ask_for_all(alloc: Global, table: &GPT) -> Result<Vec<Asked>>
     Ok(asked)
 }
 
-// Returns a request that leaves this entry unchanged.
-fn ask_for(number: u32, entry: &GPTPartitionEntry) -> Result<Asked>
+/// Returns a request that leaves this entry unchanged.
+pub(crate) fn ask_for(number: u32, entry: &GPTPartitionEntry) -> Result<Asked>
     ensures value { IfOk result (λ a. a ≡ asked_of number entry.now) }
     ensures refused { IfErr result (λ e. fault_of e ≡ out_of_memory) }
 {

@@ -4,8 +4,8 @@ ghost use Rattle.gptedit_core.specs.Named.{LayoutsAreTaken, LayoutsAreTakenAgain
 ghost use Rattle.gptedit_core.specs.Named.{LayoutsGiveTable, LayoutsOnlyLengthen, LayoutsStay};
 
 /// A layout changes only the entries that it names or removes. Each named entry has the requested fields afterwards,
-/// at a place that was free for it; each other entry is unchanged. With `Mode::Become { replace: false }` no other
-/// entry is used.
+/// at a place that was free for it, and ends later only if it gets the rest; each other entry is unchanged. With
+/// `Mode::Become { replace: false }` no other entry is used.
 pub fn layouts_change_what_they_name()
     ensures { LayoutsChangeNamed }
 {}
@@ -33,8 +33,8 @@ pub fn layouts_again_are_taken()
     ensures { LayoutsAreTakenAgain }
 {}
 
-/// A change of an entry to `Size::Rest`, from where it starts, never shortens or moves it. It ends before the highest
-/// multiple of the alignment that the free sectors after it reach, or where it ended before.
+/// A request of `Size::Rest` for a used entry, from where it starts, never shortens or moves it. It ends before the
+/// highest multiple of the alignment that the free sectors after it reach, or where it ended before.
 pub fn layouts_only_lengthen()
     ensures { LayoutsOnlyLengthen }
 {}

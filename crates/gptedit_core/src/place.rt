@@ -24,9 +24,6 @@ pub enum Place {
     At { first: u64, last: u64 },
     /// From `first` to the end of the free range there.
     From { first: u64 },
-    /// From `first` to `last`, and on over the free sectors after it to the last one before a multiple of the
-    /// alignment, if there is one.
-    Longer { first: u64, last: u64 },
     /// `size` sectors, but at least one, at a chosen place.
     Free { size: u64, choice: Choice },
     /// As many sectors as the longest free range has room for, rounded down to a multiple of the alignment.
@@ -46,10 +43,6 @@ impl Place {
         match self {
             Place::At { first, last } => Ok(Some(SectorRange { first, last })),
             Place::From { first } => find_rest(table, first),
-            Place::Longer { first, last } => {
-                let last = find_end(table, first, last);
-                Ok(Some(SectorRange { first, last }))
-            }
             Place::Free { size, choice } => find_free(table, size.max(1), choice),
             Place::Longest => find_longest(table),
         }
@@ -75,7 +68,7 @@ fn find_rest(table: &GPT, first: u64) -> Result<Option<SectorRange>>
 
 // Returns where a partition ends that is lengthened over the free sectors after it: before a multiple of the
 // alignment, or where it ended.
-fn find_end(table: &GPT, first: u64, last: u64) -> u64
+pub(crate) fn find_end(table: &GPT, first: u64, last: u64) -> u64
     requires aligned { 0 < table.now.align }
     ensures { IsFurthestEnd (IsFreeIn table.now) table.now.align first last result }
 {

@@ -3,7 +3,7 @@
 ghost use Rattle.std.specs.Prelude.{◌≡◌, ◌<◌, ◌≤◌, None, IfErr, IfOk, length, option_map};
 ghost use Rattle.gptman.specs.Fault.{fault_of, out_of_memory};
 ghost use Rattle.gptedit_core.specs.Resolving.{entry_asked, lowest_unused, number_asked};
-ghost use Rattle.gptedit_core.specs.Resolving.{place_asked, place_of, refusal_in, resolved, rest_of, rest_there};
+ghost use Rattle.gptedit_core.specs.Resolving.{place_asked, place_of, refusal_in, resolved, rest_of};
 ghost use Rattle.gptedit_core.specs.Resolving.{room_asked, span_from, start_asked, stay_fault, there_of, use_fault, used_at};
 ghost use Rattle.gptedit_core.specs.Resolving.{IsStopFor};
 
@@ -151,7 +151,7 @@ fn find_place(
         }),
         None => None,
     };
-    let place = place_of(mode, number, room, start, there, asked.choice)?;
+    let place = place_of(number, room, start, there, asked.choice)?;
     check_stay(mode, number, there, place)?;
     Ok(place)
 }
@@ -185,14 +185,13 @@ fn find_room(size: Option<Size>, number: u32, sector_size: u64) -> Result<Option
 
 // Returns the requested place. The used entry, if there is one, is at `there`.
 fn place_of(
-    mode: Mode,
     number: u32,
     room: Option<Room>,
     start: Option<u64>,
     there: Option<SectorRange>,
     choice: Choice,
 ) -> Result<Place, Refusal>
-    ensures { result ≡ place_of mode number room start there choice }
+    ensures { result ≡ place_of number room start there choice }
 {
     match (room, start, there) {
         (Some(Room::Sectors(size)), Some(first), _) => {
@@ -202,7 +201,7 @@ fn place_of(
             span_from(number, there.first, size.saturating_sub(1))
         }
         (Some(Room::Sectors(size)), None, None) => Ok(Place::Free { size, choice }),
-        (Some(Room::Rest), start, there) => Ok(rest_of(mode, start, there)),
+        (Some(Room::Rest), start, there) => Ok(rest_of(start, there)),
         (None, None, Some(SectorRange { first, last })) => Ok(Place::At { first, last }),
         (None, Some(start), Some(there)) if there.first <= there.last => {
             span_from(number, start, there.last - there.first)
@@ -211,28 +210,19 @@ fn place_of(
     }
 }
 
-// Returns the place of a partition of size `Rest`.
-fn rest_of(mode: Mode, start: Option<u64>, there: Option<SectorRange>) -> Place
-    ensures { result ≡ rest_of mode start there }
+// Returns the place of a partition of size `Rest`. From where the used entry starts, it is unchanged until the entry is
+// lengthened.
+fn rest_of(start: Option<u64>, there: Option<SectorRange>) -> Place
+    ensures { result ≡ rest_of start there }
 {
     match (start, there) {
         (None, None) => Place::Longest,
         (Some(first), None) => Place::From { first },
-        (None, Some(there)) => rest_there(mode, there),
-        (Some(first), Some(there)) if first == there.first => rest_there(mode, there),
+        (None, Some(SectorRange { first, last })) => Place::At { first, last },
+        (Some(start), Some(SectorRange { first, last })) if start == first => {
+            Place::At { first, last }
+        }
         (Some(first), Some(_)) => Place::From { first },
-    }
-}
-
-// Returns the place of a partition of size `Rest` that starts where the used entry does: unchanged if the table
-// becomes the layout, else lengthened.
-fn rest_there(mode: Mode, there: SectorRange) -> Place
-    ensures { result ≡ rest_there mode there }
-{
-    let SectorRange { first, last } = there;
-    match mode {
-        Mode::Become { .. } => Place::At { first, last },
-        _ => Place::Longer { first, last },
     }
 }
 

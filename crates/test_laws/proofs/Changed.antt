@@ -13,8 +13,8 @@ use Rattle.gptman.specs.declared.codec.entry.GPTPartitionEntry.{GPTPartitionEntr
 use Rattle.gptman.specs.declared.codec.header.GPTHeader.{GPTHeader}
 use Rattle.gptman.specs.declared.codec.name.PartitionName.{PartitionName}
 use Rattle.gptman.specs.declared.table.GPT.{GPT}
-use Rattle.gptedit_core.specs.Applying.{align_asked, IsApplied}
-use Rattle.gptedit_core.specs.Named.{AreThere, IsLengthened, IsThere, IsUnnamed, LayoutsChangeNamed, LayoutsOnlyLengthen, StaysAs}
+use Rattle.gptedit_core.specs.Applying.{align_asked, asks_rest, rest_numbers, IsApplied}
+use Rattle.gptedit_core.specs.Named.{AreThere, IsAmong, IsLengthened, IsThere, IsUnnamed, LayoutsChangeNamed, LayoutsOnlyLengthen, StaysAs}
 use Rattle.gptedit_core.specs.Placing.{AreFreeBehind, IsSpan}
 use Rattle.gptedit_core.specs.Resolving.{and_then, entry_asked, nothing_of, number_asked, partition_at, place_asked, resolved, resolved_all, unless, use_fault, used_at}
 use Rattle.gptedit_core.specs.Sectors.{between}
@@ -57,6 +57,7 @@ found_by (Some x) e is = ap Some (if_found (is_used x) x e is)
 -- The partition is the used entry of number i with the request applied.
 record IsAsked (g : GPT) (a : Asked) (random : List ℕ) (i : ℕ) (p : ResolvedPartition) : Type 0 where
   number : p.number ≡ i
+  low : 1 ≤ i
   entry : p.entry ≡ entry_asked a (Some (entry_at g i)) random
   place : place_asked Change a i (Some (entry_at g i)) g.sector_size ≡ Ok p.place
 
@@ -77,6 +78,7 @@ is_asked g a random i p number_is is =
     let used_is : used ≡ Some (entry_at g i) = found.1 ∙ ap Some (sym at.1) in
     record {
       number = sym (ap (λ (q : ResolvedPartition). q.number) end.1);
+      low = at.0;
       entry = sym (ap (λ (q : ResolvedPartition). q.entry) end.1) ∙ ap (λ (u : Option GPTPartitionEntry). entry_asked a u random) used_is;
       place = subst (λ (x : Place). place_asked Change a i (Some (entry_at g i)) g.sector_size ≡ Ok x) (ap (λ (q : ResolvedPartition). q.place) end.1)
           (subst (λ (u : Option GPTPartitionEntry). place_asked Change a i u g.sector_size ≡ Ok place.0) used_is place.1);
@@ -131,8 +133,15 @@ module _ (a : Asked) (align i : ℕ) (layout : RequestedLayout) (randoms : List 
       subst (λ (m : Mode). StaysAs m (entry_at g j) (entry_at next j)) change.mode ((law layout randoms g next is).others j low (unnamed j other) (kept j))
 
   -- It is at the requested place.
-  there : LayoutsChangeNamed → IsThere one.p is.free next
-  there law = (subst (λ (ps : List ResolvedPartition). AreThere ps is.free next) one.only (law layout randoms g next is).named).0
+  there : LayoutsChangeNamed → IsThere one.p is.free is.placed
+  there law = (subst (λ (ps : List ResolvedPartition). AreThere ps is.free is.placed) one.only (law layout randoms g next is).named).0
+
+  -- and is not lengthened unless it gets the rest.
+  not_longer : LayoutsChangeNamed → asks_rest a.size ≡ false → 1 ≤ i → entry_at next i ≡ entry_at is.placed i
+  not_longer law none low =
+      let asked : rest_numbers layout.asked.items is.partitions ≡ rest_numbers (a ∷ []) (one.p ∷ []) = λ k. rest_numbers (change.asked k) (one.only k) in
+      let empty : rest_numbers (a ∷ []) (one.p ∷ []) ≡ [] = ap (λ (b : Bool). if b then one.p.number ∷ [] else []) none in
+      (law layout randoms g next is).exact i low (subst (λ (numbers : List ℕ). ¬ IsAmong i numbers) (sym (asked ∙ empty)) (λ among. among))
 
   -- ---- the free sectors
 
@@ -175,13 +184,16 @@ module _ (a : Asked) (align i : ℕ) (layout : RequestedLayout) (randoms : List 
       (else_ok (nat_eq align 0) NoAlignment align is.align asked).1
 
   reached_by : ((entry_at next i).ending_lba ≡ (entry_at g i).ending_lba)
-      ⊎ ((is.align ∣ (entry_at next i).ending_lba + 1) × AreFreeBehind (IsFreeIn is.free) (entry_at g i).ending_lba (entry_at next i).ending_lba)
+      ⊎ (((entry_at g i).starting_lba ≤ (entry_at g i).ending_lba) × (is.align ∣ (entry_at next i).ending_lba + 1)
+      × AreFreeBehind (IsFreeIn is.free) (entry_at g i).ending_lba (entry_at next i).ending_lba)
       → ((entry_at next i).ending_lba ≡ (entry_at g i).ending_lba)
-      ⊎ ((align ∣ (entry_at next i).ending_lba + 1) × AreFreeBehind (IsFreeIn g) (entry_at g i).ending_lba (entry_at next i).ending_lba)
+      ⊎ (((entry_at g i).starting_lba ≤ (entry_at g i).ending_lba) × (align ∣ (entry_at next i).ending_lba + 1)
+      × AreFreeBehind (IsFreeIn g) (entry_at g i).ending_lba (entry_at next i).ending_lba)
   reached_by (inl same) = inl same
   reached_by (inr to) = inr (
-    subst (λ (n : ℕ). n ∣ (entry_at next i).ending_lba + 1) (sym same_align) to.0,
-    λ x behind within. free_behind x behind (to.1 x behind within),
+    to.0,
+    subst (λ (n : ℕ). n ∣ (entry_at next i).ending_lba + 1) (sym same_align) to.1,
+    λ x behind within. free_behind x behind (to.2 x behind within),
   )
 
   pub lengthened : LayoutsOnlyLengthen → a.size ≡ Some Rest → a.start ≡ None
@@ -190,7 +202,7 @@ module _ (a : Asked) (align i : ℕ) (layout : RequestedLayout) (randoms : List 
       let has : Contains layout.asked.items a = subst (λ (asked : List Asked). Contains asked a) (sym change.asked) (contains_first a []) in
       let long : length layout.asked.items ≤ length randoms = subst (λ (asked : List Asked). length asked ≤ length randoms) (sym change.asked) enough in
       let longer : IsLengthened is.align (entry_at g i) (entry_at next i) (IsFreeIn is.free) (IsFreeIn (with_entry next i empty_entry)) =
-      law layout randoms g next a i change.mode long has number size (inl start) is in
+      law layout randoms g next a i (inl change.mode) long has number size (inl start) is in
       record {
         start = longer.start;
         end = longer.end;
@@ -217,5 +229,6 @@ renamed align i name layout randoms g next change enough is law =
     let first : put.range.first ≡ e.starting_lba = ap (λ (s : SectorRange). s.first) span in
     let last : put.range.last ≡ e.ending_lba = ap (λ (s : SectorRange). s.last) span in
     let entry : only.p.entry ≡ with_name name e = only.asked.entry in
-    let stands : entry_at next only.p.number ≡ with_name name e = put.entry ∙ (λ k. record (entry k) { starting_lba = first k; ending_lba = last k }) in
-    subst (λ (n : ℕ). entry_at next n ≡ with_name name e) only.asked.number stands
+    let stands : entry_at is.placed only.p.number ≡ with_name name e = put.entry ∙ (λ k. record (entry k) { starting_lba = first k; ending_lba = last k }) in
+    not_longer a align i layout randoms g next change refl enough is law refl only.asked.low
+    ∙ subst (λ (n : ℕ). entry_at is.placed n ≡ with_name name e) only.asked.number stands

@@ -7,3 +7,4 @@ pub mod fittings;
 pub mod growths;
 pub mod images;
 pub mod layouts;
+pub mod measures;
