@@ -15,7 +15,7 @@ use Rattle.gptedit_values.proofs.Tables.{each_of}
 
 -- ---- digits, and the text after them
 
-abbrev Other : List ℕ → Type 0
+abbrev pub Other : List ℕ → Type 0
 Other [] = ⊥
 Other (c ∷ cs) = ¬ (digit_value c < 10)
 

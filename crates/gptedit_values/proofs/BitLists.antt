@@ -108,14 +108,14 @@ module _ {S A B : Type 0} (steps : S → Option A → S → Type 0) (v : A → B
   pub reads_first : (s : S) (done : ℕ) → YieldsList steps v s all → done ≡ 0 → Reads steps v says all s done
   reads_first s done comes none = record { left = all; comes = comes; sofar = sofar_first says all done none }
 
-  next_of : (s t : S) (x : A) (left : List B) → YieldsList steps v s left → steps s (Some x) t
+  pub next_of : (s t : S) (x : A) (left : List B) → YieldsList steps v s left → steps s (Some x) t
       → (ys : List B) × (left ≡ v x ∷ ys) × YieldsList steps v t ys
   next_of s t x [] comes step = absurd (comes.runs x t step)
   next_of s t x (y ∷ ys) comes step =
       let more = comes.runs.1 x t step in
       (ys, ap (λ z. z ∷ ys) (sym more.0), record { runs = more.1 })
 
-  end_of : (s t : S) (left : List B) → YieldsList steps v s left → steps s None t → left ≡ []
+  pub end_of : (s t : S) (left : List B) → YieldsList steps v s left → steps s None t → left ≡ []
   end_of s t [] comes step = refl
   end_of s t (y ∷ ys) comes step = absurd (comes.runs.0 t step)
 
@@ -148,11 +148,11 @@ not_attribute word name number (bit, (small, says)) = elim says [
 
 -- ---- all bits, as digits
 
-abbrev first : List ℕ → ℕ
+abbrev pub first : List ℕ → ℕ
 first [] = 0
 first (c ∷ cs) = c
 
-abbrev rest : List ℕ → List ℕ
+abbrev pub rest : List ℕ → List ℕ
 rest [] = []
 rest (c ∷ cs) = cs
 

@@ -1,4 +1,6 @@
 mod Amounts
 pub mod BitLists
 mod Extents
+mod Measures
+pub mod Steps
 mod Tables

@@ -1,6 +1,6 @@
 //! Amounts of sectors and bytes, with their units.
 
-ghost use Rattle.std.specs.Prelude.{◌≡◌, ◌≢◌, ◌↔◌, ◌^◌, ◌*◌, ◌<◌, ◌++◌, ℕ, List, Ok, None, EachIndex, IfOk, IfSome, IsTrue, MatchOption, slice_index};
+ghost use Rattle.std.specs.Prelude.{◌≡◌, ◌≢◌, ◌↔◌, ◌^◌, ◌*◌, ◌<◌, ◌++◌, ℕ, Contains, List, map, Ok, None, EachIndex, IfOk, IfSome, IsTrue, MatchOption, slice_index};
 ghost use Rattle.gptedit_core.specs.declared.amount.Amount.TheVariants.{Bytes, Sectors};
 ghost use Rattle.gptedit_values.specs.Words.{FitsAmount, FitsSize, HasUnit, SaysAmount, SaysSize};
 ghost use Rattle.std.specs.Int.{IsInRange};
@@ -69,7 +69,16 @@ fn split_unit(text: &str) -> Option<(&str, u64)>
     ensures some { IfSome result (λ parts. 0 < parts.1) }
     ensures unknown { result ≡ None → (number : List ℕ) (unit : ℕ) → IsNumeral 10 number → ¬ (HasUnit text.now number unit) }
 {
-    for unit in UNITS {
+    unit_before(text, &UNITS)
+}
+
+// Returns the number before one of these units, and the unit in bytes.
+pub(crate) fn unit_before<'a>(text: &'a str, units: &[Unit]) -> Option<(&'a str, u64)>
+    ensures found { IfSome result (λ parts. IsNumeral 10 parts.0.now × ((name : List ℕ) × Contains {X = List ℕ × ℕ} (map (λ unit. (unit.name.now, unit.bytes)) units.now) (name, parts.1) × (text.now ≡ parts.0.now ++ name))) }
+    ensures unknown { result ≡ None → (number : List ℕ) (name : List ℕ) (unit : ℕ) → IsNumeral 10 number
+        → Contains {X = List ℕ × ℕ} (map (λ unit. (unit.name.now, unit.bytes)) units.now) (name, unit) → text.now ≢ number ++ name }
+{
+    for unit in units {
         match number_before(text, unit.name) {
             Some(number) => return Some((number, unit.bytes)),
             None => (),
@@ -79,7 +88,7 @@ fn split_unit(text: &str) -> Option<(&str, u64)>
 }
 
 // Returns the digits before a unit, if the text is only digits and the unit.
-fn number_before<'a>(text: &'a str, unit: &str) -> Option<&'a str>
+pub(crate) fn number_before<'a>(text: &'a str, unit: &str) -> Option<&'a str>
     ensures { MatchOption result ((number : List ℕ) → IsNumeral 10 number → text.now ≢ number ++ unit.now)
         (λ number. IsNumeral 10 number.now × (text.now ≡ number.now ++ unit.now)) }
 {
@@ -88,7 +97,7 @@ fn number_before<'a>(text: &'a str, unit: &str) -> Option<&'a str>
 }
 
 // Reports whether the text is one or more digits.
-fn is_whole(text: &str) -> bool
+pub(crate) fn is_whole(text: &str) -> bool
     ensures { IsTrue result ↔ IsNumeral 10 text.now }
 {
     !text.is_empty() && are_digits(text.as_bytes())
@@ -130,7 +139,7 @@ pub fn read_size(text: &str) -> Result<Size, Wrong>
 }
 
 // Reads a whole number, without a sign.
-fn read_number(text: &str) -> Result<u64, Wrong>
+pub(crate) fn read_number(text: &str) -> Result<u64, Wrong>
     ensures { OkIff result (IsNumeral 10 text.now × (digits_value 10 text.now < 2 ^ 64)) (digits_value 10 text.now) }
 {
     if text.starts_with('+') {
@@ -144,7 +153,7 @@ fn read_number(text: &str) -> Result<u64, Wrong>
 }
 
 /// An amount in the form that `read_amount` reads. Bytes are printed in the largest unit that divides them.
-#[derive(Clone, Copy, PartialEq, Eq, Debug)]
+#[derive(Clone, Copy, PartialEq, Eq)]
 pub struct AmountText(pub Amount);
 
 impl fmt::Display for AmountText {
@@ -166,7 +175,7 @@ fn write_bytes<W: fmt::Write>(f: &mut fmt::Formatter<W>, bytes: u64) -> fmt::Res
 }
 
 /// A size in the form that `read_size` reads.
-#[derive(Clone, Copy, PartialEq, Eq, Debug)]
+#[derive(Clone, Copy, PartialEq, Eq)]
 pub struct SizeText(pub Size);
 
 impl fmt::Display for SizeText {

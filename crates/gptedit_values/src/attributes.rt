@@ -156,7 +156,7 @@ fn read_bit(word: &str) -> Result<u64, Wrong>
 }
 
 /// Attributes in the form that `read_attributes` reads: names and numbers of bits, separated by commas.
-#[derive(Clone, Copy, PartialEq, Eq, Debug)]
+#[derive(Clone, Copy, PartialEq, Eq)]
 pub struct AttributeNames(pub u64);
 
 impl fmt::Display for AttributeNames {
@@ -174,7 +174,7 @@ impl fmt::Display for AttributeNames {
 }
 
 /// The attribute of this bit in the form that `read_attribute` reads: its name, or else its number.
-#[derive(Clone, Copy, PartialEq, Eq, Debug)]
+#[derive(Clone, Copy, PartialEq, Eq)]
 pub struct AttributeName(pub u64);
 
 impl fmt::Display for AttributeName {

@@ -10,7 +10,7 @@ const UNITS: [Unit; 6] = [EIB, PIB, TIB, GIB, MIB, KIB];
 
 /// A number of bytes, printed in the largest unit that is not larger, with at most one decimal, rounded down: `512
 /// B`, `64 MiB`, `1.5 GiB`.
-#[derive(Clone, Copy, PartialEq, Eq, Debug)]
+#[derive(Clone, Copy, PartialEq, Eq)]
 pub struct ByteCount(pub u64);
 
 impl fmt::Display for ByteCount {

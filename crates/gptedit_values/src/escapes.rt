@@ -25,7 +25,7 @@ pub fn is_hidden(c: char) -> bool {
 }
 
 /// A text in which hidden characters are printed as `\u{202e}`.
-#[derive(Clone, Copy, PartialEq, Eq, Debug)]
+#[derive(Clone, Copy, PartialEq, Eq)]
 pub struct Escaped<'a>(pub &'a str);
 
 impl fmt::Display for Escaped<'_> {
@@ -38,7 +38,7 @@ impl fmt::Display for Escaped<'_> {
 }
 
 /// A character. A hidden one is printed as `\u{202e}`.
-#[derive(Clone, Copy, PartialEq, Eq, Debug)]
+#[derive(Clone, Copy, PartialEq, Eq)]
 pub struct EscapedChar(pub char);
 
 impl fmt::Display for EscapedChar {
@@ -52,7 +52,7 @@ impl fmt::Display for EscapedChar {
 }
 
 /// A code point, or a surrogate without its pair, printed as `\u{d800}`.
-#[derive(Clone, Copy, PartialEq, Eq, Debug)]
+#[derive(Clone, Copy, PartialEq, Eq)]
 pub struct EscapedCode(pub u32);
 
 impl fmt::Display for EscapedCode {
@@ -65,7 +65,7 @@ impl fmt::Display for EscapedCode {
 
 /// A basic string of TOML, in double quotes, that is read as this text. Hidden characters are printed as `\u0085` or
 /// `\U000e0001`.
-#[derive(Clone, Copy, PartialEq, Eq, Debug)]
+#[derive(Clone, Copy, PartialEq, Eq)]
 pub struct TomlText<'a>(pub &'a str);
 
 impl fmt::Display for TomlText<'_> {

@@ -70,7 +70,7 @@ fn read_octal(digits: &str) -> Option<u64>
 }
 
 // Returns the text after this prefix.
-fn behind<'a>(text: &'a str, front: &str) -> Option<&'a str>
+pub(crate) fn behind<'a>(text: &'a str, front: &str) -> Option<&'a str>
     ensures { MatchOption result ((rest : List ℕ) → text.now ≢ front.now ++ rest) (λ rest. text.now ≡ front.now ++ rest.now) }
 {
     text.strip_prefix(front)

@@ -8,7 +8,7 @@ use crate::wrong::Wrong;
 use std::fmt;
 
 /// A field of a partition.
-#[derive(Clone, Copy, PartialEq, Eq, Debug)]
+#[derive(Clone, Copy, PartialEq, Eq)]
 pub enum Field {
     /// The number of its entry, from 1.
     Number,

@@ -48,7 +48,7 @@ fn read_unit(word: &str) -> Option<u16> {
 }
 
 /// The units of a name in the form that `read_units` reads, without the zeros at the end.
-#[derive(Clone, Copy, PartialEq, Eq, Debug)]
+#[derive(Clone, Copy, PartialEq, Eq)]
 pub struct UnitsText<'a>(pub &'a [u16; 36]);
 
 impl fmt::Display for UnitsText<'_> {

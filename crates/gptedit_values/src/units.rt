@@ -52,3 +52,35 @@ pub(crate) const EIB: Unit = Unit {
     letter: "E",
     bytes: 1 << 60,
 };
+
+pub(crate) const K: Unit = Unit { name: "K", ..KIB };
+
+pub(crate) const M: Unit = Unit { name: "M", ..MIB };
+
+pub(crate) const G: Unit = Unit { name: "G", ..GIB };
+
+pub(crate) const T: Unit = Unit { name: "T", ..TIB };
+
+pub(crate) const KB: Unit = Unit {
+    name: "KB",
+    letter: "KB",
+    bytes: 1_000,
+};
+
+pub(crate) const MB: Unit = Unit {
+    name: "MB",
+    letter: "MB",
+    bytes: 1_000_000,
+};
+
+pub(crate) const GB: Unit = Unit {
+    name: "GB",
+    letter: "GB",
+    bytes: 1_000_000_000,
+};
+
+pub(crate) const TB: Unit = Unit {
+    name: "TB",
+    letter: "TB",
+    bytes: 1_000_000_000_000,
+};

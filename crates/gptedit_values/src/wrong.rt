@@ -16,6 +16,16 @@ pub enum Wrong {
     NoSector,
     /// It is not a whole number with a unit, and not `rest`.
     NoSize,
+    /// It is not a number with a unit, and not a percentage.
+    NoMeasure,
+    /// It is not the size of a new partition.
+    NoLength,
+    /// It is not the new size of a partition.
+    NoNewLength,
+    /// The percentage exceeds 100 %.
+    OverWhole,
+    /// It has more than 6 digits after its point.
+    TooFine,
     /// The amount exceeds 64 bits.
     TooLarge,
     /// It is neither the name of a type nor a GUID.
@@ -24,6 +34,8 @@ pub enum Wrong {
     NoGuid,
     /// It is not a list of attributes.
     NoAttribute,
+    /// It is not a list of attributes, and not a list of changes of attributes.
+    NoAttributeChange,
     /// It is not the choice of a place.
     NoChoice,
     /// It does not say what to do if an image is locked.
@@ -46,16 +58,28 @@ impl fmt::Display for Wrong {
             Wrong::NoSize => {
                 "it must be rest, or a whole number with a unit, for example 2048s (sectors) or 64MiB"
             }
+            Wrong::NoMeasure => {
+                "it must be a number with a unit, for example 2048s (sectors), 64MiB or 1.5GiB, or a percentage"
+            }
+            Wrong::NoLength => {
+                "it must be rest, or a number with a unit, for example 2048s (sectors), 64MiB or 1.5GiB, or a percentage"
+            }
+            Wrong::NoNewLength => {
+                "it must be max, or a number with a unit, for example 2048s (sectors), 64MiB or +1.5GiB, or a percentage"
+            }
+            Wrong::OverWhole => "a percentage is at most 100%",
+            Wrong::TooFine => "a number has at most 6 digits after its point",
             Wrong::TooLarge => "it must be below 2^64 sectors or bytes",
             Wrong::NoType => {
                 "it must be a GUID, or a name that `gptedit types` lists, for example efi or linux"
             }
             Wrong::NoGuid => "it must have the form c12a7328-f81f-11d2-ba4b-00a0c93ec93b",
-            Wrong::NoAttribute => {
+            Wrong::NoAttribute => return write!(f, "{}", AttributeRule),
+            Wrong::NoAttributeChange => {
                 return write!(
                     f,
-                    "attributes are {} and bits from 0 to 63, with commas between; or all 64 bits as 0x..",
-                    AllNames
+                    "{}; or changes: + or - before each attribute, priority=0..15, tries=0..15, successful=0..1",
+                    AttributeRule
                 );
             }
             Wrong::NoChoice => "it must be first, last or best",
@@ -66,6 +90,20 @@ impl fmt::Display for Wrong {
             }
         };
         f.write_str(rule)
+    }
+}
+
+// The rule for lists of attributes.
+#[derive(Clone, Copy)]
+struct AttributeRule;
+
+impl fmt::Display for AttributeRule {
+    fn fmt<W: fmt::Write>(&self, f: &mut fmt::Formatter<W>) -> fmt::Result {
+        write!(
+            f,
+            "attributes are {} and bits from 0 to 63, with commas between; or all 64 bits as 0x..",
+            AllNames
+        )
     }
 }
 

@@ -1,14 +1,4 @@
-use Rattle.std.proofs.Common.{arith}
-use Rattle.gptedit_values.proofs.Tables.{lacks_all, lacks_first, lacks_next}
 use Rattle.gptedit_values.proofs.amount.split_unit.Goals as goal
 
-pub loop-unit-init : goal.loop-unit-init
-loop-unit-init c = lacks_first _ _
-
-pub loop-unit-preserved : goal.loop-unit-preserved
-loop-unit-preserved c =
-    lacks_next _ _ _ _ _ c.loop-unit.invariant (omega arith) (λ (number, numeral, is). c.in-None.ensures number numeral is)
-
 pub returns-clause-unknown : goal.returns-clause-unknown
-returns-clause-unknown c =
-    λ _ number unit numeral has. lacks_all _ (λ row. row.bytes) _ _ _ c.loop-unit.invariant (omega arith) has.0 unit has.1 (number, numeral, has.2)
+returns-clause-unknown c = λ none number unit numeral has. c.unit_before.ensures.unknown none number has.0 unit numeral has.1 has.2

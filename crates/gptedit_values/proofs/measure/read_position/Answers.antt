@@ -1,0 +1,5 @@
+use Rattle.gptedit_values.proofs.Measures.{no_position}
+use Rattle.gptedit_values.proofs.measure.read_position.Goals as goal
+
+pub returns-in-Err-clause-refused : goal.returns-in-Err-clause-refused
+returns-in-Err-clause-refused c = no_position c.args.text.now c.in-Some.rest.now c.in-Err.wrong c.in-Some.ensures c.in-Err.ensures.read
