@@ -86,7 +86,7 @@ def try_sizes(tally, program):
         found = json.loads(ended[1])["partitiontable"]["partitions"][0]
         tally.equals(f"--size {size}", (0, 2048, sectors), (ended[0], found["start"], found["size"]))
     start(program, False)
-    for size in ["", "10", "1.5MiB", "1MB", "MiB", "-1s", "0x10s", "1 MiB", "18446744073709551616s", "1mib"]:
+    for size in ["", "10", "MiB", "-1s", "0x10s", "1 MiB", "18446744073709551616s", "1mib"]:
         ended = program.run("add", "disk.img", "--type", "linux", "--size=" + size)
         tally.equals(f"the status of --size={size}", 2, ended[0])
     says(tally, program, ["add", "disk.img", "--type", "linux", "--size", "1000B"], "",
@@ -165,7 +165,7 @@ def try_attributes(tally, program):
         program.run("set", "disk.img", "1", "--attributes=" + text)
         found = table.read(program.file("disk.img")).entries[1].attributes
         tally.equals(f"--attributes={text}", bits, found)
-    for text in ["64", "-1", "requird", "required,", "required;no-auto"]:
+    for text in ["64", "-64", "+64", "requird", "required,", "required;no-auto"]:
         ended = program.run("set", "disk.img", "1", "--attributes=" + text)
         tally.equals(f"the status of --attributes={text}", 2, ended[0])
 

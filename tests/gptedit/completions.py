@@ -49,7 +49,7 @@ def try_values(tally, program):
     tally.equals("places", ["first", "last", "best"], completed("add", "disk.img", "--place", ""))
     tally.equals("locks", ["wait", "fail", "none"], completed("new", "disk.img", "--lock", ""))
     tally.equals("sector sizes", ["512", "1024", "2048", "4096", "auto"], completed("show", "disk.img", "--sector", ""))
-    for option in "--name", "--guid", "--size", "--start", "--align", "--attributes", "--number", "--entries", "--backup":
+    for option in "--name", "--guid", "--size", "--start", "--end", "--align", "--attributes", "--number", "--entries", "--backup":
         tally.equals(f"values of {option}", [], completed("add", "disk.img", option, ""))
 
 

@@ -68,6 +68,37 @@ WRONG = [
     (b"\xff\xfe", "disk.toml: "),
 ]
 
+# Texts with several errors, and how the line of each begins.
+SEVERAL = [
+    ('[[partition]]\nsize = "1MB"\ntype = "linx"\nnumber = 0\nattributes = [7, "x"]\n[disk]\nguid = "1"\nx = 2\n',
+     ["line 2: size of ", "line 3: type of ", "line 4: number of ", "line 5: attributes of ", "line 7: guid of ",
+      'line 8: "x" is not a key of ']),
+    ('y = 1\n[disk]\nalign = 3\nentries = "1"\nfirst-usable = "1KiB"\nlast-usable = "x"\nsector-size = "8s"\n',
+     ['line 1: "y" is not a key of ', "line 3: align of ", "line 4: entries of ", "line 5: first-usable of ",
+      "line 6: last-usable of ", "line 7: sector-size of "]),
+    # The number after a wrong one is the next, and a partition with another error keeps its own.
+    ('[[partition]]\nnumber = 5\ntype = "efo"\n[[partition]]\nsize = "rest"\n[[partition]]\nnumber = 6\n'
+     'size = "rest"\nname = 1\n[[partition]]\nnumber = 5\nname = "a"\nname-utf16 = "0041"\n',
+     ["line 3: type of partition 1 ",
+      "line 7: number of partition 3 of the file: an earlier partition has the number 6",
+      "line 8: size of partition 3 of the file: only one", "line 9: name of partition 3 ",
+      "line 11: number of partition 4 of the file: an earlier partition has the number 5",
+      "line 13: name-utf16 of partition 4 "]),
+    ("disk = 1\npartition = 2\n", ["line 1: disk of ", "line 2: partition of "]),
+    ("label: dos\nlabel-id: 7\nsize=x, type=y\nsize=1M, type=hom\n: name=\"\n",
+     ["line 1: label of ", "line 2: label-id of ", "line 3: size of ", "line 4: type of ", "line 5: name of "]),
+    # After the first line of a partition there is no header, whether that line is right or not.
+    ("size=x\nlabel: dos\n1 : size=1M\n1 : size=1M\n",
+     ["line 1: size of ", "line 2: start of ", "line 4: number of "]),
+    ("[[partition]]\nsize = 1\n" * 20, [f"line {2 * n}: size of partition {n} " for n in range(1, 21)]),
+    ("[[partition]]\nsize = 1\n" * 25,
+     [f"line {2 * n}: size of partition {n} " for n in range(1, 21)] + ["and 5 more"]),
+    ("size=x\n" * 2000, [f"line {n}: size of " for n in range(1, 21)] + ["and 1980 more"]),
+]
+
+# Words that are no types, and the name of a type that is one change away.
+NEAREST = [("linx", "linux"), ("swop", "swap"), ("linux-hme", "linux-home"), ("efii", "efi"), ("bios-bot", "bios-boot")]
+
 
 # Lines of scripts, and where their partitions begin in an image of 128 MiB; None where there is no room.
 PLACED = [
@@ -150,12 +181,129 @@ def try_kept(tally, program):
     holds_table(tally, program, "apply --replace of a layout without partitions", {})
 
 
+# Two partitions, of which the second gets the rest.
+REST = (f'[[partition]]\nnumber = 1\ntype = "efi"\nguid = "{ESP}"\nsize = "1MiB"\n'
+        f'[[partition]]\nnumber = 2\ntype = "linux"\nguid = "{ROOT}"\nsize = "rest"\n')
+
+
+def rest_end(size):
+    """The last sector before a multiple of 1 MiB that is usable with 128 entries."""
+    return (size // 512 - 33) // 2048 * 2048 - 1
+
+
+def holds_spans(tally, program, what, wanted):
+    """Counts whether the partitions have these first and last sectors, by their numbers."""
+    found = table.read(program.file("disk.img")).entries
+    tally.equals(what, wanted, {number: (entry.first, entry.last) for number, entry in found.items()})
+
+
+def try_rest(tally, program):
+    """One layout with `rest`, on images of several sizes, applied twice, and again after they grew."""
+    program.write("rest.toml", REST.encode())
+    for size in 4 * MIB, 5 * MIB - 512, 16 * MIB + 33 * 512, 17 * MIB + 512, 64 * MIB:
+        start(program, False, size)
+        last = 0
+        for now in size, size + 512, size + 2 * MIB, 3 * size + 1536:
+            program.set_length("disk.img", now)
+            program.run("apply", "disk.img", "rest.toml", *(["--fit"] if now > size else []))
+            wanted = {1: (2048, 4095), 2: (4096, rest_end(now))}
+            holds_spans(tally, program, f"apply of rest on {now} bytes, made with {size}", wanted)
+            tally.holds("it is never shortened", last <= rest_end(now))
+            last = rest_end(now)
+            before = program.state("disk.img")
+            says(tally, program, ["apply", "disk.img", "rest.toml"], "unchanged\n")
+            says(tally, program, ["apply", "disk.img", "rest.toml", "--replace"], "unchanged\n")
+            tally.holds("a second apply writes nothing", program.state("disk.img") == before)
+
+
+# Partitions on 64 MiB, a layout, further words, and what becomes of them; None where it is refused.
+RESTS = [
+    # It is lengthened without --replace, to a multiple of 1 MiB or of another alignment.
+    ({1: (2048, 4095)}, ["number = 1\nsize = 'rest'"], [], {1: (2048, 129023)}),
+    ({1: (2048, 4095)}, ["number = 1\nstart = '1MiB'\nsize = 'rest'"], [], {1: (2048, 129023)}),
+    ({1: (34, 40)}, ["number = 1\nsize = 'rest'"], [], {1: (34, 129023)}),
+    # It is not shortened where no later multiple is reached.
+    ({1: (2048, 131038)}, ["number = 1\nsize = 'rest'"], [], {1: (2048, 131038)}),
+    ({1: (2048, 130000)}, ["number = 1\nsize = 'rest'"], [], {1: (2048, 130000)}),
+    # It ends before the next partition, also before one that the same layout adds or moves, in any order.
+    ({1: (2048, 4095), 2: (10240, 12287)}, ["number = 1\nsize = 'rest'", "number = 2"], [],
+     {1: (2048, 10239), 2: (10240, 12287)}),
+    ({1: (2048, 4095)}, ["number = 1\nsize = 'rest'", "number = 2\ntype = 'linux'\nstart = '5MiB'\nsize = '1MiB'"], [],
+     {1: (2048, 10239), 2: (10240, 12287)}),
+    ({1: (2048, 4095)}, ["number = 1\nsize = 'rest'", "number = 2\ntype = 'linux'\nsize = '1MiB'"], [],
+     {1: (2048, 4095), 2: (4096, 6143)}),
+    ({1: (2048, 4095), 2: (4096, 6143)}, ["number = 1\nsize = 'rest'", "number = 2\nstart = '5MiB'"], ["--replace"],
+     {1: (2048, 10239), 2: (10240, 12287)}),
+    ({1: (2048, 4095), 2: (4096, 6143)}, ["number = 1\nsize = 'rest'"], ["--replace"], {1: (2048, 129023)}),
+    # Without --replace no other partition may move or change its size, be left out, or begin elsewhere.
+    ({1: (2048, 4095), 2: (4096, 6143)}, ["number = 1\nsize = 'rest'", "number = 2\nstart = '5MiB'"], [], None),
+    ({1: (2048, 4095), 2: (4096, 6143)}, ["number = 1\nsize = 'rest'", "number = 2\nsize = '2MiB'"], [], None),
+    ({1: (2048, 4095), 2: (4096, 6143)}, ["number = 1\nsize = 'rest'"], [], None),
+    ({1: (4096, 6143)}, ["number = 1\nstart = '1MiB'\nsize = 'rest'"], [], None),
+    ({1: (4096, 6143)}, ["number = 1\nstart = '1MiB'\nsize = 'rest'"], ["--replace"], {1: (2048, 129023)}),
+]
+
+
+def try_rests(tally, program):
+    """`rest` for partitions that exist, beside others, and in scripts."""
+    for there, parts, more, wanted in RESTS:
+        start(program, False, 64 * MIB)
+        for number, (first, last) in there.items():
+            program.run("add", "disk.img", "--number", str(number), "--type", "linux", "--align", "1s",
+                        "--start", f"{first}s", "--size", f"{last - first + 1}s")
+        text = "".join(f"[[partition]]\n{part}\n" for part in parts)
+        program.write("rest.toml", text.encode())
+        words = ["apply", "disk.img", "rest.toml", *more]
+        if not wanted:
+            refused(tally, program, words, "partition ")
+            continue
+        program.run(*words)
+        holds_spans(tally, program, f"apply {more} of {text!r} over {there}", wanted)
+        says(tally, program, words, "unchanged\n")
+    start(program, False, 64 * MIB)
+    program.write("script", b"label: gpt\nstart=8MiB, size=1MiB\nstart=2048\nstart=18432, size=+\n")
+    program.run("apply", "disk.img", "script")
+    holds_spans(tally, program, "two rests", {1: (16384, 18431), 2: (2048, 16383), 3: (18432, 129023)})
+    says(tally, program, ["apply", "disk.img", "script"], "unchanged\n")
+    program.set_length("disk.img", 80 * MIB)
+    program.run("apply", "disk.img", "script", "--fit")
+    holds_spans(tally, program, "apply of two rests after growth", {1: (16384, 18431), 2: (2048, 16383), 3: (18432, 161791)})
+    says(tally, program, ["apply", "disk.img", "script"], "unchanged\n")
+
+
 def try_wrong(tally, program):
     """Texts that are no layouts."""
     start(program)
     for text, told in WRONG:
         program.write("disk.toml", text if isinstance(text, bytes) else text.encode())
         refused(tally, program, ["apply", "disk.img", "disk.toml"], told)
+
+
+def try_several(tally, program):
+    """All errors of a text are told at once, in its order."""
+    start(program)
+    for text, wanted in SEVERAL:
+        program.write("disk.toml", text.encode())
+        status, out, err = program.run("apply", "disk.img", "disk.toml")
+        lines = err.removeprefix("gptedit: disk.toml: ").splitlines()
+        tally.equals(f"the status of {text[:60]!r}", (1, ""), (status, out))
+        tally.equals(f"the errors of {text[:60]!r}: {lines}", wanted,
+                     [line[:len(begin)] for line, begin in zip(lines, wanted)] + lines[len(wanted):])
+        found = program.json("apply", "disk.img", "disk.toml", "--json")["error"]
+        kept = [line for line in lines if not line.startswith("and ")]
+        tally.equals(f"the code of {text[:60]!r}", "bad-layout", found["code"])
+        tally.equals(f"the message of {text[:60]!r}", err, f"gptedit: {found['message']}\n")
+        tally.equals(f"errors in JSON of {text[:60]!r}",
+                     [{"line": int(line.split(":")[0][5:]), "message": line} for line in kept], found["errors"])
+
+
+def try_nearest(tally, program):
+    """An unknown type, and the name that is nearest to it."""
+    start(program)
+    for word, name in NEAREST:
+        for text in (f'[[partition]]\ntype = "{word}"\n', f"size=1M, type={word}\n", f",1M,{word}\n"):
+            program.write("disk.toml", text.encode())
+            refused(tally, program, ["apply", "disk.img", "disk.toml"], f"; the nearest name is {name}\n")
 
 
 def draw(random_, number, names=NAMES):
@@ -369,7 +517,9 @@ def read_theirs(tally, program, reader, entries, what):
                 not any(word in printed.lower() for word in ("corrupt", "mismatch", "invalid", "warning")))
 
 
-SUBJECTS = {"layouts": try_layout, "what layouts leave out": try_kept, "texts that are no layouts": try_wrong,
+SUBJECTS = {"layouts": try_layout, "rest": try_rest, "rests and other partitions": try_rests,
+            "what layouts leave out": try_kept, "texts that are no layouts": try_wrong,
+            "several errors": try_several, "the nearest type": try_nearest,
             "random layouts": try_random, "dumps": try_round, "defaults of scripts": try_defaults,
             "starts in scripts": try_places, "scripts with and without starts": try_mixed,
             "images of other tools": try_readers}

@@ -26,7 +26,7 @@ END = SIZE // 512
 LOADER = b"A BOARD'S LOADER" * 2048
 
 # Codes of checks that others come before, and what no trial here can cause.
-LATER = {"bad-table", "twice", "no-safe-order", "has-data", "has-data-at-entries", "replaced", "no-sector-size"}
+LATER = {"bad-table", "twice", "no-safe-order", "has-data", "has-data-at-entries", "replaced", "no-sector-size", "no-start"}
 PROGRAMS = {"gptedit", "truncate", "qemu-img"}
 DOCUMENTS = []
 
@@ -300,6 +300,7 @@ REFUSALS = [
     ("no-entry", ADD + ["--size", "1MiB", "--number", "129"]), ("no-size", ADD + ["--size", "0s"]),
     ("no-alignment", ADD + ["--size", "1MiB", "--align", "0s"]), ("not-whole", ADD + ["--size", "1000B"]),
     ("no-alignment", ["free", IMAGE, "--align", "0s"]),
+    ("before-start", ADD + ["--size", "1MiB", "--start=-1TiB"]),
     ("too-large", ADD + ["--size", "2s", "--start", "18446744073709551615s"]),
     ("bad-boundaries", ADD + ["--size", "1MiB", "--start", "2048s"]),
     ("shared-guid", ["add", IMAGE, "--type", "linux", "--size", "1MiB", "--guid", ESP]),

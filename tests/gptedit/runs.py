@@ -12,9 +12,10 @@ import re
 from harness import runs, table
 from harness.images import Reader, changed, is_in
 
-GATE = ["commands", "refusals", "layouts", "script_inputs", "texts", "scripts", "outputs", "guards", "checks", "safety",
-        "salvaging", "everyday", "traces", "marks", "stops", "streams", "rules", "maps", "completions", "queries",
-        "targets", "kinds", "fitting", "growparts", "machine", "model", "peers"]
+GATE = ["commands", "refusals", "layouts", "backups", "script_inputs", "texts", "scripts", "outputs", "guards",
+        "checks", "safety", "salvaging", "everyday", "traces", "marks", "stops", "streams", "rules", "maps",
+        "completions", "queries", "targets", "settings", "kinds", "sizes", "fitting",
+        "growparts", "machine", "model", "peers"]
 TRIALS = ["uses", "sources", "locks", "holders"]
 MODULES = GATE + TRIALS
 CHANGES = ["new", "add", "set", "resize", "remove", "sort", "grow", "repair", "randomize", "apply", "wipe"]
@@ -38,7 +39,7 @@ class Program(runs.Program):
             return self.plain(*words, text=text, **how)
         before = self.state(name)
         is_change = words[0] in CHANGES and not set(words) & set(DRY) and "--help" not in words
-        dry = self.plain(*words, "--dry-run", text=text) if is_change else None
+        dry = self.plain(words[0], "--dry-run", *words[1:], text=text) if is_change else None
         if dry and self.state(name) != before:
             self.tally.holds(f"a dry run of {words} leaves the image", False)
             self.restore(name, before)

@@ -144,6 +144,27 @@ for _text, _kind in (("L", LINUX), ("S", SWAP), ("H", HOME), ("U", EFI), ("R", R
     case(f"size=1M, type={_text}\n", part(1, 1, _kind))
 case(",1M,U\n,1M,linux\n,1M,-\n,1M,\"S\"\n", part(1, 1, EFI), part(2, 1), part(3, 1), part(4, 1, SWAP))
 case("size=1M,type=xbootldr\n", part(1, 1, BOOT), theirs="sfdisk before 2.39 does not know the word")
+# Names of types in sfdisk.
+for _text, _kind in (('"EFI System"', EFI), ('"efi system"', EFI), ("EFISystem", EFI), ('"Linux filesystem"', LINUX),
+                     ("linux-filesystem", LINUX), ('"Linux swap"', SWAP), ('"Linux RAID"', RAID),
+                     ('"Linux extended boot"', BOOT)):
+    case(f"size=1M, type={_text}\n", part(1, 1, _kind))
+case(",1M,\"EFI System\"\n,1M,\"Linux home\"\n", part(1, 1, EFI), part(2, 1, HOME))
+# Units with lower-case letters.
+for _text in ("1m", "1mib", "1miB", "1Mib", "1024k", "1024kib", "0x1m"):
+    case(f"size={_text}\n", part(1, 1))
+case("2m,1m\n", part(2, 1))
+case("start=4m, size=2m\nsize=1k\n", part(4, 2), table.Entry(LINUX, "", 12288, 12289, 0, ""))
+case("grain: 4m\n,4m\n,4m\n", part(4, 4), part(8, 4))
+case("2048,0x1e\n", table.Entry(LINUX, "", 2048, 2077, 0, ""))
+# The forms that the tests of util-linux have.
+case(f"unit: sectors\nlabel: gpt\nlabel-id: {GUID}\n\n/dev/sdx1 : start=2048 size=2048   uuid={GUID}\n"
+     f"/dev/sdx2 : start=4096,size=2048,  uuid={HOME} ,type={SWAP}\n"
+     f"/dev/sdx3 : start=6144 , size=2048 ,uuid={RAID}\n/dev/sdx4 : start=8192; size=2048 ;     uuid={LVM}\n",
+     part(1, 1), part(2, 1, SWAP), part(3, 1), part(4, 1))
+case(f"/dev/sdx1 : start=2048  uuid=\"{GUID}\" size=2048\n/dev/sdx2: start= 4096 uuid=\"{HOME}\",size=2048\n"
+     f"/dev/sdx3  : start=6144, size=2048, Id={SWAP}\n", part(1, 1), part(2, 1), part(3, 1, SWAP))
+case("label: gpt\n,1M,S,*\n", part(1, 1, SWAP, LEGACY_BOOT), theirs="without marks", marked=[1])
 # Numbers and the ends of scripts.
 case("2 : size=1M\nsize=1M\nsize=1M\n", part(1, 1), part(2, 1), part(3, 1), numbers=[2, 1, 3])
 case("2 : size=1M\n1 : size=1M\n", part(1, 1), part(2, 1), numbers=[2, 1])
@@ -198,6 +219,15 @@ REFUSED = [
     ("size=" + "9" * 100000 + "\n", "line 1: size of the partition: ", ""),
     (",17179869184G\n", "line 1: size of the partition: ", ""),
     (",16E\n", "line 1: size of the partition: ", ""),
+    (",16e\n", "line 1: size of the partition: ", ""),
+    ("size=1mIb\n", "line 1: size of the partition: ", ""),
+    ("size=2048s\n", "line 1: size of the partition: ", ""),
+    ("size=1048576B\n", "line 1: size of the partition: ", ""),
+    ("size=50%\n", "line 1: size of the partition: ", ""),
+    ("size=8MB\n", "line 1: size of the partition: ", "sfdisk rounds units of 1000 to the grain"),
+    ("size=1.5M\n", "line 1: size of the partition: ", "sfdisk rounds fractions to the grain"),
+    ("size=1M, type=EFI System\n", 'line 1: "System" is not a key of the partition', ""),
+    ("size=1M, type=\"EFI Systen\"\n", "line 1: type of the partition: ", ""),
     ("18446744073709551615,1M\n", "", "sfdisk makes a table without partitions"),
     (",18446744073709551615\n", "", "sfdisk makes a table without partitions"),
     ("size=0\n", "", ""),
@@ -297,6 +327,24 @@ def try_refused(tally, program):
     return f"{len(REFUSED)} scripts" + ("" if tool else "; sfdisk is not installed: its refusals are left out")
 
 
+def try_kinds(tally, program):
+    """Each type that sfdisk lists, by its name there."""
+    if not shutil.which("sfdisk"):
+        return "sfdisk is not installed: left out"
+    printed = subprocess.run(["sfdisk", "-T", "-X", "gpt"], stdout=subprocess.PIPE, check=True).stdout.decode()
+    kinds = [tuple(line.split(maxsplit=1)) for line in printed.splitlines() if "-" in line.split(" ")[0]]
+    for first in range(0, len(kinds), 100):
+        some = kinds[first:first + 100]
+        script = "".join(f'start={2048 + n}, size=1, type="{name.strip()}"\n' for n, (_, name) in enumerate(some))
+        program.make_zeros("disk.img", SIZE)
+        ended = program.run("apply", "disk.img", "-", "--create", text=script)
+        tally.equals("the status of a script of types", (0, ""), (ended[0], ended[2]))
+        ours = without_guids(table.read(program.file("disk.img")))
+        tally.equals("the types", [guid.lower() for guid, _ in some], [entry.type for entry in ours.values()])
+        tally.equals("the table by sfdisk", without_guids(theirs_of(program, script)[1]), ours)
+    return f"{len(kinds)} types"
+
+
 def try_toml(tally, program):
     """Texts that are read as TOML."""
     for text, told in TOML:
@@ -306,4 +354,4 @@ def try_toml(tally, program):
 
 
 SUBJECTS = {"scripts": in_memory(try_scripts), "scripts that are refused": in_memory(try_refused),
-            "texts that are TOML": in_memory(try_toml)}
+            "types of sfdisk": in_memory(try_kinds), "texts that are TOML": in_memory(try_toml)}

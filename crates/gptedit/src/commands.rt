@@ -5,11 +5,12 @@ use crate::checking::check;
 use crate::failure::Failure;
 use crate::image::{Image, Opening};
 use crate::layouts::{layout_for, read_asked, take_bootable};
-use crate::selecting::number_of;
+use crate::measuring::{Place, measured};
+use crate::selecting::{number_of, selected};
 use crate::task::Task;
 use crate::wiping::clear;
 use crate::{looking, making, tasks};
-use gptedit_core::{Job, RequestedLayout};
+use gptedit_core::{Job, extension, removal};
 use gptedit_look::{Look, Purpose};
 use gptedit_report::types_json;
 use gptedit_text::Parsed;
@@ -187,7 +188,7 @@ fn make<R, W: Write>(
     asked: &Asked<'_>,
 ) -> Result<bool, Failure>
 where
-    R: Files<File = File> + RandomSource + AllocGlobal + Clone + Drop,
+    R: Files<File = File> + RandomSource + Eprint + AllocGlobal + Clone + Drop,
 {
     let options = &asked.options;
     let how = How {
@@ -210,7 +211,7 @@ fn task_of<R>(
     is_fitted: bool,
 ) -> Result<Task, Failure>
 where
-    R: RandomSource + AllocGlobal,
+    R: RandomSource + AllocGlobal + Eprint,
 {
     if let Change::New(asked) = &wanted {
         return making::new(rt, image, look, *asked);
@@ -226,7 +227,7 @@ where
         _ => (),
     }
     let is_growth = matches!(wanted, Change::Grow(_));
-    let job = job_of(rt, image, look, table, wanted, parsed)?;
+    let job = job_of(rt, image, look, table, wanted, parsed, is_fitted)?;
     if !is_fitted && !is_growth {
         return tasks::edit(rt, job);
     }
@@ -245,27 +246,48 @@ fn job_of<R>(
     table: &GPT,
     wanted: Change<'_>,
     parsed: Option<Parsed>,
+    is_fitted: bool,
 ) -> Result<Job, Failure>
 where
-    R: RandomSource + AllocGlobal,
+    R: RandomSource + AllocGlobal + Eprint,
 {
     let alloc = rt.alloc();
     let layout = match (wanted, parsed) {
         (Change::Sort, _) => return Ok(Job::Sort),
-        (Change::Add(layout), _) => layout,
-        (Change::Alter { target, layout }, _) => {
-            let number = number_of(alloc, image.name, table, &target)?;
-            with_number(layout, number)
+        (
+            Change::Add {
+                layout,
+                start,
+                extent,
+            },
+            _,
+        ) => {
+            let place = Place {
+                start,
+                extent,
+                is_fitted,
+            };
+            measured(rt, image, look, table, layout, &place)?
         }
+        (Change::Resize { target, extent }, _) => {
+            let layout = selected(alloc, image.name, extension(alloc, table, target))?;
+            let place = Place {
+                start: None,
+                extent,
+                is_fitted,
+            };
+            measured(rt, image, look, table, layout, &place)?
+        }
+        (Change::Set { target, setting }, _) => {
+            let number = number_of(alloc, image.name, table, &target)?;
+            tasks::setting(rt, image.name, table, number, &setting)?
+        }
+        (Change::SetDisk(guid), _) => tasks::disk_guid(rt, guid)?,
         (Change::Remove(targets), _) => {
-            let mut numbers = Vec::new(alloc);
-            for target in targets.iter() {
-                numbers.push(number_of(alloc, image.name, table, target)?)?;
-            }
-            tasks::removal(alloc, numbers)
+            selected(alloc, image.name, removal(alloc, table, &targets))?
         }
         (Change::Grow(Some(target)), _) => {
-            tasks::extension(alloc, number_of(alloc, image.name, table, &target)?)?
+            selected(alloc, image.name, extension(alloc, table, target))?
         }
         (Change::Randomize, _) => tasks::random_guids(rt, table)?,
         (
@@ -279,14 +301,6 @@ where
         _ => return Err(image.no_table(alloc, look)),
     };
     Ok(Job::Apply(layout))
-}
-
-// Returns the layout, whose requested entry gets this number.
-fn with_number(mut layout: RequestedLayout, number: u32) -> RequestedLayout {
-    for asked in layout.asked.iter_mut() {
-        asked.number = Some(number);
-    }
-    layout
 }
 
 // Returns the task if no table was read: only `apply --create` makes a table.

@@ -10,7 +10,7 @@ use std::io::ErrorKind;
 use std::{fmt, io};
 
 /// The failure of a command.
-#[derive(Drop, Debug)]
+#[derive(Drop)]
 pub enum Failure {
     /// The command was refused, or the disk or a file failed.
     Refused(Report),
@@ -58,8 +58,6 @@ impl fmt::Display for Failure {
         }
     }
 }
-
-impl std::error::Error for Failure {}
 
 impl From<io::Error> for Failure {
     fn from(error: io::Error) -> Failure {

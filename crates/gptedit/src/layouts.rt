@@ -1,9 +1,12 @@
 //! Reads layouts from files.
 
-use crate::failure::{Failure, refuse_failed, refuse_plain};
+use crate::failure::{Failure, refuse, refuse_failed, refuse_plain};
 use gptedit_core::{Mode, RequestedLayout};
-use gptedit_report::Reason;
-use gptedit_text::{LayoutError, MAX_LAYOUT_BYTES, Parsed, is_script, read_layout, read_script};
+use gptedit_report::{NotLayoutText, Reason};
+use gptedit_text::{
+    MAX_LAYOUT_BYTES, NotLayout, Parsed, is_backup, is_script, read_backup, read_layout,
+    read_script,
+};
 use gptman::GPT;
 use std::alloc::Global;
 use std::collections::BTreeSet;
@@ -12,29 +15,39 @@ use std::io::{ErrorKind, Read};
 use std::rt::Files;
 use std::{io, mem};
 
-/// Reads a layout or an `sfdisk` script from a file; `-` is standard input. Call it before the image is opened.
-/// Otherwise the image is locked while standard input is read, and may get the descriptor of a closed standard input.
+/// Reads a layout, an `sfdisk` script or an `sgdisk` backup from a file; `-` is standard input. Call it before the image
+/// is opened. Otherwise the image is locked while standard input is read, and may get the descriptor of a closed standard
+/// input.
 pub fn read_asked<R: Files<File = File> + Input + AllocGlobal>(
     rt: &R,
     file: &str,
 ) -> Result<Parsed, Failure> {
     let alloc = rt.alloc();
-    let text = read_text(rt, file)?;
-    let parsed = if is_script(text.as_str()) {
-        read_script(alloc, text.as_str())
+    let bytes = read_file(rt, file)?;
+    let parsed = if is_backup(&bytes) {
+        read_backup(alloc, bytes)
     } else {
-        read_layout(alloc, text.as_str())
+        let text = match String::from_utf8(bytes) {
+            Ok(text) => text,
+            Err(_) => {
+                let text = "the layout is not a text in UTF-8";
+                return Err(refuse_plain(alloc, file, Reason::BadLayout, text));
+            }
+        };
+        if is_script(text.as_str()) {
+            read_script(alloc, text.as_str())
+        } else {
+            read_layout(alloc, text.as_str())
+        }
     };
-    match parsed {
-        Ok(parsed) => Ok(parsed),
-        Err(error) => Err(not_a_layout(alloc, file, error)),
-    }
+    parsed.map_err(|error| not_a_layout(alloc, file, error))
 }
 
-fn read_text<R: Files<File = File> + Input + AllocGlobal>(
+// Reads a file, which must not be larger than a layout may be.
+fn read_file<R: Files<File = File> + Input + AllocGlobal>(
     rt: &R,
     file: &str,
-) -> Result<String, Failure> {
+) -> Result<Vec<u8>, Failure> {
     let alloc = rt.alloc();
     let read = if file == "-" {
         read_bytes(alloc, &mut rt.reader())
@@ -52,13 +65,7 @@ fn read_text<R: Files<File = File> + Input + AllocGlobal>(
         let text = "the layout is larger than 64 MiB";
         return Err(refuse_plain(alloc, file, Reason::BadLayout, text));
     }
-    match String::from_utf8(bytes) {
-        Ok(text) => Ok(text),
-        Err(_) => {
-            let text = "the layout is not a text in UTF-8";
-            Err(refuse_plain(alloc, file, Reason::BadLayout, text))
-        }
-    }
+    Ok(bytes)
 }
 
 // The length of each read in bytes.
@@ -92,10 +99,10 @@ fn not_read(alloc: Global, file: &str, error: io::Error) -> Failure {
     }
 }
 
-fn not_a_layout(alloc: Global, file: &str, error: LayoutError) -> Failure {
+fn not_a_layout(alloc: Global, file: &str, error: NotLayout) -> Failure {
     match error {
-        LayoutError::OutOfMemory => Failure::OutOfMemory,
-        error => refuse_failed(alloc, file, Reason::BadLayout, &error),
+        NotLayout::OutOfMemory => Failure::OutOfMemory,
+        NotLayout::Errors(errors) => refuse(alloc, file, &NotLayoutText(&errors)),
     }
 }
 

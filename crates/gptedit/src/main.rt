@@ -17,6 +17,7 @@ mod looking;
 mod losses;
 mod making;
 mod mbr;
+mod measuring;
 mod own;
 mod planning;
 mod query;

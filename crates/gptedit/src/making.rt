@@ -89,7 +89,13 @@ pub fn create<R: RandomSource + AllocGlobal>(
         let is = look.sector_size;
         if said != is {
             let key = "sector-size";
-            let other = OtherValue { key, said, is };
+            let form = parsed.form;
+            let other = OtherValue {
+                form,
+                key,
+                said,
+                is,
+            };
             return Err(refuse_failed(rt.alloc(), file, Reason::LayoutMismatch, &other));
         }
     }

@@ -1,18 +1,20 @@
 //! The tasks of the commands that change an existing table.
 
 use crate::drawing::{draw_guid, request_for};
-use crate::failure::Failure;
+use crate::failure::{Failure, refuse_asked, refuse_error};
 use crate::image::Image;
 use crate::planning::ends_with_disk;
+use crate::selecting::selected;
 use crate::task::{Became, Edit, Task, Work};
 use gptedit_core::{
-    Amount, Asked, Bounds, Choice, DEFAULT_ALIGN, Growth, Job, Mode, RequestedLayout, Size,
+    Amount, Asked, Bounds, Choice, DEFAULT_ALIGN, Growth, Job, Mode, NewGuid, RequestedLayout,
+    Setting, Size, Stop, Target, alteration, removal, setting_layout,
 };
 use gptedit_look::{Look, Purpose};
 use gptedit_report::Way;
 use gptguid_core::from_name;
 use gptman::GPT;
-use std::alloc::{AllocError, Global};
+use std::alloc::Global;
 use std::random::RandomSource;
 
 /// Returns the task of a job on the table that was read.
@@ -61,22 +63,44 @@ pub fn grow() -> Task {
     fit(Bounds::Kept, Purpose::Fit)
 }
 
-/// Returns the layout that extends a partition over all that is free after it.
-pub fn extension(alloc: Global, number: u32) -> Result<RequestedLayout, AllocError> {
-    let mut layout = layout_of(alloc, Mode::Change);
-    layout.align = DEFAULT_ALIGN;
-    layout.asked.push(Asked {
-        size: Some(Size::Rest),
-        ..Asked::nothing(Some(number))
-    })?;
+/// Returns the layout that changes a partition.
+pub fn setting<R: RandomSource + AllocGlobal>(
+    rt: &R,
+    image: &str,
+    table: &GPT,
+    number: u32,
+    setting: &Setting,
+) -> Result<RequestedLayout, Failure> {
+    let alloc = rt.alloc();
+    let random = draw_new_guid(rt, setting.guid.unwrap_or(NewGuid::Given([0; 16])))?;
+    match setting_layout(alloc, table, number, setting, random) {
+        Ok(layout) => Ok(layout),
+        Err(Stop::Refused(refusal)) => {
+            let size = table.sector_size;
+            Err(refuse_asked(alloc, image, Some(table), size, &refusal))
+        }
+        Err(Stop::Failed(error)) => Err(refuse_error(alloc, image, &error)),
+    }
+}
+
+/// Returns the layout that sets the GUID of the disk.
+pub fn disk_guid<R: RandomSource + AllocGlobal>(
+    rt: &R,
+    guid: NewGuid,
+) -> Result<RequestedLayout, Failure> {
+    let mut layout = layout_of(rt.alloc(), Mode::Change);
+    layout.disk_guid = Some(draw_new_guid(rt, guid)?);
     Ok(layout)
 }
 
-/// Returns the layout that removes these partitions.
-pub fn removal(alloc: Global, numbers: Vec<u32>) -> RequestedLayout {
-    RequestedLayout {
-        removed: numbers,
-        ..layout_of(alloc, Mode::Change)
+// Returns the GUID, or draws a random one.
+fn draw_new_guid<R: RandomSource + AllocGlobal>(
+    rt: &R,
+    guid: NewGuid,
+) -> Result<[u8; 16], Failure> {
+    match guid {
+        NewGuid::Given(guid) => Ok(guid),
+        NewGuid::Random => draw_guid(rt),
     }
 }
 
@@ -144,14 +168,22 @@ pub fn mend<R: RandomSource + AllocGlobal>(
         Way::RepairBounds => repair(rt, image, look, true),
         Way::Grow => Ok(grow()),
         Way::Randomize => edit(rt, Job::Apply(random_guids(rt, table)?)),
-        Way::Remove(numbers) => edit(rt, Job::Apply(removal(alloc, numbers.clone()?))),
+        Way::Remove(numbers) => {
+            let mut targets = Vec::with_capacity(alloc, numbers.len())?;
+            for number in numbers.iter() {
+                targets.push(Target::Number(*number))?;
+            }
+            let removed = removal(alloc, table, &targets);
+            edit(rt, Job::Apply(selected(alloc, image.name, removed)?))
+        }
         Way::SetGuid(number) => {
-            let mut layout = layout_of(alloc, Mode::Change);
-            layout.asked.push(Asked {
+            let asked = Asked {
                 unique_guid: Some(draw_guid(rt)?),
-                ..Asked::nothing(Some(*number))
-            })?;
-            edit(rt, Job::Apply(layout))
+                ..Asked::nothing(None)
+            };
+            let target = Target::Number(*number);
+            let altered = alteration(alloc, table, target, Amount::Sectors(1), asked);
+            edit(rt, Job::Apply(selected(alloc, image.name, altered)?))
         }
         Way::PutOver(number) => put_over(rt, *number),
     }

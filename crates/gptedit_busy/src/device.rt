@@ -6,7 +6,7 @@ use std::alloc::AllocError;
 use std::rt::Files;
 
 /// A block device.
-#[derive(Drop, Debug)]
+#[derive(Drop)]
 pub struct Device {
     // Its folder, such as `/sys/dev/block/8:0`.
     folder: String,
@@ -15,7 +15,7 @@ pub struct Device {
 }
 
 /// A partition that the kernel knows, or the whole device.
-#[derive(Drop, Debug)]
+#[derive(Drop)]
 pub(crate) struct KnownPart {
     /// The number of the partition; `None` for the whole device.
     pub(crate) number: Option<u32>,

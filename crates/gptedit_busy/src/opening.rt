@@ -15,7 +15,7 @@ use std::rt::Files;
 use std::{fmt, fs, io};
 
 /// The action if another program holds the lock.
-#[derive(Clone, Copy, PartialEq, Eq, Debug)]
+#[derive(Clone, Copy)]
 pub enum Lock {
     /// Waits for it.
     Wait,
@@ -48,7 +48,7 @@ impl Opened {
 }
 
 /// The holder of the lock.
-#[derive(Clone, Copy, PartialEq, Eq, Debug)]
+#[derive(Clone, Copy)]
 pub enum Holder {
     /// A program that started this one.
     Ancestor,
@@ -59,7 +59,7 @@ pub enum Holder {
 }
 
 /// An error of opening an image.
-#[derive(Drop, Debug)]
+#[derive(Drop)]
 pub enum OpenError {
     /// The system does not open it.
     Io(io::Error),

@@ -22,7 +22,7 @@ const ENTRIES: [usize; 4] = [446, 462, 478, 494];
 const PROTECTIVE: u8 = 0xee;
 
 /// The kind of an MBR.
-#[derive(Debug, Clone, Copy, PartialEq, Eq)]
+#[derive(Clone, Copy, PartialEq, Eq)]
 pub enum MbrKind {
     /// No 55 AA; or all bytes of the entries are zero, and there is no FAT, exFAT or NTFS boot sector.
     None,
@@ -37,7 +37,7 @@ pub enum MbrKind {
 }
 
 /// An entry of an MBR that is not protective.
-#[derive(Debug, Clone, Copy, PartialEq, Eq)]
+#[derive(Clone, Copy, PartialEq, Eq)]
 pub struct Listed {
     /// Its number, from 1 to 4.
     pub number: u8,
@@ -50,7 +50,7 @@ pub struct Listed {
 }
 
 /// The MBR of a disk.
-#[derive(Debug, Drop)]
+#[derive(Drop)]
 pub struct FirstSector {
     /// Its kind.
     pub kind: MbrKind,

@@ -14,7 +14,7 @@ use gptman::Disk;
 use std::alloc::{AllocError, Global};
 
 /// Contents recognised by their bytes.
-#[derive(Debug, Clone, Copy)]
+#[derive(Clone, Copy)]
 pub struct Content {
     /// A name for use in a sentence: "an XFS file system".
     pub name: &'static str,

@@ -33,7 +33,7 @@ const ENTRY_SIZE: usize = 16;
 const LAST_END: [u8; 3] = [0xff; 3];
 
 /// The change made to the MBR.
-#[derive(Debug, Clone, Copy, PartialEq, Eq)]
+#[derive(Clone, Copy, PartialEq, Eq)]
 pub enum MbrChange {
     /// It is unchanged.
     Left,

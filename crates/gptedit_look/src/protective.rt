@@ -15,7 +15,7 @@ const ENTRY_SIZE: usize = 16;
 const PROTECTIVE: u8 = 0xee;
 
 /// A protective entry with a wrong length, the only entry of its MBR.
-#[derive(Debug, Clone, Copy, PartialEq, Eq)]
+#[derive(Clone, Copy, PartialEq, Eq)]
 pub struct Misfit {
     /// The index of the entry, from 0 to 3.
     pub entry: usize,

@@ -12,7 +12,7 @@ use crate::signatures::{HeaderPlace, SIGNATURE, place_at};
 use gptman::{Disk, GPTHeader, Result};
 
 /// The fields of a header that begins with `EFI PART`, valid or not.
-#[derive(Debug, Clone, Copy, PartialEq, Eq)]
+#[derive(Clone, Copy, PartialEq, Eq)]
 pub struct RawHeader {
     /// Its first byte on the disk.
     pub at: u64,

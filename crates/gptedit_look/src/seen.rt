@@ -47,7 +47,7 @@ pub enum Looked {
 }
 
 /// The purpose of a write.
-#[derive(Debug, Clone, Copy, PartialEq, Eq)]
+#[derive(Clone, Copy, PartialEq, Eq)]
 pub enum Purpose {
     /// To change the table.
     Edit,
@@ -60,7 +60,7 @@ pub enum Purpose {
 }
 
 /// The kind of an obstacle.
-#[derive(Debug, Clone, Copy, PartialEq, Eq)]
+#[derive(Clone, Copy, PartialEq, Eq)]
 pub enum What {
     /// A DOS disk: a boot loader may be in its first sectors.
     DosDisk,
@@ -89,7 +89,7 @@ pub enum What {
 }
 
 /// An obstacle to a write.
-#[derive(Debug, Clone, Copy, PartialEq, Eq)]
+#[derive(Clone, Copy, PartialEq, Eq)]
 pub struct Obstacle {
     /// Its first sector.
     pub first: u64,

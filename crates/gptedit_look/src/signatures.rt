@@ -14,7 +14,7 @@ use std::alloc::Global;
 pub const SIGNATURE: [u8; 8] = *b"EFI PART";
 
 /// One of the two places of a header.
-#[derive(Debug, Clone, Copy, PartialEq, Eq)]
+#[derive(Clone, Copy, PartialEq, Eq)]
 pub enum HeaderPlace {
     /// Sector 1.
     Start,
@@ -23,7 +23,7 @@ pub enum HeaderPlace {
 }
 
 /// A signature at the place of a header.
-#[derive(Debug, Clone, Copy, PartialEq, Eq)]
+#[derive(Clone, Copy, PartialEq, Eq)]
 pub struct Signature {
     /// The sector size in bytes for which this is such a place.
     pub sector_size: u64,

@@ -10,7 +10,7 @@ use crate::bytes::{ENTRY_SIZE, HEADER_SIZE, start_after, start_of};
 use gptman::{GPT, GPTHeader};
 
 /// A range of bytes.
-#[derive(Debug, Clone, Copy, PartialEq, Eq)]
+#[derive(Clone, Copy, PartialEq, Eq)]
 pub struct Touched {
     /// Its first byte.
     pub start: u64,
@@ -19,7 +19,7 @@ pub struct Touched {
 }
 
 /// The ranges of one copy.
-#[derive(Debug, Clone, Copy, PartialEq, Eq)]
+#[derive(Clone, Copy, PartialEq, Eq)]
 pub struct TouchedCopy {
     /// Its header.
     pub header: Touched,
@@ -28,7 +28,7 @@ pub struct TouchedCopy {
 }
 
 /// The ranges of both copies.
-#[derive(Debug, Clone, Copy, PartialEq, Eq)]
+#[derive(Clone, Copy, PartialEq, Eq)]
 pub struct TouchedTable {
     /// The own copy, whose header the table has.
     pub own: TouchedCopy,

@@ -6,7 +6,7 @@ ghost use Rattle.gptedit_look.specs.Harm.{IsAllowed, IsHarmless, IsKept};
 use gptman::{GPT, GPTPartitionEntry};
 
 /// The part of a disk that is in use.
-#[derive(Clone, Copy, PartialEq, Eq, Debug)]
+#[derive(Clone, Copy, PartialEq, Eq)]
 pub enum Part {
     /// The whole disk.
     Whole,
@@ -15,7 +15,7 @@ pub enum Part {
 }
 
 /// How it is used.
-#[derive(Drop, Debug)]
+#[derive(Drop)]
 pub enum How {
     /// It is mounted at this path.
     Mounted(String),
@@ -30,7 +30,7 @@ pub enum How {
 }
 
 /// A use of a part of a disk.
-#[derive(Drop, Debug)]
+#[derive(Drop)]
 pub struct Use {
     /// The part.
     pub part: Part,
@@ -39,7 +39,7 @@ pub struct Use {
 }
 
 /// The uses of a disk.
-#[derive(Drop, Debug)]
+#[derive(Drop)]
 pub struct Users {
     /// All uses that were found.
     pub uses: Vec<Use>,

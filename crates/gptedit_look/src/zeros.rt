@@ -12,7 +12,7 @@ use gptman::{Disk, Result};
 const BLOCK: u64 = 512;
 
 /// A range of bytes to fill with zeros.
-#[derive(Debug, Clone, Copy, PartialEq, Eq)]
+#[derive(Clone, Copy, PartialEq, Eq)]
 pub struct Zeroed {
     /// Its first byte.
     pub start: u64,

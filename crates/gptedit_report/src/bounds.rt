@@ -5,7 +5,7 @@ use gptman::copy::WholeCopy;
 use std::fmt;
 
 /// The usable sectors of a table, and the sectors between its copies.
-#[derive(Clone, Copy, PartialEq, Eq, Debug)]
+#[derive(Clone, Copy)]
 pub struct Edges {
     /// The first usable sector.
     pub first: u64,
@@ -55,7 +55,7 @@ impl Edges {
 }
 
 /// The sectors of the entries of a good copy.
-#[derive(Clone, Copy, PartialEq, Eq, Debug)]
+#[derive(Clone, Copy)]
 pub struct EntrySectors {
     /// The first sector.
     pub first: u64,

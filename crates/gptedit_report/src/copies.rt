@@ -5,7 +5,7 @@ use gptman::{Error, GPTHeader, Result};
 use std::fmt;
 
 /// The state of the two copies of a table, each read separately.
-#[derive(Clone, Copy, Debug)]
+#[derive(Clone, Copy)]
 pub enum CopiesState<'a> {
     /// Both are good and one table, each in its place.
     Good,

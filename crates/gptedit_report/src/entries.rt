@@ -7,7 +7,7 @@ use std::collections::{BTreeMap, BTreeSet};
 use std::fmt;
 
 /// A fault of entries, by their numbers.
-#[derive(Clone, Copy, PartialEq, Eq, Debug)]
+#[derive(Clone, Copy)]
 pub enum EntryFault {
     /// A used entry ends before it starts.
     EndsBefore { number: u32, first: u64, last: u64 },

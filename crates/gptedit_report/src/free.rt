@@ -17,7 +17,7 @@ const COLUMNS: [Column; 4] = [
 ];
 
 /// Free sectors between two others.
-#[derive(Clone, Copy, PartialEq, Eq, Debug)]
+#[derive(Clone, Copy)]
 pub struct FreeRange {
     /// The first sector.
     pub start: u64,

@@ -9,7 +9,7 @@ use std::fmt;
 const UNNAMED_BITS: u64 = 0x0000_ffff_ffff_fff8;
 
 /// A field of a partition that a script does not hold in full.
-#[derive(Clone, Copy, PartialEq, Eq, Debug)]
+#[derive(Clone, Copy)]
 pub enum Loss {
     /// Bits 3 to 47 of the attributes of the partition with this number.
     Attributes(u32),

@@ -9,7 +9,7 @@ use std::alloc::AllocError;
 use std::fmt;
 
 /// The contents of the place of a broken copy, which only `repair` overwrites.
-#[derive(Clone, Copy, PartialEq, Eq, Debug)]
+#[derive(Clone, Copy)]
 pub enum Remains {
     /// The entries of the table.
     SameEntries,

@@ -1,10 +1,10 @@
 //! Why a command failed, as codes for programs.
 
-use gptedit_core::Refusal;
+use gptedit_core::{Refusal, Unmeasured};
 use gptedit_look::What;
 
 /// Why a command failed.
-#[derive(Clone, Copy, PartialEq, Eq, Debug)]
+#[derive(Clone, Copy)]
 pub enum Reason {
     /// The disk has no good copy of a table.
     NoTable,
@@ -14,6 +14,8 @@ pub enum Reason {
     BadTable,
     /// The request is refused for this table.
     Request(Refusal),
+    /// The stated place cannot be measured.
+    Place(Unmeasured),
     /// No partition has this name or GUID.
     NoPartition,
     /// Several partitions have this name or GUID.
@@ -72,6 +74,7 @@ impl Reason {
             Reason::TooManyEntries => "too-many-entries",
             Reason::BadTable => "bad-table",
             Reason::Request(refusal) => code_of_refusal(refusal),
+            Reason::Place(unmeasured) => code_of_place(unmeasured),
             Reason::NoPartition => "no-partition",
             Reason::SeveralPartitions => "several-partitions",
             Reason::NoValue => "no-value",
@@ -137,6 +140,19 @@ fn code_of_refusal(refusal: Refusal) -> &'static str {
     }
 }
 
+// Returns the code of a place that cannot be measured.
+fn code_of_place(unmeasured: Unmeasured) -> &'static str {
+    match unmeasured {
+        Unmeasured::NotWhole(amount) => code_of_refusal(Refusal::NotWhole(amount)),
+        Unmeasured::NoAlignment => code_of_refusal(Refusal::NoAlignment),
+        Unmeasured::NoSize => code_of_refusal(Refusal::NoSize(0)),
+        Unmeasured::TooLarge => code_of_refusal(Refusal::TooLarge(0)),
+        Unmeasured::NoPartition => code_of_refusal(Refusal::IsUnused(0)),
+        Unmeasured::NoStart => "no-start",
+        Unmeasured::BeforeStart => "before-start",
+    }
+}
+
 // Returns the code of data that would be overwritten.
 fn code_of_data(what: What) -> &'static str {
     match what {
@@ -156,7 +172,7 @@ fn code_of_data(what: What) -> &'static str {
 }
 
 /// An option that permits a refused command.
-#[derive(Clone, Copy, PartialEq, Eq, Debug)]
+#[derive(Clone, Copy)]
 pub enum Lift {
     /// `--overwrite`
     Overwrite,

@@ -111,7 +111,9 @@ impl RefusalText<'_> {
 
     fn write_is_used<W: fmt::Write>(&self, f: &mut fmt::Formatter<W>, number: u32) -> fmt::Result {
         self.write_entry(f, number)?;
-        f.write_str(" already exists\nwithout --number, the lowest unused entry is used")
+        f.write_str(
+            " already exists\nuse the number of an unused entry; add without --number takes the lowest",
+        )
     }
 
     fn write_is_unused<W: fmt::Write>(
@@ -177,7 +179,7 @@ impl RefusalText<'_> {
 }
 
 // Writes that an amount is not a whole number of sectors, and the next one that is, in bytes and in sectors.
-fn write_not_whole<W: fmt::Write>(
+pub(crate) fn write_not_whole<W: fmt::Write>(
     f: &mut fmt::Formatter<W>,
     amount: Amount,
     sector_size: u64,

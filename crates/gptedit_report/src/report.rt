@@ -22,10 +22,65 @@ pub trait Message: fmt::Display {
     fn add_commands(&self, _commands: &mut Commands) -> Result<(), AllocError> {
         Ok(())
     }
+
+    /// Adds the errors of a text, in its order.
+    fn add_errors(&self, _lines: &mut ErrorLines) -> Result<(), AllocError> {
+        Ok(())
+    }
+}
+
+/// The errors of a text, with their lines.
+#[derive(Drop, Debug)]
+pub struct ErrorLines {
+    alloc: Global,
+    list: Vec<ErrorLine>,
+}
+
+// An error in a line of a text.
+#[derive(Drop, Debug)]
+struct ErrorLine {
+    line: Option<usize>,
+    message: String,
+}
+
+impl ErrorLines {
+    /// Returns no errors.
+    pub fn new(alloc: Global) -> ErrorLines {
+        ErrorLines {
+            alloc,
+            list: Vec::new(alloc),
+        }
+    }
+
+    /// Adds an error in this line, if that is known.
+    pub fn add<E: fmt::Display>(
+        &mut self,
+        line: Option<usize>,
+        error: &E,
+    ) -> Result<(), AllocError> {
+        let message = format!(in self.alloc; "{error}")?;
+        self.list.push(ErrorLine { line, message })?;
+        Ok(())
+    }
+
+    // Returns the errors as objects.
+    fn values(&self) -> Result<Vec<Value>, AllocError> {
+        let mut values = Vec::with_capacity(self.alloc, self.list.len())?;
+        for error in self.list.iter() {
+            let mut members = Members::new(self.alloc);
+            match error.line {
+                Some(line) => members.put_number("line", line as u64)?,
+                None => members.put("line", Value::Null)?,
+            }
+            members.put_text("message", error.message.as_str())?;
+            values.push(members.into_value())?;
+        }
+        Ok(values)
+    }
 }
 
 /// Command lines that a message names, each as a list of words.
-#[derive(Drop, Debug)]
+#[derive(Drop)]
 pub struct Commands {
     alloc: Global,
     lines: Vec<Vec<String>>,
@@ -133,7 +188,7 @@ impl<E: fmt::Display> Message for FailedText<'_, E> {
 }
 
 /// A failure of a command.
-#[derive(Drop, Debug)]
+#[derive(Drop)]
 pub struct Report {
     /// The reason.
     pub reason: Reason,
@@ -143,6 +198,8 @@ pub struct Report {
     pub lifted_by: Option<Lift>,
     /// The command lines that the message names.
     pub commands: Commands,
+    /// The errors of a text.
+    pub errors: ErrorLines,
 }
 
 impl Report {
@@ -150,16 +207,20 @@ impl Report {
     pub fn new<M: Message>(alloc: Global, of: &str, message: &M) -> Result<Report, AllocError> {
         let mut commands = Commands::new(alloc);
         message.add_commands(&mut commands)?;
+        let mut errors = ErrorLines::new(alloc);
+        message.add_errors(&mut errors)?;
         Ok(Report {
             reason: message.reason(),
             message: format!(in alloc; "{}: {message}", Escaped(of))?,
             lifted_by: message.lifted_by(),
             commands,
+            errors,
         })
     }
 
     /// Returns the failure as JSON: `error` with the `code`, the `message`, the option that permits the command
-    /// (`lifted_by`) or null, and the command lines that the message names (`mend`), each as a list of words.
+    /// (`lifted_by`) or null, and the command lines that the message names (`mend`), each as a list of words. For a text
+    /// that is not a layout also its `errors`, each with its `line`, from 1 or null, and its `message`.
     pub fn to_json(&self, alloc: Global) -> Result<String, AllocError> {
         let mut error = Members::new(alloc);
         error.put_text("code", self.reason.code())?;
@@ -169,6 +230,10 @@ impl Report {
             None => error.put("lifted_by", Value::Null)?,
         }
         error.put_list("mend", self.commands.values()?)?;
+        let errors = self.errors.values()?;
+        if !errors.is_empty() {
+            error.put_list("errors", errors)?;
+        }
         let mut members = Members::new(alloc);
         members.put("error", error.into_value())?;
         print_json(alloc, &members.into_value())

@@ -5,7 +5,7 @@ use std::alloc::{AllocError, Global};
 use std::fmt;
 
 /// A command that may correct a finding.
-#[derive(Clone, Drop, Debug, PartialEq, Eq)]
+#[derive(Clone, Drop, PartialEq, Eq)]
 pub enum Way {
     /// `repair`
     Repair,
@@ -43,7 +43,7 @@ impl Way {
 }
 
 /// The advice if no command corrects a finding.
-#[derive(Clone, Copy, PartialEq, Eq, Debug)]
+#[derive(Clone, Copy)]
 pub enum Otherwise {
     /// Copy the disk first: there is no table.
     Save,

@@ -1,7 +1,8 @@
 -- The meaning of values of a layout in TOML.
-use Rattle.std.specs.Prelude.{◌≡◌, ◌<◌, ◌^◌, ℕ, pos, List, [], ◌∷◌, Option, None, Some}
+use Rattle.std.specs.Prelude.{◌≡◌, ◌<◌, ◌^◌, ℕ, pos, List, [], ◌∷◌, Option, None, Some, Result, Ok, Err, IfOk}
 use Rattle.toml.specs.Data.{Data, Items, array, boolean, datetime, float, integer, item, no_items, string, table}
 use Rattle.gptedit_values.specs.Words.{HasBitsOf, SaysBit}
+use Rattle.gptedit_text.specs.declared.error.LayoutError.{LayoutError}
 
 -- The value is the bit of an attribute, as a word or as a number.
 abbrev pub SaysBitOf : Data → ℕ → Type 0
@@ -42,3 +43,8 @@ GivesAttributesOf None None = Unit {0}
 GivesAttributesOf (Some value) (Some attributes) = SaysAttributesOf value attributes
 GivesAttributesOf None (Some attributes) = ⊥
 GivesAttributesOf (Some value) None = ⊥
+
+-- A value that was read is kept. Without one there is none.
+abbrev pub IsKept : {A : Type 0} → Result A LayoutError → Result (Option A) LayoutError → Type 0
+IsKept (Ok value) result = result ≡ Ok (Some value)
+IsKept (Err error) result = IfOk result (λ kept. kept ≡ None)

@@ -29,11 +29,6 @@ impl Entries {
         }
     }
 
-    /// Reports whether there are no requests.
-    pub fn is_empty(&self) -> bool {
-        self.asked.is_empty()
-    }
-
     /// Returns the number after that of the last request, or 1 for the first one. `None` if it would exceed 32 bits.
     pub fn next_number(&self) -> Option<u32> {
         self.last.checked_add(1)
@@ -44,21 +39,30 @@ impl Entries {
         self.lowest
     }
 
-    /// Adds the request for the entry with this number, from this place in the text. Fails with `Taken` if another
-    /// request has the number.
-    pub fn add(&mut self, place: TextPlace, number: u32, asked: Asked) -> Result<(), LayoutError> {
+    /// Takes the number for a request from this place in the text. Fails with `Taken` if another request has it.
+    pub fn take_number(&mut self, place: TextPlace, number: u32) -> Result<(), LayoutError> {
+        self.last = number;
         if !self.numbers.insert(number)? {
             return Err(place.fault("number", Fault::Taken(number)));
         }
-        self.last = number;
         self.raise_lowest();
+        Ok(())
+    }
+
+    /// Passes a request whose number is wrong.
+    pub fn skip_number(&mut self) {
+        self.last = self.last.saturating_add(1);
+    }
+
+    /// Adds a request.
+    pub fn add(&mut self, asked: Asked) -> Result<(), LayoutError> {
         self.asked.push(asked)?;
         Ok(())
     }
 
-    /// Fails with `SecondRest` if this request has the size `rest` and an earlier one has it too.
-    pub fn check_rest(&mut self, place: TextPlace, asked: &Asked) -> Result<(), LayoutError> {
-        if asked.size != Some(Size::Rest) {
+    /// Fails with `SecondRest` if this size is `rest` and an earlier request has it too.
+    pub fn check_rest(&mut self, place: TextPlace, size: Option<Size>) -> Result<(), LayoutError> {
+        if size != Some(Size::Rest) {
             return Ok(());
         }
         if self.has_rest {

@@ -1,10 +1,13 @@
 //! Errors of texts that are not layouts.
 
 mod fault;
+mod list;
 mod section;
 
 pub use fault::Fault;
 use gptedit_values::Escaped;
+use gptman::Error;
+pub use list::{ErrorList, NotLayout};
 pub use section::Section;
 use std::alloc::{AllocError, AllocFailed};
 use std::fmt;
@@ -31,8 +34,24 @@ pub enum LayoutError {
         key: &'static str,
         fault: Fault,
     },
+    /// The backup of `sgdisk` has a fault in this part.
+    Backup {
+        part: BackupPart,
+        error: Error,
+    },
     /// An allocation failed.
     OutOfMemory,
+}
+
+/// A part of a backup of `sgdisk`.
+#[derive(Clone, Copy, PartialEq, Eq, Debug)]
+pub enum BackupPart {
+    /// The header of the primary copy.
+    Primary,
+    /// The header of the backup copy.
+    Backup,
+    /// The entries.
+    Entries,
 }
 
 /// A place in a text.
@@ -66,7 +85,38 @@ impl fmt::Display for LayoutError {
                 let section = place.section;
                 write!(f, "{key} of {section}: {fault}")
             }
+            LayoutError::Backup { part, error } => {
+                let fault = BackupFault(error);
+                write!(f, "the file is a backup of sgdisk, but {part}: {fault}")
+            }
             LayoutError::OutOfMemory => f.write_str("out of memory"),
+        }
+    }
+}
+
+impl fmt::Display for BackupPart {
+    fn fmt<W: fmt::Write>(&self, f: &mut fmt::Formatter<W>) -> fmt::Result {
+        f.write_str(match self {
+            BackupPart::Primary => "its primary header is damaged",
+            BackupPart::Backup => "its backup header is damaged",
+            BackupPart::Entries => "its entries are damaged",
+        })
+    }
+}
+
+// A fault of a backup, for use within a sentence.
+#[derive(Clone, Copy)]
+struct BackupFault<'a>(&'a Error);
+
+impl fmt::Display for BackupFault<'_> {
+    fn fmt<W: fmt::Write>(&self, f: &mut fmt::Formatter<W>) -> fmt::Result {
+        match self.0 {
+            Error::Io(_) => f.write_str("the file is too short"),
+            Error::InvalidSignature => f.write_str("the signature is wrong"),
+            Error::InvalidChecksum(_, _) | Error::InvalidPartitionEntryArrayChecksum(_, _) => {
+                f.write_str("the checksum is wrong")
+            }
+            error => write!(f, "{error}"),
         }
     }
 }
@@ -109,6 +159,17 @@ impl From<AllocError> for LayoutError {
 impl<T: Drop> From<AllocFailed<T>> for LayoutError {
     fn from(_error: AllocFailed<T>) -> LayoutError {
         LayoutError::OutOfMemory
+    }
+}
+
+impl LayoutError {
+    /// Returns the line, from 1, if it is known.
+    pub fn line(&self) -> Option<usize> {
+        match self {
+            LayoutError::Syntax { line, .. } => Some(*line),
+            LayoutError::Unknown { place, .. } | LayoutError::Fault { place, .. } => place.line,
+            LayoutError::Empty | LayoutError::Backup { .. } | LayoutError::OutOfMemory => None,
+        }
     }
 }
 

@@ -1,6 +1,6 @@
 //! Reads layouts in TOML.
 
-ghost use Rattle.std.specs.Prelude.{◌≡◌, codes, IfOk, Some};
+ghost use Rattle.std.specs.Prelude.{◌≡◌, codes, IfOk, IfSome, Some};
 ghost use Rattle.toml.specs.Data.{get_member};
 ghost use Rattle.toml.specs.View.{table_view};
 ghost use Rattle.gptedit_text.specs.Layouts.{GivesAttributesOf};
@@ -9,11 +9,11 @@ mod keyed;
 
 use crate::Parsed;
 use crate::entries::{Entries, read_name};
-use crate::error::{Fault, LayoutError, Section};
+use crate::error::{ErrorList, Fault, LayoutError, NotLayout, Section};
 use crate::layout::keyed::Keyed;
-use crate::lines::{position_of, with_line};
+use crate::lines::position_of;
 use crate::table_header::{Form, Header};
-use gptedit_core::{Amount, Asked, DEFAULT_ALIGN};
+use gptedit_core::{Amount, Asked, DEFAULT_ALIGN, Size};
 use gptedit_values::{read_amount, read_guid, read_sector, read_size, read_type, read_units};
 use gptman::PartitionName;
 use std::alloc::Global;
@@ -43,8 +43,25 @@ use toml::{Table, Value};
 /// first; the default of `align` is 1 MiB. One partition may have the size `rest`. Instead of `name` there may be
 /// `name-utf16 = "0041 d800"`, the UTF-16 units of the name. The mode of the layout is `Become { replace: false }`.
 ///
-/// A text without any key fails with `Empty`; one with only `[disk]` is a layout without partitions.
-pub fn read_layout(alloc: Global, text: &str) -> Result<Parsed, LayoutError> {
+/// A text without any key fails with `Empty`; one with only `[disk]` is a layout without partitions. The errors are
+/// those of all keys, unless the text is not TOML.
+pub fn read_layout(alloc: Global, text: &str) -> Result<Parsed, NotLayout> {
+    let mut errors = ErrorList::new(alloc);
+    let parsed = match read_table(alloc, text, &mut errors) {
+        Ok(parsed) => parsed,
+        Err(error) => return Err(NotLayout::of(alloc, error)),
+    };
+    if errors.is_empty() {
+        return Ok(parsed);
+    }
+    match errors.with_lines(alloc, text) {
+        Ok(errors) => Err(NotLayout::Errors(errors)),
+        Err(_) => Err(NotLayout::OutOfMemory),
+    }
+}
+
+// Reads a layout. Wrong keys and values are added to the errors, and left out.
+fn read_table(alloc: Global, text: &str, errors: &mut ErrorList) -> Result<Parsed, LayoutError> {
     let table = match toml::table_from_str(alloc, text) {
         Ok(table) => table,
         Err(error) => return Err(syntax_error(text, error)),
@@ -52,10 +69,7 @@ pub fn read_layout(alloc: Global, text: &str) -> Result<Parsed, LayoutError> {
     if table.is_empty() {
         return Err(LayoutError::Empty);
     }
-    match parsed_of(alloc, &table) {
-        Ok(parsed) => Ok(parsed),
-        Err(error) => Err(with_line(error, text)),
-    }
+    parsed_of(alloc, &table, errors)
 }
 
 // An error without a span is an allocation failure.
@@ -73,11 +87,11 @@ fn syntax_error(text: &str, error: toml::de::Error) -> LayoutError {
     }
 }
 
-fn parsed_of(alloc: Global, table: &Table) -> Result<Parsed, LayoutError> {
+fn parsed_of(alloc: Global, table: &Table, errors: &mut ErrorList) -> Result<Parsed, LayoutError> {
     let file = Keyed::new(table, Section::File);
-    file.check_keys(alloc)?;
-    let disk = read_disk(alloc, &file)?;
-    let entries = read_entries(alloc, &file)?;
+    file.check_keys(alloc, errors)?;
+    let disk = read_disk(alloc, &file, errors)?;
+    let entries = read_entries(alloc, &file, errors)?;
     Ok(Parsed {
         layout: entries.into_layout(alloc, disk.guid, disk.align),
         header: disk.header,
@@ -94,34 +108,45 @@ struct Disk {
     header: Header,
 }
 
-fn read_disk(alloc: Global, file: &Keyed<'_>) -> Result<Disk, LayoutError> {
-    let Some(value) = file.get("disk") else {
-        return Ok(Disk {
+impl Disk {
+    fn nothing() -> Disk {
+        Disk {
             guid: None,
             align: DEFAULT_ALIGN,
             header: Header::nothing(),
-        });
+        }
+    }
+}
+
+fn read_disk(alloc: Global, file: &Keyed<'_>, errors: &mut ErrorList) -> Result<Disk, LayoutError> {
+    let Some(value) = file.get("disk") else {
+        return Ok(Disk::nothing());
     };
     let Some(table) = value.as_table() else {
-        return Err(file.fault("disk", Fault::NotTable));
+        errors.add(file.fault("disk", Fault::NotTable))?;
+        return Ok(Disk::nothing());
     };
     let disk = Keyed::new(table, Section::Disk);
-    disk.check_keys(alloc)?;
+    disk.check_keys(alloc, errors)?;
+    let guid = errors.keep(disk.word("guid", |text| read_guid(text)))?;
+    let align = errors.keep(disk.word("align", |text| read_amount(text)))?;
     Ok(Disk {
-        guid: disk.word("guid", |text| read_guid(text))?,
-        align: disk
-            .word("align", |text| read_amount(text))?
-            .unwrap_or(DEFAULT_ALIGN),
-        header: read_header(&disk)?,
+        guid: guid.flatten(),
+        align: align.flatten().unwrap_or(DEFAULT_ALIGN),
+        header: read_header(&disk, errors)?,
     })
 }
 
-fn read_header(disk: &Keyed<'_>) -> Result<Header, LayoutError> {
+fn read_header(disk: &Keyed<'_>, errors: &mut ErrorList) -> Result<Header, LayoutError> {
+    let sector_size = errors.keep(read_sector_size(disk))?;
+    let entries = errors.keep(disk.count("entries"))?;
+    let first_usable = errors.keep(disk.word("first-usable", |text| read_sector(text)))?;
+    let last_usable = errors.keep(disk.word("last-usable", |text| read_sector(text)))?;
     Ok(Header {
-        sector_size: read_sector_size(disk)?,
-        entries: disk.count("entries")?,
-        first_usable: disk.word("first-usable", |text| read_sector(text))?,
-        last_usable: disk.word("last-usable", |text| read_sector(text))?,
+        sector_size: sector_size.flatten(),
+        entries: entries.flatten(),
+        first_usable: first_usable.flatten(),
+        last_usable: last_usable.flatten(),
     })
 }
 
@@ -134,64 +159,110 @@ fn read_sector_size(disk: &Keyed<'_>) -> Result<Option<u64>, LayoutError> {
     }
 }
 
-fn read_entries(alloc: Global, file: &Keyed<'_>) -> Result<Entries, LayoutError> {
+fn read_entries(
+    alloc: Global,
+    file: &Keyed<'_>,
+    errors: &mut ErrorList,
+) -> Result<Entries, LayoutError> {
     let mut entries = Entries::new(alloc);
     let Some(value) = file.get("partition") else {
         return Ok(entries);
     };
     let Some(list) = value.as_array() else {
-        return Err(file.fault("partition", Fault::NotTables));
+        errors.add(file.fault("partition", Fault::NotTables))?;
+        return Ok(entries);
     };
     for (index, value) in list.iter().enumerate() {
         let Some(table) = value.as_table() else {
-            return Err(file.fault("partition", Fault::NotTables));
+            errors.add(file.fault("partition", Fault::NotTables))?;
+            return Ok(entries);
         };
         let section = Section::Partition(index.saturating_add(1));
-        add_entry(alloc, &mut entries, &Keyed::new(table, section))?;
+        add_entry(alloc, &mut entries, &Keyed::new(table, section), errors)?;
     }
     Ok(entries)
 }
 
-// Adds the request of one `[[partition]]`.
+// Adds the request of one `[[partition]]`, unless a key or value is wrong.
 fn add_entry(
     alloc: Global,
     entries: &mut Entries,
     partition: &Keyed<'_>,
+    errors: &mut ErrorList,
 ) -> Result<(), LayoutError> {
-    partition.check_keys(alloc)?;
-    let number = match partition.get("number") {
-        Some(value) => read_number(value),
-        None => entries.next_number(),
+    partition.check_keys(alloc, errors)?;
+    let number = match errors.keep(read_number(entries, partition))? {
+        Some(number) => {
+            errors.keep(entries.take_number(partition.place(), number))?;
+            number
+        }
+        None => {
+            entries.skip_number();
+            1
+        }
     };
-    let Some(number) = number else {
-        return Err(partition.fault("number", Fault::NotNumber));
-    };
-    let asked = read_entry(alloc, partition, number)?;
-    entries.check_rest(partition.place(), &asked)?;
-    entries.add(partition.place(), number, asked)
-}
-
-fn read_number(value: &Value) -> Option<u32> {
-    match value {
-        Value::Integer(number) if *number > 0 => u32::try_from(*number).ok(),
-        _ => None,
+    let size = errors.keep(read_some_size(entries, partition))?;
+    match read_entry(alloc, partition, number, size, errors)? {
+        Some(asked) => entries.add(asked),
+        None => Ok(()),
     }
 }
 
-// Reads the request for the entry of this number.
-fn read_entry(alloc: Global, partition: &Keyed<'_>, number: u32) -> Result<Asked, LayoutError>
-    ensures number { IfOk result (λ asked. asked.number ≡ Some number) }
-    ensures attributes { IfOk result (λ asked. GivesAttributesOf (get_member (codes "attributes") (table_view partition.now.table.now)) asked.attributes) }
+// Reads the number of a partition, or returns the one after the previous partition.
+fn read_number(entries: &Entries, partition: &Keyed<'_>) -> Result<u32, LayoutError> {
+    let number = match partition.get("number") {
+        Some(Value::Integer(number)) if *number > 0 => u32::try_from(*number).ok(),
+        Some(_) => None,
+        None => entries.next_number(),
+    };
+    number.ok_or(partition.fault("number", Fault::NotNumber))
+}
+
+// Reads the size of a partition. It must be the only one that is `rest`.
+fn read_some_size(
+    entries: &mut Entries,
+    partition: &Keyed<'_>,
+) -> Result<Option<Size>, LayoutError> {
+    let size = partition.word("size", |text| read_size(text))?;
+    entries.check_rest(partition.place(), size)?;
+    Ok(size)
+}
+
+// Reads the request for the entry of this number, with this size. `None` if a value is wrong.
+fn read_entry(
+    alloc: Global,
+    partition: &Keyed<'_>,
+    number: u32,
+    size: Option<Option<Size>>,
+    errors: &mut ErrorList,
+) -> Result<Option<Asked>, LayoutError>
+    ensures number { IfOk result (λ read. IfSome read (λ asked. asked.number ≡ Some number)) }
+    ensures attributes { IfOk result (λ read. IfSome read (λ asked. GivesAttributesOf (get_member (codes "attributes") (table_view partition.now.table.now)) asked.attributes)) }
 {
-    Ok(Asked {
-        type_guid: partition.word("type", |text| read_type(text))?,
-        unique_guid: partition.word("guid", |text| read_guid(text))?,
-        attributes: partition.attributes("attributes")?,
-        name: read_some_name(alloc, partition)?,
-        start: partition.word("start", |text| read_amount(text))?,
-        size: partition.word("size", |text| read_size(text))?,
-        ..Asked::nothing(Some(number))
-    })
+    let type_guid = errors.keep(partition.word("type", |text| read_type(text)))?;
+    let unique_guid = errors.keep(partition.word("guid", |text| read_guid(text)))?;
+    let attributes = errors.keep(partition.attributes("attributes"))?;
+    let name = errors.keep(read_some_name(alloc, partition))?;
+    let start = errors.keep(partition.word("start", |text| read_amount(text)))?;
+    match (type_guid, unique_guid, attributes, name, start, size) {
+        (
+            Some(type_guid),
+            Some(unique_guid),
+            Some(attributes),
+            Some(name),
+            Some(start),
+            Some(size),
+        ) => Ok(Some(Asked {
+            type_guid,
+            unique_guid,
+            attributes,
+            name,
+            start,
+            size,
+            ..Asked::nothing(Some(number))
+        })),
+        _ => Ok(None),
+    }
 }
 
 // Reads the name of a partition, from its text or from its units.

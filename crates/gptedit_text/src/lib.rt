@@ -1,6 +1,7 @@
-//! Reads layouts of partition tables from TOML and from scripts of `sfdisk`, and writes them as TOML.
+//! Reads layouts of partition tables from TOML, scripts of `sfdisk` and backups of `sgdisk`, and writes them as TOML.
 #![tactic(auto)]
 
+pub mod backup;
 mod creation;
 pub mod dump;
 mod entries;
@@ -10,8 +11,9 @@ mod lines;
 pub mod script;
 pub mod table_header;
 
+pub use backup::{is_backup, read_backup};
 pub use dump::{has_whole_text, write_layout};
-pub use error::LayoutError;
+pub use error::{ErrorList, LayoutError, NotLayout};
 use gptedit_core::RequestedLayout;
 pub use layout::read_layout;
 pub use script::{is_script, read_script};
@@ -21,7 +23,7 @@ pub use table_header::{Form, Header, OtherValue};
 pub const MAX_LAYOUT_BYTES: u64 = 64 << 20;
 
 /// A layout that was read, and the header of its table.
-#[derive(Drop, Debug)]
+#[derive(Drop)]
 pub struct Parsed {
     /// The layout.
     pub layout: RequestedLayout,

@@ -1,13 +1,15 @@
 //! Reads scripts of `sfdisk`, as `sfdisk --dump` prints them and as people write them.
 
+mod extents;
 mod fields;
 mod header_lines;
+mod kinds;
 mod token;
 mod words;
 
 use crate::Parsed;
 use crate::entries::Entries;
-use crate::error::{LayoutError, Section, TextPlace};
+use crate::error::{ErrorList, LayoutError, NotLayout, Section, TextPlace};
 use crate::script::fields::{is_partition, read_line};
 use crate::script::header_lines::{HeaderLines, header_of, is_header};
 use crate::table_header::Form;
@@ -39,10 +41,21 @@ pub fn is_script(text: &str) -> bool {
 /// no attributes. Starts and sizes are sectors of the table, or bytes with a unit, from `KiB` to `EiB`. A sign before
 /// them is ignored, since `sfdisk` reads it only where it changes one partition (`-N`); without a number it means the
 /// default. `bootable`, or the MARK `*` or `+`, sets the attribute `legacy-boot`.
-pub fn read_script(alloc: Global, text: &str) -> Result<Parsed, LayoutError> {
+///
+/// The errors are the first of each line.
+pub fn read_script(alloc: Global, text: &str) -> Result<Parsed, NotLayout> {
+    let mut errors = ErrorList::new(alloc);
+    match read_lines(alloc, text, &mut errors) {
+        Ok(parsed) if errors.is_empty() => Ok(parsed),
+        Ok(_) => Err(NotLayout::Errors(errors)),
+        Err(error) => Err(NotLayout::of(alloc, error)),
+    }
+}
+
+// Reads a script. Wrong lines are added to the errors, and left out.
+fn read_lines(alloc: Global, text: &str, errors: &mut ErrorList) -> Result<Parsed, LayoutError> {
     let mut headers = HeaderLines::new();
-    let mut entries = Entries::new(alloc);
-    let mut bootable = Vec::new(alloc);
+    let mut partitions = Partitions::new(alloc);
     for (index, line) in text.lines().enumerate() {
         let line = line.trim();
         if ends_script(line) {
@@ -51,25 +64,54 @@ pub fn read_script(alloc: Global, text: &str) -> Result<Parsed, LayoutError> {
         let number = index.checked_add(1);
         match header_of(line) {
             _ if !is_said(line) => (),
-            Some((name, value)) if entries.is_empty() => {
-                headers.read(alloc, place_in(Section::Header, number), name, value)?;
+            Some((name, value)) if !partitions.has_lines => {
+                let place = place_in(Section::Header, number);
+                errors.keep(headers.read(alloc, place, name, value))?;
             }
             _ => {
                 let place = place_in(Section::Line, number);
-                let partition = read_line(alloc, place, entries.lowest_number(), line)?;
-                if partition.is_bootable {
-                    bootable.push(partition.number)?;
-                }
-                entries.add(place, partition.number, partition.asked)?;
+                errors.keep(partitions.read(alloc, place, line))?;
             }
         }
     }
     Ok(Parsed {
-        layout: entries.into_layout(alloc, headers.disk_guid, headers.align),
+        layout: partitions
+            .entries
+            .into_layout(alloc, headers.disk_guid, headers.align),
         header: headers.header,
         form: Form::Script,
-        bootable,
+        bootable: partitions.bootable,
     })
+}
+
+// The partitions that were read.
+#[derive(Drop)]
+struct Partitions {
+    entries: Entries,
+    bootable: Vec<u32>,
+    // Whether there was a line of a partition.
+    has_lines: bool,
+}
+
+impl Partitions {
+    fn new(alloc: Global) -> Partitions {
+        Partitions {
+            entries: Entries::new(alloc),
+            bootable: Vec::new(alloc),
+            has_lines: false,
+        }
+    }
+
+    // Reads the line of one more partition.
+    fn read(&mut self, alloc: Global, place: TextPlace, line: &str) -> Result<(), LayoutError> {
+        self.has_lines = true;
+        let partition = read_line(alloc, place, self.entries.lowest_number(), line)?;
+        self.entries.take_number(place, partition.number)?;
+        if partition.is_bootable {
+            self.bootable.push(partition.number)?;
+        }
+        self.entries.add(partition.asked)
+    }
 }
 
 // Reports whether the line is neither empty nor a comment.

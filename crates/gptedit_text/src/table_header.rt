@@ -4,7 +4,7 @@ use gptman::GPT;
 use std::fmt;
 
 /// The values of a layout for the header of its table. `None` means that the layout does not have the value.
-#[derive(Clone, Copy, PartialEq, Eq, Debug)]
+#[derive(Clone, Copy)]
 pub struct Header {
     /// The size of a sector in bytes.
     pub sector_size: Option<u64>,
@@ -17,17 +17,21 @@ pub struct Header {
 }
 
 /// The form of the text of a layout.
-#[derive(Clone, Copy, PartialEq, Eq, Debug)]
+#[derive(Clone, Copy)]
 pub enum Form {
     /// TOML.
     Toml,
     /// A script of `sfdisk`.
     Script,
+    /// A backup of `sgdisk`.
+    Backup,
 }
 
 /// A value of a header that differs from that of a table.
-#[derive(Clone, Copy, PartialEq, Eq, Debug)]
+#[derive(Clone, Copy)]
 pub struct OtherValue {
+    /// The form of the text.
+    pub form: Form,
     /// The key of the value.
     pub key: &'static str,
     /// The value in the layout.
@@ -62,26 +66,31 @@ impl Header {
     pub fn check(&self, form: Form, table: &GPT) -> Result<(), OtherValue> {
         let [sector_size, entries, first_usable, last_usable] = form.keys();
         let header = &table.header;
-        expect(sector_size, self.sector_size, table.sector_size)?;
-        expect(first_usable, self.first_usable, header.first_usable_lba)?;
-        expect(last_usable, self.last_usable, header.last_usable_lba)?;
+        form.expect(sector_size, self.sector_size, table.sector_size)?;
+        form.expect(first_usable, self.first_usable, header.first_usable_lba)?;
+        form.expect(last_usable, self.last_usable, header.last_usable_lba)?;
         let said = self.entries.map(|count| u64::from(count));
-        expect(entries, said, u64::from(header.number_of_partition_entries))
-    }
-}
-
-fn expect(key: &'static str, said: Option<u64>, is: u64) -> Result<(), OtherValue> {
-    match said {
-        Some(said) if said != is => Err(OtherValue { key, said, is }),
-        _ => Ok(()),
+        form.expect(entries, said, u64::from(header.number_of_partition_entries))
     }
 }
 
 impl Form {
+    fn expect(self, key: &'static str, said: Option<u64>, is: u64) -> Result<(), OtherValue> {
+        match said {
+            Some(said) if said != is => Err(OtherValue {
+                form: self,
+                key,
+                said,
+                is,
+            }),
+            _ => Ok(()),
+        }
+    }
+
     // Returns the keys of the sector size, the number of entries, and the first and the last usable sector.
     fn keys(self) -> [&'static str; 4] {
         match self {
-            Form::Toml => ["sector-size", "entries", "first-usable", "last-usable"],
+            Form::Toml | Form::Backup => ["sector-size", "entries", "first-usable", "last-usable"],
             Form::Script => ["sector-size", "table-length", "first-lba", "last-lba"],
         }
     }
@@ -90,7 +99,20 @@ impl Form {
 /// Prints both values, and what to do.
 impl fmt::Display for OtherValue {
     fn fmt<W: fmt::Write>(&self, f: &mut fmt::Formatter<W>) -> fmt::Result {
-        let OtherValue { key, said, is } = *self;
+        let OtherValue {
+            form,
+            key,
+            said,
+            is,
+        } = *self;
+        if form == Form::Backup {
+            writeln!(f, "{key} is {said} in the backup, but {is} on the disk")?;
+            return f.write_str(match key {
+                "sector-size" => "it is the backup of a disk with sectors of another size",
+                _ =>
+                    "`gptedit wipe` removes the table of the disk; then --create makes that of the backup",
+            });
+        }
         writeln!(f, "{key} is {said} in the layout, but {is} on the disk")?;
         write!(f, "remove {key} from the layout to keep that of the disk")?;
         if key == "sector-size" {

@@ -1,3 +1,5 @@
+pub mod Given
 mod Targets
 mod Shapes
 mod Spelled
+pub mod Extents

@@ -1,5 +1,5 @@
 -- The meaning of a command's arguments, by the values that the command line has for each option and place.
-use Rattle.std.specs.Prelude.{◌≡◌, ◌≢◌, ◌⊎◌, ◌^◌, ◌<◌, ℕ, Bool, true, false, List, [], ◌∷◌, Option, Some, None, Ok, codes, option_map}
+use Rattle.std.specs.Prelude.{◌≡◌, ◌≢◌, ◌⊎◌, ◌^◌, ◌<◌, ℕ, Bool, true, false, List, [], ◌∷◌, Option, Some, None, Ok, codes, option_map, ◌||◌, is_some}
 use Rattle.std.specs.Str.Parse.{digits_value, without_leading_plus, IsNumeral}
 use Rattle.clap.specs.Words.{first_value, matched_of, one_text, raw_values}
 use Rattle.clap.specs.declared.parser.matches.Found.{Found}
@@ -10,15 +10,20 @@ use Rattle.gptedit_core.specs.declared.asked.Asked.{Asked}
 use Rattle.gptedit_core.specs.declared.asked.Choice.{Choice}
 use Rattle.gptedit_core.specs.declared.asked.Choice.TheVariants.{First}
 use Rattle.gptedit_core.specs.declared.asked.RequestedLayout.{RequestedLayout}
-use Rattle.gptedit_core.specs.declared.asked.Mode.{Mode}
-use Rattle.gptedit_core.specs.declared.asked.Mode.TheVariants.{Add as Adding, Change as Changing}
-use Rattle.gptedit_core.specs.declared.asked.Size.{Size}
-use Rattle.gptedit_core.specs.declared.asked.Size.TheVariants.{Exactly, Rest}
+use Rattle.gptedit_core.specs.declared.asked.Mode.TheVariants.{Add as Adding}
+use Rattle.gptedit_core.specs.declared.measure.Extent.{Extent}
+use Rattle.gptedit_core.specs.declared.measure.Extent.TheVariants.{End}
+use Rattle.gptedit_core.specs.declared.measure.Position.{Position}
+use Rattle.gptedit_core.specs.declared.setting.NewGuid.{NewGuid}
+use Rattle.gptedit_core.specs.declared.setting.NewGuid.TheVariants.{Given, Random}
+use Rattle.gptedit_core.specs.declared.setting.Setting.{Setting}
 use Rattle.gptedit_core.specs.declared.target.Target.{Target}
 use Rattle.gptedit_values.specs.Fields.{SaysField}
-use Rattle.gptedit_values.specs.Words.{choice_said, guid_said, type_said, FitsAmount, FitsSize, SaysAmount, SaysAttributes, SaysSize, SaysTarget}
+use Rattle.gptedit_values.specs.Measures.{SaysLength, SaysNewLength, SaysPosition}
+use Rattle.gptedit_values.specs.Steps.{SaysChange}
+use Rattle.gptedit_values.specs.Words.{choice_said, guid_said, type_said, FitsAmount, SaysAmount, SaysAttributes, SaysTarget}
 use Rattle.gptedit_words.specs.declared.request.Change.{Change}
-use Rattle.gptedit_words.specs.declared.request.Change.TheVariants.{New, Add, Alter, Remove, Sort, Grow, Repair, Randomize, Apply, Wipe}
+use Rattle.gptedit_words.specs.declared.request.Change.TheVariants.{New, Add, Set, SetDisk, Resize, Remove, Sort, Grow, Repair, Randomize, Apply, Wipe}
 use Rattle.gptedit_words.specs.declared.request.Command.{Command}
 use Rattle.gptedit_words.specs.declared.request.Command.TheVariants.{Show, Check, Free, Dump, Salvage, Write}
 use Rattle.gptedit_words.specs.declared.request.ImageRequest.{ImageRequest}
@@ -93,10 +98,10 @@ SaysChoice text choice = choice_said text ≡ Ok choice
 abbrev pub SaysName : List ℕ → PartitionName → Type 0
 SaysName text name = name.text ≡ text
 
--- The text is a new size for `resize`: an amount, or `max`.
-abbrev pub SaysNewSize : List ℕ → Size → Type 0
-SaysNewSize text (Exactly amount) = SaysAmount text amount
-SaysNewSize text Rest = text ≡ codes "max"
+-- The text is a new GUID: a GUID, or `random`.
+abbrev pub SaysNewGuid : List ℕ → NewGuid → Type 0
+SaysNewGuid text (Given guid) = SaysGuid text guid
+SaysNewGuid text Random = text ≡ codes "random"
 
 -- The text says what to do if the image is locked.
 abbrev pub SaysLock : List ℕ → Lock → Type 0
@@ -121,17 +126,14 @@ SaysNoNumber text = ¬ (IsNumeral 10 (without_leading_plus text) × (digits_valu
 abbrev pub SaysNoAmount : List ℕ → Type 0
 SaysNoAmount text = (amount : Amount) → SaysAmount text amount → ¬ (FitsAmount amount)
 
-abbrev pub SaysNoSize : List ℕ → Type 0
-SaysNoSize text = (size : Size) → SaysSize text size → ¬ (FitsSize size)
-
-abbrev pub SaysNoNewSize : List ℕ → Type 0
-SaysNoNewSize text = (size : Size) → SaysNewSize text size → ¬ (FitsSize size)
-
 abbrev pub SaysNoType : List ℕ → Type 0
 SaysNoType text = (guid : List ℕ) → ¬ (SaysType text guid)
 
 abbrev pub SaysNoGuid : List ℕ → Type 0
 SaysNoGuid text = (guid : List ℕ) → ¬ (SaysGuid text guid)
+
+abbrev pub SaysNoNewGuid : List ℕ → Type 0
+SaysNoNewGuid text = (guid : NewGuid) → ¬ (SaysNewGuid text guid)
 
 abbrev pub SaysNoChoice : List ℕ → Type 0
 SaysNoChoice text = (choice : Choice) → ¬ (SaysChoice text choice)
@@ -154,55 +156,85 @@ pub record AsksFields (found : Found) (asked : Asked) : Type 0 where
 abbrev pub KeepsPlace : Asked → Type 0
 KeepsPlace asked = (asked.start ≡ None) × (asked.size ≡ None)
 
--- The fields stay unchanged.
-abbrev pub KeepsFields : Asked → Type 0
-KeepsFields asked = (asked.type_guid ≡ None) × (asked.unique_guid ≡ None) × (asked.attributes ≡ None) × (asked.name ≡ None)
-
 -- The list has one element, for which this holds.
 abbrev pub IsOne : (Asked → Type 0) → List Asked → Type 0
 IsOne asks (asked ∷ []) = asks asked
 IsOne asks entries = ⊥
 
--- The layout has this mode, asks this of one entry, removes none, and keeps the disk GUID.
-pub record AsksOne (mode : Mode) (asks : Asked → Type 0) (layout : RequestedLayout) : Type 0 where
-  pub mode_is : layout.mode ≡ mode
+-- The layout only adds one entry, and its request is such.
+pub record AddsOne (asks : Asked → Type 0) (layout : RequestedLayout) : Type 0 where
+  pub mode_is : layout.mode ≡ Adding
   pub guid_stays : layout.disk_guid ≡ None
   pub removes_none : layout.removed.items ≡ []
   pub one : IsOne asks layout.asked.items
 
--- `resize IMAGE N SIZE` changes only the size of partition N.
-pub record AsksSize (found : Found) (asked : Asked) : Type 0 where
-  pub no_number : asked.number ≡ None
-  pub size : Gives SaysNewSize (first_value found (codes "SIZE|max")) asked.size
-  pub start_stays : asked.start ≡ None
-  pub fields_stay : KeepsFields asked
+-- The extent is the given size or the given end. Exactly one is given.
+abbrev pub IsExtent : Option Extent → Option Position → Extent → Type 0
+IsExtent (Some size) None extent = extent ≡ size
+IsExtent None (Some position) extent = extent ≡ End position
+IsExtent size end extent = ⊥
 
+-- The extent is the meaning of the text of a size or of an end. Exactly one text is given.
+abbrev pub SaysExtentBy : (List ℕ → Extent → Type 0) → Option (List ℕ) → Option (List ℕ) → Extent → Type 0
+SaysExtentBy says (Some text) None extent = says text extent
+SaysExtentBy says None (Some text) (End position) = SaysPosition text position
+SaysExtentBy says size end extent = ⊥
+
+-- `resize IMAGE N SIZE` or `resize IMAGE N --end POSITION` changes only the size of partition N.
 abbrev pub IsResize : Found → Change → Type 0
-IsResize found (Alter target layout) =
-    IsTargetOf found (codes "N") target × (AsksOne Changing (AsksSize found) layout × (layout.align ≡ usual_align))
+IsResize found (Resize target extent) = IsTargetOf found (codes "N") target
+    × SaysExtentBy SaysNewLength (first_value found (codes "SIZE|max")) (first_value found (codes "--end")) extent
 IsResize found change = ⊥
 
--- `set IMAGE N` changes only the given fields of partition N.
-pub record AsksSet (found : Found) (asked : Asked) : Type 0 where
-  pub no_number : asked.number ≡ None
-  pub fields : AsksFields found asked
-  pub place_stays : KeepsPlace asked
+-- The partition gets the GUID of `--guid`, or a random one, or neither option is given.
+abbrev pub IsOwnGuidOf : Found → Option NewGuid → Type 0
+IsOwnGuidOf found None = (first_value found (codes "--guid") ≡ None) × ¬ (IsSet found (codes "--random-guid"))
+IsOwnGuidOf found (Some (Given guid)) = Gives SaysGuid (first_value found (codes "--guid")) (Some guid) × ¬ (IsSet found (codes "--random-guid"))
+IsOwnGuidOf found (Some Random) = (first_value found (codes "--guid") ≡ None) × ¬ (IsUnset found (codes "--random-guid"))
 
+-- The fields of the setting are those of the options.
+pub record AsksSetting (found : Found) (setting : Setting) : Type 0 where
+  pub type : Gives SaysType (first_value found (codes "--type")) setting.type_guid
+  pub guid : IsOwnGuidOf found setting.guid
+  pub attributes : Gives SaysChange (first_value found (codes "--attributes")) setting.attributes
+  pub name : Gives SaysName (first_value found (codes "--name")) setting.name
+  pub number : MayHaveNumberOf found (codes "--number") setting.number
+
+-- Whether a value for a field of an entry is given.
+unfoldable pub gives_value : Found → Bool
+gives_value found = is_some (matched_of found (codes "--name")) || (is_some (matched_of found (codes "--type"))
+    || (is_some (matched_of found (codes "--guid")) || (is_some (matched_of found (codes "--attributes"))
+    || is_some (matched_of found (codes "--number")))))
+
+-- A field of an entry is given: a value for one, or a random GUID.
+abbrev pub GivesField : Found → Type 0
+GivesField found = (gives_value found ≡ true) ⊎ ¬ (IsUnset found (codes "--random-guid"))
+
+abbrev pub GivesNoField : Found → Type 0
+GivesNoField found = (gives_value found ≡ false) × ¬ (IsSet found (codes "--random-guid"))
+
+-- `set IMAGE N` changes only the given fields of partition N, and `set IMAGE --disk-guid` only the GUID of the disk.
 abbrev pub IsSetting : Found → Change → Type 0
-IsSetting found (Alter target layout) = IsTargetOf found (codes "N") target × AsksOne Changing (AsksSet found) layout
+IsSetting found (Set target setting) = IsTargetOf found (codes "N") target × (AsksSetting found setting × (first_value found (codes "--disk-guid") ≡ None))
+IsSetting found (SetDisk guid) = Gives SaysNewGuid (first_value found (codes "--disk-guid")) (Some guid) × ((first_value found (codes "N") ≡ None) × GivesNoField found)
 IsSetting found change = ⊥
 
 -- `add IMAGE` adds an entry with these values.
 pub record AsksAddition (found : Found) (asked : Asked) : Type 0 where
   pub number : MayHaveNumberOf found (codes "--number") asked.number
   pub fields : AsksFields found asked
-  pub start : Gives SaysAmount (first_value found (codes "--start")) asked.start
-  pub size : Gives SaysSize (first_value found (codes "--size")) asked.size
+  pub no_place : KeepsPlace asked
   pub place : GivesOr SaysChoice First (first_value found (codes "--place")) asked.choice
 
+-- `add` has this start, if any, and this size or end. An end has a start.
+pub record AsksPlace (found : Found) (start : Option Position) (extent : Extent) : Type 0 where
+  pub start_is : Gives SaysPosition (first_value found (codes "--start")) start
+  pub extent_is : SaysExtentBy SaysLength (first_value found (codes "--size")) (first_value found (codes "--end")) extent
+  pub end_has_start : first_value found (codes "--end") ≢ None → start ≢ None
+
 abbrev pub IsAddition : Found → Change → Type 0
-IsAddition found (Add layout) = AsksOne Adding (AsksAddition found) layout
-    × GivesOr SaysAmount usual_align (first_value found (codes "--align")) layout.align
+IsAddition found (Add layout start extent) = AddsOne (AsksAddition found) layout
+    × (GivesOr SaysAmount usual_align (first_value found (codes "--align")) layout.align × AsksPlace found start extent)
 IsAddition found change = ⊥
 
 -- The texts of an argument.
@@ -233,9 +265,10 @@ pub record AsksApply (found : Found) (file : List ℕ) (is_replacing is_creating
 -- The command of this name makes this change, with these arguments.
 abbrev pub IsChange : List ℕ → Found → Change → Type 0
 IsChange name found (New new) = (name ≡ codes "new") × AsksNew found new
-IsChange name found (Add layout) = (name ≡ codes "add") × IsAddition found (Add layout)
-IsChange name found (Alter target layout) = ((name ≡ codes "set") × IsSetting found (Alter target layout))
-    ⊎ ((name ≡ codes "resize") × IsResize found (Alter target layout))
+IsChange name found (Add layout start extent) = (name ≡ codes "add") × IsAddition found (Add layout start extent)
+IsChange name found (Set target setting) = (name ≡ codes "set") × IsSetting found (Set target setting)
+IsChange name found (SetDisk guid) = (name ≡ codes "set") × IsSetting found (SetDisk guid)
+IsChange name found (Resize target extent) = (name ≡ codes "resize") × IsResize found (Resize target extent)
 IsChange name found (Remove targets) = (name ≡ codes "remove") × IsRemoval found (Remove targets)
 IsChange name found Sort = name ≡ codes "sort"
 IsChange name found (Grow target) = (name ≡ codes "grow") × Gives SaysTarget (first_value found (codes "N")) target

@@ -80,19 +80,19 @@ abbrev pub fit : Rule
 fit = flag (codes "--fit")
 
 abbrev pub added : List Rule
-added = needed_value (codes "--type") ∷ needed_value (codes "--size") ∷ value (codes "--name") ∷ value (codes "--guid")
-    ∷ value (codes "--attributes") ∷ number (codes "--number") (2 ^ 32 - 1) ∷ value (codes "--start") ∷ value (codes "--place")
-    ∷ value (codes "--align") ∷ fit ∷ []
+added = needed_value (codes "--type") ∷ value (codes "--size") ∷ value (codes "--name") ∷ value (codes "--guid")
+    ∷ value (codes "--attributes") ∷ number (codes "--number") (2 ^ 32 - 1) ∷ value (codes "--start") ∷ value (codes "--end")
+    ∷ value (codes "--place") ∷ value (codes "--align") ∷ fit ∷ []
 
 abbrev pub set : List Rule
-set = text_place (codes "N") ∷ value (codes "--name") ∷ value (codes "--type") ∷ value (codes "--guid")
-    ∷ value (codes "--attributes") ∷ fit ∷ []
+set = place (codes "N") ∷ value (codes "--name") ∷ value (codes "--type") ∷ value (codes "--guid") ∷ flag (codes "--random-guid")
+    ∷ value (codes "--attributes") ∷ number (codes "--number") (2 ^ 32 - 1) ∷ value (codes "--disk-guid") ∷ fit ∷ []
 
 abbrev pub changes : List Shape
 changes = change (codes "new") (value (codes "--guid") ∷ number (codes "--entries") 32768 ∷ [])
     ∷ change (codes "add") added
     ∷ change (codes "set") set
-    ∷ change (codes "resize") (text_place (codes "N") ∷ text_place (codes "SIZE|max") ∷ fit ∷ [])
+    ∷ change (codes "resize") (text_place (codes "N") ∷ place (codes "SIZE|max") ∷ value (codes "--end") ∷ fit ∷ [])
     ∷ change (codes "remove") (text_places (codes "N") ∷ fit ∷ [])
     ∷ change (codes "sort") (fit ∷ [])
     ∷ change (codes "grow") (place (codes "N") ∷ [])

@@ -1,11 +1,13 @@
 -- The reasons for which a command line is refused: an invalid argument or an allocation failure.
-use Rattle.std.specs.Prelude.{◌≡◌, ◌≢◌, ◌⊎◌, ◌||◌, ℕ, Bool, true, List, [], ◌∷◌, Option, Some, None, Result, Ok, Err, codes, is_some}
-use Rattle.clap.specs.Words.{first_value, matched_of, one_text}
+use Rattle.std.specs.Prelude.{◌≡◌, ◌≢◌, ◌⊎◌, ℕ, List, [], ◌∷◌, Option, Some, None, Result, Ok, Err, codes, is_some}
+use Rattle.clap.specs.Words.{first_value, one_text}
 use Rattle.clap.specs.declared.parser.matches.Found.{Found}
+use Rattle.gptedit_values.specs.Steps.{SaysNoChange}
 use Rattle.gptedit_values.specs.Words.{SaysNoAttributes, SaysNoTarget}
-use Rattle.gptedit_words.specs.Asks.{IsMissingOrWrong, IsNoSectorOf, IsUnset, IsWrong, texts_of_place}
-use Rattle.gptedit_words.specs.Asks.{SaysNoAmount, SaysNoChoice, SaysNoGuid, SaysNoLock, SaysNoNewSize, SaysNoNumber, SaysNoSize, SaysNoType}
+use Rattle.gptedit_words.specs.Asks.{GivesField, GivesNoField, IsMissingOrWrong, IsNoSectorOf, IsUnset, IsWrong, SaysNoNewGuid, texts_of_place}
+use Rattle.gptedit_words.specs.Asks.{SaysNoAmount, SaysNoChoice, SaysNoGuid, SaysNoLock, SaysNoNumber, SaysNoType}
 use Rattle.gptedit_values.specs.Fields.{SaysNoField}
+use Rattle.gptedit_values.specs.Measures.{SaysNoLength, SaysNoNewLength, SaysNoPosition}
 use Rattle.gptedit_words.specs.declared.error.WordsError.{WordsError}
 use Rattle.gptedit_words.specs.declared.error.WordsError.TheVariants.{Conflict, LongName, Missing, NothingToSet, OutOfMemory, Sector, Usage, Value}
 
@@ -27,34 +29,65 @@ pub record HasFields (found : Found) : Type 0 where
   pub guid : ¬ (IsWrong SaysNoGuid (first_value found (codes "--guid")))
   pub attributes : ¬ (IsWrong SaysNoAttributes (first_value found (codes "--attributes")))
 
+-- One of a size and an end is given.
+abbrev pub HasOne : Option (List ℕ) → Option (List ℕ) → Type 0
+HasOne size end = is_some size ≢ is_some end
+
+-- The start, the size and the end of `add` are valid: a size or an end, and a start with an end.
+pub record CanPlace (found : Found) : Type 0 where
+  pub start : ¬ (IsWrong SaysNoPosition (first_value found (codes "--start")))
+  pub size : ¬ (IsWrong SaysNoLength (first_value found (codes "--size")))
+  pub end : ¬ (IsWrong SaysNoPosition (first_value found (codes "--end")))
+  pub one : HasOne (first_value found (codes "--size")) (first_value found (codes "--end"))
+  pub end_has_start : first_value found (codes "--end") ≢ None → first_value found (codes "--start") ≢ None
+
 -- The arguments of `add` are valid.
 pub record CanAdd (found : Found) : Type 0 where
   pub number : ¬ (IsWrong SaysNoNumber (one_text found (codes "--number")))
-  pub start : ¬ (IsWrong SaysNoAmount (first_value found (codes "--start")))
-  pub size : ¬ (IsWrong SaysNoSize (first_value found (codes "--size")))
+  pub spot : CanPlace found
   pub place : ¬ (IsWrong SaysNoChoice (first_value found (codes "--place")))
   pub align : ¬ (IsWrong SaysNoAmount (first_value found (codes "--align")))
   pub fields : HasFields found
-
--- Whether a field of an entry is given.
-unfoldable pub gives_field : Found → Bool
-gives_field found = is_some (matched_of found (codes "--name")) || (is_some (matched_of found (codes "--type"))
-    || (is_some (matched_of found (codes "--guid")) || is_some (matched_of found (codes "--attributes"))))
 
 -- The partition N is given and valid.
 abbrev pub HasTarget : Found → Type 0
 HasTarget found = ¬ (IsMissingOrWrong SaysNoTarget (first_value found (codes "N")))
 
--- The arguments of `set` are valid.
-pub record CanSet (found : Found) : Type 0 where
+-- The GUID of `--guid` is valid, and `--random-guid` is not given with it.
+pub record HasOwnGuid (found : Found) : Type 0 where
+  pub valid : ¬ (IsWrong SaysNoGuid (first_value found (codes "--guid")))
+  pub one : (first_value found (codes "--guid") ≡ None) ⊎ IsUnset found (codes "--random-guid")
+
+-- The fields that `set` is given are valid.
+pub record HasSetFields (found : Found) : Type 0 where
+  pub type : ¬ (IsWrong SaysNoType (first_value found (codes "--type")))
+  pub guid : HasOwnGuid found
+  pub attributes : ¬ (IsWrong SaysNoChange (first_value found (codes "--attributes")))
+  pub number : ¬ (IsWrong SaysNoNumber (one_text found (codes "--number")))
+
+-- The arguments of `set` for a partition are valid.
+pub record CanSetEntry (found : Found) : Type 0 where
   pub target : HasTarget found
-  pub some : gives_field found ≡ true
-  pub fields : HasFields found
+  pub some : ¬ (GivesNoField found)
+  pub fields : HasSetFields found
+
+-- Nothing of a partition is given.
+pub record IsOfDisk (found : Found) : Type 0 where
+  pub whole : first_value found (codes "N") ≡ None
+  pub only : ¬ (GivesField found)
+
+-- The arguments of `set` are valid: those for the disk, or those for a partition.
+pub record CanSet (found : Found) : Type 0 where
+  pub guid : ¬ (IsWrong SaysNoNewGuid (first_value found (codes "--disk-guid")))
+  pub disk : first_value found (codes "--disk-guid") ≢ None → IsOfDisk found
+  pub entry : first_value found (codes "--disk-guid") ≡ None → CanSetEntry found
 
 -- The arguments of `resize` are valid.
 pub record CanResize (found : Found) : Type 0 where
   pub target : HasTarget found
-  pub size : ¬ (IsWrong SaysNoNewSize (first_value found (codes "SIZE|max")))
+  pub size : ¬ (IsWrong SaysNoNewLength (first_value found (codes "SIZE|max")))
+  pub end : ¬ (IsWrong SaysNoPosition (first_value found (codes "--end")))
+  pub one : HasOne (first_value found (codes "SIZE|max")) (first_value found (codes "--end"))
 
 -- Each text is a partition.
 abbrev pub AllTargets : List (List ℕ) → Type 0

@@ -95,10 +95,10 @@ pub(crate) static CHANGES: [Definition; 11] = [
         arguments: &[
             IMAGE,
             Argument::NeededValue("--type", "TYPE", TYPE_HELP),
-            Argument::NeededValue(
+            Argument::Value(
                 "--size",
                 "SIZE",
-                "Its size, as 64MiB or 2048s; rest takes the longest free range",
+                "Its size, as 64MiB, 2048s or 50%; rest takes the longest free range",
             ),
             NAME,
             GUID,
@@ -108,7 +108,16 @@ pub(crate) static CHANGES: [Definition; 11] = [
                 u32::MAX as u64,
                 "Its number [default: the lowest unused]",
             ),
-            Argument::Value("--start", "POSITION", "Its start, as 1MiB or 2048s"),
+            Argument::Value(
+                "--start",
+                "POSITION",
+                "Its start, as 1MiB, 2048s, 50% or, from the end, -1GiB",
+            ),
+            Argument::Value(
+                "--end",
+                "POSITION",
+                "Its end instead of its size: before this byte, or with sector Ns",
+            ),
             Argument::Value(
                 "--place",
                 "first|last|best",
@@ -125,15 +134,31 @@ pub(crate) static CHANGES: [Definition; 11] = [
     },
     Definition {
         name: "set",
-        about: "Changes the name, type, GUID or attributes of a partition",
-        example: "Example:\n  gptedit set disk.img 2 --name data",
+        about: "Changes the name, type, GUID, attributes or number of a partition, or the GUID of the disk",
+        example: "Examples:\n  gptedit set disk.img 2 --name data\n  gptedit set disk.img 2 --attributes +read-only,tries=3",
         arguments: &[
             IMAGE,
-            PARTITION,
+            Argument::MayPlace("N", "The partition: its number, name=TEXT or guid=GUID"),
             NAME,
             Argument::Value("--type", "TYPE", TYPE_HELP),
             GUID,
-            ATTRIBUTES,
+            Argument::Flag("--random-guid", "Sets a random GUID"),
+            Argument::Value(
+                "--attributes",
+                "LIST",
+                "Its attributes, as for add; or changes: + or - before each attribute,{n}\
+                 priority=0..15, tries=0..15, successful=0..1",
+            ),
+            Argument::Number(
+                "--number",
+                u32::MAX as u64,
+                "Its new number, which no partition has",
+            ),
+            Argument::Value(
+                "--disk-guid",
+                "GUID|random",
+                "Sets the GUID of the disk instead; without N",
+            ),
             FIT,
         ],
         options: WRITING,
@@ -145,9 +170,14 @@ pub(crate) static CHANGES: [Definition; 11] = [
         arguments: &[
             IMAGE,
             PARTITION,
-            Argument::Place(
+            Argument::MayPlace(
                 "SIZE|max",
-                "The new size, as 40GiB or 2048s; max takes all that is free after it",
+                "The new size, as 40GiB or 2048s, or +1GiB; max takes all that is free after it",
+            ),
+            Argument::Value(
+                "--end",
+                "POSITION",
+                "Its new end instead of its size: before this byte, or with sector Ns",
             ),
             FIT,
         ],

@@ -1,6 +1,6 @@
 //! The errors of a command line.
 
-ghost use Rattle.std.specs.Prelude.{◌≡◌};
+ghost use Rattle.std.specs.Prelude.{◌≡◌, false, true, IfErr, OnOk};
 ghost use Rattle.gptedit_words.specs.Spelled.{IsOfUsage};
 ghost use Rattle.gptedit_words.specs.declared.error.WordsError.TheVariants.{OutOfMemory};
 
@@ -11,7 +11,8 @@ use std::error::Error;
 use std::{fmt, io};
 
 // The message for `set` without a field.
-const NOTHING_TO_SET: &str = "error: nothing to set; use --name, --type, --guid or --attributes\n\n\
+const NOTHING_TO_SET: &str =
+    "error: nothing to set; use --name, --type, --guid, --random-guid, --attributes, --number or --disk-guid\n\n\
                               For more information, try '--help'.\n";
 
 /// An error of a command line.
@@ -59,6 +60,21 @@ impl WordsError<'_> {
             error => rt.eprint(error),
         }
     }
+}
+
+/// Refuses two arguments if both are given.
+pub(crate) fn refuse_both<'a>(
+    are_both: bool,
+    one: &'static str,
+    other: &'static str,
+) -> Result<(), WordsError<'a>>
+    ensures lacks { OnOk result (are_both ≡ false) }
+    ensures both { IfErr result (λ error. are_both ≡ true) }
+{
+    if are_both {
+        return Err(WordsError::Conflict { one, other });
+    }
+    Ok(())
 }
 
 /// The message for the user, with the last newline.

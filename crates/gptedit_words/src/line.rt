@@ -10,7 +10,7 @@ ghost use Rattle.gptedit_words.specs.Spelled.{texts_of, IsRefused, IsSpelled};
 
 use crate::definition::command;
 use crate::entries;
-use crate::error::WordsError;
+use crate::error::{WordsError, refuse_both};
 use crate::request::{Change, Command, CommandLine, ImageRequest, Lock, NewTable, Options, View};
 use crate::values::{
     amount, field_if_given, guid, lock, needed, number_if_given, sector_size, target_if_given,
@@ -121,21 +121,6 @@ fn read_partition<'a>(
     }
 }
 
-// Refuses two arguments if both are given.
-fn refuse_both<'a>(
-    are_both: bool,
-    one: &'static str,
-    other: &'static str,
-) -> Result<(), WordsError<'a>>
-    ensures lacks { OnOk result (are_both ≡ false) }
-    ensures both { IfErr result (λ error. are_both ≡ true) }
-{
-    if are_both {
-        return Err(WordsError::Conflict { one, other });
-    }
-    Ok(())
-}
-
 fn read_dump<'a>(words: &ArgMatches<'a>) -> Result<Command<'a>, WordsError<'a>>
     ensures said { IfOk result (IsCommand (codes "dump") (found_of words.now)) }
     ensures refused { RefusedOnlyFor (found_of words.now) (¬ (CanDump (found_of words.now))) result }
@@ -172,7 +157,7 @@ fn read_change<'a>(
         "new" => read_new(words),
         "add" => entries::read_add(alloc, words),
         "set" => entries::read_set(alloc, words),
-        "resize" => entries::read_resize(alloc, words),
+        "resize" => entries::read_resize(words),
         "remove" => entries::read_remove(alloc, words),
         "sort" => Ok(Change::Sort),
         "grow" => Ok(Change::Grow(target_if_given(words, "N")?)),

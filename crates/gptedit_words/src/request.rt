@@ -1,10 +1,10 @@
 //! The requests of a command line.
 
-use gptedit_core::{Amount, RequestedLayout, Target};
+use gptedit_core::{Amount, Extent, NewGuid, Position, RequestedLayout, Setting, Target};
 use gptedit_values::Field;
 
 /// The request of a command line.
-#[derive(Drop, Debug)]
+#[derive(Drop)]
 pub enum CommandLine<'a> {
     /// Lists the types that have names.
     Types {
@@ -16,7 +16,7 @@ pub enum CommandLine<'a> {
 }
 
 /// A command and its image.
-#[derive(Drop, Debug)]
+#[derive(Drop)]
 pub struct ImageRequest<'a> {
     /// The path of a disk image or a block device.
     pub image: &'a str,
@@ -29,7 +29,7 @@ pub struct ImageRequest<'a> {
 }
 
 /// The command.
-#[derive(Drop, Debug)]
+#[derive(Drop)]
 pub enum Command<'a> {
     /// Prints the table or a part of it.
     Show {
@@ -60,7 +60,7 @@ pub enum Command<'a> {
 }
 
 /// What `show` prints.
-#[derive(Clone, Copy, Debug)]
+#[derive(Clone, Copy)]
 pub enum View<'a> {
     /// The table.
     Table,
@@ -75,7 +75,7 @@ pub enum View<'a> {
 }
 
 /// The options of a change.
-#[derive(Clone, Copy, PartialEq, Eq, Debug)]
+#[derive(Clone, Copy, PartialEq, Eq)]
 pub struct Options<'a> {
     /// Whether the table is first fitted to the length of the disk, in the same write.
     pub is_fitted: bool,
@@ -92,7 +92,7 @@ pub struct Options<'a> {
 }
 
 /// The action if another program holds the lock on the image.
-#[derive(Clone, Copy, PartialEq, Eq, Debug)]
+#[derive(Clone, Copy, PartialEq, Eq)]
 pub enum Lock {
     /// Waits for it.
     Wait,
@@ -103,7 +103,7 @@ pub enum Lock {
 }
 
 /// The values of a new table.
-#[derive(Clone, Copy, Debug)]
+#[derive(Clone, Copy)]
 pub struct NewTable {
     /// The disk GUID; random if `None`.
     pub guid: Option<[u8; 16]>,
@@ -112,18 +112,34 @@ pub struct NewTable {
 }
 
 /// A change of the table.
-#[derive(Drop, Debug)]
+#[derive(Drop)]
 pub enum Change<'a> {
     /// Writes a new table and a protective MBR.
     New(NewTable),
     /// Adds the entry that this layout requests.
-    Add(RequestedLayout),
-    /// Changes the entry of a partition.
-    Alter {
+    Add {
+        /// The layout, which requests one entry without a place.
+        layout: RequestedLayout,
+        /// Its start; chosen if `None`.
+        start: Option<Position>,
+        /// How far it extends.
+        extent: Extent,
+    },
+    /// Changes a partition.
+    Set {
         /// The partition.
         target: Target<'a>,
-        /// The change: a layout that requests one entry, without a number.
-        layout: RequestedLayout,
+        /// The change.
+        setting: Setting,
+    },
+    /// Sets the GUID of the disk.
+    SetDisk(NewGuid),
+    /// Moves the end of a partition.
+    Resize {
+        /// The partition.
+        target: Target<'a>,
+        /// How far it is to extend.
+        extent: Extent,
     },
     /// Removes partitions.
     Remove(Vec<Target<'a>>),

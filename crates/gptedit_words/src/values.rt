@@ -1,23 +1,26 @@
 //! Reads the values of arguments.
 
-ghost use Rattle.std.specs.Prelude.{◌≡◌, ◌↔◌, codes, IfErr, IfOk, IsTrue, None, Some};
+ghost use Rattle.std.specs.Prelude.{◌≡◌, ◌↔◌, codes, is_some, IfErr, IfOk, IsTrue, None, Some};
 ghost use Rattle.clap.specs.Words.{first_value, found_of, one_text};
 ghost use Rattle.gptedit_values.specs.Fields.{SaysField, SaysNoField};
-ghost use Rattle.gptedit_values.specs.Words.{SaysAmount, SaysAttributes, SaysNoAttributes, SaysNoTarget, SaysSize, SaysTarget};
-ghost use Rattle.gptedit_words.specs.Asks.{Gives, SaysChoice, SaysGuid, SaysLock, SaysName, SaysNewSize};
+ghost use Rattle.gptedit_values.specs.Measures.{SaysLength, SaysNewLength, SaysNoLength, SaysNoNewLength, SaysNoPosition, SaysPosition};
+ghost use Rattle.gptedit_values.specs.Steps.{SaysChange, SaysNoChange};
+ghost use Rattle.gptedit_values.specs.Words.{SaysAmount, SaysAttributes, SaysNoAttributes, SaysNoTarget, SaysTarget};
+ghost use Rattle.gptedit_words.specs.Asks.{Gives, IsExtent, SaysChoice, SaysGuid, SaysLock, SaysName};
 ghost use Rattle.gptedit_words.specs.Asks.{HasTargets, IsSectorOf, IsSectorSize, IsTargetOf, SaysType, texts_of_place};
 ghost use Rattle.gptedit_words.specs.Asks.{IsMissingOrWrong, IsNoSectorOf, IsWrong, MayHaveNumberOf};
-ghost use Rattle.gptedit_words.specs.Asks.{SaysNoAmount, SaysNoChoice, SaysNoGuid, SaysNoLock, SaysNoNewSize};
-ghost use Rattle.gptedit_words.specs.Asks.{SaysNoNumber, SaysNoSize, SaysNoType};
+ghost use Rattle.gptedit_words.specs.Asks.{SaysNewGuid, SaysNoNewGuid};
+ghost use Rattle.gptedit_words.specs.Asks.{SaysNoAmount, SaysNoChoice, SaysNoGuid, SaysNoLock};
+ghost use Rattle.gptedit_words.specs.Asks.{SaysNoNumber, SaysNoType};
 ghost use Rattle.gptedit_words.specs.Refusals.{CanRemove, RefusedOnlyFor};
 
 use crate::error::WordsError;
 use crate::request::Lock;
 use clap::ArgMatches;
-use gptedit_core::{Amount, Choice, Size, Target};
+use gptedit_core::{Amount, AttributeChange, Choice, Extent, NewGuid, Position, Target};
 use gptedit_values::{
-    Field, Wrong, is_long_name, read_amount, read_attributes, read_choice, read_field, read_guid,
-    read_size, read_target, read_type,
+    Field, Wrong, is_long_name, read_amount, read_attribute_change, read_attributes, read_choice,
+    read_field, read_guid, read_length, read_new_length, read_position, read_target, read_type,
 };
 use gptman::PartitionName;
 use std::alloc::Global;
@@ -53,51 +56,74 @@ pub(crate) fn amount<'a>(
     }
 }
 
-/// Reads a size, if the argument is given.
-pub(crate) fn size<'a>(
+/// Reads a position, if the argument is given.
+pub(crate) fn position<'a>(
     words: &ArgMatches<'a>,
     word: &'static str,
-) -> Result<Option<Size>, WordsError<'a>>
-    ensures said { IfOk result (Gives SaysSize (first_value (found_of words.now) word.now)) }
-    ensures refused { IfErr result (λ error. IsWrong SaysNoSize (first_value (found_of words.now) word.now)) }
+) -> Result<Option<Position>, WordsError<'a>>
+    ensures said { IfOk result (Gives SaysPosition (first_value (found_of words.now) word.now)) }
+    ensures refused { IfErr result (λ error. IsWrong SaysNoPosition (first_value (found_of words.now) word.now)) }
 {
     let Some(text) = words.get_str(word) else {
         return Ok(None);
     };
-    match read_size(text) {
+    match read_position(text) {
+        Ok(value) => Ok(Some(value)),
+        Err(wrong) => Err(WordsError::Value { word, text, wrong }),
+    }
+}
+
+/// Reads the size of a new partition, if the argument is given.
+pub(crate) fn length<'a>(
+    words: &ArgMatches<'a>,
+    word: &'static str,
+) -> Result<Option<Extent>, WordsError<'a>>
+    ensures said { IfOk result (Gives SaysLength (first_value (found_of words.now) word.now)) }
+    ensures refused { IfErr result (λ error. IsWrong SaysNoLength (first_value (found_of words.now) word.now)) }
+{
+    let Some(text) = words.get_str(word) else {
+        return Ok(None);
+    };
+    match read_length(text) {
         Ok(value) => Ok(Some(value)),
         Err(wrong) => Err(WordsError::Value { word, text, wrong }),
     }
 }
 
 /// Reads the new size of a partition, if the argument is given.
-pub(crate) fn new_size<'a>(
+pub(crate) fn new_length<'a>(
     words: &ArgMatches<'a>,
     word: &'static str,
-) -> Result<Option<Size>, WordsError<'a>>
-    ensures said { IfOk result (Gives SaysNewSize (first_value (found_of words.now) word.now)) }
-    ensures refused { IfErr result (λ error. IsWrong SaysNoNewSize (first_value (found_of words.now) word.now)) }
+) -> Result<Option<Extent>, WordsError<'a>>
+    ensures said { IfOk result (Gives SaysNewLength (first_value (found_of words.now) word.now)) }
+    ensures refused { IfErr result (λ error. IsWrong SaysNoNewLength (first_value (found_of words.now) word.now)) }
 {
     let Some(text) = words.get_str(word) else {
         return Ok(None);
     };
-    match read_new_size(text) {
+    match read_new_length(text) {
         Ok(value) => Ok(Some(value)),
         Err(wrong) => Err(WordsError::Value { word, text, wrong }),
     }
 }
 
-// Parses a new size: an amount, or `max`.
-fn read_new_size(text: &str) -> Result<Size, Wrong>
-    ensures said { IfOk result (SaysNewSize text.now) }
-    ensures refused { IfErr result (λ wrong. SaysNoNewSize text.now) }
+/// Returns the given size or end. Exactly one must be given. `word` is the argument of the size.
+pub(crate) fn one_extent<'a>(
+    size: Option<Extent>,
+    end: Option<Position>,
+    word: &'static str,
+) -> Result<Extent, WordsError<'a>>
+    ensures said { IfOk result (IsExtent size end) }
+    ensures refused { IfErr result (λ error. is_some size ≡ is_some end) }
 {
-    match text {
-        "max" => Ok(Size::Rest),
-        _ => match read_amount(text) {
-            Ok(amount) => Ok(Size::Exactly(amount)),
-            Err(wrong) => Err(wrong),
-        },
+    match (size, end) {
+        (Some(extent), None) => Ok(extent),
+        (None, Some(position)) => Ok(Extent::End(position)),
+        (Some(_), Some(_)) => Err(WordsError::Conflict {
+            one: word,
+            other: "--end",
+        }),
+        (None, None) => Err(WordsError::Missing(word)),
     }
 }
 
@@ -166,6 +192,54 @@ pub(crate) fn attributes<'a>(
     match read_attributes(text) {
         Ok(value) => Ok(Some(value)),
         Err(wrong) => Err(WordsError::Value { word, text, wrong }),
+    }
+}
+
+/// Reads a change of attributes, if the argument is given.
+pub(crate) fn attribute_change<'a>(
+    words: &ArgMatches<'a>,
+    word: &'static str,
+) -> Result<Option<AttributeChange>, WordsError<'a>>
+    ensures said { IfOk result (Gives SaysChange (first_value (found_of words.now) word.now)) }
+    ensures refused { IfErr result (λ error. IsWrong SaysNoChange (first_value (found_of words.now) word.now)) }
+{
+    let Some(text) = words.get_str(word) else {
+        return Ok(None);
+    };
+    match read_attribute_change(text) {
+        Ok(value) => Ok(Some(value)),
+        Err(wrong) => Err(WordsError::Value { word, text, wrong }),
+    }
+}
+
+/// Reads a new GUID, if the argument is given.
+pub(crate) fn new_guid<'a>(
+    words: &ArgMatches<'a>,
+    word: &'static str,
+) -> Result<Option<NewGuid>, WordsError<'a>>
+    ensures said { IfOk result (Gives SaysNewGuid (first_value (found_of words.now) word.now)) }
+    ensures refused { IfErr result (λ error. IsWrong SaysNoNewGuid (first_value (found_of words.now) word.now)) }
+{
+    let Some(text) = words.get_str(word) else {
+        return Ok(None);
+    };
+    match read_new_guid(text) {
+        Ok(value) => Ok(Some(value)),
+        Err(wrong) => Err(WordsError::Value { word, text, wrong }),
+    }
+}
+
+// Parses a new GUID: a GUID, or `random`.
+fn read_new_guid(text: &str) -> Result<NewGuid, Wrong>
+    ensures said { IfOk result (SaysNewGuid text.now) }
+    ensures refused { IfErr result (λ wrong. SaysNoNewGuid text.now) }
+{
+    match text {
+        "random" => Ok(NewGuid::Random),
+        _ => match read_guid(text) {
+            Ok(guid) => Ok(NewGuid::Given(guid)),
+            Err(wrong) => Err(wrong),
+        },
     }
 }
 

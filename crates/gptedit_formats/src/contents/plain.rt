@@ -164,11 +164,20 @@ static LATER: [Later; 19] = [
 
 /// Adds contents with a mark in the piece.
 pub fn find_plain(piece: &Piece, found: &mut Vec<Found>) -> Result<(), AllocError> {
+    find_whole(piece, found)?;
+    find_later(piece, found)
+}
+
+fn find_whole(piece: &Piece, found: &mut Vec<Found>) -> Result<(), AllocError> {
     for mark in &WHOLE {
         if piece.has(mark.1, mark.2) {
             found.push(Found::whole(mark.0))?;
         }
     }
+    Ok(())
+}
+
+fn find_later(piece: &Piece, found: &mut Vec<Found>) -> Result<(), AllocError> {
     for mark in &LATER {
         if piece.has(mark.1, mark.3) {
             found.push(Found::at(mark.0, mark.1.saturating_sub(mark.2), None))?;

@@ -4,7 +4,7 @@ use gptman::sizes::MAX_ENTRY_COUNT;
 use std::fmt;
 
 /// A fault of a copy.
-#[derive(Clone, Copy, PartialEq, Eq, Debug)]
+#[derive(Clone, Copy)]
 pub enum Fault {
     /// There is no header, but what looks like entries at their usual place.
     NoHeader {
@@ -241,7 +241,7 @@ fn write_other<W: fmt::Write>(
 }
 
 /// A fault of an entry.
-#[derive(Clone, Copy, PartialEq, Eq, Debug)]
+#[derive(Clone, Copy)]
 pub enum EntryFault {
     /// It ends before it starts.
     EndsBeforeStart,

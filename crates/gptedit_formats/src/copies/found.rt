@@ -35,7 +35,7 @@ impl Salvaged {
 }
 
 /// The kind of a copy.
-#[derive(Clone, Copy, PartialEq, Eq, Debug)]
+#[derive(Clone, Copy)]
 pub enum CopyKind {
     /// The primary copy, whose header is in sector 1.
     Primary,
@@ -46,7 +46,7 @@ pub enum CopyKind {
 }
 
 /// The place where a copy is, or would be.
-#[derive(Clone, Copy, PartialEq, Eq, Debug)]
+#[derive(Clone, Copy)]
 pub struct Spot {
     /// The sector size in bytes.
     pub sector_size: u64,

@@ -6,7 +6,7 @@
 use gptman::crc::crc32;
 
 /// A byte to change: its index, and the bits to flip.
-#[derive(Clone, Copy, PartialEq, Eq, Debug)]
+#[derive(Clone, Copy)]
 pub struct WrongByte {
     pub index: usize,
     pub bits: u8,

@@ -5,7 +5,7 @@ use gptedit_formats::copies::{FoundCopy, FoundEntry, Salvaged};
 use std::fmt;
 
 /// Advice on writing the layout.
-#[derive(Clone, Copy, PartialEq, Eq, Debug)]
+#[derive(Clone, Copy)]
 pub enum Advice {
     /// The layout has all entries that were found, and no others are known to be lost.
     Write,

@@ -1,6 +1,7 @@
 //! Faults of values.
 
 use gptedit_values::{AllSfdiskNames, AttributeName, Wrong};
+use gptguid_core::nearest_name;
 use gptman::sizes::{DEFAULT_ENTRY_COUNT, MAX_ENTRY_COUNT};
 use std::fmt;
 
@@ -21,6 +22,8 @@ pub enum Fault {
     NotAttributes,
     /// The word is wrong.
     Value(Wrong),
+    /// The word is no type. This name is nearest to it.
+    NoType(Option<&'static str>),
     /// An earlier partition has this number.
     Taken(u32),
     /// An earlier partition has the size `rest`.
@@ -68,6 +71,10 @@ impl fmt::Display for Fault {
     fn fmt<W: fmt::Write>(&self, f: &mut fmt::Formatter<W>) -> fmt::Result {
         match self {
             Fault::Value(wrong) => write!(f, "{wrong}"),
+            Fault::NoType(None) => write!(f, "{}", Wrong::NoType),
+            Fault::NoType(Some(nearest)) => {
+                write!(f, "{}; the nearest name is {nearest}", Wrong::NoType)
+            }
             Fault::Taken(number) => {
                 write!(
                     f,
@@ -97,6 +104,14 @@ impl fmt::Display for Fault {
 }
 
 impl Fault {
+    /// Returns the fault of a wrong word.
+    pub fn of(wrong: Wrong, word: &str) -> Fault {
+        match wrong {
+            Wrong::NoType => Fault::NoType(nearest_name(word)),
+            wrong => Fault::Value(wrong),
+        }
+    }
+
     // Returns the rule for a fault whose message is one text.
     fn rule(self) -> &'static str {
         match self {
@@ -142,6 +157,7 @@ impl Fault {
             }
             Fault::NotUtf8 => "its escapes must be UTF-8",
             Fault::Value(_)
+            | Fault::NoType(_)
             | Fault::Taken(_)
             | Fault::NotEntries
             | Fault::NotAttributes

@@ -6,7 +6,7 @@ ghost use Rattle.toml.specs.View.{table_view, view};
 ghost use Rattle.gptedit_text.specs.Layouts.{GivesAttributesOf, IsAttributeOf, SaysAttributeOf, SaysBitOf};
 ghost use Rattle.gptedit_values.specs.Words.{HasBitsOf};
 
-use crate::error::{Fault, LayoutError, Section, TextPlace};
+use crate::error::{ErrorList, Fault, LayoutError, Section, TextPlace};
 use gptedit_values::{Wrong, read_attribute};
 use std::alloc::Global;
 use toml::{Table, Value};
@@ -37,8 +37,8 @@ impl<'a> Keyed<'a> {
         self.place().fault(key, fault)
     }
 
-    /// Fails with `Unknown` if the section does not have one of the keys.
-    pub fn check_keys(&self, alloc: Global) -> Result<(), LayoutError> {
+    /// Adds an error for each key that the section does not have.
+    pub fn check_keys(&self, alloc: Global, errors: &mut ErrorList) -> Result<(), LayoutError> {
         for key in self.table.keys() {
             if !self
                 .section
@@ -46,10 +46,10 @@ impl<'a> Keyed<'a> {
                 .iter()
                 .any(|known| *known == key.as_str())
             {
-                return Err(LayoutError::Unknown {
+                errors.add(LayoutError::Unknown {
                     place: self.place(),
                     key: String::from_str(alloc, key.as_str())?,
-                });
+                })?;
             }
         }
         Ok(())
@@ -90,7 +90,7 @@ impl<'a> Keyed<'a> {
         };
         match read(text) {
             Ok(value) => Ok(Some(value)),
-            Err(wrong) => Err(self.fault(key, Fault::Value(wrong))),
+            Err(wrong) => Err(self.fault(key, Fault::of(wrong, text))),
         }
     }
 

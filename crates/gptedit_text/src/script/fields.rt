@@ -2,10 +2,12 @@
 
 use crate::entries::read_name;
 use crate::error::{Fault, LayoutError, Section, TextPlace};
+use crate::script::extents::read_any_extent;
+use crate::script::kinds::find_type;
 use crate::script::token::{first_word, next_token, skip_separator};
 use crate::script::words::{is_mbr_type, read_script_attributes, unescaped};
 use gptedit_core::{Amount, Asked, Choice, Size};
-use gptedit_values::{read_extent, read_guid, read_type};
+use gptedit_values::{read_guid, read_type};
 use std::alloc::Global;
 
 // The parts of a line without names, in their order.
@@ -49,7 +51,7 @@ pub fn is_partition(line: &str) -> bool {
 // Reports whether the text is the start of a line without names.
 fn is_start(start: &str) -> bool {
     let number = without_sign(start);
-    number.is_empty() || read_extent(number).is_some()
+    number.is_empty() || read_any_extent(number).is_some()
 }
 
 /// Reads a line that describes a partition. Its number is that of its node, or else this one.
@@ -254,17 +256,21 @@ fn extent_of(
     if number.is_empty() {
         return Ok(None);
     }
-    match read_extent(number) {
+    match read_any_extent(number) {
         Some(amount) => Ok(Some(amount)),
         None => Err(place.fault(key, Fault::NotExtent)),
     }
 }
 
 fn type_of(place: TextPlace, key: &'static str, value: &str) -> Result<[u8; 16], LayoutError> {
-    match read_type(value) {
-        Ok(guid) => Ok(guid),
-        Err(_) if is_mbr_type(value) => Err(place.fault(key, Fault::MbrType)),
-        Err(wrong) => Err(place.fault(key, Fault::Value(wrong))),
+    let wrong = match read_type(value) {
+        Ok(guid) => return Ok(guid),
+        Err(wrong) => wrong,
+    };
+    match find_type(value) {
+        Some(guid) => Ok(guid),
+        None if is_mbr_type(value) => Err(place.fault(key, Fault::MbrType)),
+        None => Err(place.fault(key, Fault::of(wrong, value))),
     }
 }
 

@@ -1,9 +1,10 @@
 //! The headers of a script.
 
 use crate::error::{Fault, LayoutError, Section, TextPlace};
+use crate::script::extents::read_any_extent;
 use crate::table_header::Header;
 use gptedit_core::{Amount, DEFAULT_ALIGN};
-use gptedit_values::{read_extent, read_guid, read_number};
+use gptedit_values::{read_guid, read_number};
 use std::alloc::Global;
 
 /// The headers that were read.
@@ -127,7 +128,7 @@ fn guid_in(place: TextPlace, value: &str) -> Result<[u8; 16], LayoutError> {
 
 // Reads the alignment, which is in bytes also without a unit.
 fn grain_in(place: TextPlace, value: &str) -> Result<Amount, LayoutError> {
-    match read_extent(value) {
+    match read_any_extent(value) {
         Some(Amount::Sectors(bytes)) => Ok(Amount::Bytes(bytes)),
         Some(amount) => Ok(amount),
         None => Err(place.fault("grain", Fault::NotCount)),

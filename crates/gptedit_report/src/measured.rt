@@ -1,0 +1,66 @@
+//! Explains how a stated place is measured.
+
+use crate::reason::Reason;
+use crate::refusal::write_not_whole;
+use crate::report::Message;
+use gptedit_core::Unmeasured;
+use std::fmt;
+
+/// Message: a start or a size was rounded down. One line, without the last newline.
+#[derive(Clone, Copy)]
+pub struct RoundedText {
+    /// `start` or `size`.
+    pub what: &'static str,
+    /// The rounded value in sectors.
+    pub sectors: u64,
+    /// The sector size in bytes.
+    pub sector_size: u64,
+}
+
+impl fmt::Display for RoundedText {
+    fn fmt<W: fmt::Write>(&self, f: &mut fmt::Formatter<W>) -> fmt::Result {
+        let (what, sectors) = (self.what, self.sectors);
+        write!(f, "the {what} is rounded down to {sectors}s")?;
+        match sectors.checked_mul(self.sector_size) {
+            Some(bytes) => write!(f, " ({bytes} bytes)"),
+            None => Ok(()),
+        }
+    }
+}
+
+/// Message: a stated place cannot be measured, and the remedy. One line, without the last newline.
+#[derive(Clone, Copy)]
+pub struct UnmeasuredText {
+    /// Why.
+    pub unmeasured: Unmeasured,
+    /// The sector size in bytes.
+    pub sector_size: u64,
+}
+
+impl fmt::Display for UnmeasuredText {
+    fn fmt<W: fmt::Write>(&self, f: &mut fmt::Formatter<W>) -> fmt::Result {
+        let text = match self.unmeasured {
+            Unmeasured::NotWhole(amount) => return write_not_whole(f, amount, self.sector_size),
+            Unmeasured::NoAlignment => {
+                "the alignment must not be zero; use for example --align 1MiB"
+            }
+            Unmeasured::NoSize =>
+                "the partition would have a size of zero; use a larger size or a later end",
+            Unmeasured::TooLarge => {
+                "the partition would end past 2^64 sectors; use a smaller start or size"
+            }
+            Unmeasured::NoStart => "an end needs a start; use --start",
+            Unmeasured::NoPartition => "there is no partition that could become longer or shorter",
+            Unmeasured::BeforeStart => {
+                "the position would be before the start of the disk; use a smaller one after the -"
+            }
+        };
+        f.write_str(text)
+    }
+}
+
+impl Message for UnmeasuredText {
+    fn reason(&self) -> Reason {
+        Reason::Place(self.unmeasured)
+    }
+}
