@@ -54,6 +54,8 @@ install:
 	install -D -m 644 completions/gptedit.fish "$(DESTDIR)$(PREFIX)/share/fish/vendor_completions.d/gptedit.fish"
 	install -D -m 644 docs/gptman.3 "$(DESTDIR)$(PREFIX)/share/man/man3/gptman.3"
 	install -D -m 644 docs/gptman_fd.3 "$(DESTDIR)$(PREFIX)/share/man/man3/gptman_fd.3"
+	install -D -m 644 docs/gptedit.schema.json "$(DESTDIR)$(PREFIX)/share/doc/gptman/docs/gptedit.schema.json"
+	install -D -m 755 examples/growpart "$(DESTDIR)$(PREFIX)/share/doc/gptman/examples/growpart"
 	install -D -m 644 lib/libgptman.a "$(DESTDIR)$(PREFIX)/lib/libgptman.a"
 	install -D -m 755 lib/libgptman.so.1 "$(DESTDIR)$(PREFIX)/lib/libgptman.so.1"
 	ln -sf libgptman.so.1 "$(DESTDIR)$(PREFIX)/lib/libgptman.so"
@@ -99,9 +101,9 @@ crash-states: gptimg gptedit
 	@python3 -B trials/crash_states --json crash-states.json --chart docs/crash-states.svg
 
 # Reads what a crash in each command of gptedit may leave, has a firmware boot images that a crash left, cuts
-# the power of a Linux kernel in the middle of commands, has other programs, kernels and boot loaders read such
-# images, compares the library for C with others, and has tests/gptedit try wrong programs, each of which must
-# fail; each where what it needs is installed.
+# the power of a Linux kernel in the middle of commands and of examples/growpart on its root, has other programs,
+# kernels and boot loaders read such images, runs mkosi and vmdb2 with gptedit, compares the library for C with
+# others, and has tests/gptedit try wrong programs, each of which must fail; each where what it needs is installed.
 # They stand beside the gate. The model of gptedit plays COMMANDS random commands of a SEED.
 SEED = 2
 COMMANDS = 5000
@@ -109,8 +111,10 @@ trials: gptimg gptedit
 	@python3 -B trials/crash_states/changes.py ./gptedit
 	@trials/with_firmware.sh
 	@trials/with_power_cuts.sh
+	@trials/with_growpart.sh
 	@trials/with_readers.sh
 	@trials/with_libraries.sh
+	@python3 -B trials/image_builders.py
 	@python3 -B tests/gptedit ./gptedit uses sources locks holders
 	@python3 -B tests/gptedit/model.py ./gptedit $(SEED) $(COMMANDS)
 	@python3 -B trials/planted

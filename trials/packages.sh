@@ -33,7 +33,8 @@ try_root() {
     fi
     for name in include/gptman.h include/gptman_fd.h share/man/man1/gptedit.1.gz share/doc/gptman/README.md \
         share/man/man3/gptman.3.gz lib/python3/dist-packages/gptman/__init__.py \
-        share/bash-completion/completions/gptedit share/fish/vendor_completions.d/gptedit.fish; do
+        share/bash-completion/completions/gptedit share/fish/vendor_completions.d/gptedit.fish \
+        share/doc/gptman/docs/gptedit.schema.json share/doc/gptman/examples/growpart; do
         holds "$name is there" test -s "$root$prefix/$name"
     done
 }

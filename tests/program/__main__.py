@@ -8,7 +8,7 @@ tests/gptedit tries.
 
 Prints a line for each subject, and in full what does not hold. The last line is 'N passed, M failed', and the status is
 1 where something failed. Needs bash, coreutils and the program. What needs sgdisk, sfdisk, strace, flock, qemu-img,
-gpart, mtools, or tools of file systems is tried where they are, and left out with a line where not; so is what only
+mtools, or tools of file systems is tried where they are, and left out with a line where not; so is what only
 some users may do.
 """
 import os
@@ -29,10 +29,12 @@ import files  # noqa: E402
 import growth  # noqa: E402
 import guide  # noqa: E402
 import guids  # noqa: E402
+import installing  # noqa: E402
 import kills  # noqa: E402
 import memory  # noqa: E402
 import other_tools  # noqa: E402
 import output  # noqa: E402
+import planted  # noqa: E402
 import readme  # noqa: E402
 import shapes  # noqa: E402
 import static  # noqa: E402
@@ -72,6 +74,8 @@ SUBJECTS = {
     "calls of the system": other_tools.try_calls,
     "calls of the system that fail": faults.try_failing_calls,
     "calls of the system that are interrupted": faults.try_interrupted_calls,
+    "what is installed": installing.try_install,
+    "edits of trials apply": planted.try_edits,
     "the example of README.md": guide.try_readme,
     "the recipes of docs/GUIDE.md": guide.try_guide,
     "the examples of docs/FAULTS.md": guide.try_faults,

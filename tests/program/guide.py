@@ -6,17 +6,22 @@ with it, and the other lines are what it prints. A block of kind `bash` or `toml
 file NAME. What stands in a block of kind `text` or `rust`, or in none, is not run.
 
 A block that names a tool which is not installed is left out, with a line. So what stands on such a block stands in it.
+What other programs say of the images of docs/GUIDE.md is in recipes.py. The line of a document has the seconds that the
+commands of each heading took.
 """
 import os
 import re
 import shlex
 import shutil
 import subprocess
+import time
 
+import recipes
 from given import DISK, text_of
 
 # Tools that need not be installed.
-TOOLS = ["sgdisk", "sfdisk", "mkfs.fat", "mmd", "mcopy", "mtype", "mkfs.ext4", "debugfs", "qemu-img", "gpart", "flock"]
+TOOLS = ["sgdisk", "sfdisk", "mkfs.fat", "mmd", "mcopy", "mtype", "mkfs.ext4", "debugfs", "e2fsck", "resize2fs",
+         "qemu-img", "flock"]
 KINDS = ["console", "bash", "toml", "text", "rust"]
 
 
@@ -26,8 +31,11 @@ def try_readme(tally, program):
 
 
 def try_guide(tally, program):
-    """The recipes of docs/GUIDE.md."""
-    Document(tally, program, "docs/GUIDE.md").run()
+    """The recipes of docs/GUIDE.md, and what other programs say of their images."""
+    guide = Document(tally, program, "docs/GUIDE.md", recipes.LEFT)
+    guide.run()
+    tally.equals("the headings of recipes.py are those of docs/GUIDE.md", set(), set(recipes.LEFT) - set(guide.seconds))
+    return "seconds: " + ", ".join(f"{name} {seconds:.1f}" for name, seconds in guide.seconds.items())
 
 
 def try_faults(tally, program):
@@ -63,12 +71,12 @@ def try_least_sizes(tally, program, page):
 class Document:
     """A document, and the examples under the heading that is read."""
 
-    def __init__(self, tally, program, name):
-        self.tally, self.program, self.name = tally, program, name
+    def __init__(self, tally, program, name, left=None):
+        self.tally, self.program, self.name, self.left = tally, program, name, left or {}
         self.examples, self.said = program.file("examples"), program.file("said")
         self.heading, self.kind, self.file = "", "", None
         self.commands, self.wanted, self.block_start = [], [], 0
-        self.ran = 0
+        self.ran, self.seconds = 0, {}
 
     def run(self):
         """Runs its examples."""
@@ -153,10 +161,25 @@ class Document:
             for number, command in enumerate(self.commands):
                 file.write(f"{{ {command}\n}} > {shlex.quote(self.said_by(number))} 2>&1 < /dev/null\n")
         environment = {**os.environ, "LC_ALL": "C", "PATH": f"{self.program.file('bin')}:{os.environ['PATH']}"}
-        subprocess.run(["timeout", "60", "bash", script], cwd=self.examples, env=environment, check=False)
+        begin = time.monotonic()
+        subprocess.run(["timeout", "120", "bash", script], cwd=self.examples, env=environment, check=False)
+        if self.commands:
+            self.seconds[self.heading] = time.monotonic() - begin
         for number, (command, wanted) in enumerate(zip(self.commands, self.wanted)):
             printed = ""
             if os.path.exists(self.said_by(number)):
                 printed = self.program.text(self.said_by(number))
             self.tally.equals(f"{self.name}, {self.heading}: {command}", wanted, printed)
             self.ran += 1
+        self.try_left(environment)
+
+    def try_left(self, environment):
+        """Counts whether other programs say what they should of the images under a heading."""
+        for command, wanted in self.left.get(self.heading, []):
+            missing = recipes.missing_in(command, shutil.which)
+            if missing:
+                self.tally.leave_out(f"{missing} is not installed", f"{self.heading}: {command}")
+                continue
+            ended = subprocess.run(["bash", "-c", command], cwd=self.examples, env=environment, check=False,
+                                   stdout=subprocess.PIPE, stderr=subprocess.DEVNULL)
+            self.tally.equals(f"{self.name}, {self.heading}, left: {command}", wanted, ended.stdout.decode())
