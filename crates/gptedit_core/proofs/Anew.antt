@@ -1,19 +1,19 @@
 -- A new table is made without reading an old one.
-use Rattle.std.proofs.Common.{◌≡◌, ◌⊎◌, inl, inr, sym, ap, ◌∙◌, subst, ℕ, ◌<◌, false, [], ◌∷◌}
+use Rattle.std.proofs.Common.{◌≡◌, ◌⊎◌, inl, inr, sym, ap, ◌∙◌, subst, ℕ, ◌<◌, false, List, [], ◌∷◌}
 use Rattle.std.specs.Prelude.{Option, Some, None}
 use Rattle.gptman.specs.Crash.{AreReadFromEachCopy, StartsFromOne, StartsLaidOut}
 use Rattle.gptman.specs.Disk.{DiskState, Keeps, OnlyRead, Wrote}
 use Rattle.gptman.specs.Fault.{Fault, io}
 use Rattle.gptman.specs.Layout.{HasLayout}
 use Rattle.gptman.specs.Stop.{IsStored, StopsHold}
-use Rattle.gptman.specs.Table.{Table, table_in}
+use Rattle.gptman.specs.Table.{Table, new_table_of, table_in}
 use Rattle.gptman.specs.TableWrites.{table_ranges, IsFailureOrMemory}
 use Rattle.gptman.specs.declared.table.GPT.{GPT}
 use Rattle.gptman.proofs.Readers.{reads_then}
 use Rattle.gptman.proofs.Runs.{rose_since}
 use Rattle.gptman_change.proofs.Left.{either, laid_out_since, leaves_since, wrote_since}
 use Rattle.gptedit_core.specs.Applying.{IsStopOf}
-use Rattle.gptedit_core.specs.Making.{empty_of, HasRoomOf, IsEmpty, IsFitted, IsNew, IsOnDisk, IsPlannedNew, KeepsLaidOut, LeavesMaking, MayBeReplaced, RefusesMaking, RefusesNew, RefusesRemaking}
+use Rattle.gptedit_core.specs.Making.{HasRoomFor, IsEmpty, IsEmptyFor, IsFitted, IsNew, IsOnDisk, IsPlannedNew, KeepsLaidOut, LeavesMaking, MayBeReplaced, RefusesMaking, RefusesNew, RefusesRemaking}
 use Rattle.gptedit_core.specs.Making.LeavesMaking.{written}
 use Rattle.gptedit_core.specs.Making.RefusesMaking.{failed_then, no_memory}
 use Rattle.gptedit_core.specs.Making.RefusesRemaking.{not_new}
@@ -25,18 +25,18 @@ use Rattle.gptedit_core.specs.declared.refusal.Stop.TheVariants.{Refused, Failed
 use Rattle.gptedit_core.proofs.Bounded.{new_layout, new_sector}
 
 -- A fitted table with the stated layout is the empty one.
-pub is_empty : (creation : Creation) (ss len : ℕ) (table kept : Option GPT) → IsFitted creation ss len table → KeepsLaidOut table len kept → IsEmpty creation ss len kept
-is_empty creation ss len None None fitted keeps = λ room. let both = sym fitted ∙ room.fits in absurd (cc)
-is_empty creation ss len None (Some k) fitted keeps = absurd (cc)
-is_empty creation ss len (Some g) None fitted keeps = λ room. keeps (subst (λ (m : GPT). HasLayout m len) (sym fitted.1) room.layout)
-is_empty creation ss len (Some g) (Some k) fitted keeps =
+pub is_empty : (count : ℕ) (guid : List ℕ) (ss len : ℕ) (table kept : Option GPT) → IsFitted count guid ss len table → KeepsLaidOut table len kept → IsEmptyFor count guid ss len kept
+is_empty count guid ss len None None fitted keeps = λ room. let both = sym fitted ∙ room.fits in absurd (cc)
+is_empty count guid ss len None (Some k) fitted keeps = absurd (cc)
+is_empty count guid ss len (Some g) None fitted keeps = λ room. keeps (subst (λ (m : GPT). HasLayout m len) (sym fitted.1) room.layout)
+is_empty count guid ss len (Some g) (Some k) fitted keeps =
     (record { fits = fitted.0; layout = subst (λ (m : GPT). HasLayout m len) fitted.1 keeps.0 }, keeps.1 ∙ fitted.1)
 
-pub some_empty : (creation : Creation) (ss len : ℕ) (o : Option GPT) (g : GPT) → o ≡ Some g → IsEmpty creation ss len o → HasRoomOf creation ss len × (g ≡ empty_of creation ss len)
-some_empty creation ss len o g is has = subst (IsEmpty creation ss len) is has
+pub some_empty : (count : ℕ) (guid : List ℕ) (ss len : ℕ) (o : Option GPT) (g : GPT) → o ≡ Some g → IsEmptyFor count guid ss len o → HasRoomFor count guid ss len × (g ≡ new_table_of count guid ss len)
+some_empty count guid ss len o g is has = subst (IsEmptyFor count guid ss len) is has
 
 pub some_sector : (creation : Creation) (ss len : ℕ) (o : Option GPT) (g : GPT) → o ≡ Some g → IsEmpty creation ss len o → g.sector_size ≡ ss
-some_sector creation ss len o g is has = ap (λ (m : GPT). m.sector_size) (some_empty creation ss len o g is has).1
+some_sector creation ss len o g is has = ap (λ (m : GPT). m.sector_size) (some_empty creation.entries creation.guid ss len o g is has).1
 
 -- A refusal of the new table is a refusal of the replacement.
 pub stop_remade : (creation : Creation) (len ss : ℕ) (g : GPT) → MayBeReplaced creation g len → ss ≡ g.sector_size → (s : Stop) → IsStopOf (RefusesNew creation ss len) s

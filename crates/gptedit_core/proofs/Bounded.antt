@@ -12,13 +12,13 @@ use Rattle.gptman.specs.Fit.{array_sectors, array_size, is_too_small, new_header
 use Rattle.gptman.specs.Layout.{HasLayout, copy_ranges_at}
 use Rattle.gptman.specs.Ranges.{AreApart, AreInside}
 use Rattle.gptman.specs.Reading.{primary, backup}
-use Rattle.gptman.specs.Table.{entries_in, table_in, IsHeaderForm}
+use Rattle.gptman.specs.Table.{entries_in, new_table_of, table_in, IsHeaderForm}
 use Rattle.gptman.specs.TableWrites.{MayBeWritten}
 use Rattle.gptman.specs.Write.{has_other_header}
 use Rattle.gptman.specs.declared.table.GPT.{GPT}
 use Rattle.gptman.proofs.Commits.{coherent_still, form_still, layout_still, KeepsRanges}
 use Rattle.gptedit_core.specs.Applying.{IsStopOf}
-use Rattle.gptedit_core.specs.Making.{bounded, empty_of, first_asked, last_asked, with_bounds, AreBounds, HasBounds, HasRoomOf, IsAppliedIf, IsNew, RefusesNew}
+use Rattle.gptedit_core.specs.Making.{bounded, empty_of, first_asked, last_asked, with_bounds, AreBounds, HasBounds, HasRoomFor, HasRoomOf, IsAppliedIf, IsNew, RefusesNew}
 use Rattle.gptedit_core.specs.Making.RefusesNew.{not_valid}
 use Rattle.gptedit_core.specs.Planning.{RefusesCheck}
 use Rattle.gptedit_core.specs.declared.asked.RequestedLayout.{RequestedLayout}
@@ -74,15 +74,15 @@ not_small false false is = refl
 
 -- ---- the empty table
 
-module _ (creation : Creation) (ss len : ℕ) (room : HasRoomOf creation ss len) where
+module _ (count : ℕ) (guid : List ℕ) (ss len : ℕ) (room : HasRoomFor count guid ss len) where
   abbrev g : GPT
-  g = empty_of creation ss len
+  g = new_table_of count guid ss len
 
   abbrev array : ℕ
-  array = array_sectors (new_header_of creation.entries creation.guid) ss
+  array = array_sectors (new_header_of count guid) ss
 
   abbrev bytes : ℕ
-  bytes = 128 * creation.entries
+  bytes = 128 * count
 
   sector : 92 ≤ ss
   sector = room.layout.table.sector
@@ -90,10 +90,10 @@ module _ (creation : Creation) (ss len : ℕ) (room : HasRoomOf creation ss len)
   takes : bytes ≤ array * ss
   takes =
       let some : 0 < ss = omega (arith, sector) in
-      takes_from creation.entries (array * ss) (div_ceil_times (creation.entries * 128) ss some).0
+      takes_from count (array * ss) (div_ceil_times (count * 128) ss some).0
 
   few : array + 2 ≤ len / ss
-  few = ltb-false (len / ss) (array + 2) (not_small (nat_eq (array_size (new_header_of creation.entries creation.guid)) 0) (is_too_small (len / ss) array) room.fits)
+  few = ltb-false (len / ss) (array + 2) (not_small (nat_eq (array_size (new_header_of count guid)) 0) (is_too_small (len / ss) array) room.fits)
 
   -- With valid bounds the empty table still has the layout.
   module _ (first last : ℕ) (bounds : AreBounds g.header.first_usable_lba g.header.last_usable_lba first last) where
@@ -139,7 +139,7 @@ module _ (creation : Creation) (ss len : ℕ) (room : HasRoomOf creation ss len)
     pub bounded_coherent : IsCoherent (with_bounds g first last).header (entries_in (with_bounds g first last))
     bounded_coherent = record {
       header_size = refl;
-      count = length-replicate creation.entries empty_entry;
+      count = length-replicate count empty_entry;
       entry_size = inl refl;
     }
 
@@ -158,7 +158,7 @@ pub applied_layout : (creation : Creation) (ss len : ℕ) (next : GPT) → HasRo
 applied_layout creation ss len next room bounds applied =
     let g = empty_of creation ss len in
     layout_still (bounded creation g) next (applied_keeps creation.layout creation.random.items (bounded creation g) next applied) len
-    (bounded_layout creation ss len room (first_asked creation g) (last_asked creation g) bounds)
+    (bounded_layout creation.entries creation.guid ss len room (first_asked creation g) (last_asked creation g) bounds)
 
 module _ (creation : Creation) (ss len : ℕ) (next : GPT) (is : IsNew creation ss len next) where
   abbrev start : GPT
@@ -182,7 +182,7 @@ module _ (creation : Creation) (ss len : ℕ) (next : GPT) (is : IsNew creation 
   pub new_coherent : IsCoherent next.header (entries_in next)
   new_coherent =
       coherent_still start next keeps
-      (bounded_coherent creation ss len is.room (first_asked creation (empty_of creation ss len)) (last_asked creation (empty_of creation ss len)) is.filled.bounds)
+      (bounded_coherent creation.entries creation.guid ss len is.room (first_asked creation (empty_of creation ss len)) (last_asked creation (empty_of creation ss len)) is.filled.bounds)
 
 or_second : (a b : Bool) → b ≡ true → (a || b) ≡ true
 or_second true b is = refl

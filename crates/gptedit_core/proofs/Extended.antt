@@ -21,7 +21,7 @@ use Rattle.gptedit_core.proofs.Applied.{other_entry, this_entry}
 
 -- ---- entries by number
 
-found_by : (g : GPT) (i : ℕ) (e : GPTPartitionEntry) (b : Bool) → nat_le 1 i ≡ b
+pub found_by : (g : GPT) (i : ℕ) (e : GPTPartitionEntry) (b : Bool) → nat_le 1 i ≡ b
     → ◌≡◌ {A = Option GPTPartitionEntry} (if b then slice_get (entries_in g) (i - 1) else None) (Some e) → IsNumber g i × (entry_at g i ≡ e)
 found_by g i e false low is = absurd (cc)
 found_by g i e true low is =
@@ -31,7 +31,7 @@ found_by g i e true low is =
     let above = leb-true 1 i low in
     ((above, omega (arith, above, below)), same)
 
-number_found : (g : GPT) (i : ℕ) → IsNumber g i → entry_of_number g i ≡ Some (entry_at g i)
+pub number_found : (g : GPT) (i : ℕ) → IsNumber g i → entry_of_number g i ≡ Some (entry_at g i)
 number_found g i number =
     subst (λ (b : Bool). ◌≡◌ {A = Option GPTPartitionEntry} (if b then slice_get (entries_in g) (i - 1) else None) (Some (entry_at g i))) (sym (le-leb 1 i number.0))
     (slice_get-get_or (entries_in g) (i - 1) empty_entry (omega (arith, number.0, number.1)))

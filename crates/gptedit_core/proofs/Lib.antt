@@ -14,6 +14,10 @@ pub mod Growing
 pub mod Kept
 pub mod Applied
 pub mod Lengthened
+pub mod Matched
+pub mod Meanings
+pub mod Meant
+pub mod Rejected
 pub mod Offered
 pub mod Ordered
 pub mod Pairs
@@ -22,6 +26,7 @@ pub mod Planned
 pub mod Reached
 pub mod Remade
 pub mod Repeated
+pub mod Reshaped
 pub mod Resolved
 pub mod Runs
 pub mod Safe

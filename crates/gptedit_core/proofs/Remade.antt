@@ -14,7 +14,10 @@ use Rattle.gptman_change.specs.Changes.{begun, unwritten, written, IsSafe, Leave
 use Rattle.gptman_change.specs.Reads.{size_for}
 use Rattle.gptman_change.proofs.Safe.{unwritten_safe}
 use Rattle.gptedit_core.specs.Making.{put_at, copy_place_of, HasOrder, IsRemade, IsSafeOrder, IsWrittenAnew, SafeOrdersKeepACopy}
+use Rattle.gptedit_core.specs.Reshaping.{IsWrittenReshaped}
 use Rattle.gptedit_core.specs.declared.making.Creation.{Creation}
+use Rattle.gptedit_core.specs.declared.plan.Outcome.{Outcome}
+use Rattle.gptedit_core.specs.declared.reshaping.ReshapedRequest.{ReshapedRequest}
 use Rattle.gptedit_core.proofs.Bounded.{new_coherent, new_sector}
 use Rattle.gptedit_core.proofs.Ordered.{side_first, side_second}
 
@@ -89,27 +92,38 @@ of_table : (old mid : DiskState) (ss : ℕ) (g : GPT) (was : Table) → StartsGo
 of_table old mid ss g was good sector (inl first) = of_place old ss g was primary good sector first
 of_table old mid ss g was good sector (inr second) = of_place old ss g was backup good sector second.0
 
-in_order : (creation : Creation) (g next : GPT) (len : ℕ) → creation.may_lose ≡ false → HasOrder creation g next len → IsSafeOrder g next len
-in_order creation g next len keeps (inl lose) = absurd (cc)
-in_order creation g next len keeps (inr order) = order
+in_order : (g next : GPT) (len : ℕ) (may_lose : Bool) → may_lose ≡ false → HasOrder may_lose g next len → IsSafeOrder g next len
+in_order g next len may_lose keeps (inl lose) = absurd (cc)
+in_order g next len may_lose keeps (inr order) = order
 
-pub order_else : (creation : Creation) (g next : GPT) (len : ℕ) (b : Bool) → creation.may_lose ≡ false → IsTrue b ↔ IsSafeOrder g next len → IsTrue b ↔ HasOrder creation g next len
-order_else creation g next len b keeps is = (λ yes. inr (is.0 yes), λ order. is.1 (in_order creation g next len keeps order))
+pub order_else : (g next : GPT) (len : ℕ) (may_lose b : Bool) → may_lose ≡ false → IsTrue b ↔ IsSafeOrder g next len → IsTrue b ↔ HasOrder may_lose g next len
+order_else g next len may_lose b keeps is = (λ yes. inr (is.0 yes), λ order. is.1 (in_order g next len may_lose keeps order))
 
 pub refuted : {P : Type 0} (b : Bool) → b ≡ false → IsTrue b ↔ P → P → ⊥
 refuted b lacks is p = let holds : b ≡ true = is.1 p in absurd (cc)
 
--- A crash leaves the old or the new table, unless the write may lose both.
-pub safe_anew : (creation : Creation) (size : Option ℕ) (was : Table) (old new : DiskState) → creation.may_lose ≡ false → StartsGoodFor old size was
-    → LeavesChange (IsWrittenAnew creation old.size) size old new → IsSafe (IsWrittenAnew creation old.size) (size_for old.view size) was old new
-safe_anew creation size was old new keeps good (unwritten only) = unwritten_safe _ (size_for old.view size) was old new good only
-safe_anew creation size was old new keeps good (written table next answer read made wrote leaves) =
+-- A crash leaves the old or the new table if each write is in a safe order.
+safe_ordered : (W : GPT → GPT → Outcome → Type 0) (size : Option ℕ) (was : Table) (old new : DiskState) → ((g next : GPT) (answer : Outcome) → W g next answer → IsSafeOrder g next old.size)
+    → StartsGoodFor old size was → LeavesChange W size old new → IsSafe W (size_for old.view size) was old new
+safe_ordered W size was old new ordered good (unwritten only) = unwritten_safe W (size_for old.view size) was old new good only
+safe_ordered W size was old new ordered good (written table next answer read made wrote leaves) =
     let ss : ℕ = size_for old.view size in
-    let order = in_order creation table next old.size keeps made.planned.order in
+    let order = ordered table next answer made in
     let of = of_table old new ss table was good read.sector read.accepted in
     let one = subst (IsKeptFor old next) of.same (kept_in_order old table next good.synced of.read order) in
     begun table next answer of.same made
     (subst (λ (n : ℕ). StopsLeaveEither was (table_in next) n old new) (order.place.sector ∙ read.sector) (leaves was order.next_layout one))
+
+-- So it is unless the write may lose both.
+pub safe_anew : (creation : Creation) (size : Option ℕ) (was : Table) (old new : DiskState) → creation.may_lose ≡ false → StartsGoodFor old size was
+    → LeavesChange (IsWrittenAnew creation old.size) size old new → IsSafe (IsWrittenAnew creation old.size) (size_for old.view size) was old new
+safe_anew creation size was old new keeps =
+    safe_ordered (IsWrittenAnew creation old.size) size was old new (λ g next answer made. in_order g next old.size creation.may_lose keeps made.planned.order)
+
+pub safe_reshaped : (reshaped : ReshapedRequest) (size : Option ℕ) (was : Table) (old new : DiskState) → reshaped.may_lose ≡ false → StartsGoodFor old size was
+    → LeavesChange (IsWrittenReshaped reshaped old.size) size old new → IsSafe (IsWrittenReshaped reshaped old.size) (size_for old.view size) was old new
+safe_reshaped reshaped size was old new keeps =
+    safe_ordered (IsWrittenReshaped reshaped old.size) size was old new (λ g next answer made. in_order g next old.size reshaped.may_lose keeps made.planned.order)
 
 -- ---- the new table in the form of the old one
 

@@ -3,13 +3,17 @@ pub mod Fitting
 pub mod Growing
 pub mod Applying
 pub mod Making
+pub mod Matching
 pub mod Measuring
 pub mod Named
 pub mod Placing
 pub mod Planning
+pub mod Renewing
+pub mod Reshaping
 pub mod Resolving
 pub mod Sectors
 pub mod Selecting
+pub mod Sequence
 pub mod Setting
 pub mod Slots
 pub mod Targets

@@ -1,5 +1,5 @@
 -- A new table, and the order of writes when it replaces an old one.
-use Rattle.std.specs.Prelude.{◌≡◌, ◌≤◌, ◌⊎◌, ◌+◌, ℕ, true, false, List, [], ◌∷◌, length, Option, Some, None, unwrap_or, nat_eq, if◌then◌else◌}
+use Rattle.std.specs.Prelude.{◌≡◌, ◌≤◌, ◌⊎◌, ◌+◌, ℕ, Bool, true, false, List, [], ◌∷◌, length, Option, Some, None, unwrap_or, nat_eq, if◌then◌else◌}
 use Rattle.gptman.specs.Answers.{IsFailure}
 use Rattle.gptman.specs.Crash.{other_place, AreReadFromEachCopy, IsKeptFor, IsReadInForm}
 use Rattle.gptman.specs.Disk.{DiskState, OnlyRead, Wrote}
@@ -86,9 +86,9 @@ abbrev pub HasRoomOf : Creation → ℕ → ℕ → Type 0
 HasRoomOf creation ss len = HasRoomFor creation.entries creation.guid ss len
 
 -- The table without partitions is returned if its header can be fitted.
-abbrev pub IsFitted : Creation → ℕ → ℕ → Option GPT → Type 0
-IsFitted creation ss len None = fit_fault (new_header_of creation.entries creation.guid) ss len ≡ Some overflow
-IsFitted creation ss len (Some g) = (fit_fault (new_header_of creation.entries creation.guid) ss len ≡ None) × (g ≡ empty_of creation ss len)
+abbrev pub IsFitted : ℕ → List ℕ → ℕ → ℕ → Option GPT → Type 0
+IsFitted count guid ss len None = fit_fault (new_header_of count guid) ss len ≡ Some overflow
+IsFitted count guid ss len (Some g) = (fit_fault (new_header_of count guid) ss len ≡ None) × (g ≡ new_table_of count guid ss len)
 
 -- A table is returned if it has the stated layout.
 abbrev pub KeepsLaidOut : Option GPT → ℕ → Option GPT → Type 0
@@ -97,9 +97,12 @@ KeepsLaidOut (Some g) len None = ¬ HasLayout g len
 KeepsLaidOut (Some g) len (Some kept) = HasLayout g len × (kept ≡ g)
 
 -- The table without partitions is returned if there is room for it.
+abbrev pub IsEmptyFor : ℕ → List ℕ → ℕ → ℕ → Option GPT → Type 0
+IsEmptyFor count guid ss len None = ¬ HasRoomFor count guid ss len
+IsEmptyFor count guid ss len (Some g) = HasRoomFor count guid ss len × (g ≡ new_table_of count guid ss len)
+
 abbrev pub IsEmpty : Creation → ℕ → ℕ → Option GPT → Type 0
-IsEmpty creation ss len None = ¬ HasRoomOf creation ss len
-IsEmpty creation ss len (Some g) = HasRoomOf creation ss len × (g ≡ empty_of creation ss len)
+IsEmpty creation ss len = IsEmptyFor creation.entries creation.guid ss len
 
 -- A table without partitions becomes the new one on a disk of len bytes: its bounds are set, the layout is applied,
 -- and the result may be written.
@@ -161,8 +164,8 @@ abbrev pub MayBeReplaced : Creation → GPT → ℕ → Type 0
 MayBeReplaced creation g len = (creation.may_lose ≡ true) ⊎ HasLayout g len
 
 -- The write has a safe order, or may lose both.
-abbrev pub HasOrder : Creation → GPT → GPT → ℕ → Type 0
-HasOrder creation g next len = (creation.may_lose ≡ true) ⊎ IsSafeOrder g next len
+abbrev pub HasOrder : Bool → GPT → GPT → ℕ → Type 0
+HasOrder may_lose g next len = (may_lose ≡ true) ⊎ IsSafeOrder g next len
 
 -- A new table is made from the old one on a disk of len bytes, in the form of the old one. Its write has a safe order
 -- unless it may lose both.
@@ -170,14 +173,14 @@ pub record IsRemade (creation : Creation) (len : ℕ) (g next : GPT) : Type 0 wh
   pub made : GPT
   pub is_new : IsNew creation g.sector_size len made
   pub next_is : next ≡ put_at (copy_place_of g.header) made
-  pub order : HasOrder creation g next len
+  pub order : HasOrder creation.may_lose g next len
 
 -- No new table is made from the old one, for the first of these reasons that applies.
 pub data RefusesRemaking (creation : Creation) (len : ℕ) (g : GPT) (r : Refusal) : Type 0 where
   not_laid_out : ¬ MayBeReplaced creation g len → r ≡ NotLaidOut → RefusesRemaking creation len g r
   not_new : MayBeReplaced creation g len → RefusesNew creation g.sector_size len r → RefusesRemaking creation len g r
   no_order : (made : GPT) → MayBeReplaced creation g len → IsNew creation g.sector_size len made
-      → ¬ HasOrder creation g (put_at (copy_place_of g.header) made) len → r ≡ NoSafeOrder → RefusesRemaking creation len g r
+      → ¬ HasOrder creation.may_lose g (put_at (copy_place_of g.header) made) len → r ≡ NoSafeOrder → RefusesRemaking creation len g r
 
 -- A new table is always written, even if it equals the old one.
 abbrev pub IsAlways : GPT → GPT → Type 0

@@ -1,6 +1,6 @@
 //! Changes of the table on a disk.
 
-ghost use Rattle.std.specs.Prelude.{◌≡◌, ◌<◌, true, IfErr, IfOk, IfSome, OnErr};
+ghost use Rattle.std.specs.Prelude.{◌≡◌, ◌<◌, false, true, IfErr, IfOk, IfSome, OnErr};
 ghost use Rattle.gptman.specs.Answers.{HasCause};
 ghost use Rattle.gptman.specs.Disk.{FailedOrUntouched, IsHonest, Keeps, OnlyRead};
 ghost use Rattle.gptman.specs.Fault.{fault_of};
@@ -11,10 +11,12 @@ ghost use Rattle.gptman_change.specs.Reads.{size_for};
 ghost use Rattle.gptedit_core.specs.Fitting.{has_random_fitted, IsLeftFitted, IsWrittenFitted};
 ghost use Rattle.gptedit_core.specs.Growing.{IsLeftGrown, IsWrittenGrown, StartsPrimaryFor};
 ghost use Rattle.gptedit_core.specs.Planning.{has_random, IsLeft, IsMemoryFault, IsWritten, MayAsk};
+ghost use Rattle.gptedit_core.specs.Reshaping.{has_random_reshaped, IsLeftReshaped, IsWrittenReshaped};
 
 use crate::fitting::FittedRequest;
 use crate::growth::Growth;
 use crate::plan::{Outcome, Request};
+use crate::reshaping::ReshapedRequest;
 use gptman::{Disk, Result};
 use gptman_change::change_table;
 use std::alloc::Global;
@@ -148,4 +150,49 @@ pub fn edit_fitted<D: Disk>(
         (size_for (D.state disk.old).view sector_size) was (D.state disk.old) (D.state disk.new) }
 {
     change_table(alloc, disk, sector_size, fitted)
+}
+
+/// Reads the table on the disk, gives it the number of entries and the usable sectors of a shape, changes it as requested,
+/// and writes it to both places in one write. Writes nothing if the request is a dry run, is refused or changes nothing;
+/// `Job::Rewrite` always writes. The new table is written in the form of the copy that was read, so that this copy is
+/// overwritten last. `sector_size` is as for `edit`.
+///
+/// # Errors
+///
+/// Those of `edit`.
+pub fn edit_reshaped<D: Disk>(
+    alloc: Global,
+    disk: &mut D,
+    sector_size: Option<u64>,
+    reshaped: &ReshapedRequest,
+) -> Result<Outcome>
+    requires sector { IfSome sector_size (λ size. 0 < size) }
+    requires random { has_random_reshaped reshaped.now }
+    ensures keeps { Keeps (D.state disk.old) (D.state disk.new) }
+    ensures done { IsHonest (D.state disk.old) → IfOk result (λ outcome. AnswersChange
+        (IsWrittenReshaped reshaped.now (D.state disk.old).size)
+        (IsLeftReshaped reshaped.now (D.state disk.old).size)
+        sector_size outcome (D.state disk.old) (D.state disk.new)) }
+    ensures refused { IsHonest (D.state disk.old) → IfErr result (λ e. RefusesChange
+        (IsWrittenReshaped reshaped.now (D.state disk.old).size)
+        (IsMemoryFault reshaped.now (D.state disk.old).size)
+        (MayAsk reshaped.now) sector_size (fault_of e) (D.state disk.old) (D.state disk.new)) }
+    ensures cause { HasCause result (D.state disk.old) (D.state disk.new) }
+    ensures kept { IsHonest (D.state disk.old)
+        → OnErr result (FailedOrUntouched (D.state disk.old) (D.state disk.new)) }
+    ensures dry { IsHonest (D.state disk.old) → reshaped.now.request.is_dry ≡ true
+        → OnlyRead (D.state disk.old) (D.state disk.new) }
+
+    // If nothing was unsynced before, a crash or disk fault at any moment leaves the old or the planned table.
+    // `leaves`: from one good copy that is clear of the ranges written first. `safe`: unless `may_lose` is set, from at
+    // least one good copy, if all good copies are of one table.
+    ensures leaves { IsHonest (D.state disk.old) → LeavesChange
+        (IsWrittenReshaped reshaped.now (D.state disk.old).size) sector_size
+        (D.state disk.old) (D.state disk.new) }
+    ensures safe { reshaped.now.may_lose ≡ false → (was : Table)
+        → StartsGoodFor (D.state disk.old) sector_size was
+        → IsSafe (IsWrittenReshaped reshaped.now (D.state disk.old).size)
+        (size_for (D.state disk.old).view sector_size) was (D.state disk.old) (D.state disk.new) }
+{
+    change_table(alloc, disk, sector_size, reshaped)
 }

@@ -11,16 +11,17 @@ ghost use Rattle.gptman_change.specs.Changes.{StartsGoodFor};
 ghost use Rattle.gptman_change.specs.Reads.{size_for};
 ghost use Rattle.gptedit_core.specs.Applying.{IsStopOf};
 ghost use Rattle.gptedit_core.specs.Making.{bounded, copy_place_of, empty_of, has_random_in, put_at, usable_of};
-ghost use Rattle.gptedit_core.specs.Making.{AnswersMaking, HasBounds, HasRoomOf, IsEmpty, IsFitted, IsLeftAnew, IsNew};
+ghost use Rattle.gptedit_core.specs.Making.{AnswersMaking, AreBounds, HasBounds, HasRoomOf, IsEmpty, IsEmptyFor, IsFitted};
+ghost use Rattle.gptedit_core.specs.Making.{IsLeftAnew, IsNew};
 ghost use Rattle.gptedit_core.specs.Making.{IsRemade, IsWrittenAnew, LeavesMaking, RefusesMaking, RefusesNew};
-ghost use Rattle.gptedit_core.specs.Making.{HasOrder, IsAppliedIf, IsPlannedNew, KeepsLaidOut, MayBeReplaced, RefusesAskedIf, RefusesRemaking};
+ghost use Rattle.gptedit_core.specs.Making.{IsAppliedIf, IsPlannedNew, KeepsLaidOut, MayBeReplaced, RefusesAskedIf, RefusesRemaking};
 ghost use Rattle.gptman.specs.Write.{has_other_header};
 ghost use Rattle.gptedit_core.specs.Planning.{IsMemoryFault, MayAsk};
 ghost use Rattle.gptedit_core.specs.declared.refusal.Refusal.TheVariants.{OutOfBounds};
 
 use crate::applying::apply_layout;
 use crate::asked::RequestedLayout;
-use crate::order::has_safe_order;
+use crate::order::has_order;
 use crate::plan::{Outcome, check, decide};
 use crate::refusal::{Refusal, Stop};
 use crate::sectors::SectorRange;
@@ -184,7 +185,8 @@ impl Plan for Creation {
         disk: &mut D,
         table: &mut GPT,
     ) -> gptman::Result<Planned<Outcome>> {
-        let (size, empty) = make_empty(alloc, disk, table.sector_size, self)?;
+        let size = table.sector_size;
+        let (size, empty) = make_empty(alloc, disk, size, self.guid, self.entries)?;
         match replace(self, alloc, size, table, empty) {
             Ok(next) => decide(table, next, true, self.is_dry),
             Err(Stop::Failed(error)) => Err(error),
@@ -211,7 +213,8 @@ fn plan<D: Disk>(
     ensures cause { HasCause result (D.state disk.old) (D.state disk.new) }
     ensures value { IfOk result (IsPlannedNew creation.now sector_size (D.state disk.old).size) }
 {
-    let (size, empty) = make_empty(alloc, disk, sector_size, creation)?;
+    let (guid, entries) = (creation.guid, creation.entries);
+    let (size, empty) = make_empty(alloc, disk, sector_size, guid, entries)?;
     let Some(empty) = empty else {
         let refusal = Refusal::TooSmallFor(creation.entries);
         return Ok(Made::Refused { refusal });
@@ -223,13 +226,14 @@ fn plan<D: Disk>(
     }
 }
 
-// Returns the length of the disk and a table without partitions that is fitted to it, or `None` in its place if the
-// disk has no room for two copies.
-fn make_empty<D: Disk>(
+/// Returns the length of the disk and a table without partitions that is fitted to it, or `None` in its place if the
+/// disk has no room for two copies.
+pub(crate) fn make_empty<D: Disk>(
     alloc: Global,
     disk: &mut D,
     sector_size: u64,
-    creation: &Creation,
+    guid: [u8; 16],
+    entries: u32,
 ) -> gptman::Result<(u64, Option<GPT>)>
     requires { 0 < sector_size }
     ensures reads { Reads (D.state disk.old) (D.state disk.new) }
@@ -237,10 +241,10 @@ fn make_empty<D: Disk>(
     ensures refused { IfErr result (λ e. (fault_of e ≡ out_of_memory)
         ⊎ IsFailure (fault_of e) (D.state disk.old) (D.state disk.new)) }
     ensures size { IfOk result (λ made. made.0 ≡ (D.state disk.old).size) }
-    ensures value { IfOk result (λ made. IsEmpty creation.now sector_size made.0 made.1) }
+    ensures value { IfOk result (λ made. IsEmptyFor entries guid sector_size made.0 made.1) }
 {
     let size = disk.seek_end()?;
-    let table = fit_new(alloc, disk, sector_size, creation)?;
+    let table = fit_new(alloc, disk, sector_size, guid, entries)?;
     Ok((size, keep_laid_out(table, size)))
 }
 
@@ -249,16 +253,17 @@ fn fit_new<D: Disk>(
     alloc: Global,
     disk: &mut D,
     sector_size: u64,
-    creation: &Creation,
+    guid: [u8; 16],
+    entries: u32,
 ) -> gptman::Result<Option<GPT>>
     requires { 0 < sector_size }
     ensures reads { Reads (D.state disk.old) (D.state disk.new) }
     ensures failure { ReportsFailure result (D.state disk.old) (D.state disk.new) }
     ensures refused { IfErr result (λ e. (fault_of e ≡ out_of_memory)
         ⊎ IsFailure (fault_of e) (D.state disk.old) (D.state disk.new)) }
-    ensures value { IfOk result (IsFitted creation.now sector_size (D.state disk.old).size) }
+    ensures value { IfOk result (IsFitted entries guid sector_size (D.state disk.old).size) }
 {
-    match GPT::with_entries(alloc, disk, sector_size, creation.guid, creation.entries) {
+    match GPT::with_entries(alloc, disk, sector_size, guid, entries) {
         Ok(table) => Ok(Some(table)),
         Err(Error::Overflow) => Ok(None),
         Err(error) => Err(error),
@@ -297,7 +302,7 @@ fn replace(
     };
     let made = fill(creation, alloc, size, empty)?;
     let next = put_in_form(was, made);
-    if !has_order(creation, was, &next, size) {
+    if !has_order(creation.may_lose, was, &next, size) {
         return Err(Stop::Refused(Refusal::NoSafeOrder));
     }
     Ok(next)
@@ -307,12 +312,6 @@ fn may_be_replaced(creation: &Creation, was: &GPT, size: u64) -> bool
     ensures { IsTrue result ↔ MayBeReplaced creation.now was.now size }
 {
     creation.may_lose || was.has_layout(size)
-}
-
-fn has_order(creation: &Creation, was: &GPT, next: &GPT, size: u64) -> bool
-    ensures { IsTrue result ↔ HasOrder creation.now was.now next.now size }
-{
-    creation.may_lose || has_safe_order(was, next, size)
 }
 
 // Makes the new table, in primary form, from one without partitions.
@@ -343,12 +342,19 @@ fn bound(creation: &Creation, table: &mut GPT) -> Result<(), Refusal>
     };
     let first = creation.first_usable.unwrap_or(usable.first);
     let last = creation.last_usable.unwrap_or(usable.last);
-    if first < usable.first || usable.last < last || last < first.saturating_sub(1) {
+    if !are_bounds(usable, first, last) {
         return Err(Refusal::OutOfBounds(usable));
     }
     table.header.first_usable_lba = first;
     table.header.last_usable_lba = last;
     Ok(())
+}
+
+/// Reports whether the sectors from `first` to `last` are within the usable ones, and in order. There may be none.
+pub(crate) fn are_bounds(usable: SectorRange, first: u64, last: u64) -> bool
+    ensures { IsTrue result ↔ AreBounds usable.first usable.last first last }
+{
+    usable.first <= first && last <= usable.last && first.saturating_sub(1) <= last
 }
 
 fn put_layout(creation: &Creation, alloc: Global, table: &mut GPT) -> Result<(), Stop>

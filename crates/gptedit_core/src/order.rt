@@ -5,7 +5,7 @@ ghost use Rattle.gptman.specs.Layout.{copy_ranges_at, HasLayout};
 ghost use Rattle.gptman.specs.Ranges.{AreClear};
 ghost use Rattle.gptman.specs.Reading.{backup, primary};
 ghost use Rattle.gptman.specs.Table.{table_in};
-ghost use Rattle.gptedit_core.specs.Making.{ranges_of, AreOfOnePlace, IsSafeOrder, SafeOrdersKeepACopy};
+ghost use Rattle.gptedit_core.specs.Making.{ranges_of, AreOfOnePlace, HasOrder, IsSafeOrder, SafeOrdersKeepACopy};
 
 use gptman::sizes::{ENTRY_SIZE, HEADER_SIZE};
 use gptman::{ByteRange, Disk, GPT};
@@ -29,6 +29,13 @@ pub fn has_safe_order(was: &GPT, next: &GPT, size: u64) -> bool
     let read = Copy::of(was, is_primary, size);
     let first = Copy::of(next, !is_primary, size);
     read.is_clear_of(first)
+}
+
+/// Reports whether the write has a safe order, or may lose both tables.
+pub(crate) fn has_order(may_lose: bool, was: &GPT, next: &GPT, size: u64) -> bool
+    ensures { IsTrue result ↔ HasOrder may_lose was.now next.now size }
+{
+    may_lose || has_safe_order(was, next, size)
 }
 
 fn are_of_one_place(was: &GPT, next: &GPT) -> bool

@@ -105,7 +105,13 @@ pub(crate) fn make(request: &Request, alloc: Global, size: u64, table: &mut GPT)
     check(table, size)
 }
 
-fn do_job(alloc: Global, job: &Job, random: &[[u8; 16]], table: &mut GPT) -> Result<(), Stop>
+/// Does the job on the table. Fails only with `OutOfMemory`.
+pub(crate) fn do_job(
+    alloc: Global,
+    job: &Job,
+    random: &[[u8; 16]],
+    table: &mut GPT,
+) -> Result<(), Stop>
     requires sector { 0 < table.old.sector_size }
     requires ready { asks_random job.now (length random.now) }
     ensures done { OnOk result (IsDone job.now random.now table.old table.new) }

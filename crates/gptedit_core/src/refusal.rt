@@ -53,6 +53,8 @@ pub enum Refusal {
     OutOfBounds(SectorRange),
     /// The new table would overwrite the only good copy of the old one before a copy of the new one is complete.
     NoSafeOrder,
+    /// The layout gives another type or GUID to the entry, which it means only by its name or type.
+    NewRole(u32),
 }
 
 /// Why no plan was made.

@@ -112,7 +112,7 @@ fn numbers_of<'a>(
     Ok(numbers)
 }
 
-fn number_of<'a>(table: &GPT, target: Target<'a>) -> Result<u32, NoLayout<'a>>
+pub(crate) fn number_of<'a>(table: &GPT, target: Target<'a>) -> Result<u32, NoLayout<'a>>
     ensures found { IfOk result (IsOnly table.now target.entry) }
     ensures refused { IfErr result (RefusesOne table.now (target.entry ∷ [])) }
 {

@@ -1,15 +1,19 @@
 -- The outcome for a table that is fitted to its disk.
 use Rattle.std.specs.Prelude.{◌≡◌, ◌≤◌, ℕ}
 use Rattle.gptman.specs.Disk.{DiskState}
+use Rattle.gptman.specs.Layout.{HasLayout}
 use Rattle.gptman.specs.Stop.{IsStored}
 use Rattle.gptman.specs.Table.{entries_in, table_in}
 use Rattle.gptman.specs.declared.table.GPT.{GPT}
 use Rattle.gptedit_core.specs.Growing.{lowest_usable, EndsAt, ReachesEnd, RefusesGrowth}
 use Rattle.gptedit_core.specs.Planning.{IsPlanned}
+use Rattle.gptedit_core.specs.Reshaping.{HasShape}
 use Rattle.gptedit_core.specs.declared.growth.Bounds.TheVariants.{Kept, Usual}
 use Rattle.gptedit_core.specs.declared.plan.Outcome.{Outcome}
 use Rattle.gptedit_core.specs.declared.plan.Outcome.TheVariants.{Changed, Unchanged, Refused}
 use Rattle.gptedit_core.specs.declared.plan.Request.{Request}
+use Rattle.gptedit_core.specs.declared.reshaping.ReshapedRequest.{ReshapedRequest}
+use Rattle.gptedit_core.specs.declared.reshaping.Shape.{Shape}
 
 -- The table and its usable sectors end where a disk of len bytes does. The first usable sector is unchanged if
 -- possible, and so is everything else.
@@ -52,3 +56,11 @@ IsOwnChange request len told = (was next : GPT) → told ≡ Changed was next �
 -- The request makes the changed table of one with the entries of the table before.
 abbrev pub IsOfSameEntries : Request → ℕ → Outcome → Type 0
 IsOfSameEntries request len told = (was next : GPT) → told ≡ Changed was next → (mid : GPT) × (entries_in mid ≡ entries_in was) × IsPlanned request len mid next
+
+-- A changed table has the shape, and the stated layout on a disk of len bytes.
+abbrev pub IsNewShape : Shape → ℕ → Outcome → Type 0
+IsNewShape shape len told = (was next : GPT) → told ≡ Changed was next → HasShape shape next × HasLayout next len
+
+-- If the table had the shape before, the request alone makes the changed one.
+abbrev pub IsOwnReshape : ReshapedRequest → ℕ → Outcome → Type 0
+IsOwnReshape reshaped len told = (was next : GPT) → told ≡ Changed was next → HasShape reshaped.shape was → IsPlanned reshaped.request len was next

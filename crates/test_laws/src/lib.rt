@@ -8,3 +8,4 @@ pub mod growths;
 pub mod images;
 pub mod layouts;
 pub mod measures;
+pub mod shapes;

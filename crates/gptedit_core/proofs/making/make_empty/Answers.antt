@@ -12,5 +12,5 @@ returns-clause-reads g c = both_read c.seek_end.ensures.reads c.fit_new.ensures.
 
 pub returns-clause-value : goal.returns-clause-value
 returns-clause-value g c =
-    is_empty c.args.creation.now c.args.sector_size c.in_ok-size.size c.in_ok-table.table c.keep_laid_out.result
-    (subst (λ (n : ℕ). IsFitted c.args.creation.now c.args.sector_size n c.in_ok-table.table) (search rules) c.in_ok-table.ensures.value) c.keep_laid_out.ensures
+    is_empty c.args.entries c.args.guid c.args.sector_size c.in_ok-size.size c.in_ok-table.table c.keep_laid_out.result
+    (subst (λ (n : ℕ). IsFitted c.args.entries c.args.guid c.args.sector_size n c.in_ok-table.table) (search rules) c.in_ok-table.ensures.value) c.keep_laid_out.ensures

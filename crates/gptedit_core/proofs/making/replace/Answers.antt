@@ -30,4 +30,4 @@ returns-then-not-has_order-clause-refused c =
     no_order c.in_ok-made.made (c.may_be_replaced.ensures.0 (search rules))
     (subst (λ (n : ℕ). IsNew creation n c.args.size c.in_ok-made.made) sector c.in_ok-made.ensures.planned)
     (λ order. refuted c.has_order.result (search rules) c.has_order.ensures
-    (subst (λ (m : GPT). HasOrder creation was m c.args.size) (sym c.put_in_form-next.ensures) order)) refl
+    (subst (λ (m : GPT). HasOrder creation.may_lose was m c.args.size) (sym c.put_in_form-next.ensures) order)) refl
