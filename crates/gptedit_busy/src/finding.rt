@@ -41,10 +41,14 @@ where
 {
     let mut uses = Vec::new(rt.alloc());
     let image = shown(rt, opened)?;
+    let loops = find_loops(rt, &image)?;
+    if opened.device.is_none() && !is_attached(&loops, opened.target) {
+        return Ok(Users { uses });
+    }
     let reports = Reports {
         image: opened.target,
         mounts: Mounts::read(rt)?,
-        loops: find_loops(rt, &image)?,
+        loops,
         btrfs: find_btrfs(rt)?,
     };
     let mut pieces = Vec::new(rt.alloc());
@@ -69,6 +73,11 @@ where
     }
     put_loops(rt, &reports, pieces, &mut uses)?;
     Ok(Users { uses })
+}
+
+// Reports whether a loop device is over the image. A file has no other users.
+fn is_attached(loops: &[Loop], image: Target) -> bool {
+    loops.iter().any(|over| over.backing == Some(image))
 }
 
 // Returns the backing file of an image that is a loop device and starts at its first byte: other loop devices may have

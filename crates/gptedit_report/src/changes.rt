@@ -1,7 +1,9 @@
 //! Prints the changes of a table.
 
 use crate::compare::{EntryChange, compare};
+use crate::matched::Matched;
 use crate::texts::{EntryText, GuidText, QuotedName, SectorsText, TypeText};
+use gptedit_core::{EntryMatch, MatchedBy};
 use gptedit_values::AttributeNames;
 use gptman::{GPT, GPTHeader, GPTPartitionEntry};
 use std::alloc::Global;
@@ -10,8 +12,8 @@ use std::{fmt, io};
 
 /// Prints the differences between two tables: a line each for the disk GUID, the usable sectors and the number of
 /// entries if they differ, and a line for each partition that differs, by number. `+` begins an added partition, `-` a
-/// removed one, `~` a changed one, and `2 -> 1` one that has another number. If none of these differs, a line says that
-/// unused entries are cleared.
+/// removed one, `~` a changed one, and `2 -> 1` one that has another number. A line says how the layout means the entry, if it
+/// does so without the number. If none of these differs, a line says that unused entries are cleared.
 ///
 /// Takes O(n log n) time for n entries. Returns the error of `out`, or `OutOfMemory`.
 pub fn print_changes<W: Write>(
@@ -19,8 +21,10 @@ pub fn print_changes<W: Write>(
     alloc: Global,
     was: &GPT,
     next: &GPT,
+    matches: &[EntryMatch],
 ) -> io::Result<()> {
     let changes = compare(alloc, was, next)?;
+    let matched = Matched::new(alloc, matches)?;
     let header = HeaderChange { was, next };
     if changes.is_empty() && !header.is_any() {
         return out.write_all(b"entries that are not used are cleared\n");
@@ -28,9 +32,23 @@ pub fn print_changes<W: Write>(
     write!(out, "{header}")?;
     for change in changes.iter() {
         let change = *change;
-        writeln!(out, "{}", ChangeText { was, next, change })?;
+        let text = ChangeText { was, next, change };
+        match matched.by(change).and_then(|by| way_in_words(by)) {
+            Some(way) => writeln!(out, "{text} (by {way})")?,
+            None => writeln!(out, "{text}")?,
+        }
     }
     Ok(())
+}
+
+// Returns how a request means an entry that was there, if it does so without the number.
+fn way_in_words(by: MatchedBy) -> Option<&'static str> {
+    match by {
+        MatchedBy::Guid => Some("GUID"),
+        MatchedBy::Name => Some("name"),
+        MatchedBy::Type => Some("type"),
+        MatchedBy::Number | MatchedBy::New => None,
+    }
 }
 
 // The changes of a header.

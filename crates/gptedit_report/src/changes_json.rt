@@ -4,8 +4,10 @@ use crate::compare::{EntryChange, compare};
 use crate::copies::CopiesState;
 use crate::free::FreeRange;
 use crate::json::{print_json, table_members};
+use crate::matched::Matched;
 use crate::members::Members;
 use crate::query::{Partition, partition_value};
+use gptedit_core::{EntryMatch, MatchedBy};
 use gptman::{GPT, GPTHeader};
 use serde_json::Value;
 use std::alloc::{AllocError, Global};
@@ -17,6 +19,8 @@ pub struct TableChange<'a> {
     pub was: Option<&'a GPT>,
     /// The table after the change, unless it is cleared.
     pub next: Option<&'a GPT>,
+    /// The entries that a layout means.
+    pub matches: &'a [EntryMatch],
     /// Whether anything is written, the MBR included.
     pub is_needed: bool,
     /// Whether it is a dry run.
@@ -40,7 +44,8 @@ pub fn changed_json(
 }
 
 /// Adds a change: `changed`, whether anything is written or in a dry run would be; `dry_run`; `header`, the fields of
-/// the header before and after if they differ, else null; and `changes`, an object for each partition that differs.
+/// the header before and after if they differ, else null; and `changes`, an object for each partition that differs, with how
+/// the layout means it (`matched`) or null.
 pub(crate) fn put_change(
     alloc: Global,
     members: &mut Members,
@@ -103,9 +108,10 @@ fn header_value(alloc: Global, fields: Option<HeaderFields>) -> Result<Value, Al
 
 // Returns the partitions that differ.
 fn change_values(alloc: Global, change: TableChange<'_>) -> Result<Vec<Value>, AllocError> {
+    let matched = Matched::new(alloc, change.matches)?;
     let mut values = Vec::new(alloc);
     for entry in find_changes(alloc, change)?.iter() {
-        values.push(change_value(alloc, change, *entry)?)?;
+        values.push(change_value(alloc, change, *entry, matched.by(*entry))?)?;
     }
     Ok(values)
 }
@@ -138,6 +144,7 @@ fn change_value(
     alloc: Global,
     change: TableChange<'_>,
     entry: EntryChange,
+    by: Option<MatchedBy>,
 ) -> Result<Value, AllocError> {
     let (kind, from, to) = match entry {
         EntryChange::Removed { number } => ("removed", Some(number), None),
@@ -152,7 +159,22 @@ fn change_value(
     members.put_text("kind", kind)?;
     members.put("before", partition_at(alloc, change.was, from)?)?;
     members.put("after", partition_at(alloc, change.next, to)?)?;
+    match by {
+        Some(by) => members.put_text("matched", code_of(by))?,
+        None => members.put("matched", Value::Null)?,
+    }
     Ok(members.into_value())
+}
+
+// Returns the code of a way to mean an entry.
+fn code_of(by: MatchedBy) -> &'static str {
+    match by {
+        MatchedBy::Number => "number",
+        MatchedBy::Guid => "guid",
+        MatchedBy::Name => "name",
+        MatchedBy::Type => "type",
+        MatchedBy::New => "new",
+    }
 }
 
 // Returns the fields of the partition of this number and the units of its name, or null without one.

@@ -27,7 +27,8 @@ impl EntryChange {
 }
 
 /// Returns the entries that differ, in the order of their numbers. Entries match if they have the same GUID, and under
-/// the same number also if they have the same sectors. Takes O(n log n) time for n entries.
+/// the same number also if they have the same sectors, or the same first sector, type and name. Takes O(n log n) time
+/// for n entries.
 pub(crate) fn compare(
     alloc: Global,
     was: &GPT,
@@ -128,13 +129,22 @@ fn add_renamed(
     Ok(())
 }
 
-// Returns the former GUID of an entry that was used and keeps its sectors.
+// Returns the former GUID of an entry that was used and keeps its sectors, or its first sector, type and name.
 fn same_place(was: &GPT, next: &GPT, number: u32) -> Option<[u8; 16]> {
     let before = used_at(was, number)?;
     let after = next.get(number)?;
-    if before.starting_lba == after.starting_lba && before.ending_lba == after.ending_lba {
+    if before.starting_lba != after.starting_lba {
+        return None;
+    }
+    if before.ending_lba == after.ending_lba || are_alike(before, after) {
         Some(before.unique_partition_guid)
     } else {
         None
     }
+}
+
+// Reports whether the entries have the same type and name.
+fn are_alike(before: &GPTPartitionEntry, after: &GPTPartitionEntry) -> bool {
+    before.partition_type_guid == after.partition_type_guid
+        && before.partition_name.units() == after.partition_name.units()
 }

@@ -20,6 +20,7 @@ pub mod kept;
 mod layout;
 pub mod loss;
 pub mod map;
+mod matched;
 pub mod measured;
 mod members;
 pub mod no_table;

@@ -11,6 +11,8 @@ use std::fmt;
 pub struct RoundedText {
     /// `start` or `size`.
     pub what: &'static str,
+    /// The number of the partition, to be named.
+    pub number: Option<u32>,
     /// The rounded value in sectors.
     pub sectors: u64,
     /// The sector size in bytes.
@@ -20,6 +22,7 @@ pub struct RoundedText {
 impl fmt::Display for RoundedText {
     fn fmt<W: fmt::Write>(&self, f: &mut fmt::Formatter<W>) -> fmt::Result {
         let (what, sectors) = (self.what, self.sectors);
+        write_number(f, self.number)?;
         write!(f, "the {what} is rounded down to {sectors}s")?;
         match sectors.checked_mul(self.sector_size) {
             Some(bytes) => write!(f, " ({bytes} bytes)"),
@@ -28,17 +31,28 @@ impl fmt::Display for RoundedText {
     }
 }
 
+// Writes which partition is meant.
+fn write_number<W: fmt::Write>(f: &mut fmt::Formatter<W>, number: Option<u32>) -> fmt::Result {
+    match number {
+        Some(number) => write!(f, "partition {number}: "),
+        None => Ok(()),
+    }
+}
+
 /// Message: a stated place cannot be measured, and the remedy. One line, without the last newline.
 #[derive(Clone, Copy)]
 pub struct UnmeasuredText {
     /// Why.
     pub unmeasured: Unmeasured,
+    /// The number of the partition, to be named.
+    pub number: Option<u32>,
     /// The sector size in bytes.
     pub sector_size: u64,
 }
 
 impl fmt::Display for UnmeasuredText {
     fn fmt<W: fmt::Write>(&self, f: &mut fmt::Formatter<W>) -> fmt::Result {
+        write_number(f, self.number)?;
         let text = match self.unmeasured {
             Unmeasured::NotWhole(amount) => return write_not_whole(f, amount, self.sector_size),
             Unmeasured::NoAlignment => {

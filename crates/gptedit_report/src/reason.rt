@@ -128,6 +128,7 @@ fn code_of_refusal(refusal: Refusal) -> &'static str {
         Refusal::TooLarge(_) => "too-large",
         Refusal::WouldMove(_) => "would-move",
         Refusal::NotAsked(_) => "not-in-layout",
+        Refusal::NewRole(_) => "new-role",
         Refusal::NoRoom(_) => "no-room",
         Refusal::NoAlignment => "no-alignment",
         Refusal::NotLaidOut => "not-laid-out",

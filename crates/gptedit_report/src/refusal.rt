@@ -35,6 +35,7 @@ impl fmt::Display for RefusalText<'_> {
             Refusal::IsUnused(number) => self.write_is_unused(f, *number),
             Refusal::WouldMove(number) => self.write_would_move(f, *number),
             Refusal::NotAsked(number) => self.write_not_asked(f, *number),
+            Refusal::NewRole(number) => self.write_new_role(f, *number),
             Refusal::NoRoom(number) => self.write_no_room(f, *number),
             Refusal::Twice(number) => write!(f, "entry {number} is named twice; name it once"),
             Refusal::NoType(number) => write_no_type(f, *number),
@@ -67,7 +68,7 @@ impl Message for RefusalText<'_> {
         let image = self.image;
         match self.refusal {
             Refusal::IsUnused(_) => commands.add_own("show", image),
-            Refusal::NoRoom(_) => commands.add_own("free", image),
+            Refusal::NoRoom(_) if self.empty_table().is_none() => commands.add_own("free", image),
             Refusal::NoType(_) => commands.add(&["gptedit", "types"]),
             Refusal::SharedGuid => commands.add_own("check", image),
             Refusal::NotLaidOut => {
@@ -84,6 +85,15 @@ impl Message for RefusalText<'_> {
 }
 
 impl RefusalText<'_> {
+    // Returns the table if it has no partitions, as a new one, which may not be on the disk.
+    fn empty_table(&self) -> Option<&GPT> {
+        let table = self.table?;
+        if table.iter().any(|(_, entry)| entry.is_used()) {
+            return None;
+        }
+        Some(table)
+    }
+
     // Returns the number of entries of the table.
     fn count(&self) -> u32 {
         match self.table {
@@ -112,7 +122,7 @@ impl RefusalText<'_> {
     fn write_is_used<W: fmt::Write>(&self, f: &mut fmt::Formatter<W>, number: u32) -> fmt::Result {
         self.write_entry(f, number)?;
         f.write_str(
-            " already exists\nuse the number of an unused entry; add without --number takes the lowest",
+            " already exists\nuse the number of an unused entry, or none for the lowest one",
         )
     }
 
@@ -149,13 +159,26 @@ impl RefusalText<'_> {
         f.write_str(" is not in the layout\nadd it there to keep it, or use --replace to remove it")
     }
 
+    fn write_new_role<W: fmt::Write>(&self, f: &mut fmt::Formatter<W>, number: u32) -> fmt::Result {
+        self.write_entry(f, number)?;
+        f.write_str(
+            " would get another type or GUID, and the layout does not name it by number or GUID\n\
+             add its number there, or use --replace",
+        )
+    }
+
     fn write_no_room<W: fmt::Write>(&self, f: &mut fmt::Formatter<W>, number: u32) -> fmt::Result {
-        let image = Escaped(self.image);
         write!(
             f,
-            "partition {number} does not fit into a free range at this alignment; \
-             `gptedit free {image}` lists the ranges"
-        )
+            "partition {number} does not fit into a free range at this alignment; "
+        )?;
+        match self.empty_table() {
+            Some(table) => {
+                let (first, last) = (table.header.first_usable_lba, table.header.last_usable_lba);
+                write!(f, "the usable sectors are {first}..{last}")
+            }
+            None => write!(f, "`gptedit free {}` lists the ranges", Escaped(self.image)),
+        }
     }
 
     fn write_too_small<W: fmt::Write>(&self, f: &mut fmt::Formatter<W>) -> fmt::Result {

@@ -22,6 +22,7 @@ pub fn wiped_json(
     let change = TableChange {
         was,
         next: None,
+        matches: &[],
         is_needed: is_wiped,
         is_dry,
     };

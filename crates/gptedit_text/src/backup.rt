@@ -57,6 +57,7 @@ fn read_parts(alloc: Global, bytes: Vec<u8>) -> Result<Parsed, LayoutError> {
         },
         form: Form::Backup,
         bootable: Vec::new(alloc),
+        places: Vec::new(alloc),
     })
 }
 

@@ -1,19 +1,20 @@
 //! The requests for entries, collected while a text is read.
 
+use crate::StatedPlace;
 use crate::error::{Fault, LayoutError, TextPlace};
-use gptedit_core::{Amount, Asked, Mode, RequestedLayout, Size};
+use gptedit_core::{Amount, Asked, Extent, Mode, RequestedLayout};
 use gptedit_values::is_long_name;
 use gptman::PartitionName;
 use std::alloc::Global;
 use std::collections::BTreeSet;
+use std::mem;
 
 /// The requests that were read.
 #[derive(Drop)]
 pub struct Entries {
     asked: Vec<Asked>,
+    places: Vec<StatedPlace>,
     numbers: BTreeSet<u32>,
-    last: u32,
-    lowest: u32,
     has_rest: bool,
 }
 
@@ -22,36 +23,25 @@ impl Entries {
     pub fn new(alloc: Global) -> Entries {
         Entries {
             asked: Vec::new(alloc),
+            places: Vec::new(alloc),
             numbers: BTreeSet::new(alloc),
-            last: 0,
-            lowest: 1,
             has_rest: false,
         }
     }
 
-    /// Returns the number after that of the last request, or 1 for the first one. `None` if it would exceed 32 bits.
-    pub fn next_number(&self) -> Option<u32> {
-        self.last.checked_add(1)
-    }
-
-    /// Returns the lowest number that no request has.
-    pub fn lowest_number(&self) -> u32 {
-        self.lowest
-    }
-
-    /// Takes the number for a request from this place in the text. Fails with `Taken` if another request has it.
-    pub fn take_number(&mut self, place: TextPlace, number: u32) -> Result<(), LayoutError> {
-        self.last = number;
-        if !self.numbers.insert(number)? {
-            return Err(place.fault("number", Fault::Taken(number)));
+    /// Takes the number, if any, for a request from this place in the text. Fails with `Taken` if another request has
+    /// it.
+    pub fn take_number(
+        &mut self,
+        place: TextPlace,
+        number: Option<u32>,
+    ) -> Result<(), LayoutError> {
+        match number {
+            Some(number) if !self.numbers.insert(number)? => {
+                Err(place.fault("number", Fault::Taken(number)))
+            }
+            _ => Ok(()),
         }
-        self.raise_lowest();
-        Ok(())
-    }
-
-    /// Passes a request whose number is wrong.
-    pub fn skip_number(&mut self) {
-        self.last = self.last.saturating_add(1);
     }
 
     /// Adds a request.
@@ -60,9 +50,24 @@ impl Entries {
         Ok(())
     }
 
-    /// Fails with `SecondRest` if this size is `rest` and an earlier request has it too.
-    pub fn check_rest(&mut self, place: TextPlace, size: Option<Size>) -> Result<(), LayoutError> {
-        if size != Some(Size::Rest) {
+    /// Adds a request for a partition at this place.
+    pub fn add_at(&mut self, asked: Asked, place: StatedPlace) -> Result<(), LayoutError> {
+        self.places.push(place)?;
+        self.add(asked)
+    }
+
+    /// Returns the places of the requests that were added with one.
+    pub fn take_places(&mut self, alloc: Global) -> Vec<StatedPlace> {
+        mem::replace(&mut self.places, Vec::new(alloc))
+    }
+
+    /// Fails with `SecondRest` if this is `rest` and an earlier request has it too.
+    pub fn check_rest(
+        &mut self,
+        place: TextPlace,
+        extent: Option<Extent>,
+    ) -> Result<(), LayoutError> {
+        if extent != Some(Extent::Rest) {
             return Ok(());
         }
         if self.has_rest {
@@ -70,15 +75,6 @@ impl Entries {
         }
         self.has_rest = true;
         Ok(())
-    }
-
-    fn raise_lowest(&mut self) {
-        for _ in 0..self.numbers.len() {
-            if !self.numbers.contains(&self.lowest) {
-                break;
-            }
-            self.lowest = self.lowest.saturating_add(1);
-        }
     }
 
     /// Returns the layout. A table becomes it, and no entry may be moved or left out.

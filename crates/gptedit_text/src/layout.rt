@@ -1,20 +1,22 @@
 //! Reads layouts in TOML.
 
-ghost use Rattle.std.specs.Prelude.{◌≡◌, codes, IfOk, IfSome, Some};
+ghost use Rattle.std.specs.Prelude.{◌≡◌, codes, IfOk, IfSome};
 ghost use Rattle.toml.specs.Data.{get_member};
 ghost use Rattle.toml.specs.View.{table_view};
 ghost use Rattle.gptedit_text.specs.Layouts.{GivesAttributesOf};
 
 mod keyed;
 
-use crate::Parsed;
 use crate::entries::{Entries, read_name};
 use crate::error::{ErrorList, Fault, LayoutError, NotLayout, Section};
 use crate::layout::keyed::Keyed;
 use crate::lines::position_of;
 use crate::table_header::{Form, Header};
-use gptedit_core::{Amount, Asked, DEFAULT_ALIGN, Size};
-use gptedit_values::{read_amount, read_guid, read_sector, read_size, read_type, read_units};
+use crate::{Parsed, StatedPlace};
+use gptedit_core::{Amount, Asked, DEFAULT_ALIGN, Extent};
+use gptedit_values::{
+    read_amount, read_guid, read_length, read_position, read_sector, read_type, read_units,
+};
 use gptman::PartitionName;
 use std::alloc::Global;
 use toml::{Table, Value};
@@ -39,9 +41,10 @@ use toml::{Table, Value};
 /// attributes = ["required", 60]
 /// ```
 ///
-/// All keys are optional. The default of `number` is the number after that of the previous partition, or 1 for the
-/// first; the default of `align` is 1 MiB. One partition may have the size `rest`. Instead of `name` there may be
-/// `name-utf16 = "0041 d800"`, the UTF-16 units of the name. The mode of the layout is `Become { replace: false }`.
+/// A partition may have an `end` instead of a `size`. All keys are optional. A partition without `number` means the
+/// entry that `match_layout` finds; the default of `align` is 1 MiB. One partition may have the size `rest`. Instead of
+/// `name` there may be `name-utf16 = "0041 d800"`, the UTF-16 units of the name. The mode of the layout is
+/// `Become { replace: false }`.
 ///
 /// A text without any key fails with `Empty`; one with only `[disk]` is a layout without partitions. The errors are
 /// those of all keys, unless the text is not TOML.
@@ -91,12 +94,14 @@ fn parsed_of(alloc: Global, table: &Table, errors: &mut ErrorList) -> Result<Par
     let file = Keyed::new(table, Section::File);
     file.check_keys(alloc, errors)?;
     let disk = read_disk(alloc, &file, errors)?;
-    let entries = read_entries(alloc, &file, errors)?;
+    let mut entries = read_entries(alloc, &file, errors)?;
+    let places = entries.take_places(alloc);
     Ok(Parsed {
         layout: entries.into_layout(alloc, disk.guid, disk.align),
         header: disk.header,
         form: Form::Toml,
         bootable: Vec::new(alloc),
+        places,
     })
 }
 
@@ -191,75 +196,88 @@ fn add_entry(
     errors: &mut ErrorList,
 ) -> Result<(), LayoutError> {
     partition.check_keys(alloc, errors)?;
-    let number = match errors.keep(read_number(entries, partition))? {
-        Some(number) => {
-            errors.keep(entries.take_number(partition.place(), number))?;
-            number
-        }
-        None => {
-            entries.skip_number();
-            1
-        }
-    };
-    let size = errors.keep(read_some_size(entries, partition))?;
-    match read_entry(alloc, partition, number, size, errors)? {
-        Some(asked) => entries.add(asked),
-        None => Ok(()),
+    let number = errors.keep(read_number(partition))?.flatten();
+    errors.keep(entries.take_number(partition.place(), number))?;
+    let place = read_place(entries, partition, errors)?;
+    match (read_entry(alloc, partition, number, errors)?, place) {
+        (Some(asked), Some(place)) => entries.add_at(asked, place),
+        _ => Ok(()),
     }
 }
 
-// Reads the number of a partition, or returns the one after the previous partition.
-fn read_number(entries: &Entries, partition: &Keyed<'_>) -> Result<u32, LayoutError> {
+// Reads the number of a partition.
+fn read_number(partition: &Keyed<'_>) -> Result<Option<u32>, LayoutError> {
     let number = match partition.get("number") {
+        None => return Ok(None),
         Some(Value::Integer(number)) if *number > 0 => u32::try_from(*number).ok(),
         Some(_) => None,
-        None => entries.next_number(),
     };
-    number.ok_or(partition.fault("number", Fault::NotNumber))
+    match number {
+        Some(number) => Ok(Some(number)),
+        None => Err(partition.fault("number", Fault::NotNumber)),
+    }
+}
+
+// Reads the place of a partition. `None` if a value is wrong.
+fn read_place(
+    entries: &mut Entries,
+    partition: &Keyed<'_>,
+    errors: &mut ErrorList,
+) -> Result<Option<StatedPlace>, LayoutError> {
+    let start = errors.keep(partition.word("start", |text| read_position(text)))?;
+    let size = errors.keep(read_some_size(entries, partition))?;
+    let end = errors.keep(read_end(partition))?;
+    match (start, size, end) {
+        (Some(start), Some(size), Some(end)) => Ok(Some(StatedPlace {
+            start,
+            extent: size.or(end),
+        })),
+        _ => Ok(None),
+    }
 }
 
 // Reads the size of a partition. It must be the only one that is `rest`.
 fn read_some_size(
     entries: &mut Entries,
     partition: &Keyed<'_>,
-) -> Result<Option<Size>, LayoutError> {
-    let size = partition.word("size", |text| read_size(text))?;
+) -> Result<Option<Extent>, LayoutError> {
+    let size = partition.word("size", |text| read_length(text))?;
     entries.check_rest(partition.place(), size)?;
     Ok(size)
 }
 
-// Reads the request for the entry of this number, with this size. `None` if a value is wrong.
+// Reads the end of a partition, which must not have a size too.
+fn read_end(partition: &Keyed<'_>) -> Result<Option<Extent>, LayoutError> {
+    let Some(position) = partition.word("end", |text| read_position(text))? else {
+        return Ok(None);
+    };
+    match partition.get("size") {
+        None => Ok(Some(Extent::End(position))),
+        Some(_) => Err(partition.fault("end", Fault::TwoEnds)),
+    }
+}
+
+// Reads the request for the entry of this number, if it is given, without a place. `None` if a value is wrong.
 fn read_entry(
     alloc: Global,
     partition: &Keyed<'_>,
-    number: u32,
-    size: Option<Option<Size>>,
+    number: Option<u32>,
     errors: &mut ErrorList,
 ) -> Result<Option<Asked>, LayoutError>
-    ensures number { IfOk result (λ read. IfSome read (λ asked. asked.number ≡ Some number)) }
+    ensures number { IfOk result (λ read. IfSome read (λ asked. asked.number ≡ number)) }
     ensures attributes { IfOk result (λ read. IfSome read (λ asked. GivesAttributesOf (get_member (codes "attributes") (table_view partition.now.table.now)) asked.attributes)) }
 {
     let type_guid = errors.keep(partition.word("type", |text| read_type(text)))?;
     let unique_guid = errors.keep(partition.word("guid", |text| read_guid(text)))?;
     let attributes = errors.keep(partition.attributes("attributes"))?;
     let name = errors.keep(read_some_name(alloc, partition))?;
-    let start = errors.keep(partition.word("start", |text| read_amount(text)))?;
-    match (type_guid, unique_guid, attributes, name, start, size) {
-        (
-            Some(type_guid),
-            Some(unique_guid),
-            Some(attributes),
-            Some(name),
-            Some(start),
-            Some(size),
-        ) => Ok(Some(Asked {
+    match (type_guid, unique_guid, attributes, name) {
+        (Some(type_guid), Some(unique_guid), Some(attributes), Some(name)) => Ok(Some(Asked {
             type_guid,
             unique_guid,
             attributes,
             name,
-            start,
-            size,
-            ..Asked::nothing(Some(number))
+            ..Asked::nothing(number)
         })),
         _ => Ok(None),
     }

@@ -1,5 +1,9 @@
 //! Reads scripts of `sfdisk`, as `sfdisk --dump` prints them and as people write them.
 
+ghost use Rattle.std.specs.Prelude.{◌≡◌, IfOk, None};
+ghost use Rattle.gptedit_core.specs.declared.asked.Mode.TheVariants.{Add};
+ghost use Rattle.gptedit_text.specs.Scripts.{HasOnlySectorSize};
+
 mod extents;
 mod fields;
 mod header_lines;
@@ -12,7 +16,8 @@ use crate::entries::Entries;
 use crate::error::{ErrorList, LayoutError, NotLayout, Section, TextPlace};
 use crate::script::fields::{is_partition, read_line};
 use crate::script::header_lines::{HeaderLines, header_of, is_header};
-use crate::table_header::Form;
+use crate::table_header::{Form, Header};
+use gptedit_core::{Mode, RequestedLayout};
 use std::alloc::Global;
 
 /// Reports whether the text is a script: its first line that is not empty or a comment is a header or a partition of
@@ -36,8 +41,8 @@ pub fn is_script(text: &str) -> bool {
 /// start=.., size=.., type=.., uuid=.., name="..", attrs="..", bootable`, where each part is optional, or
 /// `START,SIZE,TYPE,MARK`, where a part that is empty or `-` has its default. `write` and `quit` end the script.
 ///
-/// The number of a partition is the one at the end of NODE, or else the lowest that no earlier line has. By default a
-/// partition starts in the longest run of free sectors, has the size `rest` and the type `linux`, and has no name and
+/// The number of a partition is the one at the end of NODE; without one it means the entry that `match_layout` finds.
+/// By default a partition starts in the longest run of free sectors, has the size `rest` and the type `linux`, and has no name and
 /// no attributes. Starts and sizes are sectors of the table, or bytes with a unit, from `KiB` to `EiB`. A sign before
 /// them is ignored, since `sfdisk` reads it only where it changes one partition (`-N`); without a number it means the
 /// default. `bootable`, or the MARK `*` or `+`, sets the attribute `legacy-boot`.
@@ -50,6 +55,38 @@ pub fn read_script(alloc: Global, text: &str) -> Result<Parsed, NotLayout> {
         Ok(_) => Err(NotLayout::Errors(errors)),
         Err(error) => Err(NotLayout::of(alloc, error)),
     }
+}
+
+/// Reads a script whose lines are new partitions, as `sfdisk --append` does. `label-id`, `first-lba`, `last-lba` and
+/// `table-length` are ignored. Other values and errors are those of `read_script`.
+pub fn read_additions(alloc: Global, text: &str) -> Result<Parsed, NotLayout>
+    ensures mode { IfOk result (λ parsed. parsed.layout.mode ≡ Add) }
+    ensures guid { IfOk result (λ parsed. parsed.layout.disk_guid ≡ None) }
+    ensures header { IfOk result (λ parsed. HasOnlySectorSize parsed.header) }
+{
+    let Parsed {
+        layout,
+        header,
+        form,
+        bootable,
+        places,
+    } = read_script(alloc, text)?;
+    Ok(Parsed {
+        layout: RequestedLayout {
+            mode: Mode::Add,
+            disk_guid: None,
+            ..layout
+        },
+        header: Header {
+            sector_size: header.sector_size,
+            entries: None,
+            first_usable: None,
+            last_usable: None,
+        },
+        form,
+        bootable,
+        places,
+    })
 }
 
 // Reads a script. Wrong lines are added to the errors, and left out.
@@ -81,6 +118,7 @@ fn read_lines(alloc: Global, text: &str, errors: &mut ErrorList) -> Result<Parse
         header: headers.header,
         form: Form::Script,
         bootable: partitions.bootable,
+        places: Vec::new(alloc),
     })
 }
 
@@ -88,7 +126,7 @@ fn read_lines(alloc: Global, text: &str, errors: &mut ErrorList) -> Result<Parse
 #[derive(Drop)]
 struct Partitions {
     entries: Entries,
-    bootable: Vec<u32>,
+    bootable: Vec<usize>,
     // Whether there was a line of a partition.
     has_lines: bool,
 }
@@ -105,10 +143,10 @@ impl Partitions {
     // Reads the line of one more partition.
     fn read(&mut self, alloc: Global, place: TextPlace, line: &str) -> Result<(), LayoutError> {
         self.has_lines = true;
-        let partition = read_line(alloc, place, self.entries.lowest_number(), line)?;
-        self.entries.take_number(place, partition.number)?;
-        if partition.is_bootable {
-            self.bootable.push(partition.number)?;
+        let partition = read_line(alloc, place, line)?;
+        self.entries.take_number(place, partition.asked.number)?;
+        if let (true, Some(line)) = (partition.is_bootable, place.line) {
+            self.bootable.push(line)?;
         }
         self.entries.add(partition.asked)
     }

@@ -1,5 +1,6 @@
 //! The values of a layout for the header of its table.
 
+use gptedit_core::StatedShape;
 use gptman::GPT;
 use std::fmt;
 
@@ -38,6 +39,8 @@ pub struct OtherValue {
     pub said: u64,
     /// The value in the table.
     pub is: u64,
+    /// Whether `--replace` sets the value.
+    pub is_settable: bool,
 }
 
 impl Header {
@@ -62,26 +65,55 @@ impl Header {
     }
 
     /// Fails if the table has another value than this header. The error has the key of the value in this form of
-    /// text.
-    pub fn check(&self, form: Form, table: &GPT) -> Result<(), OtherValue> {
-        let [sector_size, entries, first_usable, last_usable] = form.keys();
+    /// text. With `is_settable` its message says that `--replace` sets the value.
+    pub fn check(&self, form: Form, table: &GPT, is_settable: bool) -> Result<(), OtherValue> {
+        self.check_sector_size(form, table)?;
+        let [_, entries, first_usable, last_usable] = form.keys();
         let header = &table.header;
-        form.expect(sector_size, self.sector_size, table.sector_size)?;
-        form.expect(first_usable, self.first_usable, header.first_usable_lba)?;
-        form.expect(last_usable, self.last_usable, header.last_usable_lba)?;
         let said = self.entries.map(|count| u64::from(count));
-        form.expect(entries, said, u64::from(header.number_of_partition_entries))
+        let count = u64::from(header.number_of_partition_entries);
+        let values = [
+            (first_usable, self.first_usable, header.first_usable_lba),
+            (last_usable, self.last_usable, header.last_usable_lba),
+            (entries, said, count),
+        ];
+        for (key, said, is) in values {
+            form.expect(key, said, is, is_settable)?;
+        }
+        Ok(())
+    }
+
+    /// Fails if the table has another sector size than this header.
+    pub fn check_sector_size(&self, form: Form, table: &GPT) -> Result<(), OtherValue> {
+        let [key, ..] = form.keys();
+        form.expect(key, self.sector_size, table.sector_size, false)
+    }
+
+    /// Returns the number of entries and the usable sectors.
+    pub fn shape(&self) -> StatedShape {
+        StatedShape {
+            entries: self.entries,
+            first_usable: self.first_usable,
+            last_usable: self.last_usable,
+        }
     }
 }
 
 impl Form {
-    fn expect(self, key: &'static str, said: Option<u64>, is: u64) -> Result<(), OtherValue> {
+    fn expect(
+        self,
+        key: &'static str,
+        said: Option<u64>,
+        is: u64,
+        is_settable: bool,
+    ) -> Result<(), OtherValue> {
         match said {
             Some(said) if said != is => Err(OtherValue {
                 form: self,
                 key,
                 said,
                 is,
+                is_settable,
             }),
             _ => Ok(()),
         }
@@ -99,23 +131,23 @@ impl Form {
 /// Prints both values, and what to do.
 impl fmt::Display for OtherValue {
     fn fmt<W: fmt::Write>(&self, f: &mut fmt::Formatter<W>) -> fmt::Result {
-        let OtherValue {
-            form,
-            key,
-            said,
-            is,
-        } = *self;
-        if form == Form::Backup {
-            writeln!(f, "{key} is {said} in the backup, but {is} on the disk")?;
-            return f.write_str(match key {
-                "sector-size" => "it is the backup of a disk with sectors of another size",
-                _ =>
-                    "`gptedit wipe` removes the table of the disk; then --create makes that of the backup",
+        let OtherValue { key, said, is, .. } = *self;
+        let text = match self.form {
+            Form::Backup => "backup",
+            Form::Toml | Form::Script => "layout",
+        };
+        writeln!(f, "{key} is {said} in the {text}, but {is} on the disk")?;
+        if self.form == Form::Backup {
+            return f.write_str(if self.is_settable {
+                "--replace sets it"
+            } else {
+                "it is the backup of a disk with sectors of another size"
             });
         }
-        writeln!(f, "{key} is {said} in the layout, but {is} on the disk")?;
         write!(f, "remove {key} from the layout to keep that of the disk")?;
-        if key == "sector-size" {
+        if self.is_settable {
+            f.write_str(", or use --replace to set it")?;
+        } else if key == "sector-size" {
             f.write_str("; values in sectors then mean other bytes")?;
         }
         Ok(())

@@ -1,11 +1,11 @@
--- `set` for the disk, or for a partition.
-use Rattle.std.proofs.Common.{◌≡◌, ℕ, List, codes, inl, subst}
+-- Why the arguments of `set`, and of any command that changes a table, are refused.
+use Rattle.std.proofs.Common.{◌≡◌, ℕ, List, codes, inl, inr, subst, ⊎_elim}
 use Rattle.std.specs.Prelude.{◌≢◌, Option, Some, None, Result, Ok, Err}
 use Rattle.clap.specs.Words.{first_value}
 use Rattle.clap.specs.declared.parser.matches.Found.{Found}
 use Rattle.gptedit_core.specs.declared.setting.NewGuid.{NewGuid}
-use Rattle.gptedit_words.specs.Asks.{Gives, GivesField, SaysNewGuid}
-use Rattle.gptedit_words.specs.Refusals.{CanSet, RefusedOnlyFor}
+use Rattle.gptedit_words.specs.Asks.{Gives, GivesField, IsWrong, SaysNewGuid, SaysNoLock}
+use Rattle.gptedit_words.specs.Refusals.{CanRun, CanSet, IsOfLook, RefusedOnlyFor}
 use Rattle.gptedit_words.specs.declared.error.WordsError.{WordsError}
 use Rattle.gptedit_words.specs.declared.error.WordsError.TheVariants.{Conflict, LongName, Missing, NothingToSet, OutOfMemory, Sector, Usage, Value}
 
@@ -31,3 +31,19 @@ refused_for found reason (Err (Sector text)) is = is
 refused_for found reason (Err NothingToSet) is = is
 refused_for found reason (Err (Conflict one other)) is = is
 refused_for found reason (Err (Missing word)) is = is
+
+-- A command that changes a table needs a valid lock.
+pub lock_refused : (name : List ℕ) (found : Found) → ¬ (IsOfLook name) → IsWrong SaysNoLock (first_value found (codes "--lock")) → ¬ (CanRun name found)
+lock_refused name found changes wrong = λ can. ⊎_elim (λ look. changes look) (λ write. write.lock wrong) can.write
+
+-- An error is also one for a reason that follows.
+pub refused_more : (A B : Type 0) (found : Found) (reason more : Type 0) (error : WordsError) → (reason → more)
+    → RefusedOnlyFor {A = A} found reason (Err error) → RefusedOnlyFor {A = B} found more (Err error)
+refused_more A B found reason more OutOfMemory then is = tt
+refused_more A B found reason more (LongName text) then is = ⊎_elim (λ given. inl (then given)) (λ long. inr long) is
+refused_more A B found reason more (Usage error) then is = then is
+refused_more A B found reason more (Value word text wrong) then is = then is
+refused_more A B found reason more (Sector text) then is = then is
+refused_more A B found reason more NothingToSet then is = then is
+refused_more A B found reason more (Conflict one other) then is = then is
+refused_more A B found reason more (Missing word) then is = then is

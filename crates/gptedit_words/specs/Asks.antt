@@ -5,15 +5,18 @@ use Rattle.clap.specs.Words.{first_value, matched_of, one_text, raw_values}
 use Rattle.clap.specs.declared.parser.matches.Found.{Found}
 use Rattle.gptman.specs.declared.codec.name.PartitionName.{PartitionName}
 use Rattle.gptedit_core.specs.declared.amount.Amount.{Amount}
-use Rattle.gptedit_core.specs.declared.amount.Amount.TheVariants.{Bytes}
+use Rattle.gptedit_core.specs.declared.amount.Amount.TheVariants.{Bytes, Sectors}
 use Rattle.gptedit_core.specs.declared.asked.Asked.{Asked}
 use Rattle.gptedit_core.specs.declared.asked.Choice.{Choice}
 use Rattle.gptedit_core.specs.declared.asked.Choice.TheVariants.{First}
 use Rattle.gptedit_core.specs.declared.asked.RequestedLayout.{RequestedLayout}
 use Rattle.gptedit_core.specs.declared.asked.Mode.TheVariants.{Add as Adding}
 use Rattle.gptedit_core.specs.declared.measure.Extent.{Extent}
-use Rattle.gptedit_core.specs.declared.measure.Extent.TheVariants.{End}
+use Rattle.gptedit_core.specs.declared.measure.Extent.TheVariants.{Size, Rest, End, More, Less}
+use Rattle.gptedit_core.specs.declared.measure.Measure.{Measure}
+use Rattle.gptedit_core.specs.declared.measure.Measure.TheVariants.{Exactly, About, Share}
 use Rattle.gptedit_core.specs.declared.measure.Position.{Position}
+use Rattle.gptedit_core.specs.declared.measure.Position.TheVariants.{FromStart, FromEnd}
 use Rattle.gptedit_core.specs.declared.setting.NewGuid.{NewGuid}
 use Rattle.gptedit_core.specs.declared.setting.NewGuid.TheVariants.{Given, Random}
 use Rattle.gptedit_core.specs.declared.setting.Setting.{Setting}
@@ -23,7 +26,7 @@ use Rattle.gptedit_values.specs.Measures.{SaysLength, SaysNewLength, SaysPositio
 use Rattle.gptedit_values.specs.Steps.{SaysChange}
 use Rattle.gptedit_values.specs.Words.{choice_said, guid_said, type_said, FitsAmount, SaysAmount, SaysAttributes, SaysTarget}
 use Rattle.gptedit_words.specs.declared.request.Change.{Change}
-use Rattle.gptedit_words.specs.declared.request.Change.TheVariants.{New, Add, Set, SetDisk, Resize, Remove, Sort, Grow, Repair, Randomize, Apply, Wipe}
+use Rattle.gptedit_words.specs.declared.request.Change.TheVariants.{New, Add, AddScript, Set, SetDisk, Resize, Remove, Sort, Grow, Repair, Randomize, Apply, Wipe}
 use Rattle.gptedit_words.specs.declared.request.Command.{Command}
 use Rattle.gptedit_words.specs.declared.request.Command.TheVariants.{Show, Check, Free, Dump, Salvage, Write}
 use Rattle.gptedit_words.specs.declared.request.ImageRequest.{ImageRequest}
@@ -221,6 +224,7 @@ IsSetting found change = ⊥
 
 -- `add IMAGE` adds an entry with these values.
 pub record AsksAddition (found : Found) (asked : Asked) : Type 0 where
+  pub typed : first_value found (codes "--type") ≢ None
   pub number : MayHaveNumberOf found (codes "--number") asked.number
   pub fields : AsksFields found asked
   pub no_place : KeepsPlace asked
@@ -232,9 +236,49 @@ pub record AsksPlace (found : Found) (start : Option Position) (extent : Extent)
   pub extent_is : SaysExtentBy SaysLength (first_value found (codes "--size")) (first_value found (codes "--end")) extent
   pub end_has_start : first_value found (codes "--end") ≢ None → start ≢ None
 
+-- Whether the measure is rounded to the alignment.
+abbrev pub is_rounded : Measure → Bool
+is_rounded (Exactly amount) = false
+is_rounded (About bytes) = true
+is_rounded (Share parts) = true
+
+-- Whether the position is rounded to the alignment. From the end of the usable sectors bytes are rounded too.
+abbrev pub is_rounded_at : Position → Bool
+is_rounded_at (FromStart measure) = is_rounded measure
+is_rounded_at (FromEnd (Exactly (Sectors count))) = false
+is_rounded_at (FromEnd (Exactly (Bytes count))) = true
+is_rounded_at (FromEnd (About bytes)) = true
+is_rounded_at (FromEnd (Share parts)) = true
+
+-- Whether the end of the partition is rounded to the alignment.
+abbrev pub is_rounded_to : Extent → Bool
+is_rounded_to (Size measure) = is_rounded measure
+is_rounded_to Rest = true
+is_rounded_to (End position) = is_rounded_at position
+is_rounded_to (More measure) = is_rounded measure
+is_rounded_to (Less measure) = is_rounded measure
+
+-- Whether an alignment has an effect: a start is chosen, or the start or the end is rounded.
+abbrev pub uses_align : Option Position → Extent → Bool
+uses_align None extent = true
+uses_align (Some start) extent = is_rounded_at start || is_rounded_to extent
+
+-- With a start no place is chosen, and `--align` is given only if it has an effect.
+pub record HasEffect (found : Found) (start : Option Position) (extent : Extent) : Type 0 where
+  pub place : start ≢ None → first_value found (codes "--place") ≡ None
+  pub align : uses_align start extent ≡ false → first_value found (codes "--align") ≡ None
+
+-- Whether `add` is given an option for one partition.
+unfoldable pub gives_partition : Found → Bool
+gives_partition found = gives_value found || (is_some (matched_of found (codes "--size")) || (is_some (matched_of found (codes "--start"))
+    || (is_some (matched_of found (codes "--end")) || (is_some (matched_of found (codes "--place"))
+    || is_some (matched_of found (codes "--align"))))))
+
+-- `add IMAGE` adds one partition, and `add IMAGE --script FILE` those of a script.
 abbrev pub IsAddition : Found → Change → Type 0
-IsAddition found (Add layout start extent) = AddsOne (AsksAddition found) layout
-    × (GivesOr SaysAmount usual_align (first_value found (codes "--align")) layout.align × AsksPlace found start extent)
+IsAddition found (Add layout start extent) = (first_value found (codes "--script") ≡ None) × (AddsOne (AsksAddition found) layout
+    × (GivesOr SaysAmount usual_align (first_value found (codes "--align")) layout.align × (AsksPlace found start extent × HasEffect found start extent)))
+IsAddition found (AddScript file) = (first_value found (codes "--script") ≡ Some file.now) × (gives_partition found ≡ false)
 IsAddition found change = ⊥
 
 -- The texts of an argument.
@@ -256,6 +300,11 @@ pub record AsksNew (found : Found) (new : NewTable) : Type 0 where
   pub guid : Gives SaysGuid (first_value found (codes "--guid")) new.guid
   pub entries : MayHaveNumberOf found (codes "--entries") new.entries
 
+-- `grow IMAGE` extends this partition, if any, and sets random GUIDs if `--random-guids` is given.
+pub record AsksGrowth (found : Found) (target : Option Target) (has_random_guids : Bool) : Type 0 where
+  pub target_is : Gives SaysTarget (first_value found (codes "N")) target
+  pub randomizes : IsFlag found (codes "--random-guids") has_random_guids
+
 -- `apply IMAGE FILE` has this file and these flags.
 pub record AsksApply (found : Found) (file : List ℕ) (is_replacing is_creating : Bool) : Type 0 where
   pub file_is : first_value found (codes "FILE") ≡ Some file
@@ -266,12 +315,13 @@ pub record AsksApply (found : Found) (file : List ℕ) (is_replacing is_creating
 abbrev pub IsChange : List ℕ → Found → Change → Type 0
 IsChange name found (New new) = (name ≡ codes "new") × AsksNew found new
 IsChange name found (Add layout start extent) = (name ≡ codes "add") × IsAddition found (Add layout start extent)
+IsChange name found (AddScript file) = (name ≡ codes "add") × IsAddition found (AddScript file)
 IsChange name found (Set target setting) = (name ≡ codes "set") × IsSetting found (Set target setting)
 IsChange name found (SetDisk guid) = (name ≡ codes "set") × IsSetting found (SetDisk guid)
 IsChange name found (Resize target extent) = (name ≡ codes "resize") × IsResize found (Resize target extent)
 IsChange name found (Remove targets) = (name ≡ codes "remove") × IsRemoval found (Remove targets)
 IsChange name found Sort = name ≡ codes "sort"
-IsChange name found (Grow target) = (name ≡ codes "grow") × Gives SaysTarget (first_value found (codes "N")) target
+IsChange name found (Grow target has_random_guids) = (name ≡ codes "grow") × AsksGrowth found target has_random_guids
 IsChange name found (Repair has_usual_bounds) = (name ≡ codes "repair") × IsFlag found (codes "--bounds") has_usual_bounds
 IsChange name found Randomize = name ≡ codes "randomize"
 IsChange name found (Apply file is_replacing is_creating) = (name ≡ codes "apply") × AsksApply found file.now is_replacing is_creating

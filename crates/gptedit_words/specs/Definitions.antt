@@ -1,16 +1,15 @@
 -- The `clap` rules for the commands as the code defines them.
 use Rattle.std.specs.Prelude.{List, [], ◌∷◌, ◌++◌, map}
 use Rattle.clap.specs.Words.{App, Rule, Shape, with_rule, with_subcommand}
-use Rattle.gptedit_words.specs.Line.{flag, lettered, needed_value, number, place, text_place, text_places, value, with_words}
+use Rattle.gptedit_words.specs.Line.{flag, lettered, number, place, text_place, text_places, value, with_words}
 use Rattle.gptedit_words.specs.declared.definition.Argument.{Argument}
-use Rattle.gptedit_words.specs.declared.definition.Argument.TheVariants.{Flag, Lettered, Value, NeededValue, Number, Place, Places, MayPlace}
+use Rattle.gptedit_words.specs.declared.definition.Argument.TheVariants.{Flag, Lettered, Value, Number, Place, Places, MayPlace}
 use Rattle.gptedit_words.specs.declared.definition.Definition.{Definition}
 
 abbrev pub rule_for : Argument → Rule
 rule_for (Flag word help) = flag word.now
 rule_for (Lettered letter word help) = lettered letter word.now
 rule_for (Value word name help) = value word.now
-rule_for (NeededValue word name help) = needed_value word.now
 rule_for (Number word most help) = number word.now most
 rule_for (Place name help) = text_place name.now
 rule_for (Places name help) = text_places name.now

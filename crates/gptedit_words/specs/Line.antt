@@ -17,9 +17,6 @@ option word = record (new_rule word) { long = Some (long_word word) }
 abbrev pub value : Text → Rule
 value word = record (option word) { value_names = 1 }
 
-abbrev pub needed_value : Text → Rule
-needed_value word = record (value word) { required = true }
-
 -- An option whose value is from 1 to `most`.
 abbrev pub number : Text → ℕ → Rule
 number word most = record (value word) { parser = Some (Unsigned 1 most) }
@@ -80,9 +77,9 @@ abbrev pub fit : Rule
 fit = flag (codes "--fit")
 
 abbrev pub added : List Rule
-added = needed_value (codes "--type") ∷ value (codes "--size") ∷ value (codes "--name") ∷ value (codes "--guid")
+added = value (codes "--type") ∷ value (codes "--size") ∷ value (codes "--name") ∷ value (codes "--guid")
     ∷ value (codes "--attributes") ∷ number (codes "--number") (2 ^ 32 - 1) ∷ value (codes "--start") ∷ value (codes "--end")
-    ∷ value (codes "--place") ∷ value (codes "--align") ∷ fit ∷ []
+    ∷ value (codes "--place") ∷ value (codes "--align") ∷ value (codes "--script") ∷ fit ∷ []
 
 abbrev pub set : List Rule
 set = place (codes "N") ∷ value (codes "--name") ∷ value (codes "--type") ∷ value (codes "--guid") ∷ flag (codes "--random-guid")
@@ -95,7 +92,7 @@ changes = change (codes "new") (value (codes "--guid") ∷ number (codes "--entr
     ∷ change (codes "resize") (text_place (codes "N") ∷ place (codes "SIZE|max") ∷ value (codes "--end") ∷ fit ∷ [])
     ∷ change (codes "remove") (text_places (codes "N") ∷ fit ∷ [])
     ∷ change (codes "sort") (fit ∷ [])
-    ∷ change (codes "grow") (place (codes "N") ∷ [])
+    ∷ change (codes "grow") (place (codes "N") ∷ flag (codes "--random-guids") ∷ [])
     ∷ change (codes "repair") (flag (codes "--bounds") ∷ [])
     ∷ change (codes "randomize") (fit ∷ [])
     ∷ change (codes "apply") (text_place (codes "FILE") ∷ flag (codes "--replace") ∷ flag (codes "--create") ∷ fit ∷ [])

@@ -1,9 +1,12 @@
 -- The reasons for which a command line is refused: an invalid argument or an allocation failure.
-use Rattle.std.specs.Prelude.{◌≡◌, ◌≢◌, ◌⊎◌, ℕ, List, [], ◌∷◌, Option, Some, None, Result, Ok, Err, codes, is_some}
+use Rattle.std.specs.Prelude.{◌≡◌, ◌≢◌, ◌⊎◌, ℕ, List, [], ◌∷◌, Option, Some, None, Result, Ok, Err, codes, false, is_some}
 use Rattle.clap.specs.Words.{first_value, one_text}
 use Rattle.clap.specs.declared.parser.matches.Found.{Found}
+use Rattle.gptedit_core.specs.declared.measure.Extent.{Extent}
+use Rattle.gptedit_core.specs.declared.measure.Position.{Position}
 use Rattle.gptedit_values.specs.Steps.{SaysNoChange}
 use Rattle.gptedit_values.specs.Words.{SaysNoAttributes, SaysNoTarget}
+use Rattle.gptedit_words.specs.Asks.{gives_partition, AsksPlace, HasEffect}
 use Rattle.gptedit_words.specs.Asks.{GivesField, GivesNoField, IsMissingOrWrong, IsNoSectorOf, IsUnset, IsWrong, SaysNoNewGuid, texts_of_place}
 use Rattle.gptedit_words.specs.Asks.{SaysNoAmount, SaysNoChoice, SaysNoGuid, SaysNoLock, SaysNoNumber, SaysNoType}
 use Rattle.gptedit_values.specs.Fields.{SaysNoField}
@@ -41,13 +44,20 @@ pub record CanPlace (found : Found) : Type 0 where
   pub one : HasOne (first_value found (codes "--size")) (first_value found (codes "--end"))
   pub end_has_start : first_value found (codes "--end") ≢ None → first_value found (codes "--start") ≢ None
 
--- The arguments of `add` are valid.
-pub record CanAdd (found : Found) : Type 0 where
+-- The arguments of `add` for one partition are valid.
+pub record CanAddOne (found : Found) : Type 0 where
+  pub typed : first_value found (codes "--type") ≢ None
   pub number : ¬ (IsWrong SaysNoNumber (one_text found (codes "--number")))
   pub spot : CanPlace found
   pub place : ¬ (IsWrong SaysNoChoice (first_value found (codes "--place")))
   pub align : ¬ (IsWrong SaysNoAmount (first_value found (codes "--align")))
   pub fields : HasFields found
+  pub effect : (start : Option Position) (extent : Extent) → AsksPlace found start extent → HasEffect found start extent
+
+-- The arguments of `add` are valid: a script, or those for one partition.
+pub record CanAdd (found : Found) : Type 0 where
+  pub script : first_value found (codes "--script") ≢ None → gives_partition found ≡ false
+  pub one : first_value found (codes "--script") ≡ None → CanAddOne found
 
 -- The partition N is given and valid.
 abbrev pub HasTarget : Found → Type 0

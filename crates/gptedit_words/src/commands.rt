@@ -90,11 +90,11 @@ pub(crate) static CHANGES: [Definition; 11] = [
     },
     Definition {
         name: "add",
-        about: "Adds a partition",
-        example: "Example:\n  gptedit add disk.img --type linux --size 20GiB --name root",
+        about: "Adds a partition, or those of a script of sfdisk",
+        example: "Examples:\n  gptedit add disk.img --type linux --size 20GiB --name root\n  gptedit add disk.img --script more.sfdisk",
         arguments: &[
             IMAGE,
-            Argument::NeededValue("--type", "TYPE", TYPE_HELP),
+            Argument::Value("--type", "TYPE", TYPE_HELP),
             Argument::Value(
                 "--size",
                 "SIZE",
@@ -127,6 +127,12 @@ pub(crate) static CHANGES: [Definition; 11] = [
                 "--align",
                 "SIZE",
                 "Starts it at a multiple of this size [default: 1MiB]",
+            ),
+            Argument::Value(
+                "--script",
+                "FILE",
+                "Adds a partition for each line of a script of sfdisk instead; - is{n}\
+                 standard input",
             ),
             FIT,
         ],
@@ -210,6 +216,10 @@ pub(crate) static CHANGES: [Definition; 11] = [
             Argument::MayPlace(
                 "N",
                 "Also extends this partition over all that is free after it",
+            ),
+            Argument::Flag(
+                "--random-guids",
+                "Also sets random GUIDs, as randomize does, in the same write",
             ),
         ],
         options: WRITING,

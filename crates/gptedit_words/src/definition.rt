@@ -34,8 +34,6 @@ pub(crate) enum Argument {
     Lettered(char, &'static str, &'static str),
     /// An option with a value, and the name of the value.
     Value(&'static str, &'static str, &'static str),
-    /// A required option with a value.
-    NeededValue(&'static str, &'static str, &'static str),
     /// An option whose value is from 1 to this number.
     Number(&'static str, u64, &'static str),
     /// A positional argument that is not empty.
@@ -107,9 +105,6 @@ fn arg_of<'a>(alloc: Global, argument: Argument) -> Arg<'a>
         Argument::Flag(word, help) => flag(alloc, word, help),
         Argument::Lettered(letter, word, help) => flag(alloc, word, help).short(letter),
         Argument::Value(word, value, help) => option(alloc, word, help).value_name(value),
-        Argument::NeededValue(word, value, help) => option(alloc, word, help)
-            .value_name(value)
-            .required(true),
         Argument::Number(word, most, help) => {
             let parser = ValueParser::unsigned(1, most);
             option(alloc, word, help)

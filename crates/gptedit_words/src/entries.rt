@@ -5,15 +5,17 @@ ghost use Rattle.clap.specs.Words.{found_of};
 ghost use Rattle.gptedit_core.specs.declared.asked.Choice.TheVariants.{First};
 ghost use Rattle.gptedit_core.specs.declared.asked.Mode.TheVariants.{Add as Adding};
 ghost use Rattle.gptedit_words.specs.Asks.{gives_value, AsksAddition, AsksFields, AsksPlace, AsksSetting, GivesField, GivesNoField, IsAddition};
+ghost use Rattle.gptedit_words.specs.Asks.{gives_partition};
 ghost use Rattle.gptedit_words.specs.Asks.{texts_of_place, IsOwnGuidOf, IsRemoval, IsResize, IsSetting, KeepsPlace};
-ghost use Rattle.gptedit_words.specs.Refusals.{CanAdd, CanPlace, CanRemove, CanResize, CanSet, HasFields, RefusedOnlyFor};
+ghost use Rattle.gptedit_words.specs.Refusals.{CanAdd, CanAddOne, CanPlace, CanRemove, CanResize, CanSet, HasFields, RefusedOnlyFor};
 ghost use Rattle.gptedit_words.specs.Refusals.{HasOwnGuid, HasSetFields};
 
 use crate::error::{WordsError, refuse_both};
 use crate::request::Change;
+use crate::unused::refuse_unused;
 use crate::values::{
-    amount, attribute_change, attributes, choice, guid, kind, length, name, new_guid, new_length,
-    number_if_given, one_extent, position, target, targets,
+    amount, attribute_change, attributes, choice, guid, kind, length, name, needed, new_guid,
+    new_length, number_if_given, one_extent, position, target, targets,
 };
 use clap::ArgMatches;
 use gptedit_core::{
@@ -29,9 +31,18 @@ pub(crate) fn read_add<'a>(
     ensures said { IfOk result (IsAddition (found_of words.now)) }
     ensures refused { RefusedOnlyFor (found_of words.now) (¬ (CanAdd (found_of words.now))) result }
 {
+    if let Some(file) = words.get_str("--script") {
+        refuse_both(
+            gives_partition(words),
+            "--script",
+            "an option for one partition",
+        )?;
+        return Ok(Change::AddScript { file });
+    }
     let asked = read_new_entry(alloc, words)?;
     let align = amount(words, "--align")?.unwrap_or(DEFAULT_ALIGN);
     let (start, extent) = read_place(words)?;
+    refuse_unused(words, start, extent)?;
     Ok(Change::Add {
         layout: addition(alloc, align, asked)?,
         start,
@@ -54,10 +65,24 @@ fn read_place<'a>(words: &ArgMatches<'a>) -> Result<(Option<Position>, Extent), 
     Ok((start, extent))
 }
 
+// Reports whether an option for one partition is given.
+#[tactic(auto, unfolding(crate::specs::Asks::gives_partition))]
+fn gives_partition(words: &ArgMatches<'_>) -> bool
+    ensures { result ≡ gives_partition (found_of words.now) }
+{
+    gives_value(words)
+        || words.contains_id("--size")
+        || words.contains_id("--start")
+        || words.contains_id("--end")
+        || words.contains_id("--place")
+        || words.contains_id("--align")
+}
+
 fn read_new_entry<'a>(alloc: Global, words: &ArgMatches<'a>) -> Result<Asked, WordsError<'a>>
     ensures said { IfOk result (AsksAddition (found_of words.now)) }
-    ensures refused { RefusedOnlyFor (found_of words.now) (¬ (CanAdd (found_of words.now))) result }
+    ensures refused { RefusedOnlyFor (found_of words.now) (¬ (CanAddOne (found_of words.now))) result }
 {
+    needed(words, "--type")?;
     Ok(Asked {
         number: number_if_given(words, "--number")?,
         choice: choice(words, "--place")?.unwrap_or(Choice::First),

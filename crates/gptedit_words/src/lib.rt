@@ -9,6 +9,7 @@ mod entries;
 pub mod error;
 mod line;
 pub mod request;
+mod unused;
 mod values;
 
 pub use definition::command;

@@ -160,7 +160,10 @@ fn read_change<'a>(
         "resize" => entries::read_resize(words),
         "remove" => entries::read_remove(alloc, words),
         "sort" => Ok(Change::Sort),
-        "grow" => Ok(Change::Grow(target_if_given(words, "N")?)),
+        "grow" => Ok(Change::Grow {
+            target: target_if_given(words, "N")?,
+            has_random_guids: words.get_flag("--random-guids"),
+        }),
         "repair" => Ok(Change::Repair {
             has_usual_bounds: words.get_flag("--bounds"),
         }),

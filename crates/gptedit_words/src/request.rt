@@ -125,6 +125,11 @@ pub enum Change<'a> {
         /// How far it extends.
         extent: Extent,
     },
+    /// Adds a partition for each line of a script.
+    AddScript {
+        /// The path of the script; `-` is standard input.
+        file: &'a str,
+    },
     /// Changes a partition.
     Set {
         /// The partition.
@@ -145,9 +150,13 @@ pub enum Change<'a> {
     Remove(Vec<Target<'a>>),
     /// Numbers the partitions in the order of their starts.
     Sort,
-    /// Fits the table to the length of the image, and then extends this partition, if any, over all that is free after
-    /// it.
-    Grow(Option<Target<'a>>),
+    /// Fits the table to the length of the image.
+    Grow {
+        /// The partition, if any, that is then extended over all that is free after it.
+        target: Option<Target<'a>>,
+        /// Whether to set random GUIDs.
+        has_random_guids: bool,
+    },
     /// Writes the table again from the good copy.
     Repair {
         /// Whether to set the first and last usable sectors to those of the usual layout.

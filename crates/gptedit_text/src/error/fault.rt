@@ -36,6 +36,8 @@ pub enum Fault {
     NotUnits,
     /// The partition has a name as text and as units.
     TwoNames,
+    /// The partition has a size and an end.
+    TwoEnds,
     /// It is not a number of entries.
     NotEntries,
     /// It is not the size of a sector.
@@ -130,6 +132,7 @@ impl Fault {
                  \"0041 d800\""
             }
             Fault::TwoNames => "the partition also has the key name; use only one of the two",
+            Fault::TwoEnds => "the partition also has the key size; use only one of the two",
             Fault::NotSectorSize => {
                 "it must be a number of bytes with a unit, for example \"512B\" or \"4KiB\""
             }

@@ -40,6 +40,7 @@ impl Section {
                     "type",
                     "start",
                     "size",
+                    "end",
                     "guid",
                     "attributes",
                 ]

@@ -68,7 +68,7 @@ impl<'a> Keyed<'a> {
             None => Ok(None),
             Some(Value::String(text)) => Ok(Some(text.as_str())),
             Some(_) => match key {
-                "start" | "size" | "align" => Err(self.fault(key, Fault::NotSize)),
+                "start" | "size" | "end" | "align" => Err(self.fault(key, Fault::NotSize)),
                 "sector-size" => Err(self.fault(key, Fault::NotSectorSize)),
                 "first-usable" | "last-usable" => Err(self.fault(key, Fault::NotSector)),
                 _ => Err(self.fault(key, Fault::NotText)),

@@ -22,8 +22,6 @@ const LEGACY_BOOT: u64 = 1 << 2;
 /// The partition of a line.
 #[derive(Drop)]
 pub struct Partition {
-    /// The number of its entry, from 1.
-    pub number: u32,
     /// The request for it.
     pub asked: Asked,
     /// Whether the line marks it as bootable. The request then has the attribute `legacy-boot`.
@@ -54,24 +52,10 @@ fn is_start(start: &str) -> bool {
     number.is_empty() || read_any_extent(number).is_some()
 }
 
-/// Reads a line that describes a partition. Its number is that of its node, or else this one.
-pub fn read_line(
-    alloc: Global,
-    place: TextPlace,
-    lowest: u32,
-    line: &str,
-) -> Result<Partition, LayoutError> {
+/// Reads a line that describes a partition. Its number is that of its node, if it has one.
+pub fn read_line(alloc: Global, place: TextPlace, line: &str) -> Result<Partition, LayoutError> {
     let (node, fields) = split_node(line);
-    let number = match digits_behind(node) {
-        "" => Some(lowest),
-        digits => digits.parse::<u32>().ok(),
-    };
-    let Some(number) = number else {
-        return Err(place.fault("number", Fault::NotNumber));
-    };
-    if number == 0 {
-        return Err(place.fault("number", Fault::NotNumber));
-    }
+    let number = read_number(place, digits_behind(node))?;
     let mut line = Line {
         alloc,
         place,
@@ -83,18 +67,29 @@ pub fn read_line(
     } else {
         line.read_ordered(fields)?;
     }
-    Ok(line.into_partition(number))
+    Ok(line.into_partition())
+}
+
+// Reads the number at the end of a node.
+fn read_number(place: TextPlace, digits: &str) -> Result<Option<u32>, LayoutError> {
+    if digits.is_empty() {
+        return Ok(None);
+    }
+    match digits.parse::<u32>() {
+        Ok(number) if number > 0 => Ok(Some(number)),
+        _ => Err(place.fault("number", Fault::NotNumber)),
+    }
 }
 
 // Returns the request for a partition whose line has no parts.
-fn default_of(alloc: Global, place: TextPlace, number: u32) -> Result<Asked, LayoutError> {
+fn default_of(alloc: Global, place: TextPlace, number: Option<u32>) -> Result<Asked, LayoutError> {
     Ok(Asked {
         type_guid: read_type("L").ok(),
         attributes: Some(0),
         name: Some(read_name(alloc, place, "")?),
         size: Some(Size::Rest),
         choice: Choice::Longest,
-        ..Asked::nothing(Some(number))
+        ..Asked::nothing(number)
     })
 }
 
@@ -198,13 +193,12 @@ impl Line {
     }
 
     // Returns the partition of the line.
-    fn into_partition(self, number: u32) -> Partition {
+    fn into_partition(self) -> Partition {
         let mut asked = self.asked;
         if self.is_bootable {
             asked.attributes = Some(asked.attributes.unwrap_or(0) | LEGACY_BOOT);
         }
         Partition {
-            number,
             asked,
             is_bootable: self.is_bootable,
         }
