@@ -6,7 +6,6 @@ from typing import NamedTuple
 SOURCE = "crates/gptedit_words/src/commands.rt"
 TEXT = r'"((?:[^"\\]|\\.|\\\n)*)"'
 PLACES = ("Place", "Places", "MayPlace")
-WITH_VALUE = ("Value", "NeededValue", "Number")
 
 
 class Argument(NamedTuple):
@@ -41,7 +40,7 @@ def argument_of(kind, inside, texts):
     """The argument that `Argument::kind(inside)` is."""
     words = [plain(text) if text else texts.get(name, name) for text, name in re.findall(TEXT + r"|\b([A-Z][A-Z_]+)\b(?!::)", inside)]
     letter = re.search(r"'(.)'", inside)
-    value = words[1] if kind in WITH_VALUE[:2] else "N" if kind == "Number" else ""
+    value = words[1] if kind == "Value" else "N" if kind == "Number" else ""
     return Argument(words[0], letter[1] if letter else "", value, words[-1], kind in PLACES)
 
 

@@ -122,8 +122,9 @@ def try_others(tally, program):
                              ("first", 2048, "first-usable is 34 in the backup, but 2048 on the disk"),
                              ("last", 99999, "last-usable is 131038 in the backup, but 99999 on the disk")]:
         program.write("disk.img", table.image_of(found._replace(**{key: other}), SIZE, backup_at=SIZE // 512 - 33))
-        refused(tally, program, ["apply", "disk.img", BACKUP], text)
-        refused(tally, program, ["apply", "disk.img", BACKUP], "`gptedit wipe` removes the table of the disk")
+        refused(tally, program, ["apply", "disk.img", BACKUP], text + "\n--replace sets it")
+        program.run("apply", "disk.img", BACKUP, "--replace")
+        tally.equals(f"the table after the backup with another {key}", found, table.read(program.file("disk.img")))
     both = {1: entry(2048, 4095), 2: entry(8192, 9999, "two", ROOT)}
     program.write("disk.img", table.image_of(found._replace(entries=both), SIZE))
     refused(tally, program, ["apply", "disk.img", BACKUP], "partition 2 (8192..9999")

@@ -363,6 +363,12 @@ def old_copy():
     return b"".join(data.ljust(512, b"\0") for _, data in pieces)
 
 
+def hybrid_mbr():
+    """The 66 bytes of a hybrid MBR."""
+    hybrid = table.mbr_bytes(SIZE)[:16] + bytes([0, 0, 2, 0, 0x83, 0, 0, 0]) + struct.pack("<II", 2048, 2048)
+    return hybrid.ljust(64, b"\0") + b"\x55\xaa"
+
+
 def try_mbrs(tally, program):
     """The MBR: its boot mark stays, a missing one is written, and the length that Windows writes stays."""
     rows = [COMMANDS[name][0] for name in ("set", "resize", "grow", "grow N")]
@@ -376,8 +382,7 @@ def try_mbrs(tally, program):
             goes(tally, program, words)
             tally.equals(f"the MBR after {words} over {what}", wanted, mbr_of(program))
         start(program, of(three(STEP)), SIZE, GROWN)
-        hybrid = table.mbr_bytes(SIZE)[:16] + bytes([0, 0, 2, 0, 0x83, 0, 0, 0]) + struct.pack("<II", 2048, 2048)
-        program.put(IMAGE, 446, hybrid.ljust(64, b"\0") + b"\x55\xaa")
+        program.put(IMAGE, 446, hybrid_mbr())
         before = mbr_of(program)
         goes(tally, program, words)
         tally.equals(f"a hybrid MBR after {words}", before, mbr_of(program))

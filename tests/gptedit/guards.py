@@ -31,10 +31,10 @@ def spans(program):
     return {number: (entry.first, entry.last) for number, entry in found.entries.items()}
 
 
-def add_at(program, first, last, align="1s", guid=ROOT):
+def add_at(program, first, last, guid=ROOT):
     """Adds a partition from one sector to another."""
     program.run("add", "disk.img", "--type", LINUX, "--start", f"{first}s", "--size", f"{last - first + 1}s",
-                "--align", align, "--guid", guid)
+                "--guid", guid)
 
 
 def try_max(tally, program):

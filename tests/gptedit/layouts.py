@@ -21,7 +21,7 @@ LAYOUT = f"""[disk]
 guid = "{DISK}"   # else kept, or random
 align = "1MiB"
 [[partition]]
-number = 1                                      # else the next in order
+number = 1                                      # optional
 name = "ESP"
 type = "efi"
 size = "64MiB"
@@ -42,7 +42,11 @@ WRONG = [
     ("x = 1\n", 'line 1: "x" is not a key of the layout; the keys are disk, partition'),
     ('[disk]\nsize = "1MiB"\n', 'line 2: "size" is not a key of '),
     ('[[partition]]\nsize = "1MiB"\nsize = "2MiB"\n', "line 3, "),
-    ('[[partition]]\n\nsize = "1MB"\n', "line 3: size of "),
+    ('[[partition]]\n\nsize = "1QB"\n', "line 3: size of "),
+    ('[[partition]]\nend = "+1MiB"\n', "line 2: end of "),
+    ('[[partition]]\nsize = "-1MiB"\n', "line 2: size of "),
+    ('[[partition]]\nsize = "1MiB"\nend = "2MiB"\n', "line 3: end of partition 1 of the file: the partition also has the key size; use only one"),
+    ('[[partition]]\nend = "2MiB"\ntype = "swap"\n', "an end needs a start"),
     ("[[partition]]\nsize = 7\n", "line 2: size of "),
     ('[[partition]]\ntype = "linx"\n', "line 2: type of "),
     ('[[partition]]\nguid = "12"\n', "line 2: guid of "),
@@ -70,17 +74,17 @@ WRONG = [
 
 # Texts with several errors, and how the line of each begins.
 SEVERAL = [
-    ('[[partition]]\nsize = "1MB"\ntype = "linx"\nnumber = 0\nattributes = [7, "x"]\n[disk]\nguid = "1"\nx = 2\n',
+    ('[[partition]]\nsize = "1QB"\ntype = "linx"\nnumber = 0\nattributes = [7, "x"]\n[disk]\nguid = "1"\nx = 2\n',
      ["line 2: size of ", "line 3: type of ", "line 4: number of ", "line 5: attributes of ", "line 7: guid of ",
       'line 8: "x" is not a key of ']),
     ('y = 1\n[disk]\nalign = 3\nentries = "1"\nfirst-usable = "1KiB"\nlast-usable = "x"\nsector-size = "8s"\n',
      ['line 1: "y" is not a key of ', "line 3: align of ", "line 4: entries of ", "line 5: first-usable of ",
       "line 6: last-usable of ", "line 7: sector-size of "]),
-    # The number after a wrong one is the next, and a partition with another error keeps its own.
-    ('[[partition]]\nnumber = 5\ntype = "efo"\n[[partition]]\nsize = "rest"\n[[partition]]\nnumber = 6\n'
+    # A partition with another error keeps its number.
+    ('[[partition]]\nnumber = 5\ntype = "efo"\n[[partition]]\nsize = "rest"\n[[partition]]\nnumber = 5\n'
      'size = "rest"\nname = 1\n[[partition]]\nnumber = 5\nname = "a"\nname-utf16 = "0041"\n',
      ["line 3: type of partition 1 ",
-      "line 7: number of partition 3 of the file: an earlier partition has the number 6",
+      "line 7: number of partition 3 of the file: an earlier partition has the number 5",
       "line 8: size of partition 3 of the file: only one", "line 9: name of partition 3 ",
       "line 11: number of partition 4 of the file: an earlier partition has the number 5",
       "line 13: name-utf16 of partition 4 "]),
@@ -143,7 +147,7 @@ def try_layout(tally, program):
     says(tally, program, ["apply", "disk.img", "-"], "unchanged\n", text=LAYOUT)
     tally.holds("what is as the layout says is not written", program.state("disk.img") == before)
     program.run("set", "disk.img", "2", "--name", "other", "--attributes", "60")
-    says(tally, program, ["apply", "disk.img", "disk.toml"], '~ 2 name "other" -> "root"\n')
+    says(tally, program, ["apply", "disk.img", "disk.toml"], '~ 2 name "other" -> "root" (by GUID)\n')
     holds_table(tally, program, "apply", {1: ESP_ENTRY, 2: ROOT_ENTRY._replace(attributes=1 << 60)})
     start(program, False)
     program.run("add", "disk.img", "--type", "swap", "--size", "1MiB", "--number", "7", "--start", "200000s")
@@ -162,10 +166,10 @@ def try_layout(tally, program):
 def try_kept(tally, program):
     """What an entry has and the layout leaves out is kept."""
     start(program)
-    program.write("disk.toml", b'[[partition]]\nname = "boot"\n')
+    program.write("disk.toml", b'[[partition]]\nnumber = 1\nname = "boot"\n')
     says(tally, program, ["apply", "disk.img", "disk.toml"], '~ 1 name "ESP" -> "boot"\n')
     holds_table(tally, program, "apply of a name", {1: ESP_ENTRY._replace(name="boot")})
-    program.write("disk.toml", b'[[partition]]\n[[partition]]\ntype = "swap"\nsize = "1MiB"\n')
+    program.write("disk.toml", b'[[partition]]\nnumber = 1\n[[partition]]\ntype = "swap"\nsize = "1MiB"\n')
     program.run("apply", "disk.img", "disk.toml")
     found = table.read(program.file("disk.img"))
     tally.equals("a partition more", (DISK, [1, 2], SWAP, 133120),
@@ -249,8 +253,8 @@ def try_rests(tally, program):
     for there, parts, more, wanted in RESTS:
         start(program, False, 64 * MIB)
         for number, (first, last) in there.items():
-            program.run("add", "disk.img", "--number", str(number), "--type", "linux", "--align", "1s",
-                        "--start", f"{first}s", "--size", f"{last - first + 1}s")
+            program.run("add", "disk.img", "--number", str(number), "--type", "linux", "--start", f"{first}s",
+                        "--size", f"{last - first + 1}s")
         text = "".join(f"[[partition]]\n{part}\n" for part in parts)
         program.write("rest.toml", text.encode())
         words = ["apply", "disk.img", "rest.toml", *more]

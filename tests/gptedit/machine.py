@@ -61,14 +61,15 @@ def partition_of(number, one, sector):
 
 
 def kept_numbers(before, after):
-    """For each number afterwards the number before of the same partition: it has the same GUID, or the same number
-    and sectors where neither GUID is in both tables."""
+    """For each number afterwards the number before of the same partition: it has the same GUID; or, where neither GUID
+    is in both tables, the same number and sectors, or the same number, start, type and name."""
     at = {one.guid: number for number, one in before.items()}
     kept = {number: at[one.guid] for number, one in after.items() if one.guid in at}
     guids = {one.guid for one in after.values()}
     for number, one in after.items():
         old = before.get(number)
-        if number not in kept and old and old.guid not in guids and (old.first, old.last) == (one.first, one.last):
+        if number not in kept and old and old.guid not in guids and old.first == one.first and (
+                old.last == one.last or (old.type, old.name) == (one.type, one.name)):
             kept[number] = number
     return kept
 
@@ -157,6 +158,7 @@ def changing_rows(program):
         (longer, ["grow", IMAGE], []),
         (longer, ["resize", "--fit", IMAGE, "1", "2MiB"], [("changed", 1)]),
         (longer, ["grow", IMAGE, "2"], [("changed", 2)]),
+        (longer, ["grow", IMAGE, "2", "--random-guids"], [("changed", 1), ("changed", 2)]),
         (two, ["grow", IMAGE], None),
         (short_mbr, ["grow", IMAGE], []),
         (broken, ["repair", IMAGE], []),
@@ -195,12 +197,15 @@ def tried(tally, program, words, wanted=..., sector=512):
     if not dry or not real:
         return
     changes = changes_of(before.entries if before else {}, after.entries if after else {}, sector)
+    # The layouts here give the number of each partition.
+    is_matched = words[0] == "apply" and before
+    changes = [{**one, "matched": "number" if is_matched and one["after"] else None} for one in changes]
     tally.equals(f"dry_run of {what}", (True, False), (dry["dry_run"], real["dry_run"]))
     tally.equals(f"changes of {what}", changes, real["changes"])
     tally.equals(f"header of {what}", header_change_of(before, after), real["header"])
     tally.equals(f"changed of {what}: {lines}", lines != "unchanged\n", real["changed"])
     tally.holds(f"{what} writes only where it is changed", real["changed"] or program.state(IMAGE) == good)
-    if words[0] != "randomize":
+    if words[0] != "randomize" and "--random-guids" not in words:
         tally.equals(f"the dry run of {what}", {**real, "dry_run": True}, dry)
     if wanted is not ...:
         told = [(one["kind"], one["number"]) for one in real["changes"]] if real["changed"] else None
@@ -317,7 +322,8 @@ REFUSALS = [
 # Layouts for the same image, with the code.
 LAYOUTS = [
     ("would-move", '[[partition]]\nnumber = 1\nstart = "3MiB"\nsize = "1MiB"\n[[partition]]\nnumber = 2\n'),
-    ("not-in-layout", "[[partition]]\nnumber = 1\n"), ("bad-layout", ""), ("bad-layout", "what = 1\n"),
+    ("not-in-layout", "[[partition]]\nnumber = 1\n"), ("bad-layout", ""),
+    ("new-role", '[[partition]]\nnumber = 1\n[[partition]]\nname = "two"\ntype = "swap"\n'), ("bad-layout", "what = 1\n"),
     ("bad-layout", "[["), ("bad-layout", "[[partition]]\nnumber = 1\n[[partition]]\nnumber = 1\n"),
     ("layout-mismatch", '[disk]\nsector-size = "4096B"\n'), ("layout-mismatch", "[disk]\nentries = 56\n"),
 ]

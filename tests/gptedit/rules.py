@@ -87,6 +87,7 @@ RULES = {
     "no order of writing keeps a good copy: refused": ["orders of writing"],
     "both copies, each synced before the next": ["writes and syncs", "writes over a broken copy"],
     "--fit and grow N: the table is fitted in the same write": ["--fit", "stops of --fit", "stops of growpart"],
+    "grow --random-guids: GUIDs, bounds and a partition in one write": ["clones", "stops of clones"],
     "--fit changes nothing more on a disk of the table's length": ["--fit on a disk of the same length"],
     "a shortened disk: only the partition beyond the end is removed": ["--fit on a shortened disk"],
     "a stop leaves the old table or the new one": ["stops", "kills", "system calls that fail",

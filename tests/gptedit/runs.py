@@ -12,9 +12,9 @@ import re
 from harness import runs, table
 from harness.images import Reader, changed, is_in
 
-GATE = ["commands", "refusals", "layouts", "backups", "script_inputs", "texts", "scripts", "outputs", "guards",
-        "checks", "safety", "salvaging", "everyday", "traces", "marks", "stops", "streams", "rules", "maps",
-        "completions", "queries", "targets", "settings", "kinds", "sizes", "fitting",
+GATE = ["commands", "refusals", "layouts", "matching", "shaping", "backups", "script_inputs", "appending", "texts", "scripts",
+        "real_scripts", "outputs", "guards", "checks", "safety", "salvaging", "everyday", "traces", "marks", "stops",
+        "streams", "rules", "maps", "completions", "queries", "targets", "settings", "kinds", "sizes", "fitting", "clones",
         "growparts", "machine", "model", "peers"]
 TRIALS = ["uses", "sources", "locks", "holders"]
 MODULES = GATE + TRIALS

@@ -27,7 +27,7 @@ CASES = []
 
 class Case(NamedTuple):
     """A script, the partitions that it makes, and what sfdisk makes of it: `same`, the same `without marks`, or a
-    reason why it is another table or none."""
+    reason why it is another table or none. `marked` are the lines that mark a partition as bootable."""
 
     script: str
     entries: dict
@@ -125,7 +125,7 @@ case("size=1M, Bootable, attrs=GUID:60\n", part(1, 1, bits=LEGACY_BOOT | 1 << 60
      marked=[1])
 case("size=1M\nsize=1M,bootable,\n", part(1, 1), part(2, 1, bits=LEGACY_BOOT), theirs="without marks", marked=[2])
 case("4 : size=1M, bootable, bootable\n,1M,,*\n", part(1, 1, bits=LEGACY_BOOT), part(2, 1, bits=LEGACY_BOOT),
-     theirs="without marks", marked=[4, 1], numbers=[4, 1])
+     theirs="without marks", marked=[1, 2], numbers=[4, 1])
 case("size=1M, bootable, attrs=LegacyBIOSBootable\n", part(1, 1, bits=LEGACY_BOOT), marked=[1])
 # Attributes.
 for _text, _bits in (
@@ -164,7 +164,7 @@ case(f"unit: sectors\nlabel: gpt\nlabel-id: {GUID}\n\n/dev/sdx1 : start=2048 siz
      part(1, 1), part(2, 1, SWAP), part(3, 1), part(4, 1))
 case(f"/dev/sdx1 : start=2048  uuid=\"{GUID}\" size=2048\n/dev/sdx2: start= 4096 uuid=\"{HOME}\",size=2048\n"
      f"/dev/sdx3  : start=6144, size=2048, Id={SWAP}\n", part(1, 1), part(2, 1), part(3, 1, SWAP))
-case("label: gpt\n,1M,S,*\n", part(1, 1, SWAP, LEGACY_BOOT), theirs="without marks", marked=[1])
+case("label: gpt\n,1M,S,*\n", part(1, 1, SWAP, LEGACY_BOOT), theirs="without marks", marked=[2])
 # Numbers and the ends of scripts.
 case("2 : size=1M\nsize=1M\nsize=1M\n", part(1, 1), part(2, 1), part(3, 1), numbers=[2, 1, 3])
 case("2 : size=1M\n1 : size=1M\n", part(1, 1), part(2, 1), numbers=[2, 1])
@@ -273,8 +273,8 @@ def theirs_of(program, script):
 
 
 def note_of(marked):
-    """What is printed of partitions that are marked as bootable."""
-    return "".join(f"partition {number}: bootable sets the attribute legacy-boot\n" for number in marked)
+    """What is printed of lines that mark a partition as bootable."""
+    return "".join(f"line {line}: bootable sets the attribute legacy-boot\n" for line in marked)
 
 
 def in_memory(try_all):

@@ -72,6 +72,9 @@ SIZES = ["2048s", "1s", "1048576B", "512B", "1024KiB", "1KiB", "64MiB", "1K", "6
          "1.5MiB", "1.5MB", "0.25GiB", "0.1GB", "2.000001MiB", "100.999999M", "3.5M", "0.0002TiB", "0.000273TB", "50%",
          "100%", "33%", "33.333333%", "0.5%", "12.5%", "99.999999%", "007%", "00.5%", "4096.5KB", "1048577.5B"]
 
+# Sizes that are not rounded, which exclude --align.
+EXACT = re.compile(r"\d+(s|B|[KMGT](iB)?)")
+
 # A start, and a size or an end.
 PLACES = [
     ("1MiB", "--end", "100MiB"), ("1MiB", "--end", "4095s"), ("2048s", "--end", "2048s"), ("1MiB", "--end", "50%"),
@@ -124,7 +127,9 @@ def try_sizes(tally, program):
             place = rule.place("1MiB", size)
             if place[1] <= 0 or place[0] + place[1] > rule.end:
                 continue
-            words = ["--start", "1MiB", "--size", size, "--align", f"{align}B", "--sector", str(sector)]
+            words = ["--start", "1MiB", "--size", size, "--sector", str(sector)]
+            if not EXACT.fullmatch(size):
+                words += ["--align", f"{align}B"]
             tally.equals(f"add {words}", (*place[:2], said(place, sector)), added(program, *words))
 
 
@@ -145,6 +150,52 @@ def try_places(tally, program):
             tally.holds(f"add {words} is refused", isinstance(added(program, *words)[1], str))
             continue
         tally.equals(f"add {words}", (*place[:2], said(place)), added(program, *words))
+
+
+def laid(program, start, key, value, *words):
+    """The place that a layout would give a partition, and what `apply` prints; `words` may have --create."""
+    kept = "" if "--create" in words else "[[partition]]\nnumber = 1\n[[partition]]\nnumber = 3\n"
+    program.write("disk.toml", (f'{kept}[[partition]]\nnumber = 9\ntype = "linux"\nstart = "{start}"\n{key} = "{value}"\n').encode())
+    status, out, err = program.run("apply", IMAGE, "disk.toml", "-n", "--json", *words)
+    if status:
+        return status, out, err
+    found = next(one for one in json.loads(out)["partitiontable"]["partitions"] if one["node"].endswith("9"))
+    return found["start"], found["size"], err
+
+
+def try_layouts(tally, program):
+    """The same starts, sizes and ends in a layout, for an existing table and for a new one; once more changes nothing."""
+    rows = PLACES + [("220MiB", "--size", size) for size in SIZES]
+    for words, name in ((), "partition 9: "), (("--create",), ""):
+        if words:
+            program.make_zeros(IMAGE, LENGTH)
+        found = of({}, LENGTH) if words else make(program, HELD, LENGTH)
+        rule = Rule(found.first, found.last)
+        for start, option, value in rows:
+            key = option[2:]
+            place = rule.place(start, **{key: value})
+            what = f"start = {start}, {key} = {value} {words}"
+            told = laid(program, start, key, value, *words)
+            is_free = words or all(place[0] > one.last or place[0] + place[1] <= one.first for one in HELD.values())
+            is_whole = key == "end" or not re.fullmatch(r"\d+(B|KiB)", value) or rule_bytes(value) % 512 == 0
+            if place[1] <= 0 or place[0] < found.first or place[0] + place[1] > rule.end or not is_free or not is_whole:
+                tally.holds(f"{what} is refused", isinstance(told[1], str))
+                continue
+            lines = "".join(name + line + "\n" for line in said(place).splitlines())
+            tally.equals(what, (*place[:2], lines), told)
+    make(program, {}, LENGTH)
+    program.write("disk.toml", b'[[partition]]\ntype = "efi"\nsize = "10%"\n[[partition]]\ntype = "linux"\nstart = "40%"\nend = "-10MB"\n')
+    ended = program.run("apply", IMAGE, "disk.toml")
+    rule = Rule(*table.bounds(LENGTH))
+    wanted = [rule.place("1MiB", "10%")[:2], rule.place("40%", end="-10MB")[:2]]
+    after = table.read(program.file(IMAGE)).entries
+    tally.equals(f"a layout in percent: {ended}", wanted, [(after[n].first, after[n].last + 1 - after[n].first) for n in (1, 2)])
+    tally.equals("a layout in percent, once more", (0, "unchanged\n"), program.run("apply", IMAGE, "disk.toml")[:2])
+    # An end without a start belongs to the partition that is there.
+    program.write("disk.toml", b'[[partition]]\nsize = "10%"\ntype = "efi"\n[[partition]]\nnumber = 2\nend = "90%"\n')
+    tally.equals("an end of a partition that is there", 0, program.run("apply", IMAGE, "disk.toml", "--replace")[0])
+    after = table.read(program.file(IMAGE)).entries[2]
+    tally.equals("its place", (wanted[1][0], rule.position("90%")[0]), (after.first, after.last + 1))
 
 
 def try_figures(tally, program):
@@ -263,5 +314,5 @@ def try_peers(tally, program):
             tally.equals(f"add {words} and {other}", made, [added(program, *words)[:2]])
 
 
-SUBJECTS = {"sizes": try_sizes, "places": try_places, "figures": try_figures, "resizing": try_resizing, "fitted": try_fitted,
+SUBJECTS = {"sizes": try_sizes, "places": try_places, "layouts": try_layouts, "figures": try_figures, "resizing": try_resizing, "fitted": try_fitted,
             "wrong": try_wrong, "refusals": try_refusals, "peers": try_peers}

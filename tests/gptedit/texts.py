@@ -196,9 +196,11 @@ def try_headers(tally, program):
     for in_toml, in_script, key, script_key, is_, other in HEADERS:
         for text, name in (("[disk]\n" + in_toml, key), ("label: gpt\n" + in_script, script_key)):
             refused(tally, program, ["apply", "disk.img", "-"], "is not in the layout", text=text.format(is_) + "\n")
-            for words in (["apply", "disk.img", "-"], ["apply", "disk.img", "-", "--replace"]):
+            rows = [["apply", "disk.img", "-"]] + [["apply", "disk.img", "-", "--replace"]] * (key == "sector-size")
+            more = "; values in sectors" if key == "sector-size" else ", or use --replace to set it\n"
+            for words in rows:
                 refused(tally, program, words, f"{name} is {other} in the layout, but {is_} on the disk\n"
-                        f"remove {name} from the layout to keep that of the disk",
+                        f"remove {name} from the layout to keep that of the disk{more}",
                         text=text.format(other) + "\n")
     for text, told in WRONG:
         refused(tally, program, ["apply", "disk.img", "-"], told, text=text)

@@ -49,7 +49,7 @@ def try_order(tally, program):
     """Each kind of command over a table whose copies are both good."""
     if not can_trace(program):
         return "strace is not installed or not allowed: left out"
-    program.write("layout.toml", b'[[partition]]\nname = "other"\n')
+    program.write("layout.toml", b'[[partition]]\nnumber = 1\nname = "other"\n')
     rows = [ADD, ["set", IMAGE, "1", "--name", "x"], ["resize", IMAGE, "1", "512KiB"], ["resize", IMAGE, "1", "max"],
             ["remove", IMAGE, "1"], ["randomize", IMAGE], ["apply", IMAGE, "layout.toml", "--replace"],
             ["new", IMAGE, "--overwrite", "--guid", ROOT]]

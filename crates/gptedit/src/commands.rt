@@ -4,22 +4,25 @@ use crate::changing::change;
 use crate::checking::check;
 use crate::failure::Failure;
 use crate::image::{Image, Opening};
-use crate::layouts::{layout_for, read_asked, take_bootable};
-use crate::measuring::{Place, measured};
+use crate::layouts::{
+    added, layout_for, read_added, read_asked, shape_for, take_bootable, widened,
+};
+use crate::measuring::measured;
 use crate::selecting::{number_of, selected};
 use crate::task::Task;
 use crate::wiping::clear;
 use crate::{looking, making, tasks};
-use gptedit_core::{Job, extension, removal};
+use gptedit_core::{EntryMatch, Job, MatchedLayout, Shape, extension, put_used_first, removal};
 use gptedit_look::{Look, Purpose};
 use gptedit_report::types_json;
-use gptedit_text::Parsed;
+use gptedit_text::{Parsed, StatedPlace};
 use gptedit_values::Escaped;
 use gptedit_words::{Change, Command, ImageRequest, Lock, Options};
 use gptman::GPT;
 use std::alloc::Global;
 use std::fs::File;
 use std::io::Write;
+use std::mem;
 use std::random::RandomSource;
 use std::rt::Files;
 
@@ -145,17 +148,19 @@ fn write<R, W: Write>(
 where
     R: Files<File = File> + RandomSource + Input + Eprint + AllocGlobal + Clone + Drop,
 {
+    let alloc = rt.alloc();
     let mut parsed = match &change {
         Change::Apply { file, .. } => Some(read_asked(rt, *file)?),
+        Change::AddScript { file } => Some(read_added(rt, *file)?),
         _ => None,
     };
-    let bootable = take_bootable(rt.alloc(), parsed.as_mut());
+    let bootable = take_bootable(alloc, parsed.as_mut());
     let mut image = Image::open(rt, asked.image, &asked.opening())?;
     let usual = usual_size(&change, parsed.as_ref());
-    let look = image.look(rt.alloc(), usual)?;
+    let look = image.look(alloc, usual)?;
     let is_written = make(rt, out, &mut image, look, change, parsed, &asked)?;
-    for number in bootable.iter() {
-        let _ = eprintln!(rt; "partition {number}: bootable sets the attribute legacy-boot");
+    for line in bootable.iter() {
+        let _ = eprintln!(rt; "line {line}: bootable sets the attribute legacy-boot");
     }
     if is_written {
         if let Some(device) = &image.opened.device {
@@ -220,22 +225,51 @@ where
         return task_without(rt, image, look, &wanted, parsed);
     };
     match wanted {
-        Change::Grow(None) => return Ok(tasks::grow()),
+        Change::Grow {
+            target: None,
+            has_random_guids: false,
+        } => return Ok(tasks::grow(rt.alloc())),
         Change::Repair { has_usual_bounds } => {
             return tasks::repair(rt, image, look, has_usual_bounds);
         }
         _ => (),
     }
-    let is_growth = matches!(wanted, Change::Grow(_));
-    let job = job_of(rt, image, look, table, wanted, parsed, is_fitted)?;
-    if !is_fitted && !is_growth {
-        return tasks::edit(rt, job);
-    }
-    let mut task = tasks::edit_fitted(rt, look, table, job)?;
+    let is_growth = matches!(wanted, Change::Grow { .. });
+    let wanted = job_of(rt, image, look, table, wanted, parsed, is_fitted)?;
+    let Wanted {
+        job,
+        matches,
+        shape,
+    } = wanted;
+    let mut task = match shape {
+        Some(shape) => tasks::reshape(rt, image, look, job, shape)?,
+        None if is_fitted || is_growth => tasks::edit_fitted(rt, look, table, job)?,
+        None => tasks::edit(rt, job)?,
+    };
+    task.matches = matches;
     if is_growth {
         task.mbr = Purpose::Fit;
     }
     Ok(task)
+}
+
+// A job, the entries that its layout means, and the shape that the table gets first, if any.
+#[derive(Drop)]
+struct Wanted {
+    job: Job,
+    matches: Vec<EntryMatch>,
+    shape: Option<Shape>,
+}
+
+impl Wanted {
+    // Returns a job that names its entries by number.
+    fn plain(alloc: Global, job: Job) -> Wanted {
+        Wanted {
+            job,
+            matches: Vec::new(alloc),
+            shape: None,
+        }
+    }
 }
 
 // Returns the job of a change of entries.
@@ -247,13 +281,13 @@ fn job_of<R>(
     wanted: Change<'_>,
     parsed: Option<Parsed>,
     is_fitted: bool,
-) -> Result<Job, Failure>
+) -> Result<Wanted, Failure>
 where
     R: RandomSource + AllocGlobal + Eprint,
 {
     let alloc = rt.alloc();
     let layout = match (wanted, parsed) {
-        (Change::Sort, _) => return Ok(Job::Sort),
+        (Change::Sort, _) => return Ok(Wanted::plain(alloc, Job::Sort)),
         (
             Change::Add {
                 layout,
@@ -262,21 +296,22 @@ where
             },
             _,
         ) => {
-            let place = Place {
+            let place = StatedPlace {
                 start,
-                extent,
-                is_fitted,
+                extent: Some(extent),
             };
-            measured(rt, image, look, table, layout, &place)?
+            measured(rt, image, look, table, is_fitted, layout, &[place])?
+        }
+        (Change::AddScript { file }, Some(parsed)) => {
+            added(alloc, image.name, file, parsed, table)?
         }
         (Change::Resize { target, extent }, _) => {
             let layout = selected(alloc, image.name, extension(alloc, table, target))?;
-            let place = Place {
+            let place = StatedPlace {
                 start: None,
-                extent,
-                is_fitted,
+                extent: Some(extent),
             };
-            measured(rt, image, look, table, layout, &place)?
+            measured(rt, image, look, table, is_fitted, layout, &[place])?
         }
         (Change::Set { target, setting }, _) => {
             let number = number_of(alloc, image.name, table, &target)?;
@@ -286,10 +321,14 @@ where
         (Change::Remove(targets), _) => {
             selected(alloc, image.name, removal(alloc, table, &targets))?
         }
-        (Change::Grow(Some(target)), _) => {
-            selected(alloc, image.name, extension(alloc, table, target))?
-        }
-        (Change::Randomize, _) => tasks::random_guids(rt, table)?,
+        (
+            Change::Grow {
+                target,
+                has_random_guids,
+            },
+            _,
+        ) => tasks::growth(rt, image.name, table, target, has_random_guids)?,
+        (Change::Randomize, _) => tasks::random_guids(rt, image.name, table, None)?,
         (
             Change::Apply {
                 file,
@@ -297,10 +336,57 @@ where
                 ..
             },
             Some(parsed),
-        ) => layout_for(alloc, file, parsed, table, is_replacing)?,
+        ) => {
+            let applied = Applied { file, is_replacing };
+            return applied_to(rt, image, look, table, parsed, applied, is_fitted);
+        }
         _ => return Err(image.no_table(alloc, look)),
     };
-    Ok(Job::Apply(layout))
+    Ok(Wanted::plain(alloc, Job::Apply(layout)))
+}
+
+// How a layout is applied.
+#[derive(Clone, Copy)]
+struct Applied<'a> {
+    file: &'a str,
+    is_replacing: bool,
+}
+
+// Returns the job of a layout. It is matched with the entries, and measured between the bounds, that the table gets.
+fn applied_to<R>(
+    rt: &R,
+    image: &mut Image<'_>,
+    look: &Look,
+    table: &GPT,
+    mut parsed: Parsed,
+    applied: Applied<'_>,
+    is_fitted: bool,
+) -> Result<Wanted, Failure>
+where
+    R: AllocGlobal + Eprint,
+{
+    let alloc = rt.alloc();
+    let Applied { file, is_replacing } = applied;
+    let shape = shape_for(alloc, file, &parsed, table, is_replacing)?;
+    let shaped = match shape {
+        Some(shape) => Some(widened(alloc, table, shape)?),
+        None => None,
+    };
+    let table = shaped.as_ref().unwrap_or(table);
+    let places = mem::replace(&mut parsed.places, Vec::new(alloc));
+    let MatchedLayout { layout, matches } = layout_for(
+        alloc,
+        image.name,
+        parsed.layout,
+        table,
+        is_replacing,
+    )?;
+    let layout = measured(rt, image, look, table, is_fitted, layout, &places)?;
+    Ok(Wanted {
+        job: Job::Apply(put_used_first(alloc, table, layout)?),
+        matches,
+        shape,
+    })
 }
 
 // Returns the task if no table was read: only `apply --create` makes a table.
@@ -312,7 +398,7 @@ fn task_without<R>(
     parsed: Option<Parsed>,
 ) -> Result<Task, Failure>
 where
-    R: RandomSource + AllocGlobal,
+    R: RandomSource + AllocGlobal + Eprint,
 {
     match (wanted, parsed) {
         (
@@ -324,7 +410,7 @@ where
             Some(parsed),
         ) => {
             if *is_creating {
-                return making::create(rt, look, *file, parsed);
+                return making::create(rt, image, look, *file, parsed);
             }
             Err(image.no_table_to_apply(rt.alloc(), look))
         }

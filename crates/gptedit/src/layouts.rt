@@ -1,15 +1,14 @@
 //! Reads layouts from files.
 
-use crate::failure::{Failure, refuse, refuse_failed, refuse_plain};
-use gptedit_core::{Mode, RequestedLayout};
+use crate::failure::{Failure, refuse, refuse_asked, refuse_error, refuse_failed, refuse_plain};
+use gptedit_core::{MatchedLayout, RequestedLayout, Shape, Stop, match_layout, number_added};
 use gptedit_report::{NotLayoutText, Reason};
 use gptedit_text::{
-    MAX_LAYOUT_BYTES, NotLayout, Parsed, is_backup, is_script, read_backup, read_layout,
-    read_script,
+    Header, MAX_LAYOUT_BYTES, NotLayout, Parsed, is_backup, is_script, read_additions, read_backup,
+    read_layout, read_script,
 };
 use gptman::GPT;
 use std::alloc::Global;
-use std::collections::BTreeSet;
 use std::fs::File;
 use std::io::{ErrorKind, Read};
 use std::rt::Files;
@@ -27,13 +26,7 @@ pub fn read_asked<R: Files<File = File> + Input + AllocGlobal>(
     let parsed = if is_backup(&bytes) {
         read_backup(alloc, bytes)
     } else {
-        let text = match String::from_utf8(bytes) {
-            Ok(text) => text,
-            Err(_) => {
-                let text = "the layout is not a text in UTF-8";
-                return Err(refuse_plain(alloc, file, Reason::BadLayout, text));
-            }
-        };
+        let text = text_of(alloc, file, bytes)?;
         if is_script(text.as_str()) {
             read_script(alloc, text.as_str())
         } else {
@@ -41,6 +34,39 @@ pub fn read_asked<R: Files<File = File> + Input + AllocGlobal>(
         }
     };
     parsed.map_err(|error| not_a_layout(alloc, file, error))
+}
+
+/// Reads an `sfdisk` script whose partitions are new ones, as `read_asked` does.
+pub fn read_added<R: Files<File = File> + Input + AllocGlobal>(
+    rt: &R,
+    file: &str,
+) -> Result<Parsed, Failure> {
+    let alloc = rt.alloc();
+    let bytes = read_file(rt, file)?;
+    if is_backup(&bytes) {
+        return Err(refuse_plain(alloc, file, Reason::BadLayout, NO_SCRIPT));
+    }
+    let text = text_of(alloc, file, bytes)?;
+    if !is_script(text.as_str()) {
+        return Err(refuse_plain(alloc, file, Reason::BadLayout, NO_SCRIPT));
+    }
+    match read_additions(alloc, text.as_str()) {
+        Ok(parsed) => Ok(parsed),
+        Err(error) => Err(not_a_layout(alloc, file, error)),
+    }
+}
+
+const NO_SCRIPT: &str =
+    "it is not a script of sfdisk\n`gptedit apply` takes layouts in TOML and backups of sgdisk";
+
+fn text_of(alloc: Global, file: &str, bytes: Vec<u8>) -> Result<String, Failure> {
+    match String::from_utf8(bytes) {
+        Ok(text) => Ok(text),
+        Err(_) => {
+            let text = "the layout is not a text in UTF-8";
+            Err(refuse_plain(alloc, file, Reason::BadLayout, text))
+        }
+    }
 }
 
 // Reads a file, which must not be larger than a layout may be.
@@ -106,52 +132,79 @@ fn not_a_layout(alloc: Global, file: &str, error: NotLayout) -> Failure {
     }
 }
 
-/// Takes the numbers of the partitions that a script marks as bootable.
-pub fn take_bootable(alloc: Global, parsed: Option<&mut Parsed>) -> Vec<u32> {
+/// Takes the lines of a script that mark partitions as bootable.
+pub fn take_bootable(alloc: Global, parsed: Option<&mut Parsed>) -> Vec<usize> {
     match parsed {
         Some(parsed) => mem::replace(&mut parsed.bootable, Vec::new(alloc)),
         None => Vec::new(alloc),
     }
 }
 
-/// Returns the layout to apply to a table. Refuses a layout whose header does not match the table.
-///
-/// With `is_replacing`, the layout removes the partitions that it does not list.
-pub fn layout_for(
+/// Returns the layout of a script, with a number for each partition that it adds to the table. Refuses a script for
+/// sectors of another size.
+pub fn added(
     alloc: Global,
+    image: &str,
     file: &str,
     parsed: Parsed,
     table: &GPT,
-    is_replacing: bool,
 ) -> Result<RequestedLayout, Failure> {
-    if let Err(other) = parsed.header.check(parsed.form, table) {
+    if let Err(other) = parsed.header.check(parsed.form, table, false) {
         return Err(refuse_failed(alloc, file, Reason::LayoutMismatch, &other));
     }
-    let mut layout = parsed.layout;
-    if is_replacing {
-        layout.mode = Mode::Become { replace: true };
-        layout.removed = find_left_out(alloc, table, &layout)?;
-    }
-    Ok(layout)
+    number_added(alloc, table, parsed.layout).map_err(|stop| not_planned(alloc, image, table, stop))
 }
 
-// Returns the numbers of the partitions that the layout does not list.
-fn find_left_out(
+/// Returns the shape that a layout gives the table, or `None` if the table has it. Without `is_replacing`, refuses a layout
+/// whose header does not match the table; with it, only one for sectors of another size.
+pub fn shape_for(
     alloc: Global,
+    file: &str,
+    parsed: &Parsed,
     table: &GPT,
-    layout: &RequestedLayout,
-) -> Result<Vec<u32>, Failure> {
-    let mut asked = BTreeSet::new(alloc);
-    for entry in layout.asked.iter() {
-        if let Some(number) = entry.number {
-            asked.insert(number)?;
-        }
+    is_replacing: bool,
+) -> Result<Option<Shape>, Failure> {
+    let checked = if is_replacing {
+        parsed.header.check_sector_size(parsed.form, table)
+    } else {
+        parsed.header.check(parsed.form, table, true)
+    };
+    if let Err(other) = checked {
+        return Err(refuse_failed(alloc, file, Reason::LayoutMismatch, &other));
     }
-    let mut left_out = Vec::new(alloc);
-    for (number, entry) in table.iter() {
-        if entry.is_used() && !asked.contains(&number) {
-            left_out.push(number)?;
-        }
+    let is = Header::of(table).shape().complete(table);
+    let next = parsed.header.shape().complete(table);
+    Ok(if next == is { None } else { Some(next) })
+}
+
+/// Returns the table with the usable sectors and the entries of the shape.
+pub fn widened(alloc: Global, table: &GPT, shape: Shape) -> Result<GPT, Failure> {
+    match shape.widen(alloc, table) {
+        Ok(table) => Ok(table),
+        Err(_) => Err(Failure::OutOfMemory),
     }
-    Ok(left_out)
+}
+
+/// Returns the layout to apply to a table, with the entries that it means. With `is_replacing`, the layout removes the
+/// partitions that it does not mean.
+pub fn layout_for(
+    alloc: Global,
+    image: &str,
+    layout: RequestedLayout,
+    table: &GPT,
+    is_replacing: bool,
+) -> Result<MatchedLayout, Failure> {
+    match_layout(alloc, table, layout, is_replacing).map_err(|stop| not_planned(
+        alloc, image, table, stop,
+    ))
+}
+
+fn not_planned(alloc: Global, image: &str, table: &GPT, stop: Stop) -> Failure {
+    match stop {
+        Stop::Refused(refusal) => {
+            let size = table.sector_size;
+            refuse_asked(alloc, image, Some(table), size, &refusal)
+        }
+        Stop::Failed(error) => refuse_error(alloc, image, &error),
+    }
 }

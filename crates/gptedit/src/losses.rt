@@ -25,6 +25,10 @@ pub fn refuse_losses(
             refuse_freed(alloc, image, look, was, next)
         }
         Work::Edit(_) => refuse_shortening(alloc, image, was, next),
+        Work::Reshape(_) => {
+            refuse_shortening(alloc, image, was, next)?;
+            refuse_freed(alloc, image, look, was, next)
+        }
         _ => Ok(()),
     }
 }

@@ -8,7 +8,7 @@ use crate::remains::find_remains;
 use crate::task::{Became, Task};
 use crate::using::UseText;
 use gptedit_busy::find_users;
-use gptedit_core::Refusal;
+use gptedit_core::{Refusal, Shape};
 use gptedit_look::{Look, MbrChange, MbrKind, Obstacle, Purpose, What, find_obstacle};
 use gptedit_report::{Commands, CutText, Edges, Message, ObstacleText, Reason, Remains};
 use gptedit_values::Escaped;
@@ -146,6 +146,9 @@ fn refuse_task(
     table: Option<&GPT>,
     refusal: &Refusal,
 ) -> Failure {
+    if let (Some(shape), Some(table)) = (task.shape(), table) {
+        return refuse_shaped(alloc, image.name, shape, table, refusal);
+    }
     if let (true, Refusal::BadBoundaries, Some(table)) = (task.is_fitted(), refusal, table) {
         let is_device = image.opened.device.is_some();
         if let Some(text) = CutText::of(table, look.size, is_device, image.name) {
@@ -165,6 +168,56 @@ fn refuse_task(
         }
     }
     refuse_asked(alloc, image.name, table, look.sector_size, refusal)
+}
+
+// Returns the refusal of a task that gives the table another shape. Its text is about the new shape.
+fn refuse_shaped(
+    alloc: Global,
+    image: &str,
+    shape: Shape,
+    table: &GPT,
+    refusal: &Refusal,
+) -> Failure {
+    let count = shape.entries;
+    match refusal {
+        Refusal::NoEntry(number) if *number > count => {
+            let number = *number;
+            return refuse(alloc, image, &AboveLast { number, count });
+        }
+        _ => (),
+    }
+    match copy_of(table) {
+        Ok(mut shaped) => {
+            shaped.header.number_of_partition_entries = count;
+            shaped.header.first_usable_lba = shape.first_usable;
+            shaped.header.last_usable_lba = shape.last_usable;
+            refuse_asked(alloc, image, Some(&shaped), shaped.sector_size, refusal)
+        }
+        Err(failure) => failure,
+    }
+}
+
+// Message: an entry would be used that the new table does not have.
+#[derive(Clone, Copy)]
+struct AboveLast {
+    number: u32,
+    count: u32,
+}
+
+impl fmt::Display for AboveLast {
+    fn fmt<W: fmt::Write>(&self, f: &mut fmt::Formatter<W>) -> fmt::Result {
+        let AboveLast { number, count } = *self;
+        write!(
+            f,
+            "entry {number} would be used, but the table would have {count} entries"
+        )
+    }
+}
+
+impl Message for AboveLast {
+    fn reason(&self) -> Reason {
+        Reason::Request(Refusal::NoEntry(self.number))
+    }
 }
 
 // Returns a table with the usable sectors that it gets when it is fitted to a disk of `size` bytes.

@@ -44,7 +44,7 @@ pub fn report<W: Write>(
         may_lose,
     } = *done;
     if how.is_json {
-        return report_json(out, alloc, image, look, plan, how);
+        return report_json(out, alloc, image, look, done, how);
     }
     if how.is_dry && plan.is_needed() {
         out.write_all(DRY)?;
@@ -75,11 +75,12 @@ fn report_json<W: Write>(
     alloc: Global,
     image: &mut Image<'_>,
     look: &Look,
-    plan: &Plan,
+    done: &Done<'_>,
     how: How,
 ) -> Result<(), Failure> {
+    let plan = done.plan;
     if how.is_dry && plan.is_changed {
-        return print_json(out, alloc, image, look, plan, &CopiesState::Good, how);
+        return print_json(out, alloc, image, look, done, &CopiesState::Good, how);
     }
     let sector_size = plan.next.sector_size.max(1);
     let copies = match check(alloc, &mut image.opened.disk, sector_size) {
@@ -87,7 +88,7 @@ fn report_json<W: Write>(
         Err(error) => return Err(refuse_error(alloc, image.name, &error)),
     };
     let state = CopiesState::new(&copies.primary, &copies.backup, copies.are_same);
-    print_json(out, alloc, image, look, plan, &state, how)
+    print_json(out, alloc, image, look, done, &state, how)
 }
 
 // Prints the table and the change as JSON, with this state of both copies.
@@ -96,15 +97,17 @@ fn print_json<W: Write>(
     alloc: Global,
     image: &Image<'_>,
     look: &Look,
-    plan: &Plan,
+    done: &Done<'_>,
     state: &CopiesState<'_>,
     how: How,
 ) -> Result<(), Failure> {
+    let plan = done.plan;
     let table = &plan.next;
     let free = free_in(alloc, image, look, table, table.align)?;
     let change = TableChange {
         was: plan.was.as_ref(),
         next: Some(table),
+        matches: &done.task.matches,
         is_needed: plan.is_needed(),
         is_dry: how.is_dry,
     };
@@ -128,7 +131,9 @@ fn report_table<W: Write>(
         (Work::Edit(_), _) if task.purpose == Purpose::Repair => {
             out.write_all(b"both copies are rewritten\n")?
         }
-        (Work::Edit(_) | Work::Grow(_), Some(was)) => print_changes(out, alloc, was, next)?,
+        (Work::Edit(_) | Work::Reshape(_) | Work::Grow(_), Some(was)) => {
+            print_changes(out, alloc, was, next, &task.matches)?
+        }
         _ => show_table(out, alloc, image.name, look.size, next, &CopiesState::Good)?,
     }
     Ok(())

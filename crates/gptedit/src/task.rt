@@ -7,7 +7,10 @@ ghost use Rattle.gptedit_core.specs.Planning.{has_random};
 
 use crate::failure::{Failure, refuse_error};
 use crate::image::Image;
-use gptedit_core::{Bounds, Creation, FittedRequest, Growth, Made, Outcome, Refusal, Request};
+use gptedit_core::{
+    Bounds, Creation, EntryMatch, FittedRequest, Growth, Made, Outcome, Refusal, Request,
+    ReshapedRequest, Shape,
+};
 use gptedit_look::Purpose;
 use gptman::{GPT, Result};
 use std::alloc::Global;
@@ -23,6 +26,8 @@ pub struct Task {
     pub mbr: Purpose,
     /// Whether the layout requests no partition, so that it can only remove some.
     pub only_removes: bool,
+    /// The entries that a layout of `apply` means.
+    pub matches: Vec<EntryMatch>,
 }
 
 /// The kinds of change.
@@ -30,6 +35,8 @@ pub struct Task {
 pub enum Work {
     /// Changes entries.
     Edit(Edit),
+    /// Changes entries of a table that first gets another number of them, or other usable sectors.
+    Reshape(Reshaping),
     /// Fits the table to the disk.
     Grow(Growth),
     /// Overwrites the table that was read with a new one.
@@ -45,6 +52,13 @@ pub struct Edit {
     // Whether the table is first fitted to the disk.
     is_fitted: bool,
     ghost ready: { has_random fitted.request } by { asks_random-prop fitted.request.job (length fitted.request.random.items) },
+}
+
+/// A change of entries, of their number, and of the usable sectors.
+#[derive(Drop)]
+pub struct Reshaping {
+    reshaped: ReshapedRequest,
+    ghost ready: { has_random reshaped.request } by { asks_random-prop reshaped.request.job (length reshaped.request.random.items) },
 }
 
 /// A new table.
@@ -86,6 +100,7 @@ impl Task {
     {
         let done = match &mut self.work {
             Work::Edit(edit) => edit.run(alloc, image, sector_size, is_dry),
+            Work::Reshape(reshaping) => reshaping.run(alloc, image, sector_size, is_dry),
             Work::Grow(growth) => run_growth(alloc, image, sector_size, growth.bounds, is_dry),
             Work::Remake(anew) => anew.remake(alloc, image, sector_size, is_dry),
             Work::Make(anew) => anew.make(alloc, image, sector_size, is_dry),
@@ -101,7 +116,24 @@ impl Task {
         match &self.work {
             Work::Grow(_) => true,
             Work::Edit(edit) => edit.is_fitted,
-            Work::Remake(_) | Work::Make(_) => false,
+            Work::Reshape(_) | Work::Remake(_) | Work::Make(_) => false,
+        }
+    }
+
+    /// Returns the number of entries and the usable sectors that the table gets before entries change, if any.
+    pub fn shape(&self) -> Option<Shape> {
+        match &self.work {
+            Work::Reshape(reshaping) => Some(reshaping.reshaped.shape),
+            _ => None,
+        }
+    }
+
+    /// Permits an order of writes in which a crash may leave neither table.
+    pub fn let_lose(&mut self) {
+        match &mut self.work {
+            Work::Reshape(reshaping) => reshaping.reshaped.may_lose = true,
+            Work::Remake(anew) => anew.let_lose(),
+            _ => (),
         }
     }
 
@@ -109,6 +141,7 @@ impl Task {
     pub fn may_lose(&self) -> bool {
         match &self.work {
             Work::Remake(anew) => anew.creation.may_lose,
+            Work::Reshape(reshaping) => reshaping.reshaped.may_lose,
             _ => false,
         }
     }
@@ -157,6 +190,37 @@ impl Edit {
         } else {
             gptedit_core::edit(alloc, disk, size, &self.fitted.request)?
         };
+        Ok(read_outcome(outcome))
+    }
+}
+
+impl Reshaping {
+    /// Returns the change for a request, with this number of entries and these usable sectors.
+    pub fn new(request: Request, shape: Shape) -> Reshaping
+        requires { has_random request }
+    {
+        Reshaping {
+            reshaped: ReshapedRequest {
+                request,
+                shape,
+                may_lose: false,
+            },
+        }
+    }
+
+    fn run(
+        &mut self,
+        alloc: Global,
+        image: &mut Image<'_>,
+        sector_size: u64,
+        is_dry: bool,
+    ) -> Result<Became>
+        requires { 0 < sector_size }
+    {
+        self.reshaped.request.is_dry = is_dry;
+        let disk = &mut image.opened.disk;
+        let size = Some(sector_size);
+        let outcome = gptedit_core::edit_reshaped(alloc, disk, size, &self.reshaped)?;
         Ok(read_outcome(outcome))
     }
 }

@@ -1,14 +1,15 @@
 //! The tasks of the commands that change an existing table.
 
-use crate::drawing::{draw_guid, request_for};
+use crate::drawing::{draw_guid, draw_guids, request_for};
 use crate::failure::{Failure, refuse_asked, refuse_error};
 use crate::image::Image;
 use crate::planning::ends_with_disk;
 use crate::selecting::selected;
-use crate::task::{Became, Edit, Task, Work};
+use crate::task::{Became, Edit, Reshaping, Task, Work};
 use gptedit_core::{
-    Amount, Asked, Bounds, Choice, DEFAULT_ALIGN, Growth, Job, Mode, NewGuid, RequestedLayout,
-    Setting, Size, Stop, Target, alteration, removal, setting_layout,
+    Amount, Asked, Bounds, Choice, DEFAULT_ALIGN, Growth, Job, Mode, NewGuid, Refusal,
+    RequestedLayout, Setting, Shape, Size, Stop, Target, alteration, count_guids, extension,
+    removal, renewal, setting_layout,
 };
 use gptedit_look::{Look, Purpose};
 use gptedit_report::Way;
@@ -40,27 +41,60 @@ pub fn edit_fitted<R: RandomSource + AllocGlobal>(
     task_of(rt, job, Purpose::Fit, true)
 }
 
+/// Returns the task of a job on a table that gets this number of entries and these usable sectors, in the same write. A
+/// crash leaves the old or the new table, unless no order of writes does.
+pub fn reshape<R: RandomSource + AllocGlobal>(
+    rt: &R,
+    image: &mut Image<'_>,
+    look: &Look,
+    job: Job,
+    shape: Shape,
+) -> Result<Task, Failure> {
+    let only_removes = only_removes(&job);
+    let work = Work::Reshape(Reshaping::new(request_for(rt, job)?, shape));
+    let mut task = plain(rt.alloc(), work, Purpose::Edit, only_removes);
+    if let Became::Refused {
+        refusal: Refusal::NoSafeOrder,
+        ..
+    } = task.run(rt.alloc(), image, look.sector_size, true)?
+    {
+        task.let_lose();
+    }
+    Ok(task)
+}
+
 fn task_of<R: RandomSource + AllocGlobal>(
     rt: &R,
     job: Job,
     purpose: Purpose,
     is_fitted: bool,
 ) -> Result<Task, Failure> {
-    let only_removes = match &job {
+    let only_removes = only_removes(&job);
+    let work = Work::Edit(Edit::new(request_for(rt, job)?, is_fitted));
+    Ok(plain(rt.alloc(), work, purpose, only_removes))
+}
+
+fn only_removes(job: &Job) -> bool {
+    match job {
         Job::Apply(layout) => layout.asked.is_empty(),
         Job::Sort | Job::Rewrite => false,
-    };
-    Ok(Task {
-        work: Work::Edit(Edit::new(request_for(rt, job)?, is_fitted)),
+    }
+}
+
+// Returns the task of this work, whose entries are named by number.
+fn plain(alloc: Global, work: Work, purpose: Purpose, only_removes: bool) -> Task {
+    Task {
+        work,
         purpose,
         mbr: purpose,
         only_removes,
-    })
+        matches: Vec::new(alloc),
+    }
 }
 
 /// Returns the task of `grow`.
-pub fn grow() -> Task {
-    fit(Bounds::Kept, Purpose::Fit)
+pub fn grow(alloc: Global) -> Task {
+    fit(alloc, Bounds::Kept, Purpose::Fit)
 }
 
 /// Returns the layout that changes a partition.
@@ -105,17 +139,12 @@ fn draw_new_guid<R: RandomSource + AllocGlobal>(
 }
 
 // Returns the task that sets the bounds of the usable sectors.
-fn fit(bounds: Bounds, purpose: Purpose) -> Task {
+fn fit(alloc: Global, bounds: Bounds, purpose: Purpose) -> Task {
     let growth = Growth {
         bounds,
         is_dry: true,
     };
-    Task {
-        work: Work::Grow(growth),
-        purpose,
-        mbr: purpose,
-        only_removes: false,
-    }
+    plain(alloc, Work::Grow(growth), purpose, false)
 }
 
 /// Returns the task of `repair`. With `has_usual_bounds` it sets the usual bounds if the table has others.
@@ -126,7 +155,7 @@ pub fn repair<R: RandomSource + AllocGlobal>(
     has_usual_bounds: bool,
 ) -> Result<Task, Failure> {
     if has_usual_bounds {
-        let mut bounds = fit(Bounds::Usual, Purpose::Repair);
+        let mut bounds = fit(rt.alloc(), Bounds::Usual, Purpose::Repair);
         let became = bounds.run(rt.alloc(), image, look.sector_size, true)?;
         if !matches!(&became, Became::Unchanged { .. }) {
             return Ok(bounds);
@@ -135,23 +164,33 @@ pub fn repair<R: RandomSource + AllocGlobal>(
     edit(rt, Job::Rewrite)
 }
 
-/// Returns the layout of `randomize`: random GUIDs for the disk and each partition.
-pub fn random_guids<R: RandomSource + AllocGlobal>(
+/// Returns the layout of `grow`, which extends the target, if any, and may set random GUIDs.
+pub fn growth<R: RandomSource + AllocGlobal>(
     rt: &R,
+    image: &str,
     table: &GPT,
+    target: Option<Target<'_>>,
+    has_random_guids: bool,
 ) -> Result<RequestedLayout, Failure> {
     let alloc = rt.alloc();
-    let mut layout = layout_of(alloc, Mode::Change);
-    layout.disk_guid = Some(draw_guid(rt)?);
-    for (number, entry) in table.iter() {
-        if entry.is_used() {
-            layout.asked.push(Asked {
-                unique_guid: Some(draw_guid(rt)?),
-                ..Asked::nothing(Some(number))
-            })?;
+    match target {
+        Some(target) if !has_random_guids => {
+            selected(alloc, image, extension(alloc, table, target))
         }
+        _ => random_guids(rt, image, table, target),
     }
-    Ok(layout)
+}
+
+/// Returns the layout of `randomize`: random GUIDs for the disk and each partition. It also extends the target, if any.
+pub fn random_guids<R: RandomSource + AllocGlobal>(
+    rt: &R,
+    image: &str,
+    table: &GPT,
+    extended: Option<Target<'_>>,
+) -> Result<RequestedLayout, Failure> {
+    let alloc = rt.alloc();
+    let guids = draw_guids(rt, count_guids(table))?;
+    selected(alloc, image, renewal(alloc, table, extended, &guids))
 }
 
 /// Returns the task of a command that corrects a finding.
@@ -166,8 +205,8 @@ pub fn mend<R: RandomSource + AllocGlobal>(
     match way {
         Way::Repair => repair(rt, image, look, false),
         Way::RepairBounds => repair(rt, image, look, true),
-        Way::Grow => Ok(grow()),
-        Way::Randomize => edit(rt, Job::Apply(random_guids(rt, table)?)),
+        Way::Grow => Ok(grow(alloc)),
+        Way::Randomize => edit(rt, Job::Apply(random_guids(rt, image.name, table, None)?)),
         Way::Remove(numbers) => {
             let mut targets = Vec::with_capacity(alloc, numbers.len())?;
             for number in numbers.iter() {
