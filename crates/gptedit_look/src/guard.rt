@@ -216,6 +216,9 @@ fn find_in_bytes(grounds: &Grounds<'_>, bytes: &[u8], at: u64) -> Option<u64>
         (λ k. (at ≤ k) × (k < at + length bytes.now) × (slice_index bytes.now (k - at) ≢ 0)
         × (¬ IsAllowed grounds.now.look.now grounds.now.purpose grounds.now.next.now k)) }
 {
+    if are_zeros(bytes) {
+        return None;
+    }
     for (i, byte) in bytes.iter().enumerate() {
         let place = at + i as u64;
         if !may_be_overwritten(grounds, *byte, place) {
@@ -223,6 +226,19 @@ fn find_in_bytes(grounds: &Grounds<'_>, bytes: &[u8], at: u64) -> Option<u64>
         }
     }
     None
+}
+
+// A block of zeros.
+static ZEROS: [u8; 512] = [0; 512];
+
+// Reports whether all of these bytes are zero. More than a block of them are not compared.
+fn are_zeros(bytes: &[u8]) -> bool
+    ensures { IsTrue result → (i : ℕ) → i < length bytes.now → slice_index bytes.now i ≡ 0 }
+{
+    match ZEROS.get(..bytes.len()) {
+        Some(zeros) => bytes == zeros,
+        None => false,
+    }
 }
 
 // Reports whether the write may overwrite this byte, which is at `place`.

@@ -62,10 +62,15 @@ fn find_all<D: Disk>(alloc: Global, disk: &mut D, span: &Span) -> gptman::Result
     ensures cause { HasCause result (D.state disk.old) (D.state disk.new) }
 {
     let mut found = Vec::new(alloc);
+    let length = span.length();
     let first = read_piece(alloc, disk, span, 0, FIRST)?;
     find_in_first(&first, &mut found)?;
+    if length <= FIRST {
+        // The first piece is the whole range.
+        find_in_last(&first, length, &mut found)?;
+        return Ok(found);
+    }
     find_far(alloc, disk, span, &mut found)?;
-    let length = span.length();
     let last = read_piece(alloc, disk, span, length.saturating_sub(LAST), LAST)?;
     find_in_last(&last, length, &mut found)?;
     Ok(found)
