@@ -3,6 +3,7 @@
 use crate::kernel::{list, read_text};
 use crate::node::Node;
 use std::alloc::AllocError;
+use std::fs::{File, Metadata};
 use std::rt::Files;
 
 // The maximum number of ancestors that are checked.
@@ -40,18 +41,28 @@ where
 /// Reports whether another program holds record locks on the file, as qemu does on an open image.
 pub(crate) fn has_record_lock<R: Files + AllocGlobal>(
     rt: &R,
-    node: Node,
+    file: &File,
+    metadata: &Metadata,
 ) -> Result<bool, AllocError> {
     let Some(locks) = read_text(rt, "/proc/locks")? else {
         return Ok(false);
     };
-    for line in locks.as_str().lines() {
-        let kind = word_of(line, 1);
-        if (kind == "POSIX" || kind == "OFDLCK") && is_on(line, node) {
-            return Ok(true);
-        }
+    let locks = locks.as_str();
+    if !locks.lines().any(|line| is_record_lock(line)) {
+        return Ok(false);
     }
-    Ok(false)
+    let node = Node::of(rt, file, metadata)?;
+    Ok(
+        locks
+            .lines()
+            .any(|line| is_record_lock(line) && is_on(line, node)),
+    )
+}
+
+// Reports whether a line of the list of locks is about a record lock.
+fn is_record_lock(line: &str) -> bool {
+    let kind = word_of(line, 1);
+    kind == "POSIX" || kind == "OFDLCK"
 }
 
 // A process.

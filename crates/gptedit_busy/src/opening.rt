@@ -133,12 +133,11 @@ fn take_lock<R>(
 where
     R: Files<File = File> + AllocGlobal + Eprint + Clone + Drop,
 {
-    let node = Node::of(rt, file, metadata)?;
     let mut keeper = None;
-    if !lock_opening(rt, name, lock, file, node)? && writes {
-        keeper = Some(lock_to_write(rt, name, lock, metadata, node)?);
+    if !lock_opening(rt, name, lock, file, metadata)? && writes {
+        keeper = Some(lock_to_write(rt, name, lock, metadata)?);
     }
-    if has_record_lock(rt, node)? {
+    if has_record_lock(rt, file, metadata)? {
         return Err(OpenError::Locked {
             holder: Holder::Machine,
         });
@@ -147,13 +146,7 @@ where
 }
 
 // Opens the file for writing and takes the lock on that, if the file system has locks.
-fn lock_to_write<R>(
-    rt: &R,
-    name: &str,
-    lock: Lock,
-    metadata: &Metadata,
-    node: Node,
-) -> Result<File, OpenError>
+fn lock_to_write<R>(rt: &R, name: &str, lock: Lock, metadata: &Metadata) -> Result<File, OpenError>
 where
     R: Files<File = File> + AllocGlobal + Eprint + Clone + Drop,
 {
@@ -161,7 +154,7 @@ where
     if !is_same(metadata, &file.metadata()?) {
         return Err(OpenError::Replaced);
     }
-    lock_opening(rt, name, lock, &file, node)?;
+    lock_opening(rt, name, lock, &file, metadata)?;
     Ok(file)
 }
 
@@ -171,7 +164,7 @@ fn lock_opening<R>(
     name: &str,
     lock: Lock,
     file: &File,
-    node: Node,
+    metadata: &Metadata,
 ) -> Result<bool, OpenError>
 where
     R: Files + AllocGlobal + Eprint + Clone + Drop,
@@ -179,7 +172,7 @@ where
     match file.try_lock() {
         Ok(()) => Ok(true),
         Err(TryLockError::WouldBlock) => {
-            wait_for_lock(rt, name, lock, file, node)?;
+            wait_for_lock(rt, name, lock, file, metadata)?;
             Ok(true)
         }
         Err(TryLockError::Error(_refused)) => Ok(false),
@@ -192,12 +185,12 @@ fn wait_for_lock<R>(
     name: &str,
     lock: Lock,
     file: &File,
-    node: Node,
+    metadata: &Metadata,
 ) -> Result<(), OpenError>
 where
     R: Files + AllocGlobal + Eprint + Clone + Drop,
 {
-    if is_held_by_ancestor(rt, node)? {
+    if is_held_by_ancestor(rt, Node::of(rt, file, metadata)?)? {
         return Err(OpenError::Locked {
             holder: Holder::Ancestor,
         });
