@@ -3,6 +3,7 @@ pub mod Anew
 pub mod Bits
 pub mod Bounded
 pub mod Checked
+pub mod Completed
 pub mod Counts
 pub mod Cuts
 pub mod Dumped

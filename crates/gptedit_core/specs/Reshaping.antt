@@ -1,5 +1,5 @@
 -- A table gets another number of entries and other usable sectors, and a request makes the planned table of it.
-use Rattle.std.specs.Prelude.{◌≡◌, ◌≤◌, ◌+◌, ◌-◌, ◌*◌, ◌&&◌, ℕ, max, min, List, [], ◌∷◌, ◌++◌, length, replicate, take, Option, None, Some, nat_eq, nat_lt, if◌then◌else◌, unwrap_or}
+use Rattle.std.specs.Prelude.{◌≡◌, ◌≢◌, ◌≤◌, ◌<◌, ◌+◌, ◌-◌, ◌*◌, ◌&&◌, ℕ, max, min, List, [], ◌∷◌, ◌++◌, length, replicate, take, Option, None, Some, nat_eq, nat_lt, if◌then◌else◌, unwrap_or}
 use Rattle.std.specs.Int.{div_ceil}
 use Rattle.std.specs.List.{enumerate_from}
 use Rattle.gptman.specs.Coding.{empty_entry}
@@ -165,3 +165,73 @@ ReshapedRequestsAddNothing = (reshaped : ReshapedRequest) (len : ℕ) (g next : 
 abbrev pub NothingStatedIsKept : Type 0
 NothingStatedIsKept = (g : GPT) (stated : StatedShape) → stated.entries ≡ None → stated.first_usable ≡ None → stated.last_usable ≡ None
     → length (entries_in g) ≡ g.header.number_of_partition_entries → HasShape (shape_of g stated) g
+
+-- ---- consequences for the shape that a layout states
+
+-- The sectors have room for count entries. One sector less does not.
+pub record HoldEntries (count ss sectors : ℕ) : Type 0 where
+  pub all : count * 128 ≤ sectors * ss
+  pub fewest : sectors * ss < count * 128 + ss
+
+-- Entries take the fewest sectors that have room for them.
+abbrev pub EntriesTakeFewestSectors : Type 0
+EntriesTakeFewestSectors = (count ss : ℕ) → 0 < ss → HoldEntries count ss (sectors_of_entries count ss)
+
+-- The sectors that the entries of the table take, and those that the entries of a shape of it take.
+abbrev pub old_sectors : GPT → ℕ
+old_sectors g = sectors_of_entries g.header.number_of_partition_entries g.sector_size
+
+abbrev pub new_sectors : GPT → Shape → ℕ
+new_sectors g shape = sectors_of_entries shape.entries g.sector_size
+
+-- The shape has each stated value. It has the number of entries of the table if none is stated.
+pub record TakesStated (g : GPT) (stated : StatedShape) (shape : Shape) : Type 0 where
+  pub entries : (n : ℕ) → stated.entries ≡ Some n → shape.entries ≡ n
+  pub count : stated.entries ≡ None → shape.entries ≡ g.header.number_of_partition_entries
+  pub first : (n : ℕ) → stated.first_usable ≡ Some n → shape.first_usable ≡ n
+  pub last : (n : ℕ) → stated.last_usable ≡ Some n → shape.last_usable ≡ n
+
+-- The shape has each stated value, and the number of entries of the table if none is stated.
+abbrev pub StatedValuesAreTaken : Type 0
+StatedValuesAreTaken = (g : GPT) (stated : StatedShape) → TakesStated g stated (shape_of g stated)
+
+-- A usable sector that is not stated leaves room for the entries of the shape, if that of the table leaves room for the
+-- entries of the table. The primary entries begin in sector 2, and the backup entries end before the last sector. The
+-- premise on the last sector says that the backup entries fit on the disk. If they do not, sector 0 has no room either.
+pub record LeavesRoom (g : GPT) (stated : StatedShape) (shape : Shape) : Type 0 where
+  pub first : stated.first_usable ≡ None → 2 + old_sectors g ≤ g.header.first_usable_lba → 2 + new_sectors g shape ≤ shape.first_usable
+  pub last : stated.last_usable ≡ None → g.header.last_usable_lba + old_sectors g + 1 ≤ last_sector_of g → new_sectors g shape + 1 ≤ last_sector_of g
+      → shape.last_usable + new_sectors g shape + 1 ≤ last_sector_of g
+
+-- A usable sector that is not stated leaves room for the entries of the shape, if that of the table leaves room for the
+-- entries of the table.
+abbrev pub CompleteShapesLeaveRoom : Type 0
+CompleteShapesLeaveRoom = (g : GPT) (stated : StatedShape) → LeavesRoom g stated (shape_of g stated)
+
+-- The first usable sector was `was` and is `now`, and the entries take `new` sectors in place of `old` ones. If it was
+-- next to the entries, it still is. Otherwise it stays unless the new entries reach over it. It stays if the entries
+-- take as many sectors as before. It moves only to the sector next to the new entries.
+pub record IsFirstFor (old new was now : ℕ) : Type 0 where
+  pub next : was ≡ 2 + old → now ≡ 2 + new
+  pub apart : was ≢ 2 + old → 2 + new ≤ was → now ≡ was
+  pub same : old ≡ new → now ≡ was
+  pub moved : now ≢ was → now ≡ 2 + new
+
+-- The last usable sector, as the first one. The backup entries end before sector `end`. The premises on `end` say that
+-- the new entries, or the old ones, fit there. If they do not, no sector is next to them, and the difference is 0.
+pub record IsLastFor (end old new was now : ℕ) : Type 0 where
+  pub next : was + old + 1 ≡ end → new + 1 ≤ end → now + new + 1 ≡ end
+  pub apart : was + old + 1 ≢ end → old + 1 ≤ end → was + new + 1 ≤ end → now ≡ was
+  pub same : old ≡ new → now ≡ was
+  pub moved : now ≢ was → now ≡ end - new - 1
+
+-- Each usable sector that is not stated moves only with the entries.
+pub record MovesWithEntries (g : GPT) (stated : StatedShape) (shape : Shape) : Type 0 where
+  pub first : stated.first_usable ≡ None → IsFirstFor (old_sectors g) (new_sectors g shape) g.header.first_usable_lba shape.first_usable
+  pub last : stated.last_usable ≡ None
+      → IsLastFor (last_sector_of g) (old_sectors g) (new_sectors g shape) g.header.last_usable_lba shape.last_usable
+
+-- A usable sector that is not stated stays next to the entries if it was. Otherwise it moves only if the entries of the
+-- shape reach over it, and then to the sector next to them.
+abbrev pub CompleteShapesMoveWithEntries : Type 0
+CompleteShapesMoveWithEntries = (g : GPT) (stated : StatedShape) → MovesWithEntries g stated (shape_of g stated)

@@ -3,5 +3,7 @@ pub mod Edited
 pub mod Fitted
 pub mod Requested
 pub mod Restored
+pub mod Set
+pub mod Shaped
 pub mod Shown
 pub mod Twice

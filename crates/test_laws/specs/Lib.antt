@@ -1,3 +1,4 @@
 pub mod Changed
 pub mod Edited
 pub mod Outcomes
+pub mod Shaped

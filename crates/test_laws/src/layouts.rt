@@ -11,6 +11,7 @@ ghost use Rattle.gptman.specs.Table.{entries_in, table_in};
 ghost use Rattle.gptman.specs.Valid.{IsValid};
 ghost use Rattle.gptedit_core.specs.Named.{IsLengthened};
 ghost use Rattle.gptedit_core.specs.Planning.{has_random, IsLeft, IsPlanned};
+ghost use Rattle.gptedit_core.specs.Setting.{IsSetIn};
 ghost use Rattle.gptedit_core.specs.declared.plan.Outcome.{Outcome};
 ghost use Rattle.gptedit_core.specs.declared.plan.Outcome.TheVariants.{Unchanged};
 ghost use Rattle.test_laws.specs.Changed.{with_name, AsksAgain, IsChangeOf, IsForMemory, OthersStay};
@@ -20,7 +21,11 @@ use gptedit_core::laws::{
     layouts_again_are_taken, layouts_again_change_nothing, layouts_change_what_they_name,
     layouts_of_tables_are_taken, layouts_of_tables_give_them, layouts_only_lengthen,
 };
-use gptedit_core::{Amount, Asked, Mode, Outcome, Request, RequestedLayout, Size, Stop, layout_of};
+use gptedit_core::setting::settings_change_one_entry;
+use gptedit_core::{
+    Amount, Asked, Mode, Outcome, Request, RequestedLayout, Setting, Size, Stop, layout_of,
+    setting_layout,
+};
 use gptman::{Disk, GPT, PartitionName, Result};
 use gptman_change::{Plan, Planned};
 use std::alloc::Global;
@@ -87,6 +92,25 @@ fn change_of(alloc: Global, align: u64, asked: Asked) -> Result<RequestedLayout>
         removed: Vec::new(alloc),
         asked: vec![in alloc; asked]?,
     })
+}
+
+/// Changes the partition of this number as the setting says. All other entries are unchanged. `random` is the GUID for
+/// `NewGuid::Random`.
+///
+/// The errors are those of `setting_layout` and `apply_layout`.
+pub fn set(
+    alloc: Global,
+    table: &mut GPT,
+    number: u32,
+    setting: &Setting,
+    random: [u8; 16],
+) -> std::result::Result<(), Stop>
+    requires { 0 < table.old.sector_size }
+    ensures set { OnOk result (IsSetIn table.old number setting.now random table.new) }
+{
+    settings_change_one_entry();
+    let layout = setting_layout(alloc, table, number, setting, random)?;
+    apply_layout(alloc, table, &layout, &[random])
 }
 
 /// Applies a table's own layout to it, as when a dump is restored. The table is the same afterwards.
@@ -182,6 +206,21 @@ mod tests {
         assert!(rt; table.sector_size > 0);
         lengthen(rt.alloc(), &mut table, 2, 4)?;
         assert_used(&rt, &table, ", 1 Foo 34..43, 2 Baz 48..63")
+    }
+
+    #[test]
+    fn an_entry_is_set(rt: HostRuntime) -> std::result::Result<(), Fail> {
+        let mut table = samples::disk_1(rt.alloc())?;
+        let setting = Setting {
+            type_guid: None,
+            guid: None,
+            attributes: None,
+            name: Some(PartitionName::new(rt.alloc(), "Baz")?),
+            number: Some(5),
+        };
+        assert!(rt; table.sector_size > 0);
+        set(rt.alloc(), &mut table, 2, &setting, [0; 16])?;
+        assert_used(&rt, &table, ", 1 Foo 34..43, 5 Baz 48..52")
     }
 
     #[test]
