@@ -1,5 +1,6 @@
 pub mod Given
 mod Targets
 mod Shapes
+mod Named
 mod Spelled
 pub mod Extents

@@ -8,7 +8,7 @@ use Rattle.std.proofs.lemmas.List.{append_assoc, append-nil}
 use Rattle.clap.specs.Lexer.{strip_byte}
 use Rattle.clap.specs.Words.{App, Rule, Text, new_app}
 use Rattle.clap.proofs.OnLiterals.{clap_on_literals}
-use Rattle.clap.specs.Words.{is_simple, is_simple_and_free}
+use Rattle.clap.specs.Words.{is_simple_and_free}
 use Rattle.gptedit_words.specs.Definitions.{with_rules}
 use Rattle.gptedit_words.specs.Line.{line, long_word, with_words}
 
@@ -53,11 +53,7 @@ third_not true false true rest all = sym all
 third_not true true true rest all = sym all
 third_not false b true rest all = sym all
 
--- its matches are known
-pub line_is_simple : is_simple line ≡ true
-unfolding line long_word clap_on_literals
-line_is_simple = refl
-
+-- the faults and the matches of the command line are known
 pub line_is_free : is_simple_and_free line ≡ true
 unfolding line long_word clap_on_literals
 line_is_free = refl

@@ -1,9 +1,13 @@
 //! Definitions of commands, and the `clap` commands made from them.
 
-ghost use Rattle.std.specs.Prelude.{◌≡◌, IfOk, false, map};
+ghost use Rattle.std.specs.Prelude.{◌≡◌, IfOk, false, find, map, option_map};
+ghost use Rattle.clap.specs.Simple.{label_of};
+ghost use Rattle.clap.specs.Walk.{answers_to};
 ghost use Rattle.clap.specs.Words.{app_of, rule_of, shape_of};
 ghost use Rattle.gptedit_words.specs.Definitions.{rule_for, shape_for, with_commands, with_rules};
 ghost use Rattle.gptedit_words.specs.Line.{flag, line, long_word, option, place};
+ghost use Rattle.gptedit_words.specs.Named.{bare, command_named, only, ReadsAs};
+ghost use Rattle.gptedit_words.specs.Spelled.{texts_of};
 
 use crate::commands::{CHANGES, LOOKS};
 use clap::builder::ValueParser;
@@ -48,14 +52,59 @@ pub(crate) enum Argument {
 pub fn command<'a>(alloc: Global) -> Result<Command<'a>, AllocError>
     ensures line { IfOk result (λ command. app_of command ≡ line) }
 {
-    let command = Command::new(alloc, "gptedit")
+    let command = with_commands(alloc, bare(alloc), LOOKS.as_slice())?;
+    with_commands(alloc, command, CHANGES.as_slice())
+}
+
+/// Returns a command line that reads these arguments as the whole one does. It has only the command that the second
+/// argument names, if that names one. Fails only if an allocation fails.
+pub(crate) fn command_for<'a>(alloc: Global, words: &[String]) -> Result<Command<'a>, AllocError>
+    ensures reads { IfOk result (λ command. ReadsAs (texts_of words.now) (app_of command)) }
+{
+    let Some(name) = words.get(1) else {
+        return command(alloc);
+    };
+    match find_definition(name) {
+        Some(definition) => only(alloc, definition),
+        None => command(alloc),
+    }
+}
+
+// Returns the definition of the command of this name.
+fn find_definition(name: &str) -> Option<&'static Definition>
+    ensures named { option_map (λ d. shape_for d.now) result ≡ command_named name.now }
+{
+    find_among(LOOKS.as_slice(), name).or(find_among(CHANGES.as_slice(), name))
+}
+
+fn find_among(definitions: &'static [Definition], name: &str) -> Option<&'static Definition>
+    ensures named { option_map (λ d. shape_for d.now) result ≡ find (λ s. answers_to name.now (label_of s)) (map shape_for definitions.now) }
+{
+    for definition in definitions {
+        if definition.name == name {
+            return Some(definition);
+        }
+    }
+    None
+}
+
+// Returns the command line with only this command.
+fn only<'a>(alloc: Global, definition: &Definition) -> Result<Command<'a>, AllocError>
+    ensures one { IfOk result (λ c. app_of c ≡ only (shape_for definition.now)) }
+{
+    bare(alloc).subcommand(subcommand(alloc, definition)?)
+}
+
+// Returns the command line without commands.
+fn bare<'a>(alloc: Global) -> Command<'a>
+    ensures bare { app_of result ≡ bare }
+{
+    Command::new(alloc, "gptedit")
         .version("0.1.0")
         .about("Shows and edits GUID partition tables")
         .subcommand_required(true)
         .arg_required_else_help(true)
-        .after_help("Each command has an example: gptedit add --help");
-    let command = with_commands(alloc, command, LOOKS.as_slice())?;
-    with_commands(alloc, command, CHANGES.as_slice())
+        .after_help("Each command has an example: gptedit add --help")
 }
 
 // Adds these commands.

@@ -8,7 +8,7 @@ ghost use Rattle.gptedit_words.specs.Asks.{IsWrong, SaysNoLock};
 ghost use Rattle.gptedit_words.specs.Refusals.{CanAsk, CanChange, CanDump, CanMake, CanRun, CanShow, RefusedOnlyFor};
 ghost use Rattle.gptedit_words.specs.Spelled.{texts_of, IsRefused, IsSpelled};
 
-use crate::definition::command;
+use crate::definition::command_for;
 use crate::entries;
 use crate::error::{WordsError, refuse_both};
 use crate::request::{Change, Command, CommandLine, ImageRequest, Lock, NewTable, Options, View};
@@ -28,7 +28,7 @@ pub fn read_words<'a>(alloc: Global, words: &'a [String]) -> Result<CommandLine<
     ensures said { IfOk result (IsSpelled (texts_of words.entry.now)) }
     ensures refused { IfErr result (IsRefused (texts_of words.entry.now)) }
 {
-    let matches = command(alloc)?.try_get_matches_from(words)?;
+    let matches = command_for(alloc, words)?.try_get_matches_from(words)?;
     let Some((name, words)) = matches.subcommand() else {
         return Err(WordsError::Missing("COMMAND"));
     };
