@@ -77,6 +77,7 @@ fn find_definition(name: &str) -> Option<&'static Definition>
     find_among(LOOKS.as_slice(), name).or(find_among(CHANGES.as_slice(), name))
 }
 
+// Returns the first of these definitions that has this name.
 fn find_among(definitions: &'static [Definition], name: &str) -> Option<&'static Definition>
     ensures named { option_map (λ d. shape_for d.now) result ≡ find (λ s. answers_to name.now (label_of s)) (map shape_for definitions.now) }
 {
