@@ -76,7 +76,7 @@ class Document:
         self.examples, self.said = program.file("examples"), program.file("said")
         self.heading, self.kind, self.file = "", "", None
         self.commands, self.wanted, self.block_start = [], [], 0
-        self.ran, self.seconds = 0, {}
+        self.ran, self.seconds, self.lacking = 0, {}, {}
 
     def run(self):
         """Runs its examples."""
@@ -124,6 +124,7 @@ class Document:
         for tool in TOOLS:
             if re.search(rf"[\s(]{re.escape(tool)} ", text) and not self.tally.has(tool):
                 del self.commands[self.block_start:], self.wanted[self.block_start:]
+                self.lacking[self.heading] = tool
                 return
 
     def read_console(self, line):
@@ -174,9 +175,9 @@ class Document:
         self.try_left(environment)
 
     def try_left(self, environment):
-        """Counts whether other programs say what they should of the images under a heading."""
+        """Counts whether other programs say what they should of the images under a heading, which all its blocks made."""
         for command, wanted in self.left.get(self.heading, []):
-            missing = recipes.missing_in(command, shutil.which)
+            missing = recipes.missing_in(command, shutil.which) or self.lacking.get(self.heading)
             if missing:
                 self.tally.leave_out(f"{missing} is not installed", f"{self.heading}: {command}")
                 continue
