@@ -2,7 +2,7 @@
 
 use crate::device::{Device, KnownPart};
 use crate::kernel::{is_there, list};
-use crate::loops::{Loop, Shown, find_loops};
+use crate::loops::{Loop, Shown, find_loops, list_attached};
 use crate::mounts::Mounts;
 use crate::opening::Opened;
 use crate::target::Target;
@@ -40,8 +40,12 @@ where
     R: Files + AllocGlobal + Clone + Drop,
 {
     let mut uses = Vec::new(rt.alloc());
+    let attached = list_attached(rt)?;
+    if opened.device.is_none() && attached.is_empty() {
+        return Ok(Users { uses });
+    }
     let image = shown(rt, opened)?;
-    let loops = find_loops(rt, &image)?;
+    let loops = find_loops(rt, &attached, &image)?;
     if opened.device.is_none() && !is_attached(&loops, opened.target) {
         return Ok(Users { uses });
     }

@@ -48,7 +48,7 @@ pub(crate) fn has_record_lock<R: Files + AllocGlobal>(
         return Ok(false);
     };
     let locks = locks.as_str();
-    if !locks.lines().any(|line| is_record_lock(line)) {
+    if !locks.contains("POSIX") && !locks.contains("OFDLCK") {
         return Ok(false);
     }
     let node = Node::of(rt, file, metadata)?;

@@ -25,24 +25,43 @@ pub(crate) struct Shown {
     pub(crate) path: Option<String>,
 }
 
-/// Returns the attached loop devices. If the backing path leads nowhere, the image is the backing file if both have the
-/// same path, or neither path is UTF-8.
-pub(crate) fn find_loops<R>(rt: &R, image: &Shown) -> Result<Vec<Loop>, AllocError>
+/// Returns the names of the attached loop devices.
+pub(crate) fn list_attached<R>(rt: &R) -> Result<Vec<String>, AllocError>
+where
+    R: Files + AllocGlobal + Clone + Drop,
+{
+    let mut names = Vec::new(rt.alloc());
+    for name in list(rt, "/sys/class/block")? {
+        if name.as_str().starts_with("loop") {
+            let file = format!(in rt.alloc(); "/sys/class/block/{name}/loop/backing_file")?;
+            if is_there(rt, file.as_str()) {
+                names.push(name)?;
+            }
+        }
+    }
+    Ok(names)
+}
+
+/// Returns the loop devices of these names. If the backing path leads nowhere, the image is the backing file if both
+/// have the same path, or neither path is UTF-8.
+pub(crate) fn find_loops<R>(
+    rt: &R,
+    names: &[String],
+    image: &Shown,
+) -> Result<Vec<Loop>, AllocError>
 where
     R: Files + AllocGlobal + Clone + Drop,
 {
     let mut loops = Vec::new(rt.alloc());
-    for name in list(rt, "/sys/class/block")?.iter() {
-        if name.as_str().starts_with("loop") {
-            if let Some(found) = read_loop(rt, name.as_str(), image)? {
-                loops.push(found)?;
-            }
+    for name in names.iter() {
+        if let Some(found) = read_loop(rt, name.as_str(), image)? {
+            loops.push(found)?;
         }
     }
     Ok(loops)
 }
 
-// Returns the loop device of this name, if it is attached.
+// Returns the loop device of this name; `None` if it is gone.
 fn read_loop<R: Files + AllocGlobal>(
     rt: &R,
     name: &str,
@@ -50,10 +69,6 @@ fn read_loop<R: Files + AllocGlobal>(
 ) -> Result<Option<Loop>, AllocError> {
     let alloc = rt.alloc();
     let folder = format!(in alloc; "/sys/class/block/{name}")?;
-    let file = format!(in alloc; "{folder}/loop/backing_file")?;
-    if !is_there(rt, file.as_str()) {
-        return Ok(None);
-    }
     let number = format!(in alloc; "{folder}/dev")?;
     let Some(target) = Target::named_in(rt, number.as_str())? else {
         return Ok(None);
@@ -63,6 +78,7 @@ fn read_loop<R: Files + AllocGlobal>(
         Some(offset) => offset.as_str() == "0",
         None => true,
     };
+    let file = format!(in alloc; "{folder}/loop/backing_file")?;
     let path = read_path(rt, file.as_str())?;
     Ok(Some(Loop {
         target,

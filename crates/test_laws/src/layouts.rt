@@ -32,7 +32,7 @@ use std::alloc::Global;
 
 /// Renames the partition of this number. Its other fields and all other entries are unchanged.
 ///
-/// The errors are those of `lay`.
+/// The errors are those of `apply_layout`.
 pub fn rename(
     alloc: Global,
     table: &mut GPT,
@@ -56,7 +56,7 @@ pub fn rename(
 /// Extends the partition of this number over the free sectors after it, up to the last multiple of `align` sectors. All
 /// other entries are unchanged.
 ///
-/// The errors are those of `lay`.
+/// The errors are those of `apply_layout`.
 pub fn lengthen(
     alloc: Global,
     table: &mut GPT,
@@ -115,7 +115,7 @@ pub fn set(
 
 /// Applies a table's own layout to it, as when a dump is restored. The table is the same afterwards.
 ///
-/// The errors are those of `lay`.
+/// The errors are those of `apply_layout`.
 pub fn put_back(alloc: Global, table: &mut GPT) -> std::result::Result<(), Stop>
     requires { 0 < table.old.sector_size }
     ensures same { OnOk result (table_in table.new ≡ table_in table.old) }
