@@ -188,6 +188,31 @@ def symbol_of(name):
     return f"{of_trait[1]}{of_trait[2]}{argument}::{of_trait[4]}"
 
 
+def without_bodies(text, here, kept):
+    """A source text without the bodies of functions that are not kept, and the paths of these functions."""
+    lines, paths, block, margin, path, skips = [], [], None, "", None, False
+    for line in text.split("\n"):
+        skips = skips and line != margin + "}"
+        if skips:
+            continue
+        lines.append(line)
+        block = IMPL.match(line) or TRAIT.match(line) or (None if line.startswith("}") else block)
+        begins = FN.match(line)
+        if begins and (not block or block.re is IMPL):
+            is_kept = symbol_of(named(begins, block, here)) in kept
+            margin, path = margin_of(line), None if is_kept else "::".join([*here, symbol_of(named(begins, block, []))])
+        if path and line.endswith(("{", "{}")) and margin_of(line) == margin:
+            paths.append(path)
+            path, skips = None, line.endswith("{")
+            lines += [f"{margin}    unreachable!()"] * skips
+    return "\n".join(lines), paths
+
+
+def margin_of(line):
+    """The blanks before the first word of a line."""
+    return line[: len(line) - len(line.lstrip())]
+
+
 def is_public(function, block, types, is_handed):
     """Whether a caller can name the function."""
     is_pub = function[1] == "pub "

@@ -2,6 +2,7 @@
 
 It takes the libraries below the crate as `rt ci`, `rt check` or `rt lib` left them."""
 
+import contextlib
 import os
 import re
 import shutil
@@ -10,6 +11,7 @@ import sys
 import tempfile
 from typing import NamedTuple
 
+import contracts
 import edits
 
 NOTE = re.compile(r"note: \S+: .* \(`(\S+)`\)(.*)")
@@ -17,6 +19,13 @@ ERROR = re.compile(r"^\./proofs/(\S+)/\w+\.antt:\d+:\d+: error: `([\w+*.-]+)`(.*
 GIVEN_UP = ("gave up", "Not every way was tried")
 # What the prover says where a proof names what an edit took away, which shows nothing of the goal.
 OF_NAMES = ("has no field", "is not in scope", "has no `", "was not admitted")
+# The proof of a function whose body is left out: it is left open, so callers take its contract.
+OPEN = """use Rattle.{crate}.proofs.{module}.Statement.{{statement}}
+
+pub {name}_spec : {{M : Type 1}} → statement M
+{name}_spec 𝓤 𝓛 𝓜 𝓡 w = ?
+"""
+OF_A_PROOF = ("Answers.antt", "Invariants.antt", "Proof.antt")
 WAITS = re.compile(r"^note: `search` has not tried the goals of `(\S+)`, which wait", re.M)
 
 
@@ -33,6 +42,10 @@ class Said(NamedTuple):
     def goals(self):
         """All goals that are left."""
         return self.refused + self.given_up
+
+    def is_proved(self):
+        """Whether the function is proved, given the contracts of those whose bodies are left out."""
+        return self.verdict.startswith(("proved", "no holes", "depends on a hole"))
 
 
 def commands():
@@ -63,19 +76,43 @@ class Copy:
                 shutil.copytree(f"crates/{self.crate}/{part}", f"{self.folder}/{part}")
 
     def check(self, paths):
-        """What the prover says of each function that these edits change, and all that it prints."""
+        """What the prover says of each function that these edits change, and all that it prints.
+
+        As a function is proved by the contracts of those that it calls, all other bodies are left out."""
         self.restore()
         for path in paths:
             why = edits.put(self.folder, edits.changes(path))
             if why:
                 return {}, f"{path}: {why}"
-        return self.run({name for path in paths for name in edits.functions_of(self.crate, path)})
+        functions = {name for path in paths for name in edits.functions_of(self.crate, path)}
+        self.leave_out(functions)
+        return self.run(functions, "--allow-holes")
 
-    def run(self, functions):
+    def leave_out(self, functions):
+        """Leaves out the bodies of all functions but these, and leaves their proofs open."""
+        for file in contracts.sources(self.crate):
+            with open(f"{self.folder}/{file}", encoding="utf-8") as source:
+                text, paths = contracts.without_bodies(source.read(), contracts.module_of(file), functions)
+            with open(f"{self.folder}/{file}", "w", encoding="utf-8") as source:
+                source.write(text)
+            for path in paths:
+                self.leave_open(path)
+
+    def leave_open(self, path):
+        """Leaves the proof of a function open."""
+        folder = f"{self.folder}/proofs/{path.replace('::', '/')}"
+        os.makedirs(folder, exist_ok=True)
+        for name in OF_A_PROOF:
+            with contextlib.suppress(FileNotFoundError):
+                os.remove(f"{folder}/{name}")
+        with open(f"{folder}/Proof.antt", "w", encoding="utf-8") as proof:
+            proof.write(OPEN.format(crate=self.crate, module=path.replace("::", "."), name=path.rpartition("::")[2]))
+
+    def run(self, functions, *words):
         """What the prover says of these functions and those that they call, and all that it prints."""
-        words = [word for name in sorted(functions) for word in ("--only", name)]
+        named = [word for name in sorted(functions) for word in ("--only", name)]
         run = subprocess.run(
-            [*self.command, "--incremental", "kept", *words],
+            [*self.command, "--incremental", "kept", *words, *named],
             cwd=self.folder,
             stdin=subprocess.DEVNULL,
             stdout=subprocess.PIPE,
