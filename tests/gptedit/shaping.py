@@ -8,7 +8,7 @@ import json
 from harness import table
 from harness.runs import run
 from commands import DISK, MIB
-from fitting import GUIDS, THREE, count_states, files_in, holds_table, three, with_entry
+from fitting import GUIDS, THREE, count_states, files_in, fitted, holds_table, three, with_entry
 from makers import IMAGE, SIZE, entry, goes, of, refused
 from traces import can_trace
 
@@ -165,7 +165,7 @@ REFUSED = [
     (f'last-usable = "{END - 33}s"', f"..{END - 34}", None),
     ('first-usable = "9000s"\nlast-usable = "8000s"', "34..", None),
     ("entries = 0", "must not be zero", None),
-    ("entries = 300000", "too small for two copies of a table of 300000 entries", None),
+    ("entries = 300000", "the table would have 300000 entries, but gptedit reads at most 32768", None),
     ("entries = 2", "entry 3 would be used, but the table would have 2 entries", None),
 ]
 
@@ -288,7 +288,49 @@ def try_stops(tally, program):
     return f"{states} states, {lost} lost, {between} between"
 
 
+MANY = "the table would have {} entries, but gptedit reads at most 32768"
+
+
+def try_most(tally, program):
+    """No layout makes a table of more entries than gptedit reads, and one of the most is read."""
+    for text in f'[disk]\nguid = "{DISK}"\nentries = {{}}\n', f"label: gpt\nlabel-id: {DISK}\ntable-length: {{}}\n":
+        for count in 32769, 40000, 2**32 - 1:
+            program.write("layout.toml", text.format(count).encode())
+            fresh(program, of({}, 64 * MIB), 64 * MIB)
+            refused(tally, program, ["apply", IMAGE, "layout.toml", "--replace"], MANY.format(count), statuses=(1,))
+            program.make_image(IMAGE, 64 * MIB)
+            refused(tally, program, ["apply", IMAGE, "layout.toml", "--create"], MANY.format(count), statuses=(1,))
+        program.write("layout.toml", text.format(32768).encode())
+        goes(tally, program, ["apply", IMAGE, "layout.toml", "--create"])
+        holds_table(tally, program, "a layout of 32768 entries", of({}, 64 * MIB, count=32768))
+        tally.equals("check after 32768 entries", 0, program.plain("check", IMAGE).status)
+        fresh(program, of({}, 6 * MIB), 6 * MIB)
+        refused(tally, program, ["apply", IMAGE, "layout.toml", "--replace"],
+                "too small for two copies of a table of 32768 entries", statuses=(1,))
+
+
+def try_fitted(tally, program):
+    """With --fit the keys of a layout are compared with the fitted table, so that a second time nothing changes."""
+    for size, length in (24 * MIB, 48 * MIB), (48 * MIB, 24 * MIB):
+        old = of(three(STEP), size)
+        new = fitted(old, length)
+        fresh(program, old, size)
+        program.set_length(IMAGE, length)
+        program.write("layout.toml", layout_of(old).encode())
+        refused(tally, program, ["apply", IMAGE, "layout.toml", "--fit"],
+                f"last-usable is {old.last} in the layout, but {new.last} on the disk\n", statuses=(1,))
+        program.write("layout.toml", layout_of(new._replace(count=256)).encode())
+        grow = f"run `gptedit grow {IMAGE}` first"
+        refused(tally, program, ["apply", IMAGE, "layout.toml", "--fit", "--replace"], grow, statuses=(1,))
+        program.write("layout.toml", layout_of(new).encode())
+        goes(tally, program, ["apply", IMAGE, "layout.toml", "--fit"])
+        holds_table(tally, program, f"a fitted layout on {length} bytes", new)
+        tally.equals("a fitted layout again", "unchanged\n", goes(tally, program, ["apply", IMAGE, "layout.toml", "--fit"]))
+
+
 SUBJECTS = {
+    "the most entries": try_most,
+    "keys of a fitted table": try_fitted,
     "each shape from each other": try_shapes,
     "keys that are not stated": try_some,
     "entries in the same write": try_entries,

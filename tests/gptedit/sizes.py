@@ -314,5 +314,35 @@ def try_peers(tally, program):
             tally.equals(f"add {words} and {other}", made, [added(program, *words)[:2]])
 
 
-SUBJECTS = {"sizes": try_sizes, "places": try_places, "layouts": try_layouts, "figures": try_figures, "resizing": try_resizing, "fitted": try_fitted,
+NEW = ["--type", "linux", "--guid", "c0ffee00-0000-4000-8000-0000000000aa"]
+# Words with a value that begins with a minus sign, as the parser takes it, and as it is written by hand.
+NEGATIVE = [
+    (["add", IMAGE, *NEW, "--start=-8MiB", "--size", "1MiB"], ["add", IMAGE, *NEW, "--start", "-8MiB", "--size", "1MiB"]),
+    (["add", IMAGE, *NEW, "--size", "1MiB", "--start=-50%"], ["add", IMAGE, *NEW, "--size", "1MiB", "--start", "-50%"]),
+    (["add", IMAGE, *NEW, "--start=-8MiB", "--end=-1s"], ["add", IMAGE, *NEW, "--start", "-8MiB", "--end", "-1s"]),
+    (["resize", IMAGE, "--", "1", "-1MiB"], ["resize", IMAGE, "1", "-1MiB"]),
+    (["resize", IMAGE, "--fit", "--", "1", "-2MiB"], ["resize", IMAGE, "1", "-2MiB", "--fit"]),
+    (["resize", IMAGE, "--", "1", "-1MiB"], ["resize", IMAGE, "1", "--", "-1MiB"]),
+    (["set", IMAGE, "1", "--attributes=-required"], ["set", IMAGE, "1", "--attributes", "-required"]),
+    (["set", IMAGE, "1", "--attributes=-required,-60"], ["set", IMAGE, "1", "--attributes", "-required,-60"])]
+
+
+def try_negative(tally, program):
+    """Values that begin with a minus sign, with and without `=` or `--`."""
+    for taken, written in NEGATIVE:
+        images = []
+        for words in taken, written:
+            make(program, HELD, LENGTH)
+            ended = program.run(*words)
+            tally.equals(f"the status of {words}: {ended}", 0, ended[0])
+            images.append(program.bytes_of(IMAGE))
+        tally.equals(f"the image after {written}", images[0] == images[1], True)
+    make(program, HELD, LENGTH)
+    for words in (["add", IMAGE, *NEW, "--start", "-n", "--size", "1MiB"], ["add", IMAGE, *NEW, "--size", "-1MiB"],
+                  ["set", IMAGE, "1", "--attributes", "-n"], ["show", "-1.img"], ["resize", IMAGE, "1", "-1MiB", "-2MiB"]):
+        ended = program.run(*words)
+        tally.equals(f"the status of {words}: {ended}", 2, ended[0])
+
+
+SUBJECTS = {"negative": try_negative, "sizes": try_sizes, "places": try_places, "layouts": try_layouts, "figures": try_figures, "resizing": try_resizing, "fitted": try_fitted,
             "wrong": try_wrong, "refusals": try_refusals, "peers": try_peers}

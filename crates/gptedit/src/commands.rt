@@ -2,29 +2,32 @@
 
 use crate::changing::change;
 use crate::checking::check;
-use crate::failure::Failure;
+use crate::failure::{Failure, refuse};
 use crate::image::{Image, Opening};
 use crate::layouts::{
     added, layout_for, read_added, read_asked, shape_for, take_bootable, widened,
 };
 use crate::measuring::measured;
+use crate::planning::{ends_with_disk, fit_bounds};
 use crate::selecting::{number_of, selected};
 use crate::task::Task;
 use crate::wiping::clear;
 use crate::{looking, making, tasks};
-use gptedit_core::{EntryMatch, Job, MatchedLayout, Shape, extension, put_used_first, removal};
+use gptedit_core::{
+    EntryMatch, Job, MatchedLayout, Refusal, Shape, extension, put_used_first, removal,
+};
 use gptedit_look::{Look, Purpose};
-use gptedit_report::types_json;
+use gptedit_report::{Commands, Message, Reason, types_json};
 use gptedit_text::{Parsed, StatedPlace};
 use gptedit_values::Escaped;
 use gptedit_words::{Change, Command, ImageRequest, Lock, Options};
 use gptman::GPT;
-use std::alloc::Global;
+use std::alloc::{AllocError, Global};
 use std::fs::File;
 use std::io::Write;
-use std::mem;
 use std::random::RandomSource;
 use std::rt::Files;
+use std::{fmt, mem};
 
 /// How a change is reported.
 #[derive(Clone, Copy)]
@@ -366,8 +369,8 @@ where
     R: AllocGlobal + Eprint,
 {
     let alloc = rt.alloc();
-    let Applied { file, is_replacing } = applied;
-    let shape = shape_for(alloc, file, &parsed, table, is_replacing)?;
+    let is_replacing = applied.is_replacing;
+    let shape = shape_of(alloc, image.name, look, table, &parsed, applied, is_fitted)?;
     let shaped = match shape {
         Some(shape) => Some(widened(alloc, table, shape)?),
         None => None,
@@ -387,6 +390,52 @@ where
         matches,
         shape,
     })
+}
+
+// Returns the shape that a layout gives the table, if it is another one. With `is_fitted` the table is compared as it is
+// once it is fitted to the disk, and a layout that then gives it another shape is refused.
+fn shape_of(
+    alloc: Global,
+    image: &str,
+    look: &Look,
+    table: &GPT,
+    parsed: &Parsed,
+    applied: Applied<'_>,
+    is_fitted: bool,
+) -> Result<Option<Shape>, Failure> {
+    let Applied { file, is_replacing } = applied;
+    if !is_fitted || ends_with_disk(table, look) {
+        return shape_for(alloc, file, parsed, table, is_replacing);
+    }
+    let fitted = fit_bounds(table, look.size)?;
+    match shape_for(alloc, file, parsed, &fitted, is_replacing)? {
+        Some(_) => Err(refuse(alloc, image, &GrowFirst(image))),
+        None => Ok(None),
+    }
+}
+
+// Message: a layout would give the table another shape and fit it to the disk in one write.
+#[derive(Clone, Copy)]
+struct GrowFirst<'a>(&'a str);
+
+impl fmt::Display for GrowFirst<'_> {
+    fn fmt<W: fmt::Write>(&self, f: &mut fmt::Formatter<W>) -> fmt::Result {
+        writeln!(
+            f,
+            "--fit does not change the number of entries or the usable sectors of a layout"
+        )?;
+        write!(f, "run `gptedit grow {}` first", Escaped(self.0))
+    }
+}
+
+impl Message for GrowFirst<'_> {
+    fn reason(&self) -> Reason {
+        Reason::Request(Refusal::NotLaidOut)
+    }
+
+    fn add_commands(&self, commands: &mut Commands) -> Result<(), AllocError> {
+        commands.add(&["gptedit", "grow", self.0])
+    }
 }
 
 // Returns the task if no table was read: only `apply --create` makes a table.

@@ -8,11 +8,12 @@ use gptedit_text::{
     read_layout, read_script,
 };
 use gptman::GPT;
+use gptman::sizes::MAX_ENTRY_COUNT;
 use std::alloc::Global;
 use std::fs::File;
 use std::io::{ErrorKind, Read};
 use std::rt::Files;
-use std::{io, mem};
+use std::{fmt, io, mem};
 
 /// Reads a layout, an `sfdisk` script or an `sgdisk` backup from a file; `-` is standard input. Call it before the image
 /// is opened. Otherwise the image is locked while standard input is read, and may get the descriptor of a closed standard
@@ -33,7 +34,27 @@ pub fn read_asked<R: Files<File = File> + Input + AllocGlobal>(
             read_layout(alloc, text.as_str())
         }
     };
-    parsed.map_err(|error| not_a_layout(alloc, file, error))
+    let parsed = parsed.map_err(|error| not_a_layout(alloc, file, error))?;
+    match parsed.header.entries {
+        Some(count) if count > MAX_ENTRY_COUNT => {
+            Err(refuse_failed(alloc, file, Reason::BadLayout, &ManyEntries(count)))
+        }
+        _ => Ok(parsed),
+    }
+}
+
+// Message: the layout states more entries than `gptedit` reads.
+#[derive(Clone, Copy)]
+struct ManyEntries(u32);
+
+impl fmt::Display for ManyEntries {
+    fn fmt<W: fmt::Write>(&self, f: &mut fmt::Formatter<W>) -> fmt::Result {
+        let count = self.0;
+        write!(
+            f,
+            "the table would have {count} entries, but gptedit reads at most {MAX_ENTRY_COUNT}"
+        )
+    }
 }
 
 /// Reads an `sfdisk` script whose partitions are new ones, as `read_asked` does.

@@ -18,6 +18,7 @@ mod losses;
 mod making;
 mod mbr;
 mod measuring;
+mod negatives;
 mod own;
 mod planning;
 mod query;
@@ -30,6 +31,7 @@ mod using;
 mod wiping;
 
 use crate::failure::Failure;
+use crate::negatives::place_negatives;
 use gptedit_words::{CommandLine, read_words};
 use std::fs::File;
 use std::io::{BufWriter, ErrorKind, Write};
@@ -74,6 +76,7 @@ where
         }
         Err(error) => return Err(Failure::from(error)),
     };
+    let words = place_negatives(alloc, words)?;
     let request = match read_words(alloc, words.as_slice()) {
         Ok(request) => request,
         Err(error) => {

@@ -220,8 +220,8 @@ impl Message for AboveLast {
     }
 }
 
-// Returns a table with the usable sectors that it gets when it is fitted to a disk of `size` bytes.
-fn fit_bounds(table: &GPT, size: u64) -> Result<GPT, Failure> {
+/// Returns a table with the usable sectors that it gets when it is fitted to a disk of `size` bytes.
+pub fn fit_bounds(table: &GPT, size: u64) -> Result<GPT, Failure> {
     let mut fitted = copy_of(table)?;
     let edges = Edges::of(table, size);
     if edges.first < edges.least || edges.most < edges.first {
