@@ -2,6 +2,12 @@
 _gptedit() {
     local word=${COMP_WORDS[COMP_CWORD]} before=${COMP_WORDS[COMP_CWORD - 1]} words=
     COMPREPLY=()
+    # bash makes three words of --option=value.
+    if [ "$word" = = ]; then
+        word=
+    elif [ "$before" = = ] && [ "$COMP_CWORD" -ge 3 ]; then
+        before=${COMP_WORDS[COMP_CWORD - 2]}
+    fi
     case $before in
     --sector) words="512 1024 2048 4096 auto" ;;
     --lock) words="wait fail none" ;;
@@ -13,7 +19,9 @@ _gptedit() {
         return ;;
     esac
     if [ "$COMP_CWORD" -eq 1 ]; then
-        words="show check free dump salvage types new add set resize remove sort grow repair randomize apply wipe --help --version"
+        words="show check free dump salvage types new add set resize remove sort grow repair randomize apply wipe help --help --version"
+    elif [ "$COMP_CWORD" -eq 2 ] && [ "$before" = help ]; then
+        words="show check free dump salvage types new add set resize remove sort grow repair randomize apply wipe"
     elif [ -z "$words" ] && [ "${word:0:1}" = - ]; then
         case ${COMP_WORDS[1]} in
         show) words="--map --short --sector --json -h --help" ;;
@@ -29,7 +37,7 @@ _gptedit() {
         remove) words="--fit -n --dry-run --overwrite --in-use --force --lock --backup --sector --json -h --help" ;;
         sort) words="--fit -n --dry-run --overwrite --in-use --force --lock --backup --sector --json -h --help" ;;
         grow) words="--random-guids -n --dry-run --overwrite --in-use --force --lock --backup --sector --json -h --help" ;;
-        repair) words="--bounds -n --dry-run --overwrite --in-use --force --lock --backup --sector --json -h --help" ;;
+        repair) words="--bounds --fit -n --dry-run --overwrite --in-use --force --lock --backup --sector --json -h --help" ;;
         randomize) words="--fit -n --dry-run --overwrite --in-use --force --lock --backup --sector --json -h --help" ;;
         apply) words="--replace --create --fit -n --dry-run --overwrite --in-use --force --lock --backup --sector --json -h --help" ;;
         wipe) words="-n --dry-run --overwrite --in-use --force --lock --backup --sector --json -h --help" ;;

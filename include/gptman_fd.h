@@ -229,7 +229,7 @@ static inline void gptman_perror(const char *what, uint32_t answer) {
     else if (gptman_fault_name(answer, name, sizeof name) == GPTMAN_OK) fprintf(stderr, "%s: %s\n", what, name);
 }
 
-/* After a change of a block device prints the command by which the kernel rereads the table, as gptedit does. */
+/* After a change of a block device prints the command by which the kernel rereads the table. */
 static inline void gptman_tell_kernel(const gptman_disk *disk, const char *path) {
     struct stat device;
     char mapped[64];

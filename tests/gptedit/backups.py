@@ -162,10 +162,13 @@ def try_damage(tally, program):
                          (1536, "entries are"), (1537, "entries are"), (len(good) - 1, "entries are")]:
         write(program, good[:length])
         refused(tally, program, words, f"its {part} damaged: the file is too short")
-    # The checksum of a header that counts more entries than the file has.
-    header = table.with_fields(good[512:604], (80, "<I", 1 << 32 - 1))
-    write(program, good[:512], header, good[604:])
-    refused(tally, program, words, "its entries are damaged: the file is too short")
+    # The checksum of a header that counts more entries than the file has, and than gptedit reads.
+    for count, text in [(32768, "its entries are damaged: the file is too short"),
+                        (32769, "its primary header counts 32769 entries\ngptedit reads at most 32768"),
+                        (1 << 31, "its primary header counts 2147483648 entries\ngptedit reads at most 32768")]:
+        header = table.with_fields(good[512:604], (80, "<I", count))
+        write(program, good[:512], header, good[604:])
+        refused(tally, program, words, text)
     header = table.with_fields(good[512:604], (84, "<I", 256))
     write(program, good[:512], header, good[604:])
     refused(tally, program, words, "its entries are damaged: ")

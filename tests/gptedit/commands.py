@@ -281,9 +281,10 @@ def try_json(tally, program):
             "node": "disk.img1", "start": 2048, "size": 131072, "type": EFI.upper(), "uuid": ESP.upper(),
             "name": "ESP", "attrs": "RequiredPartition"}]}, told["partitiontable"])
     tally.equals("show --json, what is more", {
-        "form": "primary", "primary": "good", "backup": "good", "same": True, "size": 128 * MIB, "align": 2048,
-        "free": [{"start": 133120, "size": 128991}]}, told["gptman"])
-    tally.equals("free --json", [{"start": 34, "size": 2014}, {"start": 133120, "size": 128991}],
+        "form": "primary", "primary": "good", "backup": "good", "same": True, "size_bytes": 128 * MIB,
+        "align_sectors": 2048, "free": [{"start_sectors": 133120, "size_sectors": 128991}]}, told["gptman"])
+    tally.equals("free --json", [{"start_sectors": 34, "size_sectors": 2014},
+                                 {"start_sectors": 133120, "size_sectors": 128991}],
                  json.loads(program.run("free", "disk.img", "--json")[1]))
     types = json.loads(program.run("types", "--json")[1])
     tally.holds("types --json has efi", {"name": "efi", "guid": EFI.upper()} in types)

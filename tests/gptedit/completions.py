@@ -31,7 +31,9 @@ def options_in(text):
 
 def try_commands(tally, program):
     """The first word, and the options of each command."""
-    tally.equals("the first word", sorted([*COMMANDS, "--help", "--version"]), sorted(completed("")))
+    tally.equals("the first word", sorted([*COMMANDS, "help", "--help", "--version"]), sorted(completed("")))
+    tally.equals("what help is of", sorted(COMMANDS), sorted(completed("help", "")))
+    tally.equals("nothing more", [], completed("help", "add", ""))
     tally.equals("a beginning", ["randomize"], completed("ra"))
     tally.equals("a wrong beginning", [], completed("x"))
     tally.equals("commands that have help", set(COMMANDS), set(re.findall(r"^  (\w+)", program.plain("--help")[1], re.M)) - {"help"})
@@ -46,6 +48,11 @@ def try_values(tally, program):
     tally.holds("there are types", len(names) > 200)
     tally.equals("types", names, completed("add", "disk.img", "--type", ""))
     tally.equals("types that begin with sw", ["swap"], completed("set", "disk.img", "1", "--type", "sw"))
+    # bash splits a word at the sign.
+    tally.equals("types after =", names, completed("add", "disk.img", "--type", "="))
+    tally.equals("types that begin with sw after =", ["swap"], completed("set", "disk.img", "1", "--type", "=", "sw"))
+    tally.equals("places after =", ["first", "last", "best"], completed("add", "disk.img", "--place", "="))
+    tally.equals("values of --name after =", [], completed("add", "disk.img", "--name", "=", ""))
     tally.equals("places", ["first", "last", "best"], completed("add", "disk.img", "--place", ""))
     tally.equals("locks", ["wait", "fail", "none"], completed("new", "disk.img", "--lock", ""))
     tally.equals("sector sizes", ["512", "1024", "2048", "4096", "auto"], completed("show", "disk.img", "--sector", ""))
@@ -63,7 +70,7 @@ def try_zsh(tally, _program):
 def try_fish(tally, program):
     """What fish completes."""
     if tally.has("fish"):
-        tally.equals("the first word in fish", set(COMMANDS), set(in_fish("gptedit ")))
+        tally.equals("the first word in fish", {*COMMANDS, "help"}, set(in_fish("gptedit ")))
         tally.equals("places in fish", {"first", "last", "best"}, set(in_fish("gptedit add disk.img --place ")))
         for command in COMMANDS:
             wanted = {word for word in options_in(program.plain(command, "--help")[1]) if word.startswith("--")}

@@ -91,6 +91,7 @@ COMMANDS = {
     "remove": (["remove", IMAGE, "2", "--fit"], lambda found, _: found._replace(
         entries={number: one for number, one in found.entries.items() if number != 2})),
     "sort": (["sort", IMAGE, "--fit"], lambda found, _: sorted_by_start(found)),
+    "repair": (["repair", IMAGE, "--fit"], lambda found, _: found),
     "apply": (["apply", IMAGE, "layout.toml", "--fit"], lambda found, sector: with_rest(found, sector)),
     "grow": (["grow", IMAGE], lambda found, _: found),
     "grow N": (["grow", IMAGE, "3"], lambda found, sector: extended(found, 3, sector)),
@@ -269,6 +270,11 @@ def try_two_words(tally, program):
         tally.holds(f"grow {number} leaves what grow and resize do", ends[0][1] == ends[2][1])
 
 
+# Commands that fit the table to the disk first.
+UNFIT = [["grow", IMAGE], ["grow", IMAGE, "3"], ["set", IMAGE, "--fit", "1", "--name", "x"],
+         ["remove", IMAGE, "--fit", "2"], ["sort", IMAGE, "--fit"], ["resize", IMAGE, "--fit", "3", "max"]]
+
+
 def cut_start(program, last=SIZE // 512 - 34):
     """A disk that was shortened by 4 MiB: partition 4 begins on it and ends beyond it, or is all beyond it."""
     entries = {**three(STEP), 4: entry(last - 3 * STEP, last, "d", GUIDS[3])}
@@ -303,6 +309,35 @@ def try_cut(tally, program):
     goes(tally, program, ["apply", IMAGE, "three.toml", "--replace", "--fit"])
     holds_table(tally, program, "apply --fit --replace without the partition beyond the end",
                 fitted(found._replace(entries=three(STEP)), SIZE - 2 * MIB))
+
+
+def try_unfit(tally, program):
+    """A disk without room for two copies, entries that are elsewhere, and bounds over the table: `grow` and `--fit` say
+    so, and do not name `grow`."""
+    found, moved = of(three(STEP)), of(three(STEP), first=2048)
+    over = of(three(STEP), last=SIZE // 512 - 2)
+    restore = [["truncate", "-s", str(SIZE), IMAGE], ["gptedit", "repair", IMAGE]]
+    small = "the disk is too small for two copies of the table, which need 67 sectors\n"
+    elsewhere = "the entries of the primary copy begin in sector 40, not 2\n"
+    rows = [(found, {}, 60 * 512, small, restore), (found, {}, 66 * 512, small, restore),
+            (moved, {"primary_at": 40}, SIZE, elsewhere, []), (moved, {"primary_at": 40}, GROWN, elsewhere, []),
+            (over, {"backup_at": SIZE // 512 - 33}, SIZE, "end inside the backup copy of the table",
+             [["gptedit", "repair", IMAGE, "--bounds"]])]
+    for made, places, size, text, mend in rows:
+        for words in UNFIT:
+            program.make_image(IMAGE, SIZE)
+            table.put(program.file(IMAGE), table.pieces_of(made, SIZE, **places))
+            program.set_length(IMAGE, size)
+            refused(tally, program, words, text)
+            error = program.json(*words, "--json")["error"]
+            tally.equals(f"mend of {words} on {size} bytes", mend, error["mend"])
+            tally.holds(f"{words} does not name grow: {error}", "grow" not in error["message"])
+    start(program, found, SIZE, 60 * 512)
+    program.set_length(IMAGE, SIZE)
+    goes(tally, program, ["repair", IMAGE])
+    holds_table(tally, program, "the advice for a disk without room for two copies", found)
+    start(program, found, SIZE, 67 * 512)
+    refused(tally, program, ["grow", IMAGE], "partitions 1 2 3 do not fit on the disk")
 
 
 def try_cut_short(tally, program):
@@ -565,6 +600,7 @@ def try_stops(tally, program):
 SUBJECTS = {"--fit": try_commands, "--fit: copies at the old end": try_backups, "--fit: random GUIDs": try_randomize,
             "--fit on a disk of the same length": try_same, "grow N on a disk of the same length": try_grow_same,
             "grow N and resize --fit": try_two_words, "--fit on a shortened disk": try_cut,
+            "--fit where the table cannot be fitted": try_unfit,
             "--fit: a partition that is cut": try_cut_short, "--fit that shortens": try_shortens,
             "--fit: the new place of the backup copy": try_guards, "--fit: the MBR": try_mbrs,
             "--fit on a device in use": try_uses, "words of --fit": try_words, "--fit and other programs": try_tools,

@@ -59,6 +59,7 @@ CASES = {
     "the middle of a root disk": (entries_of((2048, 206847), (206848, 731135), (731136, 1550335), (34, 2047),
                                              (4061184, 4194270)), 2 << 30, 2 << 30, 3),
     "10 percent": (entries_of((2048, 100351)), 50 * MIB, 100 * MIB, 1),
+    "a length that 100 does not divide": (entries_of((2048, 20479)), SIZE, GROWN, 1),
 }
 
 
@@ -121,8 +122,20 @@ def as_ours(line):
             f"new: size={end - first + 1} end={end}\n")
 
 
+def scripts_of(ended, sizes):
+    """The scripts of sfdisk that growpart prints in a dry run, with another size of the new partition."""
+    theirs_size, size = sizes
+    return re.sub(f"(, size= *){theirs_size},", rf"\g<1>{size},", ended.err)
+
+
+def size_of(line):
+    """The new size in a line of growpart, or None."""
+    match = LINE.fullmatch(line)
+    return match and match[6]
+
+
 def try_theirs(tally, program):
-    """The same line and status as growpart's, with each of its resizers."""
+    """The same line and status as growpart's, with each of its resizers, and in a dry run the same scripts."""
     if not tally.has("growpart") or not tally.has("sfdisk") or not tally.has("sgdisk"):
         return None
     for name, case in CASES.items():
@@ -141,7 +154,38 @@ def try_theirs(tally, program):
                 tally.equals(f"the status of {what}", other.status, ours.status)
                 if resizer == "sfdisk" or other.status == 0:
                     tally.equals(what, as_ours(other.out), ours.out)
+                if resizer == "sfdisk" and other.status == 0 and words:
+                    sizes = size_of(other.out), size_of(ours.out)
+                    tally.equals(f"the scripts of {what}", scripts_of(other, sizes), ours.err)
     return None
+
+
+def try_same(tally, program):
+    """What growpart prints and does without a change of the end: the same output, errors and status."""
+    if not tally.has("growpart") or not tally.has("sfdisk"):
+        return None
+    case_start(program, CASES["a length that 100 does not divide"])
+    image = program.bytes_of(IMAGE)
+    for name in "disk12", "a-disk":
+        program.write(name, image)
+    if not os.path.lexists(program.file("link")):
+        os.symlink(IMAGE, program.file("link"))
+    rows = [[name, number] for name in (IMAGE, "disk12", "a-disk", "./disk12", "link") for number in ("9", "0", "01")]
+    rows += [[IMAGE, "x"], ["nothing.img", "x"], [IMAGE, "1", "2"], ["--bad", IMAGE, "1"], ["-", "1"], ["-u"],
+             ["-u", "bad", IMAGE, "1"], ["--update=", IMAGE, "1"], ["--fudge=5", IMAGE, "1"], ["--free-percent"]]
+    rows += [[f"--free-percent={word}", IMAGE, "1"] for word in ("0", "100", "101", "abc", "10%", "2.5", "", "-1")]
+    rows += [["-N", "--free-percent", percent, name, "1"] for percent in ("1", "10", "33", "84", "90")
+             for name in (IMAGE, "disk12", "link")]
+    for words in rows:
+        ours, other = grow(program, *words), theirs(program, "sfdisk", *words)
+        tally.equals(f"growpart {words}, by growpart of cloud-utils", (other.status, other.out, other.err),
+                     (ours.status, ours.out, ours.err))
+    for words in [], [IMAGE], ["--", IMAGE, "1"]:
+        ours, other = grow(program, *words), theirs(program, "sfdisk", *words)
+        tally.equals(f"growpart {words} says what is missing", (other.status, other.out, other.err.splitlines()[-1]),
+                     (ours.status, ours.out, ours.err.splitlines()[-1]))
+    tally.holds("the rows write nothing", all(image == program.bytes_of(name) for name in (IMAGE, "disk12", "a-disk")))
+    return f"{len(rows)} rows"
 
 
 def try_options(tally, program):
@@ -179,6 +223,41 @@ def try_options(tally, program):
                          table.read(program.file(IMAGE)))
 
 
+# An lvm that writes down its words, and ends with the status that PVS has, or PVRESIZE.
+LVM = """#!/bin/sh
+echo "$@" >> "$LVM_LOG"
+case $1 in
+    pvs) exit "$PVS" ;;
+    *) exit "$PVRESIZE" ;;
+esac
+"""
+
+
+def try_volumes(tally, program):
+    """lvm is called after a change as growpart calls it: `pvs`, and if that finds a physical volume `pvresize`."""
+    os.makedirs(program.file("bin"), exist_ok=True)
+    program.write("bin/lvm", LVM.encode())
+    os.chmod(program.file("bin/lvm"), 0o755)
+    named = ["pvs --nolocking --readonly -o pvname disk12p1", "pvresize disk12p1"]
+    rows = [("0", "0", named, [0, "CHANGED"]), ("5", "0", named[:1], [0, "CHANGED"]),
+            ("0", "5", named, [2, "CHANGED", "FAILED: lvm resize failed."]),
+            ("3", "0", named[:1], [2, "CHANGED", "FAILED: lvm resize failed."])]
+    case_start(program, CASES["the last partition"])
+    image = program.bytes_of(IMAGE)
+    with_theirs = tally.has("growpart") and tally.has("sfdisk")
+    for found, resized, words, wanted in rows:
+        for command in [[SCRIPT]] + [["growpart"]] * with_theirs:
+            program.write("disk12", image)
+            program.write("log", b"")
+            ended = run([*command, "disk12", "1"], cwd=program.folder, errors="replace", env={
+                **os.environ, "GPTEDIT": program.path, "PATH": program.file("bin") + ":" + os.environ["PATH"],
+                "LVM_LOG": program.file("log"), "PVS": found, "PVRESIZE": resized, "GROWPART_RESIZER": "sfdisk"})
+            what = f"{command} with pvs {found} and pvresize {resized}: {ended}"
+            lines = [line if line.startswith("FAILED") else line.split(":")[0] for line in ended.out.splitlines()]
+            tally.equals(f"the output of {what}", wanted, [ended.status, *lines])
+            tally.equals(f"the words of lvm by {what}", words, program.bytes_of("log").decode().splitlines())
+
+
 def try_failures(tally, program):
     """What fails, with status 2 and a line on standard output; nothing is written."""
     make(program, entries_of((2048, 20479)))
@@ -186,7 +265,8 @@ def try_failures(tally, program):
     program.make_zeros("dos.img", SIZE)
     put_dos(program, ((0x83, 2048, 20480),), name="dos.img")
     before = [program.state(name) for name in (IMAGE, "zeros.img", "dos.img")]
-    rows = [([IMAGE, "2"], "partition 2"), ([IMAGE, "0"], "partition 0"), ([IMAGE, "x"], "must be a number"),
+    rows = [([IMAGE, "2"], f"{IMAGE}2 in {IMAGE}"), ([IMAGE, "0"], f"{IMAGE}0 in {IMAGE}"),
+            ([IMAGE, "x"], "must be a number"), (["-u"], "--update option: "),
             (["nothing.img", "1"], "nothing.img: does not exist"), ([IMAGE, "1", "2"], "confused by arg 2"),
             (["--bad", IMAGE, "1"], "unknown option --bad"), (["-u", "bad", IMAGE, "1"], "--update option: bad"),
             (["--update=", IMAGE, "1"], "--update option: "), (["--fudge=5", IMAGE, "1"], "unknown option --fudge=5"),
@@ -200,9 +280,10 @@ def try_failures(tally, program):
         tally.equals(f"the status of growpart {words}: {ended}", FAILED, ended.status)
         tally.holds(f"growpart {words} says {text!r}: {ended}", re.fullmatch("FAILED: .*\n", ended.out) and
                     text in ended.out)
-    for words in [], [IMAGE]:
+    for words, missing in ([], "disk and partition-number"), ([IMAGE], "partition-number"):
         ended = grow(program, *words)
-        tally.holds(f"growpart {words} prints the usage: {ended}", ended.status == FAILED and "usage" in ended.err)
+        tally.holds(f"growpart {words} prints the usage: {ended}", ended.status == FAILED and "usage" in ended.err and
+                    ended.err.endswith(f"\nmust supply {missing}\n"))
     for word in "-h", "--help":
         ended = grow(program, word)
         tally.holds(f"growpart {word} prints the usage: {ended}", ended.status == 0 and "usage" in ended.out)
@@ -301,6 +382,7 @@ def try_stops(tally, program):
     return "{} states: {} lost, {} between".format(*map(sum, zip(*totals)))
 
 
-SUBJECTS = {"growpart": try_cases, "growpart of cloud-utils": try_theirs, "options of growpart": try_options,
-            "growpart that fails": try_failures, "growpart that is refused": try_refused,
-            "words of growpart": try_words, "growpart on devices": try_devices, "stops of growpart": try_stops}
+SUBJECTS = {"growpart": try_cases, "growpart of cloud-utils": try_theirs, "words of cloud-utils": try_same,
+            "options of growpart": try_options, "growpart and lvm": try_volumes, "growpart that fails": try_failures,
+            "growpart that is refused": try_refused, "words of growpart": try_words,
+            "growpart on devices": try_devices, "stops of growpart": try_stops}

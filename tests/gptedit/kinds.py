@@ -22,10 +22,18 @@ TOOLS = {"sfdisk": "sfdisk", "parted": "parted", "repart": "systemd-repart", "gd
 CASES = {"lower": str.lower, "upper": str.upper,
          "mixed": lambda word: "".join(c.lower() if at % 2 else c.upper() for at, c in enumerate(word))}
 
-# Words that are no types, and the nearest word to each: at most half of its letters are inserted and removed.
+# Words that are no types, and the nearest word to each: at most half of its letters are inserted and removed. If there
+# is none, it is the name for a code of MBR tables, the first one that has the word in it, or the longest one that the
+# word begins with.
 NEAREST = [("linus", "linux"), ("lniux", "linux"), ("LINUXX", "linux"), ("swapp", "swap"), ("linux-hom", "linux-home"),
-           ("bios-bot", "bios-boot"), ("bios_grubb", "bios_grub"), ("HP-servce", "hp-service"), ("0x8300", "8300")]
-UNKNOWN = ["lunix", "ef99", "EF99", "", " ", "-", "\u212a", "x" * 64, "x" * 300, "\u00e9\u540d\U0001f600"]
+           ("bios-bot", "bios-boot"), ("bios_grubb", "bios_grub"), ("HP-servce", "hp-service"), ("0x8300", "8300"),
+           ("luks", "linux-luks"), ("bios", "bios-boot"), ("Recovery", "microsoft-recovery"), ("apfs", "apple-apfs"),
+           ("core_storage", "apple-core-storage"), ("EFI-SYSTEM", "efi"), ("EFI System", "efi"),
+           ("linux_filesystem", "linux"), ("bios boot partition", "bios-boot"), ("MBR partition scheme", "mbr"),
+           ("83", "linux"), ("82", "swap"), ("0C", "microsoft-data"), ("8e", "linux-lvm"), ("FD", "linux-raid"),
+           ("ef", "efi")]
+UNKNOWN = ["lunix", "hidden", "ffff", "ef99", "EF99", "", " ", "-", "\u212a", "x" * 64, "x" * 300,
+           "\u00e9\u540d\U0001f600"]
 # Words with a character too many or too few.
 NEARLY = [" linux", "linux ", "li nux", "8300h", LINUX[:-1], LINUX + "0", LINUX.replace("-", "")]
 

@@ -46,7 +46,10 @@ WRONG = [
     ('[[partition]]\nend = "+1MiB"\n', "line 2: end of "),
     ('[[partition]]\nsize = "-1MiB"\n', "line 2: size of "),
     ('[[partition]]\nsize = "1MiB"\nend = "2MiB"\n', "line 3: end of partition 1 of the file: the partition also has the key size; use only one"),
-    ('[[partition]]\nend = "2MiB"\ntype = "swap"\n', "an end needs a start"),
+    ('[[partition]]\nend = "2MiB"\ntype = "swap"\n', "an end needs a start; state that too\n"),
+    ('[disk]\nalign = "0s"\n[[partition]]\nsize = "1MiB"\ntype = "swap"\n',
+     "the alignment must not be zero; use for example 1MiB\n"),
+    ("label: gpt\ngrain: 0\nsize=1M\n", "the alignment must not be zero; use for example 1MiB\n"),
     ("[[partition]]\nsize = 7\n", "line 2: size of "),
     ('[[partition]]\ntype = "linx"\n', "line 2: type of "),
     ('[[partition]]\nguid = "12"\n', "line 2: guid of "),
@@ -67,7 +70,8 @@ WRONG = [
     ("label: gpt\nsize=1MiB, colour=red\n", 'line 2: "colour" is not a key of '),
     ("label: gpt\nsector-size: 4096\n", "sector-size is 4096 in the layout, but 512 on the disk"),
     ("label: gpt\nfirst-lba: 2048\n", "first-lba is 2048 in the layout, but 34 on the disk"),
-    ("label: gpt\nlast-lba: 7\n", "last-lba is 7 in the layout, but 262110 on the disk"),
+    ("label: gpt\nlast-lba: 2047\n", "last-lba is 2047 in the layout, but 262110 on the disk"),
+    ("label: gpt\nlast-lba: 7\n", "the usable sectors must be within 34..262110 and not end before they begin"),
     ("label: gpt\ntable-length: 7\n", "table-length is 7 in the layout, but 128 on the disk"),
     (b"\xff\xfe", "disk.toml: "),
 ]
@@ -157,10 +161,15 @@ def try_layout(tally, program):
     program.run("apply", "disk.img", "disk.toml", "--replace")
     holds_table(tally, program, "apply --replace", both)
     program.write("moved.toml", LAYOUT.replace('size = "64MiB"', 'size = "32MiB"').encode())
-    refused(tally, program, ["apply", "disk.img", "moved.toml"], " would move or change size\n")
+    refused(tally, program, ["apply", "disk.img", "moved.toml"], " would move or become shorter\n")
     program.run("apply", "disk.img", "moved.toml", "--replace")
     found = table.read(program.file("disk.img")).entries[1]
     tally.equals("apply --replace of another size", ESP_ENTRY._replace(last=67583), found)
+    program.write("longer.toml", LAYOUT.replace('size = "64MiB"', 'size = "48MiB"').encode())
+    program.run("apply", "disk.img", "longer.toml")
+    holds_table(tally, program, "apply of a larger size", {1: ESP_ENTRY._replace(last=100351), 2: ROOT_ENTRY})
+    program.write("longer.toml", LAYOUT.replace('size = "64MiB"', 'size = "65MiB"').encode())
+    refused(tally, program, ["apply", "disk.img", "longer.toml"], "partitions would overlap")
 
 
 def try_kept(tally, program):
@@ -239,9 +248,12 @@ RESTS = [
     ({1: (2048, 4095), 2: (4096, 6143)}, ["number = 1\nsize = 'rest'", "number = 2\nstart = '5MiB'"], ["--replace"],
      {1: (2048, 10239), 2: (10240, 12287)}),
     ({1: (2048, 4095), 2: (4096, 6143)}, ["number = 1\nsize = 'rest'"], ["--replace"], {1: (2048, 129023)}),
-    # Without --replace no other partition may move or change its size, be left out, or begin elsewhere.
+    # Another partition becomes longer too.
+    ({1: (2048, 4095), 2: (4096, 6143)}, ["number = 1\nsize = 'rest'", "number = 2\nsize = '2MiB'"], [],
+     {1: (2048, 4095), 2: (4096, 8191)}),
+    # Without --replace no other partition may move, become shorter, be left out, or begin elsewhere.
     ({1: (2048, 4095), 2: (4096, 6143)}, ["number = 1\nsize = 'rest'", "number = 2\nstart = '5MiB'"], [], None),
-    ({1: (2048, 4095), 2: (4096, 6143)}, ["number = 1\nsize = 'rest'", "number = 2\nsize = '2MiB'"], [], None),
+    ({1: (2048, 4095), 2: (4096, 8191)}, ["number = 1\nsize = 'rest'", "number = 2\nsize = '1MiB'"], [], None),
     ({1: (2048, 4095), 2: (4096, 6143)}, ["number = 1\nsize = 'rest'"], [], None),
     ({1: (4096, 6143)}, ["number = 1\nstart = '1MiB'\nsize = 'rest'"], [], None),
     ({1: (4096, 6143)}, ["number = 1\nstart = '1MiB'\nsize = 'rest'"], ["--replace"], {1: (2048, 129023)}),

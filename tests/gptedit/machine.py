@@ -26,7 +26,7 @@ END = SIZE // 512
 LOADER = b"A BOARD'S LOADER" * 2048
 
 # Codes of checks that others come before, and what no trial here can cause.
-LATER = {"bad-table", "twice", "no-safe-order", "has-data", "has-data-at-entries", "replaced", "no-sector-size", "no-start"}
+LATER = {"bad-table", "no-safe-order", "has-data", "has-data-at-entries", "replaced", "no-sector-size", "no-start"}
 PROGRAMS = {"gptedit", "truncate", "qemu-img"}
 DOCUMENTS = []
 
@@ -222,7 +222,7 @@ def tried(tally, program, words, wanted=..., sector=512):
 
 def comparable(found):
     """The table of JSON, without what the alignment decides: `show` derives it from the partitions."""
-    own = {key: one for key, one in found["gptman"].items() if key not in ("align", "free")}
+    own = {key: one for key, one in found["gptman"].items() if key not in ("align_sectors", "free")}
     return found["partitiontable"], own
 
 
@@ -310,6 +310,7 @@ REFUSALS = [
     ("bad-boundaries", ADD + ["--size", "1MiB", "--start", "2048s"]),
     ("shared-guid", ["add", IMAGE, "--type", "linux", "--size", "1MiB", "--guid", ESP]),
     ("is-unused", ["set", IMAGE, "3", "--name", "x"]), ("is-unused", ["show", IMAGE, "3"]),
+    ("twice", ["remove", IMAGE, "1", "name=one"]),
     ("no-partition", ["set", IMAGE, "name=none", "--name", "x"]), ("no-partition", ["show", IMAGE, "guid=" + OTHER]),
     ("no-type", ["set", IMAGE, "1", "--type", "00000000-0000-0000-0000-000000000000"]),
     ("not-opened", ["show", "none.img"]), ("not-opened", ["check", "none.img"]),
@@ -326,6 +327,8 @@ LAYOUTS = [
     ("new-role", '[[partition]]\nnumber = 1\n[[partition]]\nname = "two"\ntype = "swap"\n'), ("bad-layout", "what = 1\n"),
     ("bad-layout", "[["), ("bad-layout", "[[partition]]\nnumber = 1\n[[partition]]\nnumber = 1\n"),
     ("layout-mismatch", '[disk]\nsector-size = "4096B"\n'), ("layout-mismatch", "[disk]\nentries = 56\n"),
+    ("too-small-for-entries", "[disk]\nentries = 0\n"), ("out-of-bounds", '[disk]\nfirst-usable = "33s"\n'),
+    ("bad-layout", '[[partition]]\ntype = "linx"\n'),
 ]
 
 
@@ -361,7 +364,9 @@ def table_rows(program):
         (lambda: long(2 * SIZE), add, "not-laid-out"),
         (lambda: long(entries={}, count=0), ["grow", IMAGE], "too-small"),
         (lambda: image(size=512), ["new", IMAGE], "too-small-for-entries"),
-        (lambda: long(8192 * 512), ["grow", IMAGE], "cut-off"),
+        (lambda: long(8192 * 512), ["grow", IMAGE], "cut-off"), (lambda: long(60 * 512), ["grow", IMAGE], "too-small"),
+        (lambda: long(places={"primary_at": 40}, first=2048), ["grow", IMAGE], "not-laid-out"),
+        (lambda: long(last=END - 2, places={"backup_at": END - 33}), ["grow", IMAGE], "bounds-over-table"),
         (lambda: make(program, {1: TWO[1], 2: TWO[2]._replace(name="one")}), ["remove", IMAGE, "name=one"],
          "several-partitions"),
         (lambda: make(program, {1: entry(9, 7)}), ["show", IMAGE, "1", "size"], "no-value"),
@@ -373,6 +378,7 @@ def table_rows(program):
         (lambda: (long(), program.put(IMAGE, 0, b"\x1f\x8b\x08\x08")), ["show", IMAGE], "not-raw"),
         (lambda: image((512, b"EFI PART")), ["new", IMAGE, "--overwrite", "--backup", "kept"], "no-backup"),
         (image, ["apply", IMAGE, "bounds.toml", "--create"], "out-of-bounds"),
+        (image, ["apply", IMAGE, "early.toml", "--create"], "bad-boundaries"),
         (image, ["apply", IMAGE, "sector.toml", "--create", "--sector", "512"], "layout-mismatch"),
         (lambda: (long(), program.put(IMAGE, 512, LOADER[:33 * 512])), name, "has-data-at-broken-copy"),
         (lambda: (make(program, TWO), program.put(IMAGE, 512, bytes(512))), name, "has-data-at-broken-copy"),
@@ -418,6 +424,7 @@ def tell_tables(tally, program):
     program.write("two.toml", toml_of(DISK, TWO).encode())
     program.write("bounds.toml", b'[disk]\nfirst-usable = "3s"\n')
     program.write("sector.toml", b'[disk]\nsector-size = "4096B"\n')
+    program.write("early.toml", b'[[partition]]\ntype = "linux"\nstart = "5s"\nsize = "1MiB"\n')
     rows = [(*row, None) for row in table_rows(program)] + [(*row, "--overwrite") for row in loss_rows(program)]
     for start, words, code, lifts in rows:
         start()

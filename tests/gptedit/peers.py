@@ -131,7 +131,7 @@ def free_in(out):
     except ValueError:
         return None
     found = found if isinstance(found, list) else found["gptman"]["free"]
-    return [(one["start"], one["start"] + one["size"] - 1) for one in found]
+    return [(one["start_sectors"], one["start_sectors"] + one["size_sectors"] - 1) for one in found]
 
 
 def as_guid(guid, wanted, before):

@@ -2,6 +2,7 @@
 import json
 import random
 import re
+import unicodedata
 import uuid
 
 from harness import table
@@ -152,18 +153,23 @@ def type_names():
     return {guid.lower(): name for name, guid in reversed(rows)}
 
 
+def columns(text):
+    """The columns that a text takes in a terminal: two for a wide character, none for a combining one."""
+    return sum(0 if unicodedata.combining(one) else 2 if unicodedata.east_asian_width(one) in "WF" else 1 for one in text)
+
+
 def is_cut(cell, text):
     """Whether a cell is the beginning of a text that is longer, with two dots after it."""
     return cell.endswith("..") and len(cell) < len(text) and text.startswith(cell[:-2])
 
 
 def holds_short(tally, program, what, found, kinds, sector=512):
-    """Counts whether `show --short` prints this table in lines of at most 80 characters, and cuts only what does not
+    """Counts whether `show --short` prints this table in lines of at most 80 columns, and cuts only what does not
     fit."""
     status, out, err = program.run("show", IMAGE, "--short")
     tally.equals(f"show --short of {what}: {err}", 0, status)
     lines = out.splitlines()
-    tally.equals(f"lines of {what} that are too long", [], [line for line in lines if len(line) > WIDTH])
+    tally.equals(f"lines of {what} that are too long", [], [line for line in lines if columns(line) > WIDTH])
     tally.equals(f"GUIDs in {what}", [], re.findall("[0-9a-fA-F]{8}-", out))
     head = [f"{SIZE // sector} sectors of {sector} bytes (16 MiB)", "both copies good"]
     tally.equals(f"the head of {what}", head, lines[:2])
@@ -183,7 +189,7 @@ def holds_short(tally, program, what, found, kinds, sector=512):
             cut += is_cut(cell, text)
             tally.holds(f"{cell!r} is {text!r} of {what}", cell == text.rstrip() or is_cut(cell, text))
         wanted.append(texts)
-    widths = [max([4, *map(len, column)]) for column in zip(*wanted)]
+    widths = [max([4, *map(columns, column)]) for column in zip(*wanted)]
     tally.equals(f"texts of {what} are cut: {cut}", ats[0] + sum(widths) + 2 > WIDTH, cut > 0)
 
 
@@ -203,6 +209,11 @@ def try_short(tally, program):
         holds_short(tally, program, f"random table {number}", make(program, entries), kinds)
     far = {128: entry(FAR - 1, FAR, "w" * 36, ESP, longest[0]), 127: entry(FAR - 1023, FAR, "\x85" * 36, ROOT, UNKNOWN)}
     holds_short(tally, program, "the longest numbers", make(program, dict(sorted(far.items()))), kinds)
+    # Names of 36 characters, in 72 columns, in one, and in 36.
+    for name in "\u540d" * 36, "a" + "\u0301" * 35, "\uff21\u0308" * 18:
+        for kind in LINUX, longest[0]:
+            found = make(program, {1: entry(2048, 4095, name, ESP, kind), 2: entry(8192, 16383, "two", ROOT)})
+            holds_short(tally, program, f"{name} of {kind}", found, kinds)
     make(program, {1: entry(5000, 4000, "back")})
     tally.equals("show --short of a partition that ends before it starts", ["1", "5000", "4000", "linux", "back"],
                  program.run("show", IMAGE, "--short")[1].splitlines()[-1].split())

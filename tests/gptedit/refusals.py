@@ -36,7 +36,7 @@ ROWS = [
     (ADD + ["--size", "1MiB", "--number", "1"], 'partition 1 (2048..133119 64 MiB efi "ESP") already exists'),
     (ADD + ["--size", "1MiB", "--number", "129"], "entry 129 does not exist; the last entry is 128"),
     (ADD + ["--size", "0s"], "the partition would have a size of zero"),
-    (ADD + ["--size", "1MiB", "--align", "0s"], "the alignment must not be zero; use for example --align 1MiB"),
+    (ADD + ["--size", "1MiB", "--align", "0s"], "the alignment must not be zero; use for example 1MiB"),
     (ADD + ["--size", "1MiB", "--align", "100B"], "100B is not a whole number of sectors of 512 bytes"),
     (ADD + ["--size", "1MiB", "--start", "3B"], "3B is not a whole number of sectors of 512 bytes"),
     (ADD + ["--size", "1MiB", "--start", "2048s"], "partitions would overlap"),
@@ -57,7 +57,7 @@ ROWS = [
     (["remove", "disk.img", "2"], "entry 2 is not used"),
     (["remove", "disk.img", "1", "1"], "entry 1 is not used"),
     (["remove", "disk.img", "4294967295"], "entry 4294967295 does not exist; the last entry is 128"),
-    (["free", "disk.img", "--align", "0s"], "the alignment must not be zero; use for example --align 1MiB"),
+    (["free", "disk.img", "--align", "0s"], "the alignment must not be zero; use for example 1MiB"),
     (["new", "disk.img"], "there is a GUID partition table with 1 partition, which would be lost"),
     (["show", "none.img"], "No such file or directory"), (["new", "."], ""), (["new", "/dev/null"], ""),
     (["apply", "disk.img", "none.toml"], "No such file or directory"), (["apply", "disk.img", "."], ""),
@@ -117,6 +117,10 @@ def try_tables(tally, program):
     program.make_image("disk.img", 4 * MIB)
     for words in (["show", "disk.img"], ADD + ["--size", "1s"], ["dump", "disk.img"], ["sort", "disk.img"]):
         refused(tally, program, words, "copy the disk before anything is written to it", wanted=3)
+    program.write("early.toml", b'[[partition]]\ntype = "linux"\nstart = "5s"\nsize = "1MiB"\n')
+    words = ["apply", "disk.img", "early.toml", "--create"]
+    refused(tally, program, words, "lie outside the usable sectors, 34..8158\n")
+    tally.holds("where there is no table, no command that reads one is named", "`" not in program.run(*words)[2])
     start(program)
     with open(program.file("disk.img"), "r+b") as file:
         file.truncate(64 * MIB)

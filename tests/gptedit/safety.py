@@ -287,7 +287,8 @@ def try_own_sectors(tally, program):
                     ended[0] == 1 and f"`gptedit repair {IMAGE} --bounds`" in ended[1])
         runs = program.json("free", IMAGE, "--json")
         tally.holds(f"free offers no sector of the table: {runs}", all(
-            run["start"] >= 34 and run["start"] + run["size"] - 1 <= SIZE // 512 - 34 for run in runs))
+            run["start_sectors"] >= 34 and run["start_sectors"] + run["size_sectors"] - 1 <= SIZE // 512 - 34
+            for run in runs))
         for words in EDITS:
             if words[0] != "remove":  # what lies over the table has to go first
                 refused(tally, program, words, "--bounds", statuses=REFUSED)

@@ -96,6 +96,8 @@ case("start=,size=1M\n", part(1, 1))
 case("start=-,size=-\n", part(1, ALL))
 case("start=+,size=1M\n", part(1, 1))
 case("name=,size=1M\n", part(1, 1))
+case("size=1M, name=\n", part(1, 1), theirs="sfdisk needs a value at the end of a line")
+case("size=1M, type=\n", part(1, 1), theirs="sfdisk needs a value at the end of a line")
 case(",1M,,\n,1M,-,-\n", part(1, 1), part(2, 1))
 case(" , , S\n", part(1, ALL, SWAP))
 case("size=1M,\n", part(1, 1))
@@ -156,6 +158,8 @@ for _text in ("1m", "1mib", "1miB", "1Mib", "1024k", "1024kib", "0x1m"):
 case("2m,1m\n", part(2, 1))
 case("start=4m, size=2m\nsize=1k\n", part(4, 2), table.Entry(LINUX, "", 12288, 12289, 0, ""))
 case("grain: 4m\n,4m\n,4m\n", part(4, 4), part(8, 4))
+case("size=1500K\nsize=1900K\n", table.Entry(LINUX, "", 2048, 5047, 0, ""), table.Entry(LINUX, "", 6144, 9943, 0, ""),
+     theirs="sfdisk rounds sizes with a unit to the grain")
 case("2048,0x1e\n", table.Entry(LINUX, "", 2048, 2077, 0, ""))
 # The forms that the tests of util-linux have.
 case(f"unit: sectors\nlabel: gpt\nlabel-id: {GUID}\n\n/dev/sdx1 : start=2048 size=2048   uuid={GUID}\n"
@@ -171,6 +175,7 @@ case("2 : size=1M\n1 : size=1M\n", part(1, 1), part(2, 1), numbers=[2, 1])
 case("/dev/nvme0n1p2 : size=1M\n", part(1, 1), numbers=[2])
 case(",1M\nwrite\n,2M\n", part(1, 1))
 case(",1M\nquit\n", part(1, 1))
+case("label: gpt\nquit\n", theirs="sfdisk writes nothing")
 case("size=1M, name=\"a, b\"\n", part(1, 1, name="a, b"))
 case("size=1M,name=a\\x20b\n", part(1, 1, name="a b"))
 case("size=1M\t;\ttype=S\n", part(1, 1, SWAP))
@@ -213,6 +218,10 @@ REFUSED = [
     ("size=1M\nlabel: gpt\n", "line 2: start of the partition: ", ""),
     (",1M # comment\n", "line 1: type of the partition: ", ""),
     (",1M\nabort\n", "line 2: start of the partition: ", ""),
+    (",1M\nprint\n", "line 2: start of the partition: ", "sfdisk prints the table"),
+    (",1M\nhelp\n", "line 2: start of the partition: ", "sfdisk prints its help"),
+    ("grain: 0\n,1M\n", "the alignment must not be zero", "sfdisk has its own grain"),
+    ("0 : size=1M\n", "line 1: number of the partition: ", "sfdisk takes the number 1"),
     ("size=1M M\n", 'line 1: "M" is not a key of the partition', ""),
     ("start=++1M\n", "line 1: start of the partition: ", None),
     (",18446744073709551616\n", "line 1: size of the partition: ", ""),

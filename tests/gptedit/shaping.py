@@ -16,6 +16,11 @@ STEP = MIB // 512
 END = SIZE // 512
 KEEP = ", or use --replace to set it"
 
+# Values that no table on the disk has, and what is told of them.
+WITHIN = f"the usable sectors must be within 34..{END - 34} "
+NEVER = [("entries = 0", "the number of entries must not be zero"), ('first-usable = "33s"', WITHIN),
+         (f'last-usable = "{END - 33}s"', WITHIN), ('first-usable = "3000s"\nlast-usable = "2000s"', WITHIN)]
+
 
 def layout_of(found, sections=THREE, form="toml"):
     """A layout with the number of entries and the usable sectors of a table."""
@@ -163,9 +168,10 @@ REFUSED = [
     ('first-usable = "2049s"', "gptedit check", None),
     ('first-usable = "33s"', "34..", None),
     (f'last-usable = "{END - 33}s"', f"..{END - 34}", None),
-    ('first-usable = "9000s"\nlast-usable = "8000s"', "34..", None),
+    (f'first-usable = "{END - 32}s"', "34..", None),
+    ('first-usable = "9000s"\nlast-usable = "8000s"', "line 3: last-usable of the disk: the usable sectors must", None),
     ("entries = 0", "must not be zero", None),
-    ("entries = 300000", "the table would have 300000 entries, but gptedit reads at most 32768", None),
+    ("entries = 300000", "line 2: entries of the disk: it must be a whole number from 1 to 32768", None),
     ("entries = 2", "entry 3 would be used, but the table would have 2 entries", None),
 ]
 
@@ -201,6 +207,13 @@ def try_without(tally, program):
         fresh(program, of(three(STEP)))
         program.write("layout.toml", f"[disk]\n{keys}\n{THREE}".encode())
         refused(tally, program, ["apply", IMAGE, "layout.toml"], keys.split()[0] + " is ", KEEP, lifts="--replace")
+    for keys, text in NEVER:
+        fresh(program, of(three(STEP)))
+        program.write("layout.toml", f"[disk]\n{keys}\n{THREE}".encode())
+        for more in [], ["--replace"]:
+            refused(tally, program, ["apply", IMAGE, "layout.toml", *more], text)
+            err = program.run("apply", IMAGE, "layout.toml", *more).err
+            tally.holds(f"apply of {keys} {more} does not name --replace: {err!r}", "--replace" not in err)
 
 
 def try_scripts(tally, program):
@@ -288,18 +301,19 @@ def try_stops(tally, program):
     return f"{states} states, {lost} lost, {between} between"
 
 
-MANY = "the table would have {} entries, but gptedit reads at most 32768"
+MANY = "it must be a whole number from 1 to 32768, for example 128\n"
 
 
 def try_most(tally, program):
     """No layout makes a table of more entries than gptedit reads, and one of the most is read."""
-    for text in f'[disk]\nguid = "{DISK}"\nentries = {{}}\n', f"label: gpt\nlabel-id: {DISK}\ntable-length: {{}}\n":
+    for text, key in ((f'[disk]\nguid = "{DISK}"\nentries = {{}}\n', "line 3: entries of the disk: "),
+                      (f"label: gpt\nlabel-id: {DISK}\ntable-length: {{}}\n", "line 3: table-length of the headers: ")):
         for count in 32769, 40000, 2**32 - 1:
             program.write("layout.toml", text.format(count).encode())
             fresh(program, of({}, 64 * MIB), 64 * MIB)
-            refused(tally, program, ["apply", IMAGE, "layout.toml", "--replace"], MANY.format(count), statuses=(1,))
+            refused(tally, program, ["apply", IMAGE, "layout.toml", "--replace"], key + MANY, statuses=(1,))
             program.make_image(IMAGE, 64 * MIB)
-            refused(tally, program, ["apply", IMAGE, "layout.toml", "--create"], MANY.format(count), statuses=(1,))
+            refused(tally, program, ["apply", IMAGE, "layout.toml", "--create"], key + MANY, statuses=(1,))
         program.write("layout.toml", text.format(32768).encode())
         goes(tally, program, ["apply", IMAGE, "layout.toml", "--create"])
         holds_table(tally, program, "a layout of 32768 entries", of({}, 64 * MIB, count=32768))

@@ -286,6 +286,28 @@ def try_refusals(tally, program):
         tally.equals(f"the code of {words}: {ended}", (1, code), (ended[0], json.loads(ended[1])["error"]["code"]))
 
 
+# Places of which rounding leaves nothing, and what is said of that; and places of which nothing is left without it.
+ROUNDED_OFF = [
+    (["add", IMAGE, "--type", "linux", "--size", "1000KB"], "less than the alignment of 2048s (1048576 bytes)"),
+    (["add", IMAGE, "--type", "linux", "--size", "0.5MiB"], "is rounded down to zero"),
+    (["add", IMAGE, "--type", "linux", "--size", "0.1%"], "is rounded down to zero"),
+    (["add", IMAGE, "--type", "linux", "--size", "1.5MiB", "--align", "4MiB"], "the alignment of 8192s (4194304 bytes)"),
+    (["resize", IMAGE, "1", "1000KB"], "is rounded down to zero"),
+    (["add", IMAGE, "--type", "linux", "--start", "1MiB", "--end", "1500KB"], "the end is rounded down to 2048s (1048576 bytes)")]
+NOTHING_LEFT = [["add", IMAGE, "--type", "linux", "--size", "0%"], ["add", IMAGE, "--type", "linux", "--size", "0s"],
+                ["add", IMAGE, "--type", "linux", "--start", "2MiB", "--end", "2MiB"], ["resize", IMAGE, "1", "--", "-100MiB"]]
+
+
+def try_rounded_off(tally, program):
+    """A size of zero: the refusal says whether it was rounded."""
+    make(program, HELD, LENGTH)
+    for words, text in ROUNDED_OFF:
+        refused(tally, program, words, text)
+    for words in NOTHING_LEFT:
+        ended = program.run(*words)
+        tally.holds(f"{words} is refused, and nothing was rounded: {ended}", ended[0] == 1 and "rounded" not in ended[2])
+
+
 # What gptedit is told, and what parted, sgdisk and sfdisk are told for the same partition.
 PEERS = [
     (["--start", "1MiB", "--end", "100MiB"], [["parted", "-s", IMAGE, "unit", "MiB", "mkpart", "x", "1MiB", "100MiB"]]),
@@ -345,4 +367,4 @@ def try_negative(tally, program):
 
 
 SUBJECTS = {"negative": try_negative, "sizes": try_sizes, "places": try_places, "layouts": try_layouts, "figures": try_figures, "resizing": try_resizing, "fitted": try_fitted,
-            "wrong": try_wrong, "refusals": try_refusals, "peers": try_peers}
+            "wrong": try_wrong, "refusals": try_refusals, "rounded off": try_rounded_off, "peers": try_peers}

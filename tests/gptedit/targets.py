@@ -76,6 +76,8 @@ def try_not_selecting(tally, program):
         for words in (["set", "disk.img", word, "--name", "new"], ["resize", "disk.img", word, "max"],
                       ["remove", "disk.img", "2", word], ["grow", "disk.img", word]):
             refused(tally, program, words, text)
+    for words, number in (["2", "2"], 2), (["name=root", "3"], 3), (["2", "3", "5", f"guid={ROOT}"], 3):
+        refused(tally, program, ["remove", "disk.img", *words], f"entry {number} is named twice; name it once")
     twice = {**ENTRIES, 6: ENTRIES[6]._replace(guid=HOME)}
     make(program, twice)
     refused(tally, program, ["set", "disk.img", f"guid={HOME}", "--name", "new"],

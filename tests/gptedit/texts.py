@@ -1,5 +1,6 @@
 """Names and layouts as texts: what is escaped, what a layout keeps, and which texts are no layouts."""
 import json
+import shlex
 import struct
 import time
 import tomllib
@@ -30,7 +31,7 @@ HEADERS = [
     ('sector-size = "{}B"', "sector-size: {}", "sector-size", "sector-size", 512, 4096),
     ("entries = {}", "table-length: {}", "entries", "table-length", 128, 56),
     ('first-usable = "{}s"', "first-lba: {}", "first-usable", "first-lba", 34, 2048),
-    ('last-usable = "{}s"', "last-lba: {}", "last-usable", "last-lba", 262110, 262143),
+    ('last-usable = "{}s"', "last-lba: {}", "last-usable", "last-lba", 262110, 262000),
 ]
 
 # Layouts with a value that is none, and what is told of each.
@@ -39,6 +40,14 @@ WRONG = [
     ("[disk]\nentries = -1\n", "line 2: entries of "),
     ("[disk]\nentries = 4294967296\n", "line 2: entries of "),
     ("label: gpt\ntable-length: 4294967296\n", "line 2: table-length of "),
+    ('[disk]\nfirst-usable = "9000s"\nlast-usable = "8000s"\n', "line 3: last-usable of the disk: the usable sectors "
+     "must not end before they begin"),
+    ('[disk]\nlast-usable = "98s"\nfirst-usable = "100s"\n', "line 2: last-usable of the disk: the usable sectors "),
+    ("label: gpt\nfirst-lba: 9000\nlast-lba: 8000\n", "line 3: last-lba of the headers: the usable sectors must not "),
+    ("label: gpt\nlast-lba: 98\nfirst-lba: 100\n", "line 3: first-lba of the headers: the usable sectors must not "),
+    # No sector may be usable, as on the smallest disk.
+    ('[disk]\nfirst-usable = "34s"\nlast-usable = "33s"\n', "last-usable is 33 in the layout, but 262110 on the disk"),
+    ("label: gpt\nfirst-lba: 34\nlast-lba: 33\n", "last-lba is 33 in the layout, but 262110 on the disk"),
     ("[disk]\nfirst-usable = 34\n", "line 2: first-usable of the disk: it must be a text with the unit s, for example "
      '"34s"'),
     ('[disk]\nfirst-usable = "34"\n', "line 2: first-usable of the disk: it must be a whole number with the unit s"),
@@ -292,6 +301,20 @@ def try_many(tally, program):
     return f"{count} partitions in {taken:.1f} s"
 
 
-SUBJECTS = {"escapes": try_escapes, "quotes and paths": try_quotes, "names as units": try_units,
+def try_shell(tally, program):
+    """A command that a message names is read by a shell, whatever the path is."""
+    for name in ["my disk.img", "it's.img", "a$(id)`id`.img", "*?;&|<>#~.img", "-disk.img", "(\u00e9)\\\".img", "plain-1_2.img"]:
+        path = f"./{name}" if name.startswith("-") else name
+        program.make_image(name, 4 * MIB)
+        program.run("new", path, "--guid", DISK)
+        told = program.run("set", path, "9", "--name", "x")[2]
+        advice = told.split("`gptedit", 1)[1].split("` lists", 1)[0]
+        tally.equals(f"the command for {name}", ["show", path], shlex.split(advice))
+        tally.equals(f"quotes for {name}", shlex.quote(name) != name, "'" in advice)
+    told = program.run("set", "--name", "x", "--", "-disk.img", "9")[2]
+    tally.contains("a path that begins with a hyphen", "`gptedit show ./-disk.img`", told)
+
+
+SUBJECTS = {"escapes": try_escapes, "paths for a shell": try_shell, "quotes and paths": try_quotes, "names as units": try_units,
             "headers of layouts": try_headers, "fields in dumps": try_fields, "empty layouts": try_empty,
             "large layouts": try_many}

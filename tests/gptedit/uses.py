@@ -1,5 +1,6 @@
 """Devices in use: on loop devices, where root may make them; else a line says so."""
 import os
+import re
 import subprocess
 
 from harness import table
@@ -102,6 +103,53 @@ def try_uses(tally, program):
                 holder.kill()
                 holder.wait()
     return None
+
+
+# Changes of a device with partitions 1, 2 and 5, one after another; and the commands that are named after each, where
+# DISK is the device. partx -u leaves what is gone or starts elsewhere, and without a range numbers above their count.
+TOLD = [
+    (["set", "2", "--name", "x"], "partx -u DISK"), (["remove", "2"], "partx -d --nr 2 DISK; partx -u DISK"),
+    (["add", "--type", "linux", "--size", "1MiB", "--number", "9"], "partx -u --nr 1:9 DISK"),
+    (["resize", "1", "2MiB"], "partx -u DISK"),
+    (["set", "5", "--number", "2"], "partx -d --nr 5 DISK; partx -u DISK"),
+    (["set", "9", "--number", "4"], "partx -d --nr 9 DISK; partx -u --nr 1:4 DISK"),
+    (["set", "1", "--number", "7"], "partx -d --nr 1 DISK; partx -u --nr 1:7 DISK"),
+    (["sort"], "partx -d DISK; partx -u DISK"), (["remove", "1", "2", "3"], "partx -d DISK"),
+    (["add", "--type", "linux", "--size", "1MiB"], "partx -u DISK"), (["new", "--overwrite"], "partx -d DISK"),
+    (["add", "--type", "linux", "--size", "1MiB"], "partx -u DISK"), (["wipe", "--overwrite"], "partx -d DISK")]
+
+
+def try_told(tally, program):
+    """The commands that are named after a change tell the kernel of it."""
+    if not can_loop(program):
+        return "no loop devices for this user: left out"
+    make(program, {1: entry(2048, 10239), 2: entry(12288, 20479, "two", ROOT), 5: entry(20480, 22527, "five", DISK.replace("0", "5"))})
+    with Loop(program) as loop:
+        loop.call("partx", "-u", "--nr", "1:5", loop.path)
+        for (command, *words), wanted in TOLD:
+            ended = program.plain(command, loop.path, *words)
+            line = re.search("run `(.*)` so that the kernel", ended[2])
+            tally.holds(f"{command} {words}: {ended}", ended[0] == 0 and line)
+            if line:
+                found = line[1].replace(loop.path, "DISK")
+                tally.equals(f"what is named after {command} {words}", wanted, found)
+                tally.holds(f"{line[1]} is done", loop.call("sh", "-c", line[1]))
+                loop.call("blockdev", "--flushbufs", loop.path)
+                after = table.read(program.file(IMAGE))
+                there_now = {number: (one.first, one.last) for number, one in after.entries.items()} if after else {}
+                tally.equals(f"what the kernel knows after {command} {words}", there_now, known(loop.path))
+    return None
+
+
+def known(path):
+    """The partitions that the kernel knows of a device: the first and last sectors by their numbers."""
+    folder, found = "/sys/block/" + os.path.basename(path), {}
+    for name in os.listdir(folder):
+        if os.path.exists(f"{folder}/{name}/partition"):
+            number, first, count = (int(open(f"{folder}/{name}/{file}", encoding="ascii").read())
+                                    for file in ("partition", "start", "size"))
+            found[number] = first, first + count - 1
+    return found
 
 
 USES = ["mounted", "mounted in another namespace", "a loop over the partition", "the image of a loop",
@@ -266,6 +314,6 @@ def try_short(tally, program):
     return None
 
 
-SUBJECTS = {"devices in use": try_uses, "a use of the whole disk": try_whole, "a Btrfs over two disks": try_btrfs,
+SUBJECTS = {"devices in use": try_uses, "what the kernel is told": try_told, "a use of the whole disk": try_whole, "a Btrfs over two disks": try_btrfs,
             "no /proc, no /sys": try_hidden, "devices of 4096 bytes": try_sizes,
             "devices that are too short": try_short}

@@ -44,6 +44,7 @@ COMMANDS = {
     "grow": (["grow", "IMAGE"], ""),
     "repair": (["repair", "IMAGE"], ""),
     "repair --bounds": (["repair", "IMAGE", "--bounds", "--overwrite"], ""),
+    "repair --fit": (["repair", "--fit", "IMAGE"], ""),
     "wipe": (["wipe", "IMAGE", "--overwrite"], ""),
 }
 

@@ -3,7 +3,7 @@
 use crate::failure::{Failure, refuse, refuse_failed, refuse_plain};
 use crate::looking::layout_text;
 use gptedit_report::{Commands, Message, Reason};
-use gptedit_values::Escaped;
+use gptedit_values::ShellWord;
 use gptman::GPT;
 use std::alloc::AllocError;
 use std::fs::File;
@@ -37,7 +37,7 @@ struct NoBackup<'a> {
 impl fmt::Display for NoBackup<'_> {
     fn fmt<W: fmt::Write>(&self, f: &mut fmt::Formatter<W>) -> fmt::Result {
         f.write_str("there is no good table for --backup to save\n")?;
-        let image = Escaped(self.image);
+        let image = ShellWord(self.image);
         write!(
             f,
             "save what `gptedit salvage {image}` prints, then run this without --backup"

@@ -8,6 +8,7 @@ use crate::mbr::change_mbr;
 use crate::planning::{Plan, make_plan};
 use crate::reporting::{Done, report};
 use crate::task::{Became, Task, Work};
+use crate::telling::kernel_line;
 use gptedit_look::{Look, Purpose, clear_signatures};
 use gptedit_words::Options;
 use std::alloc::Global;
@@ -15,8 +16,8 @@ use std::fs::File;
 use std::io::Write;
 use std::rt::Files;
 
-/// Makes a change, or with `is_dry` reports what it would do. Nothing is written before the last check. Returns whether
-/// something was written.
+/// Makes a change, or with `is_dry` reports what it would do. Nothing is written before the last check. Returns the line
+/// that names the command for the kernel, if a block device was written.
 pub fn change<R, W: Write>(
     rt: &R,
     out: &mut W,
@@ -25,7 +26,7 @@ pub fn change<R, W: Write>(
     task: &mut Task,
     options: &Options<'_>,
     how: How,
-) -> Result<bool, Failure>
+) -> Result<Option<String>, Failure>
 where
     R: Files<File = File> + AllocGlobal + Clone + Drop,
 {
@@ -47,7 +48,10 @@ where
         may_lose: may_lose(look, task),
     };
     report(out, alloc, image, look, &done, how)?;
-    Ok(!how.is_dry && is_needed)
+    if how.is_dry || !is_needed {
+        return Ok(None);
+    }
+    Ok(kernel_line(alloc, image, plan.was.as_ref(), Some(&plan.next))?)
 }
 
 // Reports whether a crash during the write may leave neither table. That includes an old table of another sector size.

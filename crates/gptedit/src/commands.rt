@@ -9,7 +9,7 @@ use crate::layouts::{
 };
 use crate::measuring::measured;
 use crate::planning::{ends_with_disk, fit_bounds};
-use crate::selecting::{number_of, selected};
+use crate::selecting::{number_of, refuse_twice, selected};
 use crate::task::Task;
 use crate::wiping::clear;
 use crate::{looking, making, tasks};
@@ -19,7 +19,7 @@ use gptedit_core::{
 use gptedit_look::{Look, Purpose};
 use gptedit_report::{Commands, Message, Reason, types_json};
 use gptedit_text::{Parsed, StatedPlace};
-use gptedit_values::Escaped;
+use gptedit_values::ShellWord;
 use gptedit_words::{Change, Command, ImageRequest, Lock, Options};
 use gptman::GPT;
 use std::alloc::{AllocError, Global};
@@ -140,8 +140,7 @@ impl Asked<'_> {
     }
 }
 
-// Makes a change, and names the command by which the kernel rereads the table. A layout is read before the image is
-// opened.
+// Makes a change, and names the command by which the kernel learns of it. A layout is read before the image is opened.
 fn write<R, W: Write>(
     rt: &R,
     out: &mut W,
@@ -161,15 +160,12 @@ where
     let mut image = Image::open(rt, asked.image, &asked.opening())?;
     let usual = usual_size(&change, parsed.as_ref());
     let look = image.look(alloc, usual)?;
-    let is_written = make(rt, out, &mut image, look, change, parsed, &asked)?;
+    let kernel_line = make(rt, out, &mut image, look, change, parsed, &asked)?;
     for line in bootable.iter() {
         let _ = eprintln!(rt; "line {line}: bootable sets the attribute legacy-boot");
     }
-    if is_written {
-        if let Some(device) = &image.opened.device {
-            let (command, name) = (device.command(), Escaped(image.name));
-            let _ = eprintln!(rt; "run `{command} {name}` so that the kernel reads the new table");
-        }
+    if let Some(line) = &kernel_line {
+        let _ = eprintln!(rt; "{line}");
     }
     Ok(())
 }
@@ -185,7 +181,7 @@ fn usual_size(change: &Change<'_>, parsed: Option<&Parsed>) -> Option<u64> {
     }
 }
 
-// Makes a change. Returns whether something was written.
+// Makes a change. Returns the line that names the command for the kernel, if a block device was written.
 fn make<R, W: Write>(
     rt: &R,
     out: &mut W,
@@ -194,7 +190,7 @@ fn make<R, W: Write>(
     wanted: Change<'_>,
     parsed: Option<Parsed>,
     asked: &Asked<'_>,
-) -> Result<bool, Failure>
+) -> Result<Option<String>, Failure>
 where
     R: Files<File = File> + RandomSource + Eprint + AllocGlobal + Clone + Drop,
 {
@@ -232,6 +228,9 @@ where
             target: None,
             has_random_guids: false,
         } => return Ok(tasks::grow(rt.alloc())),
+        Change::Repair {
+            has_usual_bounds: false,
+        } if is_fitted && !ends_with_disk(table, look) => return Ok(tasks::grow(rt.alloc())),
         Change::Repair { has_usual_bounds } => {
             return tasks::repair(rt, image, look, has_usual_bounds);
         }
@@ -322,7 +321,9 @@ where
         }
         (Change::SetDisk(guid), _) => tasks::disk_guid(rt, guid)?,
         (Change::Remove(targets), _) => {
-            selected(alloc, image.name, removal(alloc, table, &targets))?
+            let layout = selected(alloc, image.name, removal(alloc, table, &targets))?;
+            refuse_twice(alloc, image.name, table, &layout)?;
+            layout
         }
         (
             Change::Grow {
@@ -405,10 +406,10 @@ fn shape_of(
 ) -> Result<Option<Shape>, Failure> {
     let Applied { file, is_replacing } = applied;
     if !is_fitted || ends_with_disk(table, look) {
-        return shape_for(alloc, file, parsed, table, is_replacing);
+        return shape_for(alloc, image, look, file, parsed, table, is_replacing);
     }
     let fitted = fit_bounds(table, look.size)?;
-    match shape_for(alloc, file, parsed, &fitted, is_replacing)? {
+    match shape_for(alloc, image, look, file, parsed, &fitted, is_replacing)? {
         Some(_) => Err(refuse(alloc, image, &GrowFirst(image))),
         None => Ok(None),
     }
@@ -422,9 +423,9 @@ impl fmt::Display for GrowFirst<'_> {
     fn fmt<W: fmt::Write>(&self, f: &mut fmt::Formatter<W>) -> fmt::Result {
         writeln!(
             f,
-            "--fit does not change the number of entries or the usable sectors of a layout"
+            "a layout applied with --fit cannot change the number of entries or the usable sectors"
         )?;
-        write!(f, "run `gptedit grow {}` first", Escaped(self.0))
+        write!(f, "run `gptedit grow {}` first", ShellWord(self.0))
     }
 }
 

@@ -5,7 +5,7 @@ use gptedit_busy::{Holder, Lock, OpenError, Opened};
 use gptedit_look::salvage::salvage;
 use gptedit_look::{Look, Looked, find_format, look};
 use gptedit_report::{Commands, Lift, Message, NoTableText, Reason};
-use gptedit_values::Escaped;
+use gptedit_values::ShellWord;
 use gptman::sizes::MAX_ENTRY_COUNT;
 use gptman::{Error, FileDisk};
 use std::alloc::{AllocError, Global};
@@ -204,7 +204,7 @@ struct OtherFormat<'a> {
 
 impl fmt::Display for OtherFormat<'_> {
     fn fmt<W: fmt::Write>(&self, f: &mut fmt::Formatter<W>) -> fmt::Result {
-        let image = Escaped(self.image);
+        let image = ShellWord(self.image);
         writeln!(f, "the format of the image is {}, not raw", self.format)?;
         if !is_of_qemu(self.format) {
             return f.write_str("convert it to a raw image with a program for that format");
@@ -248,7 +248,7 @@ struct TooMany<'a> {
 
 impl fmt::Display for TooMany<'_> {
     fn fmt<W: fmt::Write>(&self, f: &mut fmt::Formatter<W>) -> fmt::Result {
-        let (count, image) = (self.count, Escaped(self.image));
+        let (count, image) = (self.count, ShellWord(self.image));
         writeln!(
             f,
             "a header of the table counts {count} entries, but gptedit reads at most {MAX_ENTRY_COUNT}"

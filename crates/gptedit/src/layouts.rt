@@ -1,19 +1,22 @@
 //! Reads layouts from files.
 
 use crate::failure::{Failure, refuse, refuse_asked, refuse_error, refuse_failed, refuse_plain};
-use gptedit_core::{MatchedLayout, RequestedLayout, Shape, Stop, match_layout, number_added};
-use gptedit_report::{NotLayoutText, Reason};
+use crate::planning::{copy_of, ends_with_disk};
+use gptedit_core::{
+    MatchedLayout, Refusal, RequestedLayout, SectorRange, Shape, Stop, match_layout, number_added,
+};
+use gptedit_look::Look;
+use gptedit_report::{Edges, NotLayoutText, Reason};
 use gptedit_text::{
     Header, MAX_LAYOUT_BYTES, NotLayout, Parsed, is_backup, is_script, read_additions, read_backup,
     read_layout, read_script,
 };
 use gptman::GPT;
-use gptman::sizes::MAX_ENTRY_COUNT;
 use std::alloc::Global;
 use std::fs::File;
 use std::io::{ErrorKind, Read};
 use std::rt::Files;
-use std::{fmt, io, mem};
+use std::{io, mem};
 
 /// Reads a layout, an `sfdisk` script or an `sgdisk` backup from a file; `-` is standard input. Call it before the image
 /// is opened. Otherwise the image is locked while standard input is read, and may get the descriptor of a closed standard
@@ -34,27 +37,7 @@ pub fn read_asked<R: Files<File = File> + Input + AllocGlobal>(
             read_layout(alloc, text.as_str())
         }
     };
-    let parsed = parsed.map_err(|error| not_a_layout(alloc, file, error))?;
-    match parsed.header.entries {
-        Some(count) if count > MAX_ENTRY_COUNT => {
-            Err(refuse_failed(alloc, file, Reason::BadLayout, &ManyEntries(count)))
-        }
-        _ => Ok(parsed),
-    }
-}
-
-// Message: the layout states more entries than `gptedit` reads.
-#[derive(Clone, Copy)]
-struct ManyEntries(u32);
-
-impl fmt::Display for ManyEntries {
-    fn fmt<W: fmt::Write>(&self, f: &mut fmt::Formatter<W>) -> fmt::Result {
-        let count = self.0;
-        write!(
-            f,
-            "the table would have {count} entries, but gptedit reads at most {MAX_ENTRY_COUNT}"
-        )
-    }
+    parsed.map_err(|error| not_a_layout(alloc, file, error))
 }
 
 /// Reads an `sfdisk` script whose partitions are new ones, as `read_asked` does.
@@ -180,6 +163,8 @@ pub fn added(
 /// whose header does not match the table; with it, only one for sectors of another size.
 pub fn shape_for(
     alloc: Global,
+    image: &str,
+    look: &Look,
     file: &str,
     parsed: &Parsed,
     table: &GPT,
@@ -190,12 +175,41 @@ pub fn shape_for(
     } else {
         parsed.header.check(parsed.form, table, true)
     };
+    let next = parsed.header.shape().complete(table);
     if let Err(other) = checked {
+        if other.is_settable {
+            refuse_shape(alloc, image, look, table, next)?;
+        }
         return Err(refuse_failed(alloc, file, Reason::LayoutMismatch, &other));
     }
     let is = Header::of(table).shape().complete(table);
-    let next = parsed.header.shape().complete(table);
     Ok(if next == is { None } else { Some(next) })
+}
+
+// Refuses a shape that no table on the disk has, so that `--replace` would not set it.
+fn refuse_shape(
+    alloc: Global,
+    image: &str,
+    look: &Look,
+    table: &GPT,
+    shape: Shape,
+) -> Result<(), Failure> {
+    let mut shaped = copy_of(table)?;
+    shaped.header.number_of_partition_entries = shape.entries;
+    shaped.header.first_usable_lba = shape.first_usable;
+    shaped.header.last_usable_lba = shape.last_usable;
+    let edges = Edges::of(&shaped, look.size);
+    let refusal = if shape.entries == 0 || !edges.have_room() {
+        Refusal::TooSmallFor(shape.entries)
+    } else if ends_with_disk(table, look) && (edges.are_over() || edges.are_reversed()) {
+        Refusal::OutOfBounds(SectorRange {
+            first: edges.least,
+            last: edges.most,
+        })
+    } else {
+        return Ok(());
+    };
+    Err(refuse_asked(alloc, image, Some(&shaped), shaped.sector_size, &refusal))
 }
 
 /// Returns the table with the usable sectors and the entries of the shape.

@@ -27,6 +27,7 @@ mod reporting;
 mod selecting;
 mod task;
 mod tasks;
+mod telling;
 mod using;
 mod wiping;
 

@@ -1,13 +1,18 @@
 //! Measures the places that are stated for partitions against the table.
 
+ghost use Rattle.std.specs.Prelude.{◌<◌};
+
 use crate::failure::{Failure, refuse};
 use crate::image::Image;
 use crate::planning::ends_with_disk;
 use crate::task::Became;
 use crate::tasks;
-use gptedit_core::{Amount, Asked, MeasuredRequest, RequestedLayout, Size, measure_request};
+use gptedit_core::{
+    Amount, Asked, Extent, MeasuredRequest, RequestedLayout, Scale, Size, Unmeasured,
+    measure_request,
+};
 use gptedit_look::Look;
-use gptedit_report::{RoundedText, UnmeasuredText};
+use gptedit_report::{RoundedOff, RoundedText, UnmeasuredText};
 use gptedit_text::StatedPlace;
 use gptman::GPT;
 use std::alloc::AllocGlobal;
@@ -116,9 +121,35 @@ fn measured_request<R: AllocGlobal + Eprint>(
                 unmeasured,
                 number,
                 sector_size,
+                rounded: rounded_off(table, align, place.extent, unmeasured),
             };
             Err(refuse(rt.alloc(), image.name, &text))
         }
+    }
+}
+
+// Returns what was rounded down, if it left no size.
+fn rounded_off(
+    table: &GPT,
+    align: Amount,
+    extent: Option<Extent>,
+    unmeasured: Unmeasured,
+) -> Option<RoundedOff>
+    requires { 0 < table.now.sector_size }
+{
+    let (Unmeasured::NoSize, Ok(scale)) = (unmeasured, Scale::of(table, align)) else {
+        return None;
+    };
+    match extent? {
+        Extent::Size(measure) => match scale.length(measure) {
+            Ok(length) if length.is_rounded => Some(RoundedOff::Size(scale.align)),
+            _ => None,
+        },
+        Extent::End(position) => match scale.sector(position) {
+            Ok(end) if end.is_rounded => Some(RoundedOff::End(end.sectors)),
+            _ => None,
+        },
+        _ => None,
     }
 }
 

@@ -10,8 +10,10 @@ use crate::using::UseText;
 use gptedit_busy::find_users;
 use gptedit_core::{Refusal, Shape};
 use gptedit_look::{Look, MbrChange, MbrKind, Obstacle, Purpose, What, find_obstacle};
-use gptedit_report::{Commands, CutText, Edges, Message, ObstacleText, Reason, Remains};
-use gptedit_values::Escaped;
+use gptedit_report::{
+    Commands, CutText, Edges, Message, NoRoomText, ObstacleText, OtherLayoutText, Reason, Remains,
+};
+use gptedit_values::ShellWord;
 use gptedit_words::Options;
 use gptman::GPT;
 use std::alloc::{AllocError, Global};
@@ -66,7 +68,8 @@ where
     if task.purpose == Purpose::Edit {
         refuse_bounds(alloc, image.name, look, task.only_removes)?;
     }
-    let mut plan = draft(alloc, image, look, task)?;
+    let is_fitted = options.is_fitted || task.mbr == Purpose::Fit;
+    let mut plan = draft(alloc, image, look, task, is_fitted)?;
     if !options.may_overwrite {
         refuse_obstacles(alloc, image, look, task, &plan)?;
     }
@@ -103,12 +106,13 @@ fn find_replaced(
     }
 }
 
-// Runs the task as a dry run.
+// Runs the task as a dry run. `is_fitted` says whether the command fits the table to the disk.
 fn draft(
     alloc: Global,
     image: &mut Image<'_>,
     look: &Look,
     task: &mut Task,
+    is_fitted: bool,
 ) -> Result<Plan, Failure> {
     let sector_size = look.sector_size;
     match task.run(alloc, image, sector_size, true)? {
@@ -131,6 +135,7 @@ fn draft(
             image,
             look,
             task,
+            is_fitted,
             table.as_ref(),
             &refusal,
         )),
@@ -143,9 +148,14 @@ fn refuse_task(
     image: &Image<'_>,
     look: &Look,
     task: &Task,
+    is_fitted: bool,
     table: Option<&GPT>,
     refusal: &Refusal,
 ) -> Failure {
+    let is_unfit = is_fitted && matches!(refusal, Refusal::NotLaidOut | Refusal::TooSmall);
+    if let (true, Some(table)) = (is_unfit, table) {
+        return refuse_unfit(alloc, image, look, table, refusal);
+    }
     if let (Some(shape), Some(table)) = (task.shape(), table) {
         return refuse_shaped(alloc, image.name, shape, table, refusal);
     }
@@ -168,6 +178,31 @@ fn refuse_task(
         }
     }
     refuse_asked(alloc, image.name, table, look.sector_size, refusal)
+}
+
+// Returns the refusal of a table that cannot be fitted to the disk. It does not name `grow`, which is refused too.
+fn refuse_unfit(
+    alloc: Global,
+    image: &Image<'_>,
+    look: &Look,
+    table: &GPT,
+    refusal: &Refusal,
+) -> Failure {
+    let is_device = image.opened.device.is_some();
+    let image = image.name;
+    if let Some(text) = NoRoomText::of(table, look.size, is_device, image) {
+        return refuse(alloc, image, &text);
+    }
+    let edges = Edges::of(table, look.size);
+    if !edges.have_room() || matches!(refusal, Refusal::TooSmall) {
+        let (size, refusal) = (look.sector_size, Refusal::TooSmall);
+        return refuse_asked(alloc, image, Some(table), size, &refusal);
+    }
+    let text = OtherLayoutText { table, image };
+    if text.entries_sector().is_none() && ends_with_disk(table, look) && edges.are_over() {
+        return refuse(alloc, image, &OverBounds { edges, image });
+    }
+    refuse(alloc, image, &text)
 }
 
 // Returns the refusal of a task that gives the table another shape. Its text is about the new shape.
@@ -283,7 +318,7 @@ struct OverBounds<'a> {
 impl fmt::Display for OverBounds<'_> {
     fn fmt<W: fmt::Write>(&self, f: &mut fmt::Formatter<W>) -> fmt::Result {
         writeln!(f, "{}", self.edges)?;
-        let image = Escaped(self.image);
+        let image = ShellWord(self.image);
         write!(f, "`gptedit repair {image} --bounds` sets the usual bounds")
     }
 }

@@ -6,6 +6,7 @@ use crate::failure::{Failure, refuse, refuse_error};
 use crate::image::Image;
 use crate::planning::refuse_users;
 use crate::reporting::DRY;
+use crate::telling::kernel_line;
 use gptedit_look::{Look, MbrKind, What, wipe};
 use gptedit_report::{Lift, Message, Reason, wiped_json};
 use gptedit_words::Options;
@@ -14,8 +15,8 @@ use std::fs::File;
 use std::io::Write;
 use std::rt::Files;
 
-/// Clears both copies of the table, the headers at each sector size, and a protective MBR. Returns whether something
-/// was written.
+/// Clears both copies of the table, the headers at each sector size, and a protective MBR. Returns the line that names
+/// the command for the kernel, if a block device was written.
 pub fn clear<R, W: Write>(
     rt: &R,
     out: &mut W,
@@ -23,7 +24,7 @@ pub fn clear<R, W: Write>(
     look: Look,
     options: &Options<'_>,
     how: How,
-) -> Result<bool, Failure>
+) -> Result<Option<String>, Failure>
 where
     R: Files<File = File> + AllocGlobal + Clone + Drop,
 {
@@ -57,7 +58,10 @@ where
     } else {
         report(out, is_needed, kind, how.is_dry)?;
     }
-    Ok(is_needed && !how.is_dry)
+    if how.is_dry || !is_needed {
+        return Ok(None);
+    }
+    Ok(kernel_line(alloc, image, look.table.as_ref(), None)?)
 }
 
 // Reports whether there is anything to clear.

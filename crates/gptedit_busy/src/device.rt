@@ -52,13 +52,9 @@ impl Device {
         Ok(None)
     }
 
-    /// Returns the command that makes the kernel read a new table, even while a partition is mounted.
-    pub fn command(&self) -> &'static str {
-        if self.is_mapped {
-            "kpartx -u"
-        } else {
-            "partx -u"
-        }
+    /// Reports whether it is a device-mapper device.
+    pub fn is_mapped(&self) -> bool {
+        self.is_mapped
     }
 
     /// Returns the whole device, and its partitions that the kernel knows.

@@ -1,5 +1,5 @@
 -- A layout is applied again to the table that it made.
-use Rattle.std.proofs.Common.{◌≡◌, ◌≢◌, ◌≤◌, ◌⊎◌, inl, inr, ℕ, ◌-◌, List, [], ◌∷◌, refl, sym, ap, ◌∙◌, subst, arith, zero, suc, IsTrue, Bool, true, false, length}
+use Rattle.std.proofs.Common.{◌≡◌, ◌≢◌, ◌≤◌, ◌⊎◌, inl, inr, ℕ, ◌-◌, List, [], ◌∷◌, refl, sym, ap, ◌∙◌, subst, arith, suc, IsTrue, Bool, true, false, length}
 use Rattle.std.specs.Prelude.{Option, Some, None, Result, Ok, Err, All, nat_eq, nat_le, not, slice_get, unwrap_or, if◌then◌else◌}
 use Rattle.std.proofs.lemmas.Bool.{eqb-false, eqb-true, leb-true}
 use Rattle.std.proofs.lemmas.List.{length-set}
@@ -20,14 +20,17 @@ use Rattle.gptedit_core.specs.declared.asked.RequestedLayout.{RequestedLayout}
 use Rattle.gptedit_core.specs.declared.asked.Mode.{Mode}
 use Rattle.gptedit_core.specs.declared.asked.Mode.TheVariants.{Become}
 use Rattle.gptedit_core.specs.declared.place.Place.{Place}
+use Rattle.gptedit_core.specs.declared.place.Place.TheVariants.{At}
 use Rattle.gptedit_core.specs.declared.refusal.Refusal.{Refusal}
 use Rattle.gptedit_core.specs.declared.refusal.Refusal.TheVariants.{NoEntry, NoType}
 use Rattle.gptedit_core.specs.declared.resolve.ResolvedPartition.{ResolvedPartition}
 use Rattle.gptedit_core.specs.declared.plan.Job.TheVariants.{Apply}
+use Rattle.gptedit_core.proofs.Requested.{asked_same}
 use Rattle.gptedit_core.proofs.Dumped.{equal_entries, own_part, own_there, used_is, with_used, HasNumber, IsOwn, OwnedBy}
 use Rattle.gptedit_core.proofs.Kept.{done_keeps}
 use Rattle.gptedit_core.proofs.Extended.{all_settled, extended_same, idle, settled_as, AllSettled, OnlyEnd}
-use Rattle.gptedit_core.proofs.Placed.{last_end, placed_align, placed_keeps, placed_there}
+use Rattle.gptedit_core.proofs.Exact.{exact, unnamed_more}
+use Rattle.gptedit_core.proofs.Placed.{last_end, placed_align, placed_keeps, placed_there, AreExact}
 use Rattle.gptedit_core.proofs.Same.{cleared_same, put_same, removed_same}
 use Rattle.gptedit_core.proofs.Steps.{and_then_ok, else_ok}
 
@@ -105,10 +108,25 @@ is_first g mode a random i p number_is is =
     let same : i ≡ n = (given g a i n number_is number.1).0 in
     subst (IsFirst a i) end.1 (record { number = same; x = entry_there used random; used = end.0; entry = refl })
 
+-- Its requested place.
+pub place_first : (g : GPT) (mode : Mode) (a : Asked) (random : List ℕ) (p : ResolvedPartition) → resolved g mode a random ≡ Ok p
+    → place_asked mode a p.number (used_at g p.number) g.sector_size ≡ Ok p.place
+place_first g mode a random p is =
+    let number = and_then_ok (number_asked g a) (partition_at g mode a random) p is in
+    let i : ℕ = number.0 in
+    let used = used_at g i in
+    let e : GPTPartitionEntry = entry_asked a used random in
+    let last : Place → Result ResolvedPartition Refusal = λ place. if is_unused e then Err (NoType i) else Ok (record { number = i; entry = e; place = place }) in
+    let use_of = and_then_ok (unless (use_fault mode i used) i) (λ (j : ℕ). and_then (place_asked mode a i used g.sector_size) last) p number.2 in
+    let place = and_then_ok (place_asked mode a i used g.sector_size) last p use_of.2 in
+    let end = else_ok (is_unused e) (NoType i) (record { number = i; entry = e; place = place.0 }) p place.2 in
+    subst (λ (q : ResolvedPartition). place_asked mode a q.number (used_at g q.number) g.sector_size ≡ Ok q.place) end.1 place.1
+
 -- Requested again, it is the entry that is in the table.
-own_again : (g t placed next : GPT) (mode : Mode) (a : Asked) (random other : List ℕ) (i : ℕ) (p q : ResolvedPartition) → a.number ≡ Some i → resolved g mode a random ≡ Ok p → IsThere p t placed
-    → ((j : ℕ) → 1 ≤ j → OnlyEnd (entry_at placed j) (entry_at next j)) → resolved next (Become false) a other ≡ Ok q → IsOwn next q
-own_again g t placed next mode a random other i p q number_is is there ends again =
+own_again : (g t placed next : GPT) (mode : Mode) (a : Asked) (random other : List ℕ) (i : ℕ) (p q : ResolvedPartition) → a.number ≡ Some i → next.sector_size ≡ g.sector_size
+    → resolved g mode a random ≡ Ok p → IsThere p t placed → ((j : ℕ) → 1 ≤ j → OnlyEnd (entry_at placed j) (entry_at next j))
+    → (asks_rest a.size ≡ false → entry_at next p.number ≡ entry_at placed p.number) → resolved next (Become false) a other ≡ Ok q → IsOwn next q
+own_again g t placed next mode a random other i p q number_is sector is there ends exact again =
     let first = is_first g mode a random i p number_is is in
     let number = and_then_ok (number_asked next a) (partition_at next (Become false) a other) q again in
     let here = given next a i number.0 number_is number.1 in
@@ -131,34 +149,40 @@ own_again g t placed next mode a random other i p q number_is is there ends agai
     let used : IsTrue (is_used y) = used_of (is_unused y) type in
     let part : partition_at next (Become false) a other i ≡ Ok q = subst (λ (n : ℕ). partition_at next (Become false) a other n ≡ Ok q) (sym here.0) number.2 in
     let with : with_used next a other i (Some y) ≡ Ok q = subst (λ (u : Option GPTPartitionEntry). with_used next a other i u ≡ Ok q) (used_is next i y found used) part in
-    (own_part next a i y other q at.0 stands used (asked_again a first.x other there.range.first last) with).1
+    let asked = place_first g mode a random p is in
+    let end : asks_rest a.size ≡ false → there.range.last ≡ last =
+    λ none. sym (ap (λ (e : GPTPartitionEntry). e.ending_lba) (exact none ∙ there.entry)) in
+    let stays : (place : Place) → place_asked (Become false) a i (Some y) next.sector_size ≡ Ok place → place ≡ At there.range.first last =
+    λ place now. asked_same p.number there.range.first there.range.last last a.choice t mode a (used_at g p.number) g.sector_size p.place place y refl refl refl asked there.span end
+    (subst (λ (n : ℕ). place_asked (Become false) a n (Some y) g.sector_size ≡ Ok place) first.number
+    (subst (λ (ss : ℕ). place_asked (Become false) a i (Some y) ss ≡ Ok place) sector now)) in
+    (own_part next a i y other q at.0 stands used (asked_again a first.x other there.range.first last) stays with).1
 
 -- ---- all entries
 
 pub all_again : (g t placed next : GPT) (mode : Mode) (asked : List Asked) (randoms others : List (List ℕ)) (ps qs : List ResolvedPartition) → AreNumbered asked
-    → length asked ≤ length randoms → length asked ≤ length others → resolved_all g mode asked randoms ≡ Ok ps → AreThere ps t placed
-    → ((j : ℕ) → 1 ≤ j → OnlyEnd (entry_at placed j) (entry_at next j)) → resolved_all next (Become false) asked others ≡ Ok qs → OwnedBy next qs
-all_again g t placed next mode [] randoms others ps qs numbered long more all there ends again = let none : [] ≡ qs = cc in subst (OwnedBy next) none tt
-all_again g t placed next mode (a ∷ asked) [] others ps qs numbered long more all there ends again = absurd (omega (arith, long))
-all_again g t placed next mode (a ∷ asked) (random ∷ randoms) [] ps qs numbered long more all there ends again = absurd (omega (arith, more))
-all_again g t placed next mode (a ∷ asked) (random ∷ randoms) (other ∷ others) ps qs numbered long more all there ends again =
+    → length asked ≤ length randoms → length asked ≤ length others → next.sector_size ≡ g.sector_size → resolved_all g mode asked randoms ≡ Ok ps → AreThere ps t placed
+    → ((j : ℕ) → 1 ≤ j → OnlyEnd (entry_at placed j) (entry_at next j)) → AreExact (λ j. entry_at next j ≡ entry_at placed j) asked ps → resolved_all next (Become false) asked others ≡ Ok qs → OwnedBy next qs
+all_again g t placed next mode [] randoms others ps qs numbered long more sector all there ends exact again = let none : [] ≡ qs = cc in subst (OwnedBy next) none tt
+all_again g t placed next mode (a ∷ asked) [] others ps qs numbered long more sector all there ends exact again = absurd (omega (arith, long))
+all_again g t placed next mode (a ∷ asked) (random ∷ randoms) [] ps qs numbered long more sector all there ends exact again = absurd (omega (arith, more))
+all_again g t placed next mode (a ∷ asked) (random ∷ randoms) (other ∷ others) ps qs numbered long more sector all there ends exact again =
     let p = and_then_ok (resolved g mode a random) _ ps all in
     let rest = and_then_ok (resolved_all g mode asked randoms) _ ps p.2 in
     let whole : p.0 ∷ rest.0 ≡ ps = cc in
     let both : AreThere (p.0 ∷ rest.0) t placed = subst (λ (xs : List ResolvedPartition). AreThere xs t placed) (sym whole) there in
+    let exacts : AreExact (λ j. entry_at next j ≡ entry_at placed j) (a ∷ asked) (p.0 ∷ rest.0) =
+    subst (AreExact (λ j. entry_at next j ≡ entry_at placed j) (a ∷ asked)) (sym whole) exact in
     let q = and_then_ok (resolved next (Become false) a other) _ qs again in
     let last = and_then_ok (resolved_all next (Become false) asked others) _ qs q.2 in
     let same : q.0 ∷ last.0 ≡ qs = cc in
+    let mid : GPT = with_entry t p.0.number (entry_at placed p.0.number) in
     subst (OwnedBy next) same (
-      own_again g t placed next mode a random other numbered.0.0 p.0 q.0 numbered.0.1 p.1 both.0 ends q.1,
-      all_again g (with_entry t p.0.number (entry_at placed p.0.number)) placed next mode asked randoms others rest.0 last.0 numbered.1 (omega (arith, long)) (omega (arith, more)) rest.1 both.1 ends last.1,
+      own_again g t placed next mode a random other numbered.0.0 p.0 q.0 numbered.0.1 sector p.1 both.0 ends exacts.0 q.1,
+      all_again g mid placed next mode asked randoms others rest.0 last.0 numbered.1 (omega (arith, long)) (omega (arith, more)) sector rest.1 both.1 ends exacts.1 last.1,
     )
 
 -- ---- the entries of the resulting table
-
-pub unnamed_more : (j : ℕ) (p : ResolvedPartition) (ps : List ResolvedPartition) → p.number ≢ j → IsUnnamed j ps → IsUnnamed j (p ∷ ps)
-unnamed_more j p ps differ rest zero q below = differ
-unnamed_more j p ps differ rest (suc k) q below = rest k q (omega (arith, below))
 
 named_by : (j : ℕ) (p : ResolvedPartition) (ps : List ResolvedPartition) (b : Bool) → nat_eq p.number j ≡ b → (HasNumber j ps ⊎ IsUnnamed j ps) → HasNumber j (p ∷ ps) ⊎ IsUnnamed j (p ∷ ps)
 named_by j p ps true is rest = inl (inl (eqb-true p.number j is))
@@ -200,8 +224,9 @@ module _ (g next after : GPT) (layout again : RequestedLayout) (randoms others :
       (subst (λ (items : List Asked). resolved_all next again.mode items others ≡ Ok applied_again.partitions) is_again.asked applied_again.asked)
 
   owned : OwnedBy next applied_again.partitions
-  owned = all_again g applied.free applied.placed next layout.mode layout.asked.items randoms others applied.partitions applied_again.partitions numbered long more applied.asked
-      (placed_there layout randoms g next applied) (last_end layout randoms g next applied) second
+  owned = all_again g applied.free applied.placed next layout.mode layout.asked.items randoms others applied.partitions applied_again.partitions numbered long more
+      (done_keeps (Apply layout) randoms g next applied).sector applied.asked
+      (placed_there layout randoms g next applied) (last_end layout randoms g next applied) (exact layout randoms g next applied) second
 
   -- Putting the partitions results in the same entries,
   each_by : (m : ℕ) → (HasNumber (suc m) applied_again.partitions ⊎ IsUnnamed (suc m) applied_again.partitions) → entry_at applied_again.placed (suc m) ≡ entry_at next (suc m)

@@ -1,8 +1,8 @@
 -- Applying the layout of a table to that table gives the same table.
-use Rattle.std.proofs.Common.{◌≡◌, ◌≢◌, ◌≤◌, ◌<◌, ◌⊎◌, inl, inr, ℕ, ◌+◌, ◌-◌, ◌&&◌, List, [], ◌∷◌, refl, sym, ap, ◌∙◌, subst, arith, zero, suc, IsTrue, Bool, true, false, length}
-use Rattle.std.specs.Prelude.{Option, Some, None, Result, Ok, Err, All, get_or, nat_eq, nat_le, slice_get, unwrap_or, if◌then◌else◌}
+use Rattle.std.proofs.Common.{◌≡◌, ◌≢◌, ◌≤◌, ◌<◌, ◌⊎◌, inl, inr, ℕ, ◌+◌, ◌-◌, List, [], ◌∷◌, refl, sym, ap, ◌∙◌, subst, arith, zero, suc, IsTrue, Bool, true, false, length}
+use Rattle.std.specs.Prelude.{Option, Some, None, Result, Ok, Err, All, get_or, nat_le, slice_get, unwrap_or, if◌then◌else◌}
 use Rattle.std.specs.List.{enumerate_from}
-use Rattle.std.proofs.lemmas.Bool.{eqb-true, le-leb}
+use Rattle.std.proofs.lemmas.Bool.{le-leb}
 use Rattle.std.proofs.lemmas.List.{get_or_default, same_lists}
 use Rattle.std.proofs.lemmas.Option.{slice_get-get_or}
 use Rattle.gptman.specs.Coding.{empty_entry}
@@ -16,49 +16,25 @@ use Rattle.gptedit_core.specs.Dumping.{asked_of, asked_of_all, IsLayoutOf}
 use Rattle.gptedit_core.specs.Applying.{rest_numbers, IsApplied}
 use Rattle.gptedit_core.specs.Named.{AreThere, IsAmong, IsUnnamed, LayoutsGiveTable, StaysAs}
 use Rattle.gptedit_core.specs.Placing.{IsSpan}
-use Rattle.gptedit_core.specs.Resolving.{and_then, entry_asked, number_asked, partition_at, place_asked, place_of, resolved, resolved_all, room_asked, start_asked, stay_fault, there_of, unless, use_fault, used_at}
+use Rattle.gptedit_core.specs.Resolving.{and_then, entry_asked, number_asked, partition_at, place_asked, resolved, resolved_all, unless, use_fault, used_at}
 use Rattle.gptedit_core.specs.Sectors.{between}
 use Rattle.gptedit_core.specs.declared.asked.Asked.{Asked}
 use Rattle.gptedit_core.specs.declared.asked.RequestedLayout.{RequestedLayout}
 use Rattle.gptedit_core.specs.declared.asked.Mode.{Mode}
 use Rattle.gptedit_core.specs.declared.asked.Mode.TheVariants.{Become}
 use Rattle.gptedit_core.specs.declared.place.Place.{Place}
-use Rattle.gptedit_core.specs.declared.place.Place.TheVariants.{At, From, Free, Longest}
+use Rattle.gptedit_core.specs.declared.place.Place.TheVariants.{At}
 use Rattle.gptedit_core.specs.declared.refusal.Refusal.{Refusal}
-use Rattle.gptedit_core.specs.declared.refusal.Refusal.TheVariants.{NoEntry, NoType, WouldMove}
+use Rattle.gptedit_core.specs.declared.refusal.Refusal.TheVariants.{NoEntry, NoType}
 use Rattle.gptedit_core.specs.declared.resolve.ResolvedPartition.{ResolvedPartition}
 use Rattle.gptedit_core.specs.declared.plan.Job.TheVariants.{Apply}
 use Rattle.gptedit_core.specs.declared.sectors.SectorRange.{SectorRange}
+use Rattle.gptedit_core.proofs.Requested.{own_place}
 use Rattle.gptedit_core.proofs.Kept.{done_keeps}
-use Rattle.gptedit_core.proofs.Extended.{both_true}
-use Rattle.gptedit_core.proofs.Placed.{change_named, last_exact, placed_there}
+use Rattle.gptedit_core.proofs.Placed.{last_exact, other_stays, placed_there}
 use Rattle.gptedit_core.proofs.Steps.{and_then_ok, else_ok}
 
 -- ---- one entry that is requested unchanged
-
-pub unless_ok : {A : Type 0} (o : Option Refusal) (a b : A) → unless o a ≡ Ok b → (o ≡ None) × (a ≡ b)
-unless_ok None a b is = let same : a ≡ b = cc in (refl, same)
-unless_ok (Some r) a b is = absurd (cc)
-
-when_none : (b : Bool) (r : Refusal) → ◌≡◌ {A = Option Refusal} (if b then None else Some r) None → b ≡ true
-when_none true r is = refl
-when_none false r is = absurd (cc)
-
-stays_at : (i : ℕ) (there : SectorRange) (place : Place) → stay_fault (Become false) i (Some there) place ≡ None → place ≡ At there.first there.last
-stays_at i there (At first last) is =
-    let both = both_true (nat_eq first there.first) (nat_eq last there.last) (when_none (nat_eq first there.first && nat_eq last there.last) (WouldMove i) is) in
-    ap (λ n. At n last) (eqb-true first there.first both.0) ∙ ap (λ n. At there.first n) (eqb-true last there.last both.1)
-stays_at i there (From first) is = absurd (cc)
-stays_at i there (Free size choice) is = absurd (cc)
-stays_at i there Longest is = absurd (cc)
-
-pub place_stays : (a : Asked) (i ss : ℕ) (e : GPTPartitionEntry) (place : Place) → place_asked (Become false) a i (Some e) ss ≡ Ok place → place ≡ At e.starting_lba e.ending_lba
-place_stays a i ss e place is =
-    let start = and_then_ok (start_asked a.start ss) _ place is in
-    let room = and_then_ok (room_asked a.size i ss) _ place start.2 in
-    let at = and_then_ok (place_of i room.0 start.0 (there_of (Some e)) a.choice) _ place room.2 in
-    let stay = unless_ok (stay_fault (Become false) i (there_of (Some e)) at.0) at.0 place at.2 in
-    sym stay.1 ∙ stays_at i (between e.starting_lba e.ending_lba) at.0 stay.0
 
 -- The partition is the used entry of its number, at its place.
 pub record IsOwn (g : GPT) (p : ResolvedPartition) : Type 0 where
@@ -76,16 +52,17 @@ with_used g a random i used =
     and_then (place_asked (Become false) a i used g.sector_size) (λ place.
     if is_unused e then Err (NoType i) else Ok (record { number = i; entry = e; place = place })))
 
--- A request that makes a used entry what it is.
+-- A request that makes a used entry what it is, at its place.
 pub own_part : (g : GPT) (a : Asked) (i : ℕ) (e : GPTPartitionEntry) (random : List ℕ) (p : ResolvedPartition) → 1 ≤ i → entry_at g i ≡ e → IsTrue (is_used e)
-    → entry_asked a (Some e) random ≡ e → with_used g a random i (Some e) ≡ Ok p → (p.number ≡ i) × IsOwn g p
-own_part g a i e random p low at used same is =
+    → entry_asked a (Some e) random ≡ e → ((place : Place) → place_asked (Become false) a i (Some e) g.sector_size ≡ Ok place → place ≡ At e.starting_lba e.ending_lba)
+    → with_used g a random i (Some e) ≡ Ok p → (p.number ≡ i) × IsOwn g p
+own_part g a i e random p low at used same stays is =
     let asked : GPTPartitionEntry = entry_asked a (Some e) random in
     let place = and_then_ok (place_asked (Become false) a i (Some e) g.sector_size) _ p is in
     let whole : ResolvedPartition = record { number = i; entry = asked; place = place.0 } in
     let end = else_ok (is_unused asked) (NoType i) whole p place.2 in (
       sym (ap (λ (q : ResolvedPartition). q.number) end.1),
-      subst (IsOwn g) end.1 (record { low = low; e = e; at = at; used = used; entry = same; place = place_stays a i g.sector_size e place.0 place.1 }),
+      subst (IsOwn g) end.1 (record { low = low; e = e; at = at; used = used; entry = same; place = stays place.0 place.1 }),
     )
 
 pub used_is : (g : GPT) (i : ℕ) (e : GPTPartitionEntry) → entry_of_number g i ≡ Some e → IsTrue (is_used e) → used_at g i ≡ Some e
@@ -103,7 +80,7 @@ own_one g i e random p low found at used is =
     let both : Ok i ≡ Ok number.0 = sym here ∙ number.1 in
     let same : number.0 ≡ i = cc in
     let part : partition_at g (Become false) a random i ≡ Ok p = subst (λ (n : ℕ). partition_at g (Become false) a random n ≡ Ok p) same number.2 in
-    own_part g a i e random p low at used refl (subst (λ (u : Option GPTPartitionEntry). with_used g a random i u ≡ Ok p) (used_is g i e found used) part)
+    own_part g a i e random p low at used refl (own_place i g.sector_size e) (subst (λ (u : Option GPTPartitionEntry). with_used g a random i u ≡ Ok p) (used_is g i e found used) part)
 
 -- ---- all entries
 
@@ -277,7 +254,7 @@ module _ (g next : GPT) (layout : RequestedLayout) (randoms : List (List ℕ)) (
   each_unused : (m : ℕ) → is_used (entry_at g (suc m)) ≡ false → entry_at next (suc m) ≡ entry_at g (suc m)
   each_unused m unused =
       let kept : All (λ (j : ℕ). j ≢ suc m) layout.removed.items = subst (λ (js : List ℕ). All (λ (j : ℕ). j ≢ suc m) js) (sym is.removed) (λ k d below. absurd (omega (arith, below))) in
-      let stays = (change_named layout randoms g next applied).others (suc m) (omega arith) (own_unnamed g (suc m) applied.partitions owned.0 unused) kept in
+      let stays = other_stays layout randoms g next applied (suc m) (omega arith) (own_unnamed g (suc m) applied.partitions owned.0 unused) kept in
       (subst (λ (mode : Mode). StaysAs mode (entry_at g (suc m)) (entry_at next (suc m))) is.mode stays).0
 
   each_by : (m : ℕ) (b : Bool) → is_used (entry_at g (suc m)) ≡ b → entry_at next (suc m) ≡ entry_at g (suc m)

@@ -33,7 +33,8 @@ use Rattle.gptedit_core.specs.declared.resolve.Room.{Room}
 use Rattle.gptedit_core.specs.declared.resolve.Room.TheVariants.{Rest as RoomRest}
 use Rattle.gptedit_core.specs.declared.sectors.SectorRange.{SectorRange}
 use Rattle.gptedit_core.proofs.Again.{given, of_by}
-use Rattle.gptedit_core.proofs.Dumped.{at_number, unless_ok, used_is}
+use Rattle.gptedit_core.proofs.Requested.{unless_ok}
+use Rattle.gptedit_core.proofs.Dumped.{at_number, used_is}
 use Rattle.gptedit_core.proofs.Applied.{stay, this_entry}
 use Rattle.gptedit_core.proofs.Extended.{extended_same}
 use Rattle.gptedit_core.proofs.Placed.{last_longer}

@@ -8,6 +8,7 @@ pub mod Counts
 pub mod Cuts
 pub mod Dumped
 pub mod Ends
+pub mod Exact
 pub mod Extended
 pub mod Fitted
 pub mod Floors
@@ -27,6 +28,7 @@ pub mod Planned
 pub mod Reached
 pub mod Remade
 pub mod Repeated
+pub mod Requested
 pub mod Reshaped
 pub mod Resolved
 pub mod Runs
@@ -34,6 +36,7 @@ pub mod Safe
 pub mod Settings
 pub mod Same
 pub mod Selected
+pub mod Stayed
 pub mod Steps
 pub mod Taken
 pub mod Targets

@@ -8,7 +8,7 @@ use Rattle.gptman.specs.Table.{entries_in}
 use Rattle.gptman.specs.declared.codec.entry.GPTPartitionEntry.{GPTPartitionEntry}
 use Rattle.gptman.specs.declared.table.GPT.{GPT}
 use Rattle.gptedit_core.specs.Applying.{asks_rest, rest_numbers, IsApplied}
-use Rattle.gptedit_core.specs.Named.{AreThere, IsAmong, IsLengthened, IsUnnamed, LayoutsChangeNamed}
+use Rattle.gptedit_core.specs.Named.{AreThere, IsAmong, IsLengthened, IsUnnamed, StaysAs}
 use Rattle.gptedit_core.specs.declared.asked.Asked.{Asked}
 use Rattle.gptedit_core.specs.declared.asked.RequestedLayout.{RequestedLayout}
 use Rattle.gptedit_core.specs.declared.resolve.ResolvedPartition.{ResolvedPartition}
@@ -103,14 +103,9 @@ module _ (layout : RequestedLayout) (randoms : List (List ℕ)) (g next : GPT) (
       (is_lengthened numbers is.placed is.last next is.extended (ap (λ (m : GPT). entries_in m) is.next_is)
       (ap (λ (m : GPT). m.header.first_usable_lba) is.next_is) (ap (λ (m : GPT). m.header.last_usable_lba) is.next_is) i number among)
 
-pub change_named : LayoutsChangeNamed
-change_named layout randoms g next is = record {
-  others = λ i low unnamed kept.
-      let placed = placed_keeps layout randoms g next is i low unnamed kept in
-      let after = last_exact layout randoms g next is i low (unnamed_among layout.asked.items is.partitions i unnamed) in
-      stays_as layout.mode (entry_at g i) is.free i (entry_at next i) placed.1 (after ∙ placed.0) is.others;
-  named = placed_there layout randoms g next is;
-  exact = λ i low other. last_exact layout randoms g next is i low other;
-  fields = λ i low. (last_end layout randoms g next is i low).same;
-  longer = λ i number among. last_longer layout randoms g next is i number among;
-}
+  -- An entry that is neither named nor removed stays.
+  pub other_stays : (i : ℕ) → 1 ≤ i → IsUnnamed i is.partitions → All (λ j. j ≢ i) layout.removed.items → StaysAs layout.mode (entry_at g i) (entry_at next i)
+  other_stays i low unnamed kept =
+      let placed = placed_keeps i low unnamed kept in
+      let after = last_exact i low (unnamed_among layout.asked.items is.partitions i unnamed) in
+      stays_as layout.mode (entry_at g i) is.free i (entry_at next i) placed.1 (after ∙ placed.0) is.others

@@ -1,6 +1,6 @@
 -- A layout is not refused a second time.
 use Rattle.std.proofs.Common.{◌≡◌, ◌≢◌, ◌≤◌, ◌<◌, ◌⊎◌, inl, inr, ℕ, ◌+◌, ◌-◌, ◌^◌, List, [], ◌∷◌, refl, sym, ap, ◌∙◌, subst, arith, zero, suc, IsTrue, Bool, true, false, length}
-use Rattle.std.specs.Prelude.{Option, Some, None, Result, Ok, Err, All, Contains, get_or, max, nat_eq, nat_le, nat_lt, not, slice_get, unwrap_or, if◌then◌else◌}
+use Rattle.std.specs.Prelude.{Option, Some, None, Result, Ok, Err, All, Contains, get_or, max, nat_eq, nat_le, slice_get, unwrap_or, if◌then◌else◌}
 use Rattle.std.proofs.lemmas.Bool.{eq-eqb, eqb-false, eqb-true, le-leb, leb-true}
 use Rattle.std.proofs.lemmas.List.{length-set}
 use Rattle.std.proofs.lemmas.Option.{slice_get_within}
@@ -12,12 +12,12 @@ use Rattle.gptman.specs.TableWrites.{MayBeWritten}
 use Rattle.gptman.specs.declared.codec.entry.GPTPartitionEntry.{GPTPartitionEntry}
 use Rattle.gptman.specs.declared.table.GPT.{GPT}
 use Rattle.gptedit_core.specs.Applying.{align_asked, asks_rest, lowest_used, rest_numbers, others_fault, removed_all, removed_one, without_entry, is_blank, ArePut, IsApplied, RefusesAsked}
-use Rattle.gptedit_core.specs.Named.{AreNumbered, AreThere, Asks, IsAgain, IsAmong, IsThere, IsUnnamed, IsWhole, LayoutsAreTakenAgain}
+use Rattle.gptedit_core.specs.Named.{AreNumbered, AreThere, Asks, IsAgain, IsThere, IsUnnamed, IsWhole, LayoutsAreTakenAgain}
 use Rattle.gptedit_core.specs.Placing.{IsSpan}
 use Rattle.gptedit_core.specs.Planning.{asks_random, IsDone, RefusesCheck, RefusesJob}
 use Rattle.gptedit_core.specs.Planning.RefusesCheck.{boundaries, shared}
 use Rattle.gptedit_core.specs.Planning.RefusesRequest.{not_done, not_laid_out, not_written}
-use Rattle.gptedit_core.specs.Resolving.{and_then, entry_asked, lowest_unused, number_asked, number_asked_or, partition_at, place_asked, place_of, resolved, resolved_all, rest_of, room_asked, span_from, start_asked, stay_fault, there_of, unless, use_fault, used_at}
+use Rattle.gptedit_core.specs.Resolving.{and_then, entry_asked, lowest_unused, number_asked, number_asked_or, partition_at, place_asked, place_of, resolved, resolved_all, rest_of, room_asked, span_from, start_asked, stay_fault, there_of, unless, used_at}
 use Rattle.gptedit_core.specs.Sectors.{between}
 use Rattle.gptedit_core.specs.declared.amount.Amount.{Amount}
 use Rattle.gptedit_core.specs.declared.asked.Asked.{Asked}
@@ -25,57 +25,31 @@ use Rattle.gptedit_core.specs.declared.asked.Choice.{Choice}
 use Rattle.gptedit_core.specs.declared.asked.RequestedLayout.{RequestedLayout}
 use Rattle.gptedit_core.specs.declared.asked.Mode.{Mode}
 use Rattle.gptedit_core.specs.declared.asked.Mode.TheVariants.{Become}
-use Rattle.gptedit_core.specs.declared.asked.Size.{Size}
-use Rattle.gptedit_core.specs.declared.asked.Size.TheVariants.{Exactly, Rest}
 use Rattle.gptedit_core.specs.declared.place.Place.{Place}
-use Rattle.gptedit_core.specs.declared.place.Place.TheVariants.{At, From, Free}
+use Rattle.gptedit_core.specs.declared.place.Place.TheVariants.{At, Free}
 use Rattle.gptedit_core.specs.declared.plan.Job.{Job}
 use Rattle.gptedit_core.specs.declared.plan.Job.TheVariants.{Apply}
 use Rattle.gptedit_core.specs.declared.refusal.Refusal.{Refusal}
-use Rattle.gptedit_core.specs.declared.refusal.Refusal.TheVariants.{IsUnused, NoEntry, NoSize, NoType, TooLarge}
+use Rattle.gptedit_core.specs.declared.refusal.Refusal.TheVariants.{IsUnused, NoEntry, NoType}
 use Rattle.gptedit_core.specs.declared.resolve.ResolvedPartition.{ResolvedPartition}
 use Rattle.gptedit_core.specs.declared.resolve.Room.{Room}
 use Rattle.gptedit_core.specs.declared.resolve.Room.TheVariants.{Sectors as RoomSectors, Rest as RoomRest}
 use Rattle.gptedit_core.specs.declared.sectors.SectorRange.{SectorRange}
-use Rattle.gptedit_core.proofs.Again.{all_again, asked_again, is_first, layouts_stay, named_or, unnamed_more, used_of}
-use Rattle.gptedit_core.proofs.Dumped.{at_number, of_number, unless_ok, used_is, with_used, CoversFrom, HasNumber, OwnedBy}
+use Rattle.gptedit_core.proofs.Again.{all_again, asked_again, is_first, layouts_stay, named_or, place_first, used_of}
+use Rattle.gptedit_core.proofs.Requested.{begins, not_rest, sized_by, span_at, unless_ok}
+use Rattle.gptedit_core.proofs.Dumped.{at_number, of_number, used_is, with_used, CoversFrom, HasNumber, OwnedBy}
 use Rattle.gptedit_core.proofs.Extended.{extended_same, OnlyEnd}
-use Rattle.gptedit_core.proofs.Placed.{all_exact, last_end, last_exact, placed_there, unnamed_among, AreExact, DifferInNumber}
+use Rattle.gptedit_core.proofs.Exact.{differ_put, exact, unnamed_more}
+use Rattle.gptedit_core.proofs.Placed.{last_end, last_exact, placed_there, unnamed_among, AreExact, DifferInNumber}
 use Rattle.gptedit_core.proofs.Kept.{done_keeps, done_layout}
-use Rattle.gptedit_core.proofs.Applied.{cleared_keep, keep, other_entry, others_unused, put_stays, this_entry}
-use Rattle.gptedit_core.proofs.Resolved.{resolved_more, used_all, AreUsed}
+use Rattle.gptedit_core.proofs.Applied.{cleared_keep, keep, other_entry, others_unused, this_entry}
+use Rattle.gptedit_core.proofs.Resolved.{resolved_more, used_all}
 use Rattle.gptedit_core.proofs.Same.{put_same}
+use Rattle.gptedit_core.proofs.Stayed.{not_both}
 use Rattle.gptedit_core.proofs.Steps.{and_then_ok, else_ok}
 use Rattle.gptedit_core.proofs.Taken.{all_placed, has_type, not_refused_where, own_partition, span_to, stays, IsPlaced}
 
 -- ---- the place of an entry that is requested again
-
-span_by : (i first more : ℕ) (b : Bool) (place : Place) → ◌≡◌ {A = Result Place Refusal} (if b then Ok (At first (first + more)) else Err (TooLarge i)) (Ok place) → At first (first + more) ≡ place
-span_by i first more true place is = cc
-span_by i first more false place is = absurd (cc)
-
--- The sectors of a place from first on.
-span_at : (i first more : ℕ) (place : Place) (g : GPT) (s : SectorRange) → span_from i first more ≡ Ok place → IsSpan place g s → s ≡ between first (first + more)
-span_at i first more place g s is span = subst (λ (p : Place). IsSpan p g s) (sym (span_by i first more (nat_lt (first + more) (2 ^ 64)) place is)) span
-
-sized_by : (i : ℕ) (b : Bool) (r : Result Place Refusal) (place : Place) → ◌≡◌ {A = Result Place Refusal} (if b then r else Err (NoSize i)) (Ok place) → r ≡ Ok place
-sized_by i true r place is = is
-sized_by i false r place is = absurd (cc)
-
--- The rest starts at the requested start.
-begins_by : (x : ℕ) (there s : SectorRange) (g : GPT) (b : Bool) → nat_eq x there.first ≡ b → IsSpan (if b then At there.first there.last else From x) g s → s.first ≡ x
-begins_by x there s g true is span = ap (λ (p : SectorRange). p.first) span ∙ sym (eqb-true x there.first is)
-begins_by x there s g false is span = ap (λ (p : SectorRange). p.first) span.2
-
-begins : (x : ℕ) (there : Option SectorRange) (s : SectorRange) (g : GPT) → IsSpan (rest_of (Some x) there) g s → s.first ≡ x
-begins x None s g span = ap (λ (p : SectorRange). p.first) span.2
-begins x (Some there) s g span = begins_by x there s g (nat_eq x there.first) refl span
-
--- A request whose room is not the rest does not ask for it.
-not_rest : {X : Type 0} (size : Option Size) (i ss : ℕ) (room : Option Room) → room_asked size i ss ≡ Ok room → (asks_rest size ≡ false → X) → room ≢ Some RoomRest → X
-not_rest None i ss room is exact other = exact refl
-not_rest (Some (Exactly amount)) i ss room is exact other = exact refl
-not_rest (Some Rest) i ss room is exact other = let same : Some RoomRest ≡ room = cc in absurd (other (sym same))
 
 -- The place of a used entry, by its steps.
 place_from : (a : Asked) (i ss : ℕ) (y : GPTPartitionEntry) (s : Option ℕ) (r : Option Room) (place : Place) → start_asked a.start ss ≡ Ok s → room_asked a.size i ss ≡ Ok r
@@ -148,20 +122,6 @@ module _ (i first end last : ℕ) (choice : Choice) (g : GPT) (ordered : first �
 
 -- ---- one entry that is requested again
 
--- Its first requested place.
-first_place : (g : GPT) (mode : Mode) (a : Asked) (random : List ℕ) (p : ResolvedPartition) → resolved g mode a random ≡ Ok p
-    → (used : Option GPTPartitionEntry) × (place_asked mode a p.number used g.sector_size ≡ Ok p.place)
-first_place g mode a random p is =
-    let number = and_then_ok (number_asked g a) (partition_at g mode a random) p is in
-    let i : ℕ = number.0 in
-    let used = used_at g i in
-    let e : GPTPartitionEntry = entry_asked a used random in
-    let last : Place → Result ResolvedPartition Refusal = λ place. if is_unused e then Err (NoType i) else Ok (record { number = i; entry = e; place = place }) in
-    let use_of = and_then_ok (unless (use_fault mode i used) i) (λ (j : ℕ). and_then (place_asked mode a i used g.sector_size) last) p number.2 in
-    let place = and_then_ok (place_asked mode a i used g.sector_size) last p use_of.2 in
-    let end = else_ok (is_unused e) (NoType i) (record { number = i; entry = e; place = place.0 }) p place.2 in
-    (used, subst (λ (q : ResolvedPartition). place_asked mode a q.number used g.sector_size ≡ Ok q.place) end.1 place.1)
-
 -- Requested again, an entry that was put is that entry.
 resolved_again : (g t mid next : GPT) (mode : Mode) (a : Asked) (random other : List ℕ) (i : ℕ) (p : ResolvedPartition) → a.number ≡ Some i → resolved g mode a random ≡ Ok p
     → next.sector_size ≡ g.sector_size → entry_of_number next p.number ≡ Some (entry_at next p.number) → IsPlaced (entry_at next p.number) → IsThere p t mid
@@ -187,9 +147,9 @@ resolved_again g t mid next mode a random other i p number_is is sector found pl
     let used : IsTrue (is_used y) = used_of (is_unused y) type in
     let is_placed : IsPlaced y = subst IsPlaced put placed in
     let fits : (there.range.first ≤ last) × (last + 1 < 2 ^ 64) = is_placed used in
-    let asked = first_place g mode a random p is in
+    let asked = place_first g mode a random p is in
     let place : place_asked (Become false) a n (Some y) g.sector_size ≡ Ok (At there.range.first last) =
-    asked_place n there.range.first there.range.last last a.choice t fits.0 fits.1 mode a asked.0 g.sector_size p.place y refl refl refl asked.1 there.span end in
+    asked_place n there.range.first there.range.last last a.choice t fits.0 fits.1 mode a (used_at g n) g.sector_size p.place y refl refl refl asked there.span end in
     let here : place_asked (Become false) a n (Some y) next.sector_size ≡ Ok (At there.range.first last) =
     subst (λ (ss : ℕ). place_asked (Become false) a n (Some y) ss ≡ Ok (At there.range.first last)) (sym sector) place in
     let whole_of : GPTPartitionEntry → Place → Result ResolvedPartition Refusal = λ e place. if is_unused e then Err (NoType n) else Ok (record { number = n; entry = e; place = place }) in
@@ -254,27 +214,6 @@ numbers_found g next (p ∷ ps) last put long placed =
     let is_placed : IsPlaced (entry_at next p.number) = subst IsPlaced (sym at) (placed (p.number - 1) empty_entry below) in
     let mid : length (entries_in put.0) ≡ length (entries_in g) = put_same (λ (m : GPT). length (entries_in m)) (λ m i e. length-set (entries_in m) (i - 1) e) (p ∷ []) g put.0 (put.0, put.1, refl) in
     ((found, is_placed, number.0), numbers_found put.0 next ps last put.2 (long ∙ sym mid) placed)
-
--- and no partition has the number of a used entry.
-unnamed_where : (ps : List ResolvedPartition) (g last : GPT) (j : ℕ) → ArePut ps g last → 1 ≤ j → (¬ IsTrue (is_unused (entry_at g j))) → IsUnnamed j ps
-unnamed_where [] g last j put low used = λ k d below. absurd (omega (arith, below))
-unnamed_where (p ∷ ps) g last j put low used =
-    let kept = put_stays p g put.0 j put.1 low used in
-    unnamed_more j p ps (λ same. used (subst (λ (n : ℕ). IsTrue (is_unused (entry_at g n))) same put.1.unused))
-    (unnamed_where ps put.0 last j put.2 low (λ unused. used (subst (λ (e : GPTPartitionEntry). IsTrue (is_unused e)) kept unused)))
-
-differ_put : (ps : List ResolvedPartition) (g last : GPT) → ArePut ps g last → AreUsed ps → DifferInNumber ps
-differ_put [] g last put used = tt
-differ_put (p ∷ ps) g last put used =
-    let entry : GPTPartitionEntry = record p.entry { starting_lba = put.1.range.first; ending_lba = put.1.range.last } in
-    let here : entry_at put.0 p.number ≡ entry = subst (λ (m : GPT). entry_at m p.number ≡ entry) (sym put.1.next_is) (this_entry g p.number entry put.1.number) in
-    (unnamed_where ps put.0 last p.number put.2 put.1.number.0 (λ unused. used.0 (subst (λ (e : GPTPartitionEntry). IsTrue (is_unused e)) here unused)), differ_put ps put.0 last put.2 used.1)
-
--- What holds for the numbers of those that do not get the rest holds since they are above zero.
-exact_low : (P Q : ℕ → Type 0) (next : GPT) (asked : List Asked) (ps : List ResolvedPartition) → AllFound next ps → ((j : ℕ) → 1 ≤ j → P j → Q j) → AreExact P asked ps → AreExact Q asked ps
-exact_low P Q next [] ps found turn all = tt
-exact_low P Q next (a ∷ asked) [] found turn all = tt
-exact_low P Q next (a ∷ asked) (p ∷ ps) found turn all = (λ none. turn p.number found.0.2 (all.0 none), exact_low P Q next asked ps found.1 turn all.1)
 
 unnamed_there : (next : GPT) (j : ℕ) (ps : List ResolvedPartition) → IsUnnamed j ps → IsUnnamed j (those_there next ps)
 unnamed_there next j [] unnamed = λ k d below. absurd (omega (arith, below))
@@ -355,10 +294,6 @@ removed_gone (i ∷ is) g r j (suc k) done low below at =
     removed_gone is step.0 r j k step.2 low (omega (arith, below)) at
 
 -- ---- the remaining entries
-not_both : (b : Bool) → IsTrue b → ¬ IsTrue (not b)
-not_both true is other = absurd (cc)
-not_both false is other = absurd (cc)
-
 has_unnamed : (j : ℕ) (ps : List ResolvedPartition) → HasNumber j ps → ¬ IsUnnamed j ps
 has_unnamed j [] has unnamed = has
 has_unnamed j (p ∷ ps) (inl same) unnamed = unnamed 0 p (omega arith) same
@@ -435,14 +370,9 @@ module _ (g next : GPT) (layout again : RequestedLayout) (randoms others : List 
   differ : DifferInNumber applied.partitions
   differ = differ_put applied.partitions applied.free applied.placed applied.put (used_all g layout.mode layout.asked.items randoms applied.partitions applied.asked)
 
-  exact : AreExact (λ j. entry_at next j ≡ entry_at applied.placed j) layout.asked.items applied.partitions
-  exact =
-      exact_low (λ j. ¬ IsAmong j (rest_numbers layout.asked.items applied.partitions)) (λ j. entry_at next j ≡ entry_at applied.placed j) next layout.asked.items applied.partitions found
-      (λ j low other. last_exact layout randoms g next applied j low other) (all_exact layout.asked.items applied.partitions differ)
-
   resolves : resolved_all next (Become false) layout.asked.items others ≡ Ok own
   resolves = all_resolved_again g applied.free applied.placed next layout.mode layout.asked.items randoms others applied.partitions numbered long more sector found applied.asked
-      (placed_there layout randoms g next applied) (last_end layout randoms g next applied) exact
+      (placed_there layout randoms g next applied) (last_end layout randoms g next applied) (exact layout randoms g next applied)
 
   resolves_again : resolved_all next again.mode again.asked.items others ≡ Ok own
   resolves_again =
@@ -450,8 +380,8 @@ module _ (g next : GPT) (layout again : RequestedLayout) (randoms others : List 
       (subst (λ (items : List Asked). resolved_all next (Become false) items others ≡ Ok own) (sym is_again.asked) resolves)
 
   owned : OwnedBy next own
-  owned = all_again g applied.free applied.placed next layout.mode layout.asked.items randoms others applied.partitions own numbered long more applied.asked
-      (placed_there layout randoms g next applied) (last_end layout randoms g next applied) resolves
+  owned = all_again g applied.free applied.placed next layout.mode layout.asked.items randoms others applied.partitions own numbered long more sector applied.asked
+      (placed_there layout randoms g next applied) (last_end layout randoms g next applied) (exact layout randoms g next applied) resolves
 
   once : DifferInNumber own
   once = differ_there next applied.partitions differ

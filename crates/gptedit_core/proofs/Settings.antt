@@ -28,7 +28,8 @@ use Rattle.gptedit_core.specs.declared.resolve.Room.{Room}
 use Rattle.gptedit_core.specs.declared.resolve.Room.TheVariants.{Sectors as RoomSectors}
 use Rattle.gptedit_core.specs.declared.sectors.SectorRange.{SectorRange}
 use Rattle.gptedit_core.specs.declared.setting.Setting.{Setting}
-use Rattle.gptedit_core.proofs.Again.{is_first, used_of}
+use Rattle.gptedit_core.proofs.Requested.{more_ends}
+use Rattle.gptedit_core.proofs.Again.{is_first, place_first, used_of}
 use Rattle.gptedit_core.proofs.Dumped.{used_is}
 use Rattle.gptedit_core.proofs.Steps.{and_then_ok, else_ok}
 
@@ -58,20 +59,6 @@ added_at m n first last there place ends is =
       | inr whole ↦ sym (no_fault at.0 place at.2) ∙ (sym span ∙ ap (At first) whole)
     ]
 
-more_if : (b : Bool) (n : ℕ) → ((if b then n else 0) ≡ 0) ⊎ ((b ≡ true) × ((if b then n else 0) ≡ n))
-more_if true n = inr (refl, refl)
-more_if false n = inl refl
-
-both_left : (a b : Bool) → (a && b) ≡ true → a ≡ true
-both_left true b is = refl
-both_left false b is = absurd (cc)
-
-more_ends : (first last : ℕ) → (more_sectors first last ≡ 0) ⊎ (first + (more_sectors first last - 1) ≡ last)
-more_ends first last = elim (more_if (nat_le first last && nat_lt (last - first) (2 ^ 64 - 1)) (last - first + 1)) [
-  | inl none ↦ inl none
-  | inr some ↦ inr (omega (arith, some.1, leb-true first last (both_left (nat_le first last) (nat_lt (last - first) (2 ^ 64 - 1)) some.0)))
-]
-
 -- ---- the partition of the one request
 
 pub record IsOnePart (g : GPT) (mode : Mode) (a : Asked) (i : ℕ) (partitions : List ResolvedPartition) : Type 0 where
@@ -86,19 +73,6 @@ pub record IsOnePart (g : GPT) (mode : Mode) (a : Asked) (i : ℕ) (partitions :
     partition_name = unwrap_or a.name x.partition_name;
   }
   pub place : place_asked mode a i (used_at g i) g.sector_size ≡ Ok p.place
-
-place_first : (g : GPT) (mode : Mode) (a : Asked) (random : List ℕ) (p : ResolvedPartition) → resolved g mode a random ≡ Ok p
-    → place_asked mode a p.number (used_at g p.number) g.sector_size ≡ Ok p.place
-place_first g mode a random p is =
-    let number = and_then_ok (number_asked g a) (partition_at g mode a random) p is in
-    let i : ℕ = number.0 in
-    let used = used_at g i in
-    let e : GPTPartitionEntry = entry_asked a used random in
-    let last : Place → Result ResolvedPartition Refusal = λ place. if is_unused e then Err (NoType i) else Ok (record { number = i; entry = e; place = place }) in
-    let use_of = and_then_ok (unless (use_fault mode i used) i) (λ (j : ℕ). and_then (place_asked mode a i used g.sector_size) last) p number.2 in
-    let place = and_then_ok (place_asked mode a i used g.sector_size) last p use_of.2 in
-    let end = else_ok (is_unused e) (NoType i) (record { number = i; entry = e; place = place.0 }) p place.2 in
-    subst (λ (q : ResolvedPartition). place_asked mode a q.number (used_at g q.number) g.sector_size ≡ Ok q.place) end.1 place.1
 
 one_part : (g : GPT) (mode : Mode) (a : Asked) (i : ℕ) (randoms : List (List ℕ)) (ps : List ResolvedPartition) → a.number ≡ Some i → 0 < length randoms
     → resolved_all g mode (a ∷ []) randoms ≡ Ok ps → IsOnePart g mode a i ps

@@ -41,7 +41,8 @@ use Rattle.gptedit_core.specs.declared.refusal.Refusal.TheVariants.{NoAlignment,
 use Rattle.gptedit_core.specs.declared.resolve.ResolvedPartition.{ResolvedPartition}
 use Rattle.gptedit_core.specs.declared.resolve.Room.{Room}
 use Rattle.gptedit_core.specs.declared.resolve.Room.TheVariants.{Sectors as RoomSectors}
-use Rattle.gptedit_core.proofs.Again.{named_or, unnamed_more}
+use Rattle.gptedit_core.proofs.Exact.{unnamed_more}
+use Rattle.gptedit_core.proofs.Again.{named_or}
 use Rattle.gptedit_core.proofs.Dumped.{all_own, at_number, has_all, if_used, of_number, own_unnamed, same_entries, used_below, used_is, used_named, with_used, CoversFrom, HasFrom, HasNumber, IsOwn, OwnedBy}
 use Rattle.gptedit_core.proofs.Kept.{all_cleared_keep, done_keeps}
 use Rattle.gptedit_core.proofs.Applied.{cleared_keep, put_other, this_entry}
@@ -80,7 +81,7 @@ span_to i first more last whole high =
 
 -- so the place is unchanged.
 pub stays : (i first last : ℕ) → stay_fault (Become false) i (Some (between first last)) (At first last) ≡ None
-stays i first last = rw (eq-eqb first first refl, eq-eqb last last refl) refl
+stays i first last = rw (eq-eqb first first refl, le-leb last last (omega arith)) refl
 
 place_own : (i ss : ℕ) (e : GPTPartitionEntry) → e.starting_lba ≤ e.ending_lba → e.ending_lba + 1 < 2 ^ 64
     → place_asked (Become false) (asked_of i e) i (Some e) ss ≡ Ok (At e.starting_lba e.ending_lba)

@@ -62,12 +62,19 @@ pub record IsLengthened (align : ℕ) (before after : GPTPartitionEntry) (free l
   pub reached : (after.ending_lba ≡ before.ending_lba) ⊎ ((before.starting_lba ≤ before.ending_lba) × (align ∣ after.ending_lba + 1) × AreFreeBehind free before.ending_lba after.ending_lba)
   pub furthest : before.starting_lba ≤ before.ending_lba → (e : ℕ) → align ∣ e + 1 → after.ending_lba < e → IsBlocked left before.ending_lba e
 
+-- The entry starts where it did, and ends no earlier.
+pub record KeepsStart (before after : GPTPartitionEntry) : Type 0 where
+  pub start : after.starting_lba ≡ before.starting_lba
+  pub end : before.ending_lba ≤ after.ending_lba
+
 -- Entries that a layout neither names nor removes are unchanged. Those that it names were put into the table without
 -- the named and removed ones, and are there. Only those that get the rest may then end later: after sectors that were
 -- free when all were put, and as far as the resulting table has room without the entry.
+-- A table that may only become the layout keeps each used entry that is not removed: it does not move or end earlier.
 pub record ChangesNamed (layout : RequestedLayout) (randoms : List (List ℕ)) (g next : GPT) (is : IsApplied layout randoms g next) : Type 0 where
   pub others : (i : ℕ) → 1 ≤ i → IsUnnamed i is.partitions → All (λ j. j ≢ i) layout.removed.items → StaysAs layout.mode (entry_at g i) (entry_at next i)
   pub named : AreThere is.partitions is.free is.placed
+  pub starts : layout.mode ≡ Become false → (i : ℕ) → IsNumber g i → All (λ j. j ≢ i) layout.removed.items → IsTrue (is_used (entry_at g i)) → KeepsStart (entry_at g i) (entry_at next i)
   pub exact : (i : ℕ) → 1 ≤ i → ¬ IsAmong i (rest_numbers layout.asked.items is.partitions) → entry_at next i ≡ entry_at is.placed i
   pub fields : (i : ℕ) → 1 ≤ i → entry_at next i ≡ record (entry_at is.placed i) { ending_lba = (entry_at next i).ending_lba }
   pub longer : (i : ℕ) → IsNumber next i → IsAmong i (rest_numbers layout.asked.items is.partitions)

@@ -106,9 +106,9 @@ place_of i None start None choice = Err (NoSize i)
 abbrev pub there_of : Option GPTPartitionEntry → Option SectorRange
 there_of used = option_map (λ e. between e.starting_lba e.ending_lba) used
 
--- A used entry is refused another place if the table may only become the layout.
+-- A place that moves or shortens a used entry is refused if the table may only become the layout.
 abbrev pub stay_fault : Mode → ℕ → Option SectorRange → Place → Option Refusal
-stay_fault (Become false) i (Some there) (At first last) = if nat_eq first there.first && nat_eq last there.last then None else Some (WouldMove i)
+stay_fault (Become false) i (Some there) (At first last) = if nat_eq first there.first && nat_le there.last last then None else Some (WouldMove i)
 stay_fault (Become false) i (Some there) place = Some (WouldMove i)
 stay_fault mode i there place = None
 

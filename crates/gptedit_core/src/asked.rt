@@ -76,7 +76,7 @@ pub enum Mode {
     /// It changes used entries, and may not name an unused one.
     Change,
     /// The table becomes the layout. Unless `replace` is set, the layout must name or remove each used entry, and no
-    /// used entry may move or change its size, except that `Size::Rest` may lengthen it.
+    /// used entry may move or become shorter.
     Become { replace: bool },
 }
 

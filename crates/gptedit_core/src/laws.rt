@@ -5,7 +5,7 @@ ghost use Rattle.gptedit_core.specs.Named.{LayoutsGiveTable, LayoutsOnlyLengthen
 
 /// A layout changes only the entries that it names or removes. Each named entry has the requested fields afterwards,
 /// at a place that was free for it, and ends later only if it gets the rest; each other entry is unchanged. With
-/// `Mode::Become { replace: false }` no other entry is used.
+/// `Mode::Become { replace: false }` no other entry is used, and a named one that was used does not move or end earlier.
 pub fn layouts_change_what_they_name()
     ensures { LayoutsChangeNamed }
 {}

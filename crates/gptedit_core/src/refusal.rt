@@ -30,7 +30,7 @@ pub enum Refusal {
     NotWhole(Amount),
     /// The partition would end at or after sector 2^64.
     TooLarge(u32),
-    /// The partition would move or change its size.
+    /// The partition would move or become shorter.
     WouldMove(u32),
     /// The entry is used, and the layout does not name it.
     NotAsked(u32),

@@ -236,7 +236,7 @@ fn span_from(number: u32, first: u64, more: u64) -> Result<Place, Refusal>
     }
 }
 
-// Refuses to move a partition, unless the mode permits it.
+// Refuses to move or shorten a partition, unless the mode permits it.
 fn check_stay(
     mode: Mode,
     number: u32,
@@ -245,9 +245,10 @@ fn check_stay(
 ) -> Result<(), Refusal>
     ensures { refusal_in result ≡ stay_fault mode number there place }
 {
-    match (mode, there) {
-        (Mode::Become { replace: false }, Some(SectorRange { first, last }))
-            if place != (Place::At { first, last }) => { Err(Refusal::WouldMove(number)) }
+    match (mode, there, place) {
+        (Mode::Become { replace: false }, Some(there), Place::At { first, last })
+            if first == there.first && there.last <= last => Ok(()),
+        (Mode::Become { replace: false }, Some(_), _) => Err(Refusal::WouldMove(number)),
         _ => Ok(()),
     }
 }

@@ -48,6 +48,16 @@ impl Edges {
         self.is_first_over() || self.is_last_over()
     }
 
+    /// Reports whether the disk has room for two copies.
+    pub fn have_room(&self) -> bool {
+        self.least <= self.most.saturating_add(1)
+    }
+
+    /// Reports whether the last usable sector is more than one before the first one.
+    pub fn are_reversed(&self) -> bool {
+        self.last < self.first.saturating_sub(1)
+    }
+
     /// Reports whether sectors before the backup copy are not usable.
     pub fn is_low(&self) -> bool {
         self.last < self.most

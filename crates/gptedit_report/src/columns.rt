@@ -3,8 +3,11 @@
 use std::alloc::{AllocError, Global};
 use std::io::Write;
 use std::{fmt, io};
+use unicode_width::UnicodeWidthStr;
 
-/// A column: its heading, and its minimum width in characters. Its cells are aligned left or right.
+/// A column: its heading, and its minimum width. Its cells are aligned left or right.
+///
+/// Widths are in columns of a terminal, of which a character takes two, one or none.
 #[derive(Clone, Copy)]
 pub(crate) enum Column {
     Left(&'static str, usize),
@@ -18,7 +21,7 @@ impl Column {
         }
     }
 
-    // Returns the width in characters.
+    // Returns the width.
     fn width(self) -> usize {
         match self {
             Column::Left(_, width) | Column::Right(_, width) => width,
@@ -64,7 +67,7 @@ pub(crate) fn push_cell<D: fmt::Display>(
     Ok(())
 }
 
-/// Returns the sum of the widths of columns, each as wide as its heading and cells, with `gap` characters after each.
+/// Returns the sum of the widths of columns, each as wide as its heading and cells, with `gap` spaces after each.
 pub(crate) fn total_width(
     alloc: Global,
     columns: &[Column],
@@ -80,9 +83,9 @@ pub(crate) fn total_width(
 
 /// Returns the width of a column with this heading and these cells.
 pub(crate) fn widest(heading: &str, cells: &[String]) -> usize {
-    let mut width = count(heading);
+    let mut width = width_of(heading);
     for cell in cells {
-        width = width.max(count(cell.as_str()));
+        width = width.max(width_of(cell.as_str()));
     }
     width
 }
@@ -95,19 +98,19 @@ fn widen(
 ) -> Result<Vec<Column>, AllocError> {
     let mut wide = Vec::with_capacity(alloc, columns.len())?;
     for column in columns {
-        wide.push(column.at_least(count(column.heading())))?;
+        wide.push(column.at_least(width_of(column.heading())))?;
     }
     for row in rows {
         for (column, cell) in wide.iter_mut().zip(row.iter()) {
-            *column = column.at_least(count(cell.as_str()));
+            *column = column.at_least(width_of(cell.as_str()));
         }
     }
     Ok(wide)
 }
 
-// Returns the number of characters.
-fn count(text: &str) -> usize {
-    text.chars().count()
+/// Returns the number of columns that a text takes in a terminal.
+pub(crate) fn width_of(text: &str) -> usize {
+    text.width()
 }
 
 fn print_row<W: Write>(
@@ -118,10 +121,11 @@ fn print_row<W: Write>(
 ) -> io::Result<()> {
     let mut line = String::new(alloc);
     for (column, cell) in columns.iter().zip(cells.iter()) {
-        let width = column.width();
+        let space = column.width().saturating_sub(width_of(cell.as_str()));
+        let none = "";
         match column {
-            Column::Left(_, _) => write!(line, "{cell:<width$}  ")?,
-            Column::Right(_, _) => write!(line, "{cell:>width$}  ")?,
+            Column::Left(_, _) => write!(line, "{cell}{none:<space$}  ")?,
+            Column::Right(_, _) => write!(line, "{none:<space$}{cell}  ")?,
         }
     }
     writeln!(out, "{}", line.trim_end())

@@ -5,7 +5,7 @@ use crate::layout::{LayoutState, length_to};
 use crate::reason::Reason;
 use crate::report::{Commands, Message};
 use crate::way::{Truncate, write_longer_disk};
-use gptedit_values::Escaped;
+use gptedit_values::ShellWord;
 use gptman::GPT;
 use std::alloc::{AllocError, Global};
 use std::fmt;
@@ -15,10 +15,7 @@ use std::fmt;
 pub struct CutText<'a> {
     table: &'a GPT,
     edges: Edges,
-    // The length in bytes that the disk had.
-    size_before: u64,
-    is_device: bool,
-    image: &'a str,
+    restored: Restored<'a>,
 }
 
 impl<'a> CutText<'a> {
@@ -31,9 +28,7 @@ impl<'a> CutText<'a> {
         let text = CutText {
             table,
             edges: Edges::of(table, size),
-            size_before: length_to(last, table.sector_size),
-            is_device,
-            image,
+            restored: Restored::new(table, last, is_device, image),
         };
         if text.count() == 0 { None } else { Some(text) }
     }
@@ -85,14 +80,42 @@ impl<'a> CutText<'a> {
     }
 }
 
-impl CutText<'_> {
-    // Writes how the disk gets its length again.
-    fn write_restored<W: fmt::Write>(&self, f: &mut fmt::Formatter<W>) -> fmt::Result {
-        let (size, image) = (self.size_before, self.image);
+/// The advice on how a shortened disk gets its length again.
+#[derive(Clone, Copy)]
+pub(crate) struct Restored<'a> {
+    // The length in bytes that the disk had.
+    size: u64,
+    is_device: bool,
+    image: &'a str,
+}
+
+impl<'a> Restored<'a> {
+    /// Returns the advice for a table that ends at this sector.
+    pub(crate) fn new(table: &GPT, last: u64, is_device: bool, image: &'a str) -> Restored<'a> {
+        Restored {
+            size: length_to(last, table.sector_size),
+            is_device,
+            image,
+        }
+    }
+
+    /// Adds the commands that the advice names.
+    pub(crate) fn add_commands(&self, commands: &mut Commands) -> Result<(), AllocError> {
+        if self.is_device {
+            return Ok(());
+        }
+        commands.add_truncate(self.size, self.image)?;
+        commands.add_own("repair", self.image)
+    }
+}
+
+impl fmt::Display for Restored<'_> {
+    fn fmt<W: fmt::Write>(&self, f: &mut fmt::Formatter<W>) -> fmt::Result {
+        let (size, image) = (self.size, self.image);
         if self.is_device {
             return write_longer_disk(f, size);
         }
-        let (longer, name) = (Truncate { size, image }, Escaped(image));
+        let (longer, name) = (Truncate { size, image }, ShellWord(image));
         write!(
             f,
             "copy the image again, or run {longer} and `gptedit repair {name}`: "
@@ -105,8 +128,9 @@ impl fmt::Display for CutText<'_> {
     fn fmt<W: fmt::Write>(&self, f: &mut fmt::Formatter<W>) -> fmt::Result {
         self.write_reason(f)?;
         f.write_str("\n")?;
-        self.write_restored(f)?;
-        write!(f, "\n`gptedit remove --fit {}", Escaped(self.image))?;
+        let restored = self.restored;
+        write!(f, "{restored}")?;
+        write!(f, "\n`gptedit remove --fit {}", ShellWord(restored.image))?;
         self.write_numbers(f, " ")?;
         f.write_str("` removes what does not fit")
     }
@@ -118,12 +142,8 @@ impl Message for CutText<'_> {
     }
 
     fn add_commands(&self, commands: &mut Commands) -> Result<(), AllocError> {
-        let image = self.image;
-        if !self.is_device {
-            commands.add_truncate(self.size_before, image)?;
-            commands.add_own("repair", image)?;
-        }
+        self.restored.add_commands(commands)?;
         let numbers = self.numbers(commands.alloc())?;
-        commands.add_remove(image, &numbers)
+        commands.add_remove(self.restored.image, &numbers)
     }
 }

@@ -3,7 +3,7 @@
 use crate::reason::Reason;
 use crate::report::{Commands, Message};
 use gptedit_core::Refusal;
-use gptedit_values::Escaped;
+use gptedit_values::ShellWord;
 use gptman::Error;
 use std::alloc::AllocError;
 use std::fmt;
@@ -29,7 +29,7 @@ impl fmt::Display for ErrorText<'_> {
             }
             error => writeln!(f, "{}", Meaning(error))?,
         }
-        let image = Escaped(self.image);
+        let image = ShellWord(self.image);
         match remedy_for(self.error) {
             Remedy::Command(command, does) => write!(f, "`gptedit {command} {image}` {does}"),
             Remedy::Advice(advice) => f.write_str(advice),

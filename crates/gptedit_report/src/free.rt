@@ -57,7 +57,7 @@ fn row_of(alloc: Global, sector_size: u64, range: &FreeRange) -> Result<Vec<Stri
     Ok(row)
 }
 
-/// Returns free ranges as JSON: a list of `start` and `size`, in sectors.
+/// Returns free ranges as JSON: a list of `start_sectors` and `size_sectors`.
 pub fn free_json(alloc: Global, ranges: &[FreeRange]) -> Result<String, AllocError> {
     Value::Array(free_values(alloc, ranges)?).to_string_pretty(alloc)
 }

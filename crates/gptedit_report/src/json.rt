@@ -103,8 +103,8 @@ fn own_value(
     let mut members = Members::new(alloc);
     members.put_text("form", form_name(table))?;
     put_copies(&mut members, state)?;
-    members.put_number("size", size)?;
-    members.put_number("align", table.align)?;
+    members.put_number("size_bytes", size)?;
+    members.put_number("align_sectors", table.align)?;
     members.put_list("free", free_values(alloc, free)?)?;
     Ok(members.into_value())
 }
@@ -133,7 +133,7 @@ fn copy_name(fault: Option<&Error>) -> &'static str {
     }
 }
 
-/// Returns free ranges as `start` and `size`, in sectors.
+/// Returns free ranges as `start_sectors` and `size_sectors`.
 pub(crate) fn free_values(alloc: Global, ranges: &[FreeRange]) -> Result<Vec<Value>, AllocError> {
     let mut values = Vec::with_capacity(alloc, ranges.len())?;
     for range in ranges {
@@ -144,8 +144,8 @@ pub(crate) fn free_values(alloc: Global, ranges: &[FreeRange]) -> Result<Vec<Val
 
 fn free_value(alloc: Global, range: &FreeRange) -> Result<Value, AllocError> {
     let mut members = Members::new(alloc);
-    members.put_number("start", range.start)?;
-    members.put_number("size", range.length)?;
+    members.put_number("start_sectors", range.start)?;
+    members.put_number("size_sectors", range.length)?;
     Ok(members.into_value())
 }
 

@@ -4,7 +4,7 @@ use crate::columns::{Column, print_columns, push_cell};
 use crate::map::regions::{Owner, Region, TableDisk};
 use crate::map::widths::{CELLS, widths_of};
 use crate::texts::NameText;
-use gptedit_values::{ByteCount, Escaped};
+use gptedit_values::{ByteCount, ShellWord};
 use gptman::{BothCopies, GPT};
 use std::alloc::{AllocError, Global};
 use std::io;
@@ -41,7 +41,7 @@ pub fn print_map<W: Write>(
     let disk = TableDisk::new(size, table, copies);
     let taken = disk.taken(alloc)?;
     if let Some(fault) = disk.fault(&taken) {
-        let image = Escaped(image);
+        let image = ShellWord(image);
         return writeln!(out, "no map: {fault}; see `gptedit check {image}`");
     }
     let regions = disk.regions(alloc, &taken)?;

@@ -6,7 +6,7 @@ use crate::report::{Commands, Message};
 use crate::way::SAVE;
 use gptedit_formats::copies::{CopyKind, FoundCopy, Salvaged};
 use gptedit_look::Look;
-use gptedit_values::Escaped;
+use gptedit_values::ShellWord;
 use std::alloc::AllocError;
 use std::fmt;
 
@@ -40,7 +40,7 @@ impl fmt::Display for NoTableText<'_> {
                 "the primary copy still has {primary} readable entries, and the backup {backup}"
             )?;
         }
-        let image = Escaped(self.image);
+        let image = ShellWord(self.image);
         write!(
             f,
             "`gptedit salvage {image}` prints what can be read; {SAVE}"

@@ -1,7 +1,7 @@
 //! Explains why a text is not a layout.
 
 use crate::reason::Reason;
-use crate::report::{ErrorLines, Message};
+use crate::report::{Commands, ErrorLines, Message};
 use gptedit_text::ErrorList;
 use std::alloc::AllocError;
 use std::fmt;
@@ -19,6 +19,13 @@ impl fmt::Display for NotLayoutText<'_> {
 impl Message for NotLayoutText<'_> {
     fn reason(&self) -> Reason {
         Reason::BadLayout
+    }
+
+    fn add_commands(&self, commands: &mut Commands) -> Result<(), AllocError> {
+        if self.0.errors().iter().any(|error| error.is_about_type()) {
+            commands.add(&["gptedit", "types"])?;
+        }
+        Ok(())
     }
 
     fn add_errors(&self, lines: &mut ErrorLines) -> Result<(), AllocError> {

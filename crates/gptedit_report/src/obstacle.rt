@@ -3,7 +3,7 @@
 use crate::reason::{Lift, Reason};
 use crate::report::{Commands, Message};
 use gptedit_look::{Obstacle, Purpose, What};
-use gptedit_values::Escaped;
+use gptedit_values::ShellWord;
 use gptman::GPT;
 use std::alloc::AllocError;
 use std::fmt;
@@ -121,7 +121,7 @@ impl ObstacleText<'_> {
 
     // Writes that `repair` writes there, after its dry run. Over the same entries it replaces nothing.
     fn write_repair<W: fmt::Write>(&self, f: &mut fmt::Formatter<W>) -> fmt::Result {
-        let image = Escaped(self.image);
+        let image = ShellWord(self.image);
         if self.remains != Remains::SameEntries {
             write!(
                 f,

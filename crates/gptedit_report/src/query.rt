@@ -5,7 +5,7 @@ use crate::members::Members;
 use crate::reason::Reason;
 use crate::report::{Commands, Message};
 use crate::texts::{GuidText, NameText};
-use gptedit_values::{AttributeNames, Escaped, FIELDS, Field, UnitsText};
+use gptedit_values::{AttributeNames, FIELDS, Field, ShellWord, UnitsText};
 use gptguid_core::text_of;
 use gptman::{GPTPartitionEntry, PartitionName};
 use serde_json::Value;
@@ -203,7 +203,7 @@ impl fmt::Display for NoValueText<'_> {
     fn fmt<W: fmt::Write>(&self, f: &mut fmt::Formatter<W>) -> fmt::Result {
         let Partition { number, entry, .. } = self.partition;
         let (first, last) = (entry.starting_lba, entry.ending_lba);
-        let (name, image) = (self.field.name(), Escaped(self.image));
+        let (name, image) = (self.field.name(), ShellWord(self.image));
         write!(
             f,
             "the {name} of partition {number} (sectors {first}..{last}) "

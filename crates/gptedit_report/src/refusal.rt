@@ -4,7 +4,7 @@ use crate::reason::{Lift, Reason};
 use crate::report::{Commands, Message};
 use crate::texts::EntryText;
 use gptedit_core::{Amount, Refusal, SectorRange};
-use gptedit_values::{AmountText, Escaped};
+use gptedit_values::{AmountText, ShellWord};
 use gptman::GPT;
 use std::alloc::AllocError;
 use std::fmt;
@@ -27,7 +27,7 @@ impl fmt::Display for RefusalText<'_> {
         match self.refusal {
             Refusal::NotWhole(amount) => write_not_whole(f, *amount, self.sector_size),
             Refusal::NoAlignment => {
-                f.write_str("the alignment must not be zero; use for example --align 1MiB")
+                f.write_str("the alignment must not be zero; use for example 1MiB")
             }
             Refusal::NoUnusedEntry => self.write_no_unused(f),
             Refusal::NoEntry(number) => self.write_no_entry(f, *number),
@@ -43,7 +43,9 @@ impl fmt::Display for RefusalText<'_> {
             Refusal::TooLarge(number) => write_too_large(f, *number),
             Refusal::NotLaidOut => write_not_laid_out(f, self.image),
             Refusal::TooSmall => self.write_too_small(f),
+            Refusal::SharedGuid if self.empty_table().is_some() => f.write_str(NEW_SHARED_GUID),
             Refusal::SharedGuid => write_shared_guid(f, self.image),
+            Refusal::BadBoundaries if self.empty_table().is_some() => write_outside(f, self.table),
             Refusal::BadBoundaries => write_bad_boundaries(f, self.image, self.table),
             Refusal::TooSmallFor(count) => write_too_small_for(f, *count),
             Refusal::OutOfBounds(usable) => write_out_of_bounds(f, *usable),
@@ -70,6 +72,7 @@ impl Message for RefusalText<'_> {
             Refusal::IsUnused(_) => commands.add_own("show", image),
             Refusal::NoRoom(_) if self.empty_table().is_none() => commands.add_own("free", image),
             Refusal::NoType(_) => commands.add(&["gptedit", "types"]),
+            Refusal::SharedGuid | Refusal::BadBoundaries if self.empty_table().is_some() => Ok(()),
             Refusal::SharedGuid => commands.add_own("check", image),
             Refusal::NotLaidOut => {
                 commands.add_own("grow", image)?;
@@ -103,7 +106,7 @@ impl RefusalText<'_> {
     }
 
     fn write_no_unused<W: fmt::Write>(&self, f: &mut fmt::Formatter<W>) -> fmt::Result {
-        let (count, image) = (self.count(), Escaped(self.image));
+        let (count, image) = (self.count(), ShellWord(self.image));
         writeln!(f, "all {count} entries of the table are used")?;
         write!(
             f,
@@ -134,7 +137,7 @@ impl RefusalText<'_> {
         write!(
             f,
             "entry {number} is not used; `gptedit show {}` lists the partitions",
-            Escaped(self.image)
+            ShellWord(self.image)
         )
     }
 
@@ -145,7 +148,7 @@ impl RefusalText<'_> {
     ) -> fmt::Result {
         self.write_entry(f, number)?;
         f.write_str(
-            " would move or change size\n\
+            " would move or become shorter\n\
              omit its start and size to keep it; --replace changes it, but does not move its contents",
         )
     }
@@ -177,7 +180,11 @@ impl RefusalText<'_> {
                 let (first, last) = (table.header.first_usable_lba, table.header.last_usable_lba);
                 write!(f, "the usable sectors are {first}..{last}")
             }
-            None => write!(f, "`gptedit free {}` lists the ranges", Escaped(self.image)),
+            None => write!(
+                f,
+                "`gptedit free {}` lists the ranges",
+                ShellWord(self.image)
+            ),
         }
     }
 
@@ -258,7 +265,7 @@ fn write_too_large<W: fmt::Write>(f: &mut fmt::Formatter<W>, number: u32) -> fmt
 
 /// Writes that a table does not have the stated layout, and the remedy.
 pub fn write_not_laid_out<W: fmt::Write>(f: &mut fmt::Formatter<W>, image: &str) -> fmt::Result {
-    let image = Escaped(image);
+    let image = ShellWord(image);
     writeln!(
         f,
         "the table is for a disk of another length, or is not in the layout that gptedit writes"
@@ -296,9 +303,13 @@ fn write_no_safe_order<W: fmt::Write>(f: &mut fmt::Formatter<W>) -> fmt::Result 
     f.write_str("--overwrite writes it anyway; a crash during the write may then leave neither")
 }
 
+// The text of a shared GUID if the table has no partitions yet.
+const NEW_SHARED_GUID: &str =
+    "two partitions would have the same GUID\nuse another one, or omit it for a random one";
+
 /// Writes that two partitions would have the same GUID, and the remedy.
 pub fn write_shared_guid<W: fmt::Write>(f: &mut fmt::Formatter<W>, image: &str) -> fmt::Result {
-    let image = Escaped(image);
+    let image = ShellWord(image);
     writeln!(f, "two partitions would have the same GUID")?;
     f.write_str("use another one, or omit it for a random one; ")?;
     write!(
@@ -313,14 +324,22 @@ pub fn write_bad_boundaries<W: fmt::Write>(
     image: &str,
     table: Option<&GPT>,
 ) -> fmt::Result {
-    let image = Escaped(image);
-    f.write_str("partitions would overlap, or lie outside the usable sectors")?;
-    if let Some(table) = table {
-        let (first, last) = (table.header.first_usable_lba, table.header.last_usable_lba);
-        write!(f, ", {first}..{last}")?;
-    }
+    let image = ShellWord(image);
+    write_outside(f, table)?;
     write!(
         f,
         "\n`gptedit free {image}` lists the free ranges; `gptedit check {image}` reports existing faults"
     )
+}
+
+// Writes that partitions would overlap or be outside the usable sectors.
+fn write_outside<W: fmt::Write>(f: &mut fmt::Formatter<W>, table: Option<&GPT>) -> fmt::Result {
+    f.write_str("partitions would overlap, or lie outside the usable sectors")?;
+    match table {
+        Some(table) => {
+            let (first, last) = (table.header.first_usable_lba, table.header.last_usable_lba);
+            write!(f, ", {first}..{last}")
+        }
+        None => Ok(()),
+    }
 }

@@ -1,6 +1,6 @@
 //! Prints a table in at most 80 columns.
 
-use crate::columns::{Column, print_columns, push_cell, total_width, widest};
+use crate::columns::{Column, print_columns, push_cell, total_width, widest, width_of};
 use crate::copies::CopiesState;
 use crate::texts::{NameText, SizeText};
 use gptedit_values::ByteCount;
@@ -10,7 +10,7 @@ use std::alloc::{AllocError, Global};
 use std::io::Write;
 use std::{fmt, io};
 
-// The maximum number of characters of a line.
+// The maximum width of a line, in columns of a terminal.
 const LINE_WIDTH: usize = 80;
 
 // The number of spaces between two columns.
@@ -44,8 +44,8 @@ const COLUMNS: [Column; 6] = [
 /// the disk, and if there are partitions, an empty line and a line for each under headings. Starts and ends are in
 /// sectors.
 ///
-/// A line has at most 80 characters: a longer type or name ends with two dots. Returns the error of `out`, or
-/// `OutOfMemory`.
+/// A line takes at most 80 columns of a terminal: a longer type or name ends with two dots. Returns the error of `out`,
+/// or `OutOfMemory`.
 pub fn show_short<W: Write>(
     out: &mut W,
     alloc: Global,
@@ -127,7 +127,7 @@ fn rows_of(alloc: Global, texts: Texts) -> Result<Vec<Vec<String>>, AllocError> 
     Ok(rows)
 }
 
-// The widths of two columns in characters.
+// The widths of two columns.
 #[derive(Clone, Copy)]
 struct Widths {
     kind: usize,
@@ -145,14 +145,19 @@ fn share(kind: usize, name: usize, room: usize) -> Widths {
     }
 }
 
-// Returns a text of at most `width` characters. A longer text ends with dots.
+// Returns a text of at most this width. A longer text ends with dots.
 fn cut(alloc: Global, text: &str, width: usize) -> Result<String, AllocError> {
-    if text.chars().count() <= width {
+    if width_of(text) <= width {
         return String::from_str(alloc, text);
     }
+    let room = width.saturating_sub(DOTS.len());
     let mut short = String::new(alloc);
-    for c in text.chars().take(width.saturating_sub(DOTS.len())) {
+    for c in text.chars() {
         short.push(c)?;
+        if width_of(short.as_str()) > room {
+            short.pop();
+            break;
+        }
     }
     short.push_str(DOTS)?;
     Ok(short)

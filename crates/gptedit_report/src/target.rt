@@ -4,7 +4,7 @@ use crate::reason::Reason;
 use crate::report::{Commands, Message};
 use crate::texts::{GuidText, QuotedText};
 use gptedit_core::{NotFound, Target};
-use gptedit_values::Escaped;
+use gptedit_values::ShellWord;
 use std::alloc::AllocError;
 use std::fmt;
 
@@ -26,7 +26,7 @@ impl fmt::Display for NotFoundText<'_> {
             NotFound::None => write!(
                 f,
                 "no partition has the {target}; `gptedit show {}` lists the partitions",
-                Escaped(self.image)
+                ShellWord(self.image)
             ),
             NotFound::Several(first, second) => write!(
                 f,

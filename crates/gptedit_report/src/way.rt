@@ -1,6 +1,6 @@
 //! The commands that correct findings, and the advice if none does.
 
-use gptedit_values::Escaped;
+use gptedit_values::ShellWord;
 use std::alloc::{AllocError, Global};
 use std::fmt;
 
@@ -65,7 +65,7 @@ pub(crate) struct WayOut<'a> {
 
 impl fmt::Display for WayOut<'_> {
     fn fmt<W: fmt::Write>(&self, f: &mut fmt::Formatter<W>) -> fmt::Result {
-        let image = Escaped(self.image);
+        let image = ShellWord(self.image);
         match self.way {
             None => write_otherwise(f, self.otherwise, self.image),
             Some(Way::Repair) => write!(f, "`gptedit repair {image}`"),
@@ -102,7 +102,7 @@ fn write_otherwise<W: fmt::Write>(
         Otherwise::Save => write!(
             f,
             "`gptedit salvage {}` prints what can be read; {SAVE}",
-            Escaped(image)
+            ShellWord(image)
         ),
         Otherwise::Lengthen(size) => write!(
             f,
@@ -133,7 +133,7 @@ pub(crate) struct Truncate<'a> {
 
 impl fmt::Display for Truncate<'_> {
     fn fmt<W: fmt::Write>(&self, f: &mut fmt::Formatter<W>) -> fmt::Result {
-        let (size, image) = (self.size, Escaped(self.image));
+        let (size, image) = (self.size, ShellWord(self.image));
         write!(f, "`truncate -s {size} {image}`")
     }
 }

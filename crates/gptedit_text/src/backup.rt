@@ -5,7 +5,7 @@ use crate::error::{BackupPart, LayoutError, NotLayout};
 use crate::table_header::{Form, Header};
 use gptedit_core::layout_of;
 use gptman::disk::plain::PlainDisk;
-use gptman::sizes::{ENTRY_SIZE, SECTOR_SIZES};
+use gptman::sizes::{ENTRY_SIZE, MAX_ENTRY_COUNT, SECTOR_SIZES};
 use gptman::{Disk, Error, GPT, GPTHeader};
 use std::alloc::Global;
 
@@ -35,7 +35,7 @@ fn has_signature(bytes: &[u8], at: usize) -> bool {
 /// Reads a backup as `sgdisk --backup` writes it: a block with the MBR, one with each header, and the entries. Its layout
 /// has all fields of each used entry, and the GUID of the disk.
 ///
-/// Fails with `Backup` if a header or the entries have a fault.
+/// Fails with `Backup` if a header or the entries have a fault, and with `ManyEntries` before too many are read.
 pub fn read_backup(alloc: Global, bytes: Vec<u8>) -> Result<Parsed, NotLayout> {
     read_parts(alloc, bytes).map_err(|error| NotLayout::of(alloc, error))
 }
@@ -75,6 +75,10 @@ fn read_header(
 
 // Reads the entries that the header counts.
 fn read_table(alloc: Global, disk: &mut PlainDisk, primary: GPTHeader) -> Result<GPT, LayoutError> {
+    let count = primary.number_of_partition_entries;
+    if count > MAX_ENTRY_COUNT {
+        return Err(LayoutError::ManyEntries(count));
+    }
     let header = GPTHeader {
         partition_entry_lba: ENTRIES,
         ..primary

@@ -5,8 +5,9 @@ mod list;
 mod section;
 
 pub use fault::Fault;
-use gptedit_values::Escaped;
+use gptedit_values::{Escaped, Wrong};
 use gptman::Error;
+use gptman::sizes::MAX_ENTRY_COUNT;
 pub use list::{ErrorList, NotLayout};
 pub use section::Section;
 use std::alloc::{AllocError, AllocFailed};
@@ -39,6 +40,8 @@ pub enum LayoutError {
         part: BackupPart,
         error: Error,
     },
+    /// The backup of `sgdisk` counts this number of entries, more than `MAX_ENTRY_COUNT`.
+    ManyEntries(u32),
     /// An allocation failed.
     OutOfMemory,
 }
@@ -89,6 +92,11 @@ impl fmt::Display for LayoutError {
                 let fault = BackupFault(error);
                 write!(f, "the file is a backup of sgdisk, but {part}: {fault}")
             }
+            LayoutError::ManyEntries(count) => write!(
+                f,
+                "the file is a backup of sgdisk, but its primary header counts {count} entries\n\
+                 gptedit reads at most {MAX_ENTRY_COUNT}; `sgdisk --resize-table=N` changes the number of a table"
+            ),
             LayoutError::OutOfMemory => f.write_str("out of memory"),
         }
     }
@@ -168,7 +176,20 @@ impl LayoutError {
         match self {
             LayoutError::Syntax { line, .. } => Some(*line),
             LayoutError::Unknown { place, .. } | LayoutError::Fault { place, .. } => place.line,
-            LayoutError::Empty | LayoutError::Backup { .. } | LayoutError::OutOfMemory => None,
+            LayoutError::Empty
+            | LayoutError::Backup { .. }
+            | LayoutError::ManyEntries(_)
+            | LayoutError::OutOfMemory => None,
+        }
+    }
+
+    /// Reports whether a word is not a type.
+    pub fn is_about_type(&self) -> bool {
+        match self {
+            LayoutError::Fault { fault, .. } => {
+                matches!(fault, Fault::NoType(_) | Fault::Value(Wrong::NoType))
+            }
+            _ => false,
         }
     }
 }

@@ -147,12 +147,16 @@ fn read_header(disk: &Keyed<'_>, errors: &mut ErrorList) -> Result<Header, Layou
     let entries = errors.keep(disk.count("entries"))?;
     let first_usable = errors.keep(disk.word("first-usable", |text| read_sector(text)))?;
     let last_usable = errors.keep(disk.word("last-usable", |text| read_sector(text)))?;
-    Ok(Header {
+    let header = Header {
         sector_size: sector_size.flatten(),
         entries: entries.flatten(),
         first_usable: first_usable.flatten(),
         last_usable: last_usable.flatten(),
-    })
+    };
+    if header.ends_early() {
+        errors.add(disk.fault("last-usable", Fault::EndsEarly))?;
+    }
+    Ok(header)
 }
 
 // Reads the size of a sector in bytes.

@@ -89,6 +89,14 @@ impl Header {
         form.expect(key, self.sector_size, table.sector_size, false)
     }
 
+    /// Reports whether the usable sectors end before they begin. There may be none.
+    pub fn ends_early(&self) -> bool {
+        match (self.first_usable, self.last_usable) {
+            (Some(first), Some(last)) => last < first.saturating_sub(1),
+            _ => false,
+        }
+    }
+
     /// Returns the number of entries and the usable sectors.
     pub fn shape(&self) -> StatedShape {
         StatedShape {

@@ -2,7 +2,7 @@
 
 use crate::attributes::AllNames;
 use crate::field::AllFields;
-use gptguid_core::nearest_name;
+use crate::likely::likely_name;
 use std::fmt;
 
 /// Why a word is wrong.
@@ -107,7 +107,7 @@ impl fmt::Display for AttributeRule {
     }
 }
 
-/// Prints the rule that a word breaks, and for a type the name that is nearest to the word.
+/// Prints the rule that a word breaks, and for a type the name that the word is likely to mean.
 #[derive(Clone, Copy)]
 pub struct WrongText<'a> {
     /// The rule.
@@ -120,7 +120,7 @@ impl fmt::Display for WrongText<'_> {
     fn fmt<W: fmt::Write>(&self, f: &mut fmt::Formatter<W>) -> fmt::Result {
         write!(f, "{}", self.wrong)?;
         match self.wrong {
-            Wrong::NoType => match nearest_name(self.text) {
+            Wrong::NoType => match likely_name(self.text) {
                 Some(name) => write!(f, "; the nearest name is {name}"),
                 None => Ok(()),
             },

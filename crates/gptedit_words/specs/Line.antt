@@ -93,7 +93,7 @@ changes = change (codes "new") (value (codes "--guid") ∷ number (codes "--entr
     ∷ change (codes "remove") (text_places (codes "N") ∷ fit ∷ [])
     ∷ change (codes "sort") (fit ∷ [])
     ∷ change (codes "grow") (place (codes "N") ∷ flag (codes "--random-guids") ∷ [])
-    ∷ change (codes "repair") (flag (codes "--bounds") ∷ [])
+    ∷ change (codes "repair") (flag (codes "--bounds") ∷ fit ∷ [])
     ∷ change (codes "randomize") (fit ∷ [])
     ∷ change (codes "apply") (text_place (codes "FILE") ∷ flag (codes "--replace") ∷ flag (codes "--create") ∷ fit ∷ [])
     ∷ change (codes "wipe") []

@@ -234,6 +234,7 @@ pub(crate) static CHANGES: [Definition; 11] = [
                 "--bounds",
                 "Sets the first and last usable sector to the usual ones",
             ),
+            FIT,
         ],
         options: WRITING,
     },

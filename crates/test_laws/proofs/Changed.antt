@@ -31,8 +31,9 @@ use Rattle.gptedit_core.specs.declared.refusal.Refusal.{Refusal}
 use Rattle.gptedit_core.specs.declared.refusal.Refusal.TheVariants.{NoAlignment, NoType}
 use Rattle.gptedit_core.specs.declared.resolve.ResolvedPartition.{ResolvedPartition}
 use Rattle.gptedit_core.specs.declared.sectors.SectorRange.{SectorRange}
-use Rattle.gptedit_core.proofs.Again.{given, of_by, unnamed_more}
+use Rattle.gptedit_core.proofs.Again.{given, of_by}
 use Rattle.gptedit_core.proofs.Dumped.{at_number}
+use Rattle.gptedit_core.proofs.Exact.{unnamed_more}
 use Rattle.gptedit_core.proofs.Applied.{cleared_keep, removed_keep}
 use Rattle.gptedit_core.proofs.Same.{cleared_same, removed_same}
 use Rattle.gptedit_core.proofs.Steps.{and_then_ok, else_ok}

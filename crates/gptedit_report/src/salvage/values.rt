@@ -8,8 +8,8 @@ use gptman::GPTHeader;
 use serde_json::Value;
 use std::alloc::{AllocError, Global};
 
-/// Returns the result of a search as JSON: `device`, `size` in bytes, `best` (the index of the best copy, or null), and
-/// `copies`. Each copy has `sector_size`, `place` (`primary`, `backup` or `other`), `lba`, `sectors`, `header` (or
+/// Returns the result of a search as JSON: `device`, `size_bytes`, `best` (the index of the best copy, or null), and
+/// `copies`. Each copy has `sector_size_bytes`, `place` (`primary`, `backup` or `other`), `lba`, `sectors`, `header` (or
 /// null), `faults` and `entries`, each with its own `faults`. Hidden characters are escaped.
 pub fn salvaged_json(
     alloc: Global,
@@ -22,7 +22,7 @@ pub fn salvaged_json(
     }
     let mut members = Members::new(alloc);
     members.put_text("device", image)?;
-    members.put_number("size", salvaged.size)?;
+    members.put_number("size_bytes", salvaged.size)?;
     match salvaged.best {
         Some(best) => members.put_number("best", best as u64)?,
         None => members.put("best", Value::Null)?,
@@ -38,7 +38,7 @@ fn copy_value(alloc: Global, copy: &FoundCopy) -> Result<Value, AllocError> {
     }
     let spot = copy.spot;
     let mut members = Members::new(alloc);
-    members.put_number("sector_size", spot.sector_size)?;
+    members.put_number("sector_size_bytes", spot.sector_size)?;
     members.put_text("place", kind_name(spot.kind))?;
     members.put_number("lba", spot.lba)?;
     members.put_number("sectors", spot.sectors)?;
@@ -63,7 +63,7 @@ fn header_value(alloc: Global, header: &GPTHeader) -> Result<Value, AllocError> 
     let mut members = Members::new(alloc);
     let revision = u32::from_le_bytes(header.revision);
     members.put_number("revision", u64::from(revision))?;
-    members.put_number("header_size", u64::from(header.header_size))?;
+    members.put_number("header_size_bytes", u64::from(header.header_size))?;
     members.put_number("checksum", u64::from(header.crc32_checksum))?;
     members.put_number("my_lba", header.primary_lba)?;
     members.put_number("other_lba", header.backup_lba)?;
@@ -74,7 +74,7 @@ fn header_value(alloc: Global, header: &GPTHeader) -> Result<Value, AllocError> 
     let count = header.number_of_partition_entries;
     members.put_number("entries", u64::from(count))?;
     let size = header.size_of_partition_entry;
-    members.put_number("entry_size", u64::from(size))?;
+    members.put_number("entry_size_bytes", u64::from(size))?;
     let checksum = header.partition_entry_array_crc32;
     members.put_number("entries_checksum", u64::from(checksum))?;
     Ok(members.into_value())

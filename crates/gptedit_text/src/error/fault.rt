@@ -1,7 +1,6 @@
 //! Faults of values.
 
-use gptedit_values::{AllSfdiskNames, AttributeName, Wrong};
-use gptguid_core::nearest_name;
+use gptedit_values::{AllSfdiskNames, AttributeName, Wrong, likely_name};
 use gptman::sizes::{DEFAULT_ENTRY_COUNT, MAX_ENTRY_COUNT};
 use std::fmt;
 
@@ -22,7 +21,7 @@ pub enum Fault {
     NotAttributes,
     /// The word is wrong.
     Value(Wrong),
-    /// The word is no type. This name is nearest to it.
+    /// The word is no type. It is likely to mean this name.
     NoType(Option<&'static str>),
     /// An earlier partition has this number.
     Taken(u32),
@@ -40,6 +39,8 @@ pub enum Fault {
     TwoEnds,
     /// It is not a number of entries.
     NotEntries,
+    /// The usable sectors end before they begin.
+    EndsEarly,
     /// It is not the size of a sector.
     NotSectorSize,
     /// It is not the string of a sector.
@@ -109,7 +110,7 @@ impl Fault {
     /// Returns the fault of a wrong word.
     pub fn of(wrong: Wrong, word: &str) -> Fault {
         match wrong {
-            Wrong::NoType => Fault::NoType(nearest_name(word)),
+            Wrong::NoType => Fault::NoType(likely_name(word)),
             wrong => Fault::Value(wrong),
         }
     }
@@ -133,6 +134,7 @@ impl Fault {
             }
             Fault::TwoNames => "the partition also has the key name; use only one of the two",
             Fault::TwoEnds => "the partition also has the key size; use only one of the two",
+            Fault::EndsEarly => "the usable sectors must not end before they begin",
             Fault::NotSectorSize => {
                 "it must be a number of bytes with a unit, for example \"512B\" or \"4KiB\""
             }

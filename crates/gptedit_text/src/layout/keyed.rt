@@ -8,6 +8,7 @@ ghost use Rattle.gptedit_values.specs.Words.{HasBitsOf};
 
 use crate::error::{ErrorList, Fault, LayoutError, Section, TextPlace};
 use gptedit_values::{Wrong, read_attribute};
+use gptman::sizes::MAX_ENTRY_COUNT;
 use std::alloc::Global;
 use toml::{Table, Value};
 
@@ -98,7 +99,10 @@ impl<'a> Keyed<'a> {
     pub fn count(&self, key: &'static str) -> Result<Option<u32>, LayoutError> {
         let count = match self.get(key) {
             None => return Ok(None),
-            Some(Value::Integer(count)) => u32::try_from(*count).ok(),
+            Some(Value::Integer(count)) => match u32::try_from(*count) {
+                Ok(count) if count <= MAX_ENTRY_COUNT => Some(count),
+                _ => None,
+            },
             Some(_) => None,
         };
         match count {

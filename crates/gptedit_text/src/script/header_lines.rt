@@ -5,6 +5,7 @@ use crate::script::extents::read_any_extent;
 use crate::table_header::Header;
 use gptedit_core::{Amount, DEFAULT_ALIGN};
 use gptedit_values::{read_guid, read_number};
+use gptman::sizes::MAX_ENTRY_COUNT;
 use std::alloc::Global;
 
 /// The headers that were read.
@@ -83,8 +84,14 @@ impl HeaderLines {
         let header = &mut self.header;
         match name {
             "sector-size" => header.sector_size = Some(count_in(place, "sector-size", value)?),
-            "first-lba" => header.first_usable = Some(count_in(place, "first-lba", value)?),
-            "last-lba" => header.last_usable = Some(count_in(place, "last-lba", value)?),
+            "first-lba" => {
+                header.first_usable = Some(count_in(place, "first-lba", value)?);
+                return self.check_usable(place, "first-lba");
+            }
+            "last-lba" => {
+                header.last_usable = Some(count_in(place, "last-lba", value)?);
+                return self.check_usable(place, "last-lba");
+            }
             "table-length" => header.entries = Some(entries_in(place, value)?),
             _ => {
                 let key = String::from_str(alloc, name)?;
@@ -92,6 +99,15 @@ impl HeaderLines {
             }
         }
         Ok(())
+    }
+
+    // Refuses usable sectors that end before they begin.
+    fn check_usable(&self, place: TextPlace, key: &'static str) -> Result<(), LayoutError> {
+        if self.header.ends_early() {
+            Err(place.fault(key, Fault::EndsEarly))
+        } else {
+            Ok(())
+        }
     }
 }
 
@@ -116,7 +132,10 @@ fn count_in(place: TextPlace, key: &'static str, value: &str) -> Result<u64, Lay
 
 fn entries_in(place: TextPlace, value: &str) -> Result<u32, LayoutError> {
     let count = count_in(place, "table-length", value)?;
-    u32::try_from(count).map_err(|_| place.fault("table-length", Fault::NotEntries))
+    match u32::try_from(count) {
+        Ok(count) if count <= MAX_ENTRY_COUNT => Ok(count),
+        _ => Err(place.fault("table-length", Fault::NotEntries)),
+    }
 }
 
 fn guid_in(place: TextPlace, value: &str) -> Result<[u8; 16], LayoutError> {
