@@ -1,6 +1,6 @@
 # Needs `rt` of the Rattle kit on the PATH; README.md says what else.
 
-.PHONY: try gptimg gptguid gptedit lib static dist package install demo check test plants bench crash-states trials
+.PHONY: try gptimg gptguid gptedit lib static dist package install completions demo check test plants bench crash-states trials
 
 # Where `make install` puts the programs and their manual pages.
 PREFIX = /usr/local
@@ -64,6 +64,10 @@ install:
 	install -D -m 644 include/gptman_fd.h "$(DESTDIR)$(PREFIX)/include/gptman_fd.h"
 	install -d "$(DESTDIR)$(PREFIX)/lib/python3/dist-packages/gptman"
 	install -m 644 python/gptman/*.py python/gptman/py.typed "$(DESTDIR)$(PREFIX)/lib/python3/dist-packages/gptman"
+
+# Writes what bash, zsh and fish complete, from the words of gptedit.
+completions:
+	@scripts/completions --write
 
 # Makes an empty disk image, writes a table to it and shows it.
 demo: gptimg

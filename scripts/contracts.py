@@ -188,8 +188,20 @@ def symbol_of(name):
     return f"{of_trait[1]}{of_trait[2]}{argument}::{of_trait[4]}"
 
 
-def without_bodies(text, here, kept):
-    """A source text without the bodies of functions that are not kept, and the paths of these functions."""
+def homes_of(crate):
+    """The path of the module in which each struct or enum of a crate is."""
+    homes = {}
+    for file in sources(crate):
+        for line in lines_of(f"crates/{crate}/{file}"):
+            found = TYPE.match(line)
+            if found:
+                homes[found[1]] = module_of(file)
+    return homes
+
+
+def without_bodies(text, here, kept, homes):
+    """A source text without the bodies of functions that are not kept, and the paths of these functions. A function of a
+    type is in the module of the type, also if it is in another file."""
     lines, paths, block, margin, path, skips = [], [], None, "", None, False
     for line in text.split("\n"):
         skips = skips and line != margin + "}"
@@ -200,7 +212,8 @@ def without_bodies(text, here, kept):
         begins = FN.match(line)
         if begins and (not block or block.re is IMPL):
             is_kept = symbol_of(named(begins, block, here)) in kept
-            margin, path = margin_of(line), None if is_kept else "::".join([*here, symbol_of(named(begins, block, []))])
+            home = homes.get(block[2], here) if block and not block[1] else here
+            margin, path = margin_of(line), None if is_kept else "::".join([*home, symbol_of(named(begins, block, []))])
         if path and line.endswith(("{", "{}")) and margin_of(line) == margin:
             paths.append(path)
             path, skips = None, line.endswith("{")

@@ -90,9 +90,10 @@ class Copy:
 
     def leave_out(self, functions):
         """Leaves out the bodies of all functions but these, and leaves their proofs open."""
+        homes = contracts.homes_of(self.crate)
         for file in contracts.sources(self.crate):
             with open(f"{self.folder}/{file}", encoding="utf-8") as source:
-                text, paths = contracts.without_bodies(source.read(), contracts.module_of(file), functions)
+                text, paths = contracts.without_bodies(source.read(), contracts.module_of(file), functions, homes)
             with open(f"{self.folder}/{file}", "w", encoding="utf-8") as source:
                 source.write(text)
             for path in paths:

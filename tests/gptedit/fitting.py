@@ -71,6 +71,11 @@ def with_rest(found, sector=512):
     return found._replace(entries={**found.entries, 4: one})
 
 
+def all_usable(found, sector=512):
+    """The table in which all sectors before the backup copy are usable."""
+    return found._replace(first=2 + -(-found.count * 128 // sector))
+
+
 def sorted_by_start(found):
     """The table after `sort`."""
     return found._replace(entries=dict(enumerate(sorted(found.entries.values(), key=lambda one: one.first), 1)))
@@ -92,6 +97,7 @@ COMMANDS = {
         entries={number: one for number, one in found.entries.items() if number != 2})),
     "sort": (["sort", IMAGE, "--fit"], lambda found, _: sorted_by_start(found)),
     "repair": (["repair", IMAGE, "--fit"], lambda found, _: found),
+    "repair of the bounds": (["repair", IMAGE, "--fit", "--bounds"], lambda found, sector: all_usable(found, sector)),
     "apply": (["apply", IMAGE, "layout.toml", "--fit"], lambda found, sector: with_rest(found, sector)),
     "grow": (["grow", IMAGE], lambda found, _: found),
     "grow N": (["grow", IMAGE, "3"], lambda found, sector: extended(found, 3, sector)),
@@ -174,6 +180,22 @@ def fits(tally, program, what, name, found, sector=512):
     tally.contains(f"the new bounds in what {what} prints", f"..{found.last}\n", out)
     ended = program.plain("check", IMAGE, "--sector", str(sector))
     tally.equals(f"check after {what}: {ended}", 0, ended.status)
+
+
+def try_bounds(tally, program):
+    """`repair --fit --bounds` makes all sectors between the two copies usable, of a table with bounds of other tools."""
+    for now in SIZE + MIB, 2 * SIZE, SIZE - MIB:
+        found = of(three(STEP), first=2048)
+        start(program, found, SIZE, now)
+        program.put(IMAGE, 34 * 512, bytes(2014 * 512))
+        program.put(IMAGE, 2000 * 512, b"?")
+        refused(tally, program, ["repair", IMAGE, "--fit", "--bounds"], "sector 2000 would become usable, but is not zero\n",
+                statuses=(1,))
+        program.put(IMAGE, 2000 * 512, b"\0")
+        goes(tally, program, ["repair", IMAGE, "--fit", "--bounds"])
+        holds_table(tally, program, f"repair --fit --bounds on {now} bytes", all_usable(fitted(found, now)))
+        ended = program.plain("check", IMAGE)
+        tally.equals(f"check after repair --fit --bounds: {ended}", 0, ended.status)
 
 
 def try_backups(tally, program):
@@ -597,7 +619,8 @@ def try_stops(tally, program):
     return "{} states: {} lost, {} between".format(*map(sum, zip(*totals)))
 
 
-SUBJECTS = {"--fit": try_commands, "--fit: copies at the old end": try_backups, "--fit: random GUIDs": try_randomize,
+SUBJECTS = {"--fit": try_commands, "repair --fit --bounds": try_bounds,
+            "--fit: copies at the old end": try_backups, "--fit: random GUIDs": try_randomize,
             "--fit on a disk of the same length": try_same, "grow N on a disk of the same length": try_grow_same,
             "grow N and resize --fit": try_two_words, "--fit on a shortened disk": try_cut,
             "--fit where the table cannot be fitted": try_unfit,

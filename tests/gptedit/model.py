@@ -215,7 +215,7 @@ class Player:
             wanted[free[0]] = table.Entry(LINUX, self.guid(), place, place + 7, 0, "new")
         text = layout_of(model.table.guid, wanted)
         line = ["apply", IMAGE, "-"] + (["--replace"] if is_replacing else [])
-        is_lost = any(number not in wanted or (wanted[number].first, wanted[number].last) != (entry.first, entry.last)
+        is_lost = any(number not in wanted or wanted[number].first != entry.first or wanted[number].last < entry.last
                       for number, entry in model.entries.items())
         if not is_replacing and is_lost or any(entry.last < entry.first for entry in wanted.values()):
             return line, None, text

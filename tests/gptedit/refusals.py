@@ -55,7 +55,7 @@ ROWS = [
     (["resize", "disk.img", "1", "0s"], "the partition would have a size of zero"),
     (["resize", "disk.img", "1", "3B"], "3B is not a whole number"),
     (["remove", "disk.img", "2"], "entry 2 is not used"),
-    (["remove", "disk.img", "1", "1"], "entry 1 is not used"),
+    (["remove", "disk.img", "1", "1"], "entry 1 is named twice; name it once"),
     (["remove", "disk.img", "4294967295"], "entry 4294967295 does not exist; the last entry is 128"),
     (["free", "disk.img", "--align", "0s"], "the alignment must not be zero; use for example 1MiB"),
     (["new", "disk.img"], "there is a GUID partition table with 1 partition, which would be lost"),

@@ -87,6 +87,8 @@ RULES = {
     "no order of writing keeps a good copy: refused": ["orders of writing"],
     "both copies, each synced before the next": ["writes and syncs", "writes over a broken copy"],
     "--fit and grow N: the table is fitted in the same write": ["--fit", "stops of --fit", "stops of growpart"],
+    "apply --fit --replace: the fitted table gets another shape in the same write": ["shapes of fitted tables",
+                                                                                    "stops of a change of the shape"],
     "grow --random-guids: GUIDs, bounds and a partition in one write": ["clones", "stops of clones"],
     "--fit changes nothing more on a disk of the table's length": ["--fit on a disk of the same length"],
     "a shortened disk: only the partition beyond the end is removed": ["--fit on a shortened disk"],

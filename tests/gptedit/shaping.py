@@ -19,7 +19,8 @@ KEEP = ", or use --replace to set it"
 # Values that no table on the disk has, and what is told of them.
 WITHIN = f"the usable sectors must be within 34..{END - 34} "
 NEVER = [("entries = 0", "the number of entries must not be zero"), ('first-usable = "33s"', WITHIN),
-         (f'last-usable = "{END - 33}s"', WITHIN), ('first-usable = "3000s"\nlast-usable = "2000s"', WITHIN)]
+         (f'last-usable = "{END - 33}s"', WITHIN),
+         ('first-usable = "3000s"\nlast-usable = "2000s"', "the usable sectors must not end before they begin\n")]
 
 
 def layout_of(found, sections=THREE, form="toml"):
@@ -297,6 +298,14 @@ def try_stops(tally, program):
             program.write("layout.toml", f"[disk]\n{keys}\n{THREE}".encode())
             words = files_in(program, ["apply", IMAGE, "layout.toml", "--replace"])
             totals.append(count_states(tally, program, f"{keys!r} from {name}", [program.path, *words], image))
+    for length in SIZE + 8 * MIB, SIZE - MIB:
+        fresh(program, of(three(STEP)))
+        program.set_length(IMAGE, length)
+        image = program.bytes_of(IMAGE)
+        for keys in STOPPED[:4]:
+            program.write("layout.toml", f"[disk]\n{keys}\n{THREE}".encode())
+            words = files_in(program, ["apply", IMAGE, "layout.toml", "--replace", "--fit"])
+            totals.append(count_states(tally, program, f"{keys!r} on {length} bytes", [program.path, *words], image))
     states, lost, between = map(sum, zip(*totals))
     return f"{states} states, {lost} lost, {between} between"
 
@@ -331,20 +340,49 @@ def try_fitted(tally, program):
         fresh(program, old, size)
         program.set_length(IMAGE, length)
         program.write("layout.toml", layout_of(old).encode())
-        refused(tally, program, ["apply", IMAGE, "layout.toml", "--fit"],
-                f"last-usable is {old.last} in the layout, but {new.last} on the disk\n", statuses=(1,))
-        program.write("layout.toml", layout_of(new._replace(count=256)).encode())
-        grow = f"run `gptedit grow {IMAGE}` first"
-        refused(tally, program, ["apply", IMAGE, "layout.toml", "--fit", "--replace"], grow, statuses=(1,))
+        told = (f"last-usable is {old.last} in the layout, but {new.last} on the disk\n" if size < length else
+                f"the usable sectors must be within 34..{new.last} and not end before they begin; correct the layout\n")
+        refused(tally, program, ["apply", IMAGE, "layout.toml", "--fit"], told, statuses=(1,))
         program.write("layout.toml", layout_of(new).encode())
         goes(tally, program, ["apply", IMAGE, "layout.toml", "--fit"])
         holds_table(tally, program, f"a fitted layout on {length} bytes", new)
         tally.equals("a fitted layout again", "unchanged\n", goes(tally, program, ["apply", IMAGE, "layout.toml", "--fit"]))
 
 
+def try_fitted_shapes(tally, program):
+    """A layout with --fit and --replace gives the fitted table another shape, in the same write."""
+    for size, length in (24 * MIB, 48 * MIB), (48 * MIB, 24 * MIB):
+        old = of(three(STEP), size)
+        for count, keys in (256, "entries = 256"), (56, "entries = 56"), (128, 'first-usable = "2048s"'):
+            new = of(three(STEP), length, count=count, first=2048 if count == 128 else None)
+            for text in layout_of(new), f"[disk]\n{keys}\n{THREE}":
+                fresh(program, old, size)
+                program.set_length(IMAGE, length)
+                program.write("layout.toml", text.encode())
+                words = ["apply", IMAGE, "layout.toml", "--fit", "--replace"]
+                goes(tally, program, words)
+                holds_table(tally, program, f"{text!r} fitted to {length} bytes", new)
+                tally.equals("the same layout again", "unchanged\n", goes(tally, program, words))
+    # A size is measured between the new bounds; a number or a place that the new table lacks is refused.
+    fresh(program, of({}, 24 * MIB), 24 * MIB)
+    program.set_length(IMAGE, 48 * MIB)
+    words = ["apply", IMAGE, "layout.toml", "--fit", "--replace"]
+    for text, reason in (("[disk]\nentries = 56\n[[partition]]\nnumber = 57\ntype = 'linux'\nsize = '1MiB'\n",
+                          "entry 57 would be used, but the table would have 56 entries"),
+                         ('[disk]\nlast-usable = "98271s"\n', f"the usable sectors must be within 34..{48 * STEP - 34}")):
+        program.write("layout.toml", text.encode())
+        refused(tally, program, words, reason, statuses=(1,))
+    program.write("layout.toml", b"[disk]\nentries = 256\n[[partition]]\ntype = 'linux'\nsize = '50%'\n")
+    goes(tally, program, words)
+    half = (48 * STEP - 66 - 65) // 2 // STEP * STEP
+    one = table.read(program.file(IMAGE)).entries[1]
+    tally.equals("half of the new bounds", (STEP, STEP + half - 1), (one.first, one.last))
+
+
 SUBJECTS = {
     "the most entries": try_most,
     "keys of a fitted table": try_fitted,
+    "shapes of fitted tables": try_fitted_shapes,
     "each shape from each other": try_shapes,
     "keys that are not stated": try_some,
     "entries in the same write": try_entries,

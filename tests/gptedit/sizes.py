@@ -111,7 +111,7 @@ def added(program, *words):
 def said(place, sector=512):
     """What is printed of a rounded place."""
     start, size, is_start, is_size = place
-    lines = [f"the {what} is rounded down to {sectors}s ({sectors * sector} bytes)\n"
+    lines = [f"the {what} is rounded to {sectors}s ({sectors * sector} bytes)\n"
              for what, sectors, is_rounded in (("start", start, is_start), ("size", size, is_size)) if is_rounded]
     return "".join(lines)
 

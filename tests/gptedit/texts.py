@@ -122,6 +122,12 @@ def is_kept(tally, program, what, units):
     tally.equals(f"the units of {what}, dumped and applied", [units + [0] * (36 - len(units))] * 2, units_in(program))
 
 
+def columns_of(text):
+    """The columns of a terminal that a text takes."""
+    marks = sum(unicodedata.category(each) in ("Mn", "Me") for each in text)
+    return len(text) - marks + sum(unicodedata.east_asian_width(each) in "WF" for each in text)
+
+
 def try_escapes(tally, program):
     """Each hidden character in what is printed."""
     for code in HIDDEN + SHOWN:
@@ -131,7 +137,8 @@ def try_escapes(tally, program):
         program.run("add", "disk.img", "--type", "efi", "--size", "1MiB", "--guid", ESP)
         put_units(program, units_of(name))
         shown = program.run("show", "disk.img")[1]
-        tally.holds(f"show of U+{code:04X}: {shown!r}", shown.endswith(f"  efi   {escaped:4}  {ESP}\n"))
+        padded = escaped + " " * (4 - columns_of(escaped))
+        tally.holds(f"show of U+{code:04X}: {shown!r}", shown.endswith(f"  efi   {padded}  {ESP}\n"))
         told = f'2048..4095 1 MiB efi "{escaped}"'
         says(tally, program, ["remove", "disk.img", "1", "-n"], f"a dry run, nothing is written:\n- 1 {told}\n")
         ended = program.run("add", "disk.img", "--type", "efi", "--size", "4KiB", "--number", "1")

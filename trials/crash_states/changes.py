@@ -26,6 +26,7 @@ start = "26624s"
 size = "1MiB"
 """
 SCRIPT = "label: gpt\nstart=4096, size=2048, name=only\n"
+SHAPE = "label: gpt\ntable-length: 256\nstart=4096, size=2048, name=only\n"
 
 # The name of each command, its words, and what it reads.
 COMMANDS = {
@@ -40,6 +41,7 @@ COMMANDS = {
     "randomize": (["randomize", "IMAGE"], ""),
     "apply": (["apply", "IMAGE", "-"], LAYOUT),
     "apply --replace": (["apply", "IMAGE", "-", "--replace", "--overwrite"], SCRIPT),
+    "apply --fit --replace": (["apply", "IMAGE", "-", "--fit", "--replace", "--overwrite"], SHAPE),
     "apply --create": (["apply", "IMAGE", "-", "--create", "--overwrite"], SCRIPT),
     "grow": (["grow", "IMAGE"], ""),
     "repair": (["repair", "IMAGE"], ""),

@@ -2,32 +2,29 @@
 
 use crate::changing::change;
 use crate::checking::check;
-use crate::failure::{Failure, refuse};
+use crate::failure::Failure;
+use crate::fitted::ends_with_disk;
 use crate::image::{Image, Opening};
 use crate::layouts::{
-    added, layout_for, read_added, read_asked, shape_for, take_bootable, widened,
+    Applied, added, layout_for, read_added, read_asked, shape_for, take_bootable, widened,
 };
 use crate::measuring::measured;
-use crate::planning::{ends_with_disk, fit_bounds};
 use crate::selecting::{number_of, refuse_twice, selected};
 use crate::task::Task;
 use crate::wiping::clear;
 use crate::{looking, making, tasks};
-use gptedit_core::{
-    EntryMatch, Job, MatchedLayout, Refusal, Shape, extension, put_used_first, removal,
-};
+use gptedit_core::{EntryMatch, Job, MatchedLayout, Shape, extension, put_used_first, removal};
 use gptedit_look::{Look, Purpose};
-use gptedit_report::{Commands, Message, Reason, types_json};
+use gptedit_report::types_json;
 use gptedit_text::{Parsed, StatedPlace};
-use gptedit_values::ShellWord;
 use gptedit_words::{Change, Command, ImageRequest, Lock, Options};
 use gptman::GPT;
-use std::alloc::{AllocError, Global};
+use std::alloc::Global;
 use std::fs::File;
 use std::io::Write;
+use std::mem;
 use std::random::RandomSource;
 use std::rt::Files;
-use std::{fmt, mem};
 
 /// How a change is reported.
 #[derive(Clone, Copy)]
@@ -228,9 +225,9 @@ where
             target: None,
             has_random_guids: false,
         } => return Ok(tasks::grow(rt.alloc())),
-        Change::Repair {
-            has_usual_bounds: false,
-        } if is_fitted && !ends_with_disk(table, look) => return Ok(tasks::grow(rt.alloc())),
+        Change::Repair { has_usual_bounds } if is_fitted && !ends_with_disk(table, look) => {
+            return tasks::refit(rt, image, look, table, has_usual_bounds);
+        }
         Change::Repair { has_usual_bounds } => {
             return tasks::repair(rt, image, look, has_usual_bounds);
         }
@@ -244,7 +241,10 @@ where
         shape,
     } = wanted;
     let mut task = match shape {
-        Some(shape) => tasks::reshape(rt, image, look, job, shape)?,
+        Some(shape) => {
+            let is_fitted = is_fitted && !ends_with_disk(table, look);
+            tasks::reshape(rt, image, look, job, shape, is_fitted)?
+        }
         None if is_fitted || is_growth => tasks::edit_fitted(rt, look, table, job)?,
         None => tasks::edit(rt, job)?,
     };
@@ -341,19 +341,16 @@ where
             },
             Some(parsed),
         ) => {
-            let applied = Applied { file, is_replacing };
-            return applied_to(rt, image, look, table, parsed, applied, is_fitted);
+            let applied = Applied {
+                file,
+                is_replacing,
+                is_fitted,
+            };
+            return applied_to(rt, image, look, table, parsed, applied);
         }
         _ => return Err(image.no_table(alloc, look)),
     };
     Ok(Wanted::plain(alloc, Job::Apply(layout)))
-}
-
-// How a layout is applied.
-#[derive(Clone, Copy)]
-struct Applied<'a> {
-    file: &'a str,
-    is_replacing: bool,
 }
 
 // Returns the job of a layout. It is matched with the entries, and measured between the bounds, that the table gets.
@@ -364,18 +361,17 @@ fn applied_to<R>(
     table: &GPT,
     mut parsed: Parsed,
     applied: Applied<'_>,
-    is_fitted: bool,
 ) -> Result<Wanted, Failure>
 where
     R: AllocGlobal + Eprint,
 {
     let alloc = rt.alloc();
-    let is_replacing = applied.is_replacing;
-    let shape = shape_of(alloc, image.name, look, table, &parsed, applied, is_fitted)?;
+    let shape = shape_for(alloc, image.name, look, table, &parsed, applied)?;
     let shaped = match shape {
         Some(shape) => Some(widened(alloc, table, shape)?),
         None => None,
     };
+    let is_fitted = applied.is_fitted && shaped.is_none();
     let table = shaped.as_ref().unwrap_or(table);
     let places = mem::replace(&mut parsed.places, Vec::new(alloc));
     let MatchedLayout { layout, matches } = layout_for(
@@ -383,7 +379,7 @@ where
         image.name,
         parsed.layout,
         table,
-        is_replacing,
+        applied.is_replacing,
     )?;
     let layout = measured(rt, image, look, table, is_fitted, layout, &places)?;
     Ok(Wanted {
@@ -391,52 +387,6 @@ where
         matches,
         shape,
     })
-}
-
-// Returns the shape that a layout gives the table, if it is another one. With `is_fitted` the table is compared as it is
-// once it is fitted to the disk, and a layout that then gives it another shape is refused.
-fn shape_of(
-    alloc: Global,
-    image: &str,
-    look: &Look,
-    table: &GPT,
-    parsed: &Parsed,
-    applied: Applied<'_>,
-    is_fitted: bool,
-) -> Result<Option<Shape>, Failure> {
-    let Applied { file, is_replacing } = applied;
-    if !is_fitted || ends_with_disk(table, look) {
-        return shape_for(alloc, image, look, file, parsed, table, is_replacing);
-    }
-    let fitted = fit_bounds(table, look.size)?;
-    match shape_for(alloc, image, look, file, parsed, &fitted, is_replacing)? {
-        Some(_) => Err(refuse(alloc, image, &GrowFirst(image))),
-        None => Ok(None),
-    }
-}
-
-// Message: a layout would give the table another shape and fit it to the disk in one write.
-#[derive(Clone, Copy)]
-struct GrowFirst<'a>(&'a str);
-
-impl fmt::Display for GrowFirst<'_> {
-    fn fmt<W: fmt::Write>(&self, f: &mut fmt::Formatter<W>) -> fmt::Result {
-        writeln!(
-            f,
-            "a layout applied with --fit cannot change the number of entries or the usable sectors"
-        )?;
-        write!(f, "run `gptedit grow {}` first", ShellWord(self.0))
-    }
-}
-
-impl Message for GrowFirst<'_> {
-    fn reason(&self) -> Reason {
-        Reason::Request(Refusal::NotLaidOut)
-    }
-
-    fn add_commands(&self, commands: &mut Commands) -> Result<(), AllocError> {
-        commands.add(&["gptedit", "grow", self.0])
-    }
 }
 
 // Returns the task if no table was read: only `apply --create` makes a table.

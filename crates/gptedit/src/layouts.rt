@@ -1,7 +1,7 @@
 //! Reads layouts from files.
 
 use crate::failure::{Failure, refuse, refuse_asked, refuse_error, refuse_failed, refuse_plain};
-use crate::planning::{copy_of, ends_with_disk};
+use crate::fitted::{copy_of, ends_with_disk, fit_bounds};
 use gptedit_core::{
     MatchedLayout, Refusal, RequestedLayout, SectorRange, Shape, Stop, match_layout, number_added,
 };
@@ -159,18 +159,45 @@ pub fn added(
     number_added(alloc, table, parsed.layout).map_err(|stop| not_planned(alloc, image, table, stop))
 }
 
-/// Returns the shape that a layout gives the table, or `None` if the table has it. Without `is_replacing`, refuses a layout
-/// whose header does not match the table; with it, only one for sectors of another size.
+/// How a layout is applied.
+#[derive(Clone, Copy)]
+pub struct Applied<'a> {
+    /// The file with the layout.
+    pub file: &'a str,
+    /// Whether the layout replaces what the table has.
+    pub is_replacing: bool,
+    /// Whether the table is first fitted to the disk.
+    pub is_fitted: bool,
+}
+
+/// Returns the shape that a layout gives the table, or `None` if the table has it. A table that is fitted is compared as it
+/// is after that.
 pub fn shape_for(
     alloc: Global,
     image: &str,
     look: &Look,
-    file: &str,
-    parsed: &Parsed,
     table: &GPT,
-    is_replacing: bool,
+    parsed: &Parsed,
+    applied: Applied<'_>,
 ) -> Result<Option<Shape>, Failure> {
-    let checked = if is_replacing {
+    if !applied.is_fitted || ends_with_disk(table, look) {
+        return shape_of(alloc, image, look, table, parsed, applied);
+    }
+    let fitted = fit_bounds(table, look.size)?;
+    shape_of(alloc, image, look, &fitted, parsed, applied)
+}
+
+// Returns the shape that a layout gives this table, or `None` if it has it. If the layout replaces nothing, refuses one
+// whose header does not match the table. Otherwise refuses only one for sectors of another size.
+fn shape_of(
+    alloc: Global,
+    image: &str,
+    look: &Look,
+    table: &GPT,
+    parsed: &Parsed,
+    applied: Applied<'_>,
+) -> Result<Option<Shape>, Failure> {
+    let checked = if applied.is_replacing {
         parsed.header.check_sector_size(parsed.form, table)
     } else {
         parsed.header.check(parsed.form, table, true)
@@ -180,7 +207,7 @@ pub fn shape_for(
         if other.is_settable {
             refuse_shape(alloc, image, look, table, next)?;
         }
-        return Err(refuse_failed(alloc, file, Reason::LayoutMismatch, &other));
+        return Err(refuse_failed(alloc, applied.file, Reason::LayoutMismatch, &other));
     }
     let is = Header::of(table).shape().complete(table);
     Ok(if next == is { None } else { Some(next) })

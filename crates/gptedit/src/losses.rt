@@ -1,6 +1,7 @@
 //! Refuses a change that would lose data on a partition, or in sectors that become usable.
 
 use crate::failure::{Failure, refuse, refuse_error};
+use crate::fitted::fit_bounds;
 use crate::image::Image;
 use crate::own::{Own, read_at};
 use crate::task::Work;
@@ -25,8 +26,12 @@ pub fn refuse_losses(
             refuse_freed(alloc, image, look, was, next)
         }
         Work::Edit(_) => refuse_shortening(alloc, image, was, next),
-        Work::Reshape(_) => {
+        Work::Reshape(reshaping) => {
             refuse_shortening(alloc, image, was, next)?;
+            if reshaping.is_fitted() {
+                let fitted = fit_bounds(was, look.size)?;
+                return refuse_freed(alloc, image, look, &fitted, next);
+            }
             refuse_freed(alloc, image, look, was, next)
         }
         _ => Ok(()),

@@ -11,6 +11,7 @@ mod checking;
 mod commands;
 mod drawing;
 mod failure;
+mod fitted;
 mod image;
 mod layouts;
 mod looking;

@@ -3,8 +3,8 @@
 ghost use Rattle.std.specs.Prelude.{◌<◌};
 
 use crate::failure::{Failure, refuse};
+use crate::fitted::ends_with_disk;
 use crate::image::Image;
-use crate::planning::ends_with_disk;
 use crate::task::Became;
 use crate::tasks;
 use gptedit_core::{

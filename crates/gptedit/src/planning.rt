@@ -1,6 +1,7 @@
 //! Plans a change: what it makes of the table, and whether that may be written.
 
 use crate::failure::{Failure, refuse, refuse_asked, refuse_error};
+use crate::fitted::{copy_of, ends_with_disk, fit_bounds};
 use crate::image::Image;
 use crate::losses::refuse_losses;
 use crate::mbr::change_mbr;
@@ -156,26 +157,23 @@ fn refuse_task(
     if let (true, Some(table)) = (is_unfit, table) {
         return refuse_unfit(alloc, image, look, table, refusal);
     }
-    if let (Some(shape), Some(table)) = (task.shape(), table) {
-        return refuse_shaped(alloc, image.name, shape, table, refusal);
-    }
-    if let (true, Refusal::BadBoundaries, Some(table)) = (task.is_fitted(), refusal, table) {
+    let is_cut = task.is_fitted() && *refusal == Refusal::BadBoundaries;
+    if let (true, Some(table)) = (is_cut, table) {
         let is_device = image.opened.device.is_some();
         if let Some(text) = CutText::of(table, look.size, is_device, image.name) {
             return refuse(alloc, image.name, &text);
         }
-        if !ends_with_disk(table, look) {
-            return match fit_bounds(table, look.size) {
-                Ok(fitted) => refuse_asked(
-                    alloc,
-                    image.name,
-                    Some(&fitted),
-                    look.sector_size,
-                    refusal,
-                ),
-                Err(failure) => failure,
-            };
-        }
+    }
+    if let (Some(shape), Some(table)) = (task.shape(), table) {
+        return refuse_shaped(alloc, image.name, shape, table, refusal);
+    }
+    if let (true, Some(table)) = (is_cut, table) {
+        return match fit_bounds(table, look.size) {
+            Ok(fitted) => {
+                refuse_asked(alloc, image.name, Some(&fitted), look.sector_size, refusal)
+            }
+            Err(failure) => failure,
+        };
     }
     refuse_asked(alloc, image.name, table, look.sector_size, refusal)
 }
@@ -255,25 +253,6 @@ impl Message for AboveLast {
     }
 }
 
-/// Returns a table with the usable sectors that it gets when it is fitted to a disk of `size` bytes.
-pub fn fit_bounds(table: &GPT, size: u64) -> Result<GPT, Failure> {
-    let mut fitted = copy_of(table)?;
-    let edges = Edges::of(table, size);
-    if edges.first < edges.least || edges.most < edges.first {
-        fitted.header.first_usable_lba = edges.least;
-    }
-    fitted.header.last_usable_lba = edges.most;
-    Ok(fitted)
-}
-
-/// Returns a copy of a table.
-pub fn copy_of(table: &GPT) -> Result<GPT, Failure> {
-    match table.clone() {
-        Ok(table) => Ok(table),
-        Err(_) => Err(Failure::OutOfMemory),
-    }
-}
-
 // Refuses a table whose usable sectors include its own. Removing the partitions there is permitted.
 fn refuse_bounds(
     alloc: Global,
@@ -292,13 +271,6 @@ fn refuse_bounds(
         return Ok(());
     }
     Err(refuse(alloc, image, &OverBounds { edges, image }))
-}
-
-/// Reports whether the disk has the length of the table: the backup header is in its last sector.
-pub fn ends_with_disk(table: &GPT, look: &Look) -> bool {
-    let sectors = look.size.checked_div(table.sector_size).unwrap_or(0);
-    let last = sectors.saturating_sub(1);
-    table.header.primary_lba.max(table.header.backup_lba) == last
 }
 
 // Reports whether a partition includes a sector of the table itself.

@@ -8,8 +8,8 @@ ghost use Rattle.gptedit_core.specs.Planning.{has_random};
 use crate::failure::{Failure, refuse_error};
 use crate::image::Image;
 use gptedit_core::{
-    Bounds, Creation, EntryMatch, FittedRequest, Growth, Made, Outcome, Refusal, Request,
-    ReshapedRequest, Shape,
+    Bounds, Creation, EntryMatch, FittedRequest, FittedReshapedRequest, Growth, Made, Outcome,
+    Refusal, Request, ReshapedRequest, Shape,
 };
 use gptedit_look::Purpose;
 use gptman::{GPT, Result};
@@ -57,8 +57,10 @@ pub struct Edit {
 /// A change of entries, of their number, and of the usable sectors.
 #[derive(Drop)]
 pub struct Reshaping {
-    reshaped: ReshapedRequest,
-    ghost ready: { has_random reshaped.request } by { asks_random-prop reshaped.request.job (length reshaped.request.random.items) },
+    both: FittedReshapedRequest,
+    // Whether the table is first fitted to the disk.
+    is_fitted: bool,
+    ghost ready: { has_random both.reshaped.request } by { asks_random-prop both.reshaped.request.job (length both.reshaped.request.random.items) },
 }
 
 /// A new table.
@@ -116,14 +118,15 @@ impl Task {
         match &self.work {
             Work::Grow(_) => true,
             Work::Edit(edit) => edit.is_fitted,
-            Work::Reshape(_) | Work::Remake(_) | Work::Make(_) => false,
+            Work::Reshape(reshaping) => reshaping.is_fitted(),
+            Work::Remake(_) | Work::Make(_) => false,
         }
     }
 
     /// Returns the number of entries and the usable sectors that the table gets before entries change, if any.
     pub fn shape(&self) -> Option<Shape> {
         match &self.work {
-            Work::Reshape(reshaping) => Some(reshaping.reshaped.shape),
+            Work::Reshape(reshaping) => Some(reshaping.both.reshaped.shape),
             _ => None,
         }
     }
@@ -131,7 +134,7 @@ impl Task {
     /// Permits an order of writes in which a crash may leave neither table.
     pub fn let_lose(&mut self) {
         match &mut self.work {
-            Work::Reshape(reshaping) => reshaping.reshaped.may_lose = true,
+            Work::Reshape(reshaping) => reshaping.both.reshaped.may_lose = true,
             Work::Remake(anew) => anew.let_lose(),
             _ => (),
         }
@@ -141,7 +144,7 @@ impl Task {
     pub fn may_lose(&self) -> bool {
         match &self.work {
             Work::Remake(anew) => anew.creation.may_lose,
-            Work::Reshape(reshaping) => reshaping.reshaped.may_lose,
+            Work::Reshape(reshaping) => reshaping.both.reshaped.may_lose,
             _ => false,
         }
     }
@@ -195,17 +198,26 @@ impl Edit {
 }
 
 impl Reshaping {
-    /// Returns the change for a request, with this number of entries and these usable sectors.
-    pub fn new(request: Request, shape: Shape) -> Reshaping
+    /// Returns the change for a request, with this number of entries and these usable sectors. With `is_fitted` the table is
+    /// first fitted to the disk, in the same write.
+    pub fn new(request: Request, shape: Shape, is_fitted: bool) -> Reshaping
         requires { has_random request }
     {
         Reshaping {
-            reshaped: ReshapedRequest {
-                request,
-                shape,
-                may_lose: false,
+            both: FittedReshapedRequest {
+                reshaped: ReshapedRequest {
+                    request,
+                    shape,
+                    may_lose: false,
+                },
             },
+            is_fitted,
         }
+    }
+
+    /// Reports whether the table is first fitted to the disk.
+    pub fn is_fitted(&self) -> bool {
+        self.is_fitted
     }
 
     fn run(
@@ -217,10 +229,14 @@ impl Reshaping {
     ) -> Result<Became>
         requires { 0 < sector_size }
     {
-        self.reshaped.request.is_dry = is_dry;
+        self.both.reshaped.request.is_dry = is_dry;
         let disk = &mut image.opened.disk;
         let size = Some(sector_size);
-        let outcome = gptedit_core::edit_reshaped(alloc, disk, size, &self.reshaped)?;
+        let outcome = if self.is_fitted {
+            gptedit_core::edit_fitted_reshaped(alloc, disk, size, &self.both)?
+        } else {
+            gptedit_core::edit_reshaped(alloc, disk, size, &self.both.reshaped)?
+        };
         Ok(read_outcome(outcome))
     }
 }

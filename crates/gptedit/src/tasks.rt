@@ -2,8 +2,8 @@
 
 use crate::drawing::{draw_guid, draw_guids, request_for};
 use crate::failure::{Failure, refuse_asked, refuse_error};
+use crate::fitted::ends_with_disk;
 use crate::image::Image;
-use crate::planning::ends_with_disk;
 use crate::selecting::selected;
 use crate::task::{Became, Edit, Reshaping, Task, Work};
 use gptedit_core::{
@@ -12,7 +12,7 @@ use gptedit_core::{
     removal, renewal, setting_layout,
 };
 use gptedit_look::{Look, Purpose};
-use gptedit_report::Way;
+use gptedit_report::{Edges, Way};
 use gptguid_core::from_name;
 use gptman::GPT;
 use std::alloc::Global;
@@ -41,18 +41,25 @@ pub fn edit_fitted<R: RandomSource + AllocGlobal>(
     task_of(rt, job, Purpose::Fit, true)
 }
 
-/// Returns the task of a job on a table that gets this number of entries and these usable sectors, in the same write. A
-/// crash leaves the old or the new table, unless no order of writes does.
+/// Returns the task of a job on a table that gets this number of entries and these usable sectors, in the same write. With
+/// `is_fitted` the table is first fitted to the disk. A crash leaves the old or the new table, unless no order of writes
+/// does.
 pub fn reshape<R: RandomSource + AllocGlobal>(
     rt: &R,
     image: &mut Image<'_>,
     look: &Look,
     job: Job,
     shape: Shape,
+    is_fitted: bool,
 ) -> Result<Task, Failure> {
     let only_removes = only_removes(&job);
-    let work = Work::Reshape(Reshaping::new(request_for(rt, job)?, shape));
-    let mut task = plain(rt.alloc(), work, Purpose::Edit, only_removes);
+    let purpose = if is_fitted {
+        Purpose::Fit
+    } else {
+        Purpose::Edit
+    };
+    let work = Work::Reshape(Reshaping::new(request_for(rt, job)?, shape, is_fitted));
+    let mut task = plain(rt.alloc(), work, purpose, only_removes);
     if let Became::Refused {
         refusal: Refusal::NoSafeOrder,
         ..
@@ -162,6 +169,27 @@ pub fn repair<R: RandomSource + AllocGlobal>(
         }
     }
     edit(rt, Job::Rewrite)
+}
+
+/// Returns the task of `repair` of a table that does not end with the disk: it is fitted to the disk. With
+/// `has_usual_bounds` all sectors between the two copies become usable, in the same write.
+pub fn refit<R: RandomSource + AllocGlobal>(
+    rt: &R,
+    image: &mut Image<'_>,
+    look: &Look,
+    table: &GPT,
+    has_usual_bounds: bool,
+) -> Result<Task, Failure> {
+    if !has_usual_bounds {
+        return Ok(grow(rt.alloc()));
+    }
+    let edges = Edges::of(table, look.size);
+    let shape = Shape {
+        entries: table.header.number_of_partition_entries,
+        first_usable: edges.least,
+        last_usable: edges.most,
+    };
+    reshape(rt, image, look, Job::Rewrite, shape, true)
 }
 
 /// Returns the layout of `grow`, which extends the target, if any, and may set random GUIDs.

@@ -19,6 +19,7 @@ pub mod Lengthened
 pub mod Matched
 pub mod Meanings
 pub mod Meant
+pub mod Refitted
 pub mod Rejected
 pub mod Offered
 pub mod Ordered

@@ -92,7 +92,7 @@ of_table : (old mid : DiskState) (ss : ℕ) (g : GPT) (was : Table) → StartsGo
 of_table old mid ss g was good sector (inl first) = of_place old ss g was primary good sector first
 of_table old mid ss g was good sector (inr second) = of_place old ss g was backup good sector second.0
 
-in_order : (g next : GPT) (len : ℕ) (may_lose : Bool) → may_lose ≡ false → HasOrder may_lose g next len → IsSafeOrder g next len
+pub in_order : (g next : GPT) (len : ℕ) (may_lose : Bool) → may_lose ≡ false → HasOrder may_lose g next len → IsSafeOrder g next len
 in_order g next len may_lose keeps (inl lose) = absurd (cc)
 in_order g next len may_lose keeps (inr order) = order
 

@@ -1,7 +1,7 @@
 -- The layout of a setting changes exactly one entry.
-use Rattle.std.proofs.Common.{◌≡◌, ◌<◌, ◌+◌, ◌-◌, ◌^◌, ◌⊎◌, ◌&&◌, inl, inr, ℕ, zero, suc, Bool, true, false, List, [], ◌∷◌, length, refl, sym, ap, ◌∙◌, subst, arith}
-use Rattle.std.specs.Prelude.{Option, Some, None, Result, Ok, Err, nat_eq, nat_le, nat_lt, slice_set, unwrap_or, if◌then◌else◌}
-use Rattle.std.proofs.lemmas.Bool.{cases_eq, eq-eqb, leb-true}
+use Rattle.std.proofs.Common.{◌≡◌, ◌<◌, ◌+◌, ◌-◌, ◌^◌, ◌⊎◌, inl, inr, ℕ, zero, suc, Bool, true, false, List, [], ◌∷◌, length, refl, sym, ap, ◌∙◌, subst, arith}
+use Rattle.std.specs.Prelude.{Option, Some, None, Result, Ok, Err, nat_eq, nat_lt, slice_set, unwrap_or, if◌then◌else◌}
+use Rattle.std.proofs.lemmas.Bool.{cases_eq, eq-eqb}
 use Rattle.gptman.specs.Coding.{empty_entry}
 use Rattle.gptman.specs.Entry.{is_unused}
 use Rattle.gptman.specs.Number.{entry_of_number, with_entries, with_entry}
@@ -11,7 +11,7 @@ use Rattle.gptman.specs.declared.table.GPT.{GPT}
 use Rattle.gptedit_core.specs.Applying.{cleared, is_blank, removed_all, removed_one, asks_rest, rest_numbers, without_entry, AreExtended, ArePut, IsApplied}
 use Rattle.gptedit_core.specs.Dumping.{asked_of, more_sectors}
 use Rattle.gptedit_core.specs.Placing.{IsSpan}
-use Rattle.gptedit_core.specs.Resolving.{and_then, entry_asked, number_asked, partition_at, place_asked, place_of, resolved, resolved_all, stay_fault, there_of, unless, use_fault, used_at}
+use Rattle.gptedit_core.specs.Resolving.{and_then, place_asked, place_of, resolved, resolved_all, stay_fault, there_of, unless, used_at}
 use Rattle.gptedit_core.specs.Sectors.{between}
 use Rattle.gptedit_core.specs.Setting.{number_after, IsChangeOf, IsMoveOf, IsSettingOf, SettingsChangeOne}
 use Rattle.gptedit_core.specs.declared.asked.Asked.{Asked}
@@ -22,7 +22,7 @@ use Rattle.gptedit_core.specs.declared.asked.RequestedLayout.{RequestedLayout}
 use Rattle.gptedit_core.specs.declared.place.Place.{Place}
 use Rattle.gptedit_core.specs.declared.place.Place.TheVariants.{At}
 use Rattle.gptedit_core.specs.declared.refusal.Refusal.{Refusal}
-use Rattle.gptedit_core.specs.declared.refusal.Refusal.TheVariants.{IsUnused, NoEntry, NoSize, NoType, TooLarge}
+use Rattle.gptedit_core.specs.declared.refusal.Refusal.TheVariants.{IsUnused, NoEntry, NoSize, TooLarge}
 use Rattle.gptedit_core.specs.declared.resolve.ResolvedPartition.{ResolvedPartition}
 use Rattle.gptedit_core.specs.declared.resolve.Room.{Room}
 use Rattle.gptedit_core.specs.declared.resolve.Room.TheVariants.{Sectors as RoomSectors}

@@ -1,4 +1,5 @@
 pub mod Dumping
+pub mod FittedReshaping
 pub mod Fitting
 pub mod Growing
 pub mod Applying

@@ -8,11 +8,13 @@ ghost use Rattle.gptman.specs.Table.{Table};
 ghost use Rattle.gptman_change.specs.Changes.{AnswersChange, IsSafe, LeavesChange, RefusesChange};
 ghost use Rattle.gptman_change.specs.Changes.{StartsGoodFor};
 ghost use Rattle.gptman_change.specs.Reads.{size_for};
+ghost use Rattle.gptedit_core.specs.FittedReshaping.{has_random_both, IsLeftBoth, IsWrittenBoth};
 ghost use Rattle.gptedit_core.specs.Fitting.{has_random_fitted, IsLeftFitted, IsWrittenFitted};
 ghost use Rattle.gptedit_core.specs.Growing.{IsLeftGrown, IsWrittenGrown, StartsPrimaryFor};
 ghost use Rattle.gptedit_core.specs.Planning.{has_random, IsLeft, IsMemoryFault, IsWritten, MayAsk};
 ghost use Rattle.gptedit_core.specs.Reshaping.{has_random_reshaped, IsLeftReshaped, IsWrittenReshaped};
 
+use crate::fitted_reshaping::FittedReshapedRequest;
 use crate::fitting::FittedRequest;
 use crate::growth::Growth;
 use crate::plan::{Outcome, Request};
@@ -195,4 +197,47 @@ pub fn edit_reshaped<D: Disk>(
         (size_for (D.state disk.old).view sector_size) was (D.state disk.old) (D.state disk.new) }
 {
     change_table(alloc, disk, sector_size, reshaped)
+}
+
+/// Reads the table on the disk, fits it to the length of the disk, gives it the shape, changes it as requested, and writes
+/// it to both places in one write. Writes nothing if the request is a dry run, is refused or changes nothing;
+/// `Job::Rewrite` always writes. `sector_size` is as for `edit`.
+///
+/// # Errors
+///
+/// Those of `edit`.
+pub fn edit_fitted_reshaped<D: Disk>(
+    alloc: Global,
+    disk: &mut D,
+    sector_size: Option<u64>,
+    both: &FittedReshapedRequest,
+) -> Result<Outcome>
+    requires sector { IfSome sector_size (λ size. 0 < size) }
+    requires random { has_random_both both.now }
+    ensures keeps { Keeps (D.state disk.old) (D.state disk.new) }
+    ensures done { IsHonest (D.state disk.old) → IfOk result (λ outcome. AnswersChange
+        (IsWrittenBoth both.now (D.state disk.old).size) (IsLeftBoth both.now (D.state disk.old).size)
+        sector_size outcome (D.state disk.old) (D.state disk.new)) }
+    ensures refused { IsHonest (D.state disk.old) → IfErr result (λ e. RefusesChange
+        (IsWrittenBoth both.now (D.state disk.old).size)
+        (IsMemoryFault both.now (D.state disk.old).size)
+        (MayAsk both.now) sector_size (fault_of e) (D.state disk.old) (D.state disk.new)) }
+    ensures cause { HasCause result (D.state disk.old) (D.state disk.new) }
+    ensures kept { IsHonest (D.state disk.old)
+        → OnErr result (FailedOrUntouched (D.state disk.old) (D.state disk.new)) }
+    ensures dry { IsHonest (D.state disk.old) → both.now.reshaped.request.is_dry ≡ true
+        → OnlyRead (D.state disk.old) (D.state disk.new) }
+
+    // If nothing was unsynced before, a crash or disk fault at any moment leaves the old or the planned table.
+    // `leaves`: from one good copy that is clear of the ranges written first. `safe`: unless `may_lose` is set, from the
+    // primary copy, if it is the only good one.
+    ensures leaves { IsHonest (D.state disk.old) → LeavesChange
+        (IsWrittenBoth both.now (D.state disk.old).size) sector_size
+        (D.state disk.old) (D.state disk.new) }
+    ensures safe { both.now.reshaped.may_lose ≡ false → (was : Table)
+        → StartsPrimaryFor (D.state disk.old) sector_size was
+        → IsSafe (IsWrittenBoth both.now (D.state disk.old).size)
+        (size_for (D.state disk.old).view sector_size) was (D.state disk.old) (D.state disk.new) }
+{
+    change_table(alloc, disk, sector_size, both)
 }

@@ -1,7 +1,7 @@
 //! Plans changes of a partition table: requests for its entries, layouts, growths and new tables.
 //!
-//! `edit`, `edit_fitted`, `edit_reshaped`, `grow`, `make` and `remake` carry out a plan on a disk, in one write of the
-//! table. Plans are made in memory.
+//! `edit`, `edit_fitted`, `edit_fitted_reshaped`, `edit_reshaped`, `grow`, `make` and `remake` carry out a plan on a disk, in
+//! one write of the table. Plans are made in memory.
 #![tactic(auto)]
 
 pub mod amount;
@@ -10,6 +10,7 @@ pub mod asked;
 pub mod attributes;
 pub mod dump;
 pub mod editing;
+pub mod fitted_reshaping;
 pub mod fitting;
 pub mod fitting_laws;
 pub mod growth;
@@ -39,7 +40,8 @@ pub use amount::{Amount, DEFAULT_ALIGN};
 pub use asked::{Asked, Choice, Mode, RequestedLayout, Size};
 pub use attributes::AttributeChange;
 pub use dump::layout_of;
-pub use editing::{edit, edit_fitted, edit_reshaped, grow};
+pub use editing::{edit, edit_fitted, edit_fitted_reshaped, edit_reshaped, grow};
+pub use fitted_reshaping::FittedReshapedRequest;
 pub use fitting::FittedRequest;
 pub use growth::{Bounds, Growth};
 pub use making::{Creation, Made, make, remake};

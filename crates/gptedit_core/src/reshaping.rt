@@ -248,8 +248,8 @@ impl Plan for ReshapedRequest {
     }
 }
 
-// Makes the new table. `empty` is the new table without partitions on a disk of `size` bytes, if there is room for it.
-fn make_reshaped(
+/// Makes the new table. `empty` is the new table without partitions on a disk of `size` bytes, if there is room for it.
+pub(crate) fn make_reshaped(
     reshaped: &ReshapedRequest,
     alloc: Global,
     was: &GPT,

@@ -6,7 +6,7 @@ use crate::report::Message;
 use gptedit_core::Unmeasured;
 use std::fmt;
 
-/// Message: a start or a size was rounded down. One line, without the last newline.
+/// Message: a start or a size was rounded. One line, without the last newline.
 #[derive(Clone, Copy)]
 pub struct RoundedText {
     /// `start` or `size`.
@@ -27,7 +27,7 @@ impl fmt::Display for RoundedText {
             sector_size: self.sector_size,
         };
         write_number(f, self.number)?;
-        write!(f, "the {what} is rounded down to {value}")
+        write!(f, "the {what} is rounded to {value}")
     }
 }
 

@@ -6,16 +6,18 @@ use Rattle.gptman.specs.Disk.{DiskState}
 use Rattle.gptman.specs.declared.table.GPT.{GPT}
 use Rattle.gptman_change.specs.Changes.{AnswersChange}
 use Rattle.gptman_change.specs.Changes.AnswersChange.{is_left, is_written}
+use Rattle.gptedit_core.specs.FittedReshaping.{FittedShapesAddNothing, FittedShapesReachEnd, IsBoth, IsLeftBoth, IsWrittenBoth, RefusesBoth}
 use Rattle.gptedit_core.specs.Fitting.{FittedRequestsAddNothing, FittedRequestsReachEnd, FittingKeepsEntries, IsLeftFitted, IsPlannedFitted, IsWrittenFitted, RefusesFitted}
 use Rattle.gptedit_core.specs.Planning.{IsLeftAs, IsNeeded, IsWrittenAs}
 use Rattle.gptedit_core.specs.Planning.IsLeftAs.{is_dry, is_refused, is_unchanged}
 use Rattle.gptedit_core.specs.Reshaping.{IsLeftReshaped, IsReshaped, IsWrittenReshaped, RefusesReshaped, ReshapedRequestsAddNothing, ReshapedTablesHaveShape}
+use Rattle.gptedit_core.specs.declared.fitted_reshaping.FittedReshapedRequest.{FittedReshapedRequest}
 use Rattle.gptedit_core.specs.declared.fitting.FittedRequest.{FittedRequest}
 use Rattle.gptedit_core.specs.declared.plan.Outcome.{Outcome}
 use Rattle.gptedit_core.specs.declared.plan.Outcome.TheVariants.{Changed}
 use Rattle.gptedit_core.specs.declared.refusal.Refusal.{Refusal}
 use Rattle.gptedit_core.specs.declared.reshaping.ReshapedRequest.{ReshapedRequest}
-use Rattle.test_laws.specs.Outcomes.{IsNewEnd, IsNewShape, IsOfSameEntries, IsOwnChange, IsOwnReshape}
+use Rattle.test_laws.specs.Outcomes.{IsNewEnd, IsNewShape, IsOfSameEntries, IsOwnChange, IsOwnRefit, IsOwnReshape}
 
 module _ (P N : GPT → GPT → Type 0) (R : GPT → Refusal → Type 0) (dry : Bool) where
   of_tables : (g h was next : GPT) (told : Outcome) → P g h → told ≡ Changed g h → told ≡ Changed was next → P was next
@@ -69,3 +71,19 @@ module _ (reshaped : ReshapedRequest) (len : ℕ) {E : Type 0} (size : Option �
   pub all_own_reshaped : ReshapedRequestsAddNothing → IfOk r AnswersOf → IfOk r (IsOwnReshape reshaped len)
   all_own_reshaped law answers =
       IfOk-weaker r AnswersOf (IsOwnReshape reshaped len) (λ told is was next same has. law reshaped len was next has (shaped told is was next same)) answers
+
+-- A request for a table that is fitted and reshaped.
+module _ (both : FittedReshapedRequest) (len : ℕ) {E : Type 0} (size : Option ℕ) (a d : DiskState) (r : Result Outcome E) where
+  abbrev AnswersBoth : Outcome → Type 0
+  AnswersBoth told = AnswersChange (IsWrittenBoth both len) (IsLeftBoth both len) size told a d
+
+  refitted : (told : Outcome) → AnswersBoth told → (was next : GPT) → told ≡ Changed was next → IsBoth both.reshaped len was next
+  refitted = planned (IsBoth both.reshaped len) (IsNeeded both.reshaped.request.job) (RefusesBoth both.reshaped len) both.reshaped.request.is_dry size a d
+
+  pub all_refitted : FittedShapesReachEnd → IfOk r AnswersBoth → IfOk r (IsNewShape both.reshaped.shape len)
+  all_refitted law answers =
+      IfOk-weaker r AnswersBoth (IsNewShape both.reshaped.shape len) (λ told is was next same. law both.reshaped len was next (refitted told is was next same)) answers
+
+  pub all_own_refitted : FittedShapesAddNothing → IfOk r AnswersBoth → IfOk r (IsOwnRefit both.reshaped len)
+  all_own_refitted law answers =
+      IfOk-weaker r AnswersBoth (IsOwnRefit both.reshaped len) (λ told is was next same ends. law both.reshaped len was next ends (refitted told is was next same)) answers

@@ -7,7 +7,7 @@ use Rattle.gptman.specs.Table.{entries_in, table_in}
 use Rattle.gptman.specs.declared.table.GPT.{GPT}
 use Rattle.gptedit_core.specs.Growing.{lowest_usable, EndsAt, ReachesEnd, RefusesGrowth}
 use Rattle.gptedit_core.specs.Planning.{IsPlanned}
-use Rattle.gptedit_core.specs.Reshaping.{HasShape}
+use Rattle.gptedit_core.specs.Reshaping.{HasShape, IsReshaped}
 use Rattle.gptedit_core.specs.declared.growth.Bounds.TheVariants.{Kept, Usual}
 use Rattle.gptedit_core.specs.declared.plan.Outcome.{Outcome}
 use Rattle.gptedit_core.specs.declared.plan.Outcome.TheVariants.{Changed, Unchanged, Refused}
@@ -64,3 +64,7 @@ IsNewShape shape len told = (was next : GPT) → told ≡ Changed was next → H
 -- If the table had the shape before, the request alone makes the changed one.
 abbrev pub IsOwnReshape : ReshapedRequest → ℕ → Outcome → Type 0
 IsOwnReshape reshaped len told = (was next : GPT) → told ≡ Changed was next → HasShape reshaped.shape was → IsPlanned reshaped.request len was next
+
+-- If the table ended before where the disk does, the reshaped request makes the changed one.
+abbrev pub IsOwnRefit : ReshapedRequest → ℕ → Outcome → Type 0
+IsOwnRefit reshaped len told = (was next : GPT) → told ≡ Changed was next → EndsAt len was → IsReshaped reshaped len was next

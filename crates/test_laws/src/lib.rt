@@ -8,4 +8,5 @@ pub mod growths;
 pub mod images;
 pub mod layouts;
 pub mod measures;
+pub mod refits;
 pub mod shapes;
