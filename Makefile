@@ -104,10 +104,11 @@ crash-states: gptimg gptedit
 	@python3 -B -m unittest discover -q trials/crash_states
 	@python3 -B trials/crash_states --json crash-states.json --chart docs/crash-states.svg
 
-# Reads what a crash in each command of gptedit may leave, has a firmware boot images that a crash left, cuts
-# the power of a Linux kernel in the middle of commands and of examples/growpart on its root, has other programs,
-# kernels and boot loaders read such images, runs mkosi and vmdb2 with gptedit, compares the library for C with
-# others, and has tests/gptedit try wrong programs, each of which must fail; each where what it needs is installed.
+# Reads what a crash in each command of gptedit may leave, has a firmware boot images that a crash left, and a kernel
+# from an image that `apply --create` made, cuts the power of a Linux kernel in the middle of commands and of
+# examples/growpart on its root, has other programs, kernels and boot loaders read such images, runs mkosi and vmdb2
+# with gptedit, compares the library for C with others, and has tests/gptedit try wrong programs, each of which must
+# fail; each where what it needs is installed.
 # They stand beside the gate. The model of gptedit plays COMMANDS random commands of a SEED.
 SEED = 2
 COMMANDS = 5000
@@ -116,6 +117,7 @@ trials: gptimg gptedit
 	@trials/with_firmware.sh
 	@trials/with_power_cuts.sh
 	@trials/with_growpart.sh
+	@python3 -B trials/boot_guest.py
 	@trials/with_readers.sh
 	@trials/with_libraries.sh
 	@python3 -B trials/image_builders.py
